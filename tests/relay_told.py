@@ -6,7 +6,7 @@ import socket
 import struct
 import subprocess
 
-from peers import PATIENCE, batch, connect, login, message
+from peers import PATIENCE, batch, connect, login, message, packet
 
 LINE = re.compile(rb"(relaying|telling at) (\S+)")
 
@@ -82,6 +82,16 @@ def rows(link, number):
     """Asks for a row, and gives whether it came."""
     link.sendall(batch(f"rows {number} 1"))
     return struct.pack("<Bi", 0xD1, number) in message(link)
+
+
+def error_packet(number, sentence, is_old=False):
+    """A packet with ERROR of state 1 and class 20, from `tdsrelay`, in no procedure, in line 1 (MS-TDS 2.2.7.10), and
+    DONE with DONE_ERROR (2.2.7.6). Before TDS 7.2 a line has two bytes there, and a count of rows four."""
+    name = "tdsrelay"
+    body = struct.pack("<IBBH", number, 1, 20, len(sentence)) + sentence.encode("utf-16le")
+    body += bytes([len(name)]) + name.encode("utf-16le") + b"\0" + struct.pack("<H" if is_old else "<I", 1)
+    done = struct.pack("<BHHI" if is_old else "<BHHQ", 0xFD, 2, 0, 0)
+    return packet(4, b"\xaa" + struct.pack("<H", len(body)) + body + done)
 
 
 def error_of(link):

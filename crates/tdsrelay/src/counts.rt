@@ -9,7 +9,10 @@ pub struct Counts {
     /// Applications that were let in, and those that were refused.
     pub let_in: u64,
     pub refused: u64,
-    /// Connections that were opened, and those of them that ended.
+    /// Applications that waited for a connection which couldn't be opened.
+    pub not_served: u64,
+    /// Attempts to log in at a server, those that were let in, and those of these that ended.
+    pub dialed: u64,
     pub opened: u64,
     pub ended: u64,
     /// What was closed since a time limit ran out.
@@ -35,6 +38,8 @@ impl Counts {
         Counts {
             let_in: 0,
             refused: 0,
+            not_served: 0,
+            dialed: 0,
             opened: 0,
             ended: 0,
             late_logins: 0,

@@ -13,6 +13,7 @@ pub struct Figures {
     pub done: tds_relay::Counts,
     logging_in: u64,
     quiet: u64,
+    kept: u64,
     holding: u64,
     in_transaction: u64,
     waiting: u64,
@@ -42,6 +43,7 @@ impl Figures {
             done: counts.gone,
             logging_in: 0,
             quiet: 0,
+            kept: 0,
             holding: 0,
             in_transaction: 0,
             waiting: 0,
@@ -83,9 +85,12 @@ impl Figures {
             (Whose::Gate | Whose::Judged(_) | Whose::Leg(_), _) => &mut self.logging_in,
             (Whose::First(_) | Whose::Opening(..), _) => &mut self.opening,
             (Whose::Application(..), At::Quiet) => &mut self.quiet,
+            (Whose::Application(..), At::Kept) => &mut self.kept,
             (Whose::Application(..), At::Holding) => &mut self.holding,
             (Whose::Application(..), At::InTransaction) => &mut self.in_transaction,
-            (Whose::Application(..), At::Waiting | At::Opening) => &mut self.waiting,
+            (Whose::Application(..), At::Waiting | At::Opening | At::TakenBack) => {
+                &mut self.waiting
+            }
             (Whose::Application(..), At::Asking) => &mut self.asking,
             (Whose::Application(..), At::Cancelling) => &mut self.cancelling,
             (Whose::Connection(..), At::Free) => &mut self.free,
@@ -98,10 +103,11 @@ impl Figures {
     }
 
     /// Applications and connections, by where they are.
-    fn there(&self) -> [Figure; 16] {
+    fn there(&self) -> [Figure; 17] {
         [
             ("applications", "logging_in", self.logging_in),
             ("applications", "quiet", self.quiet),
+            ("applications", "paused", self.kept),
             ("applications", "holding", self.holding),
             ("applications", "in_transaction", self.in_transaction),
             ("applications", "waiting", self.waiting),
@@ -120,10 +126,12 @@ impl Figures {
     }
 
     /// What was done since the relay began.
-    fn counted(&self) -> [Figure; 20] {
+    fn counted(&self) -> [Figure; 22] {
         [
             ("applications", "let_in", self.counts.let_in),
             ("applications", "refused", self.counts.refused),
+            ("applications", "not_served", self.counts.not_served),
+            ("connections", "dialed", self.counts.dialed),
             ("connections", "opened", self.counts.opened),
             ("connections", "ended", self.counts.ended),
             ("done", "requests", self.done.requests),

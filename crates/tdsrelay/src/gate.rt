@@ -1,5 +1,6 @@
 //! An application's login, as it comes.
 
+use crate::notice::put_refusal;
 use std::alloc::{AllocError, Global};
 use tds_login::{Login, LoginAnswer, put_answer};
 
@@ -62,7 +63,7 @@ impl Gate {
                 }
                 Some(LoginAnswer::LetIn(_)) => return Ok(self.whole()),
                 Some(LoginAnswer::Refuse(refusal)) => {
-                    put_answer(self.alloc, out, LoginAnswer::Refuse(refusal))?;
+                    put_refusal(self.alloc, out, refusal)?;
                     return Ok(Passed::Refused);
                 }
             }

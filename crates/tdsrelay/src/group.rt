@@ -44,8 +44,10 @@ pub struct Group {
     pub most: usize,
     /// The two ends, where it isn't shared.
     pub pair: Option<Pair>,
-    /// Whether no application of it is lent a connection for now.
-    pub is_paused: bool,
+    /// The millisecond since which no application of it is lent a connection, and whether it is to go on
+    /// behind this round's turns.
+    pub paused: Option<u64>,
+    pub goes_on: bool,
     /// The millisecond in which its free connections were checked, and how many requests of the core's
     /// count were none of an application's but such a check.
     pub checked: u64,
@@ -79,10 +81,16 @@ impl Group {
             user,
             most: 1,
             pair: None,
-            is_paused: false,
+            paused: None,
+            goes_on: false,
             checked: 0,
             checks: 0,
         }
+    }
+
+    /// Whether no application of it is lent a connection for now.
+    pub fn is_paused(&self) -> bool {
+        self.paused.is_some()
     }
 
     /// Its relay, once there is one.
@@ -142,7 +150,7 @@ impl Group {
         match &self.stage {
             Stage::Judged(_) => false,
             Stage::Open(relay, _) => {
-                relay.applications() == 0 && relay.connections() == 0 && !self.is_paused
+                relay.applications() == 0 && relay.connections() == 0 && !self.is_paused()
             }
         }
     }

@@ -3,7 +3,9 @@ mod changing;
 mod checking;
 mod dialing;
 mod judging;
+mod lines;
 mod logins;
+mod objects;
 mod orders;
 mod pairs;
 mod reaching;
@@ -77,6 +79,10 @@ pub struct House<W: Write + Drop> {
     findings: Vec<Finding>,
     /// The sockets of those who ask that the settings are read again.
     reloads: Vec<usize>,
+    /// The groups that are to go on behind this round's turns.
+    resumed: Vec<usize>,
+    /// How many sockets were reported to have bytes while none of theirs waited.
+    reports: u64,
     /// For each server that failed, the millisecond up to which another one is preferred.
     away: [u64; MOST_SERVERS],
     start: Instant,
@@ -121,6 +127,8 @@ impl<W: Write + Drop> House<W> {
             stats: None,
             findings: Vec::new(alloc),
             reloads: Vec::new(alloc),
+            resumed: Vec::new(alloc),
+            reports: 0,
             away: [0; MOST_SERVERS],
             start,
             now: 0,
@@ -191,6 +199,7 @@ impl<W: Write + Drop> House<W> {
         self.now = self.precise / 1000;
         self.hear(events)?;
         self.take_turns(rt, buffer)?;
+        self.go_on()?;
         self.reload(rt)?;
         if self.now >= self.swept.saturating_add(SWEEP) {
             self.swept = self.now;
@@ -241,10 +250,21 @@ impl<W: Write + Drop> House<W> {
 
     /// The system reported a socket, or it has more to do: it is to have a turn.
     fn report(&mut self, key: usize, news: News) -> io::Result<()> {
-        if let Some(socket) = self.sockets.get_mut(key) {
-            if socket.link.report(news) {
-                self.waiting.push(key)?;
-            }
+        let House {
+            sockets,
+            waiting,
+            reports,
+            ..
+        } = self;
+        let Some(socket) = sockets.get_mut(key) else {
+            return Ok(());
+        };
+        if !matches!(news, News::Turn) && !socket.link.is_readable() {
+            raise(reports);
+            socket.order = *reports;
+        }
+        if socket.link.report(news) {
+            waiting.push(key)?;
         }
         Ok(())
     }
@@ -260,7 +280,7 @@ impl<W: Write + Drop> House<W> {
     /// Accepts all who wait, and closes them at once where it is to end.
     fn accept(&mut self) -> io::Result<()> {
         for _ in 0..MOST {
-            let Ok((stream, _)) = self.listener.accept() else {
+            let Ok((stream, from)) = self.listener.accept() else {
                 return Ok(());
             };
             if self.ending.is_some() {
@@ -268,10 +288,21 @@ impl<W: Write + Drop> House<W> {
             }
             let gate = Role::Gate(Gate::new(self.alloc));
             if let Some(key) = self.take_in(stream, gate)? {
-                self.say("socket", key, "has come");
+                self.has_come(key, from);
             }
         }
         Ok(())
+    }
+
+    /// An application has come, from there.
+    fn has_come(&mut self, key: usize, from: SocketAddr) {
+        if let Some(socket) = self.sockets.get_mut(key) {
+            socket.peer = Some(from);
+            if self.asked.is_logged {
+                let number = socket.number;
+                let _ = writeln!(self.log, "socket {number} has come from {from}");
+            }
+        }
     }
 
     /// Accepts all who ask what it does.
@@ -317,9 +348,12 @@ impl<W: Write + Drop> House<W> {
         if !self.asked.is_logged {
             return;
         }
-        if let Some(socket) = self.sockets.get(key) {
-            let number = socket.number;
-            let _ = writeln!(self.log, "{what} {number} {words}");
+        match self.sockets.get(key) {
+            Some(socket) if socket.is_told => {
+                let number = socket.number;
+                let _ = writeln!(self.log, "{what} {number} {words}");
+            }
+            _ => {}
         }
     }
 }

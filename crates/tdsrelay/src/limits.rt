@@ -46,3 +46,12 @@ pub const MOST: u64 = 604_800;
 pub fn is_beyond(limit: u64, elapsed: u64) -> bool {
     limit != 0 && elapsed > limit.saturating_mul(1000)
 }
+
+/// The one of two limits that runs out first.
+pub fn lesser(one: u64, other: u64) -> u64 {
+    match (one, other) {
+        (0, _) => other,
+        (_, 0) => one,
+        _ => one.min(other),
+    }
+}

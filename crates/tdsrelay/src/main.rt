@@ -17,6 +17,7 @@ mod leg;
 mod limits;
 mod link;
 mod login7;
+mod notice;
 mod servers;
 mod socket;
 mod stats;

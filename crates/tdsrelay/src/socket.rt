@@ -9,6 +9,7 @@ use crate::login7::Who;
 use crate::servers::Way;
 use crate::stats::Asker;
 use std::io;
+use std::net::SocketAddr;
 use tds_judge::Finding;
 
 /// What a socket is.
@@ -51,6 +52,8 @@ pub enum Whose {
 pub struct Gone {
     pub whose: Whose,
     pub way: Option<Way>,
+    /// Whether that login took too long.
+    pub is_late: bool,
     /// Whether that login can't be begun anew.
     pub has_legs: bool,
 }
@@ -72,12 +75,16 @@ pub enum At {
     Login,
     /// An application with nothing underway, which holds a connection or not.
     Quiet,
+    /// It holds none, and something of it has come that isn't read, since its group is paused.
+    Kept,
     Holding,
     /// It holds one on which a transaction is open.
     InTransaction,
-    /// An application's request: it waits for a connection, or until that is open.
+    /// An application's request: it waits for a connection, until that is open, or until the server has
+    /// acknowledged on it what the application took back before.
     Waiting,
     Opening,
+    TakenBack,
     Asking,
     Cancelling,
     /// A connection.
@@ -93,15 +100,25 @@ pub enum At {
 #[derive(Drop)]
 pub struct Socket {
     pub number: u64,
+    /// Whether the log tells of it: not of those who ask what the relay does.
+    pub is_told: bool,
     pub link: Link,
     pub role: Role,
     /// What is to be sent in a login, and to whoever asks what the relay does.
     pub out: Vec<u8>,
-    /// Who an application says that it is.
+    /// Who an application says that it is, and where it is.
     pub who: Option<Who>,
+    pub peer: Option<SocketAddr>,
     /// The millisecond in which it came, or was logged in.
     pub born: u64,
     pub seen: Seen,
+    /// The number of the connection that an application holds, or of who holds a connection, as it was when
+    /// that was asked for last.
+    pub partner: Option<u64>,
+    /// The place among all reports of the one since which bytes of it wait to be read.
+    pub order: u64,
+    /// Whether its login took too long.
+    pub is_late: bool,
     /// Since when a connection is free that is being checked.
     pub checked: Option<u64>,
     /// A connection's process at the server, and the server's place in the list.
@@ -118,16 +135,21 @@ impl Socket {
     pub fn new(number: u64, link: Link, role: Role, out: Vec<u8>, now: u64) -> Socket {
         Socket {
             number,
+            is_told: !matches!(role, Role::Asker(_)),
             link,
             role,
             out,
             who: None,
+            peer: None,
             born: now,
             seen: Seen {
                 at: At::Other,
                 mark: 0,
                 since: now,
             },
+            partner: None,
+            order: 0,
+            is_late: false,
             checked: None,
             spid: 0,
             server: 0,
@@ -224,6 +246,7 @@ impl Socket {
         Gone {
             whose: self.whose(),
             way,
+            is_late: self.is_late,
             has_legs,
         }
     }

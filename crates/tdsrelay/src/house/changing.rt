@@ -1,5 +1,6 @@
 //! What an operator changes while the relay runs: groups are paused and go on, settings are read again.
 use super::House;
+use crate::group::Group;
 use crate::socket::{Role, Whose};
 use crate::stats::put_answer;
 use crate::words::{Asked, read_words};
@@ -9,31 +10,83 @@ use std::mem;
 use std::net::Net;
 
 impl<W: Write + Drop> House<W> {
-    /// Pauses a group: none of its applications is lent a connection, and free ones are closed. Or it goes
-    /// on. False where there is no such group.
-    pub(super) fn pause(&mut self, number: u64, is_paused: bool) -> io::Result<bool> {
-        let Ok(key) = usize::try_from(number) else {
+    /// Pauses a group: none of its applications is lent a connection, and free ones are closed. False where
+    /// there is no such group.
+    pub(super) fn pause(&mut self, number: u64) -> bool {
+        let now = self.now;
+        match self.group_of_number(number) {
+            Some((_, group)) => {
+                group.goes_on = false;
+                if group.paused.is_none() {
+                    group.paused = Some(now);
+                }
+                true
+            }
+            None => false,
+        }
+    }
+
+    /// A group is to go on behind this round's turns. False where there is no such group.
+    pub(super) fn resume(&mut self, number: u64) -> io::Result<bool> {
+        let Some((key, group)) = self.group_of_number(number) else {
             return Ok(false);
         };
-        match self.groups.get_mut(key) {
-            Some(group) => group.is_paused = is_paused,
-            None => return Ok(false),
+        group.goes_on = true;
+        self.resumed.push(key)?;
+        Ok(true)
+    }
+
+    fn group_of_number(&mut self, number: u64) -> Option<(usize, &mut Group)> {
+        let Ok(key) = usize::try_from(number) else {
+            return None;
+        };
+        let group = self.groups.get_mut(key)?;
+        Some((key, group))
+    }
+
+    /// The groups that are to go on do. All who were reported in this round have had their turns by now, so
+    /// that whoever is read from here on asks behind those who were kept.
+    pub(super) fn go_on(&mut self) -> io::Result<()> {
+        if self.resumed.is_empty() {
+            return Ok(());
         }
-        let mut held = Vec::new(self.alloc);
+        let resumed = mem::replace(&mut self.resumed, Vec::new(self.alloc));
+        for key in resumed.iter() {
+            if self.ends_pause(*key) {
+                self.read_all_of(*key)?;
+                self.forget_deserted(*key);
+            }
+        }
+        Ok(())
+    }
+
+    /// Ends a group's pause, where it is to go on still.
+    fn ends_pause(&mut self, key: usize) -> bool {
+        match self.groups.get_mut(key) {
+            Some(group) if group.goes_on => {
+                group.goes_on = false;
+                group.paused = None;
+                true
+            }
+            _ => false,
+        }
+    }
+
+    /// The applications of a group are read on, those first of which something has come first.
+    fn read_all_of(&mut self, key: usize) -> io::Result<()> {
+        let mut kept = Vec::new(self.alloc);
         for (socket, found) in self.sockets.iter() {
             if let Whose::Application(group, _) = found.whose() {
                 if group == key {
-                    held.push(socket)?;
+                    kept.push((found.order, socket))?;
                 }
             }
         }
-        for socket in held.iter() {
+        kept.sort_unstable();
+        for (_, socket) in kept.iter() {
             self.read_on(*socket)?;
         }
-        if !is_paused {
-            self.forget_deserted(key);
-        }
-        Ok(true)
+        Ok(())
     }
 
     /// Reads the settings again for those who have asked for that. Where something is wrong, the old ones

@@ -36,7 +36,7 @@ impl<W: Write + Drop> House<W> {
         let Some(group) = self.groups.get_mut(key) else {
             return false;
         };
-        if group.is_paused || now.saturating_sub(group.checked) <= limit {
+        if group.is_paused() || now.saturating_sub(group.checked) <= limit {
             return false;
         }
         group.checked = now;

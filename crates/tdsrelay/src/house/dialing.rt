@@ -1,7 +1,9 @@
 //! Logins of connections: what the server answers.
 use super::{House, relay_of};
+use crate::counts::raise;
 use crate::dial::Dialed;
 use crate::group::{Stage, put_saved};
+use crate::notice::NOWHERE;
 use crate::socket::{Role, Whose};
 use std::io::{self, Write};
 use std::mem;
@@ -86,7 +88,7 @@ impl<W: Write + Drop> House<W> {
         let waiting = self.judged_by(group);
         let Some(number) = self.begin_relay(key, group, size, answer)? else {
             let _ = self.take_out(key)?;
-            return self.not_judged(group);
+            return self.not_judged(group, NOWHERE);
         };
         for application in waiting.iter() {
             if self.is_judged(*application, group) {
@@ -150,6 +152,8 @@ impl<W: Write + Drop> House<W> {
                 *until = 0;
             }
         }
+        raise(&mut self.counts.opened);
+        self.say("connection", key, "is opened");
     }
 
     /// Who waits for the judgement of a group's first login. None does then.
@@ -189,13 +193,13 @@ impl<W: Write + Drop> House<W> {
         Ok(())
     }
 
-    /// The server didn't judge the first login of a group.
-    pub(super) fn not_judged(&mut self, group: usize) -> io::Result<()> {
+    /// The server didn't judge the first login of a group: those who wait for that are told why.
+    pub(super) fn not_judged(&mut self, group: usize, why: &str) -> io::Result<()> {
         let waiting = self.judged_by(group);
         let _ = self.groups.try_remove(group).is_some();
         for key in waiting.iter() {
             if self.is_judged(*key, group) {
-                self.put_refusal(*key, "The relay finds no server that speaks as it does.")?;
+                self.put_refusal(*key, why)?;
             }
         }
         Ok(())
@@ -220,6 +224,7 @@ impl<W: Write + Drop> House<W> {
             Dialed::In(size, _) if self.has_size(group, size) => {}
             Dialed::In(..) | Dialed::Leg(_) | Dialed::Refused(_) => {
                 // The server doesn't let these logins in any more: who comes later is judged anew.
+                self.say("connection", key, "is refused");
                 if let Some(group) = self.groups.get_mut(group) {
                     group.key.clear();
                 }

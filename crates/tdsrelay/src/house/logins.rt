@@ -6,17 +6,14 @@ use crate::gate::Passed;
 use crate::group::{Group, Pair, Stage, put_saved};
 use crate::link::News;
 use crate::login7::{Kind, kind_of, who_of};
+use crate::notice::{NOWHERE, REFUSED, put_error};
 use crate::socket::{Role, Whose};
 use std::io::{self, Write};
 use std::net::Net;
-use tds_login::put_error;
 use tds_packet::PacketSize;
 
 /// The most groups.
 const MOST_GROUPS: usize = 256;
-
-/// The number of an error that the relay answers itself (MS-TDS 2.2.7.10).
-const REFUSED: u32 = 50_100;
 
 impl<W: Write + Drop> House<W> {
     /// These bytes came on a socket.
@@ -167,7 +164,7 @@ impl<W: Write + Drop> House<W> {
         if self.reach(rt, Whose::First(group), 0)? {
             return Ok(());
         }
-        self.not_judged(group)
+        self.not_judged(group, NOWHERE)
     }
 
     /// Why no more groups may be, if so.
@@ -212,7 +209,7 @@ impl<W: Write + Drop> House<W> {
             return Ok(());
         };
         let whose = socket.whose();
-        put_error(alloc, &mut socket.out, REFUSED, why.as_bytes())?;
+        put_error(alloc, &mut socket.out, REFUSED, why)?;
         socket.role = Role::Closing;
         self.let_go(whose)?;
         self.report(key, News::Turn)

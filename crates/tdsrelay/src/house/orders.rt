@@ -3,6 +3,7 @@ use super::{House, relay_of};
 use crate::counts::{raise, sum};
 use crate::group::Group;
 use crate::link::News;
+use crate::notice::{NOWHERE, SILENT};
 use crate::socket::{Gone, Socket, Whose};
 use slab::Slab;
 use std::io::{self, Write};
@@ -43,10 +44,7 @@ impl<W: Write + Drop> House<W> {
         if self.reach(rt, Whose::Opening(group, number), 0)? {
             return Ok(());
         }
-        match relay_of(&mut self.groups, group) {
-            Some(relay) => Ok(relay.lost(number)?),
-            None => Ok(()),
-        }
+        self.not_opened(group, number)
     }
 
     /// How long an application's request took, where it has its answer now.
@@ -128,9 +126,8 @@ impl<W: Write + Drop> House<W> {
         self.end_judging(&mut socket)?;
         let gone = socket.gone();
         match gone.whose {
-            Whose::First(_) | Whose::Opening(..) | Whose::Connection(..) => {
-                raise(&mut self.counts.ended);
-            }
+            Whose::Connection(..) => raise(&mut self.counts.ended),
+            Whose::First(_) | Whose::Opening(..) => {}
             Whose::Gate | Whose::Judged(_) | Whose::Leg(_) | Whose::Application(..) => {}
             Whose::Asker | Whose::Closing => {}
         }
@@ -187,7 +184,8 @@ impl<W: Write + Drop> House<W> {
         if is_failure && self.dial_again(rt, gone)? {
             return Ok(());
         }
-        self.not_reached(rt, gone.whose)
+        let why = if gone.is_late { SILENT } else { NOWHERE };
+        self.not_reached(rt, gone.whose, why)
     }
 
     /// A connection of a group has ended.

@@ -2,9 +2,12 @@
 use super::{House, relay_of};
 use crate::counts::raise;
 use crate::dial::{Dial, Target};
+use crate::group::Group;
+use crate::notice::{NOT_OPENED, NOWHERE, put_error};
 use crate::servers::{MOST as MOST_SERVERS, Way, bit};
 use crate::socket::{Role, Whose};
 use mio::net::TcpStream;
+use slab::Slab;
 use std::io::{self, Write};
 use std::net::{IpAddr, Ipv4Addr, Net, SocketAddr};
 
@@ -70,8 +73,8 @@ impl<W: Write + Drop> House<W> {
             socket.out.extend_from_slice(&out)?;
         }
         self.is_dialed(whose, key);
-        raise(&mut self.counts.opened);
-        self.say("connection", key, "is opened");
+        raise(&mut self.counts.dialed);
+        self.say("connection", key, "is dialed");
         Ok(true)
     }
 
@@ -133,21 +136,68 @@ impl<W: Write + Drop> House<W> {
                 return Ok(());
             }
         }
-        self.not_reached(rt, whose)
+        self.not_reached(rt, whose, NOWHERE)
     }
 
-    /// No server was reached for this login.
-    pub(super) fn not_reached<R: Net>(&mut self, rt: &R, whose: Whose) -> io::Result<()> {
+    /// No server was reached for this login, and this is why.
+    pub(super) fn not_reached<R: Net>(
+        &mut self,
+        rt: &R,
+        whose: Whose,
+        why: &str,
+    ) -> io::Result<()> {
         match whose {
-            Whose::First(group) => self.not_judged(group),
+            Whose::First(group) => self.not_judged(group, why),
             Whose::Opening(group, number) => {
-                if let Some(relay) = relay_of(&mut self.groups, group) {
-                    relay.lost(number)?;
-                }
+                self.not_opened(group, number)?;
                 self.obey(rt, group)
             }
             _ => Ok(()),
         }
+    }
+
+    /// The connection of this number can't be opened: who waits for it is told so, and is to be closed.
+    pub(super) fn not_opened(&mut self, group: usize, number: u64) -> io::Result<()> {
+        let Some(relay) = relay_of(&mut self.groups, group) else {
+            return Ok(());
+        };
+        if let Some(key) = relay.sent_on(number, 0) {
+            self.tell_not_opened(key)?;
+        }
+        match relay_of(&mut self.groups, group) {
+            Some(relay) => Ok(relay.lost(number)?),
+            None => Ok(()),
+        }
+    }
+
+    /// An application is told that no connection can be opened, where nothing else waits for it.
+    fn tell_not_opened(&mut self, key: usize) -> io::Result<()> {
+        raise(&mut self.counts.not_served);
+        self.say("socket", key, "waits for a connection that can't be opened");
+        let House {
+            sockets,
+            groups,
+            alloc,
+            ..
+        } = self;
+        let Some(socket) = sockets.get_mut(key) else {
+            return Ok(());
+        };
+        if let Whose::Application(group, application) = socket.whose() {
+            if is_all_sent(groups, group, application) {
+                let (number, sentence) = NOT_OPENED;
+                put_error(*alloc, &mut socket.out, number, sentence)?;
+            }
+        }
+        Ok(())
+    }
+}
+
+/// Whether nothing waits for an application of a group.
+fn is_all_sent(groups: &mut Slab<Group>, group: usize, application: usize) -> bool {
+    match relay_of(groups, group) {
+        Some(relay) => relay.unsent(application).is_empty(),
+        None => true,
     }
 }
 

@@ -1,9 +1,10 @@
 //! What the relay tells whoever asks what it does: for a reader, as JSON, and for Prometheus.
+use super::lines::group_of;
 use super::{House, relay_of};
 use crate::counts::sum;
 use crate::figures::{Figures, put_json_figures, put_metrics, put_text_figures};
 use crate::group::Group;
-use crate::socket::{At, Role, Socket, Whose};
+use crate::socket::{At, Role, Whose};
 use crate::stats::{Page, put_answer};
 use std::io::{self, Write};
 use std::net::Net;
@@ -81,7 +82,12 @@ impl<W: Write + Drop> House<W> {
         is_paused: bool,
         body: &mut Vec<u8>,
     ) -> io::Result<(&'static str, &'static str)> {
-        if !self.pause(group, is_paused)? {
+        let is_there = if is_paused {
+            self.pause(group)
+        } else {
+            self.resume(group)?
+        };
+        if !is_there {
             body.extend_from_slice(b"there is no such group\n")?;
             return Ok(("404 Not Found", "text/plain"));
         }
@@ -165,18 +171,18 @@ impl<W: Write + Drop> House<W> {
         } = self;
         for (_, socket) in sockets.iter() {
             figures.add(socket.whose(), socket.seen.at);
-            if matches!(socket.seen.at, At::Waiting | At::Opening) {
+            if matches!(socket.seen.at, At::Waiting | At::Opening | At::TakenBack) {
                 figures.waited(now.saturating_sub(socket.seen.since) / 1000);
             }
         }
         for (_, group) in groups.iter() {
             figures.done = sum(figures.done, group.counts());
-            figures.add_group(group.pair.is_some(), group.is_paused);
+            figures.add_group(group.pair.is_some(), group.is_paused());
         }
         figures
     }
 
-    /// Notes of each socket what it is at now.
+    /// Notes of each socket what it is at now, and who is at its other end.
     fn see_all(&mut self) -> io::Result<()> {
         let mut keys = Vec::new(self.alloc);
         for (key, _) in self.sockets.iter() {
@@ -184,12 +190,33 @@ impl<W: Write + Drop> House<W> {
         }
         for key in keys.iter() {
             let (at, mark) = self.at(*key);
+            let partner = self.partner_of(*key);
             let now = self.now;
             if let Some(socket) = self.sockets.get_mut(*key) {
                 socket.see(at, mark, now);
+                socket.partner = partner;
             }
         }
         Ok(())
+    }
+
+    /// The number of the connection that an application holds, or of the application that holds one.
+    fn partner_of(&mut self, key: usize) -> Option<u64> {
+        let House {
+            sockets,
+            groups,
+            ..
+        } = self;
+        // What is asked here says so, too, where nothing was sent.
+        let other = match sockets.get(key)?.whose() {
+            Whose::Application(group, application) => {
+                relay_of(groups, group)?.sent(application, 0)?
+            }
+            Whose::Opening(group, number) => relay_of(groups, group)?.sent_on(number, 0)?,
+            Whose::Connection(group, number) => relay_of(groups, group)?.sent_on(number, 0)?,
+            _ => return None,
+        };
+        Some(sockets.get(other)?.number)
     }
 
     fn put_text(&mut self, body: &mut Vec<u8>) -> io::Result<()> {
@@ -203,7 +230,7 @@ impl<W: Write + Drop> House<W> {
         for (group, _) in self.groups.iter() {
             self.put_group(body, group)?;
         }
-        Ok(())
+        self.put_coming(body)
     }
 
     /// The servers, and which of them have failed lately.
@@ -220,62 +247,6 @@ impl<W: Write + Drop> House<W> {
         Ok(())
     }
 
-    /// A group: its figures, and a line for each socket of it.
-    fn put_group(&self, body: &mut Vec<u8>, group: usize) -> io::Result<()> {
-        if let Some(found) = self.groups.get(group) {
-            let how = match (found.pair.is_some(), found.is_paused) {
-                (true, _) => "not shared",
-                (false, true) => "paused",
-                (false, false) => "shared",
-            };
-            let (user, most) = (found.user.as_str(), found.most);
-            write!(
-                body,
-                "\ngroup {group}, {how}, user {user}, at most {most} connections\n"
-            )?;
-        }
-        for (_, socket) in self.sockets.iter() {
-            if group_of(socket) == Some(group as u64) {
-                self.put_socket(body, socket)?;
-            }
-        }
-        self.put_line(body, group)
-    }
-
-    fn put_socket(&self, body: &mut Vec<u8>, socket: &Socket) -> io::Result<()> {
-        let number = socket.number;
-        let at = words_of(socket.seen.at);
-        let seconds = self.now.saturating_sub(socket.seen.since) / 1000;
-        write!(body, "  {} {number} {at}, {seconds} s", kind_of(socket))?;
-        if let Some(who) = &socket.who {
-            write!(body, " ({}, {})", who.host, who.program)?;
-        }
-        if let Whose::Connection(..) = socket.whose() {
-            write!(body, " (SPID {}, server {})", socket.spid, socket.server)?;
-        }
-        writeln!(body, "")
-    }
-
-    /// The applications that wait, the first one first.
-    fn put_line(&self, body: &mut Vec<u8>, group: usize) -> io::Result<()> {
-        let Some(found) = self.groups.get(group) else {
-            return Ok(());
-        };
-        let line = found.line();
-        if line.is_empty() {
-            return Ok(());
-        }
-        write!(body, "  the line:")?;
-        for (key, _) in line.iter().zip(0..100) {
-            for (_, socket) in self.sockets.iter() {
-                if is_application(socket, group, *key) {
-                    write!(body, " {}", socket.number)?;
-                }
-            }
-        }
-        writeln!(body, "")
-    }
-
     fn put_json(&mut self, body: &mut Vec<u8>) -> io::Result<()> {
         self.see_all()?;
         put_json_figures(body, &self.figures())?;
@@ -284,89 +255,9 @@ impl<W: Write + Drop> House<W> {
         write!(body, ",\"login_seconds\":")?;
         self.logins.put_json(body)?;
         write!(body, ",\"sockets\":[")?;
-        let mut is_first = true;
-        for (_, socket) in self.sockets.iter() {
-            if !is_first {
-                write!(body, ",")?;
-            }
-            is_first = false;
-            self.put_json_socket(body, socket)?;
-        }
+        self.put_json_sockets(body)?;
+        write!(body, "],\"groups\":[")?;
+        self.put_json_groups(body)?;
         writeln!(body, "]}}")
-    }
-
-    fn put_json_socket(&self, body: &mut Vec<u8>, socket: &Socket) -> io::Result<()> {
-        let number = socket.number;
-        let at = words_of(socket.seen.at);
-        let seconds = self.now.saturating_sub(socket.seen.since) / 1000;
-        write!(
-            body,
-            "{{\"kind\":\"{}\",\"number\":{number}",
-            kind_of(socket)
-        )?;
-        if let Some(group) = group_of(socket) {
-            write!(body, ",\"group\":{group}")?;
-        }
-        write!(body, ",\"at\":\"{at}\",\"seconds\":{seconds}")?;
-        if let Some(who) = &socket.who {
-            write!(
-                body,
-                ",\"host\":\"{}\",\"user\":\"{}\",\"program\":\"{}\"",
-                who.host, who.user, who.program
-            )?;
-        }
-        if let Whose::Connection(..) = socket.whose() {
-            write!(
-                body,
-                ",\"spid\":{},\"server\":{}",
-                socket.spid, socket.server
-            )?;
-        }
-        write!(body, "}}")
-    }
-}
-
-/// The group that a socket belongs to.
-fn group_of(socket: &Socket) -> Option<u64> {
-    match socket.whose() {
-        Whose::Gate | Whose::Asker | Whose::Closing => None,
-        Whose::Judged(group) | Whose::Leg(group) => Some(group as u64),
-        Whose::Application(group, _) => Some(group as u64),
-        Whose::First(group) => Some(group as u64),
-        Whose::Opening(group, _) => Some(group as u64),
-        Whose::Connection(group, _) => Some(group as u64),
-    }
-}
-
-fn is_application(socket: &Socket, group: usize, key: usize) -> bool {
-    match socket.whose() {
-        Whose::Application(of, application) => of == group && application == key,
-        _ => false,
-    }
-}
-
-fn kind_of(socket: &Socket) -> &'static str {
-    match socket.whose() {
-        Whose::Gate | Whose::Judged(_) | Whose::Leg(_) | Whose::Application(..) => "application",
-        Whose::First(_) | Whose::Opening(..) | Whose::Connection(..) => "connection",
-        Whose::Asker | Whose::Closing => "other",
-    }
-}
-
-fn words_of(at: At) -> &'static str {
-    match at {
-        At::Login => "logs in",
-        At::Quiet => "is quiet",
-        At::Holding => "is quiet and holds a connection",
-        At::InTransaction => "is quiet and has a transaction open",
-        At::Waiting => "waits for a connection",
-        At::Opening => "waits until its connection is open",
-        At::Asking => "has a request underway",
-        At::Cancelling => "waits for the acknowledgement of its cancel",
-        At::Free => "is free",
-        At::Held => "is held",
-        At::Draining => "drains",
-        At::Cleaning => "is being cleaned",
-        At::Other => "is to be closed",
     }
 }

@@ -89,7 +89,7 @@ fn room_of(groups: &mut Slab<Group>, group: usize, key: usize) -> usize {
     let Some(group) = groups.get_mut(group) else {
         return PIECE;
     };
-    let is_paused = group.is_paused;
+    let is_paused = group.is_paused();
     let Some(relay) = group.relay() else {
         return PIECE;
     };

@@ -1,11 +1,13 @@
 //! Time limits, and the end: what has lasted too long is closed.
 use super::{House, relay_of};
 use crate::counts::raise;
+use crate::group::Group;
 use crate::limits::{Limits, is_beyond};
+use crate::notice::{SILENT, UNANSWERED, put_error};
 use crate::socket::{At, Role, Whose};
+use slab::Slab;
 use std::io::{self, Write};
 use std::net::Net;
-use tds_login::put_error;
 use tds_relay::{Place, PlaceOn, Relay};
 
 /// Why something is closed.
@@ -53,8 +55,7 @@ impl Why {
                 50_104,
                 "The relay closes who leaves a transaction open for long and asks nothing.",
             )),
-            Why::Login => Some((50_100, "The server has not judged the login in time.")),
-            Why::Cancel | Why::Idle | Why::Old | Why::Paused => None,
+            Why::Login | Why::Cancel | Why::Idle | Why::Old | Why::Paused => None,
         }
     }
 }
@@ -116,20 +117,25 @@ impl<W: Write + Drop> House<W> {
         why_late(at, lasted, age, &limits)
     }
 
-    /// The limits of a socket. A server's share of a login's time is the smaller the more servers there are;
-    /// a connection that isn't shared may be idle as long as its application is there.
-    fn limits_of(&self, key: usize) -> Limits {
+    /// The limits of a socket. A server's share of a login's time is the smaller the more servers there are.
+    /// Who waits for their judgement is told what becomes of it, so has all their shares, and the times
+    /// from one look at limits to the next. A connection that isn't shared may be idle as long as its
+    /// application is there.
+    pub(super) fn limits_of(&self, key: usize) -> Limits {
         let mut limits = self.asked.limits;
+        let count = self.asked.servers.count();
         let whose = match self.sockets.get(key) {
             Some(socket) => socket.whose(),
             None => return limits,
         };
         match whose {
             Whose::First(_) | Whose::Opening(..) => {
-                let count = self.asked.servers.count();
                 if limits.login > 0 && count > 1 {
                     limits.login = (limits.login / count).max(1);
                 }
+            }
+            Whose::Judged(_) if limits.login > 0 => {
+                limits.login = limits.login.saturating_add(count.saturating_mul(2));
             }
             Whose::Connection(group, _) if self.pair_of(group).is_some() => {
                 limits.idle = 0;
@@ -147,7 +153,7 @@ impl<W: Write + Drop> House<W> {
         };
         match socket.whose() {
             Whose::Connection(group, _) => match self.groups.get(group) {
-                Some(group) => group.is_paused,
+                Some(group) => group.is_paused(),
                 None => false,
             },
             _ => false,
@@ -165,13 +171,13 @@ impl<W: Write + Drop> House<W> {
             return (At::Other, 0);
         };
         match socket.whose() {
-            Whose::Gate | Whose::Judged(_) | Whose::Leg(_) => (At::Login, 0),
+            Whose::Gate | Whose::Leg(_) => (At::Login, 0),
+            Whose::Judged(_) => (At::Login, 1),
             Whose::First(_) | Whose::Opening(..) => (At::Login, 0),
             Whose::Asker | Whose::Closing => (At::Other, 0),
-            Whose::Application(group, application) => match relay_of(groups, group) {
-                Some(relay) => (at_in(relay, application), relay.begun_by(application)),
-                None => (At::Other, 0),
-            },
+            Whose::Application(group, application) => {
+                at_of(groups, group, application, socket.link.is_readable())
+            }
             Whose::Connection(group, number) => match relay_of(groups, group) {
                 Some(relay) => at_on(relay.place_on(number)),
                 None => (At::Other, 0),
@@ -194,12 +200,19 @@ impl<W: Write + Drop> House<W> {
             (Whose::Application(group, application), _) => {
                 self.dismiss_from(rt, key, group, application, why)
             }
-            (Whose::Judged(_) | Whose::Leg(_), Why::Login) => self.put_refusal(
-                key,
-                "The server gave no answer in time.",
-            ),
+            (Whose::Judged(_), Why::Login) => self.put_refusal(key, SILENT),
+            (Whose::Leg(_), Why::Login) => self.put_refusal(key, UNANSWERED),
+            (Whose::First(_) | Whose::Opening(..), Why::Login) => self.is_late(rt, key),
             _ => self.ended(rt, key, matches!(why, Why::Login | Why::Cancel)),
         }
+    }
+
+    /// The login of a connection has taken too long.
+    fn is_late<R: Net>(&mut self, rt: &R, key: usize) -> io::Result<()> {
+        if let Some(socket) = self.sockets.get_mut(key) {
+            socket.is_late = true;
+        }
+        self.ended(rt, key, true)
     }
 
     fn count(&mut self, why: Why) {
@@ -247,7 +260,7 @@ impl<W: Write + Drop> House<W> {
                 relay.unsent(application).is_empty(),
                 why.told(),
             ) {
-                put_error(*alloc, &mut socket.out, number, text.as_bytes())?;
+                put_error(*alloc, &mut socket.out, number, text)?;
             }
             socket.role = Role::Closing;
         }
@@ -262,11 +275,27 @@ impl<W: Write + Drop> House<W> {
 fn ends_at_once(at: At) -> bool {
     matches!(
         at,
-        At::Login | At::Quiet | At::Holding | At::InTransaction | At::Waiting
+        At::Login | At::Quiet | At::Kept | At::Holding | At::InTransaction | At::Waiting
     )
 }
 
-/// What an application of a group is at.
+/// What an application of a group is at, of which more may be there to read, and what tells two of that apart.
+fn at_of(groups: &mut Slab<Group>, group: usize, application: usize, has_more: bool) -> (At, u64) {
+    let Some(group) = groups.get_mut(group) else {
+        return (At::Other, 0);
+    };
+    let is_kept = group.is_paused() && has_more;
+    let Some(relay) = group.relay() else {
+        return (At::Other, 0);
+    };
+    let at = match at_in(relay, application) {
+        At::Quiet if is_kept => At::Kept,
+        at => at,
+    };
+    (at, relay.begun_by(application))
+}
+
+/// What an application is at by its relay.
 fn at_in(relay: &Relay, application: usize) -> At {
     match relay.place_of(application) {
         Some(Place::Quiet) => At::Quiet,
@@ -275,7 +304,10 @@ fn at_in(relay: &Relay, application: usize) -> At {
             _ => At::Holding,
         },
         Some(Place::Waiting) => At::Waiting,
-        Some(Place::Opening(_)) => At::Opening,
+        Some(Place::Opening(number)) => match relay.place_on(number) {
+            Some(PlaceOn::Held(_)) => At::TakenBack,
+            _ => At::Opening,
+        },
         Some(Place::Asking(_)) => At::Asking,
         Some(Place::Cancelling(_)) => At::Cancelling,
         Some(Place::Over) => At::Other,
@@ -298,7 +330,7 @@ fn at_on(place: Option<PlaceOn>) -> (At, u64) {
 fn why_late(at: At, lasted: u64, age: u64, limits: &Limits) -> Option<Why> {
     match at {
         At::Login | At::Other => limited(limits.login, lasted, Why::Login),
-        At::Waiting | At::Opening => limited(limits.wait, lasted, Why::Wait),
+        At::Waiting | At::Opening | At::TakenBack => limited(limits.wait, lasted, Why::Wait),
         At::Cancelling | At::Draining | At::Cleaning => limited(limits.cancel, lasted, Why::Cancel),
         At::Holding => limited(limits.hold, lasted, Why::Hold),
         At::InTransaction => match limited(limits.transaction, lasted, Why::Transaction) {
@@ -309,7 +341,7 @@ fn why_late(at: At, lasted: u64, age: u64, limits: &Limits) -> Option<Why> {
             Some(why) => Some(why),
             None => limited(limits.life, age, Why::Old),
         },
-        At::Quiet | At::Asking | At::Held => None,
+        At::Quiet | At::Kept | At::Asking | At::Held => None,
     }
 }
 
