@@ -20,6 +20,8 @@ from wire_readers import READERS
 
 TOTAL = 100_000_000
 SLOW, LESS = ("go-mssqldb", "pymssql"), 10_000_000
+# How many answers more a client's longer run has.
+MORE = 4
 ROWS = (("rows of 7 bytes", 4), ("rows of 1,003 bytes", 1000))
 DONE = b"\xfd" + bytes(12)
 NEWS = bytes.fromhex("e30300120000")
@@ -160,11 +162,11 @@ def drivers(program, turns):
 
 
 def rates(made, turns, count, total):
-    """MB a second of each of these clients, which take turns: of one answer and of two the fastest, and between
-    them the difference, which has no start and no login in it."""
-    one, two = [[] for _ in made], [[] for _ in made]
+    """MB a second of each of these clients, which take turns: between the fastest run of one answer and that of some
+    more lies the difference, which has no start and no login in it."""
+    one, more = [[] for _ in made], [[] for _ in made]
     for _ in range(turns):
         for at, it in enumerate(made):
             one[at].append(seconds(it, 0, count))
-            two[at].append(seconds(it, 1, count))
-    return [total / (min(long) - min(short)) / 1e6 for short, long in zip(one, two)]
+            more[at].append(seconds(it, MORE, count))
+    return [MORE * total / (min(long) - min(short)) / 1e6 for short, long in zip(one, more)]
