@@ -19,7 +19,7 @@ pub(crate) use crate::reading::fields::number16;
 use crate::reading::fields::{byte, int, number64};
 pub(crate) use crate::reading::messages::fields_inside;
 use crate::reading::messages::message;
-pub(crate) use crate::reading::tables::column;
+pub(crate) use crate::reading::tables::{column, whole_row};
 use crate::reading::tables::{column_list, row};
 use crate::token::TokenRef;
 
