@@ -70,13 +70,13 @@ fn token_of_kind(
     ensures { Gives (λ x. (token_of x.0, x.1.now)) result (token_behind columns kind bytes.now) }
 {
     match kind {
-        0xAB => {
+        0xAA | 0xAB => {
             let (message, rest) = message(bytes)?;
-            Ok((TokenRef::Info(message), rest))
-        }
-        0xAA => {
-            let (message, rest) = message(bytes)?;
-            Ok((TokenRef::Error(message), rest))
+            let token = match kind {
+                0xAB => TokenRef::Info(message),
+                _ => TokenRef::Error(message),
+            };
+            Ok((token, rest))
         }
         0x79 => return_status(bytes),
         0xE3 => env_change(bytes),

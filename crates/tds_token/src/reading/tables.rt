@@ -49,7 +49,8 @@ fn skip_column(bytes: &[u8]) -> Result<&[u8], TokenFault>
 }
 
 /// The bytes behind so many columns, which must be right.
-#[inline(always)]
+// A result has its columns once: a row is looked for first.
+#[cold]
 fn skip_columns(count: u8, bytes: &[u8]) -> Result<&[u8], TokenFault>
     ensures { Gives (λ x. x.now) result (after_of (columns_at count bytes.now)) }
 {
