@@ -92,55 +92,37 @@ pub(crate) fn listen_on(
     let mut count = 0;
     let mut settled = None;
     let mut is_empty = was_empty;
-    'packets: loop {
+    let stop = 'packets: loop {
         match reader.feed(&piece[count..]) {
             Ok(taken) => {
                 count += taken;
                 is_empty = is_still_empty(is_empty, taken);
             }
-            Err(fault) => return (
-                ClientFed {
-                    count: piece.len(),
-                    settled,
-                    stop: Some(ClientStop::Packet(fault)),
-                },
-                false,
-            ),
+            Err(fault) => {
+                count = piece.len();
+                is_empty = false;
+                break Some(ClientStop::Packet(fault));
+            }
         }
         let Some(packet) = reader.packet() else {
-            return (
-                ClientFed {
-                    count,
-                    settled,
-                    stop: None,
-                },
-                is_empty,
-            );
+            break None;
         };
         match client.take(packet, told) {
             Ok(took) => {
                 if took == Taken::NoMemory {
-                    return (
-                        ClientFed {
-                            count,
-                            settled,
-                            stop: Some(ClientStop::NoMemory),
-                        },
-                        is_empty,
-                    );
+                    break Some(ClientStop::NoMemory);
                 }
                 settled = settled_by(took, settled);
             }
-            Err(fault) => return (
-                ClientFed {
-                    count,
-                    settled,
-                    stop: Some(ClientStop::Client(fault)),
-                },
-                is_empty,
-            ),
+            Err(fault) => break Some(ClientStop::Client(fault)),
         }
         reader.done();
         is_empty = true;
-    }
+    };
+    let fed = ClientFed {
+        count,
+        settled,
+        stop,
+    };
+    (fed, is_empty)
 }

@@ -89,48 +89,31 @@ pub(crate) fn serve_on<E: Engine + Drop>(
     reads_packets();
     let mut count = 0;
     let mut is_empty = was_empty;
-    'packets: loop {
+    let stop = 'packets: loop {
         match reader.feed(&piece[count..]) {
             Ok(taken) => {
                 count += taken;
                 is_empty = is_still_empty(is_empty, taken);
             }
             Err(fault) => {
-                return (
-                    ServerFed {
-                        count: piece.len(),
-                        stop: Some(ServerStop::Packet(fault)),
-                    },
-                    false,
-                );
+                count = piece.len();
+                is_empty = false;
+                break Some(ServerStop::Packet(fault));
             }
         }
         let Some(packet) = reader.packet() else {
-            return (ServerFed { count, stop: None }, is_empty);
+            break None;
         };
         match server.take(packet, reply) {
             Ok(took) => {
                 if took == ServerTook::NoMemory {
-                    return (
-                        ServerFed {
-                            count,
-                            stop: Some(ServerStop::NoMemory),
-                        },
-                        is_empty,
-                    );
+                    break Some(ServerStop::NoMemory);
                 }
             }
-            Err(fault) => {
-                return (
-                    ServerFed {
-                        count,
-                        stop: Some(ServerStop::Server(fault)),
-                    },
-                    is_empty,
-                );
-            }
+            Err(fault) => break Some(ServerStop::Server(fault)),
         }
         reader.done();
         is_empty = true;
-    }
+    };
+    (ServerFed { count, stop }, is_empty)
 }
