@@ -60,8 +60,9 @@ impl ClientEnd {
     }
 
     /// Takes a piece of what the server sent, as [`listen`](crate::listen) does. Where no bytes of
-    /// a packet are held it takes memory for one packet, and gives it back once none are held; if
-    /// that is refused it takes none of the piece, and nothing changes.
+    /// a packet are held it takes memory for one packet, and gives it back once none are held. If
+    /// that is refused it stops at once (`NoMemory`): it takes none of the piece, and nothing
+    /// changes.
     pub fn listen(&mut self, piece: &[u8], told: &mut Vec<Token>) -> ClientFed
         ensures within { result.count ≤ length piece.now }
         ensures listens { EndListens self.old.reader self.new.reader piece.now self.old.client
@@ -158,8 +159,8 @@ impl<E: Engine + Drop> ServerEnd<E> {
     }
 
     /// Takes a piece of what the client sent, as [`serve`](crate::serve) does. Where no bytes of a
-    /// packet are held it takes memory for one packet, and gives it back once none are held; if that
-    /// is refused it takes none of the piece, and nothing changes.
+    /// packet are held it takes memory for one packet, and gives it back once none are held. If that
+    /// is refused it stops at once (`NoMemory`): it takes none of the piece, and nothing changes.
     pub fn serve(&mut self, piece: &[u8], reply: &mut Vec<u8>) -> ServerFed
         ensures engine { self.new.server.engine ≡ self.old.server.engine }
         ensures on_attention { self.new.server.on_attention ≡ self.old.server.on_attention }
