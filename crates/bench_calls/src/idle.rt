@@ -65,7 +65,7 @@ fn many<T: Drop, F: FnMut() -> Result<T, SpeedFault> + Drop>(
 }
 
 fn new_client(alloc: Global, size: PacketSize) -> Result<ClientEnd, SpeedFault> {
-    Ok(ClientEnd::new(alloc, size)?)
+    Ok(ClientEnd::new(alloc, size))
 }
 
 /// The answer to a request: one packet with a final DONE (MS-TDS 2.2.7.6).
@@ -74,7 +74,7 @@ const ANSWERED: [u8; 21] = [
 ];
 
 fn used_client(alloc: Global, size: PacketSize) -> Result<ClientEnd, SpeedFault> {
-    let mut end = ClientEnd::new(alloc, size)?;
+    let mut end = ClientEnd::new(alloc, size);
     let request = batch(alloc, b"select a from b")?;
     let (mut out, mut told) = (Vec::new(alloc), Vec::new(alloc));
     let is_started = end.client_mut().start(&request).is_ok();
@@ -88,7 +88,7 @@ fn used_client(alloc: Global, size: PacketSize) -> Result<ClientEnd, SpeedFault>
 }
 
 fn new_server(alloc: Global, size: PacketSize) -> Result<ServerEnd<ScriptEngine>, SpeedFault> {
-    Ok(ServerEnd::new(alloc, ScriptEngine, size)?)
+    Ok(ServerEnd::new(alloc, ScriptEngine, size))
 }
 
 /// A request: `say hello`.
@@ -99,7 +99,7 @@ const ASKED: [u8; 48] = [
 ];
 
 fn used_server(alloc: Global, size: PacketSize) -> Result<ServerEnd<ScriptEngine>, SpeedFault> {
-    let mut end = ServerEnd::new(alloc, ScriptEngine, size)?;
+    let mut end = ServerEnd::new(alloc, ScriptEngine, size);
     let mut out = Vec::new(alloc);
     let fed = end.serve(&ASKED, &mut out);
     let said = end.work(&mut out)?;

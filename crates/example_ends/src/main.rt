@@ -20,8 +20,8 @@ fn main(rt: HostRuntime) -> anyhow::Result<()> {
     let listener = TcpListener::bind(&rt, "127.0.0.1:0")?;
     let near = TcpStream::connect(&rt, listener.local_addr()?)?;
     let (far, _) = listener.accept()?;
-    let mut client = ClientEnd::new(alloc, size)?;
-    let mut server = ServerEnd::new(alloc, ScriptEngine, size)?;
+    let mut client = ClientEnd::new(alloc, size);
+    let mut server = ServerEnd::new(alloc, ScriptEngine, size);
     for text in ["set a 5;get a", "rows 1 3", "say hello"] {
         ask(alloc, &near, &mut client, text)?;
         answer(alloc, &far, &mut server)?;

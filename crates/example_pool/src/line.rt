@@ -18,7 +18,7 @@ pub struct Line {
 
 impl Line {
     pub fn new(alloc: Global, size: PacketSize) -> anyhow::Result<Line> {
-        let server = ServerEnd::new(alloc, ScriptEngine, size)?;
+        let server = ServerEnd::new(alloc, ScriptEngine, size);
         let reader = PacketReader::new(alloc, size, Direction::ToClient)?;
         Ok(Line { reader, server })
     }

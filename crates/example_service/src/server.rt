@@ -22,7 +22,7 @@ impl Server {
     pub fn new(rt: &HostRuntime) -> anyhow::Result<Server> {
         let size = PacketSize::new(512).context("no packet size")?;
         Ok(Server {
-            end: ServerEnd::new(rt.alloc(), ScriptEngine, size)?,
+            end: ServerEnd::new(rt.alloc(), ScriptEngine, size),
         })
     }
 

@@ -15,7 +15,7 @@ use Rattle.tds_ends.specs.Feeding.{Coming, IsComing, bytes_of}
 use Rattle.tds_ends.proofs.Spelling.{Behind, OnePacket, behind, no_packet}
 use Rattle.tds_ends.proofs.Streams.{Fronts, long, same_fault}
 
-no_fault_yet : (r : Reading) → fault_of r [] ≡ None
+pub no_fault_yet : (r : Reading) → fault_of r [] ≡ None
 unfolding fault_of
 no_fault_yet r = refl
 

@@ -27,4 +27,5 @@ pub mod ClientDelivery
 pub mod Coming
 pub mod SomeOf
 pub mod AllBytes
+pub mod Empty
 pub mod AllHeard

@@ -1,5 +1,5 @@
 -- What an end makes of any bytes that come: the packets that it takes, one after the other, and where it stops.
-use Rattle.std.specs.Prelude.{ℕ, ◌+◌, ◌≡◌, List, ◌++◌, length, drop, Option, Some, None, Err}
+use Rattle.std.specs.Prelude.{ℕ, ◌+◌, ◌≡◌, ◌≢◌, ◌⊎◌, List, [], ◌++◌, length, drop, Option, Some, None, Err}
 use Rattle.std.specs.List.{AllByRecursion}
 use Rattle.tds_client.specs.declared.fault.ClientFault.{ClientFault}
 use Rattle.tds_client.specs.Session.{ClientSession}
@@ -154,3 +154,33 @@ ServerGoesOn (Some server_stop.NoMemory) = Unit {0}
 abbrev pub server_fed_twice : ServerFed → ServerFed → ServerFed
 server_fed_twice first second =
     record { count = first.count + second.count; stop = second.stop }
+
+-- ---- A core with its reader in one value
+
+-- There was no memory for the reader's buffer: it held no bytes, nothing of the piece was taken, and nothing
+-- changed.
+pub record LacksBuffer {Core Item : Type 0} (r new : Reading) (piece : List ℕ) (s now : Core)
+    (before after : List Item) : Type 0 where
+  pub empty : r.taken ≡ []
+  pub some : piece ≢ []
+  pub reader : new ≡ r
+  pub core : now ≡ s
+  pub appended : after ≡ before
+
+abbrev pub client_lacking : ClientFed
+client_lacking = record { count = 0; settled = None; stop = Some client_stop.NoMemory }
+
+abbrev pub EndListens : Reading → Reading → List ℕ → ClientSession → ClientSession → List Token → List Token
+    → ClientFed → Type 0
+EndListens r new piece s now told after fed =
+    Listens r new piece s now told after fed
+    ⊎ ((fed ≡ client_lacking) × LacksBuffer r new piece s now told after)
+
+abbrev pub server_lacking : ServerFed
+server_lacking = record { count = 0; stop = Some server_stop.NoMemory }
+
+abbrev pub EndServes : {E : Type 0} → Answers → Reading → Reading → List ℕ → ServerState E → ServerState E
+    → List ℕ → List ℕ → ServerFed → Type 0
+EndServes answers r new piece s now reply after fed =
+    Serves answers r new piece s now reply after fed
+    ⊎ ((fed ≡ server_lacking) × LacksBuffer r new piece s now reply after)

@@ -8,3 +8,4 @@ pub mod Hearing
 pub mod Deliveries
 pub mod ModelGives
 pub mod Lending
+pub mod Light

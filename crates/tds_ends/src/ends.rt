@@ -1,20 +1,22 @@
-//! An end of a connection in one value: a core and the reader of what comes to it.
+//! An end of a connection in one value: a core and the reader of what comes to it, which has its
+//! buffer only while a packet comes.
 ghost use Rattle.std.specs.Prelude.{◌≡◌, ◌≤◌, ◌+◌, ◌*◌, ◌++◌, length, IfOk, OnOk, OnErr};
 ghost use Rattle.std.specs.Borrow.{sem};
 ghost use Rattle.tds_client.specs.Session.{new_session};
 ghost use Rattle.tds_ends.specs.AllBytes.{new_reader};
-ghost use Rattle.tds_ends.specs.Ends.{Listens, Serves};
+ghost use Rattle.tds_ends.specs.Ends.{EndListens, EndServes};
 ghost use Rattle.tds_packet.specs.declared.kind.Direction.TheVariants.{ToClient, ToServer};
 ghost use Rattle.tds_server.specs.State.{IsAnswering, lost_of, new_server, server_with};
 ghost use Rattle.tds_server.specs.Working.{worked};
 ghost use Rattle.tds_session.specs.Answer.{answer_of};
 
 use crate::NoMemory;
-use crate::listening::{ClientFed, listen};
-use crate::serving::{ServerFed, serve};
+use crate::light::LightReader;
+use crate::listening::{ClientFed, ClientStop, listen_on};
+use crate::serving::{ServerFed, ServerStop, serve_on};
 use std::alloc::Global;
 use tds_client::Client;
-use tds_packet::{Direction, PacketReader, PacketSize};
+use tds_packet::{Direction, PacketSize};
 use tds_server::{Server, Worked};
 use tds_session::{Engine, OnAttention};
 use tds_token::Token;
@@ -23,22 +25,22 @@ use tds_token::Token;
 #[derive(Drop)]
 pub struct ClientEnd {
     client: Client,
-    reader: PacketReader,
+    reader: LightReader,
     ghost reads: { reader.direction ≡ ToClient },
 }
 
 impl ClientEnd {
     ghost use Rattle.tds_ends.specs.Lending.{LendsClient};
 
-    /// A new client and its reader, for packets of this size. The reader takes memory, once.
-    pub fn new(alloc: Global, size: PacketSize) -> Result<ClientEnd, NoMemory>
-        ensures { IfOk result (λ end. (end.client ≡ new_session size)
-            × (end.reader ≡ new_reader ToClient size)) }
+    /// A new client and its reader, for packets of this size. It takes no memory.
+    pub fn new(alloc: Global, size: PacketSize) -> ClientEnd
+        ensures client { result.client ≡ new_session size }
+        ensures reader { result.reader ≡ new_reader ToClient size }
     {
-        Ok(ClientEnd {
+        ClientEnd {
             client: Client::new(alloc, size),
-            reader: PacketReader::new(alloc, size, Direction::ToClient)?,
-        })
+            reader: LightReader::new(alloc, size, Direction::ToClient),
+        }
     }
 
     /// The client, to see its state.
@@ -57,13 +59,33 @@ impl ClientEnd {
         &mut self.client
     }
 
-    /// Takes a piece of what the server sent, as [`listen`] does.
+    /// Takes a piece of what the server sent, as [`listen`](crate::listen) does. Where no bytes of
+    /// a packet are held it takes memory for one packet, and gives it back once none are held. If
+    /// that is refused it stops at once (`NoMemory`): it takes none of the piece, and nothing
+    /// changes.
     pub fn listen(&mut self, piece: &[u8], told: &mut Vec<Token>) -> ClientFed
         ensures within { result.count ≤ length piece.now }
-        ensures listens { Listens self.old.reader self.new.reader piece.now self.old.client
+        ensures listens { EndListens self.old.reader self.new.reader piece.now self.old.client
             self.new.client told.old.items told.new.items result }
     {
-        listen(&mut self.client, &mut self.reader, piece, told)
+        let was_empty = self.reader.is_empty();
+        if was_empty && piece.is_empty() {
+            return ClientFed {
+                count: 0,
+                settled: None,
+                stop: None,
+            };
+        }
+        let Ok(mut reader) = self.reader.open() else {
+            return ClientFed {
+                count: 0,
+                settled: None,
+                stop: Some(ClientStop::NoMemory),
+            };
+        };
+        let (fed, is_empty) = listen_on(&mut self.client, &mut reader, piece, told, was_empty);
+        self.reader.close(reader, is_empty);
+        fed
     }
 }
 
@@ -71,20 +93,20 @@ impl ClientEnd {
 #[derive(Drop)]
 pub struct ServerEnd<E: Engine + Drop> {
     server: Server<E>,
-    reader: PacketReader,
+    reader: LightReader,
     ghost reads: { reader.direction ≡ ToServer },
 }
 
 impl<E: Engine + Drop> ServerEnd<E> {
-    /// A new server and its reader, for packets of this size. The reader takes memory, once.
-    pub fn new(alloc: Global, engine: E, size: PacketSize) -> Result<ServerEnd<E>, NoMemory>
-        ensures { IfOk result (λ end. (end.server ≡ new_server engine)
-            × (end.reader ≡ new_reader ToServer size)) }
+    /// A new server and its reader, for packets of this size. It takes no memory.
+    pub fn new(alloc: Global, engine: E, size: PacketSize) -> ServerEnd<E>
+        ensures server { result.server ≡ new_server engine }
+        ensures reader { result.reader ≡ new_reader ToServer size }
     {
-        Ok(ServerEnd {
+        ServerEnd {
             server: Server::new(alloc, engine, size),
-            reader: PacketReader::new(alloc, size, Direction::ToServer)?,
-        })
+            reader: LightReader::new(alloc, size, Direction::ToServer),
+        }
     }
 
     /// The same of a server that does this with its transaction where an attention stops an answer.
@@ -93,14 +115,14 @@ impl<E: Engine + Drop> ServerEnd<E> {
         engine: E,
         size: PacketSize,
         on_attention: OnAttention,
-    ) -> Result<ServerEnd<E>, NoMemory>
-        ensures { IfOk result (λ end. (end.server ≡ server_with on_attention engine)
-            × (end.reader ≡ new_reader ToServer size)) }
+    ) -> ServerEnd<E>
+        ensures server { result.server ≡ server_with on_attention engine }
+        ensures reader { result.reader ≡ new_reader ToServer size }
     {
-        Ok(ServerEnd {
+        ServerEnd {
             server: Server::with_attention(alloc, engine, size, on_attention),
-            reader: PacketReader::new(alloc, size, Direction::ToServer)?,
-        })
+            reader: LightReader::new(alloc, size, Direction::ToServer),
+        }
     }
 
     /// The server, to see its session.
@@ -136,7 +158,9 @@ impl<E: Engine + Drop> ServerEnd<E> {
         self.server.lost();
     }
 
-    /// Takes a piece of what the client sent, as [`serve`] does.
+    /// Takes a piece of what the client sent, as [`serve`](crate::serve) does. Where no bytes of a
+    /// packet are held it takes memory for one packet, and gives it back once none are held. If that
+    /// is refused it stops at once (`NoMemory`): it takes none of the piece, and nothing changes.
     pub fn serve(&mut self, piece: &[u8], reply: &mut Vec<u8>) -> ServerFed
         ensures engine { self.new.server.engine ≡ self.old.server.engine }
         ensures on_attention { self.new.server.on_attention ≡ self.old.server.on_attention }
@@ -145,9 +169,24 @@ impl<E: Engine + Drop> ServerEnd<E> {
             + 35 * (length self.old.reader.taken + result.count) }
         ensures serves { let answers = answer_of (E.statements_of self.old.server.engine)
             (E.step_of self.old.server.engine) in
-            Serves answers self.old.reader self.new.reader piece.now self.old.server
+            EndServes answers self.old.reader self.new.reader piece.now self.old.server
             self.new.server reply.old.items reply.new.items result }
     {
-        serve(&mut self.server, &mut self.reader, piece, reply)
+        let was_empty = self.reader.is_empty();
+        if was_empty && piece.is_empty() {
+            return ServerFed {
+                count: 0,
+                stop: None,
+            };
+        }
+        let Ok(mut reader) = self.reader.open() else {
+            return ServerFed {
+                count: 0,
+                stop: Some(ServerStop::NoMemory),
+            };
+        };
+        let (fed, is_empty) = serve_on(&mut self.server, &mut reader, piece, reply, was_empty);
+        self.reader.close(reader, is_empty);
+        fed
     }
 }

@@ -5,6 +5,7 @@
 pub mod all_bytes;
 mod ends;
 pub mod laws;
+mod light;
 mod listening;
 mod reading;
 mod serving;

@@ -2,9 +2,10 @@
 ghost use Rattle.std.specs.Prelude.{◌≡◌, ◌≤◌, length};
 ghost use Rattle.tds_ends.specs.Ends.{Listens};
 ghost use Rattle.tds_ends.specs.Feeding.{settled_by};
+ghost use Rattle.tds_ends.specs.Light.{TellsEmpty};
 ghost use Rattle.tds_packet.specs.declared.kind.Direction.TheVariants.{ToClient};
 
-use crate::reading::reads_packets;
+use crate::reading::{is_still_empty, reads_packets};
 use tds_client::{Client, ClientFault, Taken};
 use tds_packet::{PacketFault, PacketReader};
 use tds_token::Token;
@@ -67,42 +68,61 @@ pub fn listen(
     ensures listens { Listens reader.old reader.new piece.now client.old client.new
         told.old.items told.new.items result }
 {
+    listen_on(client, reader, piece, told, false).0
+}
+
+/// The same. It answers beside whether the reader holds no bytes then, if the caller said rightly
+/// whether it held none before.
+pub(crate) fn listen_on(
+    client: &mut Client,
+    reader: &mut PacketReader,
+    piece: &[u8],
+    told: &mut Vec<Token>,
+    was_empty: bool,
+) -> (ClientFed, bool)
+    requires { reader.old.direction ≡ ToClient }
+    ensures reads { reader.new.direction ≡ ToClient }
+    ensures size { reader.new.size ≡ reader.old.size }
+    ensures within { result.0.count ≤ length piece.now }
+    ensures listens { Listens reader.old reader.new piece.now client.old client.new
+        told.old.items told.new.items result.0 }
+    ensures empty { TellsEmpty was_empty reader.old.taken → TellsEmpty result.1 reader.new.taken }
+{
     reads_packets();
     let mut count = 0;
     let mut settled = None;
-    'packets: loop {
+    let mut is_empty = was_empty;
+    let stop = 'packets: loop {
         match reader.feed(&piece[count..]) {
-            Ok(taken) => count += taken,
-            Err(fault) => return ClientFed {
-                count: piece.len(),
-                settled,
-                stop: Some(ClientStop::Packet(fault)),
-            },
+            Ok(taken) => {
+                count += taken;
+                is_empty = is_still_empty(is_empty, taken);
+            }
+            Err(fault) => {
+                count = piece.len();
+                is_empty = false;
+                break Some(ClientStop::Packet(fault));
+            }
         }
         let Some(packet) = reader.packet() else {
-            return ClientFed {
-                count,
-                settled,
-                stop: None,
-            };
+            break None;
         };
         match client.take(packet, told) {
             Ok(took) => {
                 if took == Taken::NoMemory {
-                    return ClientFed {
-                        count,
-                        settled,
-                        stop: Some(ClientStop::NoMemory),
-                    };
+                    break Some(ClientStop::NoMemory);
                 }
                 settled = settled_by(took, settled);
             }
-            Err(fault) => return ClientFed {
-                count,
-                settled,
-                stop: Some(ClientStop::Client(fault)),
-            },
+            Err(fault) => break Some(ClientStop::Client(fault)),
         }
         reader.done();
-    }
+        is_empty = true;
+    };
+    let fed = ClientFed {
+        count,
+        settled,
+        stop,
+    };
+    (fed, is_empty)
 }

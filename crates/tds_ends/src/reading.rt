@@ -1,5 +1,6 @@
 //! What the packet layer says of bytes that a reader takes.
-ghost use Rattle.std.specs.Prelude.{◌≡◌, ◌++◌, ℕ, List, None, Some};
+ghost use Rattle.std.specs.Prelude.{◌≡◌, ◌++◌, ℕ, List, None, Some, length};
+ghost use Rattle.tds_ends.specs.Light.{TellsEmpty};
 ghost use Rattle.tds_packet.specs.Reading.{Reading, with_taken, fault_of, up_to_end, IsWhole};
 ghost use Rattle.tds_packet.specs.Stream.{IsLess};
 ghost use Rattle.tds_packet.specs.declared.fault.PacketFault.{PacketFault};
@@ -17,4 +18,12 @@ pub(crate) fn reads_packets()
 {
     whatever_follows();
     fronts();
+}
+
+/// Whether a reader holds no bytes that took so many more, where this says whether it held none.
+pub(crate) fn is_still_empty(was_empty: bool, taken: usize) -> bool
+    ensures { (held more : List ℕ) → TellsEmpty was_empty held → length more ≡ taken
+        → TellsEmpty result (held ++ more) }
+{
+    was_empty && taken == 0
 }

@@ -1,10 +1,11 @@
 //! What a server makes of bytes that come.
 ghost use Rattle.std.specs.Prelude.{◌≡◌, ◌≤◌, ◌+◌, ◌*◌, length};
 ghost use Rattle.tds_ends.specs.Ends.{Serves};
+ghost use Rattle.tds_ends.specs.Light.{TellsEmpty};
 ghost use Rattle.tds_packet.specs.declared.kind.Direction.TheVariants.{ToServer};
 ghost use Rattle.tds_session.specs.Answer.{answer_of};
 
-use crate::reading::reads_packets;
+use crate::reading::{is_still_empty, reads_packets};
 use tds_packet::{PacketFault, PacketReader};
 use tds_server::{Server, ServerFault, ServerTook};
 use tds_session::Engine;
@@ -60,37 +61,59 @@ pub fn serve<E: Engine + Drop>(
         (E.step_of server.old.engine)) reader.old reader.new piece.now server.old server.new
         reply.old.items reply.new.items result }
 {
+    serve_on(server, reader, piece, reply, false).0
+}
+
+/// The same. It answers beside whether the reader holds no bytes then, if the caller said rightly
+/// whether it held none before.
+pub(crate) fn serve_on<E: Engine + Drop>(
+    server: &mut Server<E>,
+    reader: &mut PacketReader,
+    piece: &[u8],
+    reply: &mut Vec<u8>,
+    was_empty: bool,
+) -> (ServerFed, bool)
+    requires { reader.old.direction ≡ ToServer }
+    ensures reads { reader.new.direction ≡ ToServer }
+    ensures size { reader.new.size ≡ reader.old.size }
+    ensures engine { server.new.engine ≡ server.old.engine }
+    ensures on_attention { server.new.on_attention ≡ server.old.on_attention }
+    ensures within { result.0.count ≤ length piece.now }
+    ensures short { 8 * length reply.new.items ≤ 8 * length reply.old.items
+        + 35 * (length reader.old.taken + result.0.count) }
+    ensures serves { Serves (answer_of (E.statements_of server.old.engine)
+        (E.step_of server.old.engine)) reader.old reader.new piece.now server.old server.new
+        reply.old.items reply.new.items result.0 }
+    ensures empty { TellsEmpty was_empty reader.old.taken → TellsEmpty result.1 reader.new.taken }
+{
     reads_packets();
     let mut count = 0;
-    'packets: loop {
+    let mut is_empty = was_empty;
+    let stop = 'packets: loop {
         match reader.feed(&piece[count..]) {
-            Ok(taken) => count += taken,
+            Ok(taken) => {
+                count += taken;
+                is_empty = is_still_empty(is_empty, taken);
+            }
             Err(fault) => {
-                return ServerFed {
-                    count: piece.len(),
-                    stop: Some(ServerStop::Packet(fault)),
-                };
+                count = piece.len();
+                is_empty = false;
+                break Some(ServerStop::Packet(fault));
             }
         }
         let Some(packet) = reader.packet() else {
-            return ServerFed { count, stop: None };
+            break None;
         };
         match server.take(packet, reply) {
             Ok(took) => {
                 if took == ServerTook::NoMemory {
-                    return ServerFed {
-                        count,
-                        stop: Some(ServerStop::NoMemory),
-                    };
+                    break Some(ServerStop::NoMemory);
                 }
             }
-            Err(fault) => {
-                return ServerFed {
-                    count,
-                    stop: Some(ServerStop::Server(fault)),
-                };
-            }
+            Err(fault) => break Some(ServerStop::Server(fault)),
         }
         reader.done();
-    }
+        is_empty = true;
+    };
+    (ServerFed { count, stop }, is_empty)
 }

@@ -51,7 +51,7 @@ impl End {
         if is_any {
             return Ok(End::Any(AnyEnd::new(alloc, size)?));
         }
-        Ok(End::Strict(ClientEnd::new(alloc, size)?))
+        Ok(End::Strict(ClientEnd::new(alloc, size)))
     }
 
     pub fn client(&self) -> &Client {

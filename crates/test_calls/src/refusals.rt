@@ -32,7 +32,7 @@ enum Call {
 }
 
 /// The calls, by the names that the program takes.
-const CALLS: [(&str, Call); 40] = [
+const CALLS: [(&str, Call); 38] = [
     ("PacketReader::new", Call::Layer(LayerCall::NewReader)),
     ("put_packet", Call::Layer(LayerCall::Put(Appended::Packet))),
     (
@@ -70,8 +70,6 @@ const CALLS: [(&str, Call); 40] = [
     ("Pool::give_back", Call::Pool(PoolCall::GiveBack)),
     ("Pool::numbers", Call::Pool(PoolCall::Numbers)),
     ("Pool::numbers_at", Call::Pool(PoolCall::NumbersAt)),
-    ("ClientEnd::new", Call::End(EndCall::NewClient)),
-    ("ServerEnd::new", Call::End(EndCall::NewServer)),
     ("ClientEnd::listen", Call::End(EndCall::Listen)),
     ("ServerEnd::serve", Call::End(EndCall::Serve)),
     ("ServerEnd::work", Call::End(EndCall::Work)),

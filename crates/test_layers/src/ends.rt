@@ -39,8 +39,8 @@ pub fn play(alloc: Global, case: &mut Case<'_>) -> Result<(), Stop> {
     let size = size_of(512)?;
     let mut ends = Ends {
         alloc,
-        client: ClientEnd::new(alloc, size)?,
-        server: ServerEnd::new(alloc, ScriptEngine, size)?,
+        client: ClientEnd::new(alloc, size),
+        server: ServerEnd::new(alloc, ScriptEngine, size),
         more: 0,
         asked: Vec::new(alloc),
         answer: Vec::new(alloc),

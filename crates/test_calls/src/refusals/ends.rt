@@ -13,8 +13,6 @@ use tds_token::Token;
 /// A call of an end.
 #[derive(Clone, Copy)]
 pub enum EndCall {
-    NewClient,
-    NewServer,
     Listen,
     Serve,
     Work,
@@ -23,25 +21,9 @@ pub enum EndCall {
 /// Makes it.
 pub fn call(alloc: Global, call: EndCall, tried: &mut Tried) -> Result<(), Fault> {
     match call {
-        EndCall::NewClient => client_end_new(alloc, tried),
-        EndCall::NewServer => server_end_new(alloc, tried),
         EndCall::Listen => client_listen(alloc, tried),
         EndCall::Serve => server_end(alloc, false, tried),
         EndCall::Work => server_end(alloc, true, tried),
-    }
-}
-
-fn client_end_new(alloc: Global, tried: &mut Tried) -> Result<(), Fault> {
-    match ClientEnd::new(alloc, size()?) {
-        Ok(end) => tried.count(end.client().descriptor()),
-        Err(_) => Err(Fault::Refused),
-    }
-}
-
-fn server_end_new(alloc: Global, tried: &mut Tried) -> Result<(), Fault> {
-    match ServerEnd::new(alloc, ScriptEngine, size()?) {
-        Ok(end) => tried.count(end.server().session().descriptor()),
-        Err(_) => Err(Fault::Refused),
     }
 }
 
@@ -63,12 +45,12 @@ fn hear(
 
 /// Listens to an answer.
 fn client_listen(alloc: Global, tried: &mut Tried) -> Result<(), Fault> {
-    let mut end = ClientEnd::new(alloc, size()?)?;
+    let mut end = ClientEnd::new(alloc, size()?);
     let mut told = Vec::new(alloc);
     listen_to_all(alloc, &mut end, &mut told, tried)
 }
 
-/// The answer comes in two pieces; where memory was wanted, what is left of it comes again.
+/// The answer comes in two pieces.
 fn listen_to_all(
     alloc: Global,
     end: &mut ClientEnd,
@@ -76,18 +58,31 @@ fn listen_to_all(
     tried: &mut Tried,
 ) -> Result<(), Fault> {
     ask(alloc, end.client_mut())?;
-    all_taken(hear(end, &ANSWER[..30], false, told)?)?;
-    if let Some(count) = hear(end, &ANSWER[30..], true, told)? {
-        let is_reading = matches!(end.client().state(), ClientState::Reading);
-        tried.refuse(is_reading && told.is_empty());
-        all_taken(hear(end, behind(&ANSWER, count), true, told)?)?;
-    }
+    hear_all(end, &ANSWER[..30], false, told, tried)?;
+    hear_all(end, &ANSWER[30..], true, told, tried)?;
     tried.count(told.len() as u64)
 }
 
-/// What is left of these bytes where so many of the second piece were taken.
-fn behind(bytes: &[u8; 40], count: usize) -> &[u8] {
-    &bytes[30 + count.min(10)..]
+/// Listens to a piece; where memory was wanted, what is left of it comes again. Nothing of the
+/// first piece is taken then: the end has no buffer.
+fn hear_all(
+    end: &mut ClientEnd,
+    piece: &[u8],
+    is_last: bool,
+    told: &mut Vec<Token>,
+    tried: &mut Tried,
+) -> Result<(), Fault> {
+    if let Some(count) = hear(end, piece, is_last, told)? {
+        let is_reading = matches!(end.client().state(), ClientState::Reading);
+        tried.refuse(is_reading && told.is_empty() && (is_last || count == 0));
+        all_taken(hear(end, behind(piece, count), is_last, told)?)?;
+    }
+    Ok(())
+}
+
+/// What is left of a piece where so much of it was taken.
+fn behind(piece: &[u8], count: usize) -> &[u8] {
+    &piece[count.min(piece.len())..]
 }
 
 fn all_taken(taken: Option<usize>) -> Result<(), Fault> {
@@ -127,7 +122,7 @@ fn is_untouched(end: &ServerEnd<ScriptEngine>, reply: &[u8]) -> bool {
 
 /// Makes a call of a server's end: `work`, or `serve` before it.
 fn server_end(alloc: Global, is_work: bool, tried: &mut Tried) -> Result<(), Fault> {
-    let mut end = ServerEnd::new(alloc, ScriptEngine, size()?)?;
+    let mut end = ServerEnd::new(alloc, ScriptEngine, size()?);
     let mut out = Vec::new(alloc);
     if is_work {
         work_on_all(&mut end, &mut out, tried)
@@ -136,19 +131,31 @@ fn server_end(alloc: Global, is_work: bool, tried: &mut Tried) -> Result<(), Fau
     }
 }
 
-/// A batch comes in two pieces; where memory was wanted, what is left of it comes again.
+/// A batch comes in two pieces.
 fn serve_all(
     end: &mut ServerEnd<ScriptEngine>,
     out: &mut Vec<u8>,
     tried: &mut Tried,
 ) -> Result<(), Fault> {
-    all_taken(serve(end, &GET[..30], out)?)?;
-    if let Some(count) = serve(end, &GET[30..], out)? {
-        tried.refuse(is_untouched(end, out.as_slice()));
-        all_taken(serve(end, behind(&GET, count), out)?)?;
-    }
+    serve_piece(end, &GET[..30], false, out, tried)?;
+    serve_piece(end, &GET[30..], true, out, tried)?;
     work(end, out)?;
     tried.get(out.as_slice())
+}
+
+/// Where memory was wanted, what is left of the piece comes again, as at a client.
+fn serve_piece(
+    end: &mut ServerEnd<ScriptEngine>,
+    piece: &[u8],
+    is_last: bool,
+    out: &mut Vec<u8>,
+    tried: &mut Tried,
+) -> Result<(), Fault> {
+    if let Some(count) = serve(end, piece, out)? {
+        tried.refuse(is_untouched(end, out.as_slice()) && (is_last || count == 0));
+        all_taken(serve(end, behind(piece, count), out)?)?;
+    }
+    Ok(())
 }
 
 fn work_on_all(

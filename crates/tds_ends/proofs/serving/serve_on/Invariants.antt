@@ -1,8 +1,9 @@
 use Rattle.std.proofs.Common.{◌≡◌, ◌≤◌, ◌+◌, ◌-◌, ◌*◌, length}
 use Rattle.tds_packet.specs.declared.kind.Direction.TheVariants.{ToServer}
 use Rattle.tds_session.specs.Answer.{answer_of}
+use Rattle.tds_ends.specs.Light.{TellsEmpty}
 use Rattle.tds_ends.proofs.FedServer.{Serving}
-use Rattle.tds_ends.proofs.serving.serve.Given as goal
+use Rattle.tds_ends.proofs.serving.serve_on.Given as goal
 
 abbrev pub invariant-packets : goal.invariant-packets
 invariant-packets g l = record {
@@ -13,6 +14,7 @@ invariant-packets g l = record {
   within : l.count ≤ length l.piece;
   short : 8 * length l.reply.items + 35 * length l.reader.taken
       ≤ 8 * length l.fn.reply.items + 35 * (length l.fn.reader.taken + l.count);
+  empty : TellsEmpty l.fn.was_empty l.fn.reader.taken → TellsEmpty l.is_empty l.reader.taken;
   so_far : Serving (answer_of (g.E.Engine.statements_of l.fn.server.engine) (g.E.Engine.step_of l.fn.server.engine))
       l.fn.reader l.reader l.piece l.count l.fn.server l.server l.fn.reply.items l.reply.items;
 }

@@ -1,9 +1,10 @@
 use Rattle.std.proofs.Common.{◌≡◌, ◌∙◌, ◌+◌, ap, refl, true, false, rules}
 use Rattle.tds_client.specs.declared.state.Taken.TheVariants.{NoMemory}
 use Rattle.tds_packet.specs.Reading.{IsWhole}
+use Rattle.tds_ends.proofs.Empty.{fed_tells, faulty_some}
 use Rattle.tds_ends.proofs.Feeding.{slice_rest, fed_at, held, faulty_at, drained_at}
 use Rattle.tds_ends.proofs.FedClient.{does_take, untaken, goes_on}
-use Rattle.tds_ends.proofs.listening.listen.Goals as goal
+use Rattle.tds_ends.proofs.listening.listen_on.Goals as goal
 
 pub returns-in-Err-clause-listens : goal.returns-in-Err-clause-listens
 returns-in-Err-clause-listens c =
@@ -80,5 +81,18 @@ packets-preserved c =
       reads = ap (λ r. r.direction) gone ∙ ap (λ r. r.direction) c.in-Ok.ensures.taken ∙ c.packets.invariant.reads;
       size = ap (λ r. r.size) gone ∙ ap (λ r. r.size) c.in-Ok.ensures.taken ∙ c.packets.invariant.size;
       within = search rules;
+      empty = λ tells. ap (λ r. r.taken) gone;
       so_far = goes_on _ c.feed.new.self c.done.new.self c.args.piece.now _ _ _ _ _ _ _ _ _ _ _ _ c.in-Ok-take.took so.packets fed so.took lent gone does.1 does.2 c.settled_by-settled.ensures;
     }
+
+pub returns-in-Err-clause-empty : goal.returns-in-Err-clause-empty
+returns-in-Err-clause-empty c = λ tells. faulty_some c.feed.new.self c.in-Err.fault c.in-Err.ensures.fault
+
+pub returns-in_default-clause-empty : goal.returns-in_default-clause-empty
+returns-in_default-clause-empty c = λ tells. fed_tells _ _ c.in-Ok.taken _ _ _ c.is_still_empty-is_empty.ensures c.in-Ok.ensures.within c.in-Ok.ensures.count (c.packets.invariant.empty tells)
+
+pub returns-then-eq-clause-empty : goal.returns-then-eq-clause-empty
+returns-then-eq-clause-empty c = λ tells. fed_tells _ _ c.in-Ok.taken _ _ _ c.is_still_empty-is_empty.ensures c.in-Ok.ensures.within c.in-Ok.ensures.count (c.packets.invariant.empty tells)
+
+pub returns-in-Err-take-clause-empty : goal.returns-in-Err-take-clause-empty
+returns-in-Err-take-clause-empty c = λ tells. fed_tells _ _ c.in-Ok.taken _ _ _ c.is_still_empty-is_empty.ensures c.in-Ok.ensures.within c.in-Ok.ensures.count (c.packets.invariant.empty tells)

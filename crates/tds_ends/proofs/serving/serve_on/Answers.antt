@@ -2,9 +2,10 @@ use Rattle.std.proofs.Common.{◌≡◌, ◌∙◌, ◌+◌, length, ap, sym, re
 use Rattle.tds_packet.specs.Reading.{IsWhole}
 use Rattle.tds_server.specs.declared.outcome.ServerTook.TheVariants.{NoMemory}
 use Rattle.tds_session.specs.Answer.{answer_of}
+use Rattle.tds_ends.proofs.Empty.{fed_tells, faulty_some}
 use Rattle.tds_ends.proofs.Feeding.{slice_rest, fed_at, held, faulty_at, drained_at}
 use Rattle.tds_ends.proofs.FedServer.{refused_quietly, same_took, goes_on, fed_length, whole_length}
-use Rattle.tds_ends.proofs.serving.serve.Goals as goal
+use Rattle.tds_ends.proofs.serving.serve_on.Goals as goal
 
 pub returns-in-Err-clause-serves : goal.returns-in-Err-clause-serves
 returns-in-Err-clause-serves g c =
@@ -90,6 +91,19 @@ packets-preserved g c =
       engine = c.take.ensures.engine ∙ c.packets.invariant.engine;
       on_attention = c.take.ensures.on_attention ∙ c.packets.invariant.on_attention;
       within = search rules;
+      empty = λ tells. ap (λ r. r.taken) gone;
       short = omega (arith, c.packets.invariant.short, c.take.ensures.short, fed_length _ _ _ _ c.in-Ok.ensures.count c.in-Ok.ensures.within, whole_length c.feed.new.self _ _ lent, ap (λ r. length r.taken) gone);
       so_far = goes_on _ _ c.feed.new.self c.done.new.self c.args.piece.now _ _ _ _ _ _ _ _ _ c.in-Ok-take.took so.packets fed so.took lent gone (sym c.in-Ok-take.is ∙ rw answers at took) (rw answers at state) (rw answers at reply);
     }
+
+pub returns-in-Err-clause-empty : goal.returns-in-Err-clause-empty
+returns-in-Err-clause-empty g c = λ tells. faulty_some c.feed.new.self c.in-Err.fault c.in-Err.ensures.fault
+
+pub returns-in_default-clause-empty : goal.returns-in_default-clause-empty
+returns-in_default-clause-empty g c = λ tells. fed_tells _ _ c.in-Ok.taken _ _ _ c.is_still_empty-is_empty.ensures c.in-Ok.ensures.within c.in-Ok.ensures.count (c.packets.invariant.empty tells)
+
+pub returns-then-eq-clause-empty : goal.returns-then-eq-clause-empty
+returns-then-eq-clause-empty g c = λ tells. fed_tells _ _ c.in-Ok.taken _ _ _ c.is_still_empty-is_empty.ensures c.in-Ok.ensures.within c.in-Ok.ensures.count (c.packets.invariant.empty tells)
+
+pub returns-in-Err-take-clause-empty : goal.returns-in-Err-take-clause-empty
+returns-in-Err-take-clause-empty g c = λ tells. fed_tells _ _ c.in-Ok.taken _ _ _ c.is_still_empty-is_empty.ensures c.in-Ok.ensures.within c.in-Ok.ensures.count (c.packets.invariant.empty tells)
