@@ -8,5 +8,5 @@ pub mod laws;
 mod sign;
 
 pub use fault::ListenFault;
-pub use hearing::{Heard, hear_data, hear_end, hear_packet, next, next_to, pass_rows};
+pub use hearing::{Heard, hear_data, hear_end, hear_packet, next, next_to, next_whole, pass_rows};
 pub use sign::sign_of;

@@ -1,5 +1,5 @@
 -- A call of `feed`, by what its cursor answers.
-use Rattle.std.proofs.Common.{◌≡◌, ◌∙◌, ◌≤◌, ℕ, ◌-◌, List, length, take, drop, Option, Some, None, refl, sym, ap, arith}
+use Rattle.std.proofs.Common.{◌≡◌, ◌∙◌, ◌≤◌, ℕ, ◌-◌, List, [], ◌++◌, length, take, drop, Option, Some, None, refl, sym, ap, arith}
 use Rattle.std.proofs.lemmas.List.{length-drop}
 use Rattle.tds_wire.specs.declared.fault.Refusal.{Refusal}
 use Rattle.tds_wire.specs.declared.fault.WireFault.{WireFault}
@@ -9,7 +9,8 @@ use Rattle.tds_wire.specs.declared.due.Due.TheVariants as due
 use Rattle.tds_wire.specs.declared.due.Standing.TheVariants.{Between}
 use Rattle.tds_wire.specs.Walking.{Walk}
 use Rattle.tds_wire.specs.Bytes.{Over, Within, Failed, onward, standing}
-use Rattle.tds_wire.specs.Reading.{Reading, Sees, Inside, Refuses, behind, found_by, found_on, front_of, inside, next_token, refusal_at, token_with}
+use Rattle.tds_wire.specs.Reading.{IsReady, Reading, Sees, Inside, Refuses, behind, found_by, found_on, front_of, inside, next_token, refusal_at, token_with}
+use Rattle.tds_wire.specs.Told.{added, told_of}
 
 pub between_is : (d : Due) → standing d ≡ Between → d ≡ due.Token
 between_is due.Token e = refl
@@ -52,3 +53,29 @@ module _ (r : Reading) (piece : List ℕ) where
       → Refuses (refusal_at r fault (take count piece)) ≡ next_token r piece
   feeds_fault fault count e few does =
       ap (λ (last : List ℕ). Refuses (refusal_at r fault last)) (sym (front_is count few)) ∙ (ap (found_by r piece) does ∙ found_so e)
+
+-- a token that is whole in a piece, where nothing of it was passed before
+token_is : (kind start passed n : ℕ) (head last first : List ℕ) → passed ≡ 0 → head ≡ [] → n ≡ added 0 (length last) → first ≡ take 24 last
+    → (let t : Token = record { kind = kind; start = start; length = n; told = told_of kind start n first } in t)
+    ≡ record { kind = kind; start = start; length = added passed (length last); told = told_of kind start (added passed (length last)) (take 24 (head ++ last)) }
+token_is kind start passed n head last first p h e f =
+    let size : n ≡ added passed (length last) = e ∙ sym (ap (λ (k : ℕ). added k (length last)) p) in
+    let front : first ≡ take 24 (head ++ last) = f ∙ sym (ap (λ (xs : List ℕ). take 24 (xs ++ last)) h) in
+    cc
+
+reading_is : (w : Walk) (head last : List ℕ) (start next passed n : ℕ) (refused : Option Refusal) → passed ≡ 0 → head ≡ [] → refused ≡ None → n ≡ added 0 (length last)
+    → next ≡ added start n
+    → (let r : Reading = record { walk = w; head = head; start = next; passed = passed; refused = refused } in r)
+    ≡ record { walk = w; head = []; start = added start (added passed (length last)); passed = 0; refused = None }
+reading_is w head last start next passed n refused p h none e further =
+    let size : next ≡ added start (added passed (length last)) = further ∙ ap (added start) (e ∙ sym (ap (λ (k : ℕ). added k (length last)) p)) in
+    cc
+
+pub takes_whole : (r : Reading) (piece : List ℕ) (w : Walk) (count n next : ℕ) (first : List ℕ) → IsReady r → count ≤ length piece → onward r.walk piece ≡ Over w (drop count piece)
+    → n ≡ added 0 (length (take count piece)) → next ≡ added r.start n → first ≡ take 24 (take count piece)
+    → Sees (record { kind = w.at.kind; start = r.start; length = n; told = told_of w.at.kind r.start n first }) (record { walk = w; head = r.head; start = next; passed = r.passed; refused = r.refused }) (drop count piece) ≡ next_token r piece
+takes_whole r piece w count n next first ready few does e further f =
+    let last = take count piece in
+    sees_same _ _ _ _ (drop count piece) (token_is w.at.kind r.start r.passed n r.head last first ready.passed ready.head e f)
+    (reading_is w r.head last r.start next r.passed n r.refused ready.passed ready.head ready.whole e further)
+    ∙ feeds_over r piece w count ready.whole few (sym does)

@@ -20,6 +20,7 @@ use crate::fault::WireFault;
 use crate::features::Features;
 use crate::memory::Memory;
 use crate::shape::Shape;
+pub(crate) use whole::may_be_whole;
 
 /// Where bytes led.
 pub enum Step {

@@ -1,20 +1,20 @@
 //! The walk over an answer's tokens, in memory that is lent to it.
 
-ghost use Rattle.std.specs.Prelude.{◌≡◌, ◌≤◌, ◌<◌, ◌-◌, IfOk, IfErr, IfSome, None, Some, [], true, false, get_or, length, min, take};
+ghost use Rattle.std.specs.Prelude.{◌≡◌, ◌≤◌, ◌<◌, ◌-◌, IfOk, IfErr, IfSome, IsSome, None, Ok, Some, [], true, false, get_or, length, min, take};
 ghost use Rattle.tds_wire.specs.Told.{added, told_of};
 ghost use Rattle.tds_wire.specs.Memory.{shapes_of, walk_of};
 ghost use Rattle.tds_wire.specs.Reading.{IsReady, behind, found_of, found_with, is_between, kept, next_token, refusal_at, restarted, token_with};
 ghost use Rattle.tds_wire.specs.Lent.{head_of, reading_of};
 ghost use Rattle.tds_wire.specs.declared.memory.Memory.{Memory as AnyMemory};
 
-use crate::cursor::{Cursor, Step};
+use crate::cursor::{Cursor, Step, may_be_whole};
 use crate::due::Standing;
 use crate::fault::{Refusal, WireFault};
 use crate::features::Features;
 use crate::head::Head;
 use crate::memory::Memory;
 use crate::rows::row_token;
-use crate::told::{Token, Told, added, tells, told_of};
+use crate::told::{Token, Told, added, put_token, tells, told_of};
 
 /// What came of a piece.
 #[derive(Clone, Copy, Debug, PartialEq, Eq)]
@@ -161,6 +161,60 @@ impl LentWalk {
             }
             Step::Failed(fault, count) => Err(self.refuse(fault, &piece[..count])),
         }
+    }
+
+    /// Takes the token that bytes begin with, where it is whole, says in its first bytes how long it is, and
+    /// is no row: how many bytes it has. It is left in `token`. Else nothing is done, and the answer is 0,
+    /// as it is inside a token. Behind it go on with `feed_to`. It takes no memory.
+    #[inline(always)]
+    pub fn take_whole(&mut self, memory: &Memory, piece: &[u8], token: &mut Option<Token>) -> usize
+        ensures within { result ≤ length piece.now }
+        ensures same { result ≡ 0 → self.new ≡ self.old }
+        ensures stays { result ≡ 0 → token.new ≡ token.old }
+        ensures some { 0 < result → IsSome token.new }
+        ensures ready { 0 < result → IsReady (reading_of self.new memory.now) }
+        ensures exact { 0 < result
+            → found_with (Ok result) token.new (reading_of self.new memory.now) piece.now
+            ≡ next_token (reading_of self.old memory.now) piece.now }
+        ensures start { 0 < result → IfSome token.new
+            (λ token. self.new.start ≡ added token.start token.length) }
+        ensures most { self.new.cursor.most ≡ self.old.cursor.most }
+        ensures features { self.new.cursor.features ≡ self.old.cursor.features }
+    {
+        if may_be_whole(piece) && self.is_between(memory) {
+            self.take_ready(memory, piece, token)
+        } else {
+            0
+        }
+    }
+
+    /// The same between two tokens. It isn't put into its callers, of whose tokens it holds the place.
+    #[inline(never)]
+    fn take_ready(&mut self, memory: &Memory, piece: &[u8], token: &mut Option<Token>) -> usize
+        requires { IsReady (reading_of self.old memory.now) }
+        ensures within { result ≤ length piece.now }
+        ensures same { result ≡ 0 → self.new ≡ self.old }
+        ensures stays { result ≡ 0 → token.new ≡ token.old }
+        ensures some { 0 < result → IsSome token.new }
+        ensures ready { 0 < result → IsReady (reading_of self.new memory.now) }
+        ensures exact { 0 < result
+            → found_with (Ok result) token.new (reading_of self.new memory.now) piece.now
+            ≡ next_token (reading_of self.old memory.now) piece.now }
+        ensures start { 0 < result → IfSome token.new
+            (λ token. self.new.start ≡ added token.start token.length) }
+        ensures most { self.new.cursor.most ≡ self.old.cursor.most }
+        ensures features { self.new.cursor.features ≡ self.old.cursor.features }
+    {
+        let count = self.cursor.pass_ready(memory, piece);
+        if count == 0 {
+            return 0;
+        }
+        // Nothing of it was passed before.
+        let length = added(0, count as u64);
+        let kind = self.cursor.at.kind;
+        put_token(kind, self.start, length, first_of(&piece[..count]), token);
+        self.start = added(self.start, length);
+        count
     }
 
     /// A token has ended with these bytes.

@@ -1,6 +1,8 @@
 //! What a token says.
+mod placing;
 mod reading;
 
+pub(crate) use placing::put_token;
 pub(crate) use reading::{added, tells, told_of};
 
 /// Bytes of a message.

@@ -1,6 +1,6 @@
 //! The walk over an answer's tokens, in memory of its own.
 
-ghost use Rattle.std.specs.Prelude.{◌≡◌, ◌≤◌, ◌<◌, IfOk, IfErr, IfSome, None, Some, [], true, length};
+ghost use Rattle.std.specs.Prelude.{◌≡◌, ◌≤◌, ◌<◌, IfOk, IfErr, IfSome, IsSome, None, Ok, Some, [], true, length};
 ghost use Rattle.tds_wire.specs.Told.{added};
 ghost use Rattle.tds_wire.specs.Reading.{IsReady, found_of, found_with, is_between, next_token, restarted};
 ghost use Rattle.tds_wire.specs.Rows.{IsPassed};
@@ -92,6 +92,26 @@ impl Walker {
         ensures stays { IfErr result (λ _. token.new ≡ token.old) }
     {
         self.walk.feed_to(&mut self.memory, piece, token)
+    }
+
+    /// Takes the token that bytes begin with, where it is whole, says in its first bytes how long it is, and
+    /// is no row: how many bytes it has. It is left in `token`. Else nothing is done, and the answer is 0,
+    /// as it is inside a token. Behind it go on with `feed_to`. It takes no memory.
+    #[inline(always)]
+    pub fn take_whole(&mut self, piece: &[u8], token: &mut Option<Token>) -> usize
+        ensures within { result ≤ length piece.now }
+        ensures same { result ≡ 0 → self.new ≡ self.old }
+        ensures stays { result ≡ 0 → token.new ≡ token.old }
+        ensures some { 0 < result → IsSome token.new }
+        ensures ready { 0 < result → IsReady self.new }
+        ensures exact { 0 < result → found_with (Ok result) token.new self.new piece.now
+            ≡ next_token self.old piece.now }
+        ensures start { 0 < result → IfSome token.new
+            (λ token. self.new.start ≡ added token.start token.length) }
+        ensures most { self.new.walk.most ≡ self.old.walk.most }
+        ensures features { self.new.walk.features ≡ self.old.walk.features }
+    {
+        self.walk.take_whole(&self.memory, piece, token)
     }
 
     /// Passes the row that bytes begin with, where it is whole: how many bytes it has. Else nothing is

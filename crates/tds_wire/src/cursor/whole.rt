@@ -112,13 +112,33 @@ fn whole_length(bytes: &[u8]) -> usize
 
 /// Whether a token may stand here whole that is no row.
 #[inline(always)]
-fn may_be_whole(bytes: &[u8]) -> bool {
+pub(crate) fn may_be_whole(bytes: &[u8]) -> bool {
     bytes.len() > 4 && bytes[0] != 0xD1 && bytes[0] != 0xD2
 }
 
 impl Cursor {
     /// Passes the token that bytes begin with, where it is whole and says in its first bytes how long it
     /// is: how many bytes it has. Else nothing is done, and the answer is 0.
+    #[inline(always)]
+    pub(crate) fn pass_ready(&mut self, memory: &Memory, piece: &[u8]) -> usize
+        requires { self.old.at.due ≡ dues.Token }
+        ensures within { result ≤ length piece.now }
+        ensures same { result ≡ 0 → self.new ≡ self.old }
+        ensures between { 0 < result → IsBetween (walk_of self.new memory.now) }
+        ensures exact { 0 < result → onward (walk_of self.old memory.now) piece.now
+            ≡ Over (walk_of self.new memory.now) (drop result piece.now) }
+        ensures most { self.new.most ≡ self.old.most }
+        ensures features { self.new.features ≡ self.old.features }
+    {
+        memory.bounds();
+        let length = whole_length(piece);
+        if length > 0 {
+            self.at.kind = piece[0];
+        }
+        length
+    }
+
+    /// The same, in a place of its own.
     #[inline(never)]
     fn pass_whole(&mut self, memory: &Memory, piece: &[u8]) -> usize
         requires { self.old.at.due ≡ dues.Token }
@@ -128,12 +148,7 @@ impl Cursor {
         ensures exact { 0 < result → onward (walk_of self.old memory.now) piece.now
             ≡ Over (walk_of self.new memory.now) (drop result piece.now) }
     {
-        memory.bounds();
-        let length = whole_length(piece);
-        if length > 0 {
-            self.at.kind = piece[0];
-        }
-        length
+        self.pass_ready(memory, piece)
     }
 
     /// The same wherever the walk is: 0 too where it isn't between two tokens.

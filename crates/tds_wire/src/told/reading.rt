@@ -15,7 +15,7 @@ pub(crate) fn added(place: u64, count: u64) -> u64
 }
 
 /// The byte at this place, or 0 where it isn't there.
-fn byte_at(head: &[u8], at: usize) -> u8
+pub(super) fn byte_at(head: &[u8], at: usize) -> u8
     ensures { result ≡ byte_at head.now at }
 {
     match head.get(at) {
@@ -37,7 +37,7 @@ fn short_at(head: &[u8], at: usize) -> u16
 }
 
 #[tactic(auto, unfolding(crate::specs::Told::long_at))]
-fn long_at(head: &[u8], at: usize) -> u32
+pub(super) fn long_at(head: &[u8], at: usize) -> u32
     requires { at ≤ 300 }
     ensures { result ≡ long_at head.now at }
 {
@@ -208,7 +208,7 @@ fn change_of(start: u64, size: u64, head: &[u8]) -> Told
     }
 }
 
-fn done_of(head: &[u8]) -> Told
+pub(super) fn done_of(head: &[u8]) -> Told
     ensures { result ≡ done_of head.now }
 {
     Told::Done(Done {
