@@ -168,6 +168,46 @@ pub(crate) fn put_to_end(
         ++ ended_by filling.room filling.kind filling.mark before bytes.now) }
     ensures err { OnErr result (out.new.items ≡ out.old.items) }
 {
+    if bytes.len() <= filling.room {
+        return put_last(out, filling, before, bytes);
+    }
+    put_many(out, filling, before, bytes)
+}
+
+/// The same, where they fit in one packet.
+#[inline(always)]
+fn put_last(
+    out: &mut Vec<u8>,
+    filling: Filling,
+    before: usize,
+    bytes: &[u8],
+) -> Result<(), NoMemory>
+    requires room { (1 ≤ filling.room) × (filling.room ≤ 32759) }
+    requires before { before < 2 ^ 63 }
+    requires fits { length bytes.now ≤ filling.room }
+    ensures ok { OnOk result (out.new.items ≡ out.old.items
+        ++ ended_by filling.room filling.kind filling.mark before bytes.now) }
+    ensures err { OnErr result (out.new.items ≡ out.old.items) }
+{
+    let status = Status::of_request(true, before, filling.mark);
+    put(out, filling.kind, status, before, bytes)
+}
+
+/// The same, whether or not they fit in one. It isn't put into its caller, where it would be in the way of
+/// the one.
+#[inline(never)]
+fn put_many(
+    out: &mut Vec<u8>,
+    filling: Filling,
+    before: usize,
+    bytes: &[u8],
+) -> Result<(), NoMemory>
+    requires room { (1 ≤ filling.room) × (filling.room ≤ 32759) }
+    requires before { before + length bytes.now < 2 ^ 63 }
+    ensures ok { OnOk result (out.new.items ≡ out.old.items
+        ++ ended_by filling.room filling.kind filling.mark before bytes.now) }
+    ensures err { OnErr result (out.new.items ≡ out.old.items) }
+{
     let length = out.len();
     let count = full_packets(filling.room, bytes.len());
     put_full(out, filling, before, count, bytes)?;

@@ -1,7 +1,7 @@
 //! Reading one token from the front of a packet's data. Each function here is the definition of
 //! `specs/Reading.antt` that it names: the value and the bytes after it, or the first fault.
 
-ghost use Rattle.std.specs.Prelude.{◌≡◌};
+ghost use Rattle.std.specs.Prelude.{◌≡◌, ◌<◌, Err, length};
 ghost use Rattle.tds_token.specs.AsTokens.{status_token_at};
 ghost use Rattle.tds_token.specs.Layout.{is_done_status, token_of};
 ghost use Rattle.tds_token.specs.Reading.{Gives, done_at, token_behind, token_at};
@@ -19,7 +19,7 @@ pub(crate) use crate::reading::fields::number16;
 use crate::reading::fields::{byte, int, number64};
 pub(crate) use crate::reading::messages::fields_inside;
 use crate::reading::messages::message;
-pub(crate) use crate::reading::tables::column;
+pub(crate) use crate::reading::tables::{column, whole_row};
 use crate::reading::tables::{column_list, row};
 use crate::token::TokenRef;
 
@@ -36,6 +36,9 @@ pub(crate) fn is_status(status: u16) -> bool
 fn done(bytes: &[u8]) -> Result<(TokenRef<'_>, &[u8]), TokenFault>
     ensures { Gives (λ x. (token_of x.0, x.1.now)) result (done_at bytes.now) }
 {
+    if bytes.len() < 12 {
+        return Err(cut_done(bytes));
+    }
     let (status, rest) = number16(bytes, TokenFault::Cut)?;
     if !is_status(status) {
         return Err(TokenFault::WrongStatus);
@@ -50,6 +53,19 @@ fn done(bytes: &[u8]) -> Result<(TokenRef<'_>, &[u8]), TokenFault>
         },
         rest,
     ))
+}
+
+/// The fault of a DONE that is cut: its status, where that is there and wrong.
+#[tactic(auto, unfolding(crate::specs::Reading::done_at))]
+#[cold]
+fn cut_done(bytes: &[u8]) -> TokenFault
+    requires { length bytes.now < 12 }
+    ensures { done_at bytes.now ≡ Err result }
+{
+    match number16(bytes, TokenFault::Cut) {
+        Ok((status, _)) if !is_status(status) => TokenFault::WrongStatus,
+        _ => TokenFault::Cut,
+    }
 }
 
 fn return_status(bytes: &[u8]) -> Result<(TokenRef<'_>, &[u8]), TokenFault>
@@ -70,13 +86,13 @@ fn token_of_kind(
     ensures { Gives (λ x. (token_of x.0, x.1.now)) result (token_behind columns kind bytes.now) }
 {
     match kind {
-        0xAB => {
+        0xAA | 0xAB => {
             let (message, rest) = message(bytes)?;
-            Ok((TokenRef::Info(message), rest))
-        }
-        0xAA => {
-            let (message, rest) = message(bytes)?;
-            Ok((TokenRef::Error(message), rest))
+            let token = match kind {
+                0xAB => TokenRef::Info(message),
+                _ => TokenRef::Error(message),
+            };
+            Ok((token, rest))
         }
         0x79 => return_status(bytes),
         0xE3 => env_change(bytes),

@@ -11,7 +11,7 @@ ghost use Rattle.tds_token.specs.Texts.{AreColumns, IsBytes};
 
 use crate::columns::Columns;
 use crate::fault::TokenFault;
-use crate::reading::token;
+use crate::reading::{token, whole_row};
 use crate::rows::Rows;
 use crate::token::TokenRef;
 use std::marker::Model;
@@ -120,6 +120,10 @@ impl<'a> Tokens<'a> {
     {
         if self.bytes.is_empty() {
             return None;
+        }
+        if let Some((row, rest)) = whole_row(self.columns, self.bytes) {
+            self.bytes = rest;
+            return Some(Ok(TokenRef::Row(row)));
         }
         match token(self.columns, self.bytes) {
             Ok((token, rest)) => {

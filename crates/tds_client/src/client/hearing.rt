@@ -33,6 +33,7 @@ impl Client {
 
     /// Hears the sign of the next token (MS-TDS 2.2.7). It takes no memory. A fault breaks the
     /// client, and changes nothing else; a broken client answers its fault again.
+    #[inline(always)]
     pub fn hear_sign(&mut self, rules: Rules, sign: Sign) -> Result<(), ClientFault>
         ensures heard { OnOk result (signed rules self.old sign ≡ Ok self.new) }
         ensures fault { IfErr result (λ fault. signed rules self.old sign ≡ Err fault) }

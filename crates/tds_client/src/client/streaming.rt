@@ -1,7 +1,7 @@
 //! Sending any request: its headers are the client's, and its body comes in parts.
 
-ghost use Rattle.std.specs.Prelude.{◌≡◌, ◌+◌, ◌*◌, ◌≤◌, ◌<◌, ◌^◌, ◌++◌, None, IfOk, IfErr, OnOk, OnErr};
-ghost use Rattle.std.specs.Prelude.{drop, length};
+ghost use Rattle.std.specs.Prelude.{◌≡◌, ◌+◌, ◌*◌, ◌≤◌, ◌<◌, ◌^◌, ◌++◌, [], None, IfOk, IfErr, OnOk, OnErr};
+ghost use Rattle.std.specs.Prelude.{Option, drop, length};
 ghost use Rattle.tds_client.specs.Sending.{Does, IsRefusal, refusal_of};
 ghost use Rattle.tds_client.specs.Session.{unless_idle};
 ghost use Rattle.tds_client.specs.Streams.{finished, full_packets, left_behind, opened, packets_of, put};
@@ -68,6 +68,10 @@ impl Client {
             return Err(ClientRefusal::Memory);
         }
         let room = self.room();
+        if self.message.len() - outgoing.sent + bytes.len() <= room {
+            outgoing.keep(room, &mut self.message, bytes)?;
+            return Ok(());
+        }
         let next = outgoing.put(room, self.heard.mark, &mut self.message, bytes, out)?;
         self.stage = Stage::Sending(next);
         Ok(())
@@ -108,8 +112,34 @@ impl Client {
 }
 
 impl Outgoing {
+    /// Appends these bytes to the message, of which they fill no packet: it is as far out as before. At
+    /// want of memory nothing changes.
+    #[inline(always)]
+    fn keep(self, room: usize, message: &mut Vec<u8>, bytes: &[u8]) -> Result<(), NoMemory>
+        requires room { (1 ≤ room) × (room ≤ 32759) }
+        requires sent { self.sent ≤ length message.old.items }
+        requires fits { length message.old.items + length bytes.now ≤ self.sent + room }
+        ensures packets { OnOk result (self.packets ≡ self.packets
+            + full_packets room (length (drop self.sent message.old.items ++ bytes.now))) }
+        ensures sent { OnOk result (self.sent ≤ length message.new.items) }
+        ensures length { OnOk result (length message.new.items
+            ≡ length message.old.items + length bytes.now) }
+        ensures left { OnOk result (drop self.sent message.new.items
+            ≡ left_behind room (drop self.sent message.old.items ++ bytes.now)) }
+        ensures none { OnOk result ((mark : Option Reset)
+            → packets_of room self.kind mark self.packets
+            (full_packets room (length (drop self.sent message.old.items ++ bytes.now)))
+            (drop self.sent message.old.items ++ bytes.now) ≡ []) }
+        ensures err { OnErr result (message.new.items ≡ message.old.items) }
+    {
+        message.extend_from_slice(bytes)?;
+        Ok(())
+    }
+
     /// Appends these bytes to the message, and the packets that they fill to `out`. Answers how far
-    /// the message is out then. At want of memory nothing changes.
+    /// the message is out then. At want of memory nothing changes. It isn't put into its caller, where
+    /// it would be in the way of `keep`.
+    #[inline(never)]
     fn put(
         self,
         room: usize,

@@ -93,6 +93,8 @@ fn env_change_of_type(number: u8, values: &[u8]) -> Result<EnvChange, TokenFault
 
 /// The ENVCHANGE that fills the bytes which a Length counts.
 #[tactic(auto, unfolding(crate::specs::Reading::env_in))]
+// Few tokens are changes: a row, or a DONE, is looked for first.
+#[cold]
 fn env_change_inside(inside: &[u8]) -> Result<EnvChange, TokenFault>
     ensures { Gives (λ x. x) result (env_in inside.now) }
 {

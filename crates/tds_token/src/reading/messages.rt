@@ -36,7 +36,9 @@ pub(crate) fn fields_inside(inside: &[u8]) -> Result<Fields<'_>, TokenFault>
 }
 
 /// Whether these bytes are a message's.
+// Few tokens are messages: a row, or a DONE, is looked for first.
 #[inline(never)]
+#[cold]
 fn check_message(inside: &[u8]) -> Result<(), TokenFault>
     ensures { MatchResult result (λ x. (message : Message) × (message_in inside.now ≡ Ok message))
         (λ e. message_in inside.now ≡ Err e) }
