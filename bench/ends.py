@@ -1,13 +1,14 @@
 """Measures the memory of idle ends and pools: a program makes so many at once, and then twice as many;
-what the second run had more, as the system counts its memory at most, is divided by how many."""
+what the second run had more, as the system counts its memory at most, is divided by how many. They are
+so many that they have more than this process: a child's most begins with its parent's."""
 import os
 import sys
 
 KINDS = {
-    "client": ("a client's end", 50_000),
-    "used-client": ("a client's end that had a request answered", 50_000),
-    "server": ("a server's end", 50_000),
-    "used-server": ("a server's end that answered a request", 50_000),
+    "client": ("a client's end", 400_000),
+    "used-client": ("a client's end that had a request answered", 400_000),
+    "server": ("a server's end", 400_000),
+    "used-server": ("a server's end that answered a request", 400_000),
     "pool": ("a pool of 64 idle connections", 4_000),
 }
 SIZES = (512, 4096)
