@@ -6,7 +6,9 @@ pub mod Desk
 pub mod Fronting
 pub mod Fronts
 pub mod Hall
+pub mod Giving
 pub mod Handing
+pub mod House
 pub mod Lasting
 pub mod News
 pub mod Owning

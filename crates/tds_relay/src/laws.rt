@@ -20,6 +20,10 @@ ghost use Rattle.tds_relay.specs.Dealing.{Floor, floor_in};
 ghost use Rattle.tds_relay.specs.Fronting.{AnswersOnce, done_on, happened};
 ghost use Rattle.tds_relay.specs.Owning.{Gives};
 ghost use Rattle.tds_relay.specs.Fronts.{hall_in};
+ghost use Rattle.tds_packet.specs.Reading.{joined};
+ghost use Rattle.tds_relay.specs.Giving as visits;
+ghost use Rattle.tds_relay.specs.Giving.{AreSaid, IsFrontOf, Visit, given_in, happens_in, pieces_of};
+ghost use Rattle.tds_relay.specs.Giving.{sent_in, waits_in};
 ghost use Rattle.tds_relay.specs.Hall.{Hall, Moves};
 ghost use Rattle.tds_relay.specs.Lasting.{Follow, IsKept, Next, StaysAlong};
 ghost use Rattle.tds_relay.specs.Posts.{Post, post_at};
@@ -208,4 +212,21 @@ pub fn lawful_applications()
 pub fn any_calls()
     ensures { (by : Cause) (max : ℕ) (old new : Hall) → Moves by old new → IsLedTo max old
         → IsLedTo max new }
+{}
+
+/// What an application is given, from where it enters and while it stays, whoever shares with it: one by one what a
+/// lawful server's end says to it, over whichever connections it is lent.
+pub fn given_by_server()
+    /// What passes between it and its end is a lawful server's: where the server of each connection ends
+    /// each answer once at most, also behind an attention.
+    ensures lawful { (max key : ℕ) (v : Visit max key) → visits.AllAnswerOnce v
+        → IsLawful Ready (happens_in v) }
+    /// Each time that its end says something it is given that, and nothing else: a packet of the connection that
+    /// it is lent, which ends its message where the end says so, as it came, without the news of a reset, or
+    /// behind it; or the acknowledgement of its own attention.
+    ensures said { (max key : ℕ) (v : Visit max key) → AreSaid (happens_in v) (given_in v) }
+    /// What it is sent, and then what waits for it, are these, in order, each whole; all of them, unless one
+    /// didn't fit: then a front of them.
+    ensures sent { (max key : ℕ) (v : Visit max key)
+        → IsFrontOf (joined (pieces_of (given_in v))) (sent_in v) (waits_in v) }
 {}
