@@ -12,10 +12,14 @@ use Rattle.tds_front.specs.Bytes.{fed}
 use Rattle.tds_relay.specs.declared.application.Application.{Application}
 use Rattle.tds_relay.specs.Desk as desk
 use Rattle.tds_relay.specs.Desk.{Desk, Event, desk_after, turn}
-use Rattle.tds_relay.specs.Fronts.{IsFed, end_of, ends_in, hall_of_ends, withdraws}
-use Rattle.tds_relay.specs.Hall.{End, Ends, Feeds, Hall, IsThere, Moves, Open, Over, change_end, closes, end_at, end_behind, event_if, feeds, hands_on, stops_by, stops_of, takes_back}
+use Rattle.tds_relay.specs.Fronts.{IsFed, end_of, ends_in, given_by, house_with, withdraws}
+use Rattle.tds_relay.specs.Hall.{End, Ends, IsThere, Open, Over, change_end, closes, end_at, end_behind, event_if, feeds, hands_on, stops_by, stops_of, takes_back}
+use Rattle.tds_relay.specs.House.{House, Steps, Takes, owed, owed_by, put_some}
+use Rattle.tds_relay.specs.Posts.{Posts, change}
 use Rattle.tds_relay.specs.Ties.{Application as ByApplication, Turns}
-use Rattle.tds_relay.proofs.Fronts.{changed_both, end_is, moves_one, same_hall}
+use Rattle.tds_relay.proofs.Fronts.{changed_both, end_is}
+use Rattle.tds_relay.proofs.Handed.{nothing_put}
+use Rattle.tds_relay.proofs.Stepping.{steps_one, steps_same}
 
 -- ---- The move
 
@@ -29,36 +33,52 @@ stops_fed : (bytes : List ℕ) (front : Front) (withdrawn : Bool) (o : Option En
     → (fed front bytes).brings ≡ Ok (record { count = count; said = answer }) → stops_of bytes o ≡ (takes_back answer || hands_on answer)
 stops_fed bytes front withdrawn o count answer was says = ap (stops_of bytes) was ∙ ap stops_by says
 
--- bytes were taken: what is done at the desk by them, and the end that they lead to
-moves_feeds : (key : ℕ) (from : Hall) (d : Desk) (before now : Ends) (answer : Said) (stops : Bool) → IsFed key before now answer → (takes_back answer || hands_on answer) ≡ stops
-    → Moves (ByApplication key) from (hall_of_ends d before)
+-- what it is given by them
+given_is : (key count : ℕ) (answer : Said) (posts : Posts) → change key (put_some (owed_by (Ok (record { count = count; said = answer })))) posts ≡ given_by key answer posts
+given_is key count said.Nothing posts = nothing_put posts key
+given_is key count (said.Begin kind reset) posts = nothing_put posts key
+given_is key count (said.Body more) posts = nothing_put posts key
+given_is key count (said.End more) posts = nothing_put posts key
+given_is key count (said.Forget gone) posts = nothing_put posts key
+given_is key count said.Acknowledge posts = refl
+given_is key count said.HandOn posts = nothing_put posts key
+
+given_fed : (key : ℕ) (bytes : List ℕ) (front : Front) (withdrawn : Bool) (o : Option End) (count : ℕ) (answer : Said) (posts : Posts) → o ≡ Some (Open front withdrawn)
+    → (fed front bytes).brings ≡ Ok (record { count = count; said = answer }) → change key (put_some (owed bytes o)) posts ≡ given_by key answer posts
+given_fed key bytes front withdrawn o count answer posts was says =
+    ap (λ (x : Option End). change key (put_some (owed bytes x)) posts) was
+    ∙ ap (λ (r : Result Fed FrontFault). change key (put_some (owed_by r)) posts) says ∙ given_is key count answer posts
+
+-- bytes were taken: what is done at the desk by them, the end that they lead to, and what is given
+steps_feeds : (key : ℕ) (from : House) (d : Desk) (before now : Ends) (posts : Posts) (answer : Said) (stops : Bool) → (takes_back answer || hands_on answer) ≡ stops
+    → Steps (ByApplication key) from (house_with d before posts)
     → (f : IsFed key before now answer)
-    → Moves (ByApplication key) from (hall_of_ends (desk_after d (event_if stops (desk.Does key desk.Stops))) (slice_set before key (Some (Open (fed f.front f.bytes).front (takes_back answer || f.withdrawn)))))
-moves_feeds key from d before now answer stops it same m f =
-    subst (Moves (ByApplication key) from)
-    (same_hall (desk_after d (event_if (stops_of f.bytes (end_at before key)) (desk.Does key desk.Stops))) _ (change_end key (feeds f.bytes) before) _
+    → Steps (ByApplication key) from (house_with (desk_after d (event_if stops (desk.Does key desk.Stops)))
+    (slice_set before key (Some (Open (fed f.front f.bytes).front (takes_back answer || f.withdrawn)))) (given_by key answer posts))
+steps_feeds key from d before now posts answer stops same s f =
+    steps_same (ByApplication key) from (desk_after d (event_if (stops_of f.bytes (end_at before key)) (desk.Does key desk.Stops))) _ (change_end key (feeds f.bytes) before) _
+    (change key (put_some (owed f.bytes (end_at before key))) posts) _
     (ap (λ (b : Bool). desk_after d (event_if b (desk.Does key desk.Stops))) (sym (stops_fed f.bytes f.front f.withdrawn (end_at before key) f.count answer f.was f.says ∙ same)))
-    (ap (λ (o : Option End). slice_set before key o) (sym (end_fed f.bytes f.front f.withdrawn (end_at before key) f.count answer f.was f.says))))
-    (moves_one (ByApplication key) from (hall_of_ends d before) (Feeds key f.bytes) tt refl m)
+    (ap (λ (o : Option End). slice_set before key o) (sym (end_fed f.bytes f.front f.withdrawn (end_at before key) f.count answer f.was f.says)))
+    (sym (given_fed key f.bytes f.front f.withdrawn (end_at before key) f.count answer posts f.was f.says))
+    (steps_one (ByApplication key) from (house_with d before posts) (Takes key f.bytes) tt (refl, tt) s)
 
 -- ---- As it is done
 
 -- nothing is done at the desk by them
-pub moves_fed : (key : ℕ) (from : Hall) (d : Desk) (before now : Ends) (answer : Said) → takes_back answer ≡ false → hands_on answer ≡ false → IsFed key before now answer
-    → Moves (ByApplication key) from (hall_of_ends d before) → Moves (ByApplication key) from (hall_of_ends d now)
-moves_fed key from d before now answer keeps here f m =
-    subst (Moves (ByApplication key) from)
-    (same_hall d d (slice_set before key (Some (Open (fed f.front f.bytes).front (takes_back answer || f.withdrawn)))) now refl
-    (f.is ∙ ap (λ (b : Bool). slice_set before key (Some (Open (fed f.front f.bytes).front (b || f.withdrawn)))) (sym keeps)))
-    (moves_feeds key from d before now answer false f (ap (λ (b : Bool). b || hands_on answer) keeps ∙ here) m f)
+pub steps_fed : (key : ℕ) (from : House) (d : Desk) (before now : Ends) (posts : Posts) (answer : Said) → takes_back answer ≡ false → hands_on answer ≡ false → IsFed key before now answer
+    → Steps (ByApplication key) from (house_with d before posts) → Steps (ByApplication key) from (house_with d now (given_by key answer posts))
+steps_fed key from d before now posts answer keeps here f s =
+    steps_same (ByApplication key) from d d (slice_set before key (Some (Open (fed f.front f.bytes).front (takes_back answer || f.withdrawn)))) now (given_by key answer posts) (given_by key answer posts) refl
+    (f.is ∙ ap (λ (b : Bool). slice_set before key (Some (Open (fed f.front f.bytes).front (b || f.withdrawn)))) (sym keeps)) refl
+    (steps_feeds key from d before now posts answer false (ap (λ (b : Bool). b || hands_on answer) keeps ∙ here) s f)
 
 -- its attention is the server's
-pub moves_handed_on : (key : ℕ) (from : Hall) (d d1 : Desk) (before now : Ends) (out out1 : List ℕ) → IsFed key before now said.HandOn → Turns (desk.Does key desk.Stops) d d1 out out1
-    → Moves (ByApplication key) from (hall_of_ends d before) → Moves (ByApplication key) from (hall_of_ends d1 now)
-moves_handed_on key from d d1 before now out out1 f t m =
-    subst (Moves (ByApplication key) from)
-    (same_hall (turn d (desk.Does key desk.Stops)).desk d1 (slice_set before key (Some (Open (fed f.front f.bytes).front f.withdrawn))) now t.desk_is f.is)
-    (moves_feeds key from d before now said.HandOn true f refl m f)
+pub steps_handed_on : (key : ℕ) (from : House) (d d1 : Desk) (before now : Ends) (posts : Posts) (out out1 : List ℕ) → IsFed key before now said.HandOn → Turns (desk.Does key desk.Stops) d d1 out out1
+    → Steps (ByApplication key) from (house_with d before posts) → Steps (ByApplication key) from (house_with d1 now posts)
+steps_handed_on key from d d1 before now posts out out1 f t s =
+    steps_same (ByApplication key) from (turn d (desk.Does key desk.Stops)).desk d1 (slice_set before key (Some (Open (fed f.front f.bytes).front f.withdrawn))) now posts posts t.desk_is f.is refl
+    (steps_feeds key from d before now posts said.HandOn true refl s f)
 
 -- it stays what it is written twice
 set_twice : (before now : Ends) (key : ℕ) (end was : End) (by : End → End) → end_at before key ≡ Some was → now ≡ slice_set before key (Some end) → change_end key by now ≡ slice_set before key (Some (by end))
@@ -68,13 +88,12 @@ set_twice before now key end was by there is =
     ∙ ap (λ (o : Option End). slice_set before key (option_map (λ (e : End). by end) o)) there
 
 -- what had gone on of its request is taken back
-pub moves_taken_back : (key : ℕ) (from : Hall) (d d1 : Desk) (before now behind : Ends) (out out1 : List ℕ) → IsFed key before now (said.Forget true) → Turns (desk.Does key desk.Stops) d d1 out out1
-    → behind ≡ change_end key withdraws now → Moves (ByApplication key) from (hall_of_ends d before) → Moves (ByApplication key) from (hall_of_ends d1 behind)
-moves_taken_back key from d d1 before now behind out out1 f t is m =
-    subst (Moves (ByApplication key) from)
-    (same_hall (turn d (desk.Does key desk.Stops)).desk d1 (slice_set before key (Some (Open (fed f.front f.bytes).front true))) behind t.desk_is
-    (is ∙ set_twice before now key (Open (fed f.front f.bytes).front f.withdrawn) (Open f.front f.withdrawn) withdraws f.was f.is))
-    (moves_feeds key from d before now (said.Forget true) true f refl m f)
+pub steps_taken_back : (key : ℕ) (from : House) (d d1 : Desk) (before now behind : Ends) (posts : Posts) (out out1 : List ℕ) → IsFed key before now (said.Forget true) → Turns (desk.Does key desk.Stops) d d1 out out1
+    → behind ≡ change_end key withdraws now → Steps (ByApplication key) from (house_with d before posts) → Steps (ByApplication key) from (house_with d1 behind posts)
+steps_taken_back key from d d1 before now behind posts out out1 f t is s =
+    steps_same (ByApplication key) from (turn d (desk.Does key desk.Stops)).desk d1 (slice_set before key (Some (Open (fed f.front f.bytes).front true))) behind posts posts t.desk_is
+    (is ∙ set_twice before now key (Open (fed f.front f.bytes).front f.withdrawn) (Open f.front f.withdrawn) withdraws f.was f.is) refl
+    (steps_feeds key from d before now posts (said.Forget true) true refl s f)
 
 -- whatever was said, it is closed
 pub closed_fed : (before now : Ends) (key : ℕ) (end was : End) → end_at before key ≡ Some was → now ≡ slice_set before key (Some end) → change_end key closes before ≡ change_end key closes now

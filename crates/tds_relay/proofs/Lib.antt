@@ -6,19 +6,16 @@ pub mod Bringing
 pub mod Calling
 pub mod Caring
 pub mod Cuts
-pub mod Dealt
 pub mod Ending
 pub mod Fed
 pub mod Feeding
 pub mod Folding
 pub mod Fronting
 pub mod Fronts
-pub mod Given
 pub mod Handed
 pub mod Hearing
 pub mod Holding
 pub mod Kept
-pub mod Lasting
 pub mod Leading
 pub mod Lining
 pub mod Lists
@@ -41,6 +38,7 @@ pub mod Sitting
 pub mod Sparing
 pub mod Standing
 pub mod Staying
+pub mod Stepping
 pub mod Stopping
 pub mod Streaming
 pub mod Taking

@@ -331,9 +331,10 @@ IsQuiet (Closes key) = Unit {0}
 IsQuiet (Enters key ends) = ⊥
 IsQuiet (Quits key gives way) = ⊥
 
--- Moves that this causes led from one hall to the other.
+-- Quiet moves that this causes led from one hall to the other.
 pub record Moves (by : Cause) (old new : Hall) : Type 0 where
   pub moves : List Move
   pub are : moved_all old moves ≡ new
   pub may : MayMoveAll old moves
   pub caused : Each (CausesMove by) moves
+  pub quiet : Each IsQuiet moves

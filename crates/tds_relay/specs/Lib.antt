@@ -1,7 +1,6 @@
 pub mod Behind
 pub mod Bounds
 pub mod Cutting
-pub mod Dealing
 pub mod Desk
 pub mod Fronting
 pub mod Fronts
@@ -9,9 +8,7 @@ pub mod Hall
 pub mod Giving
 pub mod Handing
 pub mod House
-pub mod Lasting
 pub mod News
-pub mod Owning
 pub mod Places
 pub mod Posts
 pub mod Promises

@@ -16,16 +16,8 @@ ghost use Rattle.tds_relay.specs.Bounds.{waiting_in};
 ghost use Rattle.tds_relay.specs.declared.application.Application.{Application};
 ghost use Rattle.tds_relay.specs.declared.link.Link.{Link};
 ghost use Rattle.tds_relay.specs.declared.outgoing.Outgoing.{Outgoing};
-ghost use Rattle.tds_relay.specs.Dealing.{Floor, floor_in};
 ghost use Rattle.tds_relay.specs.Fronting.{AnswersOnce, done_on, happened};
-ghost use Rattle.tds_relay.specs.Owning.{Gives};
-ghost use Rattle.tds_relay.specs.Fronts.{hall_in};
-ghost use Rattle.tds_packet.specs.Reading.{joined};
-ghost use Rattle.tds_relay.specs.Giving as visits;
-ghost use Rattle.tds_relay.specs.Giving.{AreSaid, IsFrontOf, Visit, given_in, happens_in, pieces_of};
-ghost use Rattle.tds_relay.specs.Giving.{sent_in, waits_in};
-ghost use Rattle.tds_relay.specs.Hall.{Hall, Moves};
-ghost use Rattle.tds_relay.specs.Lasting.{Follow, IsKept, Next, StaysAlong};
+ghost use Rattle.tds_relay.specs.Fronts.{house_in};
 ghost use Rattle.tds_relay.specs.Posts.{Post, post_at};
 ghost use Rattle.tds_relay.specs.Reads.{Comes, reader_at, seen_at};
 ghost use Rattle.tds_relay.specs.Ties as causes;
@@ -127,23 +119,6 @@ pub fn any_bytes()
     ensures { (by : Cause) (old new : Desk) → Goes by old new → IsReached old → IsReached new }
 {}
 
-/// What waits for each application grows, in a call, by what deals give it that this call causes, in order,
-/// until one doesn't fit, and by nothing else. A deal gives a packet that comes on the connection that it is
-/// lent, as it came, without the news of a reset, or behind it; or the acknowledgement of its own attention.
-pub fn own_bytes(
-    relay: &mut Relay,
-    key: usize,
-    said: &[u8],
-    number: u64,
-    came: &[u8],
-) -> Result<(), NoMemory>
-    ensures { OnOk result ((mid : Floor) × Gives (causes.Application key) (floor_in relay.old) mid
-        × Gives (Connection number) mid (floor_in relay.new)) }
-{
-    relay.said(key, said)?;
-    relay.came(number, came)
-}
-
 /// What a connection's reader had of a packet, and behind it the bytes that come in a call, are the packets
 /// that the call's deals hand on or withhold, whole and in order, and less than a packet, which the reader has
 /// then. Or the connection is lost in that call: then they are a front of those bytes, and there is no
@@ -154,32 +129,6 @@ pub fn packets_that_came(relay: &mut Relay, number: u64, came: &[u8]) -> Result<
 {
     relay.came(number, came)
 }
-
-/// The applications' ends move with the desk, in a call, by moves that the call causes: by bytes of an
-/// application, in a call with these; by packets of its request that go out; by what its connection's service
-/// answers to a packet that comes there, in a call with that; by a connection that is let go, replaced or
-/// lost; and where the relay closes an application. By nothing else, and each is done only where it may be.
-pub fn ends_move(
-    relay: &mut Relay,
-    key: usize,
-    said: &[u8],
-    number: u64,
-    came: &[u8],
-) -> Result<(), NoMemory>
-    ensures { OnOk result ((mid : Hall) × Moves (causes.Application key) (hall_in relay.old) mid
-        × Moves (Connection number) mid (hall_in relay.new)) }
-{
-    relay.said(key, said)?;
-    relay.came(number, came)
-}
-
-/// Over any calls, and all that is sent in between: what an application is sent, and then what waits for
-/// it, are the pieces that deals give it (`own_bytes`), in order, each whole; all of them, unless one
-/// didn't fit: then a front of them.
-pub fn own_bytes_over_calls()
-    ensures { (key : ℕ) (f : Floor) (nexts : List Next) (p : Post) → Follow f nexts
-        → StaysAlong key nexts → post_at f.posts key ≡ Some p → IsKept key p f nexts }
-{}
 
 /// Behind each application's end is a lawful server's end, from where the application enters and while it
 /// stays, over whichever connections it is lent: where the server of each connection ends each answer once at
@@ -205,28 +154,3 @@ pub fn lawful_applications()
     lawful_behind();
     lawful_front();
 }
-
-/// Each call of a relay leaves its hall, which is its desk and the ends of its applications, where moves lead
-/// that may be: its own contract says so. So where moves led to the hall, they do again, and what is said here
-/// of moves holds behind any calls.
-pub fn any_calls()
-    ensures { (by : Cause) (max : ℕ) (old new : Hall) → Moves by old new → IsLedTo max old
-        → IsLedTo max new }
-{}
-
-/// What an application is given, from where it enters and while it stays, whoever shares with it: one by one what a
-/// lawful server's end says to it, over whichever connections it is lent.
-pub fn given_by_server()
-    /// What passes between it and its end is a lawful server's: where the server of each connection ends
-    /// each answer once at most, also behind an attention.
-    ensures lawful { (max key : ℕ) (v : Visit max key) → visits.AllAnswerOnce v
-        → IsLawful Ready (happens_in v) }
-    /// Each time that its end says something it is given that, and nothing else: a packet of the connection that
-    /// it is lent, which ends its message where the end says so, as it came, without the news of a reset, or
-    /// behind it; or the acknowledgement of its own attention.
-    ensures said { (max key : ℕ) (v : Visit max key) → AreSaid (happens_in v) (given_in v) }
-    /// What it is sent, and then what waits for it, are these, in order, each whole; all of them, unless one
-    /// didn't fit: then a front of them.
-    ensures sent { (max key : ℕ) (v : Visit max key)
-        → IsFrontOf (joined (pieces_of (given_in v))) (sent_in v) (waits_in v) }
-{}

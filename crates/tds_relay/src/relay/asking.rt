@@ -1,8 +1,9 @@
 //! What applications say: requests, and cancels.
 ghost use Rattle.std.specs.Prelude.{◌≡◌, OnOk, drop, true};
-ghost use Rattle.tds_relay.specs.Dealing.{Deals, floor_in};
 ghost use Rattle.tds_relay.specs.Fronts.{FedOn, MayPut, Moved, MovedOn, ends_in, goes_by, hall_in, puts};
-ghost use Rattle.tds_relay.specs.Hall.{IfOpen, Moves, change_end, end_at};
+ghost use Rattle.tds_relay.specs.Fronts.{given_by, house_in};
+ghost use Rattle.tds_relay.specs.Hall.{IfOpen, change_end, end_at};
+ghost use Rattle.tds_relay.specs.House.{Steps};
 ghost use Rattle.tds_relay.specs.Posts.{posts_in};
 ghost use Rattle.tds_relay.specs.Reads.{Stays};
 ghost use Rattle.tds_relay.specs.Ties.{Application, Goes, GoesOn, NobodyWaits, desk_in};
@@ -20,10 +21,8 @@ impl Relay {
     pub fn said(&mut self, key: usize, piece: &[u8]) -> Result<(), NoMemory>
         ensures goes { OnOk result (Goes (Application key)
             (desk_in self.old.desk) (desk_in self.new.desk)) }
-        ensures deals { OnOk result (Deals (Application key) (floor_in self.old)
-            (floor_in self.new)) }
-        ensures moves { OnOk result (Moves (Application key) (hall_in self.old)
-            (hall_in self.new)) }
+        ensures steps { OnOk result (Steps (Application key) (house_in self.old)
+            (house_in self.new)) }
         ensures served { OnOk result (NobodyWaits (desk_in self.new.desk)) }
     {
         let mut rest = piece;
@@ -41,10 +40,8 @@ impl Relay {
     fn take(&mut self, key: usize, piece: &[u8]) -> Result<usize, NoMemory>
         ensures goes { OnOk result (Goes (Application key)
             (desk_in self.old.desk) (desk_in self.new.desk)) }
-        ensures deals { OnOk result (Deals (Application key) (floor_in self.old)
-            (floor_in self.new)) }
-        ensures moves { OnOk result (Moved (Application key) (hall_in self.old)
-            (hall_in self.new)) }
+        ensures steps { OnOk result (Steps (Application key) (house_in self.old)
+            (house_in self.new)) }
     {
         let Some(application) = self.applications.get_mut(key) else {
             return Ok(piece.len());
@@ -65,8 +62,8 @@ impl Relay {
     fn obey(&mut self, key: usize, bytes: &[u8], said: Said) -> Result<(), NoMemory>
         ensures goes { OnOk result (Goes (Application key)
             (desk_in self.old.desk) (desk_in self.new.desk)) }
-        ensures deals { OnOk result (Deals (Application key) (floor_in self.old)
-            (floor_in self.new)) }
+        ensures given { OnOk result (posts_in self.new.applications
+            ≡ given_by key said (posts_in self.old.applications)) }
         ensures moves { OnOk result (FedOn key said (desk_in self.old.desk)
             (ends_in self.old.applications) (hall_in self.new)) }
     {
