@@ -206,7 +206,7 @@ quits_not key k false o e not = refl
 entered_same : (key k : ℕ) (h : Hall) (ends : Ends) → hall.HasEntered k h.ends ends → key ≢ k → end_at ends key ≡ end_at h.ends key
 entered_same key k h ends entered not = entered.others_stay key not
 
-stays_over : (key : ℕ) (h : Hall) (move : Move) → MayMove h move → StaysIn key move → end_at h.ends key ≡ Some Over → end_by key h move (end_at h.ends key) ≡ Some Over
+pub stays_over : (key : ℕ) (h : Hall) (move : Move) → MayMove h move → StaysIn key move → end_at h.ends key ≡ Some Over → end_by key h move (end_at h.ends key) ≡ Some Over
 stays_over key h (hall.Does event) may stays e = e
 stays_over key h (hall.Sends k deed) may stays e =
     ap (λ (o : Option End). if k == key then option_map (goes_on (sent_by h.desk (desk.Does k deed))) o else o) e ∙ if_over (k == key) (goes_on (sent_by h.desk (desk.Does k deed))) (goes_over (sent_by h.desk (desk.Does k deed)))

@@ -47,3 +47,4 @@ pub mod Taking
 pub mod Telling
 pub mod Tidy
 pub mod Tying
+pub mod visits

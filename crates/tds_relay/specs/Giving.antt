@@ -1,5 +1,5 @@
 -- What one application is given, and by what; and what it is sent of that.
-use Rattle.std.specs.Prelude.{◌≡◌, ◌≢◌, ◌⊎◌, ⊥, ℕ, ◌==◌, Bool, true, false, List, [], ◌∷◌, ◌++◌, Option, Some, None, take, if◌then◌else◌}
+use Rattle.std.specs.Prelude.{◌≡◌, ◌≢◌, ◌⊎◌, ℕ, ◌==◌, Bool, true, false, List, [], ◌∷◌, ◌++◌, Option, Some, None, option_map, take, if◌then◌else◌}
 use Rattle.tds_packet.specs.declared.header.Header.{Header}
 use Rattle.tds_packet.specs.Reading.{joined}
 use Rattle.tds_front.specs.Passing.{towards}
@@ -11,7 +11,9 @@ use Rattle.tds_relay.specs.Desk.{Event, whose}
 use Rattle.tds_relay.specs.Fronting.{AnswersOnce, done_on}
 use Rattle.tds_relay.specs.Hall as hall
 use Rattle.tds_relay.specs.Hall.{Move, end_at, new_hall}
-use Rattle.tds_relay.specs.House.{House, Step, Makes, Hands, Takes, Writes, Admits, Removes, Manner, IsRight, MayAll, after, after_all, handed, moves_of, new_house, owed}
+use Rattle.tds_relay.specs.House.{House, Step, Makes, Hands, Takes, Writes, Admits, Removes, Manner, CausesStep, IsRight, MayAll, after, after_all, handed, moves_of, new_house, owed, put_all}
+use Rattle.tds_relay.specs.Promises.{Each}
+use Rattle.tds_relay.specs.Ties.{Cause}
 use Rattle.tds_relay.specs.Posts.{Post, Posts, acknowledgement, post_at}
 
 -- ---- What it is given
@@ -140,3 +142,13 @@ AreSaid (Comes brought ∷ later) all = AreSaid later all
 AreSaid (Goes reply ∷ later) [] = ⊥
 AreSaid (Goes reply ∷ later) (pieces ∷ others) = IsSaid reply pieces × AreSaid later others
 AreSaid (Closes ∷ later) all = AreSaid later all
+
+-- ---- In a call
+
+-- Steps that this causes led from one house to the other, and what waits for each application grew by what they give it, in order.
+pub record Gives (by : Cause) (old new : House) : Type 0 where
+  pub steps : List Step
+  pub are : after_all old steps ≡ new
+  pub may : MayAll old steps
+  pub caused : Each (CausesStep by) steps
+  pub each : (key : ℕ) → StaysAll key steps → post_at new.posts key ≡ option_map (put_all (pieces_of (given_all key old steps))) (post_at old.posts key)

@@ -1,6 +1,6 @@
 -- What happens at a relay, one thing after the other: how the ends of applications move with the desk, and what each application is given
 -- by that. One total function.
-use Rattle.std.specs.Prelude.{◌≡◌, ◌&&◌, ℕ, ◌+◌, ⊥, not, Bool, true, false, List, [], ◌∷◌, ◌++◌, length, Option, Some, None, IsSome, Result, Ok, Err, slice_set}
+use Rattle.std.specs.Prelude.{◌≡◌, ◌&&◌, ℕ, ◌+◌, not, Bool, true, false, List, [], ◌∷◌, ◌++◌, length, Option, Some, None, IsSome, Result, Ok, Err, slice_set}
 use Rattle.tds_packet.specs.declared.header.Header.{Header}
 use Rattle.tds_packet.specs.Layout.{header_bytes}
 use Rattle.tds_front.specs.declared.fault.FrontFault.{FrontFault}
@@ -20,7 +20,7 @@ use Rattle.tds_relay.specs.Cutting.{IsCut, ends_in}
 use Rattle.tds_relay.specs.Desk.{Way, whose}
 use Rattle.tds_relay.specs.Hall as hall
 use Rattle.tds_relay.specs.Hall.{End, Open, Over, Ends, Hall, Move, CausesMove, HasEntered, IsQuiet, MayMove, done_by, end_at, moved_all, new_hall, what_in}
-use Rattle.tds_relay.specs.Posts as posts
+use Rattle.tds_relay.specs.Posts as waiting
 use Rattle.tds_relay.specs.Posts.{Post, Posts, acknowledgement, change, news, put, without_first}
 use Rattle.tds_relay.specs.Promises.{Each}
 use Rattle.tds_relay.specs.Ties.{Cause, Neither, part_on}
@@ -71,9 +71,13 @@ handed (Without bytes) header content = Some (bytes ∷ [])
 handed Withheld header content = None
 
 -- the acknowledgement of an attention that is its end's own
+abbrev pub owed_of : Said → Option (List (List ℕ))
+owed_of said.Acknowledge = Some (acknowledgement ∷ [])
+owed_of answer = None
+
 abbrev pub owed_by : Result Fed FrontFault → Option (List (List ℕ))
-owed_by (Ok (record { count = count; said = said.Acknowledge })) = Some (acknowledgement ∷ [])
-owed_by brings = None
+owed_by (Ok fed) = owed_of fed.said
+owed_by (Err fault) = None
 
 abbrev pub owed : List ℕ → Option End → Option (List (List ℕ))
 owed bytes None = None
@@ -156,7 +160,7 @@ MayStep h (Makes move) = MayMove h.hall move × IsQuiet move
 MayStep h (Hands number header content part way manner) = MayHand h number header content part manner
 MayStep h (Takes key bytes) = Unit {0}
 MayStep h (Writes key count) = Unit {0}
-MayStep h (Admits key ends posts) = HasEntered key h.hall.ends ends × (size : ℕ) × posts.Enters size key h.posts posts
+MayStep h (Admits key ends posts) = HasEntered key h.hall.ends ends × (size : ℕ) × waiting.Enters size key h.posts posts
 MayStep h (Removes key gives way) = Unit {0}
 
 abbrev pub MayAll : House → List Step → Type 0

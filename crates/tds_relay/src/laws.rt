@@ -229,4 +229,9 @@ pub fn given_by_server()
     /// didn't fit: then a front of them.
     ensures sent { (max key : ℕ) (v : Visit max key)
         → IsFrontOf (joined (pieces_of (given_in v))) (sent_in v) (waits_in v) }
-{}
+{
+    lawful_applications();
+    each_alone::<Token>();
+    line_by_history::<Token>();
+    bytes_are_packets();
+}
