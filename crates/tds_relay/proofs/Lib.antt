@@ -38,6 +38,7 @@ pub mod Saying
 pub mod Seated
 pub mod Seats
 pub mod Sitting
+pub mod Slots
 pub mod Sparing
 pub mod Standing
 pub mod Staying

@@ -5,6 +5,5 @@ pub mod Reached
 pub mod Replies
 pub mod Said
 pub mod Sent
-pub mod Slots
 pub mod Stays
 pub mod Waiting

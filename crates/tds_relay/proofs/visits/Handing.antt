@@ -3,11 +3,10 @@ use Rattle.std.proofs.Common.{◌≡◌, ◌∙◌, ◌==◌, ◌&&◌, not, ℕ
 use Rattle.std.specs.Prelude.{Option, Some, None, if◌then◌else◌}
 use Rattle.std.proofs.lemmas.Bool.{eqb-true}
 use Rattle.tds_packet.specs.declared.header.Header.{Header}
-use Rattle.tds_packet.specs.declared.kind.Kind.{Kind}
 use Rattle.tds_front.specs.declared.front.Front.{Front}
 use Rattle.tds_front.specs.declared.stage.Stage.{Stage}
 use Rattle.tds_front.specs.declared.stage.Stage.TheVariants as stages
-use Rattle.tds_front.specs.Passing.{Event as Passed, Says, towards, with_reply}
+use Rattle.tds_front.specs.Passing.{Event as Passed, Says, with_reply}
 use Rattle.tds_front.specs.Serving.{Goes, Happening, Place, Reply, Tokens, Ends, Acknowledges}
 use Rattle.tds_wire.specs.declared.told.Token.{Token}
 use Rattle.tds_service.specs.History.{Done, history}
@@ -19,7 +18,7 @@ use Rattle.tds_relay.specs.Cutting.{ends_in}
 use Rattle.tds_relay.specs.Desk.{Desk, Event, Way, whose}
 use Rattle.tds_relay.specs.Giving.{AreSaid, Given, IsPacketOf, IsSaid, if_its}
 use Rattle.tds_relay.specs.Hall as hall
-use Rattle.tds_relay.specs.Hall.{End, Open, Ends as AllEnds, Hall, done_by, end_at, what_in, what_of}
+use Rattle.tds_relay.specs.Hall.{End, Open, done_by, end_at, what_in, what_of}
 use Rattle.tds_relay.specs.House.{House, IsHanded, IsRight, Manner, MayHand, Whole, Preceded, Without, Withheld, closes, end_whose, handed, is_said}
 use Rattle.tds_relay.proofs.Folding.{outs_of, sound_at}
 use Rattle.tds_relay.proofs.Ours.{came_done}
@@ -56,30 +55,22 @@ live_stopping stage p s out tied is =
 
 -- ---- A packet that is handed on, and one that isn't
 
+goes : (header : Header) (content : List ℕ) (manner : Manner) (ends : Bool) (reply : Reply) → IsRight header content manner → IsHanded true manner → ends_in header ≡ ends
+    → ((given : Given) → IsPacketOf ends given → IsSaid reply given) → AreSaid (Goes reply ∷ []) (gives (handed manner header content))
+goes header content Whole ends reply right on is says = (says _ (record { header = header; content = content; manner = Whole; ends_is = is; right = right; are = refl }), refl)
+goes header content Preceded ends reply right on is says = (says _ (record { header = header; content = content; manner = Preceded; ends_is = is; right = right; are = refl }), refl)
+goes header content (Without bytes) ends reply right on is says =
+    (says _ (record { header = header; content = content; manner = Without bytes; ends_is = is; right = right; are = refl }), refl)
+goes header content Withheld ends reply right on is says = absurd on
+
+withheld : (header : Header) (content : List ℕ) (manner : Manner) → IsHanded false manner → gives (handed manner header content) ≡ []
+withheld header content manner e = ap (λ (m : Manner). gives (handed m header content)) e
+
+-- ---- By what the service answers
+
 module _ (header : Header) (content : List ℕ) (manner : Manner) (right : IsRight header content manner) where
   abbrev Gives : List Given
   Gives = gives (handed manner header content)
-
-  goes_by : (m : Manner) (pieces : Given) (ends : Bool) (reply : Reply) → m ≡ manner → handed m header content ≡ Some pieces → ends_in header ≡ ends → ((given : Given) → IsPacketOf ends given → IsSaid reply given)
-      → AreSaid (Goes reply ∷ []) (gives (handed m header content))
-  goes_by m pieces ends reply same are is says =
-      subst (λ (o : Option Given). AreSaid (Goes reply ∷ []) (gives o)) (sym are)
-      (says pieces (record { header = header; content = content; manner = manner; ends_is = is; right = right; are = ap (λ (x : Manner). handed x header content) (sym same) ∙ are }), refl)
-
-  goes_at : (m : Manner) (ends : Bool) (reply : Reply) → m ≡ manner → IsHanded true m → ends_in header ≡ ends → ((given : Given) → IsPacketOf ends given → IsSaid reply given)
-      → AreSaid (Goes reply ∷ []) (gives (handed m header content))
-  goes_at Whole ends reply same on is says = goes_by Whole _ ends reply same refl is says
-  goes_at Preceded ends reply same on is says = goes_by Preceded _ ends reply same refl is says
-  goes_at (Without bytes) ends reply same on is says = goes_by (Without bytes) _ ends reply same refl is says
-  goes_at Withheld ends reply same on is says = absurd on
-
-  goes : (ends : Bool) (reply : Reply) → IsHanded true manner → ends_in header ≡ ends → ((given : Given) → IsPacketOf ends given → IsSaid reply given) → AreSaid (Goes reply ∷ []) Gives
-  goes ends reply on is says = goes_at manner ends reply refl on is says
-
-  withheld : IsHanded false manner → Gives ≡ []
-  withheld e = ap (λ (m : Manner). gives (handed m header content)) e
-
-  -- ---- By what the service answers
 
   says : (stage : Stage) (reply : Reply) → IsLive stage → AreSaid (Goes reply ∷ []) Gives → Said stage (Says reply ∷ []) Gives
   says stage reply live are begun = subst (λ (xs : List Happening). AreSaid xs Gives) (sym (reply_goes stage reply live)) are
@@ -88,17 +79,17 @@ module _ (header : Header) (content : List ℕ) (manner : Manner) (right : IsRig
   SaidBy stage ends answer = EndsAs (ends_in header) ends answer → IsHanded (not (closes (what_of answer))) manner → Said stage (said_by ends answer) Gives
 
   more_said : (stage : Stage) (ends : Bool) → IsLive stage → SaidBy stage ends line.More
-  more_said stage true live fits on = says stage Ends live (goes true Ends on (sym fits) (λ given packet. packet))
-  more_said stage false live fits on = says stage Tokens live (goes false Tokens on (sym fits) (λ given packet. packet))
+  more_said stage true live fits on = says stage Ends live (goes header content manner true Ends right on (sym fits) (λ given packet. packet))
+  more_said stage false live fits on = says stage Tokens live (goes header content manner false Tokens right on (sym fits) (λ given packet. packet))
 
   finished_said : (stage : Stage) (ends : Bool) (request : ℕ) → IsLive stage → SaidBy stage ends (line.Finished request)
-  finished_said stage ends request live fits on = says stage Ends live (goes true Ends on fits (λ given packet. packet))
+  finished_said stage ends request live fits on = says stage Ends live (goes header content manner true Ends right on fits (λ given packet. packet))
 
   acked_said : (stage : Stage) (ends : Bool) (request : ℕ) → IsLive stage → SaidBy stage ends (line.Acked request)
-  acked_said stage ends request live fits on = says stage Acknowledges live (goes true Acknowledges on fits (λ given packet. inl packet))
+  acked_said stage ends request live fits on = says stage Acknowledges live (goes header content manner true Acknowledges right on fits (λ given packet. inl packet))
 
   answered_said : (stage : Stage) (p : Place) (s : line.Stage) (out : Bool) (ends : Bool) (t : Turn Token) → Tied stage false p s out → HeardAs s ends t → SaidBy stage ends t.answer
-  answered_said stage p s out ends t tied (Breaks fault a) = subst (SaidBy stage ends) (sym a) (λ fits on begun. withheld on)
+  answered_said stage p s out ends t tied (Breaks fault a) = subst (SaidBy stage ends) (sym a) (λ fits on begun. withheld header content manner on)
   answered_said stage p s out ends t tied (ReadsOn is closed a sent l) = subst (SaidBy stage ends) (sym a) (more_said stage ends (live_reading stage p s out tied is))
   answered_said stage p s out ends t tied (ReadsEnd request is a sent l) = subst (SaidBy stage ends) (sym a) (finished_said stage ends request (live_reading stage p s out tied is))
   answered_said stage p s out ends t tied (SkipsOn is a sent l) = subst (SaidBy stage ends) (sym a) (more_said stage ends (live_stopping stage p s out tied is))
@@ -107,7 +98,7 @@ module _ (header : Header) (content : List ℕ) (manner : Manner) (right : IsRig
   -- also where it has taken its request back
   heard_said : (stage : Stage) (w : Bool) (p : Place) (s : line.Stage) (out : Bool) (ends : Bool) (t : Turn Token) → Tied stage w p s out → HeardAs s ends t → EndsAs (ends_in header) ends t.answer
       → IsHanded (not w && not (closes (what_of t.answer))) manner → Said stage (unless_withdrawn w (said_by ends t.answer)) Gives
-  heard_said stage true p s out ends t tied heard fits on begun = withheld on
+  heard_said stage true p s out ends t tied heard fits on begun = withheld header content manner on
   heard_said stage false p s out ends t tied heard fits on begun = answered_said stage p s out ends t tied heard fits on begun
 
 -- ---- By whose it is

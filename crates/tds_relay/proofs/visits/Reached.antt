@@ -9,8 +9,7 @@ use Rattle.tds_front.specs.Passing.{Event as Passed, SaysOf, judged, stage_fed}
 use Rattle.tds_front.specs.Serving.{Place, Ready}
 use Rattle.tds_service.specs.Service.{Seat, seat_numbered}
 use Rattle.tds_relay.specs.Behind.{StaysIn, events_along, passes}
-use Rattle.tds_relay.specs.Desk.{Desk, Event, desk_after, new_desk}
-use Rattle.tds_relay.specs.Hall as hall
+use Rattle.tds_relay.specs.Desk.{Desk, Event, new_desk}
 use Rattle.tds_relay.specs.Hall.{End, Open, Over, Ends, Enters, Hall, HasEntered, IsThere, MayMove, MayMoveAll, Move, end_at, events_of, moved, moved_all, new_hall}
 use Rattle.tds_relay.proofs.Ending.{end_behind_is, passes_by}
 use Rattle.tds_relay.proofs.Folding.{Alone, ByHistory, IsAt, append_more, known_at, leaves_at, next_at, outs_of, passes_is, sits_at, sound_at, stays_there, step_story}

@@ -3,7 +3,6 @@ use Rattle.std.proofs.Common.{◌≡◌, ◌∙◌, ◌==◌, ℕ, Bool, true, f
 use Rattle.std.specs.Prelude.{Option, Some, None, Result, Ok, Err, if◌then◌else◌}
 use Rattle.tds_packet.specs.declared.kind.Kind.{Kind}
 use Rattle.tds_front.specs.declared.fault.FrontFault.{FrontFault}
-use Rattle.tds_front.specs.declared.front.Front.{Front}
 use Rattle.tds_front.specs.declared.stage.Deed.{Deed}
 use Rattle.tds_front.specs.declared.stage.Deed.TheVariants as deeds
 use Rattle.tds_front.specs.declared.stage.Stage.{Stage}

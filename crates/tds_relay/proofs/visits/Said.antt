@@ -1,5 +1,5 @@
 -- What an application is given since it came is what its end says, one by one.
-use Rattle.std.proofs.Common.{◌≡◌, ◌≢◌, ◌∙◌, ◌==◌, ℕ, Bool, true, false, List, [], ◌∷◌, ◌++◌, refl, sym, ap, subst}
+use Rattle.std.proofs.Common.{◌≡◌, ◌∙◌, ◌==◌, ℕ, Bool, true, false, List, [], ◌∷◌, ◌++◌, refl, sym, ap, subst}
 use Rattle.std.specs.Prelude.{Option, Some, None}
 use Rattle.std.proofs.lemmas.Bool.{eqb-true}
 use Rattle.tds_front.specs.declared.front.Front.{Front}
@@ -7,20 +7,19 @@ use Rattle.tds_front.specs.declared.stage.Stage.{Stage}
 use Rattle.tds_front.specs.declared.stage.Stage.TheVariants as stages
 use Rattle.tds_front.specs.Passing.{Event as Passed, towards}
 use Rattle.tds_packet.specs.declared.header.Header.{Header}
-use Rattle.tds_relay.specs.Behind.{StaysIn, Stays, passed, passes}
+use Rattle.tds_relay.specs.Behind.{Stays, passed, passes}
 use Rattle.tds_relay.specs.Desk.{Event, whose}
-use Rattle.tds_relay.specs.Giving.{AreSaid, Given, StaysAll, StaysBy, Visit, given, given_all, given_in, happens_in, house_in, if_its, moves_in}
+use Rattle.tds_relay.specs.Giving.{AreSaid, Given, StaysAll, Visit, given, given_all, given_in, happens_in, house_in, if_its, moves_in}
 use Rattle.tds_relay.specs.Hall as hall
-use Rattle.tds_relay.specs.Hall.{End, Open, Over, Ends, Enters, Hall, MayMove, MayMoveAll, Move, done_by, end_at, events_of, moved, moved_all, new_hall, what_in}
-use Rattle.tds_relay.specs.House.{House, Step, Makes, Hands, Takes, Writes, Admits, Removes, IsHanded, Manner, MayAll, MayStep, Withheld, after, after_all, end_whose, handed, is_said, moves_of, new_house, owed}
-use Rattle.tds_relay.specs.Posts.{Posts}
+use Rattle.tds_relay.specs.Hall.{End, Over, Enters, Hall, MayMoveAll, Move, done_by, end_at, events_of, moved, moved_all, new_hall, what_in}
+use Rattle.tds_relay.specs.House.{House, Step, Makes, Hands, Takes, Writes, Admits, Removes, IsHanded, Manner, MayAll, MayStep, after, after_all, end_whose, handed, is_said, moves_of, new_house, owed}
 use Rattle.tds_relay.proofs.Ending.{end_behind_is}
 use Rattle.tds_relay.proofs.Folding.{Alone, ByHistory, over_silent, stays_over}
 use Rattle.tds_relay.proofs.Leading.{stage_along}
 use Rattle.tds_relay.proofs.visits.Handing.{hands_said}
 use Rattle.tds_relay.proofs.visits.Owing.{taken_said}
 use Rattle.tds_relay.proofs.visits.Reached.{Entered, Goes, IsOver, Judging, Stands, Then, behind, enters}
-use Rattle.tds_relay.proofs.visits.Replies.{Said, gives, its, made_said, not_its, said_both}
+use Rattle.tds_relay.proofs.visits.Replies.{Said, gives, made_said, not_its, said_both}
 use Rattle.tds_relay.proofs.visits.Stays.{came, hall_after, may_moves, may_step, stays_move, stays_moves, stays_step}
 
 -- ---- To one that is over nothing is given

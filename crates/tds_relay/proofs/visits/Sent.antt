@@ -1,5 +1,5 @@
 -- What an application is sent since it came, and what waits for it, are what it is given.
-use Rattle.std.proofs.Common.{◌≡◌, ◌≢◌, ◌∙◌, ◌==◌, ◌++◌, ℕ, Bool, true, false, List, [], ◌∷◌, refl, sym, ap, subst, append_assoc}
+use Rattle.std.proofs.Common.{◌≡◌, ◌∙◌, ◌==◌, ◌++◌, ℕ, Bool, true, false, List, [], ◌∷◌, refl, sym, ap, subst, append_assoc}
 use Rattle.std.specs.Prelude.{Option, Some, None, take, option_map, if◌then◌else◌}
 use Rattle.std.proofs.lemmas.List.{append-nil}
 use Rattle.tds_packet.specs.Reading.{joined}
@@ -8,8 +8,8 @@ use Rattle.tds_relay.specs.Giving.{Given, IsFrontOf, StaysAll, StaysBy, Visit, b
 use Rattle.tds_relay.specs.Hall.{end_at}
 use Rattle.tds_relay.specs.House.{House, Step, Makes, Hands, Takes, Writes, Admits, Removes, MayAll, MayStep, after, after_all, change_whose, handed, owed, put_all, put_some}
 use Rattle.tds_relay.specs.Posts.{Post, Posts, change, nothing, post_at, without_first}
+use Rattle.tds_relay.proofs.Slots.{changed_at, cleared_at}
 use Rattle.tds_relay.proofs.visits.Replies.{gives, its, not_its}
-use Rattle.tds_relay.proofs.visits.Slots.{changed_at, cleared_at}
 use Rattle.tds_relay.proofs.visits.Stays.{came}
 use Rattle.tds_relay.proofs.visits.Waiting.{Goes, IsClosed, closed_more, goes_more, goes_put, goes_same, goes_sent}
 

@@ -3,10 +3,9 @@ use Rattle.std.proofs.Common.{◌≡◌, ◌∙◌, ℕ, false, List, [], ◌∷
 use Rattle.std.specs.Prelude.{None}
 use Rattle.tds_front.specs.declared.stage.Stage.TheVariants as stages
 use Rattle.tds_front.specs.Passing.{towards}
-use Rattle.tds_front.specs.Serving.{Happening, IsLawful, Ready}
+use Rattle.tds_front.specs.Serving.{IsLawful, Ready}
 use Rattle.tds_relay.specs.Behind as behind
 use Rattle.tds_relay.specs.Behind.{Stay, Stays, StaysIn, events_along, passed, passed_in}
-use Rattle.tds_relay.specs.Desk.{Event}
 use Rattle.tds_relay.specs.Fronting.{AnswersOnce, done_on}
 use Rattle.tds_relay.specs.Hall as hall
 use Rattle.tds_relay.specs.Hall.{Enters, Hall, IsQuiet, MayMoveAll, Move, moved, moved_all, new_hall}

@@ -1,6 +1,6 @@
--- What stands in one slot, behind a change in another or the same.
-use Rattle.std.proofs.Common.{◌≡◌, ◌≢◌, ◌⊎◌, ◌∙◌, ◌==◌, ◌≤◌, ◌<◌, ℕ, Bool, true, false, List, inl, inr, length, eqb, refl, sym, ap, subst}
-use Rattle.std.specs.Prelude.{Option, Some, None, if◌then◌else◌, option_map, slice_index_or, slice_set}
+-- What stands in one slot, where one of all slots changes or is emptied.
+use Rattle.std.proofs.Common.{◌≡◌, ◌≢◌, ◌⊎◌, ◌∙◌, ◌==◌, ◌≤◌, ◌<◌, ℕ, Bool, true, false, List, inl, inr, length, eqb, sym, ap, subst}
+use Rattle.std.specs.Prelude.{Option, None, if◌then◌else◌, option_map, slice_index_or, slice_set}
 use Rattle.std.proofs.lemmas.List.{get_or-set_same, get_or-set_other, length-set}
 use Rattle.std.proofs.lemmas.Bool.{cases_lt}
 use Rattle.std.proofs.lemmas.Bool.Decides.{eqb_tells}
@@ -39,5 +39,20 @@ module _ (X : Type 0) where
   pub changed_at : (xs : List (Option X)) (k key : ℕ) (by : X → X) → At (Changed k by xs) key ≡ (if k == key then option_map by (At xs key) else At xs key)
   changed_at xs k key by = changed_by xs k key by (eqb_tells k key)
 
+  -- one is emptied
+  emptied_here : (xs : List (Option X)) (key : ℕ) → (key < length xs) ⊎ (length xs ≤ key) → At (slice_set xs key None) key ≡ None
+  emptied_here xs key (inl near) = get_or-set_same xs key None None near
+  emptied_here xs key (inr far) = beyond xs key None far
+
   pub cleared_at : (xs : List (Option X)) (k key : ℕ) → key ≢ k → At (slice_set xs k None) key ≡ At xs key
   cleared_at xs k key other = get_or-set_other xs k key None None other
+
+  emptied_by : (xs : List (Option X)) (k key : ℕ) → Same k key → At (slice_set xs k None) key ≡ (if k == key then None else At xs key)
+  emptied_by xs k key (inl (e, is)) =
+      subst (λ (b : Bool). At (slice_set xs k None) key ≡ (if b then None else At xs key)) (sym e)
+      (subst (λ (n : ℕ). At (slice_set xs k None) n ≡ None) is (emptied_here xs k (near_or_far k (length xs))))
+  emptied_by xs k key (inr (e, other)) =
+      subst (λ (b : Bool). At (slice_set xs k None) key ≡ (if b then None else At xs key)) (sym e) (cleared_at xs k key (λ same. other (sym same)))
+
+  pub emptied_at : (xs : List (Option X)) (k key : ℕ) → At (slice_set xs k None) key ≡ (if k == key then None else At xs key)
+  emptied_at xs k key = emptied_by xs k key (eqb_tells k key)
