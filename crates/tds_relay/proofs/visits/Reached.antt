@@ -14,7 +14,7 @@ use Rattle.tds_relay.specs.Hall.{End, Open, Over, Ends, Enters, Hall, HasEntered
 use Rattle.tds_relay.proofs.Ending.{end_behind_is, passes_by}
 use Rattle.tds_relay.proofs.Folding.{Alone, ByHistory, IsAt, append_more, known_at, leaves_at, next_at, outs_of, passes_is, sits_at, sound_at, stays_there, step_story}
 use Rattle.tds_relay.proofs.Fronting.{out_of}
-use Rattle.tds_relay.proofs.Leading.{stage_along}
+use Rattle.tds_relay.proofs.Leading.{Leads}
 use Rattle.tds_relay.proofs.Moving.{StepOf, StoryOf, step}
 use Rattle.tds_relay.proofs.Ours.{Gone}
 use Rattle.tds_relay.proofs.Standing.{Standing}
@@ -31,10 +31,10 @@ pub record Stands (max key : ℕ) (events : List Event) (h : Hall) (front : Fron
   pub place : Place
   pub standing : Standing (outs_of max events) h.desk key front.stage w place
 
--- Behind what passed it is so again, or over.
-pub data Then (max key : ℕ) (events : List Event) (h : Hall) (stage : Stage) (es : List Passed) : Type 0 where
-  Goes : (front : Front) (w : Bool) → Stands max key events h front w → stage_along stage es ≡ front.stage → Then max key events h stage es
-  IsOver : end_at h.ends key ≡ Some Over → Then max key events h stage es
+-- Behind what passed it is so again, where that leads, or over.
+pub data Then (max key : ℕ) (events : List Event) (h : Hall) (stage : Stage) (p : Place) (es : List Passed) : Type 0 where
+  Goes : (front : Front) (w : Bool) → (s : Stands max key events h front w) → Leads stage p es front.stage s.place → Then max key events h stage p es
+  IsOver : end_at h.ends key ≡ Some Over → Then max key events h stage p es
 
 -- An application has entered, and its end is as at first.
 pub record Entered (max key : ℕ) (h : Hall) : Type 0 where
@@ -43,6 +43,7 @@ pub record Entered (max key : ℕ) (h : Hall) : Type 0 where
   pub w : Bool
   pub stands : Stands max key events h front w
   pub quiet : front.stage ≡ stages.Quiet
+  pub ready : stands.place ≡ Ready
 
 append_nothing : {X : Type 0} (xs : List X) → xs ++ [] ≡ xs
 append_nothing [] = refl
@@ -94,7 +95,7 @@ module _ (max key : ℕ) (alone : Alone) (by : ByHistory) (judges : Judging) whe
       → StepOf (outs_of max events) h.desk key p es o o2 → Entered max key h
   entered_by events h None None p es is same e there s = absurd there
   entered_by events h None (Some (Open front w)) p es is same e there s =
-      record { events = events; front = front; w = w; stands = record { is = is; end_is = same; place = Ready; standing = s.0 }; quiet = s.1 }
+      record { events = events; front = front; w = w; stands = record { is = is; end_is = same; place = Ready; standing = s.0 }; quiet = s.1; ready = refl }
   entered_by events h None (Some Over) p es is same e there s = absurd s
   entered_by events h (Some end) o2 p es is same e there s = absurd (let u : ⊥ = cc in u)
 
@@ -112,13 +113,13 @@ module _ (max key : ℕ) (alone : Alone) (by : ByHistory) (judges : Judging) whe
   -- ---- Behind one more
 
   then_by : (events : List Event) (h : Hall) (p : Place) (es : List Passed) (front : Front) (w : Bool) (o2 : Option End) → IsAt max events h → end_at h.ends key ≡ o2 → IsThere o2
-      → StepOf (outs_of max events) h.desk key p es (Some (Open front w)) o2 → Then max key events h front.stage es
+      → StepOf (outs_of max events) h.desk key p es (Some (Open front w)) o2 → Then max key events h front.stage p es
   then_by events h p es front w None is same there s = absurd there
-  then_by events h p es front w (Some (Open next v)) is same there s = Goes next v (record { is = is; end_is = same; place = s.place; standing = s.standing }) s.leads.stage_is
+  then_by events h p es front w (Some (Open next v)) is same there s = Goes next v (record { is = is; end_is = same; place = s.place; standing = s.standing }) s.leads
   then_by events h p es front w (Some Over) is same there s = IsOver same
 
-  pub behind : (events : List Event) (h : Hall) (move : Move) (front : Front) (w : Bool) → Stands max key events h front w → MayMove h move → StaysIn key move
-      → Then max key (events ++ events_of h move) (moved h move) front.stage (passes key h move)
+  pub behind : (events : List Event) (h : Hall) (move : Move) (front : Front) (w : Bool) → (s : Stands max key events h front w) → MayMove h move → StaysIn key move
+      → Then max key (events ++ events_of h move) (moved h move) front.stage s.place (passes key h move)
   behind events h move front w s may stays =
       let h2 = moved h move in
       let events2 = events ++ events_of h move in

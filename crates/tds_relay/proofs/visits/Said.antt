@@ -6,6 +6,7 @@ use Rattle.tds_front.specs.declared.front.Front.{Front}
 use Rattle.tds_front.specs.declared.stage.Stage.{Stage}
 use Rattle.tds_front.specs.declared.stage.Stage.TheVariants as stages
 use Rattle.tds_front.specs.Passing.{Event as Passed, towards}
+use Rattle.tds_front.specs.Serving.{Place}
 use Rattle.tds_packet.specs.declared.header.Header.{Header}
 use Rattle.tds_relay.specs.Behind.{Stays, passed, passes}
 use Rattle.tds_relay.specs.Desk.{Event, whose}
@@ -66,14 +67,14 @@ over_all key h (step ∷ steps) may stays e =
 
 module _ (max key : ℕ) (alone : Alone) (by : ByHistory) (judges : Judging) where
   -- behind one move
-  said_next : (events : List Event) (h2 : House) (stage : Stage) (es : List Passed) (all : List Given) (steps : List Step) → MayAll h2 steps → StaysAll key steps → Said stage es all
+  said_next : (events : List Event) (h2 : House) (stage : Stage) (p : Place) (es : List Passed) (all : List Given) (steps : List Step) → MayAll h2 steps → StaysAll key steps → Said stage es all
       → ((front : Front) (w : Bool) → Stands max key events h2.hall front w → Said front.stage (passed key h2.hall (moves_in steps)) (given_all key h2 steps))
-      → Then max key events h2.hall stage es → Said stage (es ++ passed key h2.hall (moves_in steps)) (all ++ given_all key h2 steps)
-  said_next events h2 stage es all steps may stays first rest (Goes front w stands is) =
+      → Then max key events h2.hall stage p es → Said stage (es ++ passed key h2.hall (moves_in steps)) (all ++ given_all key h2 steps)
+  said_next events h2 stage p es all steps may stays first rest (Goes front w stands leads) =
       let more : List Passed = passed key h2.hall (moves_in steps) in
       said_both stage es more all (given_all key h2 steps) first
-      (subst (λ (s : Stage). Said s more (given_all key h2 steps)) (sym is) (rest front w stands))
-  said_next events h2 stage es all steps may stays first rest (IsOver e) =
+      (subst (λ (s : Stage). Said s more (given_all key h2 steps)) (sym leads.stage_is) (rest front w stands))
+  said_next events h2 stage p es all steps may stays first rest (IsOver e) =
       let more : List Passed = passed key h2.hall (moves_in steps) in
       let silent : more ≡ [] = over_silent key h2.hall (moves_in steps) e (may_moves h2 steps may) (stays_moves key h2 steps may stays) in
       let nothing : given_all key h2 steps ≡ [] = over_all key h2 steps may stays e in
@@ -86,14 +87,14 @@ module _ (max key : ℕ) (alone : Alone) (by : ByHistory) (judges : Judging) whe
   said_along events h (Makes move ∷ steps) front w s may stays =
       let h2 = after h (Makes move) in
       let events2 = events ++ events_of h.hall move in
-      said_next events2 h2 front.stage (passes key h.hall move) [] steps may.1 stays.1 (made_said key h.hall move front.stage may.0.1)
+      said_next events2 h2 front.stage s.place (passes key h.hall move) [] steps may.1 stays.1 (made_said key h.hall move front.stage may.0.1)
       (λ next v stands. said_along events2 h2 steps next v stands may.1 stays.1)
       (behind max key alone by judges events h.hall move front w s may.0.0 (stays_move key move may.0.1))
   said_along events h (Hands number header content part way manner ∷ steps) front w s may stays =
       let move : Move = hall.Comes number part way in
       let h2 = after h (Hands number header content part way manner) in
       let events2 = events ++ events_of h.hall move in
-      said_next events2 h2 front.stage (passes key h.hall move) (if_its key (whose h.hall.desk number) (handed manner header content)) steps may.1 stays.1
+      said_next events2 h2 front.stage s.place (passes key h.hall move) (if_its key (whose h.hall.desk number) (handed manner header content)) steps may.1 stays.1
       (hands_said max key events h front w s number header content part manner may.0 way)
       (λ next v stands. said_along events2 h2 steps next v stands may.1 stays.1)
       (behind max key alone by judges events h.hall move front w s tt tt)
@@ -101,7 +102,7 @@ module _ (max key : ℕ) (alone : Alone) (by : ByHistory) (judges : Judging) whe
       let move : Move = hall.Feeds other bytes in
       let h2 = after h (Takes other bytes) in
       let events2 = events ++ events_of h.hall move in
-      said_next events2 h2 front.stage (passes key h.hall move) (if_its key (Some other) (owed bytes (end_at h.hall.ends other))) steps may.1 stays.1
+      said_next events2 h2 front.stage s.place (passes key h.hall move) (if_its key (Some other) (owed bytes (end_at h.hall.ends other))) steps may.1 stays.1
       (taken_said key h.hall other bytes front w s.end_is (judges front bytes).1)
       (λ next v stands. said_along events2 h2 steps next v stands may.1 stays.1)
       (behind max key alone by judges events h.hall move front w s tt tt)
@@ -110,14 +111,14 @@ module _ (max key : ℕ) (alone : Alone) (by : ByHistory) (judges : Judging) whe
       let move : Move = Enters other ends in
       let h2 = after h (Admits other ends posts) in
       let events2 = events ++ events_of h.hall move in
-      said_next events2 h2 front.stage (passes key h.hall move) [] steps may.1 stays.1 (λ begun. refl)
+      said_next events2 h2 front.stage s.place (passes key h.hall move) [] steps may.1 stays.1 (λ begun. refl)
       (λ next v stands. said_along events2 h2 steps next v stands may.1 stays.1)
       (behind max key alone by judges events h.hall move front w s may.0.0 stays.0)
   said_along events h (Removes other gives way ∷ steps) front w s may stays =
       let move : Move = hall.Quits other gives way in
       let h2 = after h (Removes other gives way) in
       let events2 = events ++ events_of h.hall move in
-      said_next events2 h2 front.stage (passes key h.hall move) [] steps may.1 stays.1 (λ begun. refl)
+      said_next events2 h2 front.stage s.place (passes key h.hall move) [] steps may.1 stays.1 (λ begun. refl)
       (λ next v stands. said_along events2 h2 steps next v stands may.1 stays.1)
       (behind max key alone by judges events h.hall move front w s tt stays.0)
 
