@@ -1,6 +1,7 @@
 -- What is told of an application's end along moves, from where it enters: it is open, and where its stage is what passes it leads to; or it is over.
 use Rattle.std.proofs.Common.{◌≡◌, ◌∙◌, ℕ, Bool, List, [], ◌∷◌, ◌++◌, refl, sym, ap, subst}
 use Rattle.std.specs.Prelude.{Option, Some, None}
+use Rattle.std.proofs.lemmas.List.{append-nil}
 use Rattle.tds_front.specs.declared.front.Front.{Front}
 use Rattle.tds_front.specs.declared.stage.Stage.{Stage}
 use Rattle.tds_front.specs.declared.stage.Stage.TheVariants as stages
@@ -37,20 +38,15 @@ pub data Then (max key : ℕ) (events : List Event) (h : Hall) (stage : Stage) (
   IsOver : end_at h.ends key ≡ Some Over → Then max key events h stage p es
 
 -- An application has entered, and its end is as at first.
-pub record Entered (max key : ℕ) (h : Hall) : Type 0 where
-  pub events : List Event
+pub record Entered (max key : ℕ) (events : List Event) (h : Hall) : Type 0 where
   pub front : Front
   pub w : Bool
   pub stands : Stands max key events h front w
   pub quiet : front.stage ≡ stages.Quiet
   pub ready : stands.place ≡ Ready
 
-append_nothing : {X : Type 0} (xs : List X) → xs ++ [] ≡ xs
-append_nothing [] = refl
-append_nothing {X} (x ∷ xs) = ap (λ (ys : List X). x ∷ ys) (append_nothing xs)
-
 module _ (max key : ℕ) (alone : Alone) (by : ByHistory) (judges : Judging) where
-  known_of : (events : List Event) (h : Hall) → IsAt max events h → (n : ℕ) (c : Seat) → seat_numbered n h.desk.service.seats ≡ Some c → out_of c.line.stage (outs_of max events n) ≡ outs_of max events n
+  pub known_of : (events : List Event) (h : Hall) → IsAt max events h → (n : ℕ) (c : Seat) → seat_numbered n h.desk.service.seats ≡ Some c → out_of c.line.stage (outs_of max events n) ≡ outs_of max events n
   known_of events h is n c there = known_at alone by max events n c (ap (λ (d : Desk). seat_numbered n d.service.seats) (sym is) ∙ there)
 
   abbrev Tale : List Event → Hall → Place → Type 0
@@ -81,7 +77,7 @@ module _ (max key : ℕ) (alone : Alone) (by : ByHistory) (judges : Judging) whe
       record { is = next_at max events h move at.is; place = next.0; tale = next.1 }
 
   at_all : (events : List Event) (h : Hall) (moves : List Move) → MayMoveAll h moves → At events h → At (events ++ events_along h moves) (moved_all h moves)
-  at_all events h [] may at = subst (λ (es : List Event). At es h) (sym (append_nothing events)) at
+  at_all events h [] may at = subst (λ (es : List Event). At es h) (sym (append-nil events)) at
   at_all events h (move ∷ moves) may at =
       subst (λ (es : List Event). At es (moved_all (moved h move) moves)) (append_more events (events_of h move) (events_along (moved h move) moves))
       (at_all (events ++ events_of h move) (moved h move) moves may.1 (at_next events h move may.0 at))
@@ -92,15 +88,15 @@ module _ (max key : ℕ) (alone : Alone) (by : ByHistory) (judges : Judging) whe
   -- ---- From where it enters
 
   entered_by : (events : List Event) (h : Hall) (o o2 : Option End) (p : Place) (es : List Passed) → IsAt max events h → end_at h.ends key ≡ o2 → o ≡ None → IsThere o2
-      → StepOf (outs_of max events) h.desk key p es o o2 → Entered max key h
+      → StepOf (outs_of max events) h.desk key p es o o2 → Entered max key events h
   entered_by events h None None p es is same e there s = absurd there
   entered_by events h None (Some (Open front w)) p es is same e there s =
-      record { events = events; front = front; w = w; stands = record { is = is; end_is = same; place = Ready; standing = s.0 }; quiet = s.1; ready = refl }
+      record { front = front; w = w; stands = record { is = is; end_is = same; place = Ready; standing = s.0 }; quiet = s.1; ready = refl }
   entered_by events h None (Some Over) p es is same e there s = absurd s
   entered_by events h (Some end) o2 p es is same e there s = absurd (let u : ⊥ = cc in u)
 
   pub enters : (moves : List Move) (ends : Ends) → MayMoveAll (new_hall max) moves → HasEntered key (moved_all (new_hall max) moves).ends ends
-      → Entered max key (moved (moved_all (new_hall max) moves) (Enters key ends))
+      → Entered max key (events_along (new_hall max) moves ++ []) (moved (moved_all (new_hall max) moves) (Enters key ends))
   enters moves ends may entered =
       let h = moved_all (new_hall max) moves in
       let move : Move = Enters key ends in

@@ -8,7 +8,7 @@ use Rattle.tds_front.specs.declared.stage.Stage.TheVariants as stages
 use Rattle.tds_front.specs.Passing.{Event as Passed, towards}
 use Rattle.tds_front.specs.Serving.{Place}
 use Rattle.tds_packet.specs.declared.header.Header.{Header}
-use Rattle.tds_relay.specs.Behind.{Stays, passed, passes}
+use Rattle.tds_relay.specs.Behind.{Stays, events_along, passed, passes}
 use Rattle.tds_relay.specs.Desk.{Event, whose}
 use Rattle.tds_relay.specs.Giving.{AreSaid, Given, StaysAll, Visit, given, given_all, given_in, happens_in, house_in, if_its, moves_in}
 use Rattle.tds_relay.specs.Hall as hall
@@ -124,9 +124,10 @@ module _ (max key : ℕ) (alone : Alone) (by : ByHistory) (judges : Judging) whe
 
   -- ---- Since it came
 
-  said_entered : (h : House) (steps : List Step) → Entered max key h.hall → MayAll h steps → StaysAll key steps → AreSaid (towards None stages.Quiet (passed key h.hall (moves_in steps))) (given_all key h steps)
-  said_entered h steps entered may stays =
-      let all : Said entered.front.stage (passed key h.hall (moves_in steps)) (given_all key h steps) = said_along entered.events h steps entered.front entered.w entered.stands may stays in
+  said_entered : (events : List Event) (h : House) (steps : List Step) → Entered max key events h.hall → MayAll h steps → StaysAll key steps
+      → AreSaid (towards None stages.Quiet (passed key h.hall (moves_in steps))) (given_all key h steps)
+  said_entered events h steps entered may stays =
+      let all : Said entered.front.stage (passed key h.hall (moves_in steps)) (given_all key h steps) = said_along events h steps entered.front entered.w entered.stands may stays in
       subst (λ (stage : Stage). Said stage (passed key h.hall (moves_in steps)) (given_all key h steps)) entered.quiet all None
 
   pub said_visit : (v : Visit max key) → AreSaid (happens_in v) (given_in v)
@@ -135,8 +136,9 @@ module _ (max key : ℕ) (alone : Alone) (by : ByHistory) (judges : Judging) whe
       let before = moves_in v.before in
       let h : Hall = (after_all (new_house max) v.before).hall in
       let is : h ≡ moved_all (new_hall max) before = hall_after (new_house max) v.before in
-      let entered : Entered max key (moved (moved_all (new_hall max) before) (Enters key v.ends)) =
+      let events : List Event = events_along (new_hall max) before ++ [] in
+      let entered : Entered max key events (moved (moved_all (new_hall max) before) (Enters key v.ends)) =
       enters max key alone by judges before v.ends (may_moves (new_house max) v.before c.may_before) (subst (λ (x : Hall). hall.HasEntered key x.ends v.ends) is c.may_come.0) in
       let came_is : moved (moved_all (new_hall max) before) (Enters key v.ends) ≡ (house_in v).hall =
       ap (λ (x : Hall). moved x (Enters key v.ends)) (sym is) ∙ ap (λ (x : House). x.hall) (sym c.house_is) in
-      said_entered (house_in v) v.since (subst (Entered max key) came_is entered) c.may_since v.stays
+      said_entered events (house_in v) v.since (subst (Entered max key events) came_is entered) c.may_since v.stays

@@ -8,10 +8,11 @@ use Rattle.tds_relay.specs.Behind as behind
 use Rattle.tds_relay.specs.Behind.{Stay, Stays, StaysIn, events_along, passed, passed_in}
 use Rattle.tds_relay.specs.Fronting.{AnswersOnce, done_on}
 use Rattle.tds_relay.specs.Hall as hall
-use Rattle.tds_relay.specs.Hall.{Enters, Hall, IsQuiet, MayMoveAll, Move, moved, moved_all, new_hall}
+use Rattle.tds_relay.specs.Hall.{Enters, Hall, IsQuiet, MayMoveAll, Move, moved_all, new_hall}
 use Rattle.tds_relay.specs.House.{House, Step, Makes, Hands, Takes, Writes, Admits, Removes, MayAll, MayStep, after, after_all, moves_of, new_house}
 use Rattle.tds_relay.specs.Giving as visits
 use Rattle.tds_relay.specs.Giving.{StaysAll, StaysBy, Visit, happens_in, house_in, moves_in}
+use Rattle.tds_relay.proofs.Folding.{may_both, moved_both}
 
 -- ---- One behind the other
 
@@ -22,14 +23,6 @@ moves_both (x ∷ xs) ys = ap (λ (moves : List Move). moves_of x ++ moves) (mov
 after_both : (h : House) (xs ys : List Step) → after_all h (xs ++ ys) ≡ after_all (after_all h xs) ys
 after_both h [] ys = refl
 after_both h (x ∷ xs) ys = after_both (after h x) xs ys
-
-moved_both : (h : Hall) (xs ys : List Move) → moved_all h (xs ++ ys) ≡ moved_all (moved_all h xs) ys
-moved_both h [] ys = refl
-moved_both h (x ∷ xs) ys = moved_both (moved h x) xs ys
-
-may_both : (h : Hall) (xs ys : List Move) → MayMoveAll h xs → MayMoveAll (moved_all h xs) ys → MayMoveAll h (xs ++ ys)
-may_both h [] ys m n = n
-may_both h (x ∷ xs) ys m n = (m.0, may_both (moved h x) xs ys m.1 n)
 
 stays_both : (key : ℕ) (xs ys : List Move) → Stays key xs → Stays key ys → Stays key (xs ++ ys)
 stays_both key [] ys s t = t
