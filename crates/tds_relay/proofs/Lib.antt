@@ -35,6 +35,7 @@ pub mod Saying
 pub mod Seated
 pub mod Seats
 pub mod Sitting
+pub mod Slots
 pub mod Sparing
 pub mod Standing
 pub mod Staying
@@ -45,3 +46,4 @@ pub mod Taking
 pub mod Telling
 pub mod Tidy
 pub mod Tying
+pub mod visits

@@ -154,3 +154,25 @@ pub fn lawful_applications()
     lawful_behind();
     lawful_front();
 }
+
+/// What an application is given, from where it enters and while it stays, whoever shares with it: one by one what a
+/// lawful server's end says to it, over whichever connections it is lent.
+pub fn given_by_server()
+    /// What passes between it and its end is a lawful server's: where the server of each connection ends
+    /// each answer once at most, also behind an attention.
+    ensures lawful { (max key : ℕ) (v : Visit max key) → visits.AllAnswerOnce v
+        → IsLawful Ready (happens_in v) }
+    /// Each time that its end says something it is given that, and nothing else: a packet of the connection that
+    /// it is lent, which ends its message where the end says so, as it came, without the news of a reset, or
+    /// behind it; or the acknowledgement of its own attention.
+    ensures said { (max key : ℕ) (v : Visit max key) → AreSaid (happens_in v) (given_in v) }
+    /// What it is sent, and then what waits for it, are these, in order, each whole; all of them, unless one
+    /// didn't fit: then a front of them.
+    ensures sent { (max key : ℕ) (v : Visit max key)
+        → IsFrontOf (joined (pieces_of (given_in v))) (sent_in v) (waits_in v) }
+{
+    lawful_applications();
+    each_alone::<Token>();
+    line_by_history::<Token>();
+    bytes_are_packets();
+}
