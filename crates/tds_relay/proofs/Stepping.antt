@@ -6,7 +6,7 @@ use Rattle.tds_relay.specs.Desk as desk
 use Rattle.tds_relay.specs.Desk.{Desk, turn}
 use Rattle.tds_relay.specs.Fronts.{LetsGoFirst, Moved, MovedOn, hall_of_ends, house_with}
 use Rattle.tds_relay.specs.Hall.{CausesMove, End, Ends, Hall, HasEntered, IsQuiet, MayMoveAll, Move, Moves, change_end, lets_go, moved_all}
-use Rattle.tds_relay.specs.House.{House, Step, Admits, CausesStep, Makes, MayAll, MayStep, Removes, Steps, after, after_all}
+use Rattle.tds_relay.specs.House.{House, Step, Admits, CausesStep, IsLedTo, Makes, MayAll, MayStep, Removes, Steps, after, after_all, new_house}
 use Rattle.tds_relay.specs.Posts.{Enters, Post, Posts, change, post_at}
 use Rattle.tds_relay.specs.Promises.{Each}
 use Rattle.tds_relay.specs.Ties as causes
@@ -108,3 +108,12 @@ steps_quits key from d es es1 ps ps1 new quit gone l s =
     steps_moved (causes.Application key) from (hall_of_ends left (change_end key lets_go es1)) new ps1 ps1 (l.2 (causes.Application key)) refl
     (steps_same (causes.Application key) from left left (slice_set es key None) (change_end key lets_go es1) (slice_set ps key None) ps1 refl
     (ap (change_end key lets_go) quit ∙ gone_stays es key lets_go) gone one)
+
+-- ---- From a new one
+
+pub led_on : (max : ℕ) (by : Cause) (old new : House) → Steps by old new → IsLedTo max old → IsLedTo max new
+led_on max by old new s (steps, are, may) = (
+  steps ++ s.steps,
+  after_both (new_house max) steps s.steps ∙ ap (λ (h : House). after_all h s.steps) are ∙ s.are,
+  may_both (new_house max) steps s.steps may (subst (λ (h : House). MayAll h s.steps) (sym are) s.may),
+)

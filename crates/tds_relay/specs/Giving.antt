@@ -1,5 +1,5 @@
 -- What one application is given, and by what; and what it is sent of that.
-use Rattle.std.specs.Prelude.{◌≡◌, ◌≢◌, ◌⊎◌, ℕ, ◌==◌, Bool, true, false, List, [], ◌∷◌, ◌++◌, Option, Some, None, option_map, take, if◌then◌else◌}
+use Rattle.std.specs.Prelude.{◌≡◌, ◌≢◌, ◌⊎◌, ℕ, ◌==◌, Bool, true, false, List, [], ◌∷◌, ◌++◌, Option, Some, None, take, if◌then◌else◌}
 use Rattle.tds_packet.specs.declared.header.Header.{Header}
 use Rattle.tds_packet.specs.Reading.{joined}
 use Rattle.tds_front.specs.Passing.{towards}
@@ -11,7 +11,7 @@ use Rattle.tds_relay.specs.Desk.{Event, whose}
 use Rattle.tds_relay.specs.Fronting.{AnswersOnce, done_on}
 use Rattle.tds_relay.specs.Hall as hall
 use Rattle.tds_relay.specs.Hall.{Move, end_at, new_hall}
-use Rattle.tds_relay.specs.House.{House, Step, Makes, Hands, Takes, Writes, Admits, Removes, Manner, CausesStep, IsRight, MayAll, after, after_all, handed, moves_of, new_house, owed, put_all}
+use Rattle.tds_relay.specs.House.{House, Step, Makes, Hands, Takes, Writes, Admits, Removes, Manner, CausesStep, IsRight, MayAll, after, after_all, handed, moves_of, new_house, owed}
 use Rattle.tds_relay.specs.Promises.{Each}
 use Rattle.tds_relay.specs.Ties.{Cause}
 use Rattle.tds_relay.specs.Posts.{Post, Posts, acknowledgement, post_at}
@@ -68,8 +68,6 @@ pub record IsFrontOf (all sent : List ℕ) (o : Option Post) : Type 0 where
   pub front : (sent ++ post.bytes) ++ rest ≡ all
   pub whole : post.is_full ≡ false → rest ≡ []
 
--- ---- From where it has come
-
 -- It is there all the while.
 abbrev pub StaysBy : ℕ → Step → Type 0
 StaysBy key (Admits other ends posts) = key ≢ other
@@ -79,6 +77,14 @@ StaysBy key step = Unit {0}
 abbrev pub StaysAll : ℕ → List Step → Type 0
 StaysAll key [] = Unit {0}
 StaysAll key (step ∷ steps) = StaysBy key step × StaysAll key steps
+
+-- So it is of an application, from where this waited.
+abbrev pub IsKept : ℕ → House → List Step → Type 0
+IsKept key h steps =
+    (p : Post) → StaysAll key steps → post_at h.posts key ≡ Some p
+    → IsFrontOf (p.bytes ++ joined (pieces_of (given_all key h steps))) (sent_all key h steps) (post_at (after_all h steps).posts key)
+
+-- ---- From where it has come
 
 -- An application comes, behind these steps, and these are the steps since.
 pub record Visit (max key : ℕ) : Type 0 where
@@ -145,10 +151,12 @@ AreSaid (Closes ∷ later) all = AreSaid later all
 
 -- ---- In a call
 
--- Steps that this causes led from one house to the other, and what waits for each application grew by what they give it, in order.
+-- Steps that this causes led from one house to the other; and what waited for each application, and behind it what they give it, is what
+-- it was sent and what waits.
 pub record Gives (by : Cause) (old new : House) : Type 0 where
   pub steps : List Step
   pub are : after_all old steps ≡ new
   pub may : MayAll old steps
   pub caused : Each (CausesStep by) steps
-  pub each : (key : ℕ) → StaysAll key steps → post_at new.posts key ≡ option_map (put_all (pieces_of (given_all key old steps))) (post_at old.posts key)
+  pub each : (key : ℕ) → IsKept key old steps
+

@@ -179,3 +179,9 @@ pub record Steps (by : Cause) (old new : House) : Type 0 where
   pub are : after_all old steps ≡ new
   pub may : MayAll old steps
   pub caused : Each (CausesStep by) steps
+
+-- ---- A house that a relay is at
+
+-- Steps lead to it from a new one.
+abbrev pub IsLedTo : ℕ → House → Type 0
+IsLedTo max h = (steps : List Step) × (after_all (new_house max) steps ≡ h) × MayAll (new_house max) steps

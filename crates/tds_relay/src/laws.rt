@@ -11,14 +11,18 @@ ghost use Rattle.tds_front.specs.Exchanges.{place_after};
 ghost use Rattle.tds_front.specs.Serving.{IsLawful, Ready};
 ghost use Rattle.tds_front.specs.Passing.{EndsWhole, behind, towards};
 ghost use Rattle.tds_front.specs.declared.stage.Stage.TheVariants as stages;
-ghost use Rattle.tds_relay.specs.Behind.{AllAnswerOnce, IsLedTo, Stay, passed_in};
+ghost use Rattle.tds_relay.specs.Behind.{AllAnswerOnce, Stay, passed_in};
 ghost use Rattle.tds_relay.specs.Bounds.{waiting_in};
 ghost use Rattle.tds_relay.specs.declared.application.Application.{Application};
 ghost use Rattle.tds_relay.specs.declared.link.Link.{Link};
 ghost use Rattle.tds_relay.specs.declared.outgoing.Outgoing.{Outgoing};
 ghost use Rattle.tds_relay.specs.Fronting.{AnswersOnce, done_on, happened};
 ghost use Rattle.tds_relay.specs.Fronts.{house_in};
-ghost use Rattle.tds_relay.specs.Posts.{Post, post_at};
+ghost use Rattle.tds_relay.specs.Giving as visits;
+ghost use Rattle.tds_relay.specs.Giving.{AreSaid, Gives, IsFrontOf, IsKept, Visit, given_in};
+ghost use Rattle.tds_relay.specs.Giving.{happens_in, pieces_of, sent_in, waits_in};
+ghost use Rattle.tds_relay.specs.House.{House, IsLedTo, MayAll, Step, Steps};
+ghost use Rattle.tds_packet.specs.Reading.{joined};
 ghost use Rattle.tds_relay.specs.Reads.{Comes, reader_at, seen_at};
 ghost use Rattle.tds_relay.specs.Ties as causes;
 ghost use Rattle.tds_relay.specs.Ties.{Cause, Causes, Connection, Goes, IsReached, Owns};
@@ -119,16 +123,49 @@ pub fn any_bytes()
     ensures { (by : Cause) (old new : Desk) → Goes by old new → IsReached old → IsReached new }
 {}
 
+/// What a call does is steps that it causes, one after the other: how the ends of the applications move with the
+/// desk, and what each application is given by that. So what waits for an application grows by what these give
+/// it, in order, each whole, until one doesn't fit: a packet that comes on the connection that it is lent, as it
+/// came, without the news of a reset, or behind it, where its end hears it; or the acknowledgement of its own
+/// attention, where its end owes it that. Nothing else is given, and a packet that its end hears isn't withheld.
+pub fn own_bytes(
+    relay: &mut Relay,
+    key: usize,
+    said: &[u8],
+    number: u64,
+    came: &[u8],
+) -> Result<(), NoMemory>
+    ensures { OnOk result ((mid : House) × Gives (causes.Application key) (house_in relay.old) mid
+        × Gives (Connection number) mid (house_in relay.new)) }
+{
+    relay.said(key, said)?;
+    relay.came(number, came)
+}
+
 /// What a connection's reader had of a packet, and behind it the bytes that come in a call, are the packets
-/// that the call's deals hand on or withhold, whole and in order, and less than a packet, which the reader has
-/// then. Or the connection is lost in that call: then they are a front of those bytes, and there is no
+/// that come by the call's steps, whole and in order, handed on or withheld, and less than a packet, which the
+/// reader has then. Or the connection is lost in that call: then they are a front of those bytes, and there is no
 /// connection of its number that is open. For a reader that had less than a packet: each call leaves it so.
 pub fn packets_that_came(relay: &mut Relay, number: u64, came: &[u8]) -> Result<(), NoMemory>
     ensures { OnOk result (Comes number (reader_at number relay.old.links.items)
-        (floor_in relay.old) came.now (seen_at number relay.new.links.items) (floor_in relay.new)) }
+        (house_in relay.old) came.now (seen_at number relay.new.links.items) (house_in relay.new)) }
 {
     relay.came(number, came)
 }
+
+/// Over any calls, and all that is sent in between: what an application is sent, and then what waits for it, are
+/// what waited and then what steps give it, in order, each whole; all of it, unless one didn't fit: then a front.
+pub fn own_bytes_over_calls()
+    ensures { (key : ℕ) (h : House) (steps : List Step) → MayAll h steps → IsKept key h steps }
+{}
+
+/// Each call of a relay leaves its house, which is its desk, the ends of its applications and what waits for each,
+/// where steps lead that may be: its own contract says so. So where steps led to the house, they do again, and
+/// what is said here of steps, and of the moves that they are, holds behind any calls.
+pub fn any_calls()
+    ensures { (by : Cause) (max : ℕ) (old new : House) → Steps by old new → IsLedTo max old
+        → IsLedTo max new }
+{}
 
 /// Behind each application's end is a lawful server's end, from where the application enters and while it
 /// stays, over whichever connections it is lent: where the server of each connection ends each answer once at

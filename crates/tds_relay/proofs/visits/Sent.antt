@@ -4,9 +4,11 @@ use Rattle.std.specs.Prelude.{Option, Some, None, take, option_map, if◌then◌
 use Rattle.std.proofs.lemmas.List.{append-nil}
 use Rattle.tds_packet.specs.Reading.{joined}
 use Rattle.tds_relay.specs.Desk.{whose}
-use Rattle.tds_relay.specs.Giving.{Given, IsFrontOf, StaysAll, StaysBy, Visit, bytes_at, given, given_all, given_in, house_in, if_its, pieces_of, sent, sent_all, sent_in, waits_in}
+use Rattle.tds_relay.specs.Giving as giving
+use Rattle.tds_relay.specs.Giving.{Given, Gives, IsFrontOf, StaysAll, StaysBy, Visit, bytes_at, given, given_all, given_in, house_in, if_its, pieces_of, sent, sent_all, sent_in, waits_in}
 use Rattle.tds_relay.specs.Hall.{end_at}
-use Rattle.tds_relay.specs.House.{House, Step, Makes, Hands, Takes, Writes, Admits, Removes, MayAll, MayStep, after, after_all, change_whose, handed, owed, put_all, put_some}
+use Rattle.tds_relay.specs.House.{House, Step, Makes, Hands, Takes, Writes, Admits, Removes, MayAll, MayStep, Steps, after, after_all, change_whose, handed, owed, put_all, put_some}
+use Rattle.tds_relay.specs.Ties.{Cause}
 use Rattle.tds_relay.specs.Posts.{Post, Posts, change, nothing, post_at, without_first}
 use Rattle.tds_relay.proofs.Slots.{changed_at, cleared_at}
 use Rattle.tds_relay.proofs.visits.Replies.{gives, its, not_its}
@@ -87,6 +89,13 @@ kept_along key h (step ∷ steps) p may stays is =
     (goes_more g.is_open.post.is_full (pieces_of (given key h step)) (pieces_of (given_all key h2 steps)) (sent key h step) (sent_all key h2 steps) p (post_at h2.posts key) last g refl
     (kept_along key h2 steps g.is_open.post may.1 stays.1 g.is_open.there)
     (closed_along key h2 steps g.is_open.post may.1 stays.1 g.is_open.there))
+
+pub kept : (key : ℕ) (h : House) (steps : List Step) → MayAll h steps → giving.IsKept key h steps
+kept key h steps may p stays is = kept_along key h steps p may stays is
+
+-- as a call says it
+pub gives_by : (by : Cause) (old new : House) → Steps by old new → Gives by old new
+gives_by by old new s = record { steps = s.steps; are = s.are; may = s.may; caused = s.caused; each = λ key. kept key old s.steps s.may }
 
 -- ---- Since it came
 
