@@ -9,7 +9,7 @@ use Rattle.tds_front.specs.Passing.{Event as Passed, EndsWhole, SaysOf, behind, 
 use Rattle.tds_front.specs.Serving.{Place, Ready, IsLawful}
 use Rattle.tds_service.specs.Service.{Seat, seat_numbered}
 use Rattle.tds_relay.specs.Desk.{Desk, Event, desk_after, new_desk}
-use Rattle.tds_relay.specs.Behind.{AllAnswerOnce, IsLedTo, Stay, Stays, events_along, passed, passed_in, passes}
+use Rattle.tds_relay.specs.Behind.{AllAnswerOnce, Stay, Stays, events_along, passed, passed_in, passes}
 use Rattle.tds_relay.specs.Fronting.{AnswersOnce, done_on}
 use Rattle.tds_relay.specs.Hall as hall
 use Rattle.tds_relay.specs.Hall.{End, Open, Over, Ends, Enters, Hall, MayMove, MayMoveAll, Move, Moves, end_at, events_of, moved, moved_all, new_hall}
@@ -191,20 +191,3 @@ pub lawful_stay : (max key : ℕ) → Alone → ByHistory
     → ((front : Front) (bytes : List ℕ) → ((fed front bytes).front.stage ≡ stage_fed front.stage (judged front.due bytes) (fed front bytes).brings) × SaysOf front.stage (judged front.due bytes) (fed front bytes).brings)
     → (s : Stay max key) → AllAnswerOnce s → IsLawful Ready (behind stages.Quiet (passed_in s)) × EndsWhole stages.Quiet (passed_in s)
 lawful_stay max key alone by judges s once = lawful_entered key max alone by judges s.ends s.before s.since s.may s.stays once
-
--- ---- Moves, one behind the other
-
-moved_more : (h : Hall) (xs ys : List Move) → moved_all h (xs ++ ys) ≡ moved_all (moved_all h xs) ys
-moved_more h [] ys = refl
-moved_more h (x ∷ xs) ys = moved_more (moved h x) xs ys
-
-may_more : (h : Hall) (xs ys : List Move) → MayMoveAll h xs → MayMoveAll (moved_all h xs) ys → MayMoveAll h (xs ++ ys)
-may_more h [] ys m n = n
-may_more h (x ∷ xs) ys m n = (m.0, may_more (moved h x) xs ys m.1 n)
-
-pub led_on : (max : ℕ) (by : Cause) (old new : Hall) → Moves by old new → IsLedTo max old → IsLedTo max new
-led_on max by old new m (moves, are, may) = (
-  moves ++ m.moves,
-  moved_more (new_hall max) moves m.moves ∙ ap (λ (h : Hall). moved_all h m.moves) are ∙ m.are,
-  may_more (new_hall max) moves m.moves may (subst (λ (h : Hall). MayMoveAll h m.moves) (sym are) m.may),
-)

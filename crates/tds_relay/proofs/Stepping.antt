@@ -6,8 +6,8 @@ use Rattle.tds_relay.specs.Desk as desk
 use Rattle.tds_relay.specs.Desk.{Desk, turn}
 use Rattle.tds_relay.specs.Fronts.{LetsGoFirst, Moved, MovedOn, hall_of_ends, house_with}
 use Rattle.tds_relay.specs.Hall.{CausesMove, End, Ends, Hall, HasEntered, IsQuiet, MayMoveAll, Move, Moves, change_end, lets_go, moved_all}
-use Rattle.tds_relay.specs.House.{House, Step, Admits, CausesStep, IsLedTo, Makes, MayAll, MayStep, Removes, Steps, after, after_all, new_house}
-use Rattle.tds_relay.specs.Posts.{Enters, Post, Posts, change, post_at}
+use Rattle.tds_relay.specs.House.{House, Step, Admits, CausesStep, IsLedTo, Makes, MayAll, MayStep, Removes, Steps, Writes, after, after_all, new_house}
+use Rattle.tds_relay.specs.Posts.{Enters, Posts, change, without_first}
 use Rattle.tds_relay.specs.Promises.{Each}
 use Rattle.tds_relay.specs.Ties as causes
 use Rattle.tds_relay.specs.Ties.{Cause}
@@ -108,6 +108,13 @@ steps_quits key from d es es1 ps ps1 new quit gone l s =
     steps_moved (causes.Application key) from (hall_of_ends left (change_end key lets_go es1)) new ps1 ps1 (l.2 (causes.Application key)) refl
     (steps_same (causes.Application key) from left left (slice_set es key None) (change_end key lets_go es1) (slice_set ps key None) ps1 refl
     (ap (change_end key lets_go) quit ∙ gone_stays es key lets_go) gone one)
+
+-- so many bytes wait for one no more
+pub steps_writes : (key count : ℕ) (h : House) (d1 : Desk) (es1 : Ends) (ps1 : Posts) → d1 ≡ h.hall.desk → es1 ≡ h.hall.ends → ps1 ≡ change key (without_first count) h.posts
+    → Steps causes.Neither h (house_with d1 es1 ps1)
+steps_writes key count h d1 es1 ps1 same ends sent =
+    steps_same causes.Neither h h.hall.desk d1 h.hall.ends es1 (change key (without_first count) h.posts) ps1 same ends sent
+    (steps_one causes.Neither h h (Writes key count) tt refl (no_steps causes.Neither h))
 
 -- ---- From a new one
 

@@ -179,7 +179,6 @@ impl Relay {
 
     /// So many bytes of that were sent. Answers the tag of the connection that it holds, which may be read
     /// again.
-    #[tactic(auto, using(crate::proofs::Posting::posts_changed, crate::proofs::Posting::posts_nobody))]
     pub fn sent(&mut self, key: usize, count: usize) -> Option<usize>
         ensures desk { self.new.desk ≡ self.old.desk }
         ensures sent { posts_in self.new.applications
@@ -187,10 +186,23 @@ impl Relay {
         ensures ends { ends_in self.new.applications ≡ ends_in self.old.applications }
         ensures steps { Steps Neither (house_in self.old) (house_in self.new) }
     {
-        let application = self.applications.get_mut(key)?;
-        application.out.sent(count);
+        self.forget_sent(key, count);
         let hold = self.desk.hold_of(key)?;
         self.link(hold.number)?.tag
+    }
+
+    /// So many bytes wait for an application no more.
+    #[tactic(auto, using(crate::proofs::Posting::posts_changed, crate::proofs::Posting::posts_nobody))]
+    fn forget_sent(&mut self, key: usize, count: usize)
+        ensures desk { self.new.desk ≡ self.old.desk }
+        ensures sent { posts_in self.new.applications
+            ≡ change key (without_first count) (posts_in self.old.applications) }
+        ensures ends { ends_in self.new.applications ≡ ends_in self.old.applications }
+    {
+        match self.applications.get_mut(key) {
+            Some(application) => application.out.sent(count),
+            None => {}
+        }
     }
 
     /// So many bytes of that were sent. Answers the tag of the application that holds it, which may be read
