@@ -13,16 +13,13 @@ use Rattle.tds_relay.specs.House.{House, Step, Makes, Hands, Takes, Writes, Admi
 use Rattle.tds_relay.specs.Giving as visits
 use Rattle.tds_relay.specs.Giving.{StaysAll, StaysBy, Visit, happens_in, house_in, moves_in}
 use Rattle.tds_relay.proofs.Folding.{may_both, moved_both}
+use Rattle.tds_relay.proofs.Stepping.{after_both}
 
 -- ---- One behind the other
 
 moves_both : (xs ys : List Step) → moves_in (xs ++ ys) ≡ moves_in xs ++ moves_in ys
 moves_both [] ys = refl
 moves_both (x ∷ xs) ys = ap (λ (moves : List Move). moves_of x ++ moves) (moves_both xs ys) ∙ sym (append_assoc (moves_of x) (moves_in xs) (moves_in ys))
-
-after_both : (h : House) (xs ys : List Step) → after_all h (xs ++ ys) ≡ after_all (after_all h xs) ys
-after_both h [] ys = refl
-after_both h (x ∷ xs) ys = after_both (after h x) xs ys
 
 stays_both : (key : ℕ) (xs ys : List Move) → Stays key xs → Stays key ys → Stays key (xs ++ ys)
 stays_both key [] ys s t = t
