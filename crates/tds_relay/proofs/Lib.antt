@@ -45,5 +45,6 @@ pub mod Streaming
 pub mod Taking
 pub mod Telling
 pub mod Tidy
+pub mod Told
 pub mod Tying
 pub mod visits

@@ -16,9 +16,10 @@ use Rattle.tds_relay.specs.declared.desk.coming.What.{What}
 use Rattle.tds_relay.specs.declared.relay.Relay as code
 use Rattle.tds_relay.specs.Desk as desk
 use Rattle.tds_relay.specs.Desk.{Desk, Way}
-use Rattle.tds_relay.specs.Hall.{End, Open, Over, Ends, Hall, IsBegun, IsWhole, LetsGo, Moves, change_whose, end_at, move_stage, moved, told, what_in}
-use Rattle.tds_relay.specs.House.{House, Steps}
+use Rattle.tds_relay.specs.Hall.{End, Open, Over, Ends, Hall, Feeds, IsBegun, IsWhole, LetsGo, Moves, change_whose, end_at, move_stage, moved, told, what_in}
+use Rattle.tds_relay.specs.House.{House}
 use Rattle.tds_relay.specs.Posts.{Posts, acknowledgement, give, posts_in}
+use Rattle.tds_relay.specs.Taking.{IsDeaf}
 use Rattle.tds_relay.specs.Ties.{Application as ByApplication, Cause, Turns, desk_in}
 
 abbrev pub end_of : Application → End
@@ -90,10 +91,9 @@ withdraws (Open front withdrawn) = Open front true
 withdraws Over = Over
 
 -- Bytes of an application were taken, of which this was said: its end was before them, and is as they lead.
-pub record IsFed (key : ℕ) (before now : Ends) (answer : Said) : Type 0 where
+pub record IsFed (key : ℕ) (before now : Ends) (bytes : List ℕ) (answer : Said) : Type 0 where
   pub front : Front
   pub withdrawn : Bool
-  pub bytes : List ℕ
   pub count : ℕ
   pub was : end_at before key ≡ Some (Open front withdrawn)
   pub says : (fed front bytes).brings ≡ Ok (record { count = count; said = answer })
@@ -118,8 +118,21 @@ abbrev pub given_by : ℕ → Said → Posts → Posts
 given_by key said.Acknowledge posts = give key acknowledgement posts
 given_by key answer posts = posts
 
--- Wherever steps led to where it was before it was fed, they lead on.
+-- They are taken between quiet moves.
+pub record TakesBetween (key : ℕ) (old : Hall) (bytes : List ℕ) (new : Hall) : Type 0 where
+  pub mid : Hall
+  pub first : Moves (ByApplication key) old mid
+  pub same : mid.ends ≡ old.ends
+  pub next : Moves (ByApplication key) (moved mid (Feeds key bytes)) new
+
+-- Or the application is to be closed, and nothing is given to it.
+pub record ClosesInstead (key : ℕ) (answer : Said) (old new : Hall) : Type 0 where
+  pub moves : Moves (ByApplication key) old new
+  pub deaf : IsDeaf (end_at new.ends key)
+  pub nothing : (posts : Posts) → given_by key answer posts ≡ posts
+
+-- So it is from where it was before it was fed.
 abbrev pub FedOn : ℕ → Said → Desk → Ends → Hall → Type 0
 FedOn key answer d now new =
-    (before : Ends) (from : House) (posts : Posts) → IsFed key before now answer
-    → Steps (ByApplication key) from (house_with d before posts) → Steps (ByApplication key) from (record { hall = new; posts = given_by key answer posts })
+    (before : Ends) (bytes : List ℕ) → IsFed key before now bytes answer
+    → TakesBetween key (hall_of_ends d before) bytes new ⊎ ClosesInstead key answer (hall_of_ends d before) new

@@ -13,4 +13,5 @@ pub mod Places
 pub mod Posts
 pub mod Promises
 pub mod Reads
+pub mod Taking
 pub mod Ties

@@ -1,6 +1,6 @@
 //! What a desk promises, over any list of events, and a relay behind any calls. Each function does nothing
 //! when it runs: its contract is the law.
-ghost use Rattle.std.specs.Prelude.{◌≡◌, ◌+◌, ◌<◌, ◌≤◌, ◌++◌, ℕ, List, None, OnOk, Some, false, vec_len};
+ghost use Rattle.std.specs.Prelude.{◌≡◌, [], ◌+◌, ◌<◌, ◌≤◌, ◌++◌, ℕ, List, None, OnOk, Some, false, vec_len};
 ghost use Rattle.tds_wire.specs.declared.told.Token.{Token};
 ghost use Rattle.tds_service.specs.Line.{Idle};
 ghost use Rattle.tds_service.specs.Service.{Lease, Seat, seat_numbered, step};
@@ -24,6 +24,7 @@ ghost use Rattle.tds_relay.specs.Giving.{happens_in, pieces_of, sent_in, waits_i
 ghost use Rattle.tds_relay.specs.House.{House, IsLedTo, MayAll, Step, Steps};
 ghost use Rattle.tds_packet.specs.Reading.{joined};
 ghost use Rattle.tds_relay.specs.Reads.{Comes, reader_at, seen_at};
+ghost use Rattle.tds_relay.specs.Taking.{Tells};
 ghost use Rattle.tds_relay.specs.Ties as causes;
 ghost use Rattle.tds_relay.specs.Ties.{Cause, Causes, Connection, Goes, IsReached, Owns};
 
@@ -140,6 +141,14 @@ pub fn own_bytes(
 {
     relay.said(key, said)?;
     relay.came(number, came)
+}
+
+/// The bytes of an application that come in a call are taken by the call's steps, each piece what the one
+/// before has left, all of them; or the application is to be closed behind the call, or isn't there.
+pub fn bytes_that_came(relay: &mut Relay, key: usize, said: &[u8]) -> Result<(), NoMemory>
+    ensures { OnOk result (Tells key (house_in relay.old) said.now [] (house_in relay.new)) }
+{
+    relay.said(key, said)
 }
 
 /// What a connection's reader had of a packet, and behind it the bytes that come in a call, are the packets

@@ -4,9 +4,8 @@ use Rattle.tds_relay.specs.Fronts.{given_by}
 use Rattle.tds_relay.specs.Hall.{hands_on, takes_back}
 use Rattle.tds_relay.specs.Posts.{acknowledgement, give, posts_in, Posts}
 use Rattle.tds_relay.specs.Ties.{Application}
-use Rattle.tds_relay.proofs.Fed.{steps_fed}
+use Rattle.tds_relay.proofs.Told.{fed_then}
 use Rattle.tds_relay.proofs.Reaching.{ok_more}
-use Rattle.tds_relay.proofs.Stepping.{steps_moved}
 use Rattle.tds_relay.proofs.relay.Relay.obey.Goals as goal
 
 pub returns-in-Begin-clause-given : goal.returns-in-Begin-clause-given
@@ -41,41 +40,36 @@ returns-in_ok-forget-in-Acknowledge-clause-given c =
     c.acknowledge.ensures.given
 
 pub returns-in-Nothing-clause-moves : goal.returns-in-Nothing-clause-moves
-returns-in-Nothing-clause-moves c = λ before from posts f s. steps_fed c.args.key from _ before _ posts c.args.said (ap takes_back c.in-Nothing.is) (ap hands_on c.in-Nothing.is) f s
+returns-in-Nothing-clause-moves c = λ before bytes f. fed_then c.args.key _ before _ bytes c.args.said _ (ap takes_back c.in-Nothing.is) (ap hands_on c.in-Nothing.is) f (λ from h. h)
 
 pub returns-in-Begin-clause-moves : goal.returns-in-Begin-clause-moves
 returns-in-Begin-clause-moves c =
     ok_more c.begin.result _ _
-    (λ m before from posts f s. steps_moved (Application c.args.key) from _ _ _ _ m refl
-    (steps_fed c.args.key from _ before _ posts c.args.said (ap takes_back c.in-Begin.is) (ap hands_on c.in-Begin.is) f s))
+    (λ m before bytes f. fed_then c.args.key _ before _ bytes c.args.said _ (ap takes_back c.in-Begin.is) (ap hands_on c.in-Begin.is) f m)
     c.begin.ensures.moves
 
 pub returns-in-Body-clause-moves : goal.returns-in-Body-clause-moves
 returns-in-Body-clause-moves c =
     ok_more c.go_on.result _ _
-    (λ m before from posts f s. steps_moved (Application c.args.key) from _ _ _ _ m refl
-    (steps_fed c.args.key from _ before _ posts c.args.said (ap takes_back c.in-Body.is) (ap hands_on c.in-Body.is) f s))
+    (λ m before bytes f. fed_then c.args.key _ before _ bytes c.args.said _ (ap takes_back c.in-Body.is) (ap hands_on c.in-Body.is) f m)
     c.go_on.ensures.moves
 
 pub returns-in-End-clause-moves : goal.returns-in-End-clause-moves
 returns-in-End-clause-moves c =
     ok_more c.go_on-in-End.result _ _
-    (λ m before from posts f s. steps_moved (Application c.args.key) from _ _ _ _ m refl
-    (steps_fed c.args.key from _ before _ posts c.args.said (ap takes_back c.in-End.is) (ap hands_on c.in-End.is) f s))
+    (λ m before bytes f. fed_then c.args.key _ before _ bytes c.args.said _ (ap takes_back c.in-End.is) (ap hands_on c.in-End.is) f m)
     c.go_on-in-End.ensures.moves
 
 pub returns-in-Forget-false-clause-moves : goal.returns-in-Forget-false-clause-moves
 returns-in-Forget-false-clause-moves c =
     let none : c.in-Forget-false.gone ≡ false = search rules in
     ok_more c.forget.result _ _
-    (λ m before from posts f s. steps_moved (Application c.args.key) from _ _ _ _ m refl
-    (steps_fed c.args.key from _ before _ posts c.args.said (ap takes_back c.in-Forget-false.is ∙ none) (ap hands_on c.in-Forget-false.is) f s))
+    (λ m before bytes f. fed_then c.args.key _ before _ bytes c.args.said _ (ap takes_back c.in-Forget-false.is ∙ none) (ap hands_on c.in-Forget-false.is) f m)
     c.forget.ensures.moves
 
 pub returns-in_ok-forget-in-Acknowledge-clause-moves : goal.returns-in_ok-forget-in-Acknowledge-clause-moves
 returns-in_ok-forget-in-Acknowledge-clause-moves c =
     ok_more c.acknowledge.result _ _
-    (λ m before from posts f s. steps_moved (Application c.args.key) from _ _ _ _ (m (Application c.args.key)) refl
-    (steps_moved (Application c.args.key) from _ _ _ _ c.in_ok-forget-in-Acknowledge.ensures.moves refl
-    (steps_fed c.args.key from _ before _ posts c.args.said (ap takes_back c.in-Acknowledge.is) (ap hands_on c.in-Acknowledge.is) f s)))
+    (λ m before bytes f. fed_then c.args.key _ before _ bytes c.args.said _ (ap takes_back c.in-Acknowledge.is) (ap hands_on c.in-Acknowledge.is) f
+    (λ from h. m (Application c.args.key) from (c.in_ok-forget-in-Acknowledge.ensures.moves from h)))
     c.acknowledge.ensures.moves
