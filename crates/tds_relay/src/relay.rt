@@ -136,7 +136,8 @@ impl Relay {
     /// for who holds it.
     pub fn room_on(&self, number: u64) -> usize
         ensures most { result ≤ PIECE }
-        ensures fits { (key : ℕ) → key_of (find_number number (desk_in self.now.desk).holds) ≡ Some key
+        ensures fits { (key : ℕ)
+            → key_of (find_number number (desk_in self.now.desk).holds) ≡ Some key
             → result ≤ PIECE - waiting_for (get self.now.applications key) }
     {
         let Some(link) = self.link(number) else {

@@ -351,8 +351,8 @@ fn hand_on(
     application: &mut Application,
 ) -> Result<(), NoMemory>
     requires { packet.header.length ≡ 8 + length packet.«data».now }
-    ensures passes { OnOk result (Passes news.old answer.old packet.entry.header packet.entry.«data».now
-        (post_of application.old) (post_of application.new)) }
+    ensures passes { OnOk result (Passes news.old answer.old packet.entry.header
+        packet.entry.«data».now (post_of application.old) (post_of application.new)) }
     ensures end { OnOk result (end_of application.new ≡ end_of application.old) }
     ensures fits { IsRoom news.old application.old.out packet.entry.header.length
         → application.new.out.is_full ≡ false }

@@ -82,7 +82,8 @@ impl Relay {
     /// An application waits no more, and what it holds is nobody's any more.
     #[tactic(auto, using(crate::proofs::Reaching::reaches_turn, crate::proofs::Reaching::reaches_turned))]
     pub(super) fn release(&mut self, key: usize) -> Result<(), NoMemory>
-        ensures leaving { OnOk result (Leaving key (desk_in self.old.desk) (desk_in self.new.desk)) }
+        ensures leaving { OnOk result (Leaving key (desk_in self.old.desk)
+            (desk_in self.new.desk)) }
         ensures kept { OnOk result (posts_in self.new.applications
             ≡ posts_in self.old.applications) }
         ensures lets_go { OnOk result (LetsGoFirst key (hall_in self.old) (hall_in self.new)) }
