@@ -129,6 +129,20 @@ pub leaves_at : (max : ℕ) (events : List Event) (h : Hall) (move : Move) → I
 leaves_at max events h move is n =
     ap (out_after false) (done_at max events h n (events_of h move) is) ∙ out_both false (done_on max n events) (done_from n h.desk (events_of h move))
 
+-- ---- Moves, one behind the other
+
+pub moved_both : (h : Hall) (xs ys : List Move) → moved_all h (xs ++ ys) ≡ moved_all (moved_all h xs) ys
+moved_both h [] ys = refl
+moved_both h (x ∷ xs) ys = moved_both (moved h x) xs ys
+
+pub may_both : (h : Hall) (xs ys : List Move) → MayMoveAll h xs → MayMoveAll (moved_all h xs) ys → MayMoveAll h (xs ++ ys)
+may_both h [] ys m n = n
+may_both h (x ∷ xs) ys m n = (m.0, may_both (moved h x) xs ys m.1 n)
+
+pub may_each : (h : Hall) (xs ys : List Move) → MayMoveAll h (xs ++ ys) → MayMoveAll h xs × MayMoveAll (moved_all h xs) ys
+may_each h [] ys may = (tt, may)
+may_each h (x ∷ xs) ys may = let more = may_each (moved h x) xs ys may.1 in ((may.0, more.0), more.1)
+
 -- ---- What is told of an application, behind moves
 
 next_place : (outs : ℕ → Bool) (d : Desk) (key : ℕ) (p : Place) (es : List Passed) (stage : Stage) (end : End) → Told outs d key stage p es end → (q : Place) × StoryOf outs d key q (Some end)
@@ -206,7 +220,7 @@ quits_not key k false o e not = refl
 entered_same : (key k : ℕ) (h : Hall) (ends : Ends) → hall.HasEntered k h.ends ends → key ≢ k → end_at ends key ≡ end_at h.ends key
 entered_same key k h ends entered not = entered.others_stay key not
 
-stays_over : (key : ℕ) (h : Hall) (move : Move) → MayMove h move → StaysIn key move → end_at h.ends key ≡ Some Over → end_by key h move (end_at h.ends key) ≡ Some Over
+pub stays_over : (key : ℕ) (h : Hall) (move : Move) → MayMove h move → StaysIn key move → end_at h.ends key ≡ Some Over → end_by key h move (end_at h.ends key) ≡ Some Over
 stays_over key h (hall.Does event) may stays e = e
 stays_over key h (hall.Sends k deed) may stays e =
     ap (λ (o : Option End). if k == key then option_map (goes_on (sent_by h.desk (desk.Does k deed))) o else o) e ∙ if_over (k == key) (goes_on (sent_by h.desk (desk.Does k deed))) (goes_over (sent_by h.desk (desk.Does k deed)))

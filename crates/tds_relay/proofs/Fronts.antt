@@ -10,15 +10,14 @@ use Rattle.tds_front.specs.Bytes.{new_front}
 use Rattle.tds_wire.specs.declared.told.Token.{Token}
 use Rattle.tds_service.specs.History.{Done}
 use Rattle.tds_service.specs.Line.{Answer}
-use Rattle.tds_service.specs.Parts.{Part}
 use Rattle.tds_service.specs.Table.{answers_in}
 use Rattle.tds_relay.specs.declared.application.Application.{Application}
 use Rattle.tds_relay.specs.declared.desk.coming.Heard.{Heard}
 use Rattle.tds_relay.specs.declared.desk.coming.What.{What}
 use Rattle.tds_relay.specs.Desk as desk
-use Rattle.tds_relay.specs.Desk.{Desk, Event, Way, desk_after, turn, whose}
-use Rattle.tds_relay.specs.Fronts.{Came, HasCome, IsWhat, LetsGoFirst, Moved, MovedOn, end_of, ends_in, hall_of_ends, told_by}
-use Rattle.tds_relay.specs.Hall.{CausesMove, Closes, Comes, Does, End, Ends, Hall, HasEntered, IfOpen, IfWhose, IsHere, LetsGo, Loses, MayDoAlone, MayMove, MayMoveAll, Move, Moves, Open, Quits, Replaces, change_end, change_whose, closes, done_by, end_at, holder, lets_go, moved, moved_all, told, what_in, what_of}
+use Rattle.tds_relay.specs.Desk.{Desk, Event, Way, desk_after, turn}
+use Rattle.tds_relay.specs.Fronts.{IsWhat, LetsGoFirst, Moved, MovedOn, end_of, ends_in, hall_of_ends, told_by}
+use Rattle.tds_relay.specs.Hall.{CausesMove, Closes, Does, End, Ends, Hall, HasEntered, IfOpen, IfWhose, IsHere, IsQuiet, LetsGo, Loses, MayDoAlone, MayMove, MayMoveAll, Move, Moves, Open, Replaces, change_end, change_whose, closes, end_at, holder, lets_go, moved, moved_all, told, what_in, what_of}
 use Rattle.tds_relay.specs.Promises.{Each}
 use Rattle.tds_relay.specs.Ties as causes
 use Rattle.tds_relay.specs.Ties.{Cause, Causes, Turns}
@@ -120,7 +119,7 @@ may_both : (h : Hall) (xs ys : List Move) → MayMoveAll h xs → MayMoveAll (mo
 may_both h [] ys m n = n
 may_both h (x ∷ xs) ys m n = (m.0, may_both (moved h x) xs ys m.1 n)
 
-each_both : {X : Type 0} (P : X → Type 0) (xs ys : List X) → Each P xs → Each P ys → Each P (xs ++ ys)
+pub each_both : {X : Type 0} (P : X → Type 0) (xs ys : List X) → Each P xs → Each P ys → Each P (xs ++ ys)
 each_both P [] ys h k = k
 each_both P (x ∷ xs) ys h k = (h.0, each_both P xs ys h.1 k)
 
@@ -130,13 +129,15 @@ moves_both by a b c m n = record {
   are = moved_both a m.moves n.moves ∙ ap (λ (h : Hall). moved_all h n.moves) m.are ∙ n.are;
   may = may_both a m.moves n.moves m.may (subst (λ (h : Hall). MayMoveAll h n.moves) (sym m.are) n.may);
   caused = each_both (CausesMove by) m.moves n.moves m.caused n.caused;
+  quiet = each_both IsQuiet m.moves n.moves m.quiet n.quiet;
 }
 
 pub no_moves : (by : Cause) (h : Hall) → Moves by h h
-no_moves by h = record { moves = []; are = refl; may = tt; caused = tt }
+no_moves by h = record { moves = []; are = refl; may = tt; caused = tt; quiet = tt }
 
-pub moves_one : (by : Cause) (from old : Hall) (move : Move) → MayMove old move → CausesMove by move → Moves by from old → Moves by from (moved old move)
-moves_one by from old move may caused m = moves_both by from old (moved old move) m (record { moves = move ∷ []; are = refl; may = (may, tt); caused = (caused, tt) })
+pub moves_one : (by : Cause) (from old : Hall) (move : Move) → MayMove old move → CausesMove by move → IsQuiet move → Moves by from old → Moves by from (moved old move)
+moves_one by from old move may caused quiet m =
+    moves_both by from old (moved old move) m (record { moves = move ∷ []; are = refl; may = (may, tt); caused = (caused, tt); quiet = (quiet, tt) })
 
 pub same_hall : (d d1 : Desk) (es es1 : Ends) → d1 ≡ d → es1 ≡ es → hall_of_ends d es ≡ hall_of_ends d1 es1
 same_hall d d1 es es1 same ends = ap (λ (x : Desk). hall_of_ends x es) (sym same) ∙ ap (λ (x : Ends). hall_of_ends d1 x) (sym ends)
@@ -159,18 +160,18 @@ moves_ok (Err e) by old new m = tt
 pub moves_does : (by : Cause) (from : Hall) (d d1 : Desk) (es es1 : Ends) (event : Event) (before after : List ℕ)
     → Turns event d d1 before after → MayDoAlone (hall_of_ends d es) event → Causes by event → es1 ≡ es → Moves by from (hall_of_ends d es) → Moves by from (hall_of_ends d1 es1)
 moves_does by from d d1 es es1 event before after t may cause ends m =
-    subst (Moves by from) (same_hall (turn d event).desk d1 es es1 t.desk_is ends) (moves_one by from (hall_of_ends d es) (Does event) may cause m)
+    subst (Moves by from) (same_hall (turn d event).desk d1 es es1 t.desk_is ends) (moves_one by from (hall_of_ends d es) (Does event) may cause tt m)
 
 pub moves_closes : (by : Cause) (from : Hall) (d d1 : Desk) (es es1 : Ends) (key : ℕ) → d1 ≡ d → es1 ≡ change_end key closes es → Moves by from (hall_of_ends d es) → Moves by from (hall_of_ends d1 es1)
 moves_closes by from d d1 es es1 key same ends m =
-    subst (Moves by from) (same_hall d d1 (change_end key closes es) es1 same ends) (moves_one by from (hall_of_ends d es) (Closes key) tt tt m)
+    subst (Moves by from) (same_hall d d1 (change_end key closes es) es1 same ends) (moves_one by from (hall_of_ends d es) (Closes key) tt tt tt m)
 
 pub moves_loses : (by : Cause) (from : Hall) (d d1 : Desk) (es es1 : Ends) (number : ℕ) (key : Option ℕ) (before after : List ℕ)
     → Turns (desk.Loses number) d d1 before after → key ≡ holder d number → es1 ≡ change_whose key closes es → Moves by from (hall_of_ends d es) → Moves by from (hall_of_ends d1 es1)
 moves_loses by from d d1 es es1 number key before after t its ends m =
     subst (Moves by from)
     (same_hall (turn d (desk.Loses number)).desk d1 (change_whose (holder d number) closes es) es1 t.desk_is (ends ∙ ap (λ (o : Option ℕ). change_whose o closes es) its))
-    (moves_one by from (hall_of_ends d es) (Loses number) tt tt m)
+    (moves_one by from (hall_of_ends d es) (Loses number) tt tt tt m)
 
 pub lets_go_first : (key : ℕ) (d d1 : Desk) (es es1 : Ends) (new : Hall) (gives : Bool) (way : Way) (before after : List ℕ)
     → Turns (desk.Leaves key gives way) d d1 before after → es1 ≡ change_end key lets_go es → MovedOn (hall_of_ends d1 es1) new → LetsGoFirst key (hall_of_ends d es) new
@@ -183,7 +184,7 @@ lets_go_first key d d1 es es1 new gives way before after t ends on = (
 pub moves_lets_go : (key : ℕ) (from : Hall) (d : Desk) (es : Ends) (new : Hall) → IfOpen IsHere (end_at es key) → LetsGoFirst key (hall_of_ends d es) new
     → Moves (causes.Application key) from (hall_of_ends d es) → Moves (causes.Application key) from new
 moves_lets_go key from d es new here l m =
-    l.2 (causes.Application key) from (moves_one (causes.Application key) from (hall_of_ends d es) (LetsGo key l.0 l.1) here refl m)
+    l.2 (causes.Application key) from (moves_one (causes.Application key) from (hall_of_ends d es) (LetsGo key l.0 l.1) here refl tt m)
 
 pub moves_replaces : (number key : ℕ) (from : Hall) (d d1 : Desk) (es es1 : Ends) (before after : List ℕ)
     → Turns (desk.Loses number) d d1 before after → Some key ≡ holder d number → IfOpen IsHere (end_at es key) → es1 ≡ change_end key lets_go es
@@ -191,22 +192,12 @@ pub moves_replaces : (number key : ℕ) (from : Hall) (d d1 : Desk) (es es1 : En
 moves_replaces number key from d d1 es es1 before after t its here ends m =
     subst (Moves (causes.Connection number) from)
     (same_hall (turn d (desk.Loses number)).desk d1 (change_whose (holder d number) lets_go es) es1 t.desk_is (ends ∙ ap (λ (o : Option ℕ). change_whose o lets_go es) its))
-    (moves_one (causes.Connection number) from (hall_of_ends d es) (Replaces number) (subst (IfWhose (λ (k : ℕ). IfOpen IsHere (end_at es k))) its here) refl m)
+    (moves_one (causes.Connection number) from (hall_of_ends d es) (Replaces number) (subst (IfWhose (λ (k : ℕ). IfOpen IsHere (end_at es k))) its here) refl tt m)
 
-gone_stays : (es : Ends) (key : ℕ) (by : End → End) → change_end key by (slice_set es key None) ≡ slice_set es key None
+pub gone_stays : (es : Ends) (key : ℕ) (by : End → End) → change_end key by (slice_set es key None) ≡ slice_set es key None
 gone_stays [] key by = refl
 gone_stays (e ∷ es) zero by = refl
 gone_stays (e ∷ es) (suc key) by = ap (λ (xs : Ends). e ∷ xs) (gone_stays es key by)
-
--- an application is there no more, and what it held is let go
-pub moves_quits : (key : ℕ) (from : Hall) (d : Desk) (es es1 : Ends) (new : Hall) → es1 ≡ slice_set es key None → LetsGoFirst key (hall_of_ends d es1) new
-    → Moves (causes.Application key) from (hall_of_ends d es) → Moves (causes.Application key) from new
-moves_quits key from d es es1 new quit l m =
-    let left : Desk = (turn d (desk.Leaves key l.0 l.1)).desk in
-    l.2 (causes.Application key) from
-    (moves_same (causes.Application key) from left left (slice_set es key None) (change_end key lets_go es1) refl
-    (ap (change_end key lets_go) quit ∙ gone_stays es key lets_go)
-    (moves_one (causes.Application key) from (hall_of_ends d es) (Quits key l.0 l.1) tt refl m))
 
 -- ---- As the desk answers it
 
@@ -222,11 +213,6 @@ is_what (Some key) what said dones same is = same key refl ∙ is
 pub nobodys_what : (who : Option ℕ) (what : What) (dones : List (Done Token)) → who ≡ None → IsWhat who what dones
 nobodys_what None what dones nobody = tt
 nobodys_what (Some key) what dones nobody = absurd (let u : ⊥ = cc in u)
-
-pub has_come : (number : ℕ) (d d1 : Desk) (heard : Heard) (part : Part Token) (way : Way) (before after : List ℕ) → Turns (desk.Comes number part way) d d1 before after
-    → heard.key ≡ whose d number → IsWhat heard.key heard.what (done_by d number part) → HasCome number d d1 heard
-has_come number d d1 heard part way before after turned whose_is what_is =
-    record { part = part; way = way; desk_is = turned.desk_is; whose_is = whose_is; what_is = what_is }
 
 -- ---- What is heard
 
@@ -244,19 +230,6 @@ told_some o heard es is = ap (λ (x : Option Heard). told_by x es) (sym is)
 pub told_none : (o : Option Heard) (es : Ends) → o ≡ None → es ≡ told_by o es
 told_none o es is = ap (λ (x : Option Heard). told_by x es) (sym is)
 
-told_whose : (who : Option ℕ) (what : What) (dones : List (Done Token)) (es : Ends) → IsWhat who what dones → change_whose who (told (what_in dones)) es ≡ change_whose who (told what) es
+pub told_whose : (who : Option ℕ) (what : What) (dones : List (Done Token)) (es : Ends) → IsWhat who what dones → change_whose who (told (what_in dones)) es ≡ change_whose who (told what) es
 told_whose None what dones es is = refl
 told_whose (Some key) what dones es is = ap (λ (w : What). change_end key (told w) es) (sym is)
-
--- a packet has come, or none, and it is told
-pub moves_heard : (number : ℕ) (from : Hall) (d d1 : Desk) (heard : Option Heard) (es : Ends) → Came number d d1 heard
-    → Moves (causes.Connection number) from (hall_of_ends d es) → Moves (causes.Connection number) from (hall_of_ends d1 (told_by heard es))
-moves_heard number from d d1 None es came m = moves_same (causes.Connection number) from d d1 es es came refl m
-moves_heard number from d d1 (Some heard) es (inl (same, nobody)) m =
-    moves_same (causes.Connection number) from d d1 es (told_by (Some heard) es) same (ap (λ (o : Option ℕ). change_whose o (told heard.what) es) nobody) m
-moves_heard number from d d1 (Some heard) es (inr come) m =
-    let answers : List (Done Token) = done_by d number come.part in
-    subst (Moves (causes.Connection number) from)
-    (same_hall (turn d (desk.Comes number come.part come.way)).desk d1 (change_whose (whose d number) (told (what_in answers)) es) (told_by (Some heard) es) come.desk_is
-    (sym (ap (λ (o : Option ℕ). change_whose o (told (what_in answers)) es) (sym come.whose_is) ∙ told_whose heard.key heard.what answers es come.what_is)))
-    (moves_one (causes.Connection number) from (hall_of_ends d es) (Comes number come.part come.way) tt refl m)

@@ -106,7 +106,7 @@ moves_sends : (by : Cause) (from : Hall) (d d1 : Desk) (es : Ends) (key : ℕ) (
 moves_sends by from d d1 es key deed before after t put may m =
     subst (Moves by from)
     (same_hall (turn d (desk.Does key deed)).desk d1 (change_end key (goes_on (sent_by d (desk.Does key deed))) es) _ t.desk_is refl)
-    (moves_one by from (hall_of_ends d es) (Sends key deed) (put, may) tt m)
+    (moves_one by from (hall_of_ends d es) (Sends key deed) (put, may) tt tt m)
 
 -- from nothing that waited
 gone_once : (packets : List Packet) (after : List ℕ) (es : Ends) (key : ℕ) → Appends packets [] after → change_end key (goes_on packets) es ≡ change_end key (goes_by after) es

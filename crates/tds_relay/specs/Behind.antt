@@ -120,9 +120,3 @@ done_in {max} {key} s = events_along (new_hall max) (s.before ++ Enters key s.en
 
 abbrev pub AllAnswerOnce : {max key : ℕ} → Stay max key → Type 0
 AllAnswerOnce {max} s = (number : ℕ) → AnswersOnce false (done_on max number (done_in s))
-
--- ---- A hall that a relay is at
-
--- Moves lead to it from a new one.
-abbrev pub IsLedTo : ℕ → Hall → Type 0
-IsLedTo max h = (moves : List Move) × (moved_all (new_hall max) moves ≡ h) × MayMoveAll (new_hall max) moves

@@ -3,20 +3,23 @@ use Rattle.std.specs.Prelude.{◌≡◌, ◌⊎◌, ℕ, Bool, true, false, List
 use Rattle.slab.specs.Slab.{Slab}
 use Rattle.tds_front.specs.declared.front.Front.{Front}
 use Rattle.tds_front.specs.declared.front.Said.{Said}
+use Rattle.tds_front.specs.declared.front.Said.TheVariants as said
 use Rattle.tds_front.specs.declared.stage.Stage.{Stage}
 use Rattle.tds_front.specs.Bytes.{fed}
 use Rattle.tds_front.specs.Rules as rules
 use Rattle.tds_wire.specs.declared.told.Token.{Token}
 use Rattle.tds_service.specs.History.{Done}
-use Rattle.tds_service.specs.Parts.{Part}
 use Rattle.tds_relay.specs.declared.application.Application.{Application}
 use Rattle.tds_relay.specs.declared.desk.Desk as desks
 use Rattle.tds_relay.specs.declared.desk.coming.Heard.{Heard}
 use Rattle.tds_relay.specs.declared.desk.coming.What.{What}
 use Rattle.tds_relay.specs.declared.relay.Relay as code
 use Rattle.tds_relay.specs.Desk as desk
-use Rattle.tds_relay.specs.Desk.{Desk, Way, turn, whose}
-use Rattle.tds_relay.specs.Hall.{End, Open, Over, Ends, Hall, IsBegun, IsWhole, LetsGo, Moves, change_whose, done_by, end_at, move_stage, moved, told, what_in}
+use Rattle.tds_relay.specs.Desk.{Desk, Way}
+use Rattle.tds_relay.specs.Hall.{End, Open, Over, Ends, Hall, Feeds, IsBegun, IsWhole, LetsGo, Moves, change_whose, end_at, move_stage, moved, told, what_in}
+use Rattle.tds_relay.specs.House.{House}
+use Rattle.tds_relay.specs.Posts.{Posts, acknowledgement, give, posts_in}
+use Rattle.tds_relay.specs.Taking.{IsDeaf}
 use Rattle.tds_relay.specs.Ties.{Application as ByApplication, Cause, Turns, desk_in}
 
 abbrev pub end_of : Application → End
@@ -34,25 +37,22 @@ hall_of d slab = hall_of_ends (desk_in d) (ends_in slab)
 abbrev pub hall_in : code.Relay → Hall
 hall_in r = hall_of r.desk r.applications
 
+-- with what waits for each application
+abbrev pub house_with : Desk → Ends → Posts → House
+house_with d ends posts = record { hall = hall_of_ends d ends; posts = posts }
+
+abbrev pub house_of : desks.Desk → Slab Application → House
+house_of d slab = house_with (desk_in d) (ends_in slab) (posts_in slab)
+
+abbrev pub house_in : code.Relay → House
+house_in r = house_of r.desk r.applications
+
 -- ---- A packet that comes
 
 -- what came of a packet is what the service answers, where it is an application's
 abbrev pub IsWhat : Option ℕ → What → List (Done Token) → Type 0
 IsWhat None what dones = Unit {0}
 IsWhat (Some key) what dones = what ≡ what_in dones
-
--- A packet has come, of which this was heard.
-pub record HasCome (number : ℕ) (old new : Desk) (heard : Heard) : Type 0 where
-  pub part : Part Token
-  pub way : Way
-  pub desk_is : new ≡ (turn old (desk.Comes number part way)).desk
-  pub whose_is : heard.key ≡ whose old number
-  pub what_is : IsWhat heard.key heard.what (done_by old number part)
-
--- Nothing has, or a packet.
-abbrev pub Came : ℕ → Desk → Desk → Option Heard → Type 0
-Came number old new None = new ≡ old
-Came number old new (Some heard) = ((new ≡ old) × (heard.key ≡ None)) ⊎ HasCome number old new heard
 
 -- what is heard is told to the application's end
 abbrev pub told_by : Option Heard → Ends → Ends
@@ -91,10 +91,9 @@ withdraws (Open front withdrawn) = Open front true
 withdraws Over = Over
 
 -- Bytes of an application were taken, of which this was said: its end was before them, and is as they lead.
-pub record IsFed (key : ℕ) (before now : Ends) (answer : Said) : Type 0 where
+pub record IsFed (key : ℕ) (before now : Ends) (bytes : List ℕ) (answer : Said) : Type 0 where
   pub front : Front
   pub withdrawn : Bool
-  pub bytes : List ℕ
   pub count : ℕ
   pub was : end_at before key ≡ Some (Open front withdrawn)
   pub says : (fed front bytes).brings ≡ Ok (record { count = count; said = answer })
@@ -114,6 +113,26 @@ MovedOn old new = (by : Cause) → Moved by old new
 abbrev pub LetsGoFirst : ℕ → Hall → Hall → Type 0
 LetsGoFirst key old new = (gives : Bool) × (way : Way) × MovedOn (moved old (LetsGo key gives way)) new
 
--- Wherever moves led to where it was before it was fed, they lead on.
+-- what an application is given by what is said of its bytes
+abbrev pub given_by : ℕ → Said → Posts → Posts
+given_by key said.Acknowledge posts = give key acknowledgement posts
+given_by key answer posts = posts
+
+-- They are taken between quiet moves.
+pub record TakesBetween (key : ℕ) (old : Hall) (bytes : List ℕ) (new : Hall) : Type 0 where
+  pub mid : Hall
+  pub first : Moves (ByApplication key) old mid
+  pub same : mid.ends ≡ old.ends
+  pub next : Moves (ByApplication key) (moved mid (Feeds key bytes)) new
+
+-- Or the application is to be closed, and nothing is given to it.
+pub record ClosesInstead (key : ℕ) (answer : Said) (old new : Hall) : Type 0 where
+  pub moves : Moves (ByApplication key) old new
+  pub deaf : IsDeaf (end_at new.ends key)
+  pub nothing : (posts : Posts) → given_by key answer posts ≡ posts
+
+-- So it is from where it was before it was fed.
 abbrev pub FedOn : ℕ → Said → Desk → Ends → Hall → Type 0
-FedOn key answer d now new = (before : Ends) → IsFed key before now answer → Moved (ByApplication key) (hall_of_ends d before) new
+FedOn key answer d now new =
+    (before : Ends) (bytes : List ℕ) → IsFed key before now bytes answer
+    → TakesBetween key (hall_of_ends d before) bytes new ⊎ ClosesInstead key answer (hall_of_ends d before) new

@@ -318,9 +318,23 @@ CausesMove by (Closes key) = Unit {0}
 CausesMove by (Enters key ends) = by ≡ causes.Neither
 CausesMove by (Quits key gives way) = by ≡ causes.Application key
 
--- Moves that this causes led from one hall to the other.
+-- By it nothing is given to an application, and none comes or is there no more.
+abbrev pub IsQuiet : Move → Type 0
+IsQuiet (Does event) = Unit {0}
+IsQuiet (Sends key deed) = Unit {0}
+IsQuiet (LetsGo key gives way) = Unit {0}
+IsQuiet (Loses number) = Unit {0}
+IsQuiet (Replaces number) = Unit {0}
+IsQuiet (Comes number part way) = ⊥
+IsQuiet (Feeds key bytes) = ⊥
+IsQuiet (Closes key) = Unit {0}
+IsQuiet (Enters key ends) = ⊥
+IsQuiet (Quits key gives way) = ⊥
+
+-- Quiet moves that this causes led from one hall to the other.
 pub record Moves (by : Cause) (old new : Hall) : Type 0 where
   pub moves : List Move
   pub are : moved_all old moves ≡ new
   pub may : MayMoveAll old moves
   pub caused : Each (CausesMove by) moves
+  pub quiet : Each IsQuiet moves

@@ -6,8 +6,10 @@ use Rattle.tds_packet.specs.Reading.{Reading, joined, with_taken}
 use Rattle.tds_packet.specs.Stream.{IsLess, IsOnePacket}
 use Rattle.tds_relay.specs.declared.desk.coming.Heard.{Heard}
 use Rattle.tds_relay.specs.declared.link.Link.{Link}
-use Rattle.tds_relay.specs.Dealing.{Floor, Deal, Does, Hands, Acknowledges, Quits, DealsOn, Due, dealt_all}
-use Rattle.tds_relay.specs.Ties.{Connection}
+use Rattle.tds_relay.specs.Hall.{Moves}
+use Rattle.tds_relay.specs.House.{House, Step, Hands, CausesStep, MayAll, after_all}
+use Rattle.tds_relay.specs.Promises.{Each}
+use Rattle.tds_relay.specs.Ties.{Cause, Connection}
 
 -- ---- Connections by their numbers
 
@@ -62,13 +64,11 @@ Opens old new = (number : ℕ) → OpensAt (seen_at number old) (seen_at number 
 
 -- ---- Packets that are handed on
 
--- those that deals hand on, as they came, also those that are withheld
-abbrev pub packets_of : List Deal → List (List ℕ)
+-- those that come by steps, as they came, also those that are withheld
+abbrev pub packets_of : List Step → List (List ℕ)
 packets_of [] = []
-packets_of (Does event ∷ deals) = packets_of deals
-packets_of (Hands number header content part way manner ∷ deals) = (header_bytes header ++ content) ∷ packets_of deals
-packets_of (Acknowledges key ∷ deals) = packets_of deals
-packets_of (Quits key ∷ deals) = packets_of deals
+packets_of (Hands number header content part way manner ∷ steps) = (header_bytes header ++ content) ∷ packets_of steps
+packets_of (step ∷ steps) = packets_of steps
 
 -- What stands behind them is less than one, and the reader has it; or the connection is lost.
 abbrev pub Holds : Reading → List ℕ → Option Reading → Type 0
@@ -89,17 +89,18 @@ ReadsBy (Some r) bytes packets now = IsLess r r.taken → Reads r bytes packets 
 
 -- ---- In a call
 
--- These bytes were heard, up to these: deals hand on the packets among them, in order.
-pub record Streams (number : ℕ) (had : Option Reading) (old : Floor) (bytes left : List ℕ) (now : Option Reading) (new : Floor) : Type 0 where
-  pub deals : List Deal
+-- These bytes were heard, up to these: the packets among them come, in order, by steps that this connection causes.
+pub record Streams (number : ℕ) (had : Option Reading) (old : House) (bytes left : List ℕ) (now : Option Reading) (new : House) : Type 0 where
+  pub steps : List Step
   pub heard : List ℕ
-  pub due : Due (Connection number) old deals
-  pub are : dealt_all old deals ≡ new
+  pub are : after_all old steps ≡ new
+  pub may : MayAll old steps
+  pub caused : Each (CausesStep (Connection number)) steps
   pub bytes_are : bytes ≡ heard ++ left
-  pub reads : ReadsBy had heard (packets_of deals) now
+  pub reads : ReadsBy had heard (packets_of steps) now
 
 -- All of them, or the connection is lost.
-pub record StreamsAll (number : ℕ) (had : Option Reading) (old : Floor) (bytes : List ℕ) (now : Option Reading) (new : Floor) : Type 0 where
+pub record StreamsAll (number : ℕ) (had : Option Reading) (old : House) (bytes : List ℕ) (now : Option Reading) (new : House) : Type 0 where
   pub left : List ℕ
   pub streams : Streams number had old bytes left now new
   pub all : (left ≡ []) ⊎ (now ≡ None)
@@ -110,19 +111,21 @@ if_heard None now = None
 if_heard (Some heard) now = now
 
 -- Whatever was heard before, these bytes are heard behind it.
-abbrev pub Continues : ℕ → List ℕ → List ℕ → Option Reading → Option Reading → Floor → Floor → Type 0
+abbrev pub Continues : ℕ → List ℕ → List ℕ → Option Reading → Option Reading → House → House → Type 0
 Continues number left rest now next f g =
-    (had : Option Reading) (old : Floor) (bytes : List ℕ) → Streams number had old bytes left now f → Streams number had old bytes rest next g
+    (had : Option Reading) (old : House) (bytes : List ℕ) → Streams number had old bytes left now f → Streams number had old bytes rest next g
 
 -- A connection that is open has just this of a packet.
 abbrev pub HasLeft : Option Reading → Option Seen → Type 0
 HasLeft left None = Unit {0}
 HasLeft left (Some new) = (new.1 ≡ false) ⊎ (left ≡ Some new.0)
 
--- Bytes that come are heard, and then those who wait are served: the connection has what was left of them, or is lost.
-pub record Comes (number : ℕ) (had : Option Reading) (old : Floor) (bytes : List ℕ) (now : Option Seen) (new : Floor) : Type 0 where
-  pub mid : Floor
+-- Bytes that come are heard, and then those who wait are served, by which nothing comes: the connection has what was left of them, or is
+-- lost.
+pub record Comes (number : ℕ) (had : Option Reading) (old : House) (bytes : List ℕ) (now : Option Seen) (new : House) : Type 0 where
+  pub mid : House
   pub left : Option Reading
   pub streams : StreamsAll number had old bytes left mid
-  pub goes_on : DealsOn mid new
+  pub goes_on : (by : Cause) → Moves by mid.hall new.hall
+  pub kept : new.posts ≡ mid.posts
   pub has : HasLeft left now

@@ -51,7 +51,9 @@ impl Application {
     ghost use Rattle.tds_relay.specs.Fronts.{end_of, puts, withdraws};
     ghost use Rattle.tds_front.specs.Bytes.{new_front};
     ghost use Rattle.tds_relay.specs.Hall.{IfOpen, IsHere, Open, acknowledged, closes, lets_go, move_stage};
+    ghost use Rattle.tds_relay.specs.House.{is_said};
     ghost use Rattle.tds_relay.specs.Posts.{nothing, post_of};
+    ghost use Rattle.tds_relay.specs.declared.desk.coming.What.TheVariants.{Goes};
 
     pub(crate) fn new(alloc: Global, tag: usize, size: PacketSize) -> Application
         ensures size { result.out.size ≡ size }
@@ -198,6 +200,13 @@ impl Application {
             Stage::Stopping => false,
             Stage::Broken(_) => false,
         }
+    }
+
+    /// Whether it hears what its connection answers: it isn't to be closed, and hasn't taken its request back.
+    pub(crate) fn hears(&self) -> bool
+        ensures { result ≡ is_said Goes (Some (end_of self.now)) }
+    {
+        !self.is_over && !self.is_withdrawn
     }
 
     /// Nothing is kept of its request any more.

@@ -1,6 +1,6 @@
 //! What a desk promises, over any list of events, and a relay behind any calls. Each function does nothing
 //! when it runs: its contract is the law.
-ghost use Rattle.std.specs.Prelude.{◌≡◌, ◌+◌, ◌<◌, ◌≤◌, ◌++◌, ℕ, List, None, OnOk, Some, false, vec_len};
+ghost use Rattle.std.specs.Prelude.{◌≡◌, [], ◌+◌, ◌<◌, ◌≤◌, ◌++◌, ℕ, List, None, OnOk, Some, false, vec_len};
 ghost use Rattle.tds_wire.specs.declared.told.Token.{Token};
 ghost use Rattle.tds_service.specs.Line.{Idle};
 ghost use Rattle.tds_service.specs.Service.{Lease, Seat, seat_numbered, step};
@@ -11,19 +11,20 @@ ghost use Rattle.tds_front.specs.Exchanges.{place_after};
 ghost use Rattle.tds_front.specs.Serving.{IsLawful, Ready};
 ghost use Rattle.tds_front.specs.Passing.{EndsWhole, behind, towards};
 ghost use Rattle.tds_front.specs.declared.stage.Stage.TheVariants as stages;
-ghost use Rattle.tds_relay.specs.Behind.{AllAnswerOnce, IsLedTo, Stay, passed_in};
+ghost use Rattle.tds_relay.specs.Behind.{AllAnswerOnce, Stay, passed_in};
 ghost use Rattle.tds_relay.specs.Bounds.{waiting_in};
 ghost use Rattle.tds_relay.specs.declared.application.Application.{Application};
 ghost use Rattle.tds_relay.specs.declared.link.Link.{Link};
 ghost use Rattle.tds_relay.specs.declared.outgoing.Outgoing.{Outgoing};
-ghost use Rattle.tds_relay.specs.Dealing.{Floor, floor_in};
 ghost use Rattle.tds_relay.specs.Fronting.{AnswersOnce, done_on, happened};
-ghost use Rattle.tds_relay.specs.Owning.{Gives};
-ghost use Rattle.tds_relay.specs.Fronts.{hall_in};
-ghost use Rattle.tds_relay.specs.Hall.{Hall, Moves};
-ghost use Rattle.tds_relay.specs.Lasting.{Follow, IsKept, Next, StaysAlong};
-ghost use Rattle.tds_relay.specs.Posts.{Post, post_at};
+ghost use Rattle.tds_relay.specs.Fronts.{house_in};
+ghost use Rattle.tds_relay.specs.Giving as visits;
+ghost use Rattle.tds_relay.specs.Giving.{AreSaid, Gives, IsFrontOf, IsKept, Visit, given_in};
+ghost use Rattle.tds_relay.specs.Giving.{happens_in, pieces_of, sent_in, waits_in};
+ghost use Rattle.tds_relay.specs.House.{House, IsLedTo, MayAll, Step, Steps};
+ghost use Rattle.tds_packet.specs.Reading.{joined};
 ghost use Rattle.tds_relay.specs.Reads.{Comes, reader_at, seen_at};
+ghost use Rattle.tds_relay.specs.Taking.{Tells};
 ghost use Rattle.tds_relay.specs.Ties as causes;
 ghost use Rattle.tds_relay.specs.Ties.{Cause, Causes, Connection, Goes, IsReached, Owns};
 
@@ -123,9 +124,11 @@ pub fn any_bytes()
     ensures { (by : Cause) (old new : Desk) → Goes by old new → IsReached old → IsReached new }
 {}
 
-/// What waits for each application grows, in a call, by what deals give it that this call causes, in order,
-/// until one doesn't fit, and by nothing else. A deal gives a packet that comes on the connection that it is
-/// lent, as it came, without the news of a reset, or behind it; or the acknowledgement of its own attention.
+/// What a call does is steps that it causes, one after the other: how the ends of the applications move with the
+/// desk, and what each application is given by that. So what waits for an application grows by what these give
+/// it, in order, each whole, until one doesn't fit: a packet that comes on the connection that it is lent, as it
+/// came, without the news of a reset, or behind it, where its end hears it; or the acknowledgement of its own
+/// attention, where its end owes it that. Nothing else is given, and a packet that its end hears isn't withheld.
 pub fn own_bytes(
     relay: &mut Relay,
     key: usize,
@@ -133,48 +136,44 @@ pub fn own_bytes(
     number: u64,
     came: &[u8],
 ) -> Result<(), NoMemory>
-    ensures { OnOk result ((mid : Floor) × Gives (causes.Application key) (floor_in relay.old) mid
-        × Gives (Connection number) mid (floor_in relay.new)) }
+    ensures { OnOk result ((mid : House) × Gives (causes.Application key) (house_in relay.old) mid
+        × Gives (Connection number) mid (house_in relay.new)) }
 {
     relay.said(key, said)?;
     relay.came(number, came)
+}
+
+/// The bytes of an application that come in a call are taken by the call's steps, each piece what the one
+/// before has left, all of them; or the application is to be closed behind the call, or isn't there.
+pub fn bytes_that_came(relay: &mut Relay, key: usize, said: &[u8]) -> Result<(), NoMemory>
+    ensures { OnOk result (Tells key (house_in relay.old) said.now [] (house_in relay.new)) }
+{
+    relay.said(key, said)
 }
 
 /// What a connection's reader had of a packet, and behind it the bytes that come in a call, are the packets
-/// that the call's deals hand on or withhold, whole and in order, and less than a packet, which the reader has
-/// then. Or the connection is lost in that call: then they are a front of those bytes, and there is no
+/// that come by the call's steps, whole and in order, handed on or withheld, and less than a packet, which the
+/// reader has then. Or the connection is lost in that call: then they are a front of those bytes, and there is no
 /// connection of its number that is open. For a reader that had less than a packet: each call leaves it so.
 pub fn packets_that_came(relay: &mut Relay, number: u64, came: &[u8]) -> Result<(), NoMemory>
     ensures { OnOk result (Comes number (reader_at number relay.old.links.items)
-        (floor_in relay.old) came.now (seen_at number relay.new.links.items) (floor_in relay.new)) }
+        (house_in relay.old) came.now (seen_at number relay.new.links.items) (house_in relay.new)) }
 {
     relay.came(number, came)
 }
 
-/// The applications' ends move with the desk, in a call, by moves that the call causes: by bytes of an
-/// application, in a call with these; by packets of its request that go out; by what its connection's service
-/// answers to a packet that comes there, in a call with that; by a connection that is let go, replaced or
-/// lost; and where the relay closes an application. By nothing else, and each is done only where it may be.
-pub fn ends_move(
-    relay: &mut Relay,
-    key: usize,
-    said: &[u8],
-    number: u64,
-    came: &[u8],
-) -> Result<(), NoMemory>
-    ensures { OnOk result ((mid : Hall) × Moves (causes.Application key) (hall_in relay.old) mid
-        × Moves (Connection number) mid (hall_in relay.new)) }
-{
-    relay.said(key, said)?;
-    relay.came(number, came)
-}
-
-/// Over any calls, and all that is sent in between: what an application is sent, and then what waits for
-/// it, are the pieces that deals give it (`own_bytes`), in order, each whole; all of them, unless one
-/// didn't fit: then a front of them.
+/// Over any calls, and all that is sent in between: what an application is sent, and then what waits for it, are
+/// what waited and then what steps give it, in order, each whole; all of it, unless one didn't fit: then a front.
 pub fn own_bytes_over_calls()
-    ensures { (key : ℕ) (f : Floor) (nexts : List Next) (p : Post) → Follow f nexts
-        → StaysAlong key nexts → post_at f.posts key ≡ Some p → IsKept key p f nexts }
+    ensures { (key : ℕ) (h : House) (steps : List Step) → MayAll h steps → IsKept key h steps }
+{}
+
+/// Each call of a relay leaves its house, which is its desk, the ends of its applications and what waits for each,
+/// where steps lead that may be: its own contract says so. So where steps led to the house, they do again, and
+/// what is said here of steps, and of the moves that they are, holds behind any calls.
+pub fn any_calls()
+    ensures { (by : Cause) (max : ℕ) (old new : House) → Steps by old new → IsLedTo max old
+        → IsLedTo max new }
 {}
 
 /// Behind each application's end is a lawful server's end, from where the application enters and while it
@@ -202,10 +201,24 @@ pub fn lawful_applications()
     lawful_front();
 }
 
-/// Each call of a relay leaves its hall, which is its desk and the ends of its applications, where moves lead
-/// that may be: its own contract says so. So where moves led to the hall, they do again, and what is said here
-/// of moves holds behind any calls.
-pub fn any_calls()
-    ensures { (by : Cause) (max : ℕ) (old new : Hall) → Moves by old new → IsLedTo max old
-        → IsLedTo max new }
-{}
+/// What an application is given, from where it enters and while it stays, whoever shares with it: one by one what a
+/// lawful server's end says to it, over whichever connections it is lent.
+pub fn given_by_server()
+    /// What passes between it and its end is a lawful server's: where the server of each connection ends
+    /// each answer once at most, also behind an attention.
+    ensures lawful { (max key : ℕ) (v : Visit max key) → visits.AllAnswerOnce v
+        → IsLawful Ready (happens_in v) }
+    /// Each time that its end says something it is given that, and nothing else: a packet of the connection that
+    /// it is lent, which ends its message where the end says so, as it came, without the news of a reset, or
+    /// behind it; or the acknowledgement of its own attention.
+    ensures said { (max key : ℕ) (v : Visit max key) → AreSaid (happens_in v) (given_in v) }
+    /// What it is sent, and then what waits for it, are these, in order, each whole; all of them, unless one
+    /// didn't fit: then a front of them.
+    ensures sent { (max key : ℕ) (v : Visit max key)
+        → IsFrontOf (joined (pieces_of (given_in v))) (sent_in v) (waits_in v) }
+{
+    lawful_applications();
+    each_alone::<Token>();
+    line_by_history::<Token>();
+    bytes_are_packets();
+}

@@ -84,7 +84,8 @@ fn put_on(before: Known, byte: u8, behind: Known, kept: &mut Vec<u8>) -> Result<
 impl Known {
     /// Appends what goes on of these bytes of one token, the next ones.
     pub(crate) fn pass(&mut self, bytes: &[u8], kept: &mut Vec<u8>) -> Result<(), NoMemory>
-        ensures goes_on { OnOk result (kept.new.items ≡ kept.old.items ++ goes_on self.old bytes.now) }
+        ensures goes_on { OnOk result (kept.new.items
+            ≡ kept.old.items ++ goes_on self.old bytes.now) }
         ensures known { OnOk result (self.new ≡ known_after self.old bytes.now) }
     {
         for byte in bytes {

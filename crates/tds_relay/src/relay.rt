@@ -3,8 +3,9 @@ ghost use Rattle.std.specs.Prelude.{◌≡◌, ◌+◌, ◌-◌, ◌≤◌, ℕ,
 ghost use Rattle.slab.specs.Slab.{get, slab_len};
 ghost use Rattle.tds_relay.specs.Bounds.{most_for, waiting_for};
 ghost use Rattle.tds_relay.specs.Desk.{find_number, key_of, new_desk};
-ghost use Rattle.tds_relay.specs.Fronts.{Moved, MovedOn, ends_in, hall_in};
-ghost use Rattle.tds_relay.specs.Hall.{IfOpen, IsAway, IsHere, Moves, change_end, end_at, lets_go, new_hall};
+ghost use Rattle.tds_relay.specs.Fronts.{Moved, MovedOn, ends_in, hall_in, house_in};
+ghost use Rattle.tds_relay.specs.Hall.{IfOpen, IsAway, IsHere, change_end, end_at, lets_go};
+ghost use Rattle.tds_relay.specs.House.{Steps, new_house};
 ghost use Rattle.tds_relay.specs.Posts.{Enters, change, posts_in, unsent_of, without_first};
 ghost use Rattle.tds_relay.specs.Reads.{Stays};
 ghost use Rattle.tds_relay.specs.Ties.{Cause, CausesRequest, Goes, GoesOn, Neither, desk_in};
@@ -62,7 +63,7 @@ impl Relay {
         features: Features,
     ) -> Result<Relay, NoMemory>
         ensures desk { IfOk result (λ relay. desk_in relay.desk ≡ new_desk most) }
-        ensures hall { IfOk result (λ relay. hall_in relay ≡ new_hall most) }
+        ensures house { IfOk result (λ relay. house_in relay ≡ new_house most) }
     {
         let desk = Desk::new(alloc, most, size, features)?;
         Ok(Relay {
@@ -85,7 +86,7 @@ impl Relay {
             (λ (a : Application). a.out.size ≡ self.old.size)) }
         ensures posts { IfOk result (λ key. Enters self.old.size key
             (posts_in self.old.applications) (posts_in self.new.applications)) }
-        ensures moves { OnOk result (Moves Neither (hall_in self.old) (hall_in self.new)) }
+        ensures steps { OnOk result (Steps Neither (house_in self.old) (house_in self.new)) }
     {
         let application = Application::new(self.alloc, tag, self.size);
         let Ok(key) = self.applications.insert(application) else {
@@ -135,7 +136,8 @@ impl Relay {
     /// for who holds it.
     pub fn room_on(&self, number: u64) -> usize
         ensures most { result ≤ PIECE }
-        ensures fits { (key : ℕ) → key_of (find_number number (desk_in self.now.desk).holds) ≡ Some key
+        ensures fits { (key : ℕ)
+            → key_of (find_number number (desk_in self.now.desk).holds) ≡ Some key
             → result ≤ PIECE - waiting_for (get self.now.applications key) }
     {
         let Some(link) = self.link(number) else {
@@ -178,17 +180,30 @@ impl Relay {
 
     /// So many bytes of that were sent. Answers the tag of the connection that it holds, which may be read
     /// again.
-    #[tactic(auto, using(crate::proofs::Posting::posts_changed, crate::proofs::Posting::posts_nobody))]
     pub fn sent(&mut self, key: usize, count: usize) -> Option<usize>
         ensures desk { self.new.desk ≡ self.old.desk }
         ensures sent { posts_in self.new.applications
             ≡ change key (without_first count) (posts_in self.old.applications) }
         ensures ends { ends_in self.new.applications ≡ ends_in self.old.applications }
+        ensures steps { Steps Neither (house_in self.old) (house_in self.new) }
     {
-        let application = self.applications.get_mut(key)?;
-        application.out.sent(count);
+        self.forget_sent(key, count);
         let hold = self.desk.hold_of(key)?;
         self.link(hold.number)?.tag
+    }
+
+    /// So many bytes wait for an application no more.
+    #[tactic(auto, using(crate::proofs::Posting::posts_changed, crate::proofs::Posting::posts_nobody))]
+    fn forget_sent(&mut self, key: usize, count: usize)
+        ensures desk { self.new.desk ≡ self.old.desk }
+        ensures sent { posts_in self.new.applications
+            ≡ change key (without_first count) (posts_in self.old.applications) }
+        ensures ends { ends_in self.new.applications ≡ ends_in self.old.applications }
+    {
+        match self.applications.get_mut(key) {
+            Some(application) => application.out.sent(count),
+            None => {}
+        }
     }
 
     /// So many bytes of that were sent. Answers the tag of the application that holds it, which may be read

@@ -1,10 +1,12 @@
 //! What applications say: requests, and cancels.
-ghost use Rattle.std.specs.Prelude.{◌≡◌, OnOk, drop, true};
-ghost use Rattle.tds_relay.specs.Dealing.{Deals, floor_in};
+ghost use Rattle.std.specs.Prelude.{◌≡◌, [], IfOk, OnOk, drop, true};
 ghost use Rattle.tds_relay.specs.Fronts.{FedOn, MayPut, Moved, MovedOn, ends_in, goes_by, hall_in, puts};
-ghost use Rattle.tds_relay.specs.Hall.{IfOpen, Moves, change_end, end_at};
+ghost use Rattle.tds_relay.specs.Fronts.{given_by, house_in};
+ghost use Rattle.tds_relay.specs.Hall.{IfOpen, change_end, end_at};
+ghost use Rattle.tds_relay.specs.House.{Steps};
 ghost use Rattle.tds_relay.specs.Posts.{posts_in};
 ghost use Rattle.tds_relay.specs.Reads.{Stays};
+ghost use Rattle.tds_relay.specs.Taking.{Tells, TellsOn};
 ghost use Rattle.tds_relay.specs.Ties.{Application, Goes, GoesOn, NobodyWaits, desk_in};
 
 use super::Relay;
@@ -20,31 +22,41 @@ impl Relay {
     pub fn said(&mut self, key: usize, piece: &[u8]) -> Result<(), NoMemory>
         ensures goes { OnOk result (Goes (Application key)
             (desk_in self.old.desk) (desk_in self.new.desk)) }
-        ensures deals { OnOk result (Deals (Application key) (floor_in self.old)
-            (floor_in self.new)) }
-        ensures moves { OnOk result (Moves (Application key) (hall_in self.old)
-            (hall_in self.new)) }
+        ensures steps { OnOk result (Steps (Application key) (house_in self.old)
+            (house_in self.new)) }
+        ensures tells { OnOk result (Tells key (house_in self.old) piece.now []
+            (house_in self.new)) }
         ensures served { OnOk result (NobodyWaits (desk_in self.new.desk)) }
     {
+        self.take_all(key, piece)?;
+        self.serve_line()
+    }
+
+    /// Takes them, one packet's header or data behind another. An application of which some aren't taken
+    /// is closed.
+    fn take_all(&mut self, key: usize, piece: &[u8]) -> Result<(), NoMemory>
+        ensures goes { OnOk result (Goes (Application key)
+            (desk_in self.old.desk) (desk_in self.new.desk)) }
+        ensures tells { OnOk result (Tells key (house_in self.old) piece.now []
+            (house_in self.new)) }
+    {
         let mut rest = piece;
-        'taking: for _ in 0..piece.len() {
+        'taking: for _ in 0..=piece.len() {
             if rest.is_empty() {
-                break;
+                return Ok(());
             }
             let count = self.take(key, rest)?;
             rest = behind(rest, count);
         }
-        self.serve_line()
+        self.expel(key)
     }
 
     /// Takes some of them, and answers how many.
     fn take(&mut self, key: usize, piece: &[u8]) -> Result<usize, NoMemory>
         ensures goes { OnOk result (Goes (Application key)
             (desk_in self.old.desk) (desk_in self.new.desk)) }
-        ensures deals { OnOk result (Deals (Application key) (floor_in self.old)
-            (floor_in self.new)) }
-        ensures moves { OnOk result (Moved (Application key) (hall_in self.old)
-            (hall_in self.new)) }
+        ensures tells { IfOk result (λ count. TellsOn key piece.now (drop count piece.now)
+            (house_in self.old) (house_in self.new)) }
     {
         let Some(application) = self.applications.get_mut(key) else {
             return Ok(piece.len());
@@ -65,8 +77,8 @@ impl Relay {
     fn obey(&mut self, key: usize, bytes: &[u8], said: Said) -> Result<(), NoMemory>
         ensures goes { OnOk result (Goes (Application key)
             (desk_in self.old.desk) (desk_in self.new.desk)) }
-        ensures deals { OnOk result (Deals (Application key) (floor_in self.old)
-            (floor_in self.new)) }
+        ensures given { OnOk result (posts_in self.new.applications
+            ≡ given_by key said (posts_in self.old.applications)) }
         ensures moves { OnOk result (FedOn key said (desk_in self.old.desk)
             (ends_in self.old.applications) (hall_in self.new)) }
     {

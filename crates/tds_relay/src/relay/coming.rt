@@ -2,12 +2,12 @@
 ghost use Rattle.std.specs.Prelude.{◌≡◌, ◌+◌, ◌≤◌, Bool, None, Some, drop, false, length, true};
 ghost use Rattle.std.specs.Prelude.{IfOk, IsNone, OnOk};
 ghost use Rattle.tds_service.specs.Table.{reading_on};
-ghost use Rattle.tds_relay.specs.Dealing.{Deals, Passes, floor_in, floor_of};
-ghost use Rattle.tds_relay.specs.Fronts.{Came, Moved, end_of, ends_in, hall_in, hall_of_ends, told_by};
-ghost use Rattle.tds_relay.specs.Hall.{Moves, change_end, change_whose, told};
+ghost use Rattle.tds_relay.specs.Fronts.{Moved, end_of, ends_in, hall_in, hall_of_ends, told_by};
+ghost use Rattle.tds_relay.specs.Fronts.{house_in, house_of, house_with};
+ghost use Rattle.tds_relay.specs.Hall.{change_end, change_whose, told};
 ghost use Rattle.tds_relay.specs.declared.desk.coming.What.TheVariants.{Acknowledged, Finished};
-ghost use Rattle.tds_relay.specs.Desk.{whose};
-ghost use Rattle.tds_relay.specs.Handing.{Brings, HearsBy, is_muted, news_with};
+ghost use Rattle.tds_relay.specs.Handing.{Brings, HearsBy, Passes, news_with};
+ghost use Rattle.tds_relay.specs.House.{Steps};
 ghost use Rattle.tds_relay.specs.Posts.{post_of, posts_in};
 ghost use Rattle.tds_relay.specs.Reads.{Comes, Continues, Stays, StreamsAll, if_heard};
 ghost use Rattle.tds_relay.specs.Reads.{reader_at, seen_at};
@@ -31,14 +31,12 @@ impl Relay {
     pub fn came(&mut self, number: u64, piece: &[u8]) -> Result<(), NoMemory>
         ensures goes { OnOk result (Goes (Connection number)
             (desk_in self.old.desk) (desk_in self.new.desk)) }
-        ensures deals { OnOk result (Deals (Connection number) (floor_in self.old)
-            (floor_in self.new)) }
-        ensures moves { OnOk result (Moves (Connection number) (hall_in self.old)
-            (hall_in self.new)) }
+        ensures steps { OnOk result (Steps (Connection number) (house_in self.old)
+            (house_in self.new)) }
         ensures served { OnOk result (NobodyWaits (desk_in self.new.desk)) }
         ensures comes { OnOk result (Comes number (reader_at number self.old.links.items)
-            (floor_in self.old) piece.now (seen_at number self.new.links.items)
-            (floor_in self.new)) }
+            (house_in self.old) piece.now (seen_at number self.new.links.items)
+            (house_in self.new)) }
     {
         self.hear_all(number, piece)?;
         self.serve_line()
@@ -48,13 +46,9 @@ impl Relay {
     fn hear_all(&mut self, number: u64, piece: &[u8]) -> Result<(), NoMemory>
         ensures goes { OnOk result (Goes (Connection number)
             (desk_in self.old.desk) (desk_in self.new.desk)) }
-        ensures deals { OnOk result (Deals (Connection number) (floor_in self.old)
-            (floor_in self.new)) }
-        ensures moves { OnOk result (Moves (Connection number) (hall_in self.old)
-            (hall_in self.new)) }
         ensures streams { OnOk result (StreamsAll number (reader_at number self.old.links.items)
-            (floor_in self.old) piece.now (reader_at number self.new.links.items)
-            (floor_in self.new)) }
+            (house_in self.old) piece.now (reader_at number self.new.links.items)
+            (house_in self.new)) }
     {
         let mut rest = piece;
         'taking: for _ in 0..=piece.len() {
@@ -73,16 +67,13 @@ impl Relay {
     fn hear(&mut self, number: u64, piece: &[u8]) -> Result<(usize, Option<Heard>), NoMemory>
         ensures goes { OnOk result (Goes (Connection number)
             (desk_in self.old.desk) (desk_in self.new.desk)) }
-        ensures deals { OnOk result (Deals (Connection number) (floor_in self.old)
-            (floor_in self.new)) }
-        ensures came { IfOk result (λ out. Came number (desk_in self.old.desk)
-            (desk_in self.new.desk) out.1) }
         ensures ends { OnOk result (ends_in self.new.applications
             ≡ ends_in self.old.applications) }
         ensures continues { IfOk result (λ heard. Continues number piece.now
             (drop heard.0 piece.now) (reader_at number self.old.links.items)
-            (if_heard heard.1 (reader_at number self.new.links.items)) (floor_in self.old)
-            (floor_in self.new)) }
+            (if_heard heard.1 (reader_at number self.new.links.items)) (house_in self.old)
+            (house_with (desk_in self.new.desk) (told_by heard.1 (ends_in self.old.applications))
+            (posts_in self.new.applications))) }
     {
         let Relay {
             desk,
@@ -284,13 +275,11 @@ fn hear_on(
 ) -> Result<(usize, Option<Heard>), NoMemory>
     ensures goes { OnOk result (Goes (Connection number) (desk_in desk.old)
         (desk_in desk.new)) }
-    ensures deals { OnOk result (Deals (Connection number)
-        (floor_of desk.old applications.old) (floor_of desk.new applications.new)) }
     ensures hears { IfOk result (λ heard. HearsBy number (reading_on number desk.old.service)
-        (is_muted applications.old (whose (desk_in desk.old) number)) link.old link.new piece.now
-        heard.0 heard.1 (floor_of desk.old applications.old) (floor_of desk.new applications.new)) }
+        link.old link.new piece.now heard.0 heard.1 (house_of desk.old applications.old)
+        (house_with (desk_in desk.new) (told_by heard.1 (ends_in applications.old))
+        (posts_in applications.new))) }
     ensures number { link.new.number ≡ link.old.number }
-    ensures came { IfOk result (λ out. Came number (desk_in desk.old) (desk_in desk.new) out.1) }
     ensures ends { OnOk result (ends_in applications.new ≡ ends_in applications.old) }
 {
     let Ok(count) = link.reader.feed(piece) else {
@@ -313,12 +302,11 @@ fn hear_packet(
     ensures goes { OnOk result (Goes (Connection number) (desk_in desk.old)
         (desk_in desk.new)) }
     ensures brings { IfOk result (λ heard. Brings number (reading_on number desk.old.service)
-        (is_muted applications.old (whose (desk_in desk.old) number)) link.old.news
-        link.old.answer link.old.reader heard.what (floor_of desk.old applications.old) (floor_of desk.new applications.new)) }
+        link.old.news link.old.answer link.old.reader heard (house_of desk.old applications.old)
+        (house_with (desk_in desk.new) (told_by (Some heard) (ends_in applications.old))
+        (posts_in applications.new))) }
     ensures reader { link.new.reader ≡ link.old.reader }
     ensures number { link.new.number ≡ link.old.number }
-    ensures came { IfOk result (λ heard. Came number (desk_in desk.old) (desk_in desk.new)
-        (Some heard)) }
     ensures ends { OnOk result (ends_in applications.new ≡ ends_in applications.old) }
 {
     let Some(packet) = link.reader.packet() else {
@@ -335,7 +323,7 @@ fn hear_packet(
     let Some(application) = applications.get_mut(key) else {
         return Ok(heard);
     };
-    if application.is_withdrawn {
+    if !application.hears() {
         return Ok(heard);
     }
     link.news = news_with(heard.what, link.news);
@@ -363,8 +351,8 @@ fn hand_on(
     application: &mut Application,
 ) -> Result<(), NoMemory>
     requires { packet.header.length ≡ 8 + length packet.«data».now }
-    ensures passes { OnOk result (Passes news.old answer.old packet.entry.header packet.entry.«data».now
-        (post_of application.old) (post_of application.new)) }
+    ensures passes { OnOk result (Passes news.old answer.old packet.entry.header
+        packet.entry.«data».now (post_of application.old) (post_of application.new)) }
     ensures end { OnOk result (end_of application.new ≡ end_of application.old) }
     ensures fits { IsRoom news.old application.old.out packet.entry.header.length
         → application.new.out.is_full ≡ false }

@@ -1,12 +1,14 @@
 //! Applications that leave, and connections that are lost.
 ghost use Rattle.std.specs.Prelude.{◌≡◌, None, OnOk};
 ghost use Rattle.tds_relay.specs.Desk.{Loses, turn};
-ghost use Rattle.tds_relay.specs.Dealing.{Deals, DealsOn, floor_in};
 ghost use Rattle.tds_relay.specs.Fronts.{LetsGoFirst, Moved, MovedOn, ends_in, hall_in, hall_of_ends};
-ghost use Rattle.tds_relay.specs.Hall.{Moves, change_end, change_whose, closes};
+ghost use Rattle.tds_relay.specs.Fronts.{house_in};
+ghost use Rattle.tds_relay.specs.Hall.{change_end, change_whose, closes};
+ghost use Rattle.tds_relay.specs.House.{Steps};
 ghost use Rattle.tds_relay.specs.Posts.{posts_in};
 ghost use Rattle.tds_relay.specs.Reads.{Stays, reader_at};
-ghost use Rattle.tds_relay.specs.Ties.{Application, Goes, GoesOn, Leaving, NobodyWaits, desk_in};
+ghost use Rattle.tds_relay.specs.Ties.{Application, Connection, Goes, GoesOn, Leaving, NobodyWaits};
+ghost use Rattle.tds_relay.specs.Ties.{desk_in};
 
 use super::Relay;
 use crate::NoMemory;
@@ -19,10 +21,8 @@ impl Relay {
     #[tactic(auto, using(crate::proofs::Reaching::reaches_turn, crate::proofs::Reaching::reaches_turned))]
     pub fn left(&mut self, key: usize) -> Result<(), NoMemory>
         ensures left { OnOk result (Leaving key (desk_in self.old.desk) (desk_in self.new.desk)) }
-        ensures deals { OnOk result (Deals (Application key) (floor_in self.old)
-            (floor_in self.new)) }
-        ensures moves { OnOk result (Moves (Application key) (hall_in self.old)
-            (hall_in self.new)) }
+        ensures steps { OnOk result (Steps (Application key) (house_in self.old)
+            (house_in self.new)) }
         ensures served { OnOk result (NobodyWaits (desk_in self.new.desk)) }
     {
         let _ = self.applications.try_remove(key).is_some();
@@ -35,8 +35,8 @@ impl Relay {
     pub fn lost(&mut self, number: u64) -> Result<(), NoMemory>
         ensures lost { OnOk result (GoesOn (turn (desk_in self.old.desk) (Loses number)).desk
             (desk_in self.new.desk)) }
-        ensures deals { OnOk result (DealsOn (floor_in self.old) (floor_in self.new)) }
-        ensures moves { OnOk result (MovedOn (hall_in self.old) (hall_in self.new)) }
+        ensures steps { OnOk result (Steps (Connection number) (house_in self.old)
+            (house_in self.new)) }
         ensures served { OnOk result (NobodyWaits (desk_in self.new.desk)) }
     {
         self.lose(number)?;
@@ -82,7 +82,8 @@ impl Relay {
     /// An application waits no more, and what it holds is nobody's any more.
     #[tactic(auto, using(crate::proofs::Reaching::reaches_turn, crate::proofs::Reaching::reaches_turned))]
     pub(super) fn release(&mut self, key: usize) -> Result<(), NoMemory>
-        ensures leaving { OnOk result (Leaving key (desk_in self.old.desk) (desk_in self.new.desk)) }
+        ensures leaving { OnOk result (Leaving key (desk_in self.old.desk)
+            (desk_in self.new.desk)) }
         ensures kept { OnOk result (posts_in self.new.applications
             ≡ posts_in self.old.applications) }
         ensures lets_go { OnOk result (LetsGoFirst key (hall_in self.old) (hall_in self.new)) }

@@ -1,13 +1,12 @@
 //! Connections that are lent to those who wait, opened, and asked.
 ghost use Rattle.std.specs.Prelude.{◌≡◌, ◌++◌, ◌∷◌, [], IfOk, OnOk, false, if◌then◌else◌};
 ghost use Rattle.slab.specs.Slab.{get};
-ghost use Rattle.tds_relay.specs.Dealing.{Deals, DealsOn, floor_in};
-ghost use Rattle.tds_relay.specs.Fronts.{MovedOn, ends_in, hall_in};
-ghost use Rattle.tds_relay.specs.Hall.{Moves};
+ghost use Rattle.tds_relay.specs.Fronts.{MovedOn, ends_in, hall_in, house_in};
 ghost use Rattle.tds_relay.specs.Handing.{news_for};
+ghost use Rattle.tds_relay.specs.House.{Steps};
 ghost use Rattle.tds_relay.specs.Posts.{asks_reset, posts_in};
 ghost use Rattle.tds_relay.specs.Reads.{Opens, Stays};
-ghost use Rattle.tds_relay.specs.Ties.{Goes, GoesOn, Neither, NobodyWaits, desk_in};
+ghost use Rattle.tds_relay.specs.Ties.{Connection, Goes, GoesOn, Neither, NobodyWaits, desk_in};
 ghost use Rattle.tds_relay.specs.declared.link.Link.{Link};
 ghost use Rattle.tds_relay.specs.declared.link.News.TheVariants.{Comes, IsTold};
 
@@ -26,8 +25,7 @@ impl Relay {
     #[tactic(auto, using(crate::proofs::Reaching::reaches_turn, crate::proofs::Reaching::reaches_turned))]
     pub fn bring(&mut self, tag: usize) -> Result<Option<u64>, NoMemory>
         ensures goes { OnOk result (Goes Neither (desk_in self.old.desk) (desk_in self.new.desk)) }
-        ensures deals { OnOk result (Deals Neither (floor_in self.old) (floor_in self.new)) }
-        ensures moves { OnOk result (Moves Neither (hall_in self.old) (hall_in self.new)) }
+        ensures steps { OnOk result (Steps Neither (house_in self.old) (house_in self.new)) }
     {
         if !self.links.is_empty() {
             return Ok(None);
@@ -70,8 +68,8 @@ impl Relay {
     /// The connection of this number is open and logged in.
     pub fn opened(&mut self, number: u64) -> Result<(), NoMemory>
         ensures goes { OnOk result (GoesOn (desk_in self.old.desk) (desk_in self.new.desk)) }
-        ensures deals { OnOk result (DealsOn (floor_in self.old) (floor_in self.new)) }
-        ensures moves { OnOk result (MovedOn (hall_in self.old) (hall_in self.new)) }
+        ensures steps { OnOk result (Steps (Connection number) (house_in self.old)
+            (house_in self.new)) }
         ensures served { OnOk result (NobodyWaits (desk_in self.new.desk)) }
     {
         self.set_open(number);
@@ -108,7 +106,8 @@ impl Relay {
     #[tactic(auto, using(crate::proofs::Reaching::reaches_turn, crate::proofs::Reaching::reaches_turned))]
     pub(super) fn serve_line(&mut self) -> Result<(), NoMemory>
         ensures goes { OnOk result (GoesOn (desk_in self.old.desk) (desk_in self.new.desk)) }
-        ensures deals { OnOk result (DealsOn (floor_in self.old) (floor_in self.new)) }
+        ensures kept { OnOk result (posts_in self.new.applications
+            ≡ posts_in self.old.applications) }
         ensures moves { OnOk result (MovedOn (hall_in self.old) (hall_in self.new)) }
         ensures served { OnOk result (NobodyWaits (desk_in self.new.desk)) }
         ensures opens { OnOk result (Opens self.old.links.items self.new.links.items) }

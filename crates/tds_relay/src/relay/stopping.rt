@@ -98,7 +98,8 @@ impl Relay {
         ensures some { IfSome result (λ number. (before after : List ℕ) × Turns (Does key Stops)
             (desk_in self.old.desk) (desk_in self.new.desk) before after) }
         ensures moves { (ends : Ends) → IfOpen IsHere (end_at ends key) → Moved (Application key)
-            (hall_of_ends (desk_in self.old.desk) ends) (hall_of_ends (desk_in self.new.desk) ends) }
+            (hall_of_ends (desk_in self.old.desk) ends)
+            (hall_of_ends (desk_in self.new.desk) ends) }
     {
         self.outbox.clear();
         match self.desk.cancel(key, &mut self.outbox) {

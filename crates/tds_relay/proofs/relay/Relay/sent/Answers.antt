@@ -1,12 +1,16 @@
-use Rattle.std.proofs.Common.{refl}
-use Rattle.tds_relay.proofs.Fronts.{ends_kept}
+use Rattle.std.proofs.Common.{ap}
+use Rattle.tds_relay.specs.Fronts.{ends_in, house_in}
+use Rattle.tds_relay.specs.House.{House, Steps, Writes}
+use Rattle.tds_relay.specs.Posts.{posts_in}
+use Rattle.tds_relay.specs.Ties.{Neither, desk_in}
+use Rattle.tds_relay.proofs.Stepping.{steps_writes}
 use Rattle.tds_relay.proofs.relay.Relay.sent.Goals as goal
 
-pub returns-clause-ends : goal.returns-clause-ends
-returns-clause-ends c = ends_kept c.args.self.now.applications c.args.key c.in_ok-application.application.now _ c.in_ok-application.ensures.value refl
+pub returns-in_err-hold-clause-steps : goal.returns-in_err-hold-clause-steps
+returns-in_err-hold-clause-steps c = steps_writes c.args.key c.args.count (house_in c.args.self.now) _ _ _ (ap desk_in c.forget_sent.ensures.desk) c.forget_sent.ensures.ends c.forget_sent.ensures.sent
 
-pub returns-in_err-hold-clause-ends : goal.returns-in_err-hold-clause-ends
-returns-in_err-hold-clause-ends c = ends_kept c.args.self.now.applications c.args.key c.in_ok-application.application.now _ c.in_ok-application.ensures.value refl
+pub returns-in_err-link-clause-steps : goal.returns-in_err-link-clause-steps
+returns-in_err-link-clause-steps c = steps_writes c.args.key c.args.count (house_in c.args.self.now) _ _ _ (ap desk_in c.forget_sent.ensures.desk) c.forget_sent.ensures.ends c.forget_sent.ensures.sent
 
-pub returns-in_err-link-clause-ends : goal.returns-in_err-link-clause-ends
-returns-in_err-link-clause-ends c = ends_kept c.args.self.now.applications c.args.key c.in_ok-application.application.now _ c.in_ok-application.ensures.value refl
+pub returns-clause-steps : goal.returns-clause-steps
+returns-clause-steps c = steps_writes c.args.key c.args.count (house_in c.args.self.now) _ _ _ (ap desk_in c.forget_sent.ensures.desk) c.forget_sent.ensures.ends c.forget_sent.ensures.sent

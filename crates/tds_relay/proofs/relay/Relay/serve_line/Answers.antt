@@ -1,7 +1,6 @@
-use Rattle.std.proofs.Common.{refl}
+use Rattle.std.proofs.Common.{refl, ◌∙◌}
 use Rattle.tds_relay.specs.Posts.{posts_in}
 use Rattle.tds_relay.specs.Ties.{desk_in}
-use Rattle.tds_relay.proofs.Dealt.{leads_goes, leads_turned}
 use Rattle.tds_relay.proofs.Fronts.{moves_does}
 use Rattle.tds_relay.proofs.Reaching.{reaches_turn}
 use Rattle.tds_relay.proofs.Staying.{opens_both}
@@ -10,10 +9,7 @@ use Rattle.tds_relay.proofs.relay.Relay.serve_line.Goals as goal
 pub line-preserved : goal.line-preserved
 line-preserved c = record {
   goes = λ by from h. c.in_ok-lend-in-Some.ensures.goes by from (reaches_turn by from _ _ _ _ _ c.in_ok-served.ensures.ok.0 tt (c.line.invariant.goes by from h));
-  deals = λ by from h.
-      leads_goes by from (desk_in c.serve.new.self) (desk_in c.lend.new.self.desk) (posts_in c.line.self.applications) (posts_in c.lend.new.self.applications)
-      (c.in_ok-lend-in-Some.ensures.goes by) c.in_ok-lend-in-Some.ensures.kept
-      (leads_turned by from (desk_in c.line.self.desk) (desk_in c.serve.new.self) (posts_in c.line.self.applications) _ _ _ c.in_ok-served.ensures.ok.0 tt (c.line.invariant.deals by from h));
+  kept = c.in_ok-lend-in-Some.ensures.kept ∙ c.line.invariant.kept;
   moves = λ by from h. c.in_ok-lend-in-Some.ensures.moves by from (moves_does by from _ _ _ _ _ _ _ c.in_ok-served.ensures.ok.0 tt tt refl (c.line.invariant.moves by from h));
   opens = opens_both _ _ _ c.line.invariant.opens c.in_ok-lend-in-Some.ensures.opens;
 }

@@ -1,5 +1,6 @@
-use Rattle.tds_relay.specs.Dealing.{DealsOn, floor_in}
+use Rattle.std.proofs.Common.{◌≡◌}
 use Rattle.tds_relay.specs.Fronts.{MovedOn, hall_in}
+use Rattle.tds_relay.specs.Posts.{posts_in}
 use Rattle.tds_relay.specs.Reads.{Opens}
 use Rattle.tds_relay.specs.Ties.{GoesOn, desk_in}
 use Rattle.tds_relay.proofs.relay.Relay.serve_line.Given as goal
@@ -7,7 +8,7 @@ use Rattle.tds_relay.proofs.relay.Relay.serve_line.Given as goal
 abbrev pub invariant-line : goal.invariant-line
 invariant-line l = record {
   goes : GoesOn (desk_in l.fn.self.desk) (desk_in l.self.desk);
-  deals : DealsOn (floor_in l.fn.self) (floor_in l.self);
+  kept : posts_in l.self.applications ≡ posts_in l.fn.self.applications;
   moves : MovedOn (hall_in l.fn.self) (hall_in l.self);
   opens : Opens l.fn.self.links.items l.self.links.items;
 }

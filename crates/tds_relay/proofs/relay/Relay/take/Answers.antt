@@ -1,34 +1,33 @@
-use Rattle.std.proofs.Common.{◌∙◌, refl, rules, sym}
-use Rattle.tds_relay.specs.Posts.{posts_in}
+use Rattle.std.proofs.Common.{◌≡◌, ◌∙◌, Some, false, ap, refl, rules, sym}
+use Rattle.tds_relay.specs.Fronts.{end_of, ends_in, given_by, hall_in, house_in}
+use Rattle.tds_relay.specs.Posts.{Posts, posts_in}
 use Rattle.tds_relay.specs.Ties.{Application, desk_in}
-use Rattle.tds_relay.proofs.Dealt.{leads_goes, leads_kept}
-use Rattle.tds_relay.specs.Fronts.{end_of, ends_in}
-use Rattle.tds_relay.proofs.Fed.{closed_fed, end_there, ends_written, is_fed}
-use Rattle.tds_relay.proofs.Fronts.{moves_closes}
+use Rattle.tds_relay.proofs.Fed.{closed_fed, end_open, end_there, ends_written, is_fed, refused_is, waits_refused}
+use Rattle.tds_relay.proofs.Fronts.{moved_same}
 use Rattle.tds_relay.proofs.Posting.{posts_kept}
+use Rattle.tds_relay.proofs.Told.{tells_fed, tells_refused}
 use Rattle.tds_relay.proofs.relay.Relay.take.Goals as goal
 
-pub returns-in_default-feed-clause-deals : goal.returns-in_default-feed-clause-deals
-returns-in_default-feed-clause-deals c = λ from h.
-    leads_goes (Application c.args.key) from (desk_in c.args.self.now.desk) _ (posts_in c.args.self.now.applications) _ c.in_ok-expel.ensures.goes
-    (c.in_ok-expel.ensures.kept ∙ posts_kept c.args.self.now.applications c.args.key c.in-Some.application.now _ c.in-Some.ensures.value refl) h
-
-pub returns-clause-deals : goal.returns-clause-deals
-returns-clause-deals c = λ from h.
-    c.in_ok-obey.ensures.deals from
-    (leads_kept (Application c.args.key) from (desk_in c.args.self.now.desk) (posts_in c.args.self.now.applications) _
-    (posts_kept c.args.self.now.applications c.args.key c.in-Some.application.now _ c.in-Some.ensures.value refl) h)
-
-pub returns-in_default-feed-clause-moves : goal.returns-in_default-feed-clause-moves
-returns-in_default-feed-clause-moves c = λ from h.
+pub returns-in_default-feed-clause-tells : goal.returns-in_default-feed-clause-tells
+returns-in_default-feed-clause-tells c = λ first bytes t.
     let slab = c.args.self.now.applications in
     let a = c.in-Some.application.now in
-    c.in_ok-expel.ensures.moves from
-    (moves_closes (Application c.args.key) from _ _ (ends_in slab) _ c.args.key refl
-    (sym (closed_fed (ends_in slab) _ c.args.key _ (end_of a) (end_there slab c.args.key a c.in-Some.ensures.value) (ends_written slab c.args.key _))) h)
+    let es = ends_in slab in
+    let here : a.is_over ≡ false = search rules in
+    let was = end_there slab c.args.key a c.in-Some.ensures.value ∙ ap Some (end_open a here) in
+    let says = sym c.feed.ensures.brings ∙ c.in_default-feed.is in
+    tells_refused c.args.key first bytes c.args.piece.now _ (house_in c.args.self.now) (hall_in c.expel.new.self) _ a.front a.is_withdrawn was
+    (waits_refused c.args.key es c.args.piece.now a.front a.is_withdrawn _ (posts_in slab) was says)
+    (refused_is c.args.key (desk_in c.args.self.now.desk) es c.args.piece.now a.front a.is_withdrawn _ was says)
+    (moved_same (Application c.args.key) _ _ _ _ _ refl
+    (sym (closed_fed es _ c.args.key _ (end_of a) (end_there slab c.args.key a c.in-Some.ensures.value) (ends_written slab c.args.key _))) c.in_ok-expel.ensures.moves)
+    (c.in_ok-expel.ensures.kept ∙ posts_kept slab c.args.key a _ c.in-Some.ensures.value refl) t
 
-pub returns-clause-moves : goal.returns-clause-moves
-returns-clause-moves c = λ from h.
-    c.in_ok-obey.ensures.moves (ends_in c.args.self.now.applications)
-    (is_fed c.args.key c.args.self.now.applications c.in-Some.application.now _ c.args.piece.now c.in-Ok.fed.count c.in-Ok.fed.said c.in-Some.ensures.value (search rules) (search rules)
-    refl c.feed.ensures.front (search rules)) from h
+pub returns-clause-tells : goal.returns-clause-tells
+returns-clause-tells c = λ first bytes t.
+    let slab = c.args.self.now.applications in
+    let a = c.in-Some.application.now in
+    tells_fed c.args.key first bytes c.args.piece.now _ (desk_in c.args.self.now.desk) (ends_in slab) _ (posts_in slab) _ (hall_in c.obey.new.self) c.in-Ok.fed.said
+    c.in_ok-obey.ensures.moves
+    (is_fed c.args.key slab a _ c.args.piece.now c.in-Ok.fed.count c.in-Ok.fed.said c.in-Some.ensures.value (search rules) (search rules) refl c.feed.ensures.front (search rules)) refl
+    (c.in_ok-obey.ensures.given ∙ ap (λ (ps : Posts). given_by c.args.key c.in-Ok.fed.said ps) (posts_kept slab c.args.key a _ c.in-Some.ensures.value refl)) t

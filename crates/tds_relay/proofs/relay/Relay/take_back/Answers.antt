@@ -1,33 +1,50 @@
-use Rattle.std.proofs.Common.{◌∙◌, ap, refl, sym}
-use Rattle.tds_relay.specs.Fronts.{ends_in, withdraws}
-use Rattle.tds_relay.specs.Hall.{IsHere, change_end, closes}
+use Rattle.std.proofs.Common.{◌∙◌, ap, inl, inr, refl, subst, sym}
+use Rattle.tds_relay.specs.Fronts.{ends_in, hall_in, hall_of_ends, withdraws}
+use Rattle.tds_relay.specs.Hall.{Hall, IsHere, Moves, change_end, closes}
 use Rattle.tds_relay.specs.Ties.{Application, desk_in}
-use Rattle.tds_relay.proofs.Fed.{closed_as_fed, moves_taken_back}
-use Rattle.tds_relay.proofs.Fronts.{moves_closes, moves_does, moves_same, open_closed}
+use Rattle.tds_relay.proofs.Fed.{closed_as_fed, taken_back_is}
+use Rattle.tds_relay.proofs.Fronts.{moves_closes, moves_does, moves_same, no_moves, open_closed}
 use Rattle.tds_relay.proofs.Reaching.{ok_more}
+use Rattle.tds_relay.proofs.Told.{deaf_behind, deaf_closed}
 use Rattle.tds_relay.proofs.relay.Relay.take_back.Goals as goal
 
 pub returns-in-Some-clause-moves : goal.returns-in-Some-clause-moves
 returns-in-Some-clause-moves c =
+    let by = Application c.args.key in
+    let now = ends_in c.args.self.now.applications in
     let same = c.stop.ensures.ends ∙ c.forget_request.ensures.ends ∙ c.forget_reset.ensures.ends in
+    let d1 = desk_in c.forget_request.new.self.desk in
     ok_more c.send_on.result _ _
-    (λ m before f from h. m (Application c.args.key) from
-    (moves_same (Application c.args.key) from _ _ _ _ (ap desk_in c.withdraw.ensures.desk) refl
-    (moves_taken_back c.args.key from _ _ before (ends_in c.args.self.now.applications) _ _ _ f c.in-Some.ensures.some.2
-    (c.withdraw.ensures.ends ∙ ap (change_end c.args.key withdraws) same)
-    (moves_does (Application c.args.key) from _ _ _ _ _ _ _ c.forget_request.ensures.turns tt refl refl
-    (moves_same (Application c.args.key) from _ _ _ _ (ap desk_in c.forget_reset.ensures.desk) refl h)))))
+    (λ m before bytes f. inl (record {
+      mid = hall_of_ends d1 before;
+      first = moves_does by (hall_of_ends (desk_in c.args.self.now.desk) before) _ _ _ _ _ _ _ c.forget_request.ensures.turns tt refl refl
+          (moves_same by _ _ _ _ _ (ap desk_in c.forget_reset.ensures.desk) refl (no_moves by (hall_of_ends (desk_in c.args.self.now.desk) before)));
+      same = refl;
+      next = subst (λ (h : Hall). Moves by h (hall_in c.send_on.new.self))
+          (sym (taken_back_is c.args.key d1 (desk_in c.stop.new.self.desk) before now (ends_in c.withdraw.new.self.applications) bytes _ _ f
+          c.in-Some.ensures.some.2 (c.withdraw.ensures.ends ∙ ap (change_end c.args.key withdraws) same)))
+          (m by _ (moves_same by _ _ _ _ _ (ap desk_in c.withdraw.ensures.desk) refl (no_moves by (hall_of_ends (desk_in c.stop.new.self.desk) (ends_in c.withdraw.new.self.applications)))));
+    }))
     c.send_on.ensures.moves
 
 pub returns-in-None-clause-moves : goal.returns-in-None-clause-moves
 returns-in-None-clause-moves c =
+    let by = Application c.args.key in
+    let now = ends_in c.args.self.now.applications in
     let same = c.stop.ensures.ends ∙ c.forget_request.ensures.ends ∙ c.forget_reset.ensures.ends in
     ok_more c.expel.result _ _
-    (λ m before f from h. m from
-    (moves_same (Application c.args.key) from _ _ (change_end c.args.key closes before) _ refl
-    (ap (change_end c.args.key closes) same ∙ sym (closed_as_fed c.args.key before (ends_in c.args.self.now.applications) _ f))
-    (c.stop.ensures.moves (change_end c.args.key closes before) (open_closed IsHere before c.args.key) from
-    (moves_closes (Application c.args.key) from _ _ before _ c.args.key refl refl
-    (moves_does (Application c.args.key) from _ _ _ _ _ _ _ c.forget_request.ensures.turns tt refl refl
-    (moves_same (Application c.args.key) from _ _ _ _ (ap desk_in c.forget_reset.ensures.desk) refl h))))))
+    (λ m before bytes f.
+    let from = hall_of_ends (desk_in c.args.self.now.desk) before in
+    let last = m _ (no_moves by _) in
+    inr (record {
+      moves = m from
+          (moves_same by from _ _ (change_end c.args.key closes before) _ refl
+          (ap (change_end c.args.key closes) same ∙ sym (closed_as_fed c.args.key before now bytes _ f))
+          (c.stop.ensures.moves (change_end c.args.key closes before) (open_closed IsHere before c.args.key) from
+          (moves_closes by from _ _ before _ c.args.key refl refl
+          (moves_does by from _ _ _ _ _ _ _ c.forget_request.ensures.turns tt refl refl
+          (moves_same by from _ _ _ _ (ap desk_in c.forget_reset.ensures.desk) refl (no_moves by from))))));
+      deaf = deaf_behind c.args.key _ _ last (deaf_closed c.args.key (ends_in c.stop.new.self.applications));
+      nothing = λ posts. refl;
+    }))
     c.expel.ensures.moves

@@ -1,6 +1,7 @@
 use Rattle.std.proofs.Common.{refl, subst, sym}
 use Rattle.tds_relay.specs.declared.link.News.{News}
-use Rattle.tds_relay.specs.Dealing.{IsBy, Without}
+use Rattle.tds_relay.specs.Handing.{IsBy}
+use Rattle.tds_relay.specs.House.{Without}
 use Rattle.tds_relay.proofs.relay.coming.hand_on.Goals as goal
 
 pub returns-then-branch-clause-passes : goal.returns-then-branch-clause-passes

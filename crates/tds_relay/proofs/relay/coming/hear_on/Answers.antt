@@ -1,7 +1,7 @@
 use Rattle.std.proofs.Common.{◌≡◌, ◌∙◌, rules}
 use Rattle.tds_packet.specs.declared.kind.Direction.TheVariants.{ToClient}
 use Rattle.tds_service.specs.Table.{reading_on}
-use Rattle.tds_relay.proofs.Handed.{done_keeps, hears_is, leads_brought}
+use Rattle.tds_relay.proofs.Handed.{done_keeps, hears_is}
 use Rattle.tds_relay.proofs.relay.coming.hear_on.Goals as goal
 
 pub invariant_of-link-2 : goal.invariant_of-link-2
@@ -9,14 +9,11 @@ invariant_of-link-2 c =
     let direction : c.hear_packet.new.link.reader.direction ≡ ToClient = search rules in
     record {
       reads =
-          done_keeps c.args.number (reading_on c.args.number c.args.desk.now.service) _ _ _ _ _ _ _ _ _
+          done_keeps c.args.number (reading_on c.args.number c.args.desk.now.service) _ _ _ _ _ _ _ _
           c.in_ok-heard.ensures.brings c.in_ok-heard.ensures.reader c.done.ensures.next c.done.ensures.same ∙ direction;
     }
 
-pub returns-clause-deals : goal.returns-clause-deals
-returns-clause-deals c = λ from h. leads_brought c.args.number (reading_on c.args.number c.args.desk.now.service) _ _ _ _ _ from _ _ c.in_ok-heard.ensures.brings h
-
 pub returns-clause-hears : goal.returns-clause-hears
 returns-clause-hears c =
-    hears_is c.reads_packets.ensures.less c.reads_packets.ensures.nothing c.args.number (reading_on c.args.number c.args.desk.now.service) _ c.args.link.now _ c.args.piece.now _ _ _ _ _ _
+    hears_is c.reads_packets.ensures.less c.reads_packets.ensures.nothing c.args.number (reading_on c.args.number c.args.desk.now.service) c.args.link.now _ c.args.piece.now _ _ _ _ _ _
     c.feed.ensures.taken c.in-Ok.ensures.count c.in_ok-heard.ensures.brings c.in_ok-heard.ensures.reader c.done.ensures.next c.done.ensures.same

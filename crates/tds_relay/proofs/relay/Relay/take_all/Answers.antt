@@ -1,0 +1,31 @@
+use Rattle.std.proofs.Common.{List, subst, sym, ℕ}
+use Rattle.tds_relay.specs.declared.relay.Relay.{Relay}
+use Rattle.tds_relay.specs.Fronts.{house_in}
+use Rattle.tds_relay.specs.Taking.{Tells}
+use Rattle.tds_relay.proofs.Told.{tells_begin, tells_expelled, tells_left}
+use Rattle.tds_relay.proofs.relay.Relay.take_all.Goals as goal
+use Rattle.tds_relay.proofs.relay.Relay.take_all.Goals.{else-taking-test, then-taking-test+else-is_empty+in_ok-count+else-counter-end}
+
+pub taking-init : goal.taking-init
+taking-init c = record {
+  goes = λ from h. h;
+  tells = tells_begin c.args.key (house_in c.args.self.now) c.args.piece.now;
+}
+
+pub taking-preserved : goal.taking-preserved
+taking-preserved c = record {
+  goes = λ from h. c.in_ok-count.ensures.goes from (c.taking.invariant.goes from h);
+  tells = tells_left c.args.key _ _ _ _ _ c.behind-rest.ensures (c.in_ok-count.ensures.tells (house_in c.args.self.now) c.args.piece.now c.taking.invariant.tells);
+}
+
+pub returns-clause-tells : goal.returns-clause-tells
+returns-clause-tells c =
+    let old = house_in c.args.self.now in
+    let to : Relay → Type 0 = λ r. (left : List ℕ) × Tells c.args.key old c.args.piece.now left (house_in r) in
+    let led : to c.taking-test.self =
+    elim c.taking-test.branch [
+      | else-taking-test w ↦ subst to (sym w.self-is) (c.taking.rest.now, c.taking.invariant.tells)
+      | then-taking-test+else-is_empty+in_ok-count+else-counter-end w ↦
+          subst to (sym w.self-is) (_, w.in_ok-count.ensures.tells old c.args.piece.now c.taking.invariant.tells)
+    ] in
+    tells_expelled c.expel.result c.args.key old c.args.piece.now led.0 _ _ _ _ _ _ led.1 c.expel.ensures.moves c.expel.ensures.kept

@@ -1,0 +1,9 @@
+pub mod Closing
+pub mod Handing
+pub mod Owing
+pub mod Reached
+pub mod Replies
+pub mod Said
+pub mod Sent
+pub mod Stays
+pub mod Waiting

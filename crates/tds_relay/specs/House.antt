@@ -1,0 +1,187 @@
+-- What happens at a relay, one thing after the other: how the ends of applications move with the desk, and what each application is given
+-- by that. One total function.
+use Rattle.std.specs.Prelude.{◌≡◌, ◌&&◌, ℕ, ◌+◌, not, Bool, true, false, List, [], ◌∷◌, ◌++◌, length, Option, Some, None, IsSome, Result, Ok, Err, slice_set}
+use Rattle.tds_packet.specs.declared.header.Header.{Header}
+use Rattle.tds_packet.specs.Layout.{header_bytes}
+use Rattle.tds_front.specs.declared.fault.FrontFault.{FrontFault}
+use Rattle.tds_front.specs.declared.front.Fed.{Fed}
+use Rattle.tds_front.specs.declared.front.Said.{Said}
+use Rattle.tds_front.specs.declared.front.Said.TheVariants as said
+use Rattle.tds_front.specs.Bytes.{fed}
+use Rattle.tds_wire.specs.declared.told.Token.{Token}
+use Rattle.tds_wire.specs.Reading.{Reading}
+use Rattle.tds_service.specs.Parts.{Part}
+use Rattle.tds_relay.specs.declared.desk.coming.What.{What}
+use Rattle.tds_relay.specs.declared.desk.coming.What.TheVariants as whats
+use Rattle.tds_relay.specs.declared.link.Answer.{Answer}
+use Rattle.tds_relay.specs.declared.link.News.{News}
+use Rattle.tds_relay.specs.declared.link.News.TheVariants as how
+use Rattle.tds_relay.specs.Cutting.{IsCut, ends_in}
+use Rattle.tds_relay.specs.Desk.{Way, whose}
+use Rattle.tds_relay.specs.Hall as hall
+use Rattle.tds_relay.specs.Hall.{End, Open, Over, Ends, Hall, Move, CausesMove, HasEntered, IsQuiet, MayMove, done_by, end_at, moved_all, new_hall, what_in}
+use Rattle.tds_relay.specs.Posts as waiting
+use Rattle.tds_relay.specs.Posts.{Post, Posts, acknowledgement, change, news, put, without_first}
+use Rattle.tds_relay.specs.Promises.{Each}
+use Rattle.tds_relay.specs.Ties.{Cause, Neither, part_on}
+
+-- The hall, and what waits to be sent to each application.
+pub record House : Type 0 where
+  pub hall : Hall
+  pub posts : Posts
+
+abbrev pub new_house : ℕ → House
+new_house max = record { hall = new_hall max; posts = [] }
+
+-- How a packet is handed on: as it came; so, behind the news of a reset; as these bytes, without the news of one; or not at all.
+pub data Manner : Type 0 where
+  Whole : Manner
+  Preceded : Manner
+  Without : (bytes : List ℕ) → Manner
+  Withheld : Manner
+
+pub data Step : Type 0 where
+  -- a move by which nothing is given
+  Makes : (move : Move) → Step
+  -- a packet comes on a connection, and is handed so to the application that this is lent to
+  Hands : (number : ℕ) (header : Header) (content : List ℕ) (part : Part Token) (way : Way) (manner : Manner) → Step
+  -- bytes of an application come, and it is given what its end owes it by them
+  Takes : (key : ℕ) (bytes : List ℕ) → Step
+  -- an application is sent so many of the bytes that wait for it
+  Writes : (key count : ℕ) → Step
+  -- one has come, with which these are the ends, and this waits; one is there no more
+  Admits : (key : ℕ) (ends : Ends) (posts : Posts) → Step
+  Removes : (key : ℕ) (gives : Bool) (way : Way) → Step
+
+-- ---- What each is, and does
+
+abbrev pub moves_of : Step → List Move
+moves_of (Makes move) = move ∷ []
+moves_of (Hands number header content part way manner) = hall.Comes number part way ∷ []
+moves_of (Takes key bytes) = hall.Feeds key bytes ∷ []
+moves_of (Writes key count) = []
+moves_of (Admits key ends posts) = hall.Enters key ends ∷ []
+moves_of (Removes key gives way) = hall.Quits key gives way ∷ []
+
+-- the packets by which a packet is handed on, if it is
+abbrev pub handed : Manner → Header → List ℕ → Option (List (List ℕ))
+handed Whole header content = Some ((header_bytes header ++ content) ∷ [])
+handed Preceded header content = Some (news ∷ (header_bytes header ++ content) ∷ [])
+handed (Without bytes) header content = Some (bytes ∷ [])
+handed Withheld header content = None
+
+-- the acknowledgement of an attention that is its end's own
+abbrev pub owed_of : Said → Option (List (List ℕ))
+owed_of said.Acknowledge = Some (acknowledgement ∷ [])
+owed_of answer = None
+
+abbrev pub owed_by : Result Fed FrontFault → Option (List (List ℕ))
+owed_by (Ok fed) = owed_of fed.said
+owed_by (Err fault) = None
+
+abbrev pub owed : List ℕ → Option End → Option (List (List ℕ))
+owed bytes None = None
+owed bytes (Some (Open front withdrawn)) = owed_by (fed front bytes).brings
+owed bytes (Some Over) = None
+
+-- these pieces are put behind what waits, one after the other
+abbrev pub put_all : List (List ℕ) → Post → Post
+put_all [] p = p
+put_all (piece ∷ pieces) p = put_all pieces (put piece p)
+
+abbrev pub put_some : Option (List (List ℕ)) → Post → Post
+put_some None p = p
+put_some (Some pieces) p = put_all pieces p
+
+abbrev pub change_whose : Option ℕ → (Post → Post) → Posts → Posts
+change_whose None by posts = posts
+change_whose (Some key) by posts = change key by posts
+
+abbrev pub posts_behind : House → Step → Posts
+posts_behind h (Makes move) = h.posts
+posts_behind h (Hands number header content part way manner) = change_whose (whose h.hall.desk number) (put_some (handed manner header content)) h.posts
+posts_behind h (Takes key bytes) = change key (put_some (owed bytes (end_at h.hall.ends key))) h.posts
+posts_behind h (Writes key count) = change key (without_first count) h.posts
+posts_behind h (Admits key ends posts) = posts
+posts_behind h (Removes key gives way) = slice_set h.posts key None
+
+abbrev pub after : House → Step → House
+after h step = record { hall = moved_all h.hall (moves_of step); posts = posts_behind h step }
+
+abbrev pub after_all : House → List Step → House
+after_all h [] = h
+after_all h (step ∷ steps) = after_all (after h step) steps
+
+-- ---- When each may be
+
+-- behind it its connection is closed
+abbrev pub closes : What → Bool
+closes whats.Goes = false
+closes whats.Finished = false
+closes whats.Acknowledged = false
+closes whats.Closed = true
+
+-- Whether an application's end says a packet by which this came: not where it is to be closed, or has taken its request back; nor where the
+-- connection is closed behind it.
+abbrev pub is_said : What → Option End → Bool
+is_said what None = false
+is_said what (Some (Open front withdrawn)) = not withdrawn && not (closes what)
+is_said what (Some Over) = false
+
+-- It is handed on exactly where it is.
+abbrev pub IsHanded : Bool → Manner → Type 0
+IsHanded true Withheld = ⊥
+IsHanded true manner = Unit {0}
+IsHanded false manner = manner ≡ Withheld
+
+abbrev pub end_whose : Option ℕ → Ends → Option End
+end_whose None ends = None
+end_whose (Some key) ends = end_at ends key
+
+-- Without the news is what is left of the data, token by token, from where a walker stands.
+abbrev pub IsRight : Header → List ℕ → Manner → Type 0
+IsRight header content Whole = Unit {0}
+IsRight header content Preceded = Unit {0}
+IsRight header content (Without bytes) = (a : Answer) × IsCut a header content bytes
+IsRight header content Withheld = Unit {0}
+
+-- A packet has come, whose data are this part to the walker over what its connection answers; and it is handed on exactly where its
+-- application's end says it.
+pub record MayHand (h : House) (number : ℕ) (header : Header) (content : List ℕ) (part : Part Token) (manner : Manner) : Type 0 where
+  pub counted : header.length ≡ 8 + length content
+  pub walker : Option Reading
+  pub part_is : part ≡ part_on walker content (ends_in header)
+  pub has_walker : (key : ℕ) → whose h.hall.desk number ≡ Some key → IsSome walker
+  pub right : IsRight header content manner
+  pub handed_on : IsHanded (is_said (what_in (done_by h.hall.desk number part)) (end_whose (whose h.hall.desk number) h.hall.ends)) manner
+
+abbrev pub MayStep : House → Step → Type 0
+MayStep h (Makes move) = MayMove h.hall move × IsQuiet move
+MayStep h (Hands number header content part way manner) = MayHand h number header content part manner
+MayStep h (Takes key bytes) = Unit {0}
+MayStep h (Writes key count) = Unit {0}
+MayStep h (Admits key ends posts) = HasEntered key h.hall.ends ends × (size : ℕ) × waiting.Enters size key h.posts posts
+MayStep h (Removes key gives way) = Unit {0}
+
+abbrev pub MayAll : House → List Step → Type 0
+MayAll h [] = Unit {0}
+MayAll h (step ∷ steps) = MayStep h step × MayAll (after h step) steps
+
+-- ---- Who causes each
+
+abbrev pub CausesStep : Cause → Step → Type 0
+CausesStep by (Writes key count) = by ≡ Neither
+CausesStep by step = Each (CausesMove by) (moves_of step)
+
+-- Steps that this causes led from one house to the other.
+pub record Steps (by : Cause) (old new : House) : Type 0 where
+  pub steps : List Step
+  pub are : after_all old steps ≡ new
+  pub may : MayAll old steps
+  pub caused : Each (CausesStep by) steps
+
+-- ---- A house that a relay is at
+
+-- Steps lead to it from a new one.
+abbrev pub IsLedTo : ℕ → House → Type 0
+IsLedTo max h = (steps : List Step) × (after_all (new_house max) steps ≡ h) × MayAll (new_house max) steps
