@@ -121,8 +121,8 @@ happens_in {max} {key} v = towards None stages.Quiet (passed key (house_in v).ha
 abbrev pub done_in : {max key : ℕ} → Visit max key → List Event
 done_in {max} {key} v = events_along (new_hall max) (moves_in (v.before ++ Admits key v.ends v.posts ∷ v.since))
 
-abbrev pub AllAnswerOnce : {max key : ℕ} → Visit max key → Type 0
-AllAnswerOnce {max} v = (number : ℕ) → AnswersOnce false (done_on max number (done_in v))
+abbrev pub ServersAnswerOnce : {max key : ℕ} → Visit max key → Type 0
+ServersAnswerOnce {max} v = (number : ℕ) → AnswersOnce false (done_on max number (done_in v))
 
 -- ---- Said by a server
 

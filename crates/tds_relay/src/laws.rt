@@ -18,9 +18,9 @@ ghost use Rattle.tds_relay.specs.declared.link.Link.{Link};
 ghost use Rattle.tds_relay.specs.declared.outgoing.Outgoing.{Outgoing};
 ghost use Rattle.tds_relay.specs.Fronting.{AnswersOnce, done_on, happened};
 ghost use Rattle.tds_relay.specs.Fronts.{house_in};
-ghost use Rattle.tds_relay.specs.Giving as visits;
-ghost use Rattle.tds_relay.specs.Giving.{AreSaid, Gives, IsFrontOf, IsKept, Visit, given_in};
-ghost use Rattle.tds_relay.specs.Giving.{happens_in, pieces_of, sent_in, waits_in};
+ghost use Rattle.tds_relay.specs.Giving.{AreSaid, Gives, IsFrontOf, IsKept, ServersAnswerOnce};
+ghost use Rattle.tds_relay.specs.Giving.{Visit, given_in, happens_in, pieces_of, sent_in};
+ghost use Rattle.tds_relay.specs.Giving.{waits_in};
 ghost use Rattle.tds_relay.specs.House.{House, IsLedTo, MayAll, Step, Steps};
 ghost use Rattle.tds_packet.specs.Reading.{joined};
 ghost use Rattle.tds_relay.specs.Reads.{Comes, reader_at, seen_at};
@@ -201,16 +201,16 @@ pub fn lawful_applications()
     lawful_front();
 }
 
-/// What an application is given, from where it enters and while it stays, whoever shares with it: one by one what a
-/// lawful server's end says to it, over whichever connections it is lent.
+/// What an application is given, from where it enters and while it stays, whoever shares with it: one by one
+/// what a lawful server's end says to it, over whichever connections it is lent.
 pub fn given_by_server()
     /// What passes between it and its end is a lawful server's: where the server of each connection ends
     /// each answer once at most, also behind an attention.
-    ensures lawful { (max key : ℕ) (v : Visit max key) → visits.AllAnswerOnce v
+    ensures lawful { (max key : ℕ) (v : Visit max key) → ServersAnswerOnce v
         → IsLawful Ready (happens_in v) }
-    /// Each time that its end says something it is given that, and nothing else: a packet of the connection that
-    /// it is lent, which ends its message where the end says so, as it came, without the news of a reset, or
-    /// behind it; or the acknowledgement of its own attention.
+    /// Each time that its end says something it is given that, and nothing else: a packet of the connection
+    /// that it is lent, which ends its message where the end says so, as it came, without the news of a
+    /// reset, or behind it; or the acknowledgement of its own attention.
     ensures said { (max key : ℕ) (v : Visit max key) → AreSaid (happens_in v) (given_in v) }
     /// What it is sent, and then what waits for it, are these, in order, each whole; all of them, unless one
     /// didn't fit: then a front of them.

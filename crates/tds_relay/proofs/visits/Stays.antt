@@ -119,7 +119,7 @@ happens_so max key v =
     ap (moved_all (new_hall max)) (sym moves) ∙ sym (hall_after (new_house max) (v.before ++ come)) in
     ap (λ (h : Hall). towards None stages.Quiet (passed key h (moves_in v.since))) is
 
-once_so : (max key : ℕ) (v : Visit max key) → visits.AllAnswerOnce v → behind.AllAnswerOnce (stay_of max key v)
+once_so : (max key : ℕ) (v : Visit max key) → visits.ServersAnswerOnce v → behind.AllAnswerOnce (stay_of max key v)
 unfolding stay_of
 once_so max key v once number =
     let moves : moves_in (v.before ++ Admits key v.ends v.posts ∷ v.since) ≡ moves_in v.before ++ Enters key v.ends ∷ moves_in v.since =
@@ -127,5 +127,5 @@ once_so max key v once number =
     subst (λ (ms : List Move). AnswersOnce false (done_on max number (events_along (new_hall max) ms))) moves (once number)
 
 pub lawful_visit : (max key : ℕ) (v : Visit max key) → ((s : Stay max key) → behind.AllAnswerOnce s → IsLawful Ready (towards None stages.Quiet (passed_in s)))
-    → visits.AllAnswerOnce v → IsLawful Ready (happens_in v)
+    → visits.ServersAnswerOnce v → IsLawful Ready (happens_in v)
 lawful_visit max key v lawful once = subst (IsLawful Ready) (happens_so max key v) (lawful (stay_of max key v) (once_so max key v once))
