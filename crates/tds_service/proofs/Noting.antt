@@ -1,5 +1,5 @@
 -- Tokens that are heard one behind the other, of which a caller notes all, or none.
-use Rattle.std.proofs.Common.{◌≡◌, ◌∙◌, ◌+◌, ◌-◌, ◌≤◌, ◌<◌, ℕ, Bool, true, false, List, [], ◌∷◌, ◌++◌, length, take, drop, refl, sym, ap, subst, arith, append_assoc}
+use Rattle.std.proofs.Common.{◌≡◌, ◌∙◌, ◌+◌, ◌-◌, ◌≤◌, ◌<◌, ℕ, zero, suc, Bool, true, false, List, [], ◌∷◌, ◌++◌, length, take, drop, refl, sym, ap, subst, arith, append_assoc}
 use Rattle.std.proofs.lemmas.List.{append-nil}
 use Rattle.std.specs.Prelude.{Option, Some, None, Result, Ok, Err, MatchResult, IfOk, IfErr}
 use Rattle.tds_wire.specs.declared.told.Token.{Token}
@@ -13,7 +13,9 @@ use Rattle.tds_client.specs.Machine as machine
 use Rattle.tds_client.specs.Machine.{signed, signed_in}
 use Rattle.tds_client.specs.Session as session
 use Rattle.tds_client.specs.Session.{ClientSession}
+use Rattle.tds_client.specs.Taking.{broken_by}
 use Rattle.tds_listen.specs.declared.fault.ListenFault.{ListenFault}
+use Rattle.tds_listen.specs.declared.fault.ListenFault.TheVariants as faults
 use Rattle.tds_listen.specs.Faults.{broken_at}
 use Rattle.tds_listen.specs.Hearing.{Move, heard_by, moved_by, next_heard, told_if}
 use Rattle.tds_listen.specs.Signs.{sign_of}
@@ -62,6 +64,31 @@ module _ (n : ℕ) (s next : ClientSession) (r reading : Reading) (piece : List 
   pub next_sized : (result : Result ℕ ListenFault) → Exact result → IfErr result (λ fault. next ≡ broken_at s fault) → next.size ≡ s.size
   next_sized (Ok count) h is = next_keeps s next r reading piece (drop count piece) token h
   next_sized (Err fault) h is = ap (λ (x : ClientSession). x.size) is ∙ broken_keeps s fault
+
+  -- the same of a token that stands whole, or of nothing
+  abbrev pub WholeExact : Result ℕ ClientFault → Type 0
+  WholeExact result =
+      MatchResult result (λ count. 0 < count → next_heard s r piece ≡ Ok (record { told = token; session = next; reading = reading; rest = drop count piece })) (λ fault. next_heard s r piece ≡ Err (faults.Client fault))
+
+  pub whole_ok : (c : Bool) → stage_of s.stage ≡ awaiting c → (result : Result ℕ ClientFault) → WholeExact result
+      → IfOk result (λ count. 0 < count → Hears (part_of (next_token r piece)) (line_of n s) (line_of n next) line.More (told (items_of token)))
+  whole_ok c e (Ok count) h = λ some. next_ok c e (Ok count) (h some)
+  whole_ok c e (Err fault) h = tt
+
+  pub whole_fault : (c : Bool) → stage_of s.stage ≡ awaiting c → (result : Result ℕ ClientFault) → WholeExact result → IfErr result (λ fault. next ≡ broken_by s fault)
+      → IfErr result (λ fault. Hears (part_of (next_token r piece)) (line_of n s) (line_of n next) (line.Fault (faults.Client fault)) [])
+  whole_fault c e (Ok count) h is = tt
+  whole_fault c e (Err fault) h is = next_fault c e (Err (faults.Client fault)) h is
+
+  pub whole_stands : (result : Result ℕ ClientFault) → WholeExact result → IfOk result (λ count. 0 < count → Stands (next_token r piece) reading (drop count piece))
+  whole_stands (Ok count) h = λ some. next_stands (Ok count) (h some)
+  whole_stands (Err fault) h = tt
+
+  pub whole_sized : (result : Result ℕ ClientFault) → WholeExact result → IfOk result (λ count. count ≡ 0 → (next ≡ s) × (reading ≡ r))
+      → IfErr result (λ fault. next ≡ broken_by s fault) → next.size ≡ s.size
+  whole_sized (Ok zero) h same is = ap (λ (x : ClientSession). x.size) (same refl).0
+  whole_sized (Ok (suc count)) h same is = next_sized (Ok (suc count)) (h (omega arith)) tt
+  whole_sized (Err fault) h same is = ap (λ (x : ClientSession). x.size) is ∙ broken_keeps s (faults.Client fault)
 
 -- ---- A row, of which a client that awaits something hears nothing
 

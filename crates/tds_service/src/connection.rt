@@ -16,8 +16,12 @@ ghost use Rattle.tds_service.specs.Beginning.{Begins};
 ghost use Rattle.tds_service.specs.Sizes.{Sized};
 ghost use Rattle.tds_service.specs.Ties.{items_of, putting, taken_answer};
 
+mod whole;
+
 use std::alloc::Global;
-use tds_client::{Cancelled, Client, ClientRefusal, ClientState, MessageKind, Rules, Sign, Taken};
+use tds_client::{
+    Cancelled, Client, ClientFault, ClientRefusal, ClientState, MessageKind, Rules, Sign, Taken,
+};
 use tds_listen::{Heard, ListenFault, hear_end, next, next_to, sign_of};
 use tds_packet::{PacketSize, Reset};
 use tds_wire::{Features, NoMemory, Token, Walker};
@@ -242,7 +246,7 @@ impl Connection {
     /// The same where it is known that an answer or an acknowledgement is awaited, with the token left in
     /// `token`. It may be a change of a transaction or the end of a reset: `is_told` says which tokens are
     /// told. The answer is how many bytes are done with.
-    #[inline(always)]
+    #[inline(never)]
     fn hear_next(&mut self, piece: &[u8], token: &mut Option<Token>) -> Result<usize, ListenFault>
         requires awaits { (cancelling : Bool)
             × ((line_in self.old).stage ≡ awaiting cancelling) }

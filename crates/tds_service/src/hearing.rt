@@ -14,9 +14,8 @@ use tds_client::Taken;
 use tds_listen::ListenFault;
 use tds_wire::Token;
 
-/// Notes a token, where there is one that is told and the caller `tells`. It isn't put into its caller: so the
-/// token stays in one place, and isn't taken apart into its fields.
-#[inline(never)]
+/// Notes a token, where there is one that is told and the caller `tells`.
+#[inline(always)]
 fn note(told: &mut Vec<Token>, tells: bool, token: &Option<Token>)
     requires { vec_len told.old + length (noted tells (parts.told (items_of token.now)))
         ≤ vec_capacity told.old }
@@ -60,6 +59,16 @@ fn hear_tokens(
     let mut done = 0;
     let mut token = None;
     'tokens: while done < bytes.len() {
+        // Most tokens stand whole in a packet, and come this way.
+        let whole = match connection.hear_whole(&bytes[done..], &mut token) {
+            Ok(count) => count,
+            Err(fault) => return Err(ListenFault::Client(fault)),
+        };
+        if whole > 0 {
+            note(told, tells, &token);
+            done += whole;
+            continue;
+        }
         match connection.hear_some(&bytes[done..], tells, &mut token) {
             Ok(count) => {
                 note(told, tells, &token);

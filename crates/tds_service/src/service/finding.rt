@@ -7,6 +7,7 @@ use crate::place::Wanted;
 use crate::seat::Seat;
 
 /// The place in the table of the first connection that is wanted.
+#[inline(always)]
 pub(crate) fn find(seats: &[Seat], wanted: Wanted) -> Option<usize>
     ensures first { IfSome result (FirstMet (test_of wanted) seats.now) }
     ensures none { IfNone result (find_by (test_of wanted) (seats_in seats.now) ≡ None) }
