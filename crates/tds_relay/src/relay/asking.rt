@@ -5,7 +5,7 @@ ghost use Rattle.tds_relay.specs.Fronts.{given_by, house_in};
 ghost use Rattle.tds_relay.specs.Hall.{IfOpen, change_end, end_at};
 ghost use Rattle.tds_relay.specs.House.{Steps};
 ghost use Rattle.tds_relay.specs.Posts.{posts_in};
-ghost use Rattle.tds_relay.specs.Reads.{Stays};
+ghost use Rattle.tds_relay.specs.Reads.{Opens, Stays};
 ghost use Rattle.tds_relay.specs.Ties.{Application, Goes, GoesOn, NobodyWaits, desk_in};
 
 use super::Relay;
@@ -24,6 +24,7 @@ impl Relay {
         ensures steps { OnOk result (Steps (Application key) (house_in self.old)
             (house_in self.new)) }
         ensures served { OnOk result (NobodyWaits (desk_in self.new.desk)) }
+        ensures opens { OnOk result (Opens self.old.links.items self.new.links.items) }
     {
         let mut rest = piece;
         'taking: for _ in 0..piece.len() {
@@ -37,11 +38,13 @@ impl Relay {
     }
 
     /// Takes some of them, and answers how many.
+    #[tactic(auto, using(crate::proofs::Staying::stays_refl))]
     fn take(&mut self, key: usize, piece: &[u8]) -> Result<usize, NoMemory>
         ensures goes { OnOk result (Goes (Application key)
             (desk_in self.old.desk) (desk_in self.new.desk)) }
         ensures steps { OnOk result (Steps (Application key) (house_in self.old)
             (house_in self.new)) }
+        ensures read { OnOk result (Stays self.old.links.items self.new.links.items) }
     {
         let Some(application) = self.applications.get_mut(key) else {
             return Ok(piece.len());
@@ -66,6 +69,7 @@ impl Relay {
             ≡ given_by key said (posts_in self.old.applications)) }
         ensures moves { OnOk result (FedOn key said (desk_in self.old.desk)
             (ends_in self.old.applications) (hall_in self.new)) }
+        ensures read { OnOk result (Stays self.old.links.items self.new.links.items) }
     {
         match said {
             Said::Nothing => Ok(()),
@@ -85,7 +89,7 @@ impl Relay {
     /// A request begins. Where it asks for a reset itself, its application gives back what it holds; but
     /// where the transaction is to stay, its connection stays too: whether there is one is known once the
     /// server has acknowledged what was taken back before.
-    #[tactic(auto, using(crate::proofs::Reaching::reaches_turn, crate::proofs::Reaching::reaches_left, crate::proofs::Posting::kept_more, crate::proofs::Posting::posts_kept, crate::proofs::Fronts::ends_more, crate::proofs::Fronts::ends_kept))]
+    #[tactic(auto, using(crate::proofs::Reaching::reaches_turn, crate::proofs::Reaching::reaches_left, crate::proofs::Posting::kept_more, crate::proofs::Posting::posts_kept, crate::proofs::Fronts::ends_more, crate::proofs::Fronts::ends_kept, crate::proofs::Staying::stays_refl))]
     fn begin(&mut self, key: usize, kind: Kind, reset: Option<Reset>) -> Result<(), NoMemory>
         ensures goes { OnOk result (Goes (Application key)
             (desk_in self.old.desk) (desk_in self.new.desk)) }
@@ -93,6 +97,7 @@ impl Relay {
             ≡ posts_in self.old.applications) }
         ensures moves { OnOk result (Moved (Application key) (hall_in self.old)
             (hall_in self.new)) }
+        ensures read { OnOk result (Stays self.old.links.items self.new.links.items) }
     {
         let Some(application) = self.applications.get_mut(key) else {
             return Ok(());
@@ -141,6 +146,7 @@ impl Relay {
             ≡ posts_in self.old.applications) }
         ensures moves { OnOk result (Moved (Application key) (hall_in self.old)
             (hall_in self.new)) }
+        ensures read { OnOk result (Stays self.old.links.items self.new.links.items) }
     {
         if !self.has_nothing_out(key) {
             return self.expel(key);
@@ -158,6 +164,7 @@ impl Relay {
             ≡ posts_in self.old.applications) }
         ensures moves { OnOk result (Moved (Application key) (hall_in self.old)
             (hall_in self.new)) }
+        ensures read { OnOk result (Stays self.old.links.items self.new.links.items) }
     {
         match self.desk.renew(key)? {
             Renewed::Kept(hold) => {
@@ -170,7 +177,7 @@ impl Relay {
     }
 
     /// The next bytes of its request's body, with which it is whole or not.
-    #[tactic(auto, using(crate::proofs::Posting::kept_more, crate::proofs::Posting::posts_kept, crate::proofs::Fronts::ends_more, crate::proofs::Fronts::ends_kept))]
+    #[tactic(auto, using(crate::proofs::Posting::kept_more, crate::proofs::Posting::posts_kept, crate::proofs::Fronts::ends_more, crate::proofs::Fronts::ends_kept, crate::proofs::Staying::stays_refl))]
     fn go_on(&mut self, key: usize, bytes: &[u8], whole: bool) -> Result<(), NoMemory>
         ensures goes { OnOk result (Goes (Application key)
             (desk_in self.old.desk) (desk_in self.new.desk)) }
@@ -178,6 +185,7 @@ impl Relay {
             ≡ posts_in self.old.applications) }
         ensures moves { OnOk result (Moved (Application key) (hall_in self.old)
             (hall_in self.new)) }
+        ensures read { OnOk result (Stays self.old.links.items self.new.links.items) }
     {
         let Some(application) = self.applications.get_mut(key) else {
             return Ok(());

@@ -7,6 +7,7 @@ use Rattle.tds_relay.specs.Ties.{Application}
 use Rattle.tds_relay.proofs.Fed.{steps_fed}
 use Rattle.tds_relay.proofs.Reaching.{ok_more}
 use Rattle.tds_relay.proofs.Stepping.{steps_moved}
+use Rattle.tds_relay.proofs.Staying.{stays_refl, stays_same}
 use Rattle.tds_relay.proofs.relay.Relay.obey.Goals as goal
 
 pub returns-in-Begin-clause-given : goal.returns-in-Begin-clause-given
@@ -79,3 +80,9 @@ returns-in_ok-forget-in-Acknowledge-clause-moves c =
     (steps_moved (Application c.args.key) from _ _ _ _ c.in_ok-forget-in-Acknowledge.ensures.moves refl
     (steps_fed c.args.key from _ before _ posts c.args.said (ap takes_back c.in-Acknowledge.is) (ap hands_on c.in-Acknowledge.is) f s)))
     c.acknowledge.ensures.moves
+
+pub returns-in-Nothing-clause-read : goal.returns-in-Nothing-clause-read
+returns-in-Nothing-clause-read c = stays_refl c.args.self.now.links.items
+
+pub returns-in_ok-forget-in-Acknowledge-clause-read : goal.returns-in_ok-forget-in-Acknowledge-clause-read
+returns-in_ok-forget-in-Acknowledge-clause-read c = stays_same c.acknowledge.result _ _ _ c.in_ok-forget-in-Acknowledge.ensures.read c.acknowledge.ensures.links

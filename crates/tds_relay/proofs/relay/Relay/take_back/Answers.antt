@@ -6,6 +6,7 @@ use Rattle.tds_relay.proofs.Fed.{closed_as_fed, steps_taken_back}
 use Rattle.tds_relay.proofs.Fronts.{moves_closes, moves_does, moves_same, open_closed}
 use Rattle.tds_relay.proofs.Reaching.{ok_more}
 use Rattle.tds_relay.proofs.Stepping.{steps_moved, steps_same}
+use Rattle.tds_relay.proofs.Staying.{stays_on, stays_then}
 use Rattle.tds_relay.proofs.relay.Relay.take_back.Goals as goal
 
 pub returns-in-Some-clause-moves : goal.returns-in-Some-clause-moves
@@ -34,3 +35,9 @@ returns-in-None-clause-moves c =
     (moves_does (Application c.args.key) h _ _ _ _ _ _ _ c.forget_request.ensures.turns tt refl refl
     (moves_same (Application c.args.key) h _ _ _ _ (ap desk_in c.forget_reset.ensures.desk) refl k)))))) refl s)
     c.expel.ensures.moves
+
+pub returns-in-Some-clause-read : goal.returns-in-Some-clause-read
+returns-in-Some-clause-read c = stays_on c.send_on.result _ _ _ (stays_then _ _ _ c.forget_reset.ensures.read (c.withdraw.ensures.links ∙ c.stop.ensures.links ∙ c.forget_request.ensures.links)) c.send_on.ensures.read
+
+pub returns-in-None-clause-read : goal.returns-in-None-clause-read
+returns-in-None-clause-read c = stays_on c.expel.result _ _ _ (stays_then _ _ _ c.forget_reset.ensures.read (c.stop.ensures.links ∙ c.forget_request.ensures.links)) c.expel.ensures.read
