@@ -10,6 +10,7 @@ pub mod Ending
 pub mod Fed
 pub mod Feeding
 pub mod Folding
+pub mod Following
 pub mod Fronting
 pub mod Fronts
 pub mod Handed

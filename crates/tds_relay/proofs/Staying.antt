@@ -1,9 +1,10 @@
 -- Connections by their numbers.
-use Rattle.std.proofs.Common.{◌+◌, ◌<◌, arith, length, ◌≡◌, ◌∙◌, ◌==◌, ℕ, zero, suc, not, Bool, true, false, List, [], ◌∷◌, ◌++◌, inl, inr, Option, Some, None, refl, sym, ap, subst, slice_index_or, slice_set, option_map, if◌then◌else◌}
-use Rattle.std.specs.Prelude.{Result, Ok, Err, OnOk}
-use Rattle.std.proofs.lemmas.Bool.{eqb-true}
+use Rattle.std.proofs.Common.{◌+◌, ◌<◌, arith, length, ◌≡◌, ◌≢◌, ◌∙◌, ◌==◌, ℕ, zero, suc, not, Bool, true, false, List, [], ◌∷◌, ◌++◌, Option, Some, None, refl, sym, ap, subst, slice_index_or, slice_set, option_map, if◌then◌else◌}
+use Rattle.std.specs.Prelude.{Result, Ok, Err, IfSome, OnOk}
+use Rattle.std.proofs.lemmas.Bool.{eqb-false, eqb-true}
+use Rattle.tds_packet.specs.Reading.{Reading}
 use Rattle.tds_relay.specs.declared.link.Link.{Link}
-use Rattle.tds_relay.specs.Reads.{Opens, OpensAt, Seen, StaysAt, Stays, link_at, place_from, place_of, reader_at, reader_of, seen_at, seen_of, without_link}
+use Rattle.tds_relay.specs.Reads.{Opens, OpensFirst, OpensOne, OpensOthers, Seen, StaysAt, Stays, link_at, open_at, open_of, opened_at, place_from, place_of, reader_at, reader_of, seen_at, seen_of, without_link}
 
 pub at_refl : {A : Type 0} (o : Option A) → StaysAt o o
 at_refl None = tt
@@ -31,28 +32,28 @@ pub stays_same : {A E : Type 0} (r : Result A E) (ls ms ns : List Link) → Stay
 stays_same (Ok x) ls ms ns h e = subst (λ (xs : List Link). Stays ls xs) (sym e) h
 stays_same (Err e) ls ms ns h k = tt
 
-opens_at_refl : (o : Option Seen) → OpensAt o o
-opens_at_refl None = tt
-opens_at_refl (Some s) = inr refl
+-- where the connections before are as they were
+pub stays_from : {A E : Type 0} (r : Result A E) (ls ms ns : List Link) → ms ≡ ls → OnOk r (Stays ms ns) → OnOk r (Stays ls ns)
+stays_from r ls ms ns e h = subst (λ (xs : List Link). OnOk r (Stays xs ns)) e h
 
-opens_at_both : (o p q : Option Seen) → OpensAt o p → OpensAt p q → OpensAt o q
-opens_at_both o p None h k = tt
-opens_at_both o p (Some s) h k = elim k [
-  | inl closed ↦ inl closed
-  | inr same ↦ subst (λ (x : Option Seen). OpensAt o x) same h
-]
+open_stays : (o p : Option Seen) → StaysAt o p → StaysAt (open_of o) (open_of p)
+open_stays o None h = tt
+open_stays o (Some s) h = subst (λ (x : Option Seen). StaysAt (open_of x) (open_of (Some s))) (sym h) (at_refl (open_of (Some s)))
 
-opens_stays : (o p : Option Seen) → StaysAt o p → OpensAt o p
-opens_stays o None h = tt
-opens_stays o (Some s) h = inr h
+pub stays_behind : (ls ms ns : List Link) → ms ≡ ls → Stays ms ns → Stays ls ns
+stays_behind ls ms ns e h = subst (λ (xs : List Link). Stays xs ns) e h
 
-opens_one : (b : Bool) (l : Link) → l.is_open ≡ false → OpensAt None (option_map seen_of (if b then Some l else None))
-opens_one true l closed = inl closed
+-- one that isn't open has nothing to be seen
+shut : (l : Link) → l.is_open ≡ false → open_of (Some (seen_of l)) ≡ None
+shut l closed = ap (λ (b : Bool). let o : Option Reading = if b then Some l.reader else None in o) closed
+
+opens_one : (b : Bool) (l : Link) → l.is_open ≡ false → StaysAt None (open_of (option_map seen_of (if b then Some l else None)))
+opens_one true l closed = subst (λ (o : Option Reading). StaysAt None o) (sym (shut l closed)) tt
 opens_one false l closed = tt
 
-opens_behind : (b : Bool) (x : Link) (o p : Option Link) → OpensAt (option_map seen_of o) (option_map seen_of p)
-    → OpensAt (option_map seen_of (if b then Some x else o)) (option_map seen_of (if b then Some x else p))
-opens_behind true x o p h = inr refl
+opens_behind : (b : Bool) (x : Link) (o p : Option Link) → StaysAt (open_of (option_map seen_of o)) (open_of (option_map seen_of p))
+    → StaysAt (open_of (option_map seen_of (if b then Some x else o))) (open_of (option_map seen_of (if b then Some x else p)))
+opens_behind true x o p h = at_refl (open_of (Some (seen_of x)))
 opens_behind false x o p h = h
 
 -- ---- One is written back
@@ -114,28 +115,27 @@ unread : (o : Option Link) → option_map seen_of o ≡ None → option_map read
 unread None e = refl
 unread (Some l) e = absurd (let u : ⊥ = cc in u)
 
+not_open : (o : Option Link) → option_map reader_of o ≡ None → open_of (option_map seen_of o) ≡ None
+not_open None e = refl
+not_open (Some l) e = absurd (let u : ⊥ = cc in u)
+
+-- where it is there no more, it isn't open
+pub gone_open : (number : ℕ) (ls : List Link) → reader_at number ls ≡ None → open_at number ls ≡ None
+gone_open number ls e = not_open (link_at number ls) e
+
 pub taken_out : (number : ℕ) (ls : List Link) → reader_at number (without_link number ls) ≡ None
 taken_out number ls = unread (link_at number (without_link number ls)) (not_seen number ls)
-
-read_same : (o p : Option Link) → StaysAt (option_map seen_of o) (option_map seen_of p) → StaysAt (option_map reader_of o) (option_map reader_of p)
-read_same o None e = tt
-read_same None (Some l) e = absurd (let u : ⊥ = cc in u)
-read_same (Some k) (Some l) e = ap (λ (x : Option Seen). option_map (λ (y : Seen). y.0) x) e
-
--- what has come of a packet stays
-pub read_stays : (number : ℕ) (ls ms : List Link) → Stays ls ms → StaysAt (reader_at number ls) (reader_at number ms)
-read_stays number ls ms stays = read_same (link_at number ls) (link_at number ms) (stays number (seen_at number ls) (at_refl (seen_at number ls)))
 
 -- ---- One is to be opened
 
 pub opens_refl : (ls : List Link) → Opens ls ls
-opens_refl ls number = opens_at_refl (seen_at number ls)
+opens_refl ls number = at_refl (open_at number ls)
 
 pub opens_both : (ls ms ns : List Link) → Opens ls ms → Opens ms ns → Opens ls ns
-opens_both ls ms ns h k number = opens_at_both (seen_at number ls) (seen_at number ms) (seen_at number ns) (h number) (k number)
+opens_both ls ms ns h k number = at_both (open_at number ls) (open_at number ms) (open_at number ns) (h number) (k number)
 
 pub stays_opens : (ls ms : List Link) → Stays ls ms → Opens ls ms
-stays_opens ls ms stays number = opens_stays (seen_at number ls) (seen_at number ms) (stays number (seen_at number ls) (at_refl (seen_at number ls)))
+stays_opens ls ms stays number = open_stays (seen_at number ls) (seen_at number ms) (stays number (seen_at number ls) (at_refl (seen_at number ls)))
 
 -- one more
 pub opens_pushed : (ls : List Link) (l : Link) → l.is_open ≡ false → Opens ls (ls ++ l ∷ [])
@@ -150,17 +150,49 @@ pub opens_on : {A E : Type 0} (r : Result A E) (ls ms ns : List Link) → Stays 
 opens_on (Ok x) ls ms ns h k = stays_opens ls ns (stays_both ls ms ns h k)
 opens_on (Err e) ls ms ns h k = tt
 
+-- and then those who wait are served
+pub opens_served : {A E : Type 0} (r : Result A E) (ls ms ns : List Link) → Stays ls ms → OnOk r (Opens ms ns) → OnOk r (Opens ls ns)
+opens_served (Ok x) ls ms ns h k = opens_both ls ms ns (stays_opens ls ms h) k
+opens_served (Err e) ls ms ns h k = tt
+
+-- one is opened
+pub opens_one_served : {A E : Type 0} (r : Result A E) (number : ℕ) (ls ks ms ns : List Link) → ((other : ℕ) → open_at other ks ≡ opened_at number other ls) → Stays ks ms → OnOk r (Opens ms ns)
+    → OnOk r (OpensOne number ls ns)
+opens_one_served (Ok x) number ls ks ms ns opened h k = λ other.
+    subst (λ (o : Option Reading). StaysAt o (open_at other ns)) (opened other) (opens_both ks ms ns (stays_opens ks ms h) k other)
+opens_one_served (Err e) number ls ks ms ns opened h k = tt
+
+-- all but one
+pub others_open : (number : ℕ) (ls ms : List Link) → Opens ls ms → OpensOthers number ls ms
+others_open number ls ms opens other differs = opens other
+
+pub others_both : (number : ℕ) (ls ms ns : List Link) → OpensOthers number ls ms → OpensOthers number ms ns → OpensOthers number ls ns
+others_both number ls ms ns h k other differs = at_both (open_at other ls) (open_at other ms) (open_at other ns) (h other differs) (k other differs)
+
+pub others_stay : (number : ℕ) (ls ms ns : List Link) → OpensOthers number ls ms → Stays ms ns → OpensOthers number ls ns
+others_stay number ls ms ns h k = others_both number ls ms ns h (others_open number ms ns (stays_opens ms ns k))
+
+pub others_stay_on : {A E : Type 0} (r : Result A E) (number : ℕ) (ls ms ns : List Link) → OpensOthers number ls ms → OnOk r (Stays ms ns) → OnOk r (OpensOthers number ls ns)
+others_stay_on (Ok x) number ls ms ns h k = others_stay number ls ms ns h k
+others_stay_on (Err e) number ls ms ns h k = tt
+
+pub others_served : {A E : Type 0} (r : Result A E) (number : ℕ) (ls ms ns : List Link) → OpensOthers number ls ms → OnOk r (Opens ms ns) → OnOk r (OpensOthers number ls ns)
+others_served (Ok x) number ls ms ns h k = others_both number ls ms ns h (others_open number ms ns k)
+others_served (Err e) number ls ms ns h k = tt
+
 -- ---- Where one is
 
 -- At this place is the first one of this number, which is found there, and so is what is written back there.
 pub record IsAt (number : ℕ) (ls : List Link) (place : ℕ) : Type 0 where
   pub within : place < length ls
+  pub named : (d : Link) → (slice_index_or ls place d).number ≡ number
   pub found : (d : Link) → link_at number ls ≡ Some (slice_index_or ls place d)
   pub written : (d m : Link) → m.number ≡ (slice_index_or ls place d).number → link_at number (slice_set ls place m) ≡ Some m
 
 at_first : (number : ℕ) (x : Link) (xs : List Link) → (x.number == number) ≡ true → IsAt number (x ∷ xs) 0
 at_first number x xs e = record {
   within = omega arith;
+  named = λ d. eqb-true x.number number e;
   found = λ d. ap (λ (b : Bool). if b then Some x else link_at number xs) e;
   written = λ d m same. ap (λ (b : Bool). if b then Some m else link_at number xs) (ap (λ (k : ℕ). k == number) same ∙ e);
 }
@@ -168,6 +200,7 @@ at_first number x xs e = record {
 at_later : (number : ℕ) (x : Link) (xs : List Link) (place : ℕ) → (x.number == number) ≡ false → IsAt number xs place → IsAt number (x ∷ xs) (suc place)
 at_later number x xs place e at = record {
   within = let h = at.within in omega (arith, h);
+  named = at.named;
   found = λ d. ap (λ (b : Bool). if b then Some x else link_at number xs) e ∙ at.found d;
   written = λ d m same. ap (λ (b : Bool). if b then Some x else link_at number (slice_set xs place m)) e ∙ at.written d m same;
 }
@@ -208,3 +241,87 @@ is_nowhere number ls e = none_from number 0 ls e
 
 pub within_is : (number : ℕ) (ls : List Link) (place : ℕ) → place_of number ls ≡ Some place → place < length ls
 within_is number ls place e = (is_at number ls place e).within
+
+-- ---- The one of a number
+
+-- it is open
+pub is_open_at : (number : ℕ) (ls : List Link) (l : Link) → link_at number ls ≡ Some l → l.is_open ≡ true → open_at number ls ≡ Some l.reader
+is_open_at number ls l is is_open =
+    ap (λ (o : Option Link). open_of (option_map seen_of o)) is ∙ ap (λ (b : Bool). let o : Option Reading = if b then Some l.reader else None in o) is_open
+
+-- or it isn't
+pub is_shut_at : (number : ℕ) (ls : List Link) (l : Link) → link_at number ls ≡ Some l → l.is_open ≡ false → open_at number ls ≡ None
+is_shut_at number ls l is closed = ap (λ (o : Option Link). open_of (option_map seen_of o)) is ∙ shut l closed
+
+differs_by : (b : Bool) (n other : ℕ) → (n == other) ≡ b → n ≢ other → (n == other) ≡ false
+differs_by true n other e differs = absurd (differs (eqb-true n other e))
+differs_by false n other e differs = e
+
+-- the others are as they were where it is written back
+other_seen : (ls : List Link) (i : ℕ) (d m : Link) (other : ℕ) → m.number ≡ (slice_index_or ls i d).number → ((slice_index_or ls i d).number == other) ≡ false → seen_at other (slice_set ls i m) ≡ seen_at other ls
+other_seen [] i d m other same differs = refl
+other_seen (x ∷ xs) zero d m other same differs =
+    ap (λ (k : ℕ). option_map seen_of (if k == other then Some m else link_at other xs)) same
+    ∙ ap (λ (b : Bool). option_map seen_of (if b then Some m else link_at other xs)) differs
+    ∙ sym (ap (λ (b : Bool). option_map seen_of (if b then Some x else link_at other xs)) differs)
+other_seen (x ∷ xs) (suc i) d m other same differs =
+    either_reader (x.number == other) x x (link_at other (slice_set xs i m)) (link_at other xs) refl (other_seen xs i d m other same differs)
+
+other_open : (number other : ℕ) (ls : List Link) (place : ℕ) (d m : Link) → IsAt number ls place → m.number ≡ (slice_index_or ls place d).number → number ≢ other → open_at other (slice_set ls place m) ≡ open_at other ls
+other_open number other ls place d m at same differs =
+    ap open_of (other_seen ls place d m other same (ap (λ (k : ℕ). k == other) (at.named d) ∙ differs_by (number == other) number other refl differs))
+
+-- bytes come on it
+pub others_written : (number : ℕ) (ls : List Link) (place : ℕ) (d m : Link) → place_of number ls ≡ Some place → m.number ≡ (slice_index_or ls place d).number → OpensOthers number ls (slice_set ls place m)
+others_written number ls place d m is same other differs =
+    subst (λ (o : Option Reading). StaysAt (open_at other ls) o) (sym (other_open number other ls place d m (is_at number ls place is) same (λ e. differs (sym e)))) (at_refl (open_at other ls))
+
+opened_by : (b : Bool) (number other : ℕ) (ls : List Link) (place : ℕ) (d m : Link) → (other == number) ≡ b → IsAt number ls place → m.number ≡ (slice_index_or ls place d).number
+    → m.reader ≡ (slice_index_or ls place d).reader → m.is_open ≡ true → open_at other (slice_set ls place m) ≡ (if b then reader_at other ls else open_at other ls)
+opened_by true number other ls place d m e at same reader is_open =
+    subst (λ (n : ℕ). open_at n (slice_set ls place m) ≡ reader_at n ls) (sym (eqb-true other number e))
+    (is_open_at number (slice_set ls place m) m (at.written d m same) is_open ∙ ap Some reader ∙ sym (ap (λ (o : Option Link). option_map reader_of o) (at.found d)))
+opened_by false number other ls place d m e at same reader is_open =
+    other_open number other ls place d m at same (λ is. eqb-false other number e (sym is))
+
+-- it is opened
+pub opened_written : (number : ℕ) (ls : List Link) (place : ℕ) (d m : Link) → place_of number ls ≡ Some place → m.number ≡ (slice_index_or ls place d).number → m.reader ≡ (slice_index_or ls place d).reader
+    → m.is_open ≡ true → (other : ℕ) → open_at other (slice_set ls place m) ≡ opened_at number other ls
+opened_written number ls place d m is same reader is_open other = opened_by (other == number) number other ls place d m refl (is_at number ls place is) same reader is_open
+
+nowhere_by : (b : Bool) (number other : ℕ) (ls : List Link) → (other == number) ≡ b → link_at number ls ≡ None → open_at other ls ≡ (if b then reader_at other ls else open_at other ls)
+nowhere_by true number other ls e none =
+    subst (λ (n : ℕ). open_at n ls ≡ reader_at n ls) (sym (eqb-true other number e))
+    (ap (λ (o : Option Link). open_of (option_map seen_of o)) none ∙ sym (ap (λ (o : Option Link). option_map reader_of o) none))
+nowhere_by false number other ls e none = refl
+
+-- it isn't there
+pub opened_nowhere : (number : ℕ) (ls : List Link) → place_of number ls ≡ None → (other : ℕ) → open_at other ls ≡ opened_at number other ls
+opened_nowhere number ls is other = nowhere_by (other == number) number other ls refl (is_nowhere number ls is)
+
+-- ---- The first of all
+
+some_stays : (P : Reading → Type 0) (o p : Option Reading) → StaysAt o p → IfSome o P → IfSome p P
+some_stays P o None h k = tt
+some_stays P o (Some r) h k = subst (λ (x : Option Reading). IfSome x P) h k
+
+alone_by : (b : Bool) (number other : ℕ) (l : Link) → (l.number == other) ≡ b → l.number ≡ number → l.reader.taken ≡ [] → l.is_open ≡ true
+    → IfSome (open_of (option_map seen_of (if b then Some l else None))) (λ r. (other ≡ number) × (r.taken ≡ []))
+alone_by true number other l e same none is_open =
+    subst (λ (o : Option Reading). IfSome o (λ r. (other ≡ number) × (r.taken ≡ [])))
+    (sym (ap (λ (b : Bool). let o : Option Reading = if b then Some l.reader else None in o) is_open))
+    (sym (eqb-true l.number other e) ∙ same, none)
+alone_by false number other l e same none is_open = tt
+
+none_there : (ls : List Link) → (length ls == 0) ≡ true → ls ≡ []
+none_there [] e = refl
+none_there (x ∷ xs) e = absurd (let none : length (x ∷ xs) ≡ 0 = eqb-true (length (x ∷ xs)) 0 e in let u : ⊥ = cc in u)
+
+-- it comes, with nothing of a packet, and those who wait are served
+pub first_opens : (number : ℕ) (l : Link) (ls ms ks ns : List Link) → (length ls == 0) ≡ true → ms ≡ ls ++ l ∷ [] → l.number ≡ number → l.reader.taken ≡ [] → l.is_open ≡ true → Stays ms ks → Opens ks ns
+    → OpensFirst (Some number) ls ns
+first_opens number l ls ms ks ns none pushed same nothing is_open stays opens = λ other.
+    let are : ms ≡ l ∷ [] = pushed ∙ ap (λ (xs : List Link). xs ++ l ∷ []) (none_there ls none) in
+    some_stays (λ r. (other ≡ number) × (r.taken ≡ [])) (open_at other ms) (open_at other ns) (opens_both ms ks ns (stays_opens ms ks stays) opens other)
+    (subst (λ (xs : List Link). IfSome (open_at other xs) (λ r. (other ≡ number) × (r.taken ≡ []))) (sym are)
+    (alone_by (l.number == other) number other l refl same nothing is_open))

@@ -1,5 +1,5 @@
 -- What comes by steps of the bytes that a connection's reader takes.
-use Rattle.std.proofs.Common.{◌≡◌, ◌∙◌, ℕ, Bool, List, [], ◌∷◌, ◌++◌, Option, Some, None, inl, inr, refl, sym, ap, subst, drop, take, slice_index_or, slice_set, option_map, append_assoc, append-nil}
+use Rattle.std.proofs.Common.{◌≡◌, ◌∙◌, ℕ, true, false, List, [], ◌∷◌, ◌++◌, Option, Some, None, inl, inr, refl, sym, ap, subst, drop, take, slice_index_or, slice_set, option_map, append_assoc, append-nil}
 use Rattle.std.proofs.lemmas.List.{take-append-drop}
 use Rattle.std.specs.Prelude.{Result, Ok, Err, IfOk, IsNone, OnOk}
 use Rattle.tds_packet.specs.Layout.{header_bytes}
@@ -15,11 +15,11 @@ use Rattle.tds_relay.specs.Hall.{Hall, Move, Moves}
 use Rattle.tds_relay.specs.Handing.{Hears, HearsBy, fed}
 use Rattle.tds_relay.specs.House.{House, Step, Admits, CausesStep, Hands, Makes, MayAll, MayStep, Removes, Steps, Takes, Writes, after, after_all}
 use Rattle.tds_relay.specs.Posts.{Posts}
-use Rattle.tds_relay.specs.Reads.{Comes, Continues, HasLeft, Opens, OpensAt, Reads, ReadsBy, Stays, StaysAt, Streams, StreamsAll, Seen, if_heard, link_at, packets_of, place_of, reader_at, reader_of, seen_at, seen_of}
+use Rattle.tds_relay.specs.Reads.{Comes, Continues, Opens, Reads, ReadsBy, Stays, StaysAt, Streams, StreamsAll, if_heard, open_at, open_of, packets_of, place_of, reader_at, seen_of}
 use Rattle.tds_relay.specs.Ties.{Connection, part_on}
 use Rattle.tds_relay.proofs.Fronts.{each_both, no_moves}
 use Rattle.tds_relay.proofs.Handed.{may_hand}
-use Rattle.tds_relay.proofs.Staying.{IsAt, is_at, is_nowhere, read_stays}
+use Rattle.tds_relay.proofs.Staying.{IsAt, gone_open, is_at, is_nowhere, is_open_at, is_shut_at, stays_opens}
 use Rattle.tds_relay.proofs.Stepping.{after_both, after_makes, caused_makes, makes_all, may_both, may_makes}
 use Rattle.tds_relay.proofs.Taking.{reads_gone, reads_less, reads_nothing, reads_packet, reads_stays}
 
@@ -158,33 +158,43 @@ pub hear_ok : {E : Type 0} (r : Result (ℕ × Option Heard) E) (number : ℕ) (
 hear_ok (Ok x) number walker link next piece now behind f g is after h = hear_by number walker link next piece now behind f (g x.1) x.0 x.1 is after h
 hear_ok (Err e) number walker link next piece now behind f g is after h = tt
 
--- it is there, and what has come of a packet is written back
+-- it is open, and what has come of a packet is written back
 pub hear_at : {E : Type 0} (r : Result (ℕ × Option Heard) E) (number : ℕ) (walker : Option Reading) (ls : List Link) (place : ℕ) (l next : Link) (piece : List ℕ) (f : House) (g : Option Heard → House)
-    → place_of number ls ≡ Some place → l ≡ slice_index_or ls place l → next.number ≡ l.number
+    → place_of number ls ≡ Some place → l ≡ slice_index_or ls place l → next.number ≡ l.number → l.is_open ≡ true → next.is_open ≡ l.is_open
     → IfOk r (λ heard. HearsBy number walker l next piece heard.0 heard.1 f (g heard.1))
-    → IfOk r (λ heard. Continues number piece (drop heard.0 piece) (reader_at number ls) (if_heard heard.1 (reader_at number (slice_set ls place next))) f (g heard.1))
-hear_at r number walker ls place l next piece f g is there same h =
+    → IfOk r (λ heard. Continues number piece (drop heard.0 piece) (open_at number ls) (if_heard heard.1 (open_at number (slice_set ls place next))) f (g heard.1))
+hear_at r number walker ls place l next piece f g is there same is_open stays h =
     let at : IsAt number ls place = is_at number ls place is in
-    hear_ok r number walker l next piece (reader_at number ls) (reader_at number (slice_set ls place next)) f g
-    (ap (λ (o : Option Link). option_map reader_of o) (at.found l) ∙ ap (λ (x : Link). Some x.reader) (sym there))
-    (ap (λ (o : Option Link). option_map reader_of o) (at.written l next (same ∙ ap (λ (x : Link). x.number) there))) h
+    hear_ok r number walker l next piece (open_at number ls) (open_at number (slice_set ls place next)) f g
+    (is_open_at number ls l (at.found l ∙ ap Some (sym there)) is_open)
+    (is_open_at number (slice_set ls place next) next (at.written l next (same ∙ ap (λ (x : Link). x.number) there)) (stays ∙ is_open)) h
+
+-- it isn't open
+unheard_by : (number : ℕ) (piece : List ℕ) (count : ℕ) (now next : Option packets.Reading) (f : House) → next ≡ None → Continues number piece (drop count piece) now next f f
+unheard_by number piece count now next f none = λ had old bytes s.
+    subst (λ (o : Option packets.Reading). Streams number had old bytes (drop count piece) o f) (sym none) (streams_unheard number had now old f f bytes piece count refl s)
+
+pub unopened : (number : ℕ) (piece : List ℕ) (count : ℕ) (ls : List Link) (place : ℕ) (l : Link) (f : House) → place_of number ls ≡ Some place → l ≡ slice_index_or ls place l → l.is_open ≡ false
+    → Continues number piece (drop count piece) (open_at number ls) (open_at number (slice_set ls place l)) f f
+unopened number piece count ls place l f is there closed =
+    unheard_by number piece count (open_at number ls) (open_at number (slice_set ls place l)) f
+    (is_shut_at number (slice_set ls place l) l ((is_at number ls place is).written l l (ap (λ (x : Link). x.number) there)) closed)
 
 -- it isn't there
-pub unheard : (number : ℕ) (piece : List ℕ) (count : ℕ) (ls : List Link) (f : House) → place_of number ls ≡ None → Continues number piece (drop count piece) (reader_at number ls) (reader_at number ls) f f
-unheard number piece count ls f is = λ had old bytes s.
-    let none : reader_at number ls ≡ None = ap (λ (o : Option Link). option_map reader_of o) (is_nowhere number ls is) in
-    subst (λ (o : Option packets.Reading). Streams number had old bytes (drop count piece) o f) (sym none) (streams_unheard number had (reader_at number ls) old f f bytes piece count refl s)
+pub unheard : (number : ℕ) (piece : List ℕ) (count : ℕ) (ls : List Link) (f : House) → place_of number ls ≡ None → Continues number piece (drop count piece) (open_at number ls) (open_at number ls) f f
+unheard number piece count ls f is =
+    unheard_by number piece count (open_at number ls) (open_at number ls) f (ap (λ (o : Option Link). open_of (option_map seen_of o)) (is_nowhere number ls is))
 
-heard_stays : (number : ℕ) (heard : Option Heard) (ls ms : List Link) → Stays ls ms → (IsNone heard → reader_at number ms ≡ None) → StaysAt (if_heard heard (reader_at number ls)) (reader_at number ms)
-heard_stays number None ls ms stays gone = subst (λ (o : Option packets.Reading). StaysAt None o) (sym (gone refl)) tt
-heard_stays number (Some heard) ls ms stays gone = read_stays number ls ms stays
+heard_stays : (number : ℕ) (heard : Option Heard) (ls ms : List Link) → Stays ls ms → (IsNone heard → reader_at number ms ≡ None) → StaysAt (if_heard heard (open_at number ls)) (open_at number ms)
+heard_stays number None ls ms stays gone = subst (λ (o : Option packets.Reading). StaysAt None o) (sym (gone_open number ms (gone refl))) tt
+heard_stays number (Some heard) ls ms stays gone = stays_opens ls ms stays number
 
 -- bytes are heard, and what came of them is done
 pub streams_on : (number : ℕ) (had : Option packets.Reading) (old f : House) (h h1 : Hall) (ps ps1 : Posts) (bytes left rest : List ℕ) (heard : Option Heard) (now : Option packets.Reading) (ls ms : List Link)
-    → Streams number had old bytes left now f → Continues number left rest now (if_heard heard (reader_at number ls)) f (record { hall = h; posts = ps })
-    → Moved (Connection number) h h1 → ps1 ≡ ps → Stays ls ms → (IsNone heard → reader_at number ms ≡ None) → Streams number had old bytes rest (reader_at number ms) (record { hall = h1; posts = ps1 })
+    → Streams number had old bytes left now f → Continues number left rest now (if_heard heard (open_at number ls)) f (record { hall = h; posts = ps })
+    → Moved (Connection number) h h1 → ps1 ≡ ps → Stays ls ms → (IsNone heard → reader_at number ms ≡ None) → Streams number had old bytes rest (open_at number ms) (record { hall = h1; posts = ps1 })
 streams_on number had old f h h1 ps ps1 bytes left rest heard now ls ms s hears m kept stays gone =
-    streams_moved number had (if_heard heard (reader_at number ls)) (reader_at number ms) old h h1 ps ps1 bytes rest m kept (heard_stays number heard ls ms stays gone) (hears had old bytes s)
+    streams_moved number had (if_heard heard (open_at number ls)) (open_at number ms) old h h1 ps ps1 bytes rest m kept (heard_stays number heard ls ms stays gone) (hears had old bytes s)
 
 -- the connection is lost, and what is left of them isn't heard
 pub streams_lost : {A E : Type 0} (r : Result A E) (number : ℕ) (had now next : Option packets.Reading) (old : House) (h h1 : Hall) (ps ps1 : Posts) (bytes left : List ℕ)
@@ -196,27 +206,16 @@ streams_lost (Ok x) number had now next old h h1 ps ps1 bytes left s m kept gone
 }
 streams_lost (Err e) number had now next old h h1 ps ps1 bytes left s m kept gone = tt
 
-left_same : (o : Option Link) (s : Seen) → option_map seen_of o ≡ Some s → option_map reader_of o ≡ Some s.0
-left_same None s e = absurd (let u : ⊥ = cc in u)
-left_same (Some l) s e = ap (λ (x : Option Seen). option_map (λ (y : Seen). y.0) x) e
-
-has_left : (o : Option Link) (p : Option Seen) → OpensAt (option_map seen_of o) p → HasLeft (option_map reader_of o) p
-has_left o None h = tt
-has_left o (Some s) h = elim h [
-  | inl closed ↦ inl closed
-  | inr same ↦ inr (left_same o s same)
-]
-
 -- and then those who wait are served
 pub comes : {A E : Type 0} (r : Result A E) (number : ℕ) (had : Option packets.Reading) (old : House) (h h1 : Hall) (ps ps1 : Posts) (bytes : List ℕ) (ls ms : List Link)
-    → StreamsAll number had old bytes (reader_at number ls) (record { hall = h; posts = ps }) → OnOk r (MovedOn h h1) → OnOk r (ps1 ≡ ps) → OnOk r (Opens ls ms)
-    → OnOk r (Comes number had old bytes (seen_at number ms) (record { hall = h1; posts = ps1 }))
+    → StreamsAll number had old bytes (open_at number ls) (record { hall = h; posts = ps }) → OnOk r (MovedOn h h1) → OnOk r (ps1 ≡ ps) → OnOk r (Opens ls ms)
+    → OnOk r (Comes number had old bytes (open_at number ms) (record { hall = h1; posts = ps1 }))
 comes (Ok x) number had old h h1 ps ps1 bytes ls ms s on kept opens = record {
   mid = record { hall = h; posts = ps };
-  left = reader_at number ls;
+  left = open_at number ls;
   streams = s;
   goes_on = λ by. on by h (no_moves by h);
   kept = kept;
-  has = has_left (link_at number ls) (seen_at number ms) (opens number);
+  has = opens number;
 }
 comes (Err e) number had old h h1 ps ps1 bytes ls ms s on kept opens = tt

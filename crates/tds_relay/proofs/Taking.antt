@@ -31,7 +31,7 @@ nothing_less r (byte ∷ packet) more e one = absurd (let u : ⊥ = cc in u)
 
 -- ---- Behind each step
 
-joined_both : (xs ys : List (List ℕ)) → joined (xs ++ ys) ≡ joined xs ++ joined ys
+pub joined_both : (xs ys : List (List ℕ)) → joined (xs ++ ys) ≡ joined xs ++ joined ys
 joined_both [] ys = refl
 joined_both (x ∷ xs) ys = ap (λ (zs : List ℕ). x ++ zs) (joined_both xs ys) ∙ sym (append_assoc x (joined xs) (joined ys))
 
@@ -40,7 +40,7 @@ each_more P [] x all one = (one, tt)
 each_more P (y ∷ xs) x all one = (all.0, each_more P xs x all.1 one)
 
 -- bytes more, which stand behind what was there
-more_are : (had bytes more front rest : List ℕ) → had ++ bytes ≡ front ++ rest → had ++ (bytes ++ more) ≡ front ++ (rest ++ more)
+pub more_are : (had bytes more front rest : List ℕ) → had ++ bytes ≡ front ++ rest → had ++ (bytes ++ more) ≡ front ++ (rest ++ more)
 more_are had bytes more front rest e =
     sym (append_assoc had bytes more) ∙ ap (λ (xs : List ℕ). xs ++ more) e ∙ append_assoc front rest more
 

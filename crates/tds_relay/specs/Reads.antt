@@ -1,5 +1,5 @@
 -- What comes on connections: whole packets, one behind the other, and the beginning of one.
-use Rattle.std.specs.Prelude.{◌≡◌, ◌⊎◌, ℕ, suc, ◌==◌, not, Bool, false, List, [], ◌∷◌, ◌++◌, Option, Some, None, filter, option_map, if◌then◌else◌}
+use Rattle.std.specs.Prelude.{◌≡◌, ◌≢◌, ◌⊎◌, ℕ, suc, ◌==◌, not, Bool, IfSome, List, [], ◌∷◌, ◌++◌, Option, Some, None, filter, option_map, if◌then◌else◌}
 use Rattle.std.specs.List.{AllByRecursion}
 use Rattle.tds_packet.specs.Layout.{header_bytes}
 use Rattle.tds_packet.specs.Reading.{Reading, joined, with_taken}
@@ -45,6 +45,15 @@ seen_of l = (l.reader, l.is_open)
 abbrev pub seen_at : ℕ → List Link → Option Seen
 seen_at number ls = option_map seen_of (link_at number ls)
 
+-- with what its reader has, where it is open
+abbrev pub open_of : Option Seen → Option Reading
+open_of None = None
+open_of (Some seen) = if seen.1 then Some seen.0 else None
+
+-- what has come of a packet there, where it is open
+abbrev pub open_at : ℕ → List Link → Option Reading
+open_at number ls = open_of (seen_at number ls)
+
 -- It is the same, or the connection is there no more.
 abbrev pub StaysAt : {A : Type 0} → Option A → Option A → Type 0
 StaysAt old None = Unit {0}
@@ -54,13 +63,26 @@ StaysAt old (Some new) = old ≡ Some new
 abbrev pub Stays : List Link → List Link → Type 0
 Stays old new = (number : ℕ) (had : Option Seen) → StaysAt had (seen_at number old) → StaysAt had (seen_at number new)
 
--- It is the same, or the connection is there no more; or there is one that is yet to be opened.
-abbrev pub OpensAt : Option Seen → Option Seen → Type 0
-OpensAt old None = Unit {0}
-OpensAt old (Some new) = (new.1 ≡ false) ⊎ (old ≡ Some new)
-
+-- Each connection that is open was so, with the same of a packet. Others may be there that are yet to be opened.
 abbrev pub Opens : List Link → List Link → Type 0
-Opens old new = (number : ℕ) → OpensAt (seen_at number old) (seen_at number new)
+Opens old new = (number : ℕ) → StaysAt (open_at number old) (open_at number new)
+
+-- But for the one of this number.
+abbrev pub OpensOthers : ℕ → List Link → List Link → Type 0
+OpensOthers number old new = (other : ℕ) → other ≢ number → StaysAt (open_at other old) (open_at other new)
+
+-- what has come of a packet on each that is open when the one of this number is opened
+abbrev pub opened_at : ℕ → ℕ → List Link → Option Reading
+opened_at number other ls = if other == number then reader_at other ls else open_at other ls
+
+-- The one of this number is opened, with what its reader had.
+abbrev pub OpensOne : ℕ → List Link → List Link → Type 0
+OpensOne number old new = (other : ℕ) → StaysAt (opened_at number other old) (open_at other new)
+
+-- One has come that is open, with nothing of a packet, and no other is open; or none has.
+abbrev pub OpensFirst : Option ℕ → List Link → List Link → Type 0
+OpensFirst None old new = new ≡ old
+OpensFirst (Some number) old new = (other : ℕ) → IfSome (open_at other new) (λ r. (other ≡ number) × (r.taken ≡ []))
 
 -- ---- Packets that are handed on
 
@@ -82,7 +104,7 @@ pub record Reads (r : Reading) (bytes : List ℕ) (packets : List (List ℕ)) (n
   pub are : r.taken ++ bytes ≡ joined packets ++ rest
   pub holds : Holds r rest now
 
--- On a connection that isn't there nothing comes. A reader that has less than a packet has so behind each call.
+-- On a connection that isn't open nothing comes. A reader that has less than a packet has so behind each call.
 abbrev pub ReadsBy : Option Reading → List ℕ → List (List ℕ) → Option Reading → Type 0
 ReadsBy None bytes packets now = (packets ≡ []) × (now ≡ None)
 ReadsBy (Some r) bytes packets now = IsLess r r.taken → Reads r bytes packets now
@@ -115,17 +137,45 @@ abbrev pub Continues : ℕ → List ℕ → List ℕ → Option Reading → Opti
 Continues number left rest now next f g =
     (had : Option Reading) (old : House) (bytes : List ℕ) → Streams number had old bytes left now f → Streams number had old bytes rest next g
 
--- A connection that is open has just this of a packet.
-abbrev pub HasLeft : Option Reading → Option Seen → Type 0
-HasLeft left None = Unit {0}
-HasLeft left (Some new) = (new.1 ≡ false) ⊎ (left ≡ Some new.0)
-
--- Bytes that come are heard, and then those who wait are served, by which nothing comes: the connection has what was left of them, or is
--- lost.
-pub record Comes (number : ℕ) (had : Option Reading) (old : House) (bytes : List ℕ) (now : Option Seen) (new : House) : Type 0 where
+-- Bytes that come are heard, and then those who wait are served, by which nothing comes: the connection has just what was left of them,
+-- or isn't open.
+pub record Comes (number : ℕ) (had : Option Reading) (old : House) (bytes : List ℕ) (now : Option Reading) (new : House) : Type 0 where
   pub mid : House
   pub left : Option Reading
   pub streams : StreamsAll number had old bytes left mid
   pub goes_on : (by : Cause) → Moves by mid.hall new.hall
   pub kept : new.posts ≡ mid.posts
-  pub has : HasLeft left now
+  pub has : StaysAt left now
+
+-- ---- Over calls
+
+-- What a call says of the connection of a number, which is open before it and behind it: from what its reader had to what it has. Bytes
+-- come on the connection; or it is left so by another call.
+pub data Call (number : ℕ) : Type 0 where
+  Came : (had now : Reading) (bytes : List ℕ) (old new : House) → Comes number (Some had) old bytes (Some now) new → Call number
+  Another : (had now : Reading) → StaysAt (Some had) (Some now) → Call number
+
+abbrev pub had_before : {number : ℕ} → Call number → Reading
+had_before (Came had now bytes old new comes) = had
+had_before (Another had now stays) = had
+
+abbrev pub has_behind : {number : ℕ} → Call number → Reading
+has_behind (Came had now bytes old new comes) = now
+has_behind (Another had now stays) = now
+
+-- They follow each other, from this reader to this one.
+abbrev pub Follow : {number : ℕ} → Reading → List (Call number) → Reading → Type 0
+Follow had [] now = had ≡ now
+Follow had (call ∷ calls) now = (had ≡ had_before call) × Follow (has_behind call) calls now
+
+-- the bytes that come in them
+abbrev pub bytes_in : {number : ℕ} → List (Call number) → List ℕ
+bytes_in [] = []
+bytes_in (Came had now bytes old new comes ∷ calls) = bytes ++ bytes_in calls
+bytes_in (Another had now stays ∷ calls) = bytes_in calls
+
+-- the packets that come by their steps
+abbrev pub packets_in : {number : ℕ} → List (Call number) → List (List ℕ)
+packets_in [] = []
+packets_in (Came had now bytes old new comes ∷ calls) = packets_of comes.streams.streams.steps ++ packets_in calls
+packets_in (Another had now stays ∷ calls) = packets_in calls

@@ -22,12 +22,13 @@ ghost use Rattle.tds_relay.specs.Giving.{AreSaid, Gives, IsFrontOf, IsKept, Serv
 ghost use Rattle.tds_relay.specs.Giving.{Visit, given_in, happens_in, pieces_of, sent_in};
 ghost use Rattle.tds_relay.specs.Giving.{waits_in};
 ghost use Rattle.tds_relay.specs.House.{House, IsLedTo, MayAll, Step, Steps};
-ghost use Rattle.tds_packet.specs.Reading.{joined};
-ghost use Rattle.tds_relay.specs.Reads.{Comes, reader_at, seen_at};
+ghost use Rattle.tds_packet.specs.Reading.{Reading, joined};
+ghost use Rattle.tds_relay.specs.Reads.{Call, Comes, Follow, Reads, bytes_in, open_at, packets_in};
 ghost use Rattle.tds_relay.specs.Taking.{Tells};
 ghost use Rattle.tds_relay.specs.Ties as causes;
 ghost use Rattle.tds_relay.specs.Ties.{Cause, Causes, Connection, Goes, IsReached, Owns};
 
+use crate::reading::reads_packets;
 use crate::{NoMemory, Relay};
 use tds_front::laws::{bytes_are_packets, lawful_front};
 use tds_service::table_laws::{each_alone, line_by_history};
@@ -151,15 +152,29 @@ pub fn bytes_that_came(relay: &mut Relay, key: usize, said: &[u8]) -> Result<(),
     relay.said(key, said)
 }
 
-/// What a connection's reader had of a packet, and behind it the bytes that come in a call, are the packets
+/// What an open connection's reader had of a packet, and behind it the bytes that come in a call, are the packets
 /// that come by the call's steps, whole and in order, handed on or withheld, and less than a packet, which the
 /// reader has then. Or the connection is lost in that call: then they are a front of those bytes, and there is no
-/// connection of its number that is open. For a reader that had less than a packet: each call leaves it so.
+/// connection of its number that is open. For a reader that had less than a packet: each call leaves it so. On a
+/// connection that isn't open nothing comes.
 pub fn packets_that_came(relay: &mut Relay, number: u64, came: &[u8]) -> Result<(), NoMemory>
-    ensures { OnOk result (Comes number (reader_at number relay.old.links.items)
-        (house_in relay.old) came.now (seen_at number relay.new.links.items) (house_in relay.new)) }
+    ensures { OnOk result (Comes number (open_at number relay.old.links.items)
+        (house_in relay.old) came.now (open_at number relay.new.links.items) (house_in relay.new)) }
 {
     relay.came(number, came)
+}
+
+/// From where a connection is opened, and while it is open, over any calls: the bytes that come on it are the packets
+/// that come by the calls' steps, whole and in order, and less than a packet, which its reader has at last. Each call
+/// leaves each other connection that is open with what its reader had: its own contract says so (`Opens`).
+pub fn packets_over_calls()
+    ensures packets { (number : ℕ) (calls : List (Call number)) (had now : Reading)
+        → had.taken ≡ [] → Follow had calls now
+        → Reads had (bytes_in calls) (packets_in calls) (Some now) }
+    /// A connection's reader has nothing before it is opened.
+    ensures unread { (l : Link) → l.is_open ≡ false → l.reader.taken ≡ [] }
+{
+    reads_packets();
 }
 
 /// Over any calls, and all that is sent in between: what an application is sent, and then what waits for it, are

@@ -1,5 +1,5 @@
 //! A connection to the server, as the relay knows it beside its service.
-ghost use Rattle.std.specs.Prelude.{◌≡◌, ◌++◌, ℕ, List, IfOk, OnOk, false, if◌then◌else◌};
+ghost use Rattle.std.specs.Prelude.{◌≡◌, ◌++◌, [], ℕ, List, IfOk, OnOk, false, if◌then◌else◌};
 ghost use Rattle.tds_relay.specs.Cutting.{IsAnew};
 ghost use Rattle.tds_packet.specs.declared.kind.Direction.TheVariants.{ToClient};
 
@@ -36,6 +36,7 @@ pub(crate) struct Link {
     pub(crate) reader: PacketReader,
     pub(crate) answer: Answer,
     ghost reads: { reader.direction ≡ ToClient },
+    ghost unread: { is_open ≡ false → reader.taken ≡ [] },
 }
 
 /// The message that comes, as far as news are cut out of it.
@@ -59,6 +60,8 @@ impl Link {
     ) -> Result<Link, NoMemory>
         ensures closed { IfOk result (λ link. link.is_open ≡ false) }
         ensures news { IfOk result (λ link. link.news ≡ news) }
+        ensures number { IfOk result (λ link. link.number ≡ number) }
+        ensures unread { IfOk result (λ link. link.reader.taken ≡ []) }
     {
         let answer = Answer {
             alloc,

@@ -1,6 +1,6 @@
 //! The connections by their numbers.
-ghost use Rattle.std.specs.Prelude.{◌≡◌, ◌<◌, IfSome, length};
-ghost use Rattle.tds_relay.specs.Reads.{Stays, place_of, without_link};
+ghost use Rattle.std.specs.Prelude.{◌≡◌, ◌<◌, ℕ, IfSome, length};
+ghost use Rattle.tds_relay.specs.Reads.{Stays, open_at, opened_at, place_of, without_link};
 
 use crate::NoMemory;
 use crate::link::{Link, News};
@@ -50,4 +50,40 @@ pub(crate) fn set_cuts(links: &mut Vec<Link>, number: u64, cuts: bool)
     let link = &mut links[place];
     link.news = if cuts { News::IsCut } else { News::Comes };
     link.answer.restart();
+}
+
+/// Whoever carries a connection's bytes calls it so.
+#[tactic(auto, using(crate::proofs::Staying::stays_written, crate::proofs::Staying::stays_refl))]
+pub(crate) fn set_tag(links: &mut Vec<Link>, number: u64, tag: usize)
+    ensures { Stays links.old.items links.new.items }
+{
+    let Some(place) = place_in(links, number) else {
+        return;
+    };
+    let link = &mut links[place];
+    link.tag = Some(tag);
+}
+
+/// So many bytes wait on a connection no more. False where it isn't there.
+#[tactic(auto, using(crate::proofs::Staying::stays_written, crate::proofs::Staying::stays_refl))]
+pub(crate) fn forget_sent(links: &mut Vec<Link>, number: u64, count: usize) -> bool
+    ensures { Stays links.old.items links.new.items }
+{
+    let Some(place) = place_in(links, number) else {
+        return false;
+    };
+    let link = &mut links[place];
+    link.out.sent(count);
+    true
+}
+
+/// A connection is open and logged in.
+pub(crate) fn set_open(links: &mut Vec<Link>, number: u64)
+    ensures { (other : ℕ) → open_at other links.new.items ≡ opened_at number other links.old.items }
+{
+    let Some(place) = place_in(links, number) else {
+        return;
+    };
+    let link = &mut links[place];
+    link.is_open = true;
 }

@@ -23,7 +23,7 @@ use crate::NoMemory;
 use crate::application::Application;
 use crate::desk::Desk;
 use crate::link::{Link, News};
-use crate::links::{append_to, set_cuts};
+use crate::links::{append_to, forget_sent, set_cuts};
 use crate::order::Order;
 use crate::outgoing::{BESIDE, PIECE};
 pub use places::{Counts, Place, PlaceOn};
@@ -87,6 +87,7 @@ impl Relay {
         ensures posts { IfOk result (λ key. Enters self.old.size key
             (posts_in self.old.applications) (posts_in self.new.applications)) }
         ensures steps { OnOk result (Steps Neither (house_in self.old) (house_in self.new)) }
+        ensures links { self.new.links.items ≡ self.old.links.items }
     {
         let application = Application::new(self.alloc, tag, self.size);
         let Ok(key) = self.applications.insert(application) else {
@@ -100,6 +101,7 @@ impl Relay {
         ensures desk { self.new.desk ≡ self.old.desk }
         ensures kept { posts_in self.new.applications ≡ posts_in self.old.applications }
         ensures ends { ends_in self.new.applications ≡ ends_in self.old.applications }
+        ensures links { self.new.links.items ≡ self.old.links.items }
     {
         mem::replace(&mut self.orders, Vec::new(self.alloc))
     }
@@ -186,6 +188,7 @@ impl Relay {
             ≡ change key (without_first count) (posts_in self.old.applications) }
         ensures ends { ends_in self.new.applications ≡ ends_in self.old.applications }
         ensures steps { Steps Neither (house_in self.old) (house_in self.new) }
+        ensures links { self.new.links.items ≡ self.old.links.items }
     {
         self.forget_sent(key, count);
         let hold = self.desk.hold_of(key)?;
@@ -199,6 +202,7 @@ impl Relay {
         ensures sent { posts_in self.new.applications
             ≡ change key (without_first count) (posts_in self.old.applications) }
         ensures ends { ends_in self.new.applications ≡ ends_in self.old.applications }
+        ensures links { self.new.links.items ≡ self.old.links.items }
     {
         match self.applications.get_mut(key) {
             Some(application) => application.out.sent(count),
@@ -212,9 +216,11 @@ impl Relay {
         ensures desk { self.new.desk ≡ self.old.desk }
         ensures kept { posts_in self.new.applications ≡ posts_in self.old.applications }
         ensures ends { ends_in self.new.applications ≡ ends_in self.old.applications }
+        ensures read { Stays self.old.links.items self.new.links.items }
     {
-        let link = link_in(&mut self.links, number)?;
-        link.out.sent(count);
+        if !forget_sent(&mut self.links, number, count) {
+            return None;
+        }
         let key = self.desk.key_on(number)?;
         Some(self.applications.get(key)?.tag)
     }
@@ -372,14 +378,4 @@ impl Relay {
         }
         None
     }
-}
-
-/// The connection of this number among these.
-fn link_in(links: &mut [Link], number: u64) -> Option<&mut Link> {
-    for link in links.iter_mut() {
-        if link.number == number {
-            return Some(link);
-        }
-    }
-    None
 }

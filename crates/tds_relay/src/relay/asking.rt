@@ -5,7 +5,7 @@ ghost use Rattle.tds_relay.specs.Fronts.{given_by, house_in};
 ghost use Rattle.tds_relay.specs.Hall.{IfOpen, change_end, end_at};
 ghost use Rattle.tds_relay.specs.House.{Steps};
 ghost use Rattle.tds_relay.specs.Posts.{posts_in};
-ghost use Rattle.tds_relay.specs.Reads.{Stays};
+ghost use Rattle.tds_relay.specs.Reads.{Opens, Stays};
 ghost use Rattle.tds_relay.specs.Taking.{Tells, TellsOn};
 ghost use Rattle.tds_relay.specs.Ties.{Application, Goes, GoesOn, NobodyWaits, desk_in};
 
@@ -27,6 +27,7 @@ impl Relay {
         ensures tells { OnOk result (Tells key (house_in self.old) piece.now []
             (house_in self.new)) }
         ensures served { OnOk result (NobodyWaits (desk_in self.new.desk)) }
+        ensures opens { OnOk result (Opens self.old.links.items self.new.links.items) }
     {
         self.take_all(key, piece)?;
         self.serve_line()
@@ -39,6 +40,7 @@ impl Relay {
             (desk_in self.old.desk) (desk_in self.new.desk)) }
         ensures tells { OnOk result (Tells key (house_in self.old) piece.now []
             (house_in self.new)) }
+        ensures read { OnOk result (Stays self.old.links.items self.new.links.items) }
     {
         let mut rest = piece;
         'taking: for _ in 0..=piece.len() {
@@ -52,11 +54,13 @@ impl Relay {
     }
 
     /// Takes some of them, and answers how many.
+    #[tactic(auto, using(crate::proofs::Staying::stays_refl))]
     fn take(&mut self, key: usize, piece: &[u8]) -> Result<usize, NoMemory>
         ensures goes { OnOk result (Goes (Application key)
             (desk_in self.old.desk) (desk_in self.new.desk)) }
         ensures tells { IfOk result (λ count. TellsOn key piece.now (drop count piece.now)
             (house_in self.old) (house_in self.new)) }
+        ensures read { OnOk result (Stays self.old.links.items self.new.links.items) }
     {
         let Some(application) = self.applications.get_mut(key) else {
             return Ok(piece.len());
@@ -81,6 +85,7 @@ impl Relay {
             ≡ given_by key said (posts_in self.old.applications)) }
         ensures moves { OnOk result (FedOn key said (desk_in self.old.desk)
             (ends_in self.old.applications) (hall_in self.new)) }
+        ensures read { OnOk result (Stays self.old.links.items self.new.links.items) }
     {
         match said {
             Said::Nothing => Ok(()),
@@ -100,7 +105,7 @@ impl Relay {
     /// A request begins. Where it asks for a reset itself, its application gives back what it holds; but
     /// where the transaction is to stay, its connection stays too: whether there is one is known once the
     /// server has acknowledged what was taken back before.
-    #[tactic(auto, using(crate::proofs::Reaching::reaches_turn, crate::proofs::Reaching::reaches_left, crate::proofs::Posting::kept_more, crate::proofs::Posting::posts_kept, crate::proofs::Fronts::ends_more, crate::proofs::Fronts::ends_kept))]
+    #[tactic(auto, using(crate::proofs::Reaching::reaches_turn, crate::proofs::Reaching::reaches_left, crate::proofs::Posting::kept_more, crate::proofs::Posting::posts_kept, crate::proofs::Fronts::ends_more, crate::proofs::Fronts::ends_kept, crate::proofs::Staying::stays_refl))]
     fn begin(&mut self, key: usize, kind: Kind, reset: Option<Reset>) -> Result<(), NoMemory>
         ensures goes { OnOk result (Goes (Application key)
             (desk_in self.old.desk) (desk_in self.new.desk)) }
@@ -108,6 +113,7 @@ impl Relay {
             ≡ posts_in self.old.applications) }
         ensures moves { OnOk result (Moved (Application key) (hall_in self.old)
             (hall_in self.new)) }
+        ensures read { OnOk result (Stays self.old.links.items self.new.links.items) }
     {
         let Some(application) = self.applications.get_mut(key) else {
             return Ok(());
@@ -156,6 +162,7 @@ impl Relay {
             ≡ posts_in self.old.applications) }
         ensures moves { OnOk result (Moved (Application key) (hall_in self.old)
             (hall_in self.new)) }
+        ensures read { OnOk result (Stays self.old.links.items self.new.links.items) }
     {
         if !self.has_nothing_out(key) {
             return self.expel(key);
@@ -173,6 +180,7 @@ impl Relay {
             ≡ posts_in self.old.applications) }
         ensures moves { OnOk result (Moved (Application key) (hall_in self.old)
             (hall_in self.new)) }
+        ensures read { OnOk result (Stays self.old.links.items self.new.links.items) }
     {
         match self.desk.renew(key)? {
             Renewed::Kept(hold) => {
@@ -185,7 +193,7 @@ impl Relay {
     }
 
     /// The next bytes of its request's body, with which it is whole or not.
-    #[tactic(auto, using(crate::proofs::Posting::kept_more, crate::proofs::Posting::posts_kept, crate::proofs::Fronts::ends_more, crate::proofs::Fronts::ends_kept))]
+    #[tactic(auto, using(crate::proofs::Posting::kept_more, crate::proofs::Posting::posts_kept, crate::proofs::Fronts::ends_more, crate::proofs::Fronts::ends_kept, crate::proofs::Staying::stays_refl))]
     fn go_on(&mut self, key: usize, bytes: &[u8], whole: bool) -> Result<(), NoMemory>
         ensures goes { OnOk result (Goes (Application key)
             (desk_in self.old.desk) (desk_in self.new.desk)) }
@@ -193,6 +201,7 @@ impl Relay {
             ≡ posts_in self.old.applications) }
         ensures moves { OnOk result (Moved (Application key) (hall_in self.old)
             (hall_in self.new)) }
+        ensures read { OnOk result (Stays self.old.links.items self.new.links.items) }
     {
         let Some(application) = self.applications.get_mut(key) else {
             return Ok(());

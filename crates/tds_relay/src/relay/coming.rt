@@ -9,8 +9,8 @@ ghost use Rattle.tds_relay.specs.declared.desk.coming.What.TheVariants.{Acknowle
 ghost use Rattle.tds_relay.specs.Handing.{Brings, HearsBy, Passes, news_with};
 ghost use Rattle.tds_relay.specs.House.{Steps};
 ghost use Rattle.tds_relay.specs.Posts.{post_of, posts_in};
-ghost use Rattle.tds_relay.specs.Reads.{Comes, Continues, Stays, StreamsAll, if_heard};
-ghost use Rattle.tds_relay.specs.Reads.{reader_at, seen_at};
+ghost use Rattle.tds_relay.specs.Reads.{Comes, Continues, OpensOthers, Stays, StreamsAll, if_heard};
+ghost use Rattle.tds_relay.specs.Reads.{open_at, reader_at};
 ghost use Rattle.tds_relay.specs.Bounds.{IsRoom};
 ghost use Rattle.tds_relay.specs.Ties as causes;
 ghost use Rattle.tds_relay.specs.Ties.{Connection, Goes, GoesOn, NobodyWaits, desk_in};
@@ -34,9 +34,11 @@ impl Relay {
         ensures steps { OnOk result (Steps (Connection number) (house_in self.old)
             (house_in self.new)) }
         ensures served { OnOk result (NobodyWaits (desk_in self.new.desk)) }
-        ensures comes { OnOk result (Comes number (reader_at number self.old.links.items)
-            (house_in self.old) piece.now (seen_at number self.new.links.items)
+        ensures comes { OnOk result (Comes number (open_at number self.old.links.items)
+            (house_in self.old) piece.now (open_at number self.new.links.items)
             (house_in self.new)) }
+        ensures others { OnOk result (OpensOthers number
+            self.old.links.items self.new.links.items) }
     {
         self.hear_all(number, piece)?;
         self.serve_line()
@@ -46,9 +48,11 @@ impl Relay {
     fn hear_all(&mut self, number: u64, piece: &[u8]) -> Result<(), NoMemory>
         ensures goes { OnOk result (Goes (Connection number)
             (desk_in self.old.desk) (desk_in self.new.desk)) }
-        ensures streams { OnOk result (StreamsAll number (reader_at number self.old.links.items)
-            (house_in self.old) piece.now (reader_at number self.new.links.items)
+        ensures streams { OnOk result (StreamsAll number (open_at number self.old.links.items)
+            (house_in self.old) piece.now (open_at number self.new.links.items)
             (house_in self.new)) }
+        ensures others { OnOk result (OpensOthers number
+            self.old.links.items self.new.links.items) }
     {
         let mut rest = piece;
         'taking: for _ in 0..=piece.len() {
@@ -63,17 +67,19 @@ impl Relay {
     }
 
     /// Takes bytes up to the end of a packet, and hands on what is an application's. None where they
-    /// are no packet of an answer.
+    /// are no packet of an answer. What comes on a connection that isn't open is nothing.
     fn hear(&mut self, number: u64, piece: &[u8]) -> Result<(usize, Option<Heard>), NoMemory>
         ensures goes { OnOk result (Goes (Connection number)
             (desk_in self.old.desk) (desk_in self.new.desk)) }
         ensures ends { OnOk result (ends_in self.new.applications
             ≡ ends_in self.old.applications) }
         ensures continues { IfOk result (λ heard. Continues number piece.now
-            (drop heard.0 piece.now) (reader_at number self.old.links.items)
-            (if_heard heard.1 (reader_at number self.new.links.items)) (house_in self.old)
+            (drop heard.0 piece.now) (open_at number self.old.links.items)
+            (if_heard heard.1 (open_at number self.new.links.items)) (house_in self.old)
             (house_with (desk_in self.new.desk) (told_by heard.1 (ends_in self.old.applications))
             (posts_in self.new.applications))) }
+        ensures others { OnOk result (OpensOthers number
+            self.old.links.items self.new.links.items) }
     {
         let Relay {
             desk,
@@ -87,6 +93,9 @@ impl Relay {
             return Ok((piece.len(), Some(NOTHING)));
         };
         let link = &mut links[place];
+        if !link.is_open {
+            return Ok((piece.len(), Some(NOTHING)));
+        }
         hear_on(desk, applications, link, number, outbox, piece)
     }
 
@@ -273,6 +282,7 @@ fn hear_on(
     outbox: &mut Vec<u8>,
     piece: &[u8],
 ) -> Result<(usize, Option<Heard>), NoMemory>
+    requires { link.old.is_open ≡ true }
     ensures goes { OnOk result (Goes (Connection number) (desk_in desk.old)
         (desk_in desk.new)) }
     ensures hears { IfOk result (λ heard. HearsBy number (reading_on number desk.old.service)
@@ -280,6 +290,7 @@ fn hear_on(
         (house_with (desk_in desk.new) (told_by heard.1 (ends_in applications.old))
         (posts_in applications.new))) }
     ensures number { link.new.number ≡ link.old.number }
+    ensures is_open { link.new.is_open ≡ link.old.is_open }
     ensures ends { OnOk result (ends_in applications.new ≡ ends_in applications.old) }
 {
     let Ok(count) = link.reader.feed(piece) else {
@@ -307,6 +318,7 @@ fn hear_packet(
         (posts_in applications.new))) }
     ensures reader { link.new.reader ≡ link.old.reader }
     ensures number { link.new.number ≡ link.old.number }
+    ensures is_open { link.new.is_open ≡ link.old.is_open }
     ensures ends { OnOk result (ends_in applications.new ≡ ends_in applications.old) }
 {
     let Some(packet) = link.reader.packet() else {

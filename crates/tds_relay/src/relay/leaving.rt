@@ -6,7 +6,7 @@ ghost use Rattle.tds_relay.specs.Fronts.{house_in};
 ghost use Rattle.tds_relay.specs.Hall.{change_end, change_whose, closes};
 ghost use Rattle.tds_relay.specs.House.{Steps};
 ghost use Rattle.tds_relay.specs.Posts.{posts_in};
-ghost use Rattle.tds_relay.specs.Reads.{Stays, reader_at};
+ghost use Rattle.tds_relay.specs.Reads.{Opens, Stays, reader_at};
 ghost use Rattle.tds_relay.specs.Ties.{Application, Connection, Goes, GoesOn, Leaving, NobodyWaits};
 ghost use Rattle.tds_relay.specs.Ties.{desk_in};
 
@@ -24,6 +24,7 @@ impl Relay {
         ensures steps { OnOk result (Steps (Application key) (house_in self.old)
             (house_in self.new)) }
         ensures served { OnOk result (NobodyWaits (desk_in self.new.desk)) }
+        ensures opens { OnOk result (Opens self.old.links.items self.new.links.items) }
     {
         let _ = self.applications.try_remove(key).is_some();
         self.release(key)?;
@@ -38,6 +39,7 @@ impl Relay {
         ensures steps { OnOk result (Steps (Connection number) (house_in self.old)
             (house_in self.new)) }
         ensures served { OnOk result (NobodyWaits (desk_in self.new.desk)) }
+        ensures opens { OnOk result (Opens self.old.links.items self.new.links.items) }
     {
         self.lose(number)?;
         self.serve_line()
@@ -52,6 +54,7 @@ impl Relay {
             ≡ posts_in self.old.applications) }
         ensures moves { OnOk result (Moved (Application key) (hall_of_ends (desk_in self.old.desk)
             (change_end key closes (ends_in self.old.applications))) (hall_in self.new)) }
+        ensures read { OnOk result (Stays self.old.links.items self.new.links.items) }
     {
         self.end(key)?;
         self.release(key)
@@ -87,6 +90,7 @@ impl Relay {
         ensures kept { OnOk result (posts_in self.new.applications
             ≡ posts_in self.old.applications) }
         ensures lets_go { OnOk result (LetsGoFirst key (hall_in self.old) (hall_in self.new)) }
+        ensures read { OnOk result (Stays self.old.links.items self.new.links.items) }
     {
         self.outbox.clear();
         let left = self.desk.leave(key, &mut self.outbox)?;

@@ -1,20 +1,21 @@
 //! Connections that are lent to those who wait, opened, and asked.
-ghost use Rattle.std.specs.Prelude.{◌≡◌, ◌++◌, ◌∷◌, [], IfOk, OnOk, false, if◌then◌else◌};
+ghost use Rattle.std.specs.Prelude.{◌≡◌, ◌++◌, ◌∷◌, [], ℕ, IfOk, OnOk, false, if◌then◌else◌};
 ghost use Rattle.slab.specs.Slab.{get};
 ghost use Rattle.tds_relay.specs.Fronts.{MovedOn, ends_in, hall_in, house_in};
 ghost use Rattle.tds_relay.specs.Handing.{news_for};
 ghost use Rattle.tds_relay.specs.House.{Steps};
 ghost use Rattle.tds_relay.specs.Posts.{asks_reset, posts_in};
-ghost use Rattle.tds_relay.specs.Reads.{Opens, Stays};
+ghost use Rattle.tds_relay.specs.Reads.{Opens, OpensFirst, OpensOne, Stays, open_at, opened_at};
 ghost use Rattle.tds_relay.specs.Ties.{Connection, Goes, GoesOn, Neither, NobodyWaits, desk_in};
 ghost use Rattle.tds_relay.specs.declared.link.Link.{Link};
 ghost use Rattle.tds_relay.specs.declared.link.News.TheVariants.{Comes, IsTold};
 
-use super::{Relay, link_in};
+use super::Relay;
 use crate::NoMemory;
 use crate::application::Asking;
 use crate::desk::Served;
 use crate::link::{Link, News};
+use crate::links::{set_open, set_tag};
 use crate::order::Order;
 use std::alloc::AllocError;
 use tds_service::Refusal;
@@ -26,6 +27,8 @@ impl Relay {
     pub fn bring(&mut self, tag: usize) -> Result<Option<u64>, NoMemory>
         ensures goes { OnOk result (Goes Neither (desk_in self.old.desk) (desk_in self.new.desk)) }
         ensures steps { OnOk result (Steps Neither (house_in self.old) (house_in self.new)) }
+        ensures opens { IfOk result (λ number.
+            OpensFirst number self.old.links.items self.new.links.items) }
     {
         if !self.links.is_empty() {
             return Ok(None);
@@ -49,6 +52,8 @@ impl Relay {
     fn new_link(&self, number: u64, news: News) -> Result<Link, NoMemory>
         ensures closed { IfOk result (λ link. link.is_open ≡ false) }
         ensures news { IfOk result (λ link. link.news ≡ news) }
+        ensures number { IfOk result (λ link. link.number ≡ number) }
+        ensures unread { IfOk result (λ link. link.reader.taken ≡ []) }
     {
         Link::new(self.alloc, number, self.size, self.features, news)
     }
@@ -58,11 +63,9 @@ impl Relay {
         ensures desk { self.new.desk ≡ self.old.desk }
         ensures kept { posts_in self.new.applications ≡ posts_in self.old.applications }
         ensures ends { ends_in self.new.applications ≡ ends_in self.old.applications }
+        ensures read { Stays self.old.links.items self.new.links.items }
     {
-        match link_in(&mut self.links, number) {
-            Some(link) => link.tag = Some(tag),
-            None => {}
-        }
+        set_tag(&mut self.links, number, tag);
     }
 
     /// The connection of this number is open and logged in.
@@ -71,6 +74,7 @@ impl Relay {
         ensures steps { OnOk result (Steps (Connection number) (house_in self.old)
             (house_in self.new)) }
         ensures served { OnOk result (NobodyWaits (desk_in self.new.desk)) }
+        ensures opens { OnOk result (OpensOne number self.old.links.items self.new.links.items) }
     {
         self.set_open(number);
         self.order_write_on(number)?;
@@ -82,19 +86,20 @@ impl Relay {
         ensures desk { self.new.desk ≡ self.old.desk }
         ensures kept { posts_in self.new.applications ≡ posts_in self.old.applications }
         ensures ends { ends_in self.new.applications ≡ ends_in self.old.applications }
+        ensures opens { (other : ℕ) → open_at other self.new.links.items
+            ≡ opened_at number other self.old.links.items }
     {
-        match link_in(&mut self.links, number) {
-            Some(link) => link.is_open = true,
-            None => {}
-        }
+        set_open(&mut self.links, number);
     }
 
     /// Asks what the application asks that holds a connection.
+    #[tactic(auto, using(crate::proofs::Staying::stays_refl))]
     fn start_on(&mut self, number: u64) -> Result<(), NoMemory>
         ensures goes { OnOk result (GoesOn (desk_in self.old.desk) (desk_in self.new.desk)) }
         ensures kept { OnOk result (posts_in self.new.applications
             ≡ posts_in self.old.applications) }
         ensures moves { OnOk result (MovedOn (hall_in self.old) (hall_in self.new)) }
+        ensures read { OnOk result (Stays self.old.links.items self.new.links.items) }
     {
         match self.desk.key_on(number) {
             Some(key) => self.start(key),

@@ -5,6 +5,7 @@ ghost use Rattle.tds_relay.specs.Desk.{Does, Stops, Unwaits};
 ghost use Rattle.tds_relay.specs.Fronts.{FedOn, Moved, MovedOn, ends_in, hall_in, hall_of_ends, withdraws};
 ghost use Rattle.tds_relay.specs.Hall.{Ends, IfOpen, IsHere, change_end, end_at};
 ghost use Rattle.tds_relay.specs.Posts.{acknowledgement, give, posts_in};
+ghost use Rattle.tds_relay.specs.Reads.{Stays};
 ghost use Rattle.tds_relay.specs.Ties.{Application, Goes, Turns, desk_in};
 
 use super::Relay;
@@ -27,6 +28,7 @@ impl Relay {
             ≡ posts_in self.old.applications) }
         ensures moves { OnOk result (Moved (Application key) (hall_in self.old)
             (hall_in self.new)) }
+        ensures read { OnOk result (Stays self.old.links.items self.new.links.items) }
     {
         self.forget_reset(key);
         let was_asked = self.forget_request(key);
@@ -39,6 +41,7 @@ impl Relay {
         ensures kept { posts_in self.new.applications ≡ posts_in self.old.applications }
         ensures ends { ends_in self.new.applications ≡ ends_in self.old.applications }
         ensures turns { Turns (Unwaits key) (desk_in self.old.desk) (desk_in self.new.desk) [] [] }
+        ensures links { self.new.links.items ≡ self.old.links.items }
     {
         self.desk.unwait(key);
         let Some(application) = self.applications.get_mut(key) else {
@@ -58,6 +61,7 @@ impl Relay {
             ≡ posts_in self.old.applications) }
         ensures moves { OnOk result (Moved (Application key) (hall_in self.old)
             (hall_in self.new)) }
+        ensures read { OnOk result (Stays self.old.links.items self.new.links.items) }
     {
         if !self.has_nothing_out(key) {
             return self.expel(key);
@@ -78,6 +82,7 @@ impl Relay {
             ≡ posts_in self.old.applications) }
         ensures moves { OnOk result (FedOn key (Forget true) (desk_in self.old.desk)
             (ends_in self.old.applications) (hall_in self.new)) }
+        ensures read { OnOk result (Stays self.old.links.items self.new.links.items) }
     {
         self.forget_reset(key);
         let _ = self.forget_request(key);
@@ -100,6 +105,7 @@ impl Relay {
         ensures moves { (ends : Ends) → IfOpen IsHere (end_at ends key) → Moved (Application key)
             (hall_of_ends (desk_in self.old.desk) ends)
             (hall_of_ends (desk_in self.new.desk) ends) }
+        ensures links { self.new.links.items ≡ self.old.links.items }
     {
         self.outbox.clear();
         match self.desk.cancel(key, &mut self.outbox) {
@@ -134,6 +140,7 @@ impl Relay {
         ensures given { OnOk result (posts_in self.new.applications
             ≡ give key acknowledgement (posts_in self.old.applications)) }
         ensures moves { OnOk result (MovedOn (hall_in self.old) (hall_in self.new)) }
+        ensures links { OnOk result (self.new.links.items ≡ self.old.links.items) }
     {
         match self.applications.get_mut(key) {
             Some(application) => {
@@ -152,6 +159,7 @@ impl Relay {
             ≡ posts_in self.old.applications) }
         ensures moves { OnOk result (FedOn key HandOn (desk_in self.old.desk)
             (ends_in self.old.applications) (hall_in self.new)) }
+        ensures read { OnOk result (Stays self.old.links.items self.new.links.items) }
     {
         match self.stop(key) {
             Some(number) => {

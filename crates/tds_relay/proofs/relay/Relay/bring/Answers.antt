@@ -1,9 +1,10 @@
-use Rattle.std.proofs.Common.{refl}
+use Rattle.std.proofs.Common.{◌≡◌, ◌∙◌, refl, rules, sym, true}
 use Rattle.tds_relay.specs.Fronts.{Moved, hall_in, house_in}
 use Rattle.tds_relay.specs.Ties.{Neither}
 use Rattle.tds_relay.proofs.Fronts.{moves_does}
 use Rattle.tds_relay.proofs.Reaching.{reaches_turn}
 use Rattle.tds_relay.proofs.Stepping.{no_steps, steps_moved}
+use Rattle.tds_relay.proofs.Staying.{first_opens}
 use Rattle.tds_relay.proofs.relay.Relay.bring.Goals as goal
 
 pub returns-in_default-clause-goes : goal.returns-in_default-clause-goes
@@ -30,3 +31,9 @@ returns-clause-steps c =
     steps_moved Neither (house_in c.args.self.now) _ _ _ _ (c.in_ok-serve_line.ensures.moves Neither) c.in_ok-serve_line.ensures.kept
     (steps_moved Neither (house_in c.args.self.now) _ _ _ _ (c.in_ok-send_on.ensures.moves Neither) c.in_ok-send_on.ensures.kept
     (steps_moved Neither (house_in c.args.self.now) _ _ _ _ (λ from h. moves_does Neither from _ _ _ _ _ _ _ c.in_ok-left.ensures.2 tt refl refl h) refl (no_steps Neither (house_in c.args.self.now))))
+
+pub returns-clause-opens : goal.returns-clause-opens
+returns-clause-opens c =
+    let none : c.is_empty.result ≡ true = search rules in
+    first_opens _ _ c.args.self.now.links.items _ _ _ (sym c.is_empty.ensures ∙ none) c.in_ok-push.ensures.items c.in_ok-link.ensures.number c.in_ok-link.ensures.unread refl
+    c.in_ok-send_on.ensures.read c.in_ok-serve_line.ensures.opens

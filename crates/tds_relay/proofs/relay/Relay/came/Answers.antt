@@ -2,6 +2,7 @@ use Rattle.tds_relay.specs.Fronts.{house_in}
 use Rattle.tds_relay.specs.Ties.{Connection}
 use Rattle.tds_relay.proofs.Stepping.{steps_on_ok}
 use Rattle.tds_relay.proofs.Streaming.{comes, streams_steps}
+use Rattle.tds_relay.proofs.Staying.{others_served}
 use Rattle.tds_relay.proofs.relay.Relay.came.Goals as goal
 
 pub returns-clause-steps : goal.returns-clause-steps
@@ -13,3 +14,6 @@ pub returns-clause-comes : goal.returns-clause-comes
 returns-clause-comes c =
     comes c.serve_line.result c.args.number _ _ _ _ _ _ _ c.hear_all.new.self.links.items _ c.in_ok-hear_all.ensures.streams c.serve_line.ensures.moves
     c.serve_line.ensures.kept c.serve_line.ensures.opens
+
+pub returns-clause-others : goal.returns-clause-others
+returns-clause-others c = others_served c.serve_line.result c.args.number _ _ _ c.in_ok-hear_all.ensures.others c.serve_line.ensures.opens

@@ -1,7 +1,8 @@
 use Rattle.std.proofs.Common.{refl, rules}
 use Rattle.tds_relay.specs.Ties.{Application}
 use Rattle.tds_relay.proofs.Fronts.{moves_closes, moves_lets_go}
-use Rattle.tds_relay.proofs.Reaching.{ok_more, reaches_left}
+use Rattle.tds_relay.proofs.Reaching.{ok_if, ok_more, reaches_left}
+use Rattle.tds_relay.proofs.Staying.{stays_same}
 use Rattle.tds_relay.proofs.relay.Relay.change.Goals as goal
 
 pub returns-then-not-has_nothing_out-clause-moves : goal.returns-then-not-has_nothing_out-clause-moves
@@ -15,3 +16,6 @@ returns-clause-moves c =
     ok_more c.wait.result _ _
     (λ m from h. m (Application c.args.key) refl from (moves_lets_go c.args.key from _ _ _ (c.has_nothing_out.ensures (search rules)) c.in_ok-release.ensures.lets_go h))
     c.wait.ensures.moves
+
+pub returns-clause-read : goal.returns-clause-read
+returns-clause-read c = stays_same c.wait.result _ _ _ c.in_ok-release.ensures.read (ok_if c.wait.result _ c.wait.ensures.links)

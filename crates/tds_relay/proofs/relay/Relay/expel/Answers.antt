@@ -5,6 +5,7 @@ use Rattle.tds_relay.specs.Fronts.{ends_in}
 use Rattle.tds_relay.specs.Hall.{Ends, IfOpen, IsHere, end_at}
 use Rattle.tds_relay.proofs.Fronts.{moves_lets_go, moves_same, open_closed}
 use Rattle.tds_relay.proofs.Reaching.{ok_more, reaches_left}
+use Rattle.tds_relay.proofs.Staying.{stays_from}
 use Rattle.tds_relay.proofs.relay.Relay.expel.Goals as goal
 
 pub returns-clause-goes : goal.returns-clause-goes
@@ -21,3 +22,6 @@ returns-clause-moves c =
     (subst (λ (es : Ends). IfOpen IsHere (end_at es c.args.key)) (sym c.in_ok-end.ensures.ends) (open_closed IsHere (ends_in c.args.self.now.applications) c.args.key)) l
     (moves_same (Application c.args.key) from _ _ _ _ (ap desk_in c.in_ok-end.ensures.desk) c.in_ok-end.ensures.ends h))
     c.release.ensures.lets_go
+
+pub returns-clause-read : goal.returns-clause-read
+returns-clause-read c = stays_from c.release.result _ _ _ c.in_ok-end.ensures.links c.release.ensures.read

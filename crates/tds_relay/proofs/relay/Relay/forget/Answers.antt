@@ -2,6 +2,7 @@ use Rattle.std.proofs.Common.{ap, refl}
 use Rattle.tds_relay.specs.Ties.{Application, desk_in}
 use Rattle.tds_relay.proofs.Fronts.{moves_does, moves_same}
 use Rattle.tds_relay.proofs.Reaching.{ok_more}
+use Rattle.tds_relay.proofs.Staying.{stays_on, stays_then}
 use Rattle.tds_relay.proofs.relay.Relay.forget.Goals as goal
 
 pub returns-then-was_asked-clause-moves : goal.returns-then-was_asked-clause-moves
@@ -12,3 +13,9 @@ returns-then-was_asked-clause-moves c =
 pub returns-else-was_asked-clause-moves : goal.returns-else-was_asked-clause-moves
 returns-else-was_asked-clause-moves c = λ from h. (moves_does (Application c.args.key) from _ _ _ _ _ _ _ c.forget_request-was_asked.ensures.turns tt refl c.forget_request-was_asked.ensures.ends
     (moves_same (Application c.args.key) from _ _ _ _ (ap desk_in c.forget_reset.ensures.desk) c.forget_reset.ensures.ends h))
+
+pub returns-then-was_asked-clause-read : goal.returns-then-was_asked-clause-read
+returns-then-was_asked-clause-read c = stays_on c.unask.result _ _ _ (stays_then _ _ _ c.forget_reset.ensures.read c.forget_request-was_asked.ensures.links) c.unask.ensures.read
+
+pub returns-else-was_asked-clause-read : goal.returns-else-was_asked-clause-read
+returns-else-was_asked-clause-read c = stays_then _ _ _ c.forget_reset.ensures.read c.forget_request-was_asked.ensures.links

@@ -1,11 +1,13 @@
-use Rattle.std.proofs.Common.{List, Option, ap, length, sym, ◌∙◌}
+use Rattle.std.proofs.Common.{List, Option, ap, length, sym, ◌∙◌, rules}
 use Rattle.tds_relay.specs.declared.link.Link.{Link}
 use Rattle.tds_relay.specs.declared.desk.coming.Heard.{Heard}
 use Rattle.tds_relay.specs.Fronts.{ends_in, house_in, house_with, told_by}
 use Rattle.tds_relay.specs.Posts.{posts_in}
 use Rattle.tds_relay.specs.Ties.{desk_in}
 use Rattle.tds_relay.specs.Reads.{place_of}
-use Rattle.tds_relay.proofs.Streaming.{hear_at, unheard}
+use Rattle.tds_relay.proofs.Streaming.{hear_at, unheard, unopened}
+use Rattle.tds_relay.proofs.Staying.{others_written, others_open, opens_refl}
+use Rattle.tds_relay.proofs.Reaching.{ok_if}
 use Rattle.tds_relay.proofs.relay.Relay.hear.Goals as goal
 
 pub returns-in_default-clause-continues : goal.returns-in_default-clause-continues
@@ -18,4 +20,25 @@ returns-clause-continues c =
     hear_at c.hear_on.result c.args.number _ c.args.self.now.links.items c.in-Some.place c.index_mut-link.result.now c.hear_on.new.link c.args.piece.now (house_in c.args.self.now)
     (λ (heard : Option Heard). house_with (desk_in c.hear_on.new.desk) (told_by heard (ends_in c.args.self.now.applications)) (posts_in c.hear_on.new.applications))
     (ap (λ (ls : List Link). place_of c.args.number ls) (sym c.deref.ensures.value) ∙ sym c.place_in.ensures.is ∙ c.in-Some.is)
-    c.index_mut-link.ensures.value c.hear_on.ensures.number c.hear_on.ensures.hears
+    c.index_mut-link.ensures.value c.hear_on.ensures.number (search rules) c.hear_on.ensures.is_open c.hear_on.ensures.hears
+
+pub returns-then-not-link-clause-continues : goal.returns-then-not-link-clause-continues
+returns-then-not-link-clause-continues c =
+    unopened c.args.number c.args.piece.now (length c.args.piece.now) c.args.self.now.links.items c.in-Some.place c.index_mut-link.result.now (house_in c.args.self.now)
+    (ap (λ (ls : List Link). place_of c.args.number ls) (sym c.deref.ensures.value) ∙ sym c.place_in.ensures.is ∙ c.in-Some.is)
+    c.index_mut-link.ensures.value (search rules)
+
+pub returns-in_default-clause-others : goal.returns-in_default-clause-others
+returns-in_default-clause-others c = others_open c.args.number _ _ (opens_refl c.args.self.now.links.items)
+
+pub returns-then-not-link-clause-others : goal.returns-then-not-link-clause-others
+returns-then-not-link-clause-others c =
+    others_written c.args.number c.args.self.now.links.items c.in-Some.place c.index_mut-link.result.now _
+    (ap (λ (ls : List Link). place_of c.args.number ls) (sym c.deref.ensures.value) ∙ sym c.place_in.ensures.is ∙ c.in-Some.is)
+    (ap (λ (l : Link). l.number) c.index_mut-link.ensures.value)
+
+pub returns-clause-others : goal.returns-clause-others
+returns-clause-others c =
+    ok_if c.hear_on.result _ (others_written c.args.number c.args.self.now.links.items c.in-Some.place c.index_mut-link.result.now _
+    (ap (λ (ls : List Link). place_of c.args.number ls) (sym c.deref.ensures.value) ∙ sym c.place_in.ensures.is ∙ c.in-Some.is)
+    (c.hear_on.ensures.number ∙ ap (λ (l : Link). l.number) c.index_mut-link.ensures.value))

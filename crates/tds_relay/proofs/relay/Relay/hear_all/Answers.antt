@@ -2,9 +2,11 @@ use Rattle.std.proofs.Common.{List, Option, ap, refl, subst, sym, ℕ}
 use Rattle.tds_packet.specs.Reading.{Reading}
 use Rattle.tds_relay.specs.declared.relay.Relay.{Relay}
 use Rattle.tds_relay.specs.Fronts.{house_in, told_by}
-use Rattle.tds_relay.specs.Reads.{Streams, reader_at}
+use Rattle.tds_relay.specs.Reads.{OpensOthers, Streams, open_at}
 use Rattle.tds_relay.specs.Ties.{Connection}
 use Rattle.tds_relay.proofs.Fronts.{moved_same}
+use Rattle.tds_relay.proofs.Reaching.{ok_more}
+use Rattle.tds_relay.proofs.Staying.{gone_open, opens_refl, others_both, others_open, others_stay, others_stay_on}
 use Rattle.tds_relay.proofs.Streaming.{streams_begin, streams_left, streams_lost, streams_on}
 use Rattle.tds_relay.proofs.relay.Relay.hear_all.Goals as goal
 use Rattle.tds_relay.proofs.relay.Relay.hear_all.Goals.{else-taking-test, then-taking-test+else-is_empty+in_ok-count+in_ok-heard+else-counter-end}
@@ -12,7 +14,8 @@ use Rattle.tds_relay.proofs.relay.Relay.hear_all.Goals.{else-taking-test, then-t
 pub taking-init : goal.taking-init
 taking-init c = record {
   goes = λ from h. h;
-  streams = streams_begin c.args.number (reader_at c.args.number c.args.self.now.links.items) (house_in c.args.self.now) c.args.piece.now;
+  streams = streams_begin c.args.number (open_at c.args.number c.args.self.now.links.items) (house_in c.args.self.now) c.args.piece.now;
+  others = others_open c.args.number _ _ (opens_refl c.args.self.now.links.items);
 }
 
 pub taking-preserved : goal.taking-preserved
@@ -23,12 +26,13 @@ taking-preserved c = record {
       (streams_on c.args.number _ _ _ _ _ _ _ _ _ _ _ _ _ _ c.taking.invariant.streams c.in_ok-count.ensures.continues
       (moved_same (Connection c.args.number) _ _ _ _ _ refl (ap (told_by _) c.in_ok-count.ensures.ends) c.in_ok-heard.ensures.moves)
       c.in_ok-heard.ensures.kept c.in_ok-heard.ensures.read c.in_ok-heard.ensures.gone);
+  others = others_stay c.args.number _ _ _ (others_both c.args.number _ _ _ c.taking.invariant.others c.in_ok-count.ensures.others) c.in_ok-heard.ensures.read;
 }
 
 pub returns-clause-streams : goal.returns-clause-streams
 returns-clause-streams c =
-    let had : Option Reading = reader_at c.args.number c.args.self.now.links.items in
-    let to : Relay → Type 0 = λ r. (left : List ℕ) × Streams c.args.number had (house_in c.args.self.now) c.args.piece.now left (reader_at c.args.number r.links.items) (house_in r) in
+    let had : Option Reading = open_at c.args.number c.args.self.now.links.items in
+    let to : Relay → Type 0 = λ r. (left : List ℕ) × Streams c.args.number had (house_in c.args.self.now) c.args.piece.now left (open_at c.args.number r.links.items) (house_in r) in
     let led : to c.taking-test.self =
     elim c.taking-test.branch [
       | else-taking-test w ↦ subst to (sym w.self-is) (c.taking.rest.now, c.taking.invariant.streams)
@@ -40,4 +44,17 @@ returns-clause-streams c =
                 w.in_ok-heard.ensures.kept w.in_ok-heard.ensures.read w.in_ok-heard.ensures.gone,
           )
     ] in
-    streams_lost c.lose.result c.args.number had _ _ _ _ _ _ _ _ led.0 led.1 c.lose.ensures.moves c.lose.ensures.kept c.lose.ensures.gone
+    streams_lost c.lose.result c.args.number had _ _ _ _ _ _ _ _ led.0 led.1 c.lose.ensures.moves c.lose.ensures.kept
+    (ok_more c.lose.result _ _ (λ g. gone_open c.args.number _ g) c.lose.ensures.gone)
+
+pub returns-clause-others : goal.returns-clause-others
+returns-clause-others c =
+    let to : Relay → Type 0 = λ r. OpensOthers c.args.number c.args.self.now.links.items r.links.items in
+    let led : to c.taking-test.self =
+    elim c.taking-test.branch [
+      | else-taking-test w ↦ subst to (sym w.self-is) c.taking.invariant.others
+      | then-taking-test+else-is_empty+in_ok-count+in_ok-heard+else-counter-end w ↦
+          subst to (sym w.self-is)
+          (others_stay c.args.number _ _ _ (others_both c.args.number _ _ _ c.taking.invariant.others w.in_ok-count.ensures.others) w.in_ok-heard.ensures.read)
+    ] in
+    others_stay_on c.lose.result c.args.number _ _ _ led c.lose.ensures.read

@@ -1,10 +1,11 @@
 use Rattle.tds_relay.specs.Fronts.{house_in}
-use Rattle.tds_relay.specs.Reads.{Streams, reader_at}
+use Rattle.tds_relay.specs.Reads.{OpensOthers, Streams, open_at}
 use Rattle.tds_relay.specs.Ties.{Connection, Goes, desk_in}
 use Rattle.tds_relay.proofs.relay.Relay.hear_all.Given as goal
 
 abbrev pub invariant-taking : goal.invariant-taking
 invariant-taking l = record {
   goes : Goes (Connection l.fn.number) (desk_in l.fn.self.desk) (desk_in l.self.desk);
-  streams : Streams l.fn.number (reader_at l.fn.number l.fn.self.links.items) (house_in l.fn.self) l.fn.piece l.rest (reader_at l.fn.number l.self.links.items) (house_in l.self);
+  streams : Streams l.fn.number (open_at l.fn.number l.fn.self.links.items) (house_in l.fn.self) l.fn.piece l.rest (open_at l.fn.number l.self.links.items) (house_in l.self);
+  others : OpensOthers l.fn.number l.fn.self.links.items l.self.links.items;
 }

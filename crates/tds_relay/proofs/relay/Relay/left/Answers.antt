@@ -6,6 +6,7 @@ use Rattle.tds_relay.proofs.Fronts.{ends_quit}
 use Rattle.tds_relay.proofs.Posting.{quits_is}
 use Rattle.tds_relay.proofs.Reaching.{ok_more}
 use Rattle.tds_relay.proofs.Stepping.{no_steps, steps_on_ok, steps_quits}
+use Rattle.tds_relay.proofs.Staying.{opens_served}
 use Rattle.tds_relay.proofs.relay.Relay.left.Goals as goal
 
 pub returns-clause-left : goal.returns-clause-left
@@ -22,3 +23,6 @@ returns-clause-steps c =
     (steps_quits c.args.key (house_in old) (desk_in old.desk) (ends_in old.applications) _ (posts_in old.applications) _ _ quit (c.in_ok-release.ensures.kept ∙ gone) c.in_ok-release.ensures.lets_go
     (no_steps (Application c.args.key) (house_in old)))
     c.serve_line.ensures.moves c.serve_line.ensures.kept
+
+pub returns-clause-opens : goal.returns-clause-opens
+returns-clause-opens c = opens_served c.serve_line.result _ _ _ c.in_ok-release.ensures.read c.serve_line.ensures.opens

@@ -1,6 +1,7 @@
 use Rattle.tds_relay.specs.Fronts.{house_in}
 use Rattle.tds_relay.specs.Ties.{Connection}
 use Rattle.tds_relay.proofs.Stepping.{no_steps, steps_moved, steps_on_ok}
+use Rattle.tds_relay.proofs.Staying.{opens_served}
 use Rattle.tds_relay.proofs.relay.Relay.lost.Goals as goal
 
 pub returns-clause-steps : goal.returns-clause-steps
@@ -9,3 +10,6 @@ returns-clause-steps c =
     (steps_moved (Connection c.args.number) (house_in c.args.self.now) _ _ _ _ (c.in_ok-lose.ensures.moves (Connection c.args.number)) c.in_ok-lose.ensures.kept
     (no_steps (Connection c.args.number) (house_in c.args.self.now)))
     c.serve_line.ensures.moves c.serve_line.ensures.kept
+
+pub returns-clause-opens : goal.returns-clause-opens
+returns-clause-opens c = opens_served c.serve_line.result _ _ _ c.in_ok-lose.ensures.read c.serve_line.ensures.opens

@@ -6,6 +6,7 @@ use Rattle.tds_relay.specs.Posts.{acknowledgement, give, posts_in, Posts}
 use Rattle.tds_relay.specs.Ties.{Application}
 use Rattle.tds_relay.proofs.Told.{fed_then}
 use Rattle.tds_relay.proofs.Reaching.{ok_more}
+use Rattle.tds_relay.proofs.Staying.{stays_refl, stays_same}
 use Rattle.tds_relay.proofs.relay.Relay.obey.Goals as goal
 
 pub returns-in-Begin-clause-given : goal.returns-in-Begin-clause-given
@@ -73,3 +74,9 @@ returns-in_ok-forget-in-Acknowledge-clause-moves c =
     (λ m before bytes f. fed_then c.args.key _ before _ bytes c.args.said _ (ap takes_back c.in-Acknowledge.is) (ap hands_on c.in-Acknowledge.is) f
     (λ from h. m (Application c.args.key) from (c.in_ok-forget-in-Acknowledge.ensures.moves from h)))
     c.acknowledge.ensures.moves
+
+pub returns-in-Nothing-clause-read : goal.returns-in-Nothing-clause-read
+returns-in-Nothing-clause-read c = stays_refl c.args.self.now.links.items
+
+pub returns-in_ok-forget-in-Acknowledge-clause-read : goal.returns-in_ok-forget-in-Acknowledge-clause-read
+returns-in_ok-forget-in-Acknowledge-clause-read c = stays_same c.acknowledge.result _ _ _ c.in_ok-forget-in-Acknowledge.ensures.read c.acknowledge.ensures.links

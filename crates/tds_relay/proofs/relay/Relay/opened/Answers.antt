@@ -2,6 +2,7 @@ use Rattle.std.proofs.Common.{◌∙◌, ap}
 use Rattle.tds_relay.specs.Fronts.{house_in}
 use Rattle.tds_relay.specs.Ties.{Connection, desk_in}
 use Rattle.tds_relay.proofs.Stepping.{no_steps, steps_moved, steps_on_ok, steps_same}
+use Rattle.tds_relay.proofs.Staying.{opens_one_served, stays_behind}
 use Rattle.tds_relay.proofs.relay.Relay.opened.Goals as goal
 
 pub returns-clause-steps : goal.returns-clause-steps
@@ -14,3 +15,8 @@ returns-clause-steps c =
     (c.in_ok-order_write_on.ensures.ends ∙ c.set_open.ensures.ends) (c.in_ok-order_write_on.ensures.kept ∙ c.set_open.ensures.kept)
     (no_steps by old)))
     c.serve_line.ensures.moves c.serve_line.ensures.kept
+
+pub returns-clause-opens : goal.returns-clause-opens
+returns-clause-opens c =
+    opens_one_served c.serve_line.result c.args.number _ _ _ _ c.set_open.ensures.opens
+    (stays_behind _ _ _ c.in_ok-order_write_on.ensures.links c.in_ok-start_on.ensures.read) c.serve_line.ensures.opens

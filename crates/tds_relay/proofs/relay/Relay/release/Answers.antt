@@ -2,6 +2,7 @@ use Rattle.std.proofs.Common.{◌∙◌, ap, refl}
 use Rattle.tds_relay.specs.Ties.{desk_in}
 use Rattle.tds_relay.proofs.Fronts.{lets_go_first, moved_same, moves_same}
 use Rattle.tds_relay.proofs.Reaching.{ok_more}
+use Rattle.tds_relay.proofs.Staying.{stays_from, stays_refl, stays_then}
 use Rattle.tds_relay.proofs.relay.Relay.release.Goals as goal
 
 pub returns-in_default-clause-lets_go : goal.returns-in_default-clause-lets_go
@@ -14,3 +15,12 @@ returns-then-left-clause-lets_go c =
 pub returns-else-left-clause-lets_go : goal.returns-else-left-clause-lets_go
 returns-else-left-clause-lets_go c =
     ok_more c.close.result _ _ (λ e. lets_go_first c.args.key _ _ _ _ _ c.in_ok-left.ensures.turns.0 c.in_ok-left.ensures.turns.1 _ _ c.in_ok-left.ensures.turns.2 c.let_go.ensures.ends (λ by from h. moves_same by from _ _ _ _ (ap desk_in (c.close.ensures.desk ∙ c.let_go.ensures.desk)) e h)) c.close.ensures.ends
+
+pub returns-in_default-clause-read : goal.returns-in_default-clause-read
+returns-in_default-clause-read c = stays_then _ _ _ (stays_refl c.args.self.now.links.items) c.let_go.ensures.links
+
+pub returns-then-left-clause-read : goal.returns-then-left-clause-read
+returns-then-left-clause-read c = stays_from c.send_on.result _ _ _ c.let_go.ensures.links c.send_on.ensures.read
+
+pub returns-else-left-clause-read : goal.returns-else-left-clause-read
+returns-else-left-clause-read c = stays_from c.close.result _ _ _ c.let_go.ensures.links c.close.ensures.read

@@ -3,6 +3,7 @@ use Rattle.tds_relay.specs.declared.desk.Desk as code
 use Rattle.tds_relay.specs.Ties.{Application, Reaches, desk_in}
 use Rattle.tds_relay.proofs.Fronts.{moves_closes, moves_does, moves_same}
 use Rattle.tds_relay.proofs.Reaching.{ok_if, ok_more, reaches_turn}
+use Rattle.tds_relay.proofs.Staying.{stays_on}
 use Rattle.tds_relay.proofs.relay.Relay.renew.Goals as goal
 
 pub returns-in-Kept-clause-goes : goal.returns-in-Kept-clause-goes
@@ -30,3 +31,6 @@ returns-in-NotKept-clause-moves c = ok_more c.change.result _ _ (λ m from h. m 
 pub returns-in-Closed-clause-moves : goal.returns-in-Closed-clause-moves
 returns-in-Closed-clause-moves c =
     ok_more c.close.result _ _ (λ e from h. moves_closes (Application c.args.key) from _ _ _ _ c.args.key (ap desk_in c.close.ensures.desk) e (moves_does (Application c.args.key) from _ _ _ _ _ _ _ c.in_ok-hold.ensures.1 tt refl refl h)) c.close.ensures.ends
+
+pub returns-in-Kept-clause-read : goal.returns-in-Kept-clause-read
+returns-in-Kept-clause-read c = stays_on c.start.result _ _ _ c.cut.ensures.read c.start.ensures.read

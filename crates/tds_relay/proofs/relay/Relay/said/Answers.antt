@@ -1,5 +1,6 @@
 use Rattle.tds_relay.specs.Fronts.{house_in}
 use Rattle.tds_relay.specs.Ties.{Application}
+use Rattle.tds_relay.proofs.Staying.{opens_served}
 use Rattle.tds_relay.proofs.Stepping.{steps_on_ok}
 use Rattle.tds_relay.proofs.Told.{tells_ok, tells_steps}
 use Rattle.tds_relay.proofs.relay.Relay.said.Goals as goal
@@ -12,3 +13,6 @@ returns-clause-steps c =
 pub returns-clause-tells : goal.returns-clause-tells
 returns-clause-tells c =
     tells_ok c.serve_line.result c.args.key (house_in c.args.self.now) _ _ _ _ _ _ c.in_ok-take_all.ensures.tells c.serve_line.ensures.moves c.serve_line.ensures.kept
+
+pub returns-clause-opens : goal.returns-clause-opens
+returns-clause-opens c = opens_served c.serve_line.result _ _ _ c.in_ok-take_all.ensures.read c.serve_line.ensures.opens

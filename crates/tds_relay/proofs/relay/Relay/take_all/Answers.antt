@@ -1,7 +1,9 @@
 use Rattle.std.proofs.Common.{List, subst, sym, ℕ}
 use Rattle.tds_relay.specs.declared.relay.Relay.{Relay}
 use Rattle.tds_relay.specs.Fronts.{house_in}
+use Rattle.tds_relay.specs.Reads.{Stays}
 use Rattle.tds_relay.specs.Taking.{Tells}
+use Rattle.tds_relay.proofs.Staying.{stays_both, stays_on, stays_refl}
 use Rattle.tds_relay.proofs.Told.{tells_begin, tells_expelled, tells_left}
 use Rattle.tds_relay.proofs.relay.Relay.take_all.Goals as goal
 use Rattle.tds_relay.proofs.relay.Relay.take_all.Goals.{else-taking-test, then-taking-test+else-is_empty+in_ok-count+else-counter-end}
@@ -10,12 +12,14 @@ pub taking-init : goal.taking-init
 taking-init c = record {
   goes = λ from h. h;
   tells = tells_begin c.args.key (house_in c.args.self.now) c.args.piece.now;
+  read = stays_refl c.args.self.now.links.items;
 }
 
 pub taking-preserved : goal.taking-preserved
 taking-preserved c = record {
   goes = λ from h. c.in_ok-count.ensures.goes from (c.taking.invariant.goes from h);
   tells = tells_left c.args.key _ _ _ _ _ c.behind-rest.ensures (c.in_ok-count.ensures.tells (house_in c.args.self.now) c.args.piece.now c.taking.invariant.tells);
+  read = stays_both _ _ _ c.taking.invariant.read c.in_ok-count.ensures.read;
 }
 
 pub returns-clause-tells : goal.returns-clause-tells
@@ -29,3 +33,13 @@ returns-clause-tells c =
           subst to (sym w.self-is) (_, w.in_ok-count.ensures.tells old c.args.piece.now c.taking.invariant.tells)
     ] in
     tells_expelled c.expel.result c.args.key old c.args.piece.now led.0 _ _ _ _ _ _ led.1 c.expel.ensures.moves c.expel.ensures.kept
+
+pub returns-clause-read : goal.returns-clause-read
+returns-clause-read c =
+    let to : Relay → Type 0 = λ r. Stays c.args.self.now.links.items r.links.items in
+    let led : to c.taking-test.self =
+    elim c.taking-test.branch [
+      | else-taking-test w ↦ subst to (sym w.self-is) c.taking.invariant.read
+      | then-taking-test+else-is_empty+in_ok-count+else-counter-end w ↦ subst to (sym w.self-is) (stays_both _ _ _ c.taking.invariant.read w.in_ok-count.ensures.read)
+    ] in
+    stays_on c.expel.result _ _ _ led c.expel.ensures.read

@@ -6,6 +6,7 @@ use Rattle.tds_relay.proofs.Fed.{closed_as_fed, taken_back_is}
 use Rattle.tds_relay.proofs.Fronts.{moves_closes, moves_does, moves_same, no_moves, open_closed}
 use Rattle.tds_relay.proofs.Reaching.{ok_more}
 use Rattle.tds_relay.proofs.Told.{deaf_behind, deaf_closed}
+use Rattle.tds_relay.proofs.Staying.{stays_on, stays_then}
 use Rattle.tds_relay.proofs.relay.Relay.take_back.Goals as goal
 
 pub returns-in-Some-clause-moves : goal.returns-in-Some-clause-moves
@@ -48,3 +49,9 @@ returns-in-None-clause-moves c =
       nothing = λ posts. refl;
     }))
     c.expel.ensures.moves
+
+pub returns-in-Some-clause-read : goal.returns-in-Some-clause-read
+returns-in-Some-clause-read c = stays_on c.send_on.result _ _ _ (stays_then _ _ _ c.forget_reset.ensures.read (c.withdraw.ensures.links ∙ c.stop.ensures.links ∙ c.forget_request.ensures.links)) c.send_on.ensures.read
+
+pub returns-in-None-clause-read : goal.returns-in-None-clause-read
+returns-in-None-clause-read c = stays_on c.expel.result _ _ _ (stays_then _ _ _ c.forget_reset.ensures.read (c.stop.ensures.links ∙ c.forget_request.ensures.links)) c.expel.ensures.read

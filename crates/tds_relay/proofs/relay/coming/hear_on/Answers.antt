@@ -1,4 +1,4 @@
-use Rattle.std.proofs.Common.{◌≡◌, ◌∙◌, rules}
+use Rattle.std.proofs.Common.{◌≡◌, ◌∙◌, false, rules, sym, true}
 use Rattle.tds_packet.specs.declared.kind.Direction.TheVariants.{ToClient}
 use Rattle.tds_service.specs.Table.{reading_on}
 use Rattle.tds_relay.proofs.Handed.{done_keeps, hears_is}
@@ -11,6 +11,7 @@ invariant_of-link-2 c =
       reads =
           done_keeps c.args.number (reading_on c.args.number c.args.desk.now.service) _ _ _ _ _ _ _ _
           c.in_ok-heard.ensures.brings c.in_ok-heard.ensures.reader c.done.ensures.next c.done.ensures.same ∙ direction;
+      unread = λ closed. absurd (let no : true ≡ false = sym (c.hear_packet.ensures.is_open ∙ c.requires) ∙ closed in let u : ⊥ = cc in u);
     }
 
 pub returns-clause-hears : goal.returns-clause-hears
