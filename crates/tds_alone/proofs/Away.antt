@@ -14,6 +14,7 @@ use Rattle.tds_service.proofs.Numbered.{added_here, change_here}
 use Rattle.tds_service.proofs.Tests.{above}
 use Rattle.tds_lawful.specs.Lawful.{Session}
 use Rattle.tds_relay.specs.declared.desk.Hold.{Hold}
+use Rattle.tds_relay.specs.Away.{IsAway}
 use Rattle.tds_relay.specs.Desk as desk
 use Rattle.tds_relay.specs.Desk.{Desk, Event, Deed, Turn, Way, Hearing, find_key, holding, lent_in, moves, ticket_in, turn, whose, without_lease, without_number}
 use Rattle.tds_relay.specs.Promises.{Each, comes_to_wait}
@@ -22,12 +23,13 @@ use Rattle.tds_relay.proofs.Tidy.{UpTo}
 use Rattle.tds_relay.proofs.Caring.{Sound}
 use Rattle.tds_relay.proofs.Bringing.{lendable_idle}
 use Rattle.tds_alone.specs.Serving.{Ask, Resets, End, Moment, Server, World, fresh, goes_out, happens, logged_in, new_end, packets_in, said, takes_all}
-use Rattle.tds_alone.specs.Alone.{IsAway, IsOrderly, asks_by, does_by, ends_at, ends_by, given_at, given_in, heard_of, keeps_by, line_of, settles_by, underway, unless_wrong}
+use Rattle.tds_alone.specs.Alone.{IsOrderly, asks_by, does_by, ends_at, ends_by, given_at, given_in, heard_of, keeps_by, line_of, settles_by, underway, unless_wrong}
 use Rattle.tds_relay.proofs.Lists.{Once, found_key, line_one, line_other, none_behind, once_behind, once_filtered, places, theirs, theirs_found, theirs_none, theirs_one, theirs_other, theirs_still}
 use Rattle.tds_relay.proofs.Sparing.{none_on}
 use Rattle.tds_relay.proofs.Others.{Its}
+use Rattle.tds_relay.proofs.Standing.{absent_whose}
 use Rattle.tds_alone.proofs.Own.{Follows, Stands, StandsAt}
-use Rattle.tds_alone.proofs.Story.{IsAbsent, Next, absent_whose, moved, not_its, underway_held, underway_none}
+use Rattle.tds_alone.proofs.Story.{IsAbsent, Next, moved, not_its, underway_held, underway_none}
 
 -- ---- Nothing is asked nor given
 

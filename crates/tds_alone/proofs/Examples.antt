@@ -9,11 +9,12 @@ use Rattle.tds_wire.specs.declared.told.Told.TheVariants as tells
 use Rattle.tds_service.specs.Parts as parts
 use Rattle.tds_service.specs.Parts.{Item, Part}
 use Rattle.tds_lawful.specs.Lawful.{Session}
+use Rattle.tds_relay.specs.Away.{IsAway}
 use Rattle.tds_relay.specs.Desk as desk
 use Rattle.tds_relay.specs.Desk.{Desk, Event, Turn, Way, find_key, holding, turn}
 use Rattle.tds_relay.specs.Promises.{comes_to_wait}
 use Rattle.tds_alone.specs.Serving.{Moment, Request, Server, World, answers_alone, but_news, fresh, new_world}
-use Rattle.tds_alone.specs.Alone.{AllOrderly, IsAway, IsOrderly, IsSaid, asks, given}
+use Rattle.tds_alone.specs.Alone.{AllOrderly, IsOrderly, IsSaid, asks, given}
 
 -- ---- A server that counts the requests of a session
 

@@ -6,3 +6,4 @@ pub mod Away
 pub mod Told
 pub mod Examples
 pub mod Refused
+pub mod Visits

@@ -23,6 +23,7 @@ use Rattle.tds_service.specs.Refusing.{packets, refusal_in}
 use Rattle.tds_lawful.specs.Lawful.{Session, reset_by}
 use Rattle.tds_relay.specs.Desk as desk
 use Rattle.tds_relay.specs.Desk.{Deed, hearing_of}
+use Rattle.tds_relay.proofs.Ours.{acts_of_deed, first_of}
 use Rattle.tds_alone.specs.Serving.{Ask, Runs, Resets, Stops, Finds, Ends, End, Moment, Server, but_news, fresh, is_news, packets_in, reset_if, takes_all, told_if}
 use Rattle.tds_alone.specs.Alone.{EndsBehind, IsNext, IsNextAt, does_at, given_at, settles_at}
 
@@ -60,19 +61,6 @@ pub record Acted {V : Type 0} (server : Server V) (m : Moment V) (count : ℕ) (
   pub next : Session V
   pub stands : Stands server next l (takes_all server m ps e)
   pub follows : Follows server count s (given_at stage e.due) asked [] next (given_at l.stage (takes_all server m ps e).due)
-
--- What a deed does there, and what of it may be refused.
-abbrev pub first_of_deed : Deed → Act Token
-first_of_deed desk.Asks = line.Ask
-first_of_deed (desk.Puts count) = line.Send false
-first_of_deed (desk.Ends count) = line.Send true
-first_of_deed desk.Stops = line.Cancel
-
-abbrev pub acts_of_deed : Deed → List (Act Token)
-acts_of_deed desk.Asks = line.Ask ∷ []
-acts_of_deed (desk.Puts count) = packets count
-acts_of_deed (desk.Ends count) = packets count ++ line.Send true ∷ []
-acts_of_deed desk.Stops = line.Cancel ∷ []
 
 module _ {V : Type 0} (server : Server V) (m : Moment V) (count : ℕ) (s : Session V) where
   pub same_acted : (l : Line) (e : End V) → Stands server s l e → Acted server m count s l.stage e l [] []
@@ -183,7 +171,7 @@ module _ {V : Type 0} (server : Server V) (m : Moment V) (count : ℕ) (s : Sess
 
   -- ---- A deed
 
-  pub deed_acted : (l : Line) (deed : Deed) (e : End V) → refusal_in (turn l (first_of_deed deed)).answer ≡ None → Stands server s l e
+  pub deed_acted : (l : Line) (deed : Deed) (e : End V) → refusal_in (turn l (first_of deed)).answer ≡ None → Stands server s l e
       → Acted server m count s l.stage e (line_after l (acts_of_deed deed)) (packets_in (history l (acts_of_deed deed))) (does_at m count deed l.stage)
   deed_acted l desk.Asks e f h = asks_acted l e l.stage f h
   deed_acted l (desk.Puts number) e f h = puts_by l number e l.stage refl f h
@@ -205,7 +193,7 @@ module _ {V : Type 0} (server : Server V) (m : Moment V) (count : ℕ) (s : Sess
   stops_refused l line.Cancelling why f = refl
   stops_refused l (line.Broken fault) why f = refl
 
-  pub refused_asks : (l : Line) (deed : Deed) (why : ClientRefusal) → refusal_in (turn l (first_of_deed deed)).answer ≡ Some why → does_at m count deed l.stage ≡ []
+  pub refused_asks : (l : Line) (deed : Deed) (why : ClientRefusal) → refusal_in (turn l (first_of deed)).answer ≡ Some why → does_at m count deed l.stage ≡ []
   refused_asks l desk.Asks why f = refl
   refused_asks l (desk.Puts number) why f = refl
   refused_asks l (desk.Ends number) why f = ends_refused l number l.stage why f

@@ -26,9 +26,9 @@ use Rattle.tds_alone.specs.Alone.{asks_by, given_at, given_in, keeps_by, underwa
 use Rattle.tds_relay.proofs.Lists.{places, theirs, theirs_found, theirs_left, theirs_one}
 use Rattle.tds_relay.proofs.Sparing.{none_on}
 use Rattle.tds_relay.proofs.Others.{Its, found, key_is, number_is}
+use Rattle.tds_relay.proofs.Ours.{by_lease, not_same, same_number}
 use Rattle.tds_alone.proofs.Own.{Stands, StandsAt}
 use Rattle.tds_alone.proofs.Story.{Holding, Next, goes_away, goes_on, logged, moved, seated, underway_held}
-use Rattle.tds_alone.proofs.Held.{append_done, by_lease, not_same, same_number}
 
 and_first : (a b : Bool) → (a && b) ≡ true → a ≡ true
 and_first true b e = refl
@@ -97,6 +97,10 @@ marked_idle l is = ap (λ (st : Stage). (line.marks {T = Token} l KeepTransactio
 
 marked_quiet : (l : Line) → l.stage ≡ line.Idle → packets_in (history {T = Token} l (line.Mark KeepTransaction ∷ [])) ≡ []
 marked_quiet l is = ap (λ (st : Stage). (line.marks {T = Token} l KeepTransaction st).sent ++ []) is
+
+append_done : (ds : List (Done Token)) → ds ++ [] ≡ ds
+append_done [] = refl
+append_done (d ∷ ds) = ap (λ (x : List (Done Token)). d ∷ x) (append_done ds)
 
 some_packets : (b : Bool) (ds : List (Done Token)) → packets_in ds ≡ [] → packets_in (on_one b ds []) ≡ []
 some_packets true ds e = ap packets_in (append_done ds) ∙ e

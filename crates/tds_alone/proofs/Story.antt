@@ -21,6 +21,7 @@ use Rattle.tds_relay.proofs.Lists.{Among, Once, among, among_one, theirs, theirs
 use Rattle.tds_relay.proofs.Sparing.{remains}
 use Rattle.tds_relay.proofs.Seated.{AllSit}
 use Rattle.tds_relay.proofs.Others.{Its, IsOthers, Passes, found, held, key_is, number_is, passes}
+use Rattle.tds_relay.proofs.Standing.{whose_number}
 use Rattle.tds_alone.proofs.Own.{Follows, Stands}
 
 -- It holds a connection, whose server's end keeps step with a server of its own, which is in this session; or it holds none.
@@ -76,38 +77,13 @@ its_own key o xs e =
     let same : (key == key) ≡ true = eq-eqb key key refl in
     ap (λ (x : Option ℕ). if_its key x xs) e ∙ rw same refl
 
-pub absent_whose : (d : Desk) (key n : ℕ) → Sound d → theirs key d.holds ≡ [] → whose d n ≡ Some key → ⊥
-absent_whose d key n sound none e =
-    let handed = handed_to_holder d n key sound e in
-    let a = among handed.hold.lease key handed.hold d.holds handed.its (eq-eqb handed.hold.key key handed.key_is) in
-    let never : ⊥ = subst (λ (hs : List Hold). Among handed.hold hs) none a in
-    never
-
 -- what comes on another connection isn't handed to it
-cared_number : (d : Desk) (h : Hold) (n : ℕ) (c : Seat) → Sound d → find_lease h.lease d.holds ≡ Some h → seat_numbered n d.service.seats ≡ Some c → c.place ≡ Leased h.lease → h.number ≡ n
-cared_number d h n c sound held there lent =
-    let cared : CaresFor d.holds c = each_found (CaresFor d.holds) (has_number n) c d.service.seats sound.cared there in
-    let is : IsCaredFor d.holds c.number (Leased h.lease) c.line = subst (λ (p : Place). IsCaredFor d.holds c.number p c.line) lent cared in
-    let same : h ≡ is.hold = let f = is.found in cc in
-    let number : c.number ≡ n = eqb-true c.number n (found_meets (has_number n) c d.service.seats there) in
-    ap (λ (x : Hold). x.number) same ∙ is.here ∙ number
-
 other_whose : (d : Desk) (key n : ℕ) (h : Hold) (c : Seat) → Sound d → Its d key h c → (h.number == n) ≡ false → whose d n ≡ Some key → ⊥
 other_whose d key n h c sound its ne e =
-    let handed = handed_to_holder d n key sound e in
-    let a = among handed.hold.lease key handed.hold d.holds handed.its (eq-eqb handed.hold.key key handed.key_is) in
-    let same : handed.hold ≡ h = among_one handed.hold h (theirs key d.holds) its.sole a in
-    let lent : handed.seat.place ≡ Leased h.lease = handed.lent ∙ ap (λ (x : Hold). Leased x.lease) same in
-    let number : h.number ≡ n = cared_number d h n handed.seat sound (held d key h c sound its) handed.there lent in
-    let yes : (h.number == n) ≡ true = eq-eqb h.number n number in
+    let yes : (h.number == n) ≡ true = eq-eqb h.number n (whose_number d key n h c sound its e) in
     let u : true ≡ false = sym yes ∙ ne in
     let v : ⊥ = cc in
     v
-
-pub own_whose : (d : Desk) (key : ℕ) (h : Hold) (c : Seat) → Sound d → Its d key h c → whose d h.number ≡ Some key
-own_whose d key h c sound its =
-    ap (λ (o : Option Seat). whose_by (lease_at o) d.holds) its.there ∙ ap (λ (p : Place). whose_by (lease_in p) d.holds) its.lent
-    ∙ ap key_of (held d key h c sound its) ∙ ap (λ (k : ℕ). Some k) (key_is d key h c sound its)
 
 -- ---- A moment of others, while it holds one
 

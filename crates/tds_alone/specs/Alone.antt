@@ -11,6 +11,7 @@ use Rattle.tds_service.specs.Service as calls
 use Rattle.tds_service.specs.Service.{Leased, Seat, seat_numbered, step}
 use Rattle.tds_lawful.specs.Lawful.{Session}
 use Rattle.tds_relay.specs.declared.desk.Hold.{Hold}
+use Rattle.tds_relay.specs.Away.{IsAway}
 use Rattle.tds_relay.specs.Desk as desk
 use Rattle.tds_relay.specs.Desk.{Deed, Desk, Event, Hearing, Turn, find_key, hearing_of, ticket_in, whose}
 use Rattle.tds_relay.specs.Promises.{comes_to_wait}
@@ -125,11 +126,6 @@ asks turns key server count w (m ∷ ms) =
     ++ asks turns key server (count_behind count (asks_by key server w m count m.event) (given_in key w.desk m.event)) (happens turns server w m) ms
 
 -- ---- What is supposed
-
--- It neither waits nor holds one.
-pub record IsAway (key : ℕ) (d : Desk) : Type 0 where
-  pub holds : find_key key d.holds ≡ None
-  pub waits : filter (λ (k : ℕ). k == key) d.line ≡ []
 
 -- What comes of an answer that it reads is what the server there says next, or a fault; a message ends behind its whole answer.
 abbrev pub EndsBehind : Close → List (Item Token) → Type 0

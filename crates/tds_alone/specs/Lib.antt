@@ -1,2 +1,3 @@
 pub mod Alone
 pub mod Serving
+pub mod Visits

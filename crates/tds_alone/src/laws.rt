@@ -3,10 +3,15 @@
 ghost use Rattle.std.specs.Prelude.{◌≡◌, ◌++◌, ℕ, List};
 ghost use Rattle.tds_service.specs.Service.{Seat};
 ghost use Rattle.tds_relay.specs.declared.desk.Hold.{Hold};
+ghost use Rattle.tds_relay.specs.Away.{IsAway};
 ghost use Rattle.tds_relay.specs.Desk.{turn};
+ghost use Rattle.tds_relay.specs.Giving.{Visit};
 ghost use Rattle.tds_alone.specs.Serving.{Moment, Server, fresh, reached, world_after};
-ghost use Rattle.tds_alone.specs.Alone.{AllOrderly, AsIfAlone, IsAtRest, IsAway, asks, found_next};
+ghost use Rattle.tds_alone.specs.Alone.{AllOrderly, AsIfAlone, IsAtRest, asks, found_next};
 ghost use Rattle.tds_alone.specs.Alone.{given, underway};
+ghost use Rattle.tds_alone.specs.Visits.{AllSaid, Moments, world_in};
+
+use tds_relay::laws::waits_once;
 
 /// Whatever others do, whatever comes on other connections, and whatever is cut: what an application is
 /// given, and what is underway to it, is what a server of its own answers to what it asks, but for the news
@@ -44,3 +49,15 @@ pub fn given_alike<V>()
         ≡ given turn other server (reached server most there) others
         ++ underway other (world_after turn server (reached server most there) others) }
 {}
+
+/// What an application is given, and what is underway to it, is what a new server of its own answers to what
+/// it asks, but for the news of resets: from where it enters a relay, behind any steps, and while it stays.
+/// Only of what comes of the answers that it reads something is supposed: it's what the server says next.
+pub fn alone_in_visits<V>()
+    ensures { (server : Server V) (max key : ℕ) (v : Visit max key) (ms : Moments V v)
+        → AllSaid turn key server (world_in server ms) ms.since
+        → AsIfAlone turn key server (fresh server) (world_in server ms) ms.since
+        (world_after turn server (world_in server ms) ms.since) }
+{
+    waits_once();
+}

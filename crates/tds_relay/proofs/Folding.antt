@@ -37,7 +37,7 @@ use Rattle.tds_relay.proofs.Moving.{Judges, LeavesBy, StepOf, StoryOf, left_of}
 
 -- ---- Events and calls, one behind the other
 
-desk_both : (d : Desk) (xs ys : List Event) → desk_after d (xs ++ ys) ≡ desk_after (desk_after d xs) ys
+pub desk_both : (d : Desk) (xs ys : List Event) → desk_after d (xs ++ ys) ≡ desk_after (desk_after d xs) ys
 desk_both d [] ys = refl
 desk_both d (x ∷ xs) ys = desk_both (turn d x).desk xs ys
 

@@ -1,3 +1,4 @@
+pub mod Absent
 pub mod Closing
 pub mod Handing
 pub mod Owing

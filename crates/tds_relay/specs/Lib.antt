@@ -1,3 +1,4 @@
+pub mod Away
 pub mod Behind
 pub mod Bounds
 pub mod Cutting

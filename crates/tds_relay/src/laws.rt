@@ -11,6 +11,7 @@ ghost use Rattle.tds_front.specs.Exchanges.{place_after};
 ghost use Rattle.tds_front.specs.Serving.{IsLawful, Ready};
 ghost use Rattle.tds_front.specs.Passing.{EndsWhole, behind, towards};
 ghost use Rattle.tds_front.specs.declared.stage.Stage.TheVariants as stages;
+ghost use Rattle.tds_relay.specs.Away.{IsAway, WaitsAway, done_before, done_since};
 ghost use Rattle.tds_relay.specs.Behind.{AllAnswerOnce, Stay, passed_in};
 ghost use Rattle.tds_relay.specs.Bounds.{waiting_in};
 ghost use Rattle.tds_relay.specs.declared.application.Application.{Application};
@@ -233,6 +234,21 @@ pub fn given_by_server()
         → IsFrontOf (joined (pieces_of (given_in v))) (sent_in v) (waits_in v) }
 {
     lawful_applications();
+    each_alone::<Token>();
+    line_by_history::<Token>();
+    bytes_are_packets();
+}
+
+/// An application comes to wait only where it neither waits nor holds a connection: from where it enters, behind
+/// any steps, and while it stays.
+pub fn waits_once()
+    /// Where it enters it has neither.
+    ensures enters { (max key : ℕ) (v : Visit max key)
+        → IsAway key (desk_after (new_desk max) (done_before v)) }
+    /// Since, each event by which it comes to wait is where it has neither.
+    ensures since { (max key : ℕ) (v : Visit max key)
+        → WaitsAway key (desk_after (new_desk max) (done_before v)) (done_since v) }
+{
     each_alone::<Token>();
     line_by_history::<Token>();
     bytes_are_packets();

@@ -87,6 +87,18 @@ module _ (max key : ℕ) (alone : Alone) (by : ByHistory) (judges : Judging) whe
 
   -- ---- From where it enters
 
+  -- before, it has nothing at the desk
+  pub record Free (events : List Event) (h : Hall) : Type 0 where
+    pub is : IsAt max events h
+    pub gone : Gone key h.desk
+
+  pub before : (moves : List Move) → MayMoveAll (new_hall max) moves → end_at (moved_all (new_hall max) moves).ends key ≡ None → Free (events_along (new_hall max) moves) (moved_all (new_hall max) moves)
+  before moves may free =
+      let h = moved_all (new_hall max) moves in
+      let events = events_along (new_hall max) moves in
+      let at : At events h = at_all [] (new_hall max) moves may at_first in
+      record { is = at.is; gone = subst (λ (o : Option End). StoryOf (outs_of max events) h.desk key at.place o) free at.tale }
+
   entered_by : (events : List Event) (h : Hall) (o o2 : Option End) (p : Place) (es : List Passed) → IsAt max events h → end_at h.ends key ≡ o2 → o ≡ None → IsThere o2
       → StepOf (outs_of max events) h.desk key p es o o2 → Entered max key events h
   entered_by events h None None p es is same e there s = absurd there

@@ -1,0 +1,24 @@
+-- An application that has nothing at the desk, and where one comes to wait.
+use Rattle.std.specs.Prelude.{◌≡◌, ℕ, ◌==◌, List, [], ◌∷◌, filter, None}
+use Rattle.tds_relay.specs.Behind.{events_along}
+use Rattle.tds_relay.specs.Desk.{Desk, Event, find_key, turn}
+use Rattle.tds_relay.specs.Giving.{Visit, house_in, moves_in}
+use Rattle.tds_relay.specs.Hall.{new_hall}
+use Rattle.tds_relay.specs.Promises.{comes_to_wait}
+
+-- It holds no connection, and waits for none.
+pub record IsAway (key : ℕ) (d : Desk) : Type 0 where
+  pub holds : find_key key d.holds ≡ None
+  pub waits : filter (λ (k : ℕ). k == key) d.line ≡ []
+
+-- Along these events it comes to wait only where it's away.
+abbrev pub WaitsAway : ℕ → Desk → List Event → Type 0
+WaitsAway key d [] = Unit {0}
+WaitsAway key d (event ∷ events) = (comes_to_wait event ≡ key ∷ [] → IsAway key d) × WaitsAway key (turn d event).desk events
+
+-- What is done at the desk before an application comes, and since.
+abbrev pub done_before : {max key : ℕ} → Visit max key → List Event
+done_before {max} v = events_along (new_hall max) (moves_in v.before)
+
+abbrev pub done_since : {max key : ℕ} → Visit max key → List Event
+done_since v = events_along (house_in v).hall (moves_in v.since)
