@@ -10,10 +10,9 @@ use Rattle.tds_front.specs.Serving.{Place, Ready, IsLawful}
 use Rattle.tds_relay.specs.Behind.{AllAnswerOnce, Stay, Stays, events_along, passed, passed_in, passes}
 use Rattle.tds_relay.specs.Desk.{Event, desk_after}
 use Rattle.tds_relay.specs.Fronting.{AnswersOnce, done_on}
-use Rattle.tds_relay.specs.Hall.{Open, Ends, Enters, Hall, MayMove, MayMoveAll, Move, Moves, events_of, moved, moved_all, new_hall}
-use Rattle.tds_relay.specs.Ties.{Cause}
+use Rattle.tds_relay.specs.Hall.{Open, Ends, Enters, Hall, MayMove, MayMoveAll, Move, events_of, moved, moved_all, new_hall}
 use Rattle.tds_relay.proofs.Ending.{passes_by}
-use Rattle.tds_relay.proofs.Folding.{Alone, ByHistory, IsAt, append_more, done_at, done_both, done_from, lawful_by, leaves_at, may_both, may_each, moved_both, outs_of, over_silent, passes_is, sits_at, sound_at}
+use Rattle.tds_relay.proofs.Folding.{Alone, ByHistory, IsAt, append_more, done_at, done_both, done_from, lawful_by, leaves_at, may_each, moved_both, outs_of, over_silent, passes_is, sits_at, sound_at}
 use Rattle.tds_relay.proofs.Leading.{Lawful, lawful_more}
 use Rattle.tds_relay.proofs.Outs.{once_split}
 use Rattle.tds_relay.proofs.visits.Reached as reached

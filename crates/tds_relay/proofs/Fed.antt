@@ -16,7 +16,7 @@ use Rattle.tds_relay.specs.Fronts.{IsFed, end_of, ends_in, given_by, hall_of_end
 use Rattle.tds_relay.specs.Hall.{End, Ends, Feeds, IsThere, Open, Over, change_end, closes, end_at, end_behind, event_if, feeds, hands_on, moved, stops_by, stops_of, takes_back}
 use Rattle.tds_relay.specs.House.{owed, owed_by, put_some}
 use Rattle.tds_relay.specs.Posts.{Posts, change}
-use Rattle.tds_relay.specs.Ties.{Application as ByApplication, Turns}
+use Rattle.tds_relay.specs.Ties.{Turns}
 use Rattle.tds_relay.specs.Taking.{count_by, left_by}
 use Rattle.tds_relay.proofs.Fronts.{changed_both, end_is, same_hall}
 use Rattle.tds_relay.proofs.Handed.{nothing_put}

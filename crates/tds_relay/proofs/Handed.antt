@@ -1,5 +1,5 @@
 -- Packets that are handed on, and what steps they are.
-use Rattle.std.proofs.Common.{◌≡◌, ◌∙◌, ℕ, Bool, true, false, List, Option, Some, None, inl, inr, refl, sym, ap, subst, not, ◌∷◌, if◌then◌else◌, slice_set, option_map, [], ◌++◌, ◌+◌, length, take}
+use Rattle.std.proofs.Common.{◌≡◌, ◌∙◌, ℕ, Bool, true, false, List, Option, Some, None, inl, inr, refl, sym, ap, subst, not, ◌∷◌, if◌then◌else◌, slice_set, option_map, [], ◌++◌, take}
 use Rattle.std.proofs.lemmas.List.{set-get_or}
 use Rattle.std.specs.Prelude.{IsSome}
 use Rattle.slab.specs.Slab.{Slab, get, with_value}
@@ -26,9 +26,9 @@ use Rattle.tds_relay.specs.Fronts.{IsWhat, end_of, ends_in as ends_of, house_wit
 use Rattle.tds_relay.specs.Hall as hall
 use Rattle.tds_relay.specs.Hall.{End, Ends, Open, Over, done_by, end_at, told, what_in}
 use Rattle.tds_relay.specs.Handing.{Brings, Hears, IsBy, IsDone, IsFor, Passing, fed, news_with}
-use Rattle.tds_relay.specs.House.{House, Hands, IsHanded, IsRight, Manner, MayHand, Whole, Preceded, Without, Withheld, after, change_whose, closes, end_whose, handed, is_said, put_some}
+use Rattle.tds_relay.specs.House.{House, IsHanded, IsRight, Manner, MayHand, Withheld, after, change_whose, closes, end_whose, handed, is_said, put_some}
 use Rattle.tds_relay.specs.Posts.{Post, Posts, change, post_at, post_of, posts_in}
-use Rattle.tds_relay.specs.Ties.{Connection, Turns, part_on}
+use Rattle.tds_relay.specs.Ties.{Turns, part_on}
 use Rattle.tds_relay.proofs.Fronts.{end_is, told_whose}
 use Rattle.tds_relay.proofs.Posting.{posts_changed}
 

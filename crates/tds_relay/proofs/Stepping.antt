@@ -1,17 +1,16 @@
 -- Steps that lead from house to house, one behind the other.
-use Rattle.std.proofs.Common.{◌≡◌, ◌∙◌, ◌++◌, ℕ, List, [], ◌∷◌, Option, Some, None, refl, sym, ap, subst, slice_set, option_map}
-use Rattle.std.proofs.lemmas.List.{set-get_or}
+use Rattle.std.proofs.Common.{◌≡◌, ◌∙◌, ◌++◌, ℕ, List, [], ◌∷◌, None, refl, sym, ap, subst, slice_set}
 use Rattle.std.specs.Prelude.{Result, Ok, Err, OnOk}
 use Rattle.tds_relay.specs.Desk as desk
 use Rattle.tds_relay.specs.Desk.{Desk, turn}
 use Rattle.tds_relay.specs.Fronts.{LetsGoFirst, Moved, MovedOn, hall_of_ends, house_with}
-use Rattle.tds_relay.specs.Hall.{CausesMove, End, Ends, Hall, HasEntered, IsQuiet, MayMoveAll, Move, Moves, change_end, lets_go, moved_all}
+use Rattle.tds_relay.specs.Hall.{CausesMove, Ends, Hall, HasEntered, IsQuiet, MayMoveAll, Move, Moves, change_end, lets_go, moved_all}
 use Rattle.tds_relay.specs.House.{House, Step, Admits, CausesStep, IsLedTo, Makes, MayAll, MayStep, Removes, Steps, Writes, after, after_all, new_house}
 use Rattle.tds_relay.specs.Posts.{Enters, Posts, change, without_first}
 use Rattle.tds_relay.specs.Promises.{Each}
 use Rattle.tds_relay.specs.Ties as causes
 use Rattle.tds_relay.specs.Ties.{Cause}
-use Rattle.tds_relay.proofs.Fronts.{each_both, gone_stays, moves_same, no_moves}
+use Rattle.tds_relay.proofs.Fronts.{each_both, gone_stays, no_moves}
 
 pub after_both : (h : House) (xs ys : List Step) → after_all h (xs ++ ys) ≡ after_all (after_all h xs) ys
 after_both h [] ys = refl

@@ -1,7 +1,7 @@
 -- What is taken of an application's bytes by steps, and whether it is to be closed behind them.
-use Rattle.std.proofs.Common.{◌≡◌, ◌∙◌, ◌==◌, ◌++◌, ℕ, Bool, true, false, List, [], ◌∷◌, Option, Some, None, ◌⊎◌, inl, inr, refl, sym, ap, subst, option_map, slice_index_or, if◌then◌else◌}
+use Rattle.std.proofs.Common.{◌≡◌, ◌∙◌, ◌==◌, ◌++◌, ℕ, Bool, true, false, List, [], ◌∷◌, Option, Some, None, ◌⊎◌, inl, inr, refl, sym, ap, subst, option_map, if◌then◌else◌}
 use Rattle.std.proofs.lemmas.Bool.{eq-eqb}
-use Rattle.std.specs.Prelude.{Result, Ok, Err, OnOk, length, drop}
+use Rattle.std.specs.Prelude.{Result, Ok, Err, OnOk, drop}
 use Rattle.tds_front.specs.declared.front.Front.{Front}
 use Rattle.tds_front.specs.declared.front.Said.{Said}
 use Rattle.tds_service.specs.Line.{Packet}
@@ -10,10 +10,10 @@ use Rattle.tds_relay.specs.Desk.{Desk}
 use Rattle.tds_relay.specs.Fronts.{ClosesInstead, FedOn, IsFed, Moved, MovedOn, TakesBetween, given_by, hall_of_ends, house_with}
 use Rattle.tds_relay.specs.Hall as hall
 use Rattle.tds_relay.specs.Hall.{End, Ends, Feeds, Hall, IsQuiet, Move, Moves, Open, Over, change_end, closes, end_at, ends_behind, goes_on, hands_on, holder, lets_go, moved, moved_all, sent_by, takes_back}
-use Rattle.tds_relay.specs.House.{House, Step, Admits, CausesStep, Hands, Makes, MayAll, MayStep, Removes, Steps, Takes, Writes, after, after_all, owed, put_some}
+use Rattle.tds_relay.specs.House.{House, Step, Admits, CausesStep, Hands, Makes, MayAll, Removes, Steps, Takes, Writes, after, after_all, owed, put_some}
 use Rattle.tds_relay.specs.Posts.{Posts, change}
 use Rattle.tds_relay.specs.Promises.{Each}
-use Rattle.tds_relay.specs.Taking.{AreTaken, IsDeaf, Tells, TellsOn, left_by}
+use Rattle.tds_relay.specs.Taking.{AreTaken, IsDeaf, Tells, left_by}
 use Rattle.tds_relay.specs.Ties.{Application}
 use Rattle.tds_relay.proofs.Fed.{fed_is, left_fed, waits_fed}
 use Rattle.tds_relay.proofs.Fronts.{each_both, moves_closes, no_moves}

@@ -1,6 +1,6 @@
 -- What passes an application's end, along moves: what comes of the application, what goes on of it to the connection that it holds, and what
 -- is said there (tds_front, Passing).
-use Rattle.std.specs.Prelude.{◌≡◌, ◌≢◌, ℕ, ◌==◌, Bool, true, false, List, [], ◌∷◌, ◌++◌, Option, Some, None, Result, Ok, Err, if◌then◌else◌}
+use Rattle.std.specs.Prelude.{◌≢◌, ℕ, ◌==◌, Bool, true, false, List, [], ◌∷◌, ◌++◌, Option, Some, None, Result, Ok, Err, if◌then◌else◌}
 use Rattle.tds_front.specs.declared.fault.FrontFault.{FrontFault}
 use Rattle.tds_front.specs.declared.front.Fed.{Fed}
 use Rattle.tds_front.specs.declared.front.Front.{Front}

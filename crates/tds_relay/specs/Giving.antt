@@ -159,4 +159,3 @@ pub record Gives (by : Cause) (old new : House) : Type 0 where
   pub may : MayAll old steps
   pub caused : Each (CausesStep by) steps
   pub each : (key : ℕ) → IsKept key old steps
-

@@ -14,8 +14,6 @@ use Rattle.tds_service.specs.Parts.{Part}
 use Rattle.tds_relay.specs.declared.desk.coming.What.{What}
 use Rattle.tds_relay.specs.declared.desk.coming.What.TheVariants as whats
 use Rattle.tds_relay.specs.declared.link.Answer.{Answer}
-use Rattle.tds_relay.specs.declared.link.News.{News}
-use Rattle.tds_relay.specs.declared.link.News.TheVariants as how
 use Rattle.tds_relay.specs.Cutting.{IsCut, ends_in}
 use Rattle.tds_relay.specs.Desk.{Way, whose}
 use Rattle.tds_relay.specs.Hall as hall

@@ -1,6 +1,6 @@
 -- An application has nothing at the desk where it enters; and since, it comes to wait only where it has nothing there.
-use Rattle.std.proofs.Common.{◌≡◌, ◌∙◌, ◌==◌, ℕ, Bool, true, false, List, [], ◌∷◌, ◌++◌, refl, sym, ap, subst}
-use Rattle.std.specs.Prelude.{Option, None, if◌then◌else◌}
+use Rattle.std.proofs.Common.{◌≡◌, ◌∙◌, ℕ, Bool, true, false, List, [], ◌∷◌, ◌++◌, refl, sym, ap, subst}
+use Rattle.std.specs.Prelude.{None}
 use Rattle.tds_relay.specs.Away.{IsAway, WaitsAway, done_before, done_since}
 use Rattle.tds_relay.specs.Behind.{events_along}
 use Rattle.tds_relay.specs.Desk as desk
@@ -13,7 +13,6 @@ use Rattle.tds_relay.specs.Promises.{comes_to_wait}
 use Rattle.tds_relay.proofs.Away.{no_place}
 use Rattle.tds_relay.proofs.Folding.{Alone, ByHistory, desk_both}
 use Rattle.tds_relay.proofs.Lists.{theirs_none}
-use Rattle.tds_relay.proofs.Ours.{Gone}
 use Rattle.tds_relay.proofs.visits.Reached.{Free, Judging, before}
 use Rattle.tds_relay.proofs.visits.Stays.{came, hall_after, may_moves}
 

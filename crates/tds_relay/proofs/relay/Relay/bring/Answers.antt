@@ -1,5 +1,5 @@
-use Rattle.std.proofs.Common.{◌≡◌, ◌∙◌, refl, rules, sym, true}
-use Rattle.tds_relay.specs.Fronts.{Moved, hall_in, house_in}
+use Rattle.std.proofs.Common.{◌≡◌, ◌∙◌, ◌==◌, ap, refl, rules, sym, true, ℕ}
+use Rattle.tds_relay.specs.Fronts.{house_in}
 use Rattle.tds_relay.specs.Ties.{Neither}
 use Rattle.tds_relay.proofs.Fronts.{moves_does}
 use Rattle.tds_relay.proofs.Reaching.{reaches_turn}
@@ -35,5 +35,5 @@ returns-clause-steps c =
 pub returns-clause-opens : goal.returns-clause-opens
 returns-clause-opens c =
     let none : c.is_empty.result ≡ true = search rules in
-    first_opens _ _ c.args.self.now.links.items _ _ _ (sym c.is_empty.ensures ∙ none) c.in_ok-push.ensures.items c.in_ok-link.ensures.number c.in_ok-link.ensures.unread refl
+    first_opens _ _ c.args.self.now.links.items _ _ _ (sym (ap (λ (k : ℕ). k == 0) c.args.self.now.links.ok.0) ∙ sym c.is_empty.ensures ∙ none) c.in_ok-push.ensures.items c.in_ok-link.ensures.number c.in_ok-link.ensures.unread refl
     c.in_ok-send_on.ensures.read c.in_ok-serve_line.ensures.opens

@@ -1,4 +1,4 @@
-use Rattle.std.proofs.Common.{◌≡◌, ◌∙◌, ap, false, refl, rules, sym}
+use Rattle.std.proofs.Common.{◌≡◌, ◌∙◌, ap, false, rules, sym}
 use Rattle.tds_front.specs.declared.front.Said.{Said}
 use Rattle.tds_relay.specs.Fronts.{given_by}
 use Rattle.tds_relay.specs.Hall.{hands_on, takes_back}

@@ -1,8 +1,6 @@
 use Rattle.std.proofs.Common.{ap}
-use Rattle.tds_relay.specs.Fronts.{ends_in, house_in}
-use Rattle.tds_relay.specs.House.{House, Steps, Writes}
-use Rattle.tds_relay.specs.Posts.{posts_in}
-use Rattle.tds_relay.specs.Ties.{Neither, desk_in}
+use Rattle.tds_relay.specs.Fronts.{house_in}
+use Rattle.tds_relay.specs.Ties.{desk_in}
 use Rattle.tds_relay.proofs.Stepping.{steps_writes}
 use Rattle.tds_relay.proofs.relay.Relay.sent.Goals as goal
 

@@ -1,13 +1,12 @@
-use Rattle.std.proofs.Common.{◌≡◌, ◌∙◌, ap, false, refl, rules, sym, true, Option, Some, ℕ, subst}
+use Rattle.std.proofs.Common.{◌≡◌, ◌∙◌, false, refl, rules, sym, true, Some, ℕ, subst}
 use Rattle.std.specs.Prelude.{IsSome}
-use Rattle.slab.specs.Slab.{get}
 use Rattle.tds_service.specs.Table.{reading_on}
 use Rattle.tds_relay.specs.declared.link.News.{News}
 use Rattle.tds_relay.specs.Desk.{whose}
 use Rattle.tds_relay.specs.Fronts.{ends_in}
 use Rattle.tds_relay.specs.Handing.{IsBy, news_with}
 use Rattle.tds_relay.specs.House.{closes, end_whose, is_said, Withheld}
-use Rattle.tds_relay.specs.Posts.{Posts, posts_in}
+use Rattle.tds_relay.specs.Posts.{posts_in}
 use Rattle.tds_relay.specs.Ties.{Connection, desk_in}
 use Rattle.tds_relay.proofs.Fronts.{ends_kept}
 use Rattle.tds_relay.proofs.Handed.{handed_for, handed_is, has_walker, passing, to_absent, to_closed, to_deaf, to_nobody, to_one, withheld_for, withheld_is}
