@@ -1,30 +1,23 @@
 -- A moment of the application itself, while it holds a connection, and what comes there.
-use Rattle.std.proofs.Common.{◌≡◌, ◌∙◌, ◌==◌, ℕ, Bool, true, false, not, List, [], ◌∷◌, ◌++◌, length, drop, refl, sym, ap, subst, inl}
+use Rattle.std.proofs.Common.{◌≡◌, ◌∙◌, ◌==◌, ℕ, Bool, true, List, [], ◌∷◌, ◌++◌, length, drop, refl, sym, ap, subst, inl}
 use Rattle.std.specs.Prelude.{Option, Some, None}
-use Rattle.std.proofs.lemmas.Bool.{eq-eqb}
 use Rattle.tds_packet.specs.declared.status.Reset.{Reset}
 use Rattle.tds_client.specs.declared.fault.ClientRefusal.{ClientRefusal}
 use Rattle.tds_wire.specs.declared.told.Token.{Token}
 use Rattle.tds_service.specs.Parts.{Item, Part}
 use Rattle.tds_service.specs.Line as line
 use Rattle.tds_service.specs.Line.{Line, Act, Packet, Stage, turn as turning}
-use Rattle.tds_service.specs.History.{Done, history, line_after}
+use Rattle.tds_service.specs.History.{history, line_after}
 use Rattle.tds_service.specs.Refusing.{refusal_in}
-use Rattle.tds_service.specs.Service as calls
-use Rattle.tds_service.specs.Service.{Service, Step, Call, Place, Leased, Kept, Seat, find_by, change_by, has_lease, has_number, lease_at, lease_in, seat_numbered, on, on_one, step, steps, service_after, acts_unless, does, nothing, drained}
-use Rattle.tds_service.proofs.Numbered.{change_here}
+use Rattle.tds_service.specs.Service.{Seat}
 use Rattle.tds_lawful.specs.Lawful.{Session}
 use Rattle.tds_relay.specs.declared.desk.Hold.{Hold}
 use Rattle.tds_relay.specs.Desk as desk
 use Rattle.tds_relay.specs.Desk.{Deed, Desk, Event, Hearing, Turn, Way, find_key, find_lease, moves, turn, whose, without_lease, without_number}
-use Rattle.tds_relay.proofs.Seats.{found_other}
-use Rattle.tds_relay.proofs.Caring.{Sound, found_held}
-use Rattle.tds_relay.proofs.Promised.{found_numbered}
+use Rattle.tds_relay.proofs.Caring.{Sound}
 use Rattle.tds_alone.specs.Serving.{Ask, End, Moment, Server, World, fresh, goes_out, packets_in, said}
 use Rattle.tds_alone.specs.Alone.{IsNextAt, IsOrderly, IsSaid, asks_by, does_at, does_by, ends_at, ends_by, given_at, given_in, heard_of, line_at, line_of, settles_at, settles_by, unless_wrong}
-use Rattle.tds_relay.proofs.Lists.{none_filtered, places, theirs, theirs_left}
-use Rattle.tds_relay.proofs.Sparing.{none_on}
-use Rattle.tds_relay.proofs.Others.{Its, found, held, number_is}
+use Rattle.tds_relay.proofs.Others.{found}
 use Rattle.tds_relay.proofs.Ours.{Gone, Ours, acts_done, acts_of_deed, acts_unless_refused, deeds, first_of, hears_right, hears_wrong, leaves_gone, loses_gone, own_whose, same_number, with_came, with_line}
 use Rattle.tds_alone.proofs.Own.{Acted, Follows, Hears, Stands, StandsAt, come_end, comes_heard, deed_acted, refused_asks, same_acted}
 use Rattle.tds_alone.proofs.Story.{Holding, Next, goes_away, goes_on, its_own}
