@@ -6,7 +6,7 @@ use crate::counted::Counted;
 use crate::fault::SpeedFault;
 use crate::packets::Packets;
 use tds_packet::{Direction, Kind, PacketRef, PacketSize};
-use tds_token::{Columns, TokenRef, Tokens};
+use tds_token::{Columns, RowRef, Rows, TokenRef, Tokens};
 
 /// What is done with each packet of an answer.
 pub trait Walk: Drop {
@@ -100,24 +100,28 @@ pub fn sum_rows(
     counted: &mut Counted,
 ) -> Result<Columns, SpeedFault> {
     let mut tokens = Tokens::new(data, columns);
-    for _ in 0..u64::MAX {
-        sum_run(&mut tokens, counted);
-        let Some(next) = tokens.next() else {
-            break;
-        };
+    'tokens: while let Some(next) = tokens.next() {
         counted.add_token();
-        next?;
+        if let TokenRef::Row(first) = next? {
+            counted.add_row();
+            sum_values(&first, counted);
+            sum_run(tokens.rows(), counted);
+        }
     }
     Ok(tokens.columns())
 }
 
 /// Sums the values of a run of rows.
-fn sum_run(tokens: &mut Tokens<'_>, counted: &mut Counted) {
-    for row in tokens.rows() {
-        counted.add_token();
-        counted.add_row();
-        for value in row.values() {
-            counted.add(u64::from(value.cast_unsigned()));
-        }
+fn sum_run(rows: Rows<'_>, counted: &mut Counted) {
+    counted.add_rows(rows.len());
+    for row in rows {
+        sum_values(&row, counted);
+    }
+}
+
+/// Sums a row's values.
+fn sum_values(row: &RowRef<'_>, counted: &mut Counted) {
+    for value in row.values() {
+        counted.add(u64::from(value.cast_unsigned()));
     }
 }
