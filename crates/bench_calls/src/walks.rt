@@ -16,6 +16,8 @@ pub trait Walk: Drop {
 }
 
 /// Walks over the packets of an answer.
+// A walk is a function of its own, as in plain C: its loop has the registers to itself.
+#[inline(never)]
 pub fn walked<W: Walk>(mut walk: W, size: PacketSize, bytes: &[u8]) -> Result<Counted, SpeedFault> {
     let mut counted = Counted::none();
     for packet in Packets::new(size, Direction::ToClient, bytes) {
@@ -94,6 +96,7 @@ impl Walk for RowRuns {
 
 /// Sums the values of a packet's rows, which are read in runs. Answers the columns that are known behind
 /// them.
+#[inline(always)]
 pub fn sum_rows(
     data: &[u8],
     columns: Columns,
@@ -112,6 +115,7 @@ pub fn sum_rows(
 }
 
 /// Sums the values of a run of rows.
+#[inline(always)]
 fn sum_run(rows: Rows<'_>, counted: &mut Counted) {
     counted.add_rows(rows.len());
     for row in rows {
@@ -120,6 +124,7 @@ fn sum_run(rows: Rows<'_>, counted: &mut Counted) {
 }
 
 /// Sums a row's values.
+#[inline(always)]
 fn sum_values(row: &RowRef<'_>, counted: &mut Counted) {
     for value in row.values() {
         counted.add(u64::from(value.cast_unsigned()));
