@@ -37,6 +37,12 @@ impl Counted {
     pub fn add_row(&mut self) {
         self.rows = self.rows.wrapping_add(1);
     }
+
+    /// A run of so many rows, each a token.
+    pub fn add_rows(&mut self, count: usize) {
+        self.tokens = self.tokens.wrapping_add(count as u64);
+        self.rows = self.rows.wrapping_add(count as u64);
+    }
 }
 
 impl Display for Counted {

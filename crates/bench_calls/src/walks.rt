@@ -6,7 +6,7 @@ use crate::counted::Counted;
 use crate::fault::SpeedFault;
 use crate::packets::Packets;
 use tds_packet::{Direction, Kind, PacketRef, PacketSize};
-use tds_token::{Columns, TokenRef, Tokens};
+use tds_token::{Columns, RowRef, Rows, TokenRef, Tokens};
 
 /// What is done with each packet of an answer.
 pub trait Walk: Drop {
@@ -16,6 +16,8 @@ pub trait Walk: Drop {
 }
 
 /// Walks over the packets of an answer.
+// A walk is a function of its own, as in plain C: its loop has the registers to itself.
+#[inline(never)]
 pub fn walked<W: Walk>(mut walk: W, size: PacketSize, bytes: &[u8]) -> Result<Counted, SpeedFault> {
     let mut counted = Counted::none();
     for packet in Packets::new(size, Direction::ToClient, bytes) {
@@ -94,30 +96,37 @@ impl Walk for RowRuns {
 
 /// Sums the values of a packet's rows, which are read in runs. Answers the columns that are known behind
 /// them.
+#[inline(always)]
 pub fn sum_rows(
     data: &[u8],
     columns: Columns,
     counted: &mut Counted,
 ) -> Result<Columns, SpeedFault> {
     let mut tokens = Tokens::new(data, columns);
-    for _ in 0..u64::MAX {
-        sum_run(&mut tokens, counted);
-        let Some(next) = tokens.next() else {
-            break;
-        };
+    'tokens: while let Some(next) = tokens.next() {
         counted.add_token();
-        next?;
+        if let TokenRef::Row(first) = next? {
+            counted.add_row();
+            sum_values(&first, counted);
+            sum_run(tokens.rows(), counted);
+        }
     }
     Ok(tokens.columns())
 }
 
 /// Sums the values of a run of rows.
-fn sum_run(tokens: &mut Tokens<'_>, counted: &mut Counted) {
-    for row in tokens.rows() {
-        counted.add_token();
-        counted.add_row();
-        for value in row.values() {
-            counted.add(u64::from(value.cast_unsigned()));
-        }
+#[inline(always)]
+fn sum_run(rows: Rows<'_>, counted: &mut Counted) {
+    counted.add_rows(rows.len());
+    for row in rows {
+        sum_values(&row, counted);
+    }
+}
+
+/// Sums a row's values.
+#[inline(always)]
+fn sum_values(row: &RowRef<'_>, counted: &mut Counted) {
+    for value in row.values() {
+        counted.add(u64::from(value.cast_unsigned()));
     }
 }

@@ -7,4 +7,5 @@ pub mod Writing
 pub mod Sending
 pub mod Starting
 pub mod Rows
+pub mod RowAt
 pub mod Keeping

@@ -1,6 +1,6 @@
 //! Tokens out of a packet's data, one behind the other.
 
-ghost use Rattle.std.specs.Prelude.{◌≡◌, ◌≤◌, List, Option, Result, Ok, Some, IfNone, IfSome, length, pos};
+ghost use Rattle.std.specs.Prelude.{◌≡◌, ◌≤◌, ◌+◌, ◌*◌, List, Option, Result, Ok, Some, IfNone, IfSome, length, pos};
 ghost use Rattle.tds_token.specs.Layout.{token_of};
 ghost use Rattle.tds_c.specs.declared.answers.Stop.{Stop};
 ghost use Rattle.tds_c.specs.declared.tokens.Ran.{Ran};
@@ -207,24 +207,58 @@ pub extern "C" fn tds_token_next(data: &[u8], cursor: &mut TdsCursor, token: &mu
     }
 }
 
-/// The row at the cursor, which goes on behind it. None where no row is there, and the cursor stays.
-///
-/// It is what `next` gives: apart from the other tokens, it is a straight way through few
-/// instructions.
+/// The row at this place, where the data have room for one.
 #[inline(always)]
-fn next_row(data: &[u8], cursor: &mut TdsCursor) -> Option<TdsToken>
-    ensures row { IfSome result (λ row. Reads «data».now cursor.old cursor.new (Ok (Some row))) }
-    ensures none { IfNone result (cursor.new ≡ cursor.old) }
+fn row_at(data: &[u8], at: usize, columns: u8) -> Option<TdsToken>
+    requires least { 1 ≤ columns }
+    requires most { columns ≤ 16 }
+    requires room { at + (1 + 4 * columns) ≤ length «data».now }
+    ensures { IfSome result (λ row. Reads «data».now (record { at = at; columns = columns })
+        (record { at = at + (1 + 4 * columns); columns = columns }) (Ok (Some row))) }
 {
-    if cursor.at >= data.len() || data[cursor.at] != 0xD1 {
+    if data[at] != 0xD1 {
         return None;
     }
-    let mut place = *cursor;
-    let Ok(Some(row)) = next(data, &mut place) else {
-        return None;
-    };
-    *cursor = place;
-    Some(row)
+    Some(TdsToken {
+        value: u64::from(columns),
+        ..blank(0xD1, at)
+    })
+}
+
+/// What `run_rows` does where a row is at the cursor: a function of its own, so that its loop has the
+/// registers to itself.
+#[inline(never)]
+fn fill_rows(data: &[u8], cursor: &mut TdsCursor, tokens: &mut [TdsToken], read: usize) -> usize
+    requires { read ≤ length tokens.old }
+    ensures run { (first : TdsCursor) (room : List TdsToken) → length room ≡ length tokens.old
+        → HasRun «data».now first cursor.old
+        (record { before = room; after = tokens.old; count = read })
+        → HasRun «data».now first cursor.new
+        (record { before = room; after = tokens.new; count = result }) }
+    ensures same { length tokens.new ≡ length tokens.old }
+    ensures within { result ≤ length tokens.old }
+    ensures on { read ≤ result }
+{
+    let columns = cursor.columns;
+    if columns == 0 || columns > 16 || cursor.at > data.len() {
+        return read;
+    }
+    let size = 1 + 4 * usize::from(columns);
+    // So many rows have room in the data and in the tokens: of each, its byte alone is looked at.
+    let whole = (data.len() - cursor.at) / size;
+    let mut left = whole.min(tokens.len() - read);
+    let most = read + left;
+    let mut at = cursor.at;
+    'rows: while left > 0 {
+        let Some(row) = row_at(data, at, columns) else {
+            break;
+        };
+        tokens[most - left] = row;
+        at += size;
+        left -= 1;
+    }
+    cursor.at = at;
+    most - left
 }
 
 /// Reads rows one behind the other behind those tokens that were read, until the room is full or
@@ -241,14 +275,12 @@ fn run_rows(data: &[u8], cursor: &mut TdsCursor, tokens: &mut [TdsToken], read: 
     ensures within { result ≤ length tokens.old }
     ensures on { read ≤ result }
 {
-    let mut read = read;
-    'rows: while read < tokens.len() {
-        let Some(row) = next_row(data, cursor) else {
-            break;
-        };
-        tokens[read] = row;
-        read += 1;
+    if cursor.at >= data.len() || data[cursor.at] != 0xD1 {
+        return read;
     }
+    let mut place = *cursor;
+    let read = fill_rows(data, &mut place, tokens, read);
+    *cursor = place;
     read
 }
 
