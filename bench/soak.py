@@ -37,7 +37,7 @@ def soak(program, serve, minutes):
         for it in (kill, between.cut):
             threading.Thread(target=it, daemon=True).start()
         for minute in range(minutes):
-            random_ones = Random(relay.port, seed + minute)
+            random_ones = Random(relay.port, seed + minute, goes_down=True)
             asyncio.run(guarded(random_ones))
             sessions += random_ones.seen["sessions"]
             wrong += random_ones.wrong

@@ -12,6 +12,8 @@ from peers import ATTENTION, batch, connect, login, message
 SECONDS = 5
 APPLICATIONS = 12
 NO_TRANSACTION = 50003
+# What a relay tells who waits for a connection that can't be opened.
+NOT_OPENED = 50105
 
 
 def tokens(data):
@@ -67,10 +69,11 @@ class Application:
 
 
 class Random:
-    """Random applications: what they saw."""
+    """Random applications: what they saw. Where the server goes down they may be told that no connection could be opened,
+    which ends a session as a cut does."""
 
-    def __init__(self, port, seed):
-        self.port, self.seed = port, seed
+    def __init__(self, port, seed, goes_down=False):
+        self.port, self.seed, self.goes_down = port, seed, goes_down
         self.wrong = []
         self.seen = dict(sessions=0, answers=0, cancels=0, crossed=0, idle=0, half=0, left=0)
 
@@ -87,7 +90,10 @@ class Random:
                 return data
 
     async def hear(self, reader):
-        return tokens(await self.message(reader))
+        told = tokens(await self.message(reader))
+        if self.goes_down and told[2] == [NOT_OPENED]:
+            raise ConnectionError("the relay could not open a connection to the server")
+        return told
 
     async def session(self, place, rng, number):
         reader, writer = await asyncio.open_connection("127.0.0.1", self.port)
