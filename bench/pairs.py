@@ -79,8 +79,11 @@ def servers(room):
 
 def service(_room):
     # A time is 100 exchanges.
-    yield Pair("a service", "a lease, a request and an answer of a packet each, the return", "test_listen",
-               lambda n: ["exchange", str(100 * n)], "plain_service.c", lambda n: [str(100 * n)], "request", 100, 2)
+    times = lambda n: [str(100 * n)]
+    what = "a lease, a request and an answer of a packet each, the return"
+    yield Pair("a service", what, "test_listen", lambda n: ["exchange", *times(n)], "plain_service.c", times, "request", 100, 2)
+    yield Pair("a service from C, by `libtds_service_c.a` (`bench/exchange.c`)", what, "exchange", times, "plain_service.c", times,
+               "request", 100, 2)
 
 
 def all_of(room):
