@@ -33,6 +33,7 @@ pub(crate) fn is_status(status: u16) -> bool
 }
 
 #[tactic(auto, unfolding(crate::specs::Reading::done_at))]
+#[inline(always)]
 fn done(bytes: &[u8]) -> Result<(TokenRef<'_>, &[u8]), TokenFault>
     ensures { Gives (λ x. (token_of x.0, x.1.now)) result (done_at bytes.now) }
 {
