@@ -18,16 +18,16 @@ use Rattle.tds_relay.specs.Away.{IsAway}
 use Rattle.tds_relay.specs.Desk as desk
 use Rattle.tds_relay.specs.Desk.{Desk, Event, Deed, Turn, Way, Hearing, find_key, holding, lent_in, moves, ticket_in, turn, whose, without_lease, without_number}
 use Rattle.tds_relay.specs.Promises.{Each, comes_to_wait}
-use Rattle.tds_relay.proofs.Seats.{found_meets}
-use Rattle.tds_relay.proofs.Tidy.{UpTo}
-use Rattle.tds_relay.proofs.Caring.{Sound}
-use Rattle.tds_relay.proofs.Bringing.{lendable_idle}
+use Rattle.tds_relay.proofs.promises.Seats.{found_meets}
+use Rattle.tds_relay.proofs.promises.Tidy.{UpTo}
+use Rattle.tds_relay.proofs.promises.Caring.{Sound}
+use Rattle.tds_relay.proofs.promises.Bringing.{lendable_idle}
 use Rattle.tds_alone.specs.Serving.{Ask, Resets, End, Moment, Server, World, fresh, goes_out, happens, logged_in, new_end, packets_in, said, takes_all}
 use Rattle.tds_alone.specs.Alone.{IsOrderly, asks_by, does_by, ends_at, ends_by, given_at, given_in, heard_of, keeps_by, line_of, settles_by, underway, unless_wrong}
-use Rattle.tds_relay.proofs.Lists.{Once, found_key, line_one, line_other, none_behind, once_behind, once_filtered, places, theirs, theirs_found, theirs_none, theirs_one, theirs_other, theirs_still}
-use Rattle.tds_relay.proofs.Sparing.{none_on}
-use Rattle.tds_relay.proofs.Others.{Its}
-use Rattle.tds_relay.proofs.Standing.{absent_whose}
+use Rattle.tds_relay.proofs.held.Lists.{Once, found_key, line_one, line_other, none_behind, once_behind, once_filtered, places, theirs, theirs_found, theirs_none, theirs_one, theirs_other, theirs_still}
+use Rattle.tds_relay.proofs.held.Sparing.{none_on}
+use Rattle.tds_relay.proofs.held.Others.{Its}
+use Rattle.tds_relay.proofs.ends.Standing.{absent_whose}
 use Rattle.tds_alone.proofs.Own.{Follows, Stands, StandsAt}
 use Rattle.tds_alone.proofs.Story.{IsAbsent, Next, moved, not_its, underway_held, underway_none}
 

@@ -14,11 +14,11 @@ use Rattle.tds_lawful.specs.Lawful.{Session}
 use Rattle.tds_relay.specs.declared.desk.Hold.{Hold}
 use Rattle.tds_relay.specs.Desk as desk
 use Rattle.tds_relay.specs.Desk.{Deed, Desk, Event, Hearing, Turn, Way, find_key, find_lease, moves, turn, whose, without_lease, without_number}
-use Rattle.tds_relay.proofs.Caring.{Sound}
+use Rattle.tds_relay.proofs.promises.Caring.{Sound}
 use Rattle.tds_alone.specs.Serving.{Ask, End, Moment, Server, World, fresh, goes_out, packets_in, said}
 use Rattle.tds_alone.specs.Alone.{IsNextAt, IsOrderly, IsSaid, asks_by, does_at, does_by, ends_at, ends_by, given_at, given_in, heard_of, line_at, line_of, settles_at, settles_by, unless_wrong}
-use Rattle.tds_relay.proofs.Others.{found}
-use Rattle.tds_relay.proofs.Ours.{Gone, Ours, acts_done, acts_of_deed, acts_unless_refused, deeds, first_of, hears_right, hears_wrong, leaves_gone, loses_gone, own_whose, same_number, with_came, with_line}
+use Rattle.tds_relay.proofs.held.Others.{found}
+use Rattle.tds_relay.proofs.held.Ours.{Gone, Ours, acts_done, acts_of_deed, acts_unless_refused, deeds, first_of, hears_right, hears_wrong, leaves_gone, loses_gone, own_whose, same_number, with_came, with_line}
 use Rattle.tds_alone.proofs.Own.{Acted, Follows, Hears, Stands, StandsAt, come_end, comes_heard, deed_acted, refused_asks, same_acted}
 use Rattle.tds_alone.proofs.Story.{Holding, Next, goes_away, goes_on, its_own}
 

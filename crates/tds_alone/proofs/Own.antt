@@ -23,7 +23,7 @@ use Rattle.tds_service.specs.Refusing.{packets, refusal_in}
 use Rattle.tds_lawful.specs.Lawful.{Session, reset_by}
 use Rattle.tds_relay.specs.Desk as desk
 use Rattle.tds_relay.specs.Desk.{Deed, hearing_of}
-use Rattle.tds_relay.proofs.Ours.{acts_of_deed, first_of}
+use Rattle.tds_relay.proofs.held.Ours.{acts_of_deed, first_of}
 use Rattle.tds_alone.specs.Serving.{Ask, Runs, Resets, Stops, Finds, Ends, End, Moment, Server, but_news, fresh, is_news, packets_in, reset_if, takes_all, told_if}
 use Rattle.tds_alone.specs.Alone.{EndsBehind, IsNext, IsNextAt, does_at, given_at, settles_at}
 

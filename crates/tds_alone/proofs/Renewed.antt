@@ -17,16 +17,16 @@ use Rattle.tds_relay.specs.declared.desk.Hold.{Hold}
 use Rattle.tds_relay.specs.Desk as desk
 use Rattle.tds_relay.specs.Desk.{Desk, Event, Turn, find_key, holding, lent_in, moves, ticket_in, turn, without_lease, without_number}
 use Rattle.tds_relay.specs.Promises.{CaresFor, IsCaredFor}
-use Rattle.tds_relay.proofs.Seats.{Distinct, each_found, found_meets, found_other}
-use Rattle.tds_relay.proofs.Tidy.{step_rises}
-use Rattle.tds_relay.proofs.Renewing.{idle_is}
-use Rattle.tds_relay.proofs.Caring.{Sound}
+use Rattle.tds_relay.proofs.promises.Seats.{Distinct, each_found, found_meets, found_other}
+use Rattle.tds_relay.proofs.promises.Tidy.{step_rises}
+use Rattle.tds_relay.proofs.promises.Renewing.{idle_is}
+use Rattle.tds_relay.proofs.promises.Caring.{Sound}
 use Rattle.tds_alone.specs.Serving.{Ask, Resets, End, Moment, Server, World, goes_out, happens, logged_in, packets_in, reset_if, said, takes_all}
 use Rattle.tds_alone.specs.Alone.{asks_by, given_at, given_in, keeps_by, underway}
-use Rattle.tds_relay.proofs.Lists.{places, theirs, theirs_found, theirs_left, theirs_one}
-use Rattle.tds_relay.proofs.Sparing.{none_on}
-use Rattle.tds_relay.proofs.Others.{Its, found, key_is, number_is}
-use Rattle.tds_relay.proofs.Ours.{by_lease, not_same, same_number}
+use Rattle.tds_relay.proofs.held.Lists.{places, theirs, theirs_found, theirs_left, theirs_one}
+use Rattle.tds_relay.proofs.held.Sparing.{none_on}
+use Rattle.tds_relay.proofs.held.Others.{Its, found, key_is, number_is}
+use Rattle.tds_relay.proofs.held.Ours.{by_lease, not_same, same_number}
 use Rattle.tds_alone.proofs.Own.{Stands, StandsAt}
 use Rattle.tds_alone.proofs.Story.{Holding, Next, goes_away, goes_on, logged, moved, seated, underway_held}
 

@@ -10,16 +10,16 @@ use Rattle.tds_lawful.specs.Lawful.{Session}
 use Rattle.tds_relay.specs.declared.desk.Hold.{Hold}
 use Rattle.tds_relay.specs.Desk as desk
 use Rattle.tds_relay.specs.Desk.{Desk, Event, Turn, find_key, find_lease, key_of, turn, whose, whose_by}
-use Rattle.tds_relay.proofs.Seats.{each_found}
-use Rattle.tds_relay.proofs.Tidy.{UpTo}
-use Rattle.tds_relay.proofs.Caring.{Sound}
+use Rattle.tds_relay.proofs.promises.Seats.{each_found}
+use Rattle.tds_relay.proofs.promises.Tidy.{UpTo}
+use Rattle.tds_relay.proofs.promises.Caring.{Sound}
 use Rattle.tds_alone.specs.Serving.{Ask, End, Moment, Server, World, fresh, goes_out, happens, logged_in, packets_in, said, takes_all}
 use Rattle.tds_alone.specs.Alone.{asks_by, ends_at, given_at, given_in, heard_of, if_its, line_at, line_of, settles_by, underway, underway_by, unless_wrong}
-use Rattle.tds_relay.proofs.Lists.{Once, theirs, theirs_found, theirs_none}
-use Rattle.tds_relay.proofs.Sparing.{remains}
-use Rattle.tds_relay.proofs.Seated.{AllSit}
-use Rattle.tds_relay.proofs.Others.{Its, IsOthers, Passes, found, number_is, passes}
-use Rattle.tds_relay.proofs.Standing.{whose_number}
+use Rattle.tds_relay.proofs.held.Lists.{Once, theirs, theirs_found, theirs_none}
+use Rattle.tds_relay.proofs.held.Sparing.{remains}
+use Rattle.tds_relay.proofs.held.Seated.{AllSit}
+use Rattle.tds_relay.proofs.held.Others.{Its, IsOthers, Passes, found, number_is, passes}
+use Rattle.tds_relay.proofs.ends.Standing.{whose_number}
 use Rattle.tds_alone.proofs.Own.{Follows, Stands}
 
 -- It holds a connection, whose server's end keeps step with a server of its own, which is in this session; or it holds none.

@@ -15,13 +15,13 @@ use Rattle.tds_relay.specs.Away.{IsAway}
 use Rattle.tds_relay.specs.Desk as desk
 use Rattle.tds_relay.specs.Desk.{Event, find_key, new_desk, turn}
 use Rattle.tds_relay.specs.Promises.{comes_to_wait}
-use Rattle.tds_relay.proofs.Caring.{Sound}
-use Rattle.tds_relay.proofs.Bringing.{always_sound, turn_sound}
+use Rattle.tds_relay.proofs.promises.Caring.{Sound}
+use Rattle.tds_relay.proofs.promises.Bringing.{always_sound, turn_sound}
 use Rattle.tds_alone.specs.Serving.{Ask, Runs, Resets, Stops, Finds, Ends, Moment, Server, World, answers_alone, but_news, fresh, happens, new_world, reached, world_after}
 use Rattle.tds_alone.specs.Alone.{AllOrderly, AsIfAlone, IsAtRest, IsOrderly, asks, asks_by, count_behind, found_next, given, given_in, underway}
-use Rattle.tds_relay.proofs.Lists.{none_theirs}
-use Rattle.tds_relay.proofs.Seated.{AllSit, turn_sits}
-use Rattle.tds_relay.proofs.Others.{IsOthers, Its, found}
+use Rattle.tds_relay.proofs.held.Lists.{none_theirs}
+use Rattle.tds_relay.proofs.held.Seated.{AllSit, turn_sits}
+use Rattle.tds_relay.proofs.held.Others.{IsOthers, Its, found}
 use Rattle.tds_alone.proofs.Own.{Answers, Follows, Stands, StandsAt}
 use Rattle.tds_alone.proofs.Story.{Holding, Next, Story, others_next, underway_held, underway_none}
 use Rattle.tds_alone.proofs.Held.{comes_next, does_next, leaves_next, loses_next}

@@ -6,7 +6,7 @@ use crate::NoMemory;
 use crate::link::{Link, News};
 
 /// Where the connection of this number is among these.
-#[tactic(auto, using(crate::proofs::Staying::within_is))]
+#[tactic(auto, using(crate::proofs::steps::Staying::within_is))]
 pub(crate) fn place_in(links: &[Link], number: u64) -> Option<usize>
     ensures is { result ≡ place_of number links.now }
     ensures within { IfSome result (λ place. place < length links.now) }
@@ -27,7 +27,7 @@ pub(crate) fn remove_link(links: &mut Vec<Link>, number: u64)
 }
 
 /// What is to be sent on a connection waits there. False where more would wait than may.
-#[tactic(auto, using(crate::proofs::Staying::stays_written, crate::proofs::Staying::stays_refl))]
+#[tactic(auto, using(crate::proofs::steps::Staying::stays_written, crate::proofs::steps::Staying::stays_refl))]
 pub(crate) fn append_to(links: &mut Vec<Link>, number: u64, bytes: &[u8]) -> Result<bool, NoMemory>
     ensures { Stays links.old.items links.new.items }
 {
@@ -40,7 +40,7 @@ pub(crate) fn append_to(links: &mut Vec<Link>, number: u64, bytes: &[u8]) -> Res
 }
 
 /// The news of a reset is cut out of what comes next on a connection, or not.
-#[tactic(auto, using(crate::proofs::Staying::stays_written, crate::proofs::Staying::stays_refl))]
+#[tactic(auto, using(crate::proofs::steps::Staying::stays_written, crate::proofs::steps::Staying::stays_refl))]
 pub(crate) fn set_cuts(links: &mut Vec<Link>, number: u64, cuts: bool)
     ensures { Stays links.old.items links.new.items }
 {
@@ -53,7 +53,7 @@ pub(crate) fn set_cuts(links: &mut Vec<Link>, number: u64, cuts: bool)
 }
 
 /// Whoever carries a connection's bytes calls it so.
-#[tactic(auto, using(crate::proofs::Staying::stays_written, crate::proofs::Staying::stays_refl))]
+#[tactic(auto, using(crate::proofs::steps::Staying::stays_written, crate::proofs::steps::Staying::stays_refl))]
 pub(crate) fn set_tag(links: &mut Vec<Link>, number: u64, tag: usize)
     ensures { Stays links.old.items links.new.items }
 {
@@ -65,7 +65,7 @@ pub(crate) fn set_tag(links: &mut Vec<Link>, number: u64, tag: usize)
 }
 
 /// So many bytes wait on a connection no more. False where it isn't there.
-#[tactic(auto, using(crate::proofs::Staying::stays_written, crate::proofs::Staying::stays_refl))]
+#[tactic(auto, using(crate::proofs::steps::Staying::stays_written, crate::proofs::steps::Staying::stays_refl))]
 pub(crate) fn forget_sent(links: &mut Vec<Link>, number: u64, count: usize) -> bool
     ensures { Stays links.old.items links.new.items }
 {

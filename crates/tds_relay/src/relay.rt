@@ -196,7 +196,7 @@ impl Relay {
     }
 
     /// So many bytes wait for an application no more.
-    #[tactic(auto, using(crate::proofs::Posting::posts_changed, crate::proofs::Posting::posts_nobody))]
+    #[tactic(auto, using(crate::proofs::steps::Posting::posts_changed, crate::proofs::steps::Posting::posts_nobody))]
     fn forget_sent(&mut self, key: usize, count: usize)
         ensures desk { self.new.desk ≡ self.old.desk }
         ensures sent { posts_in self.new.applications

@@ -10,9 +10,9 @@ use Rattle.tds_relay.specs.Hall as hall
 use Rattle.tds_relay.specs.Hall.{Hall, MayDoAlone, MayMove, MayMoveAll, Move, end_at, event_if, events_of, moved, moved_all, new_hall, stops_of}
 use Rattle.tds_relay.specs.House.{House, after_all, new_house}
 use Rattle.tds_relay.specs.Promises.{comes_to_wait}
-use Rattle.tds_relay.proofs.Away.{no_place}
-use Rattle.tds_relay.proofs.Folding.{Alone, ByHistory, desk_both}
-use Rattle.tds_relay.proofs.Lists.{theirs_none}
+use Rattle.tds_relay.proofs.held.Away.{no_place}
+use Rattle.tds_relay.proofs.ends.Folding.{Alone, ByHistory, desk_both}
+use Rattle.tds_relay.proofs.held.Lists.{theirs_none}
 use Rattle.tds_relay.proofs.visits.Reached.{Free, Judging, before}
 use Rattle.tds_relay.proofs.visits.Stays.{came, hall_after, may_moves}
 

@@ -17,7 +17,7 @@ use Rattle.tds_service.specs.Packets.{close_from, items_from}
 use Rattle.tds_service.specs.Parts as parts
 use Rattle.tds_service.specs.Parts.{Item, Part, hear_items, hear_part, heard_until, is_end}
 use Rattle.tds_relay.specs.Ties.{part_on}
-use Rattle.tds_relay.proofs.Fronting.{line_at}
+use Rattle.tds_relay.proofs.ends.Fronting.{line_at}
 
 -- the packet ends its message, or doesn't, as the answer has it
 abbrev pub EndsAs : Bool → Bool → Answer → Type 0

@@ -20,11 +20,11 @@ use Rattle.tds_relay.specs.Giving.{AreSaid, Given, IsPacketOf, IsSaid, if_its}
 use Rattle.tds_relay.specs.Hall as hall
 use Rattle.tds_relay.specs.Hall.{End, Open, done_by, end_at, what_in, what_of}
 use Rattle.tds_relay.specs.House.{House, IsHanded, IsRight, Manner, MayHand, Whole, Preceded, Without, Withheld, closes, end_whose, handed, is_said}
-use Rattle.tds_relay.proofs.Folding.{outs_of, sound_at}
-use Rattle.tds_relay.proofs.Ours.{came_done}
-use Rattle.tds_relay.proofs.Outs.{HeardAs, Breaks, ReadsOn, ReadsEnd, SkipsOn, SkipsEnd, heard_as}
-use Rattle.tds_relay.proofs.Standing.{Holds, Standing, absent_whose, whose_number}
-use Rattle.tds_relay.proofs.Tying.{Tied}
+use Rattle.tds_relay.proofs.ends.Folding.{outs_of, sound_at}
+use Rattle.tds_relay.proofs.held.Ours.{came_done}
+use Rattle.tds_relay.proofs.ends.Outs.{HeardAs, Breaks, ReadsOn, ReadsEnd, SkipsOn, SkipsEnd, heard_as}
+use Rattle.tds_relay.proofs.ends.Standing.{Holds, Standing, absent_whose, whose_number}
+use Rattle.tds_relay.proofs.ends.Tying.{Tied}
 use Rattle.tds_relay.proofs.visits.Closing.{EndsAs, ends_heard}
 use Rattle.tds_relay.proofs.visits.Reached.{Stands}
 use Rattle.tds_relay.proofs.visits.Replies.{Said, gives, its, not_its}

@@ -12,13 +12,13 @@ use Rattle.tds_service.specs.Service.{Seat, seat_numbered}
 use Rattle.tds_relay.specs.Behind.{StaysIn, events_along, passes}
 use Rattle.tds_relay.specs.Desk.{Desk, Event, new_desk}
 use Rattle.tds_relay.specs.Hall.{End, Open, Over, Ends, Enters, Hall, HasEntered, IsThere, MayMove, MayMoveAll, Move, end_at, events_of, moved, moved_all, new_hall}
-use Rattle.tds_relay.proofs.Ending.{end_behind_is, passes_by}
-use Rattle.tds_relay.proofs.Folding.{Alone, ByHistory, IsAt, append_more, known_at, leaves_at, next_at, outs_of, passes_is, sits_at, sound_at, stays_there, step_story}
-use Rattle.tds_relay.proofs.Fronting.{out_of}
-use Rattle.tds_relay.proofs.Leading.{Leads}
-use Rattle.tds_relay.proofs.Moving.{StepOf, StoryOf, step}
-use Rattle.tds_relay.proofs.Ours.{Gone}
-use Rattle.tds_relay.proofs.Standing.{Standing}
+use Rattle.tds_relay.proofs.ends.Ending.{end_behind_is, passes_by}
+use Rattle.tds_relay.proofs.ends.Folding.{Alone, ByHistory, IsAt, append_more, known_at, leaves_at, next_at, outs_of, passes_is, sits_at, sound_at, stays_there, step_story}
+use Rattle.tds_relay.proofs.ends.Fronting.{out_of}
+use Rattle.tds_relay.proofs.ends.Leading.{Leads}
+use Rattle.tds_relay.proofs.ends.Moving.{StepOf, StoryOf, step}
+use Rattle.tds_relay.proofs.held.Ours.{Gone}
+use Rattle.tds_relay.proofs.ends.Standing.{Standing}
 
 -- bytes are a packet, or a refusal (tds_front)
 abbrev pub Judging : Type 0

@@ -18,7 +18,7 @@ use Rattle.tds_relay.specs.Desk as desk
 use Rattle.tds_relay.specs.Giving.{AreSaid, Given, if_its}
 use Rattle.tds_relay.specs.Hall as hall
 use Rattle.tds_relay.specs.Hall.{End, Open, Over, Hall, IsQuiet, Move, end_at, sent_by}
-use Rattle.tds_relay.proofs.Leading.{stage_along}
+use Rattle.tds_relay.proofs.ends.Leading.{stage_along}
 
 -- these are what it says of what passes it from this stage, whatever has begun
 abbrev pub Said : Stage → List Passed → List Given → Type 0

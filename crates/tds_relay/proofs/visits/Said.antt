@@ -14,9 +14,9 @@ use Rattle.tds_relay.specs.Giving.{AreSaid, Given, StaysAll, Visit, given, given
 use Rattle.tds_relay.specs.Hall as hall
 use Rattle.tds_relay.specs.Hall.{End, Over, Enters, Hall, MayMoveAll, Move, done_by, end_at, events_of, moved, moved_all, new_hall, what_in}
 use Rattle.tds_relay.specs.House.{House, Step, Makes, Hands, Takes, Writes, Admits, Removes, IsHanded, Manner, MayAll, MayStep, after, after_all, end_whose, handed, is_said, moves_of, new_house, owed}
-use Rattle.tds_relay.proofs.Ending.{end_behind_is}
-use Rattle.tds_relay.proofs.Folding.{Alone, ByHistory, over_silent, stays_over}
-use Rattle.tds_relay.proofs.Leading.{stage_along}
+use Rattle.tds_relay.proofs.ends.Ending.{end_behind_is}
+use Rattle.tds_relay.proofs.ends.Folding.{Alone, ByHistory, over_silent, stays_over}
+use Rattle.tds_relay.proofs.ends.Leading.{stage_along}
 use Rattle.tds_relay.proofs.visits.Handing.{hands_said}
 use Rattle.tds_relay.proofs.visits.Owing.{taken_said}
 use Rattle.tds_relay.proofs.visits.Reached.{Entered, Goes, IsOver, Judging, Stands, Then, behind, enters}

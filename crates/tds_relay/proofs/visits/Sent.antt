@@ -10,7 +10,7 @@ use Rattle.tds_relay.specs.Hall.{end_at}
 use Rattle.tds_relay.specs.House.{House, Step, Makes, Hands, Takes, Writes, Admits, Removes, MayAll, MayStep, Steps, after, after_all, change_whose, handed, owed, put_all, put_some}
 use Rattle.tds_relay.specs.Ties.{Cause}
 use Rattle.tds_relay.specs.Posts.{Post, Posts, change, nothing, post_at, without_first}
-use Rattle.tds_relay.proofs.Slots.{changed_at, cleared_at}
+use Rattle.tds_relay.proofs.steps.Slots.{changed_at, cleared_at}
 use Rattle.tds_relay.proofs.visits.Replies.{gives, its, not_its}
 use Rattle.tds_relay.proofs.visits.Stays.{came}
 use Rattle.tds_relay.proofs.visits.Waiting.{Goes, IsClosed, closed_more, goes_more, goes_put, goes_same, goes_sent}

@@ -12,8 +12,8 @@ use Rattle.tds_relay.specs.Hall.{Enters, Hall, IsQuiet, MayMoveAll, Move, moved_
 use Rattle.tds_relay.specs.House.{House, Step, Makes, Hands, Takes, Writes, Admits, Removes, MayAll, MayStep, after, after_all, moves_of, new_house}
 use Rattle.tds_relay.specs.Giving as visits
 use Rattle.tds_relay.specs.Giving.{StaysAll, StaysBy, Visit, happens_in, house_in, moves_in}
-use Rattle.tds_relay.proofs.Folding.{may_both, moved_both}
-use Rattle.tds_relay.proofs.Stepping.{after_both}
+use Rattle.tds_relay.proofs.ends.Folding.{may_both, moved_both}
+use Rattle.tds_relay.proofs.steps.Stepping.{after_both}
 
 -- ---- One behind the other
 

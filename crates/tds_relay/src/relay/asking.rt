@@ -54,7 +54,7 @@ impl Relay {
     }
 
     /// Takes some of them, and answers how many.
-    #[tactic(auto, using(crate::proofs::Staying::stays_refl))]
+    #[tactic(auto, using(crate::proofs::steps::Staying::stays_refl))]
     fn take(&mut self, key: usize, piece: &[u8]) -> Result<usize, NoMemory>
         ensures goes { OnOk result (Goes (Application key)
             (desk_in self.old.desk) (desk_in self.new.desk)) }
@@ -105,7 +105,7 @@ impl Relay {
     /// A request begins. Where it asks for a reset itself, its application gives back what it holds; but
     /// where the transaction is to stay, its connection stays too: whether there is one is known once the
     /// server has acknowledged what was taken back before.
-    #[tactic(auto, using(crate::proofs::Reaching::reaches_turn, crate::proofs::Reaching::reaches_left, crate::proofs::Posting::kept_more, crate::proofs::Posting::posts_kept, crate::proofs::Fronts::ends_more, crate::proofs::Fronts::ends_kept, crate::proofs::Staying::stays_refl))]
+    #[tactic(auto, using(crate::proofs::steps::Reaching::reaches_turn, crate::proofs::steps::Reaching::reaches_left, crate::proofs::steps::Posting::kept_more, crate::proofs::steps::Posting::posts_kept, crate::proofs::steps::Fronts::ends_more, crate::proofs::steps::Fronts::ends_kept, crate::proofs::steps::Staying::stays_refl))]
     fn begin(&mut self, key: usize, kind: Kind, reset: Option<Reset>) -> Result<(), NoMemory>
         ensures goes { OnOk result (Goes (Application key)
             (desk_in self.old.desk) (desk_in self.new.desk)) }
@@ -154,7 +154,7 @@ impl Relay {
     }
 
     /// The application lets its connection go, and waits for one like who has come.
-    #[tactic(auto, using(crate::proofs::Reaching::reaches_turn, crate::proofs::Reaching::reaches_left))]
+    #[tactic(auto, using(crate::proofs::steps::Reaching::reaches_turn, crate::proofs::steps::Reaching::reaches_left))]
     fn change(&mut self, key: usize) -> Result<(), NoMemory>
         ensures goes { OnOk result (Goes (Application key)
             (desk_in self.old.desk) (desk_in self.new.desk)) }
@@ -172,7 +172,7 @@ impl Relay {
     }
 
     /// The application keeps its connection with its transaction, and its next request resets the rest.
-    #[tactic(auto, using(crate::proofs::Reaching::reaches_turn, crate::proofs::Reaching::reaches_left))]
+    #[tactic(auto, using(crate::proofs::steps::Reaching::reaches_turn, crate::proofs::steps::Reaching::reaches_left))]
     fn renew(&mut self, key: usize) -> Result<(), NoMemory>
         ensures goes { OnOk result (Goes (Application key)
             (desk_in self.old.desk) (desk_in self.new.desk)) }
@@ -193,7 +193,7 @@ impl Relay {
     }
 
     /// The next bytes of its request's body, with which it is whole or not.
-    #[tactic(auto, using(crate::proofs::Posting::kept_more, crate::proofs::Posting::posts_kept, crate::proofs::Fronts::ends_more, crate::proofs::Fronts::ends_kept, crate::proofs::Staying::stays_refl))]
+    #[tactic(auto, using(crate::proofs::steps::Posting::kept_more, crate::proofs::steps::Posting::posts_kept, crate::proofs::steps::Fronts::ends_more, crate::proofs::steps::Fronts::ends_kept, crate::proofs::steps::Staying::stays_refl))]
     fn go_on(&mut self, key: usize, bytes: &[u8], whole: bool) -> Result<(), NoMemory>
         ensures goes { OnOk result (Goes (Application key)
             (desk_in self.old.desk) (desk_in self.new.desk)) }
@@ -220,7 +220,7 @@ impl Relay {
     }
 
     /// Puts bytes of a request on its connection, and its end.
-    #[tactic(auto, using(crate::proofs::Reaching::reaches_turn, crate::proofs::Reaching::reaches_turned))]
+    #[tactic(auto, using(crate::proofs::steps::Reaching::reaches_turn, crate::proofs::steps::Reaching::reaches_turned))]
     pub(super) fn put(&mut self, key: usize, bytes: &[u8], whole: bool) -> Result<(), NoMemory>
         ensures goes { OnOk result (GoesOn (desk_in self.old.desk) (desk_in self.new.desk)) }
         ensures kept { OnOk result (posts_in self.new.applications

@@ -223,7 +223,7 @@ impl Relay {
     }
 
     /// The application keeps its connection with its transaction, for a request that has waited.
-    #[tactic(auto, using(crate::proofs::Reaching::reaches_turn))]
+    #[tactic(auto, using(crate::proofs::steps::Reaching::reaches_turn))]
     fn keep(&mut self, number: u64, key: usize) -> Result<(), NoMemory>
         ensures goes { OnOk result (Goes (Connection number)
             (desk_in self.old.desk) (desk_in self.new.desk)) }
@@ -245,7 +245,7 @@ impl Relay {
 
     /// The transaction that was to be kept has ended: the connection is closed, and its application waits
     /// for another, if it has nothing out.
-    #[tactic(auto, using(crate::proofs::Reaching::reaches_turn))]
+    #[tactic(auto, using(crate::proofs::steps::Reaching::reaches_turn))]
     fn replace(&mut self, number: u64) -> Result<(), NoMemory>
         ensures goes { OnOk result (Goes (Connection number)
             (desk_in self.old.desk) (desk_in self.new.desk)) }

@@ -18,7 +18,7 @@ use crate::order::Order;
 impl Relay {
     /// An application has ended, or was closed: its key is unknown from now on. What is underway of it is
     /// cancelled, and its connection cleaned as soon as that has drained.
-    #[tactic(auto, using(crate::proofs::Reaching::reaches_turn, crate::proofs::Reaching::reaches_turned))]
+    #[tactic(auto, using(crate::proofs::steps::Reaching::reaches_turn, crate::proofs::steps::Reaching::reaches_turned))]
     pub fn left(&mut self, key: usize) -> Result<(), NoMemory>
         ensures left { OnOk result (Leaving key (desk_in self.old.desk) (desk_in self.new.desk)) }
         ensures steps { OnOk result (Steps (Application key) (house_in self.old)
@@ -32,7 +32,7 @@ impl Relay {
     }
 
     /// The connection of this number has ended, or couldn't be opened: its application is closed.
-    #[tactic(auto, using(crate::proofs::Reaching::reaches_turn, crate::proofs::Reaching::reaches_turned))]
+    #[tactic(auto, using(crate::proofs::steps::Reaching::reaches_turn, crate::proofs::steps::Reaching::reaches_turned))]
     pub fn lost(&mut self, number: u64) -> Result<(), NoMemory>
         ensures lost { OnOk result (GoesOn (turn (desk_in self.old.desk) (Loses number)).desk
             (desk_in self.new.desk)) }
@@ -46,7 +46,7 @@ impl Relay {
     }
 
     /// Nothing more of an application is taken, and it is to be closed. Its connection is given back.
-    #[tactic(auto, using(crate::proofs::Reaching::reaches_left))]
+    #[tactic(auto, using(crate::proofs::steps::Reaching::reaches_left))]
     pub(super) fn expel(&mut self, key: usize) -> Result<(), NoMemory>
         ensures goes { OnOk result (Goes (Application key)
             (desk_in self.old.desk) (desk_in self.new.desk)) }
@@ -83,7 +83,7 @@ impl Relay {
     }
 
     /// An application waits no more, and what it holds is nobody's any more.
-    #[tactic(auto, using(crate::proofs::Reaching::reaches_turn, crate::proofs::Reaching::reaches_turned))]
+    #[tactic(auto, using(crate::proofs::steps::Reaching::reaches_turn, crate::proofs::steps::Reaching::reaches_turned))]
     pub(super) fn release(&mut self, key: usize) -> Result<(), NoMemory>
         ensures leaving { OnOk result (Leaving key (desk_in self.old.desk)
             (desk_in self.new.desk)) }
@@ -108,7 +108,7 @@ impl Relay {
     }
 
     /// A connection is of no use any more: it is closed, and its application with it.
-    #[tactic(auto, using(crate::proofs::Reaching::reaches_turn, crate::proofs::Reaching::reaches_turned))]
+    #[tactic(auto, using(crate::proofs::steps::Reaching::reaches_turn, crate::proofs::steps::Reaching::reaches_turned))]
     pub(super) fn lose(&mut self, number: u64) -> Result<(), NoMemory>
         ensures lost { OnOk result (GoesOn (turn (desk_in self.old.desk) (Loses number)).desk
             (desk_in self.new.desk)) }
@@ -123,7 +123,7 @@ impl Relay {
         self.close(number, key)
     }
 
-    #[tactic(auto, using(crate::proofs::Staying::stays_without, crate::proofs::Staying::taken_out))]
+    #[tactic(auto, using(crate::proofs::steps::Staying::stays_without, crate::proofs::steps::Staying::taken_out))]
     pub(super) fn close_link(&mut self, number: u64) -> Result<(), NoMemory>
         ensures desk { self.new.desk ≡ self.old.desk }
         ensures kept { OnOk result (posts_in self.new.applications

@@ -23,7 +23,7 @@ use tds_service::Refusal;
 impl Relay {
     /// A connection that is open and logged in has come before any application asked: the first one of
     /// all. It is cleaned first. Answers its number, or none where it isn't wanted.
-    #[tactic(auto, using(crate::proofs::Reaching::reaches_turn, crate::proofs::Reaching::reaches_turned))]
+    #[tactic(auto, using(crate::proofs::steps::Reaching::reaches_turn, crate::proofs::steps::Reaching::reaches_turned))]
     pub fn bring(&mut self, tag: usize) -> Result<Option<u64>, NoMemory>
         ensures goes { OnOk result (Goes Neither (desk_in self.old.desk) (desk_in self.new.desk)) }
         ensures steps { OnOk result (Steps Neither (house_in self.old) (house_in self.new)) }
@@ -93,7 +93,7 @@ impl Relay {
     }
 
     /// Asks what the application asks that holds a connection.
-    #[tactic(auto, using(crate::proofs::Staying::stays_refl))]
+    #[tactic(auto, using(crate::proofs::steps::Staying::stays_refl))]
     fn start_on(&mut self, number: u64) -> Result<(), NoMemory>
         ensures goes { OnOk result (GoesOn (desk_in self.old.desk) (desk_in self.new.desk)) }
         ensures kept { OnOk result (posts_in self.new.applications
@@ -108,7 +108,7 @@ impl Relay {
     }
 
     /// Lends connections to those who wait, in order, while there are any.
-    #[tactic(auto, using(crate::proofs::Reaching::reaches_turn, crate::proofs::Reaching::reaches_turned))]
+    #[tactic(auto, using(crate::proofs::steps::Reaching::reaches_turn, crate::proofs::steps::Reaching::reaches_turned))]
     pub(super) fn serve_line(&mut self) -> Result<(), NoMemory>
         ensures goes { OnOk result (GoesOn (desk_in self.old.desk) (desk_in self.new.desk)) }
         ensures kept { OnOk result (posts_in self.new.applications
@@ -128,7 +128,7 @@ impl Relay {
 
     /// A connection is lent to an application. Where this asks for a reset, and nobody had the connection, the
     /// news of it goes before its answer.
-    #[tactic(auto, using(crate::proofs::Reaching::reaches_turn, crate::proofs::Reaching::reaches_turned))]
+    #[tactic(auto, using(crate::proofs::steps::Reaching::reaches_turn, crate::proofs::steps::Reaching::reaches_turned))]
     fn lend(&mut self, served: Served) -> Result<(), NoMemory>
         ensures goes { OnOk result (GoesOn (desk_in self.old.desk) (desk_in self.new.desk)) }
         ensures kept { OnOk result (posts_in self.new.applications
@@ -164,7 +164,7 @@ impl Relay {
 
     /// An application hears no more of the reset that its request asked for, if it did: the relay doesn't
     /// tell it, and what a server says of it later is cut out.
-    #[tactic(auto, using(crate::proofs::Staying::stays_refl))]
+    #[tactic(auto, using(crate::proofs::steps::Staying::stays_refl))]
     pub(super) fn forget_reset(&mut self, key: usize)
         ensures desk { self.new.desk ≡ self.old.desk }
         ensures kept { posts_in self.new.applications ≡ posts_in self.old.applications }
@@ -182,7 +182,7 @@ impl Relay {
     }
 
     /// The news of a reset is cut out of what comes next for an application.
-    #[tactic(auto, using(crate::proofs::Staying::stays_refl))]
+    #[tactic(auto, using(crate::proofs::steps::Staying::stays_refl))]
     pub(super) fn cut_for(&mut self, key: usize)
         ensures desk { self.new.desk ≡ self.old.desk }
         ensures kept { posts_in self.new.applications ≡ posts_in self.old.applications }
@@ -196,7 +196,7 @@ impl Relay {
     }
 
     /// Asks what an application asks, where its connection is open and idle.
-    #[tactic(auto, using(crate::proofs::Reaching::reaches_turn, crate::proofs::Reaching::reaches_turned))]
+    #[tactic(auto, using(crate::proofs::steps::Reaching::reaches_turn, crate::proofs::steps::Reaching::reaches_turned))]
     pub(super) fn start(&mut self, key: usize) -> Result<(), NoMemory>
         ensures goes { OnOk result (GoesOn (desk_in self.old.desk) (desk_in self.new.desk)) }
         ensures kept { OnOk result (posts_in self.new.applications
@@ -234,7 +234,7 @@ impl Relay {
     }
 
     /// Puts what is kept of a request on its connection.
-    #[tactic(auto, using(crate::proofs::Posting::kept_more, crate::proofs::Posting::posts_kept, crate::proofs::Fronts::ends_more, crate::proofs::Fronts::ends_kept))]
+    #[tactic(auto, using(crate::proofs::steps::Posting::kept_more, crate::proofs::steps::Posting::posts_kept, crate::proofs::steps::Fronts::ends_more, crate::proofs::steps::Fronts::ends_kept))]
     fn put_held(&mut self, key: usize, whole: bool) -> Result<(), NoMemory>
         ensures goes { OnOk result (GoesOn (desk_in self.old.desk) (desk_in self.new.desk)) }
         ensures kept { OnOk result (posts_in self.new.applications

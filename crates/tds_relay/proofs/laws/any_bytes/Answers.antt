@@ -1,4 +1,4 @@
-use Rattle.tds_relay.proofs.Reaching.{reached_on}
+use Rattle.tds_relay.proofs.steps.Reaching.{reached_on}
 use Rattle.tds_relay.proofs.laws.any_bytes.Goals as goal
 
 pub returns : goal.returns

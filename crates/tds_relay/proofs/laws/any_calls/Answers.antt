@@ -1,4 +1,4 @@
-use Rattle.tds_relay.proofs.Stepping.{led_on}
+use Rattle.tds_relay.proofs.steps.Stepping.{led_on}
 use Rattle.tds_relay.proofs.laws.any_calls.Goals as goal
 
 pub returns : goal.returns

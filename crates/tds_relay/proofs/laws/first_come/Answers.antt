@@ -1,4 +1,4 @@
-use Rattle.tds_relay.proofs.Lining.{keeps_order, lends_first}
+use Rattle.tds_relay.proofs.held.Lining.{keeps_order, lends_first}
 use Rattle.tds_relay.proofs.laws.first_come.Goals as goal
 
 pub returns-clause-first : goal.returns-clause-first

@@ -1,6 +1,6 @@
 use Rattle.tds_relay.specs.Desk.{desk_after, new_desk}
-use Rattle.tds_relay.proofs.Bringing.{always_sound}
-use Rattle.tds_relay.proofs.Promised.{lends_clean}
+use Rattle.tds_relay.proofs.promises.Bringing.{always_sound}
+use Rattle.tds_relay.proofs.promises.Promised.{lends_clean}
 use Rattle.tds_relay.proofs.laws.fresh.Goals as goal
 
 pub returns : goal.returns

@@ -1,4 +1,4 @@
-use Rattle.tds_relay.proofs.Along.{lawful_stay}
+use Rattle.tds_relay.proofs.ends.Along.{lawful_stay}
 use Rattle.tds_relay.proofs.laws.lawful_behind.Goals as goal
 
 pub returns-clause-lawful : goal.returns-clause-lawful

@@ -2,8 +2,8 @@ use Rattle.std.proofs.Common.{◌∙◌, ap, sym}
 use Rattle.tds_service.specs.Service.{Service, seat_numbered}
 use Rattle.tds_relay.specs.Desk.{new_desk}
 use Rattle.tds_relay.specs.Fronting.{calls_along, done_on}
-use Rattle.tds_relay.proofs.Calling.{service_along}
-use Rattle.tds_relay.proofs.Fronting.{lawful_of, ready_of}
+use Rattle.tds_relay.proofs.steps.Calling.{service_along}
+use Rattle.tds_relay.proofs.ends.Fronting.{lawful_of, ready_of}
 use Rattle.tds_relay.proofs.laws.lawful_connections.Goals as goal
 
 pub returns-clause-lawful : goal.returns-clause-lawful

@@ -1,4 +1,4 @@
-use Rattle.tds_relay.proofs.Bringing.{always_sound}
+use Rattle.tds_relay.proofs.promises.Bringing.{always_sound}
 use Rattle.tds_relay.proofs.laws.no_orphan.Goals as goal
 
 pub returns : goal.returns

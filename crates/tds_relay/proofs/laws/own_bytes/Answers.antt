@@ -1,6 +1,6 @@
 use Rattle.tds_relay.specs.Fronts.{house_in}
 use Rattle.tds_relay.specs.Ties as causes
-use Rattle.tds_relay.proofs.Reaching.{ok_more}
+use Rattle.tds_relay.proofs.steps.Reaching.{ok_more}
 use Rattle.tds_relay.proofs.visits.Sent.{gives_by}
 use Rattle.tds_relay.proofs.laws.own_bytes.Goals as goal
 

@@ -1,6 +1,6 @@
 use Rattle.std.proofs.Common.{List, subst, sym, ℕ}
 use Rattle.tds_packet.specs.Stream.{IsLess}
-use Rattle.tds_relay.proofs.Following.{follow_reads}
+use Rattle.tds_relay.proofs.bytes.Following.{follow_reads}
 use Rattle.tds_relay.proofs.laws.packets_over_calls.Goals as goal
 
 pub returns-clause-packets : goal.returns-clause-packets

@@ -1,9 +1,9 @@
 use Rattle.std.proofs.Common.{◌≡◌, ◌∙◌, ◌++◌, ℕ, List, ap, arith, length, rules, sym}
 use Rattle.tds_packet.specs.declared.kind.Kind.TheVariants.{Answer}
 use Rattle.tds_packet.specs.Sent.{sent_bytes}
-use Rattle.tds_relay.proofs.Anew.{Fits, anew_by, ends_if, laid_more, laid_none, none_sent, some_last, split_is}
-use Rattle.tds_relay.proofs.Cuts.{no_bytes}
-use Rattle.tds_relay.proofs.Reaching.{ok_more}
+use Rattle.tds_relay.proofs.bytes.Anew.{Fits, anew_by, ends_if, laid_more, laid_none, none_sent, some_last, split_is}
+use Rattle.tds_relay.proofs.bytes.Cuts.{no_bytes}
+use Rattle.tds_relay.proofs.steps.Reaching.{ok_more}
 use Rattle.tds_relay.proofs.link.put_data.Goals as goal
 
 pub packets-init : goal.packets-init

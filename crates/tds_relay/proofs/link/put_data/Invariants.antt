@@ -1,5 +1,5 @@
 use Rattle.std.proofs.Common.{length}
-use Rattle.tds_relay.proofs.Anew.{Laid}
+use Rattle.tds_relay.proofs.bytes.Anew.{Laid}
 use Rattle.tds_relay.proofs.link.put_data.Given as goal
 
 abbrev pub decreases-packets : goal.decreases-packets

@@ -1,7 +1,7 @@
 use Rattle.std.proofs.Common.{ap}
 use Rattle.tds_relay.specs.declared.link.Link.{Link}
 use Rattle.tds_relay.specs.Reads.{seen_of}
-use Rattle.tds_relay.proofs.Staying.{stays_written}
+use Rattle.tds_relay.proofs.steps.Staying.{stays_written}
 use Rattle.tds_relay.proofs.links.forget_sent.Goals as goal
 
 pub returns : goal.returns

@@ -1,7 +1,7 @@
 use Rattle.std.proofs.Common.{List, ap, refl, sym, ◌∙◌}
 use Rattle.tds_relay.specs.declared.link.Link.{Link}
 use Rattle.tds_relay.specs.Reads.{place_of}
-use Rattle.tds_relay.proofs.Staying.{opened_nowhere, opened_written}
+use Rattle.tds_relay.proofs.steps.Staying.{opened_nowhere, opened_written}
 use Rattle.tds_relay.proofs.links.set_open.Goals as goal
 
 pub returns-in_default : goal.returns-in_default

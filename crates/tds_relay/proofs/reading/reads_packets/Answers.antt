@@ -1,4 +1,4 @@
-use Rattle.tds_relay.proofs.Taking.{less, nothing_less}
+use Rattle.tds_relay.proofs.bytes.Taking.{less, nothing_less}
 use Rattle.tds_relay.proofs.reading.reads_packets.Goals as goal
 
 pub returns : goal.returns

@@ -12,8 +12,8 @@ use Rattle.tds_relay.specs.Desk.{Comes, NotLent, whose_by}
 use Rattle.tds_relay.specs.Ties.{Turns, desk_in, part_on}
 use Rattle.tds_relay.specs.Fronts.{IsWhat}
 use Rattle.tds_relay.specs.Hall.{done_by}
-use Rattle.tds_relay.proofs.Fronts.{is_what, nobodys_what, what_answers}
-use Rattle.tds_relay.proofs.Made.{ok_both, came_settled, came_unknown, unread}
+use Rattle.tds_relay.proofs.steps.Fronts.{is_what, nobodys_what, what_answers}
+use Rattle.tds_relay.proofs.steps.Made.{ok_both, came_settled, came_unknown, unread}
 use Rattle.tds_relay.proofs.desk.Desk.came.Goals as goal
 
 pub returns-in_ok-what-in-Finished-clause-ok : goal.returns-in_ok-what-in-Finished-clause-ok

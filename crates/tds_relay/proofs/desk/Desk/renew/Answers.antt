@@ -3,7 +3,7 @@ use Rattle.std.specs.Prelude.{Some}
 use Rattle.tds_service.specs.Table.{service_in}
 use Rattle.tds_relay.specs.Desk.{find_key, holding, without_lease}
 use Rattle.tds_relay.specs.Ties.{desk_in}
-use Rattle.tds_relay.proofs.Made.{renewed}
+use Rattle.tds_relay.proofs.steps.Made.{renewed}
 use Rattle.tds_relay.proofs.desk.Desk.renew.Goals as goal
 
 pub returns : goal.returns

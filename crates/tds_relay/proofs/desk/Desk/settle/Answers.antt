@@ -4,7 +4,7 @@ use Rattle.tds_service.specs.Table.{service_in}
 use Rattle.tds_relay.specs.declared.desk.Hold.{Hold}
 use Rattle.tds_relay.specs.Desk.{NotLent, cleaned_by, find_lease, settles, settles_of}
 use Rattle.tds_relay.specs.Ties.{desk_in}
-use Rattle.tds_relay.proofs.Made.{settles_by}
+use Rattle.tds_relay.proofs.steps.Made.{settles_by}
 use Rattle.tds_relay.proofs.desk.Desk.settle.Goals as goal
 
 pub returns-in_ok-is_there-in-None-find_lease-clause-settles : goal.returns-in_ok-is_there-in-None-find_lease-clause-settles

@@ -3,7 +3,7 @@ use Rattle.tds_service.specs.declared.service.Service.{Service}
 use Rattle.tds_service.specs.Table.{puts_on, service_in}
 use Rattle.tds_relay.specs.Desk.{Sent, NotEnded, cleaning}
 use Rattle.tds_relay.specs.Ties.{Makes, lost_by}
-use Rattle.tds_relay.proofs.Made.{cleaned_whole, cleaned_unended}
+use Rattle.tds_relay.proofs.steps.Made.{cleaned_whole, cleaned_unended}
 use Rattle.tds_relay.proofs.desk.leaving.clean.Goals as goal
 
 pub returns-in_default-finish : goal.returns-in_default-finish

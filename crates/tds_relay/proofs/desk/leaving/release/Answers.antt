@@ -1,7 +1,7 @@
 use Rattle.std.proofs.Common.{true}
 use Rattle.std.proofs.lemmas.Result.{IfOk-weaker}
 use Rattle.tds_service.specs.Table.{service_in}
-use Rattle.tds_relay.proofs.Made.{released_free}
+use Rattle.tds_relay.proofs.steps.Made.{released_free}
 use Rattle.tds_relay.proofs.desk.leaving.release.Goals as goal
 
 pub returns-in-Ok-default-Free : goal.returns-in-Ok-default-Free

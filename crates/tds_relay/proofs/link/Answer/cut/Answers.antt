@@ -1,7 +1,7 @@
 use Rattle.std.proofs.Common.{◌≡◌, ◌∙◌, ◌++◌, ◌<◌, Bool, [], ap, drop, length, rules, subst, sym}
 use Rattle.tds_wire.specs.Reading.{Reading, found_to, next_token}
 use Rattle.tds_relay.specs.Cutting.{known_behind, left_of, passed_on}
-use Rattle.tds_relay.proofs.Cuts.{ended_is, kept_all, kept_on, known_all, no_bytes, refused_is}
+use Rattle.tds_relay.proofs.bytes.Cuts.{ended_is, kept_all, kept_on, known_all, no_bytes, refused_is}
 use Rattle.tds_relay.proofs.link.Answer.cut.Goals as goal
 
 pub tokens-preserved : goal.tokens-preserved

@@ -1,7 +1,7 @@
 use Rattle.std.proofs.Common.{◌≡◌, ◌∙◌, ◌++◌, List, ℕ, ap, subst}
 use Rattle.tds_relay.specs.Cutting.{IsAnew, IsCut, left_of}
 use Rattle.tds_relay.specs.Posts.{post_in, put}
-use Rattle.tds_relay.proofs.Cuts.{cut_is}
+use Rattle.tds_relay.proofs.bytes.Cuts.{cut_is}
 use Rattle.tds_relay.proofs.link.Answer.put_without_news.Goals as goal
 
 pub returns : goal.returns

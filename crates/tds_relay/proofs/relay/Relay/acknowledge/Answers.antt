@@ -1,8 +1,8 @@
 use Rattle.std.proofs.Common.{refl}
 use Rattle.tds_relay.specs.Posts.{acknowledgement, put}
-use Rattle.tds_relay.proofs.Fronts.{ends_kept, moves_same}
-use Rattle.tds_relay.proofs.Posting.{kept_more, posts_changed}
-use Rattle.tds_relay.proofs.Reaching.{ok_more}
+use Rattle.tds_relay.proofs.steps.Fronts.{ends_kept, moves_same}
+use Rattle.tds_relay.proofs.steps.Posting.{kept_more, posts_changed}
+use Rattle.tds_relay.proofs.steps.Reaching.{ok_more}
 use Rattle.tds_relay.proofs.relay.Relay.acknowledge.Goals as goal
 
 pub returns-in_ok-append-in-Some-clause-given : goal.returns-in_ok-append-in-Some-clause-given

@@ -1,8 +1,8 @@
 use Rattle.std.proofs.Common.{◌∙◌}
 use Rattle.tds_relay.specs.declared.desk.coming.What.TheVariants as whats
 use Rattle.tds_relay.specs.Hall.{told}
-use Rattle.tds_relay.proofs.Fronts.{ends_moved}
-use Rattle.tds_relay.proofs.Posting.{posts_kept}
+use Rattle.tds_relay.proofs.steps.Fronts.{ends_moved}
+use Rattle.tds_relay.proofs.steps.Posting.{posts_kept}
 use Rattle.tds_relay.proofs.relay.Relay.acknowledged.Goals as goal
 
 pub returns-then-not-resumes-clause-kept : goal.returns-then-not-resumes-clause-kept

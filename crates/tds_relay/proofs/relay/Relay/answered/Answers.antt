@@ -1,7 +1,7 @@
 use Rattle.tds_relay.specs.declared.desk.coming.What.TheVariants as whats
 use Rattle.tds_relay.specs.Hall.{told}
-use Rattle.tds_relay.proofs.Fronts.{ends_moved}
-use Rattle.tds_relay.proofs.Posting.{posts_kept}
+use Rattle.tds_relay.proofs.steps.Fronts.{ends_moved}
+use Rattle.tds_relay.proofs.steps.Posting.{posts_kept}
 use Rattle.tds_relay.proofs.relay.Relay.answered.Goals as goal
 
 pub returns-in-Some-clause-kept : goal.returns-in-Some-clause-kept

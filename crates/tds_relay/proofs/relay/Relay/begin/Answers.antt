@@ -1,8 +1,8 @@
 use Rattle.std.proofs.Common.{refl}
 use Rattle.tds_relay.specs.Ties.{Application}
-use Rattle.tds_relay.proofs.Fronts.{ends_kept, moves_same}
-use Rattle.tds_relay.proofs.Reaching.{ok_if, ok_more}
-use Rattle.tds_relay.proofs.Staying.{stays_refl, stays_same}
+use Rattle.tds_relay.proofs.steps.Fronts.{ends_kept, moves_same}
+use Rattle.tds_relay.proofs.steps.Reaching.{ok_if, ok_more}
+use Rattle.tds_relay.proofs.steps.Staying.{stays_refl, stays_same}
 use Rattle.tds_relay.proofs.relay.Relay.begin.Goals as goal
 
 pub returns-in-false-default-clause-goes : goal.returns-in-false-default-clause-goes

@@ -1,10 +1,10 @@
 use Rattle.std.proofs.Common.{◌≡◌, ◌∙◌, ◌==◌, ap, refl, rules, sym, true, ℕ}
 use Rattle.tds_relay.specs.Fronts.{house_in}
 use Rattle.tds_relay.specs.Ties.{Neither}
-use Rattle.tds_relay.proofs.Fronts.{moves_does}
-use Rattle.tds_relay.proofs.Reaching.{reaches_turn}
-use Rattle.tds_relay.proofs.Stepping.{no_steps, steps_moved}
-use Rattle.tds_relay.proofs.Staying.{first_opens}
+use Rattle.tds_relay.proofs.steps.Fronts.{moves_does}
+use Rattle.tds_relay.proofs.steps.Reaching.{reaches_turn}
+use Rattle.tds_relay.proofs.steps.Stepping.{no_steps, steps_moved}
+use Rattle.tds_relay.proofs.steps.Staying.{first_opens}
 use Rattle.tds_relay.proofs.relay.Relay.bring.Goals as goal
 
 pub returns-in_default-clause-goes : goal.returns-in_default-clause-goes

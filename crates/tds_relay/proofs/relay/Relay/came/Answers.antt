@@ -1,8 +1,8 @@
 use Rattle.tds_relay.specs.Fronts.{house_in}
 use Rattle.tds_relay.specs.Ties.{Connection}
-use Rattle.tds_relay.proofs.Stepping.{steps_on_ok}
-use Rattle.tds_relay.proofs.Streaming.{comes, streams_steps}
-use Rattle.tds_relay.proofs.Staying.{others_served}
+use Rattle.tds_relay.proofs.steps.Stepping.{steps_on_ok}
+use Rattle.tds_relay.proofs.bytes.Streaming.{comes, streams_steps}
+use Rattle.tds_relay.proofs.steps.Staying.{others_served}
 use Rattle.tds_relay.proofs.relay.Relay.came.Goals as goal
 
 pub returns-clause-steps : goal.returns-clause-steps

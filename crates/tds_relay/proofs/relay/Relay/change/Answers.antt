@@ -1,8 +1,8 @@
 use Rattle.std.proofs.Common.{refl, rules}
 use Rattle.tds_relay.specs.Ties.{Application}
-use Rattle.tds_relay.proofs.Fronts.{moves_closes, moves_lets_go}
-use Rattle.tds_relay.proofs.Reaching.{ok_if, ok_more, reaches_left}
-use Rattle.tds_relay.proofs.Staying.{stays_same}
+use Rattle.tds_relay.proofs.steps.Fronts.{moves_closes, moves_lets_go}
+use Rattle.tds_relay.proofs.steps.Reaching.{ok_if, ok_more, reaches_left}
+use Rattle.tds_relay.proofs.steps.Staying.{stays_same}
 use Rattle.tds_relay.proofs.relay.Relay.change.Goals as goal
 
 pub returns-then-not-has_nothing_out-clause-moves : goal.returns-then-not-has_nothing_out-clause-moves

@@ -1,4 +1,4 @@
-use Rattle.tds_relay.proofs.Staying.{stays_same}
+use Rattle.tds_relay.proofs.steps.Staying.{stays_same}
 use Rattle.tds_relay.proofs.relay.Relay.close.Goals as goal
 
 pub returns-in-Some-clause-read : goal.returns-in-Some-clause-read

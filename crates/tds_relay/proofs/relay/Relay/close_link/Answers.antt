@@ -1,7 +1,7 @@
 use Rattle.std.proofs.Common.{List, subst, sym}
 use Rattle.tds_relay.specs.declared.link.Link.{Link}
 use Rattle.tds_relay.specs.Reads.{Stays}
-use Rattle.tds_relay.proofs.Staying.{stays_without}
+use Rattle.tds_relay.proofs.steps.Staying.{stays_without}
 use Rattle.tds_relay.proofs.relay.Relay.close_link.Goals as goal
 
 pub returns-in_ok-push-in-Some-tag-clause-read : goal.returns-in_ok-push-in-Some-tag-clause-read

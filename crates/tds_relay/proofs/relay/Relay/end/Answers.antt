@@ -1,6 +1,6 @@
 use Rattle.tds_relay.specs.Hall.{closes}
-use Rattle.tds_relay.proofs.Fronts.{ends_moved}
-use Rattle.tds_relay.proofs.Posting.{posts_kept}
+use Rattle.tds_relay.proofs.steps.Fronts.{ends_moved}
+use Rattle.tds_relay.proofs.steps.Posting.{posts_kept}
 use Rattle.tds_relay.proofs.relay.Relay.end.Goals as goal
 
 pub returns-in_ok-push-in-Some-clause-kept : goal.returns-in_ok-push-in-Some-clause-kept

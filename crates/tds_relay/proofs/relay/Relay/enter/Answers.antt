@@ -1,9 +1,9 @@
 use Rattle.tds_relay.specs.Fronts.{ends_in, house_in}
 use Rattle.tds_relay.specs.Posts.{posts_in}
 use Rattle.tds_relay.specs.Ties.{Neither, desk_in}
-use Rattle.tds_relay.proofs.Fronts.{ends_entered}
-use Rattle.tds_relay.proofs.Posting.{enters_is}
-use Rattle.tds_relay.proofs.Stepping.{no_steps, steps_enters}
+use Rattle.tds_relay.proofs.steps.Fronts.{ends_entered}
+use Rattle.tds_relay.proofs.steps.Posting.{enters_is}
+use Rattle.tds_relay.proofs.steps.Stepping.{no_steps, steps_enters}
 use Rattle.tds_relay.proofs.relay.Relay.enter.Goals as goal
 
 pub returns-clause-posts : goal.returns-clause-posts

@@ -3,9 +3,9 @@ use Rattle.tds_relay.specs.declared.desk.Desk as code
 use Rattle.tds_relay.specs.Ties.{Application, Reaches, desk_in}
 use Rattle.tds_relay.specs.Fronts.{ends_in}
 use Rattle.tds_relay.specs.Hall.{Ends, IfOpen, IsHere, end_at}
-use Rattle.tds_relay.proofs.Fronts.{moves_lets_go, moves_same, open_closed}
-use Rattle.tds_relay.proofs.Reaching.{ok_more, reaches_left}
-use Rattle.tds_relay.proofs.Staying.{stays_from}
+use Rattle.tds_relay.proofs.steps.Fronts.{moves_lets_go, moves_same, open_closed}
+use Rattle.tds_relay.proofs.steps.Reaching.{ok_more, reaches_left}
+use Rattle.tds_relay.proofs.steps.Staying.{stays_from}
 use Rattle.tds_relay.proofs.relay.Relay.expel.Goals as goal
 
 pub returns-clause-goes : goal.returns-clause-goes

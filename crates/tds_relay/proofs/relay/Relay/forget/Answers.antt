@@ -1,8 +1,8 @@
 use Rattle.std.proofs.Common.{ap, refl}
 use Rattle.tds_relay.specs.Ties.{Application, desk_in}
-use Rattle.tds_relay.proofs.Fronts.{moves_does, moves_same}
-use Rattle.tds_relay.proofs.Reaching.{ok_more}
-use Rattle.tds_relay.proofs.Staying.{stays_on, stays_then}
+use Rattle.tds_relay.proofs.steps.Fronts.{moves_does, moves_same}
+use Rattle.tds_relay.proofs.steps.Reaching.{ok_more}
+use Rattle.tds_relay.proofs.steps.Staying.{stays_on, stays_then}
 use Rattle.tds_relay.proofs.relay.Relay.forget.Goals as goal
 
 pub returns-then-was_asked-clause-moves : goal.returns-then-was_asked-clause-moves

@@ -1,6 +1,6 @@
 use Rattle.std.proofs.Common.{◌∙◌, refl}
-use Rattle.tds_relay.proofs.Fronts.{ends_kept}
-use Rattle.tds_relay.proofs.Posting.{posts_kept}
+use Rattle.tds_relay.proofs.steps.Fronts.{ends_kept}
+use Rattle.tds_relay.proofs.steps.Posting.{posts_kept}
 use Rattle.tds_relay.proofs.relay.Relay.forget_reset.Goals as goal
 
 pub returns-clause-kept : goal.returns-clause-kept

@@ -1,5 +1,5 @@
 use Rattle.std.proofs.Common.{refl}
-use Rattle.tds_relay.proofs.Fronts.{ends_kept}
+use Rattle.tds_relay.proofs.steps.Fronts.{ends_kept}
 use Rattle.tds_relay.proofs.relay.Relay.forget_sent.Goals as goal
 
 pub returns-in-Some-clause-ends : goal.returns-in-Some-clause-ends

@@ -2,11 +2,11 @@ use Rattle.std.proofs.Common.{◌∙◌, ap, inl, inr, refl, subst, sym}
 use Rattle.tds_relay.specs.Fronts.{ends_in, hall_in, hall_of_ends}
 use Rattle.tds_relay.specs.Hall.{Hall, IsHere, Moves, change_end, closes}
 use Rattle.tds_relay.specs.Ties.{Application, desk_in}
-use Rattle.tds_relay.proofs.Fed.{closed_as_fed, handed_on_is}
-use Rattle.tds_relay.proofs.Fronts.{moves_closes, moves_same, no_moves, open_closed}
-use Rattle.tds_relay.proofs.Reaching.{ok_more}
-use Rattle.tds_relay.proofs.Told.{deaf_behind, deaf_closed}
-use Rattle.tds_relay.proofs.Staying.{stays_from}
+use Rattle.tds_relay.proofs.steps.Fed.{closed_as_fed, handed_on_is}
+use Rattle.tds_relay.proofs.steps.Fronts.{moves_closes, moves_same, no_moves, open_closed}
+use Rattle.tds_relay.proofs.steps.Reaching.{ok_more}
+use Rattle.tds_relay.proofs.steps.Told.{deaf_behind, deaf_closed}
+use Rattle.tds_relay.proofs.steps.Staying.{stays_from}
 use Rattle.tds_relay.proofs.relay.Relay.hand_on.Goals as goal
 
 pub returns-in-Some-clause-moves : goal.returns-in-Some-clause-moves

@@ -5,9 +5,9 @@ use Rattle.tds_relay.specs.Fronts.{ends_in, house_in, house_with, told_by}
 use Rattle.tds_relay.specs.Posts.{posts_in}
 use Rattle.tds_relay.specs.Ties.{desk_in}
 use Rattle.tds_relay.specs.Reads.{place_of}
-use Rattle.tds_relay.proofs.Streaming.{hear_at, unheard, unopened}
-use Rattle.tds_relay.proofs.Staying.{others_written, others_open, opens_refl}
-use Rattle.tds_relay.proofs.Reaching.{ok_if}
+use Rattle.tds_relay.proofs.bytes.Streaming.{hear_at, unheard, unopened}
+use Rattle.tds_relay.proofs.steps.Staying.{others_written, others_open, opens_refl}
+use Rattle.tds_relay.proofs.steps.Reaching.{ok_if}
 use Rattle.tds_relay.proofs.relay.Relay.hear.Goals as goal
 
 pub returns-in_default-clause-continues : goal.returns-in_default-clause-continues

@@ -4,10 +4,10 @@ use Rattle.tds_relay.specs.declared.relay.Relay.{Relay}
 use Rattle.tds_relay.specs.Fronts.{house_in, told_by}
 use Rattle.tds_relay.specs.Reads.{OpensOthers, Streams, open_at}
 use Rattle.tds_relay.specs.Ties.{Connection}
-use Rattle.tds_relay.proofs.Fronts.{moved_same}
-use Rattle.tds_relay.proofs.Reaching.{ok_more}
-use Rattle.tds_relay.proofs.Staying.{gone_open, opens_refl, others_both, others_open, others_stay, others_stay_on}
-use Rattle.tds_relay.proofs.Streaming.{streams_begin, streams_left, streams_lost, streams_on}
+use Rattle.tds_relay.proofs.steps.Fronts.{moved_same}
+use Rattle.tds_relay.proofs.steps.Reaching.{ok_more}
+use Rattle.tds_relay.proofs.steps.Staying.{gone_open, opens_refl, others_both, others_open, others_stay, others_stay_on}
+use Rattle.tds_relay.proofs.bytes.Streaming.{streams_begin, streams_left, streams_lost, streams_on}
 use Rattle.tds_relay.proofs.relay.Relay.hear_all.Goals as goal
 use Rattle.tds_relay.proofs.relay.Relay.hear_all.Goals.{else-taking-test, then-taking-test+else-is_empty+in_ok-count+in_ok-heard+else-counter-end}
 

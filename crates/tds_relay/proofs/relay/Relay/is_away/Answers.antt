@@ -1,5 +1,5 @@
 use Rattle.std.proofs.Common.{rules}
-use Rattle.tds_relay.proofs.Fed.{is_there}
+use Rattle.tds_relay.proofs.steps.Fed.{is_there}
 use Rattle.tds_relay.proofs.relay.Relay.is_away.Goals as goal
 
 pub returns-in-None : goal.returns-in-None

@@ -2,11 +2,11 @@ use Rattle.std.proofs.Common.{◌∙◌}
 use Rattle.tds_relay.specs.Fronts.{ends_in, house_in}
 use Rattle.tds_relay.specs.Posts.{posts_in}
 use Rattle.tds_relay.specs.Ties.{Application, desk_in}
-use Rattle.tds_relay.proofs.Fronts.{ends_quit}
-use Rattle.tds_relay.proofs.Posting.{quits_is}
-use Rattle.tds_relay.proofs.Reaching.{ok_more}
-use Rattle.tds_relay.proofs.Stepping.{no_steps, steps_on_ok, steps_quits}
-use Rattle.tds_relay.proofs.Staying.{opens_served}
+use Rattle.tds_relay.proofs.steps.Fronts.{ends_quit}
+use Rattle.tds_relay.proofs.steps.Posting.{quits_is}
+use Rattle.tds_relay.proofs.steps.Reaching.{ok_more}
+use Rattle.tds_relay.proofs.steps.Stepping.{no_steps, steps_on_ok, steps_quits}
+use Rattle.tds_relay.proofs.steps.Staying.{opens_served}
 use Rattle.tds_relay.proofs.relay.Relay.left.Goals as goal
 
 pub returns-clause-left : goal.returns-clause-left

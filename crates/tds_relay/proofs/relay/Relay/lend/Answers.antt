@@ -2,9 +2,9 @@ use Rattle.std.proofs.Common.{◌∙◌, Bool, refl, ap, if◌then◌else◌}
 use Rattle.tds_relay.specs.declared.link.News.{News}
 use Rattle.tds_relay.specs.declared.link.News.TheVariants as how
 use Rattle.tds_relay.specs.Ties.{desk_in}
-use Rattle.tds_relay.proofs.Fronts.{moves_same}
-use Rattle.tds_relay.proofs.Reaching.{ok_more}
-use Rattle.tds_relay.proofs.Staying.{opens_by_push, opens_on}
+use Rattle.tds_relay.proofs.steps.Fronts.{moves_same}
+use Rattle.tds_relay.proofs.steps.Reaching.{ok_more}
+use Rattle.tds_relay.proofs.steps.Staying.{opens_by_push, opens_on}
 use Rattle.tds_relay.proofs.relay.Relay.lend.Goals as goal
 
 pub returns-clause-told : goal.returns-clause-told

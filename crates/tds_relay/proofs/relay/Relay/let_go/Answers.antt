@@ -1,6 +1,6 @@
 use Rattle.tds_relay.specs.Hall.{lets_go}
-use Rattle.tds_relay.proofs.Fronts.{ends_moved}
-use Rattle.tds_relay.proofs.Posting.{posts_kept}
+use Rattle.tds_relay.proofs.steps.Fronts.{ends_moved}
+use Rattle.tds_relay.proofs.steps.Posting.{posts_kept}
 use Rattle.tds_relay.proofs.relay.Relay.let_go.Goals as goal
 
 pub returns-in-Some-clause-kept : goal.returns-in-Some-clause-kept

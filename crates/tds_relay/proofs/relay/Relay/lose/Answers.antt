@@ -1,8 +1,8 @@
 use Rattle.std.proofs.Common.{ap, refl, subst, sym}
 use Rattle.tds_relay.specs.declared.desk.Desk as code
 use Rattle.tds_relay.specs.Ties.{Reaches, desk_in}
-use Rattle.tds_relay.proofs.Fronts.{moves_loses, moves_same}
-use Rattle.tds_relay.proofs.Reaching.{ok_if, ok_more, reaches_turn, reaches_turned}
+use Rattle.tds_relay.proofs.steps.Fronts.{moves_loses, moves_same}
+use Rattle.tds_relay.proofs.steps.Reaching.{ok_if, ok_more, reaches_turn, reaches_turned}
 use Rattle.tds_relay.proofs.relay.Relay.lose.Goals as goal
 
 pub returns-clause-lost : goal.returns-clause-lost

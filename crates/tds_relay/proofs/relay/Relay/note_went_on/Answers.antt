@@ -1,8 +1,8 @@
 use Rattle.std.proofs.Common.{◌∙◌, rules}
 use Rattle.tds_relay.specs.Fronts.{end_of, goes_by}
-use Rattle.tds_relay.proofs.Fronts.{ends_moved}
-use Rattle.tds_relay.proofs.Posting.{posts_kept}
-use Rattle.tds_relay.proofs.Putting.{gone_where}
+use Rattle.tds_relay.proofs.steps.Fronts.{ends_moved}
+use Rattle.tds_relay.proofs.steps.Posting.{posts_kept}
+use Rattle.tds_relay.proofs.steps.Putting.{gone_where}
 use Rattle.tds_relay.proofs.relay.Relay.note_went_on.Goals as goal
 
 pub returns-in-Some-clause-kept : goal.returns-in-Some-clause-kept

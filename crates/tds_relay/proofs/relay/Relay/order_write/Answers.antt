@@ -1,7 +1,7 @@
 use Rattle.std.proofs.Common.{ap}
 use Rattle.tds_relay.specs.Ties.{desk_in}
-use Rattle.tds_relay.proofs.Fronts.{moves_closes}
-use Rattle.tds_relay.proofs.Reaching.{ok_more}
+use Rattle.tds_relay.proofs.steps.Fronts.{moves_closes}
+use Rattle.tds_relay.proofs.steps.Reaching.{ok_more}
 use Rattle.tds_relay.proofs.relay.Relay.order_write.Goals as goal
 
 pub returns-then-is_full-clause-moves : goal.returns-then-is_full-clause-moves

@@ -3,9 +3,9 @@ use Rattle.tds_relay.specs.declared.link.Link.{Link}
 use Rattle.tds_relay.specs.Fronts.{MayPut}
 use Rattle.tds_relay.specs.Reads.{Stays}
 use Rattle.tds_relay.specs.Ties.{desk_in}
-use Rattle.tds_relay.proofs.Fronts.{moves_same}
-use Rattle.tds_relay.proofs.Putting.{moves_puts}
-use Rattle.tds_relay.proofs.Reaching.{ok_more}
+use Rattle.tds_relay.proofs.steps.Fronts.{moves_same}
+use Rattle.tds_relay.proofs.steps.Putting.{moves_puts}
+use Rattle.tds_relay.proofs.steps.Reaching.{ok_more}
 use Rattle.tds_relay.proofs.relay.Relay.put.Goals as goal
 
 pub returns-then-fits-clause-read : goal.returns-then-fits-clause-read

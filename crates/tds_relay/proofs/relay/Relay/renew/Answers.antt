@@ -1,9 +1,9 @@
 use Rattle.std.proofs.Common.{ap, refl, subst, sym}
 use Rattle.tds_relay.specs.declared.desk.Desk as code
 use Rattle.tds_relay.specs.Ties.{Application, Reaches, desk_in}
-use Rattle.tds_relay.proofs.Fronts.{moves_closes, moves_does, moves_same}
-use Rattle.tds_relay.proofs.Reaching.{ok_if, ok_more, reaches_turn}
-use Rattle.tds_relay.proofs.Staying.{stays_on}
+use Rattle.tds_relay.proofs.steps.Fronts.{moves_closes, moves_does, moves_same}
+use Rattle.tds_relay.proofs.steps.Reaching.{ok_if, ok_more, reaches_turn}
+use Rattle.tds_relay.proofs.steps.Staying.{stays_on}
 use Rattle.tds_relay.proofs.relay.Relay.renew.Goals as goal
 
 pub returns-in-Kept-clause-goes : goal.returns-in-Kept-clause-goes

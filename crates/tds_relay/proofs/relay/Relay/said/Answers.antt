@@ -1,8 +1,8 @@
 use Rattle.tds_relay.specs.Fronts.{house_in}
 use Rattle.tds_relay.specs.Ties.{Application}
-use Rattle.tds_relay.proofs.Staying.{opens_served}
-use Rattle.tds_relay.proofs.Stepping.{steps_on_ok}
-use Rattle.tds_relay.proofs.Told.{tells_ok, tells_steps}
+use Rattle.tds_relay.proofs.steps.Staying.{opens_served}
+use Rattle.tds_relay.proofs.steps.Stepping.{steps_on_ok}
+use Rattle.tds_relay.proofs.steps.Told.{tells_ok, tells_steps}
 use Rattle.tds_relay.proofs.relay.Relay.said.Goals as goal
 
 pub returns-clause-steps : goal.returns-clause-steps

@@ -1,7 +1,7 @@
 use Rattle.std.proofs.Common.{ap}
 use Rattle.tds_relay.specs.Fronts.{house_in}
 use Rattle.tds_relay.specs.Ties.{desk_in}
-use Rattle.tds_relay.proofs.Stepping.{steps_writes}
+use Rattle.tds_relay.proofs.steps.Stepping.{steps_writes}
 use Rattle.tds_relay.proofs.relay.Relay.sent.Goals as goal
 
 pub returns-in_err-hold-clause-steps : goal.returns-in_err-hold-clause-steps

@@ -1,7 +1,7 @@
 use Rattle.std.proofs.Common.{refl, ◌∙◌}
-use Rattle.tds_relay.proofs.Fronts.{moves_does}
-use Rattle.tds_relay.proofs.Reaching.{reaches_turn}
-use Rattle.tds_relay.proofs.Staying.{opens_both}
+use Rattle.tds_relay.proofs.steps.Fronts.{moves_does}
+use Rattle.tds_relay.proofs.steps.Reaching.{reaches_turn}
+use Rattle.tds_relay.proofs.steps.Staying.{opens_both}
 use Rattle.tds_relay.proofs.relay.Relay.serve_line.Goals as goal
 
 pub line-preserved : goal.line-preserved

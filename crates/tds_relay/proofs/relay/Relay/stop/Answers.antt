@@ -1,7 +1,7 @@
 use Rattle.std.proofs.Common.{refl}
 use Rattle.tds_relay.specs.Ties.{Application}
-use Rattle.tds_relay.proofs.Fronts.{moves_does, moves_same}
-use Rattle.tds_relay.proofs.Reaching.{reaches_turn}
+use Rattle.tds_relay.proofs.steps.Fronts.{moves_does, moves_same}
+use Rattle.tds_relay.proofs.steps.Reaching.{reaches_turn}
 use Rattle.tds_relay.proofs.relay.Relay.stop.Goals as goal
 
 pub returns-then-matches-clause-goes : goal.returns-then-matches-clause-goes

@@ -2,10 +2,10 @@ use Rattle.std.proofs.Common.{◌≡◌, ◌∙◌, Some, false, ap, refl, rules
 use Rattle.tds_relay.specs.Fronts.{end_of, ends_in, given_by, hall_in, house_in}
 use Rattle.tds_relay.specs.Posts.{Posts, posts_in}
 use Rattle.tds_relay.specs.Ties.{Application, desk_in}
-use Rattle.tds_relay.proofs.Fed.{closed_fed, end_open, end_there, ends_written, is_fed, refused_is, waits_refused}
-use Rattle.tds_relay.proofs.Fronts.{moved_same}
-use Rattle.tds_relay.proofs.Posting.{posts_kept}
-use Rattle.tds_relay.proofs.Told.{tells_fed, tells_refused}
+use Rattle.tds_relay.proofs.steps.Fed.{closed_fed, end_open, end_there, ends_written, is_fed, refused_is, waits_refused}
+use Rattle.tds_relay.proofs.steps.Fronts.{moved_same}
+use Rattle.tds_relay.proofs.steps.Posting.{posts_kept}
+use Rattle.tds_relay.proofs.steps.Told.{tells_fed, tells_refused}
 use Rattle.tds_relay.proofs.relay.Relay.take.Goals as goal
 
 pub returns-in_default-feed-clause-tells : goal.returns-in_default-feed-clause-tells

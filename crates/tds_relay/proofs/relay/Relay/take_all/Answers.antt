@@ -3,8 +3,8 @@ use Rattle.tds_relay.specs.declared.relay.Relay.{Relay}
 use Rattle.tds_relay.specs.Fronts.{house_in}
 use Rattle.tds_relay.specs.Reads.{Stays}
 use Rattle.tds_relay.specs.Taking.{Tells}
-use Rattle.tds_relay.proofs.Staying.{stays_both, stays_on, stays_refl}
-use Rattle.tds_relay.proofs.Told.{tells_begin, tells_expelled, tells_left}
+use Rattle.tds_relay.proofs.steps.Staying.{stays_both, stays_on, stays_refl}
+use Rattle.tds_relay.proofs.steps.Told.{tells_begin, tells_expelled, tells_left}
 use Rattle.tds_relay.proofs.relay.Relay.take_all.Goals as goal
 use Rattle.tds_relay.proofs.relay.Relay.take_all.Goals.{else-taking-test, then-taking-test+else-is_empty+in_ok-count+else-counter-end}
 

@@ -1,7 +1,7 @@
 use Rattle.std.proofs.Common.{refl}
 use Rattle.tds_relay.specs.declared.desk.coming.What.TheVariants as whats
 use Rattle.tds_relay.specs.Hall.{told}
-use Rattle.tds_relay.proofs.Fronts.{changed_not, told_as, told_nobody}
+use Rattle.tds_relay.proofs.steps.Fronts.{changed_not, told_as, told_nobody}
 use Rattle.tds_relay.proofs.relay.Relay.tell.Goals as goal
 
 pub returns-in_default-clause-ends : goal.returns-in_default-clause-ends

@@ -1,6 +1,6 @@
 use Rattle.std.proofs.Common.{refl, rules}
-use Rattle.tds_relay.proofs.Fronts.{moves_does}
-use Rattle.tds_relay.proofs.Reaching.{ok_more, reaches_turn}
+use Rattle.tds_relay.proofs.steps.Fronts.{moves_does}
+use Rattle.tds_relay.proofs.steps.Reaching.{ok_more, reaches_turn}
 use Rattle.tds_relay.proofs.relay.Relay.wait.Goals as goal
 
 pub returns-then-is_away-clause-goes : goal.returns-then-is_away-clause-goes

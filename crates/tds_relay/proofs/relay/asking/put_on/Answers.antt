@@ -1,6 +1,6 @@
 use Rattle.std.proofs.Common.{inl, inr, refl, rules, subst, sym}
 use Rattle.tds_relay.specs.Ties.{Reaches}
-use Rattle.tds_relay.proofs.Reaching.{reaches_turn}
+use Rattle.tds_relay.proofs.steps.Reaching.{reaches_turn}
 use Rattle.tds_relay.proofs.relay.asking.put_on.Goals as goal
 
 pub returns-then-not-whole-clause-goes : goal.returns-then-not-whole-clause-goes

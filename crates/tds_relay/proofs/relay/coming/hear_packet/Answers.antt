@@ -8,10 +8,10 @@ use Rattle.tds_relay.specs.Handing.{IsBy, news_with}
 use Rattle.tds_relay.specs.House.{closes, end_whose, is_said, Withheld}
 use Rattle.tds_relay.specs.Posts.{posts_in}
 use Rattle.tds_relay.specs.Ties.{Connection, desk_in}
-use Rattle.tds_relay.proofs.Fronts.{ends_kept}
-use Rattle.tds_relay.proofs.Handed.{handed_for, handed_is, has_walker, passing, to_absent, to_closed, to_deaf, to_nobody, to_one, withheld_for, withheld_is}
-use Rattle.tds_relay.proofs.Posting.{posts_kept}
-use Rattle.tds_relay.proofs.Reaching.{reaches_turn}
+use Rattle.tds_relay.proofs.steps.Fronts.{ends_kept}
+use Rattle.tds_relay.proofs.steps.Handed.{handed_for, handed_is, has_walker, passing, to_absent, to_closed, to_deaf, to_nobody, to_one, withheld_for, withheld_is}
+use Rattle.tds_relay.proofs.steps.Posting.{posts_kept}
+use Rattle.tds_relay.proofs.steps.Reaching.{reaches_turn}
 use Rattle.tds_relay.proofs.relay.coming.hear_packet.Goals as goal
 
 pub returns-then-matches-clause-goes : goal.returns-then-matches-clause-goes

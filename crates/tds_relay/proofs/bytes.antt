@@ -1,0 +1,5 @@
+pub mod Anew
+pub mod Cuts
+pub mod Following
+pub mod Streaming
+pub mod Taking

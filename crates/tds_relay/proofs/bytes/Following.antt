@@ -1,0 +1,53 @@
+-- What comes on a connection over calls that follow each other.
+use Rattle.std.proofs.Common.{◌≡◌, ◌∙◌, ℕ, List, [], ◌∷◌, ◌++◌, inl, inr, Option, Some, None, sym, ap, subst, append_assoc, append-nil}
+use Rattle.std.specs.List.{AllByRecursion}
+use Rattle.tds_packet.specs.Reading.{Reading, joined, with_taken}
+use Rattle.tds_packet.specs.Stream.{IsLess, IsOnePacket}
+use Rattle.tds_relay.specs.House.{House}
+use Rattle.tds_relay.specs.Reads.{Another, Call, Came, Comes, Follow, Reads, bytes_in, packets_in, packets_of}
+use Rattle.tds_relay.proofs.bytes.Taking.{joined_both, more_are, reads_nothing}
+
+all_both : (P : List ℕ → Type 0) (xs ys : List (List ℕ)) → AllByRecursion P xs → AllByRecursion P ys → AllByRecursion P (xs ++ ys)
+all_both P [] ys h k = k
+all_both P (x ∷ xs) ys h k = (h.0, all_both P xs ys h.1 k)
+
+-- bytes behind bytes
+reads_both : (r mid now : Reading) (xs ys : List ℕ) (ps qs : List (List ℕ)) → Reads r xs ps (Some mid) → Reads mid ys qs (Some now) → Reads r (xs ++ ys) (ps ++ qs) (Some now)
+reads_both r mid now xs ys ps qs s t =
+    let u : Reads (with_taken r s.rest) ys qs (Some now) = subst (λ (x : Reading). Reads x ys qs (Some now)) s.holds.0 t in
+    record {
+      rest = u.rest;
+      each = all_both (IsOnePacket r) ps qs s.each u.each;
+      are =
+          more_are r.taken xs ys (joined ps) s.rest s.are
+          ∙ ap (λ (zs : List ℕ). joined ps ++ zs) u.are
+          ∙ sym (append_assoc (joined ps) (joined qs) u.rest)
+          ∙ ap (λ (zs : List ℕ). zs ++ u.rest) (sym (joined_both ps qs));
+      holds = u.holds;
+    }
+
+-- all of them were heard, for the connection is open behind them
+came_reads : (number : ℕ) (had now : Reading) (bytes : List ℕ) (old new : House) (c : Comes number (Some had) old bytes (Some now) new) → IsLess had had.taken
+    → Reads had bytes (packets_of c.streams.streams.steps) (Some now)
+came_reads number had now bytes old new c few =
+    let s = c.streams.streams in
+    let none_left : c.streams.left ≡ [] = elim c.streams.all [
+      | inl none ↦ none
+      | inr gone ↦ absurd (let no : None ≡ Some now = sym gone ∙ c.has in let u : ⊥ = cc in u)
+    ] in
+    let all : s.heard ≡ bytes = sym (s.bytes_are ∙ ap (λ (xs : List ℕ). s.heard ++ xs) none_left ∙ append-nil s.heard) in
+    subst (λ (o : Option Reading). Reads had bytes (packets_of s.steps) o) c.has
+    (subst (λ (xs : List ℕ). Reads had xs (packets_of s.steps) c.left) all (s.reads few))
+
+pub follow_reads : {number : ℕ} (calls : List (Call number)) (had now : Reading) → IsLess had had.taken → Follow had calls now → Reads had (bytes_in calls) (packets_in calls) (Some now)
+follow_reads [] had now few f = subst (λ (x : Reading). Reads had [] [] (Some x)) f (reads_nothing had few)
+follow_reads {number} (Came r mid bytes old new c ∷ calls) had now few f =
+    let first : Reads r bytes (packets_of c.streams.streams.steps) (Some mid) =
+    came_reads number r mid bytes old new c (subst (λ (x : Reading). IsLess x x.taken) f.0 few) in
+    let less : IsLess mid mid.taken = subst (λ (x : Reading). IsLess x x.taken) (sym first.holds.0) first.holds.1 in
+    subst (λ (x : Reading). Reads x (bytes ++ bytes_in calls) (packets_of c.streams.streams.steps ++ packets_in calls) (Some now)) (sym f.0)
+    (reads_both r mid now bytes (bytes_in calls) (packets_of c.streams.streams.steps) (packets_in calls) first (follow_reads calls mid now less f.1))
+follow_reads (Another r mid stays ∷ calls) had now few f =
+    let same : had ≡ mid = f.0 ∙ (let e : Some r ≡ Some mid = stays in cc) in
+    subst (λ (x : Reading). Reads x (bytes_in calls) (packets_in calls) (Some now)) (sym same)
+    (follow_reads calls mid now (subst (λ (x : Reading). IsLess x x.taken) same few) f.1)

@@ -1,0 +1,12 @@
+pub mod Along
+pub mod Ending
+pub mod Feeding
+pub mod Folding
+pub mod Fronting
+pub mod Leading
+pub mod Moving
+pub mod Outs
+pub mod Standing
+pub mod Stopping
+pub mod Telling
+pub mod Tying

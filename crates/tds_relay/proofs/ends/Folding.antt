@@ -1,0 +1,358 @@
+-- An application's end along moves: from where it enters it is a lawful server's end behind it.
+use Rattle.std.proofs.Common.{◌≡◌, ◌≢◌, ◌∙◌, ◌==◌, ℕ, Bool, true, false, List, [], ◌∷◌, ◌++◌, refl, sym, ap, subst}
+use Rattle.std.specs.Prelude.{Option, Some, None, if◌then◌else◌, option_map}
+use Rattle.std.proofs.lemmas.Bool.{eqb-true}
+use Rattle.tds_wire.specs.declared.told.Token.{Token}
+use Rattle.tds_front.specs.declared.front.Front.{Front}
+use Rattle.tds_front.specs.declared.stage.Stage.{Stage}
+use Rattle.tds_front.specs.Bytes.{fed}
+use Rattle.tds_front.specs.Passing.{Event as Passed, behind, judged}
+use Rattle.tds_front.specs.Rules as rules
+use Rattle.tds_front.specs.Serving.{Place, Ready, IsLawful, behind_brought}
+use Rattle.tds_front.specs.Serving as serving
+use Rattle.tds_service.specs.Line as line
+use Rattle.tds_service.specs.Line.{Line, Packet, new_line}
+use Rattle.tds_service.specs.History.{Done, acts_of, history, line_after}
+use Rattle.tds_service.specs.Parts.{Part}
+use Rattle.tds_service.specs.Service as calls
+use Rattle.tds_service.specs.Service.{Service, Seat, Call, Step, lease_at, new_service, on, on_one, seat_numbered, service_after, step, steps}
+use Rattle.tds_relay.specs.Desk as desk
+use Rattle.tds_relay.specs.Desk.{Deed, Desk, Event, Hearing, Turn, Way, desk_after, new_desk, turn, whose}
+use Rattle.tds_relay.specs.Behind.{AllAnswerOnce, Stays, StaysIn, brought, events_along, gone_on, if_open, passed, passes, said_in, unless_withdrawn}
+use Rattle.tds_relay.specs.Fronting.{AnswersOnce, calls_along, done_on}
+use Rattle.tds_relay.specs.Hall.{End, Open, Over, Ends, Hall, IsPut, MayDo, MayMove, MayMoveAll, Move, done_by, end_at, event_if, events_of, holder, moved, moved_all, new_hall, sent_by, stops_of, told, what_in, what_of, goes_on, closes, lets_go, feeds}
+use Rattle.tds_relay.specs.Hall as hall
+use Rattle.tds_relay.proofs.promises.Bringing.{always_sound}
+use Rattle.tds_relay.proofs.steps.Calling.{service_along}
+use Rattle.tds_relay.proofs.promises.Caring.{Sound}
+use Rattle.tds_relay.proofs.ends.Fronting.{out_of}
+use Rattle.tds_relay.proofs.held.Seated.{AllSit, turn_sits}
+use Rattle.tds_relay.proofs.ends.Outs.{once_split, out_after, out_both, tells_all}
+use Rattle.tds_relay.proofs.ends.Leading.{Lawful}
+use Rattle.tds_relay.proofs.ends.Standing.{Standing, ends_stand, puts_stand}
+use Rattle.tds_relay.proofs.ends.Stopping.{Known, Told, hears_lawful}
+use Rattle.tds_relay.proofs.ends.Feeding.{fed_lawful}
+use Rattle.tds_relay.proofs.ends.Ending.{whose_by, end_by, end_behind_is, passes_by}
+use Rattle.tds_relay.proofs.ends.Moving.{Judges, LeavesBy, StepOf, StoryOf, left_of}
+
+-- ---- Events and calls, one behind the other
+
+pub desk_both : (d : Desk) (xs ys : List Event) → desk_after d (xs ++ ys) ≡ desk_after (desk_after d xs) ys
+desk_both d [] ys = refl
+desk_both d (x ∷ xs) ys = desk_both (turn d x).desk xs ys
+
+pub append_more : {X : Type 0} (xs ys zs : List X) → (xs ++ ys) ++ zs ≡ xs ++ (ys ++ zs)
+append_more [] ys zs = refl
+append_more {X} (x ∷ xs) ys zs = ap (λ (vs : List X). x ∷ vs) (append_more xs ys zs)
+
+calls_both : (d : Desk) (xs ys : List Event) → calls_along d (xs ++ ys) ≡ calls_along d xs ++ calls_along (desk_after d xs) ys
+calls_both d [] ys = refl
+calls_both d (x ∷ xs) ys =
+    ap (λ (all : List (Call Token)). (turn d x).calls ++ all) (calls_both (turn d x).desk xs ys)
+    ∙ sym (append_more (turn d x).calls (calls_along (turn d x).desk xs) (calls_along (desk_after (turn d x).desk xs) ys))
+
+steps_both : (s : Service) (xs ys : List (Call Token)) → steps s (xs ++ ys) ≡ steps s xs ++ steps (service_after s xs) ys
+steps_both s [] ys = refl
+steps_both s (x ∷ xs) ys = ap (λ (all : List (Step Token)). step s x ∷ all) (steps_both (step s x).service xs ys)
+
+one_both : (b : Bool) (ds xs ys : List (Done Token)) → on_one b ds (xs ++ ys) ≡ on_one b ds xs ++ ys
+one_both true ds xs ys = sym (append_more ds xs ys)
+one_both false ds xs ys = refl
+
+on_both : (n : ℕ) (xs ys : List (Step Token)) → on n (xs ++ ys) ≡ on n xs ++ on n ys
+on_both n [] ys = refl
+on_both n (x ∷ xs) ys = ap (λ (ds : List (Done Token)). on_one (x.number == n) x.dones ds) (on_both n xs ys) ∙ one_both (x.number == n) x.dones (on n xs) (on n ys)
+
+-- what is done on a connection by events of this desk
+abbrev pub done_from : ℕ → Desk → List Event → List (Done Token)
+done_from n d events = on n (steps d.service (calls_along d events))
+
+pub done_both : (n : ℕ) (d : Desk) (xs ys : List Event) → done_from n d (xs ++ ys) ≡ done_from n d xs ++ done_from n (desk_after d xs) ys
+done_both n d xs ys =
+    let zs = calls_along (desk_after d xs) ys in
+    ap (λ (all : List (Call Token)). on n (steps d.service all)) (calls_both d xs ys)
+    ∙ ap (λ (all : List (Step Token)). on n all) (steps_both d.service (calls_along d xs) zs)
+    ∙ on_both n (steps d.service (calls_along d xs)) (steps (service_after d.service (calls_along d xs)) zs)
+    ∙ ap (λ (s : Service). done_from n d xs ++ on n (steps s zs)) (sym (service_along d xs))
+
+-- ---- What is known of each connection
+
+abbrev pub outs_of : ℕ → List Event → ℕ → Bool
+outs_of max events n = out_after false (done_on max n events)
+
+-- Each history is that of a connection alone, and its line is what that leaves.
+abbrev pub Alone : Type 0
+Alone = (max n : ℕ) (all : List (Call Token)) → on n (steps (new_service max) all) ≡ history new_line (acts_of (on n (steps (new_service max) all)))
+
+abbrev pub ByHistory : Type 0
+ByHistory = (max n : ℕ) (all : List (Call Token)) (c : Seat) → seat_numbered n (service_after (new_service max) all).seats ≡ Some c
+    → c.line ≡ line_after new_line (acts_of (on n (steps (new_service max) all)))
+
+pub known_at : Alone → ByHistory → (max : ℕ) (events : List Event) (n : ℕ) (c : Seat) → seat_numbered n (desk_after (new_desk max) events).service.seats ≡ Some c → out_of c.line.stage (outs_of max events n) ≡ outs_of max events n
+known_at alone by max events n c there =
+    let all = calls_along (new_desk max) events in
+    let ds = done_on max n events in
+    let same : ds ≡ history new_line (acts_of ds) = alone max n all in
+    let at : seat_numbered n (service_after (new_service max) all).seats ≡ Some c = ap (λ (s : Service). seat_numbered n s.seats) (sym (service_along (new_desk max) events)) ∙ there in
+    let l : c.line ≡ line_after new_line (acts_of ds) = by max n all c at in
+    let P : Line → List (Done Token) → Type 0 = λ (x : Line) (xs : List (Done Token)). out_of x.stage (out_after false xs) ≡ out_after false xs in
+    let one : P (line_after new_line (acts_of ds)) (history new_line (acts_of ds)) = tells_all new_line (acts_of ds) false refl in
+    let two : P (line_after new_line (acts_of ds)) ds = subst (λ (xs : List (Done Token)). P (line_after new_line (acts_of ds)) xs) (sym same) one in
+    subst (λ (x : Line). P x ds) (sym l) two
+
+-- ---- A hall that moves led to
+
+all_sit : (d : Desk) (events : List Event) → Sound d → AllSit d → ((e : Desk) (event : Event) → Sound e → Sound (turn e event).desk) → AllSit (desk_after d events)
+all_sit d [] sound sit next = sit
+all_sit d (event ∷ events) sound sit next = all_sit (turn d event).desk events (next d event sound) (turn_sits d sound sit event) next
+
+always_sits : (max : ℕ) (events : List Event) → AllSit (desk_after (new_desk max) events)
+always_sits max events = all_sit (new_desk max) events (always_sound max []) tt (λ e event sound. Rattle.tds_relay.proofs.promises.Bringing.turn_sound e event sound)
+
+abbrev pub IsAt : ℕ → List Event → Hall → Type 0
+IsAt max events h = h.desk ≡ desk_after (new_desk max) events
+
+pub sound_at : (max : ℕ) (events : List Event) (h : Hall) → IsAt max events h → Sound h.desk
+sound_at max events h is = subst Sound (sym is) (always_sound max events)
+
+pub sits_at : (max : ℕ) (events : List Event) (h : Hall) → IsAt max events h → AllSit h.desk
+sits_at max events h is = subst AllSit (sym is) (always_sits max events)
+
+pub next_at : (max : ℕ) (events : List Event) (h : Hall) (move : Move) → IsAt max events h → IsAt max (events ++ events_of h move) (moved h move)
+next_at max events h move is = ap (λ (d : Desk). desk_after d (events_of h move)) is ∙ sym (desk_both (new_desk max) events (events_of h move))
+
+pub done_at : (max : ℕ) (events : List Event) (h : Hall) (n : ℕ) (more : List Event) → IsAt max events h → done_on max n (events ++ more) ≡ done_on max n events ++ done_from n h.desk more
+done_at max events h n more is = done_both n (new_desk max) events more ∙ ap (λ (d : Desk). done_on max n events ++ done_from n d more) (sym is)
+
+pub leaves_at : (max : ℕ) (events : List Event) (h : Hall) (move : Move) → IsAt max events h → (n : ℕ)
+    → outs_of max (events ++ events_of h move) n ≡ out_after (outs_of max events n) (on n (steps h.desk.service (calls_along h.desk (events_of h move))))
+leaves_at max events h move is n =
+    ap (out_after false) (done_at max events h n (events_of h move) is) ∙ out_both false (done_on max n events) (done_from n h.desk (events_of h move))
+
+-- ---- Moves, one behind the other
+
+pub moved_both : (h : Hall) (xs ys : List Move) → moved_all h (xs ++ ys) ≡ moved_all (moved_all h xs) ys
+moved_both h [] ys = refl
+moved_both h (x ∷ xs) ys = moved_both (moved h x) xs ys
+
+pub may_both : (h : Hall) (xs ys : List Move) → MayMoveAll h xs → MayMoveAll (moved_all h xs) ys → MayMoveAll h (xs ++ ys)
+may_both h [] ys m n = n
+may_both h (x ∷ xs) ys m n = (m.0, may_both (moved h x) xs ys m.1 n)
+
+pub may_each : (h : Hall) (xs ys : List Move) → MayMoveAll h (xs ++ ys) → MayMoveAll h xs × MayMoveAll (moved_all h xs) ys
+may_each h [] ys may = (tt, may)
+may_each h (x ∷ xs) ys may = let more = may_each (moved h x) xs ys may.1 in ((may.0, more.0), more.1)
+
+-- ---- What is told of an application, behind moves
+
+next_place : (outs : ℕ → Bool) (d : Desk) (key : ℕ) (p : Place) (es : List Passed) (stage : Stage) (end : End) → Told outs d key stage p es end → (q : Place) × StoryOf outs d key q (Some end)
+next_place outs d key p es stage (Open front w) next = (next.place, next.standing)
+next_place outs d key p es stage Over next = (p, next)
+
+pub step_story : (outs : ℕ → Bool) (d : Desk) (key : ℕ) (p : Place) (es : List Passed) (o o2 : Option End) → StepOf outs d key p es o o2 → (q : Place) × StoryOf outs d key q o2
+step_story outs d key p es None None s = (p, s)
+step_story outs d key p es None (Some (Open front w)) s = (Ready, s.0)
+step_story outs d key p es None (Some Over) s = absurd s
+step_story outs d key p es (Some (Open front w)) None s = (p, s)
+step_story outs d key p es (Some (Open front w)) (Some end) s = next_place outs d key p es front.stage end s
+step_story outs d key p es (Some Over) None s = (p, s)
+step_story outs d key p es (Some Over) (Some (Open front w)) s = absurd s
+step_story outs d key p es (Some Over) (Some Over) s = (p, s)
+
+-- ---- What passes, by the end as it was
+
+pub passes_is : (key : ℕ) (h : Hall) (move : Move) → passes_by key h move (end_at h.ends key) ≡ passes key h move
+passes_is key h (hall.Does event) = refl
+passes_is key h (hall.Sends k deed) = refl
+passes_is key h (hall.LetsGo k gives way) = refl
+passes_is key h (hall.Loses n) = refl
+passes_is key h (hall.Replaces n) = refl
+passes_is key h (hall.Comes n part way) = refl
+passes_is key h (hall.Feeds k bytes) = refl
+passes_is key h (hall.Closes k) = refl
+passes_is key h (hall.Enters k ends) = refl
+passes_is key h (hall.Quits k gives way) = refl
+
+-- ---- One that is over, or stays
+
+if_nothing : (b : Bool) → (if b then (let x : List Passed = [] in x) else []) ≡ []
+if_nothing true = refl
+if_nothing false = refl
+
+whose_nothing : (key : ℕ) (who : Option ℕ) → Rattle.tds_relay.specs.Behind.if_whose key who [] ≡ []
+whose_nothing key None = refl
+whose_nothing key (Some k) = if_nothing (k == key)
+
+over_passes : (key : ℕ) (h : Hall) (move : Move) → passes_by key h move (Some Over) ≡ []
+over_passes key h (hall.Does event) = refl
+over_passes key h (hall.Sends k deed) = if_nothing (k == key)
+over_passes key h (hall.LetsGo k gives way) = refl
+over_passes key h (hall.Loses n) = refl
+over_passes key h (hall.Replaces n) = refl
+over_passes key h (hall.Comes n part way) = whose_nothing key (whose h.desk n)
+over_passes key h (hall.Feeds k bytes) = if_nothing (k == key)
+over_passes key h (hall.Closes k) = refl
+over_passes key h (hall.Enters k ends) = refl
+over_passes key h (hall.Quits k gives way) = refl
+
+goes_over : (ps : List Packet) → goes_on ps Over ≡ Over
+goes_over [] = refl
+goes_over (p ∷ ps) = refl
+
+told_over : (what : Rattle.tds_relay.specs.declared.desk.coming.What.What) → told what Over ≡ Over
+told_over Rattle.tds_relay.specs.declared.desk.coming.What.TheVariants.Goes = refl
+told_over Rattle.tds_relay.specs.declared.desk.coming.What.TheVariants.Finished = refl
+told_over Rattle.tds_relay.specs.declared.desk.coming.What.TheVariants.Acknowledged = refl
+told_over Rattle.tds_relay.specs.declared.desk.coming.What.TheVariants.Closed = refl
+
+if_over : (b : Bool) (by : End → End) → by Over ≡ Over → (if b then option_map by (Some Over) else Some Over) ≡ Some Over
+if_over true by e = ap (λ (x : End). Some x) e
+if_over false by e = refl
+
+whose_over : (key : ℕ) (who : Option ℕ) (by : End → End) → by Over ≡ Over → whose_by key who by (Some Over) ≡ Some Over
+whose_over key None by e = refl
+whose_over key (Some k) by e = if_over (k == key) by e
+
+quits_not : (key k : ℕ) (b : Bool) (o : Option End) → (k == key) ≡ b → key ≢ k → (if b then None else o) ≡ o
+quits_not key k true o e not = absurd (not (sym (eqb-true k key e)))
+quits_not key k false o e not = refl
+
+entered_same : (key k : ℕ) (h : Hall) (ends : Ends) → hall.HasEntered k h.ends ends → key ≢ k → end_at ends key ≡ end_at h.ends key
+entered_same key k h ends entered not = entered.others_stay key not
+
+pub stays_over : (key : ℕ) (h : Hall) (move : Move) → MayMove h move → StaysIn key move → end_at h.ends key ≡ Some Over → end_by key h move (end_at h.ends key) ≡ Some Over
+stays_over key h (hall.Does event) may stays e = e
+stays_over key h (hall.Sends k deed) may stays e =
+    ap (λ (o : Option End). if k == key then option_map (goes_on (sent_by h.desk (desk.Does k deed))) o else o) e ∙ if_over (k == key) (goes_on (sent_by h.desk (desk.Does k deed))) (goes_over (sent_by h.desk (desk.Does k deed)))
+stays_over key h (hall.LetsGo k gives way) may stays e = ap (λ (o : Option End). if k == key then option_map lets_go o else o) e ∙ if_over (k == key) lets_go refl
+stays_over key h (hall.Loses n) may stays e =
+    ap (λ (o : Option End). whose_by key (holder h.desk n) closes o) e ∙ whose_over key (holder h.desk n) closes refl
+stays_over key h (hall.Replaces n) may stays e =
+    ap (λ (o : Option End). whose_by key (holder h.desk n) lets_go o) e ∙ whose_over key (holder h.desk n) lets_go refl
+stays_over key h (hall.Comes n part way) may stays e =
+    let by : End → End = told (what_in (done_by h.desk n part)) in
+    ap (λ (o : Option End). whose_by key (whose h.desk n) by o) e ∙ whose_over key (whose h.desk n) by (told_over (what_in (done_by h.desk n part)))
+stays_over key h (hall.Feeds k bytes) may stays e = ap (λ (o : Option End). if k == key then option_map (feeds bytes) o else o) e ∙ if_over (k == key) (feeds bytes) refl
+stays_over key h (hall.Closes k) may stays e = ap (λ (o : Option End). if k == key then option_map closes o else o) e ∙ if_over (k == key) closes refl
+stays_over key h (hall.Enters k ends) may stays e = entered_same key k h ends may stays ∙ e
+stays_over key h (hall.Quits k gives way) may stays e = quits_not key k (k == key) (end_at h.ends key) refl stays ∙ e
+
+pub over_silent : (key : ℕ) (h : Hall) (moves : List Move) → end_at h.ends key ≡ Some Over → MayMoveAll h moves → Stays key moves → passed key h moves ≡ []
+over_silent key h [] e may stays = refl
+over_silent key h (move ∷ moves) e may stays =
+    let none : passes key h move ≡ [] = sym (passes_is key h move) ∙ ap (passes_by key h move) e ∙ over_passes key h move in
+    let next : end_at (moved h move).ends key ≡ Some Over = end_behind_is key h move ∙ stays_over key h move may.0 stays.0 e in
+    ap (λ (es : List Passed). es ++ passed key (moved h move) moves) none ∙ over_silent key (moved h move) moves next may.1 stays.1
+
+-- one that is there stays there
+abbrev Is : Option End → Type 0
+Is o = hall.IsThere o
+
+if_there : (b : Bool) (by : End → End) (o : Option End) → Is o → Is (if b then option_map by o else o)
+if_there true by None i = i
+if_there true by (Some end) i = tt
+if_there false by o i = i
+
+whose_there : (key : ℕ) (who : Option ℕ) (by : End → End) (o : Option End) → Is o → Is (whose_by key who by o)
+whose_there key None by o i = i
+whose_there key (Some k) by o i = if_there (k == key) by o i
+
+pub stays_there : (key : ℕ) (h : Hall) (move : Move) → MayMove h move → StaysIn key move → Is (end_at h.ends key) → Is (end_by key h move (end_at h.ends key))
+stays_there key h (hall.Does event) may stays i = i
+stays_there key h (hall.Sends k deed) may stays i = if_there (k == key) (goes_on (sent_by h.desk (desk.Does k deed))) (end_at h.ends key) i
+stays_there key h (hall.LetsGo k gives way) may stays i = if_there (k == key) lets_go (end_at h.ends key) i
+stays_there key h (hall.Loses n) may stays i = whose_there key (holder h.desk n) closes (end_at h.ends key) i
+stays_there key h (hall.Replaces n) may stays i = whose_there key (holder h.desk n) lets_go (end_at h.ends key) i
+stays_there key h (hall.Comes n part way) may stays i = whose_there key (whose h.desk n) (told (what_in (done_by h.desk n part))) (end_at h.ends key) i
+stays_there key h (hall.Feeds k bytes) may stays i = if_there (k == key) (feeds bytes) (end_at h.ends key) i
+stays_there key h (hall.Closes k) may stays i = if_there (k == key) closes (end_at h.ends key) i
+stays_there key h (hall.Enters k ends) may stays i = subst Is (sym (entered_same key k h ends may stays)) i
+stays_there key h (hall.Quits k gives way) may stays i = subst Is (sym (quits_not key k (k == key) (end_at h.ends key) refl stays)) i
+
+-- ---- What one move says is lawful
+
+gone_lawful : (ps : List Packet) (p : Place) (stage : Stage) → IsLawful p (behind stage (gone_on ps))
+gone_lawful [] p stage = tt
+gone_lawful (line.OfRequest request first reset true ∷ ps) p stage = gone_lawful ps (behind_brought p serving.Whole) (rules.went_on stage)
+gone_lawful (line.OfRequest request first reset false ∷ ps) p stage = gone_lawful ps (behind_brought p serving.More) (rules.went_on stage)
+gone_lawful (line.Ignore request ∷ ps) p stage = gone_lawful ps p stage
+gone_lawful (line.Attention ∷ ps) p stage = gone_lawful ps p stage
+
+first_once : (b : Bool) (out : Bool) (ds others : List (Done Token)) → b ≡ true → AnswersOnce out (on_one b ds others) → AnswersOnce out ds
+first_once true out ds others e once = (once_split out ds others once).0
+first_once false out ds others e once = absurd (let u : ⊥ = cc in u)
+
+came_by : (s : Service) (n : ℕ) (part : Part Token) (o : Option Seat) (out : Bool) (others : List (Done Token)) → seat_numbered n s.seats ≡ o
+    → AnswersOnce out (on_one ((calls.hears {T = Token} s (calls.has_number n) part o).number == n) (calls.hears {T = Token} s (calls.has_number n) part o).dones others)
+    → AnswersOnce out (calls.hears {T = Token} s (calls.has_number n) part o).dones
+came_by s n part None out others e once = tt
+came_by s n part (Some c) out others e once =
+    first_once (c.number == n) out (calls.hears {T = Token} s (calls.has_number n) part (Some c)).dones others (Rattle.tds_relay.proofs.promises.Seats.found_meets (calls.has_number n) c s.seats e) once
+
+comes_once : (d : Desk) (n : ℕ) (part : Part Token) (way : Way) (s : Service) (lease : Option ℕ) (hearing : Hearing) (out : Bool)
+    → AnswersOnce out (on n (steps d.service ((desk.comes_by d (calls.Came n part) s n way lease hearing).calls ++ []))) → AnswersOnce out (done_by d n part)
+comes_once d n part way s lease desk.Goes out once = came_by d.service n part (seat_numbered n d.service.seats) out _ refl once
+comes_once d n part way s lease desk.Settled out once = came_by d.service n part (seat_numbered n d.service.seats) out _ refl once
+comes_once d n part way s lease desk.Wrong out once = came_by d.service n part (seat_numbered n d.service.seats) out _ refl once
+
+came_once : (d : Desk) (n : ℕ) (part : Part Token) (way : Way) (out : Bool) → AnswersOnce out (done_from n d (desk.Comes n part way ∷ [])) → AnswersOnce out (done_by d n part)
+came_once d n part way out once =
+    let heard = step {T = Token} d.service (calls.Came n part) in
+    comes_once d n part way heard.service (lease_at (seat_numbered n d.service.seats)) (desk.hearing heard.dones) out once
+
+module _ (h : Hall) (key : ℕ) (outs outs2 : ℕ → Bool) (sound : Sound h.desk) (sit : AllSit h.desk) (judges : Judges h.desk key outs outs2 sound sit) (known : Known h.desk key outs outs2 sound sit) where
+  abbrev d : Desk
+  d = h.desk
+
+  abbrev LawfulBy : Move → Place → Front → Bool → Type 0
+  LawfulBy move p front w = Lawful p front.stage (passes_by key h move (Some (Open front w)))
+
+  sent_lawful : (deed : Deed) (p : Place) (front : Front) (w : Bool) → IsPut deed → MayDo deed (Some (Open front w)) → Standing outs d key front.stage w p → LeavesBy h key outs outs2 sound sit judges known (hall.Sends key deed)
+      → Lawful p front.stage (gone_on (sent_by d (desk.Does key deed)))
+  sent_lawful (desk.Puts count) p front w put may s leaves =
+      let sent = puts_stand d key outs outs2 sound sit count front.stage w p s may known (left_of d key outs outs2 sound sit (desk.Does key (desk.Puts count)) leaves) in
+      (gone_lawful (sent_by d (desk.Does key (desk.Puts count))) p front.stage, sent.whole)
+  sent_lawful (desk.Ends count) p front w put may s leaves =
+      let sent = ends_stand d key outs outs2 sound sit count front.stage w p s may (left_of d key outs outs2 sound sit (desk.Does key (desk.Ends count)) leaves) in
+      (gone_lawful (sent_by d (desk.Does key (desk.Ends count))) p front.stage, sent.whole)
+  sent_lawful desk.Asks p front w put may s leaves = absurd put
+  sent_lawful desk.Stops p front w put may s leaves = absurd put
+
+  sent_if : (k : ℕ) (deed : Deed) (b : Bool) (p : Place) (front : Front) (w : Bool) → (k == key) ≡ b → IsPut deed → (k ≡ key → MayDo deed (Some (Open front w))) → Standing outs d key front.stage w p
+      → LeavesBy h key outs outs2 sound sit judges known (hall.Sends k deed) → Lawful p front.stage (if b then gone_on (sent_by d (desk.Does k deed)) else [])
+  sent_if k deed true p front w e put may s leaves =
+      let is = eqb-true k key e in
+      let P : ℕ → Type 0 = λ (x : ℕ). LeavesBy h key outs outs2 sound sit judges known (hall.Sends x deed) → Lawful p front.stage (gone_on (sent_by d (desk.Does x deed))) in
+      let here : P key = sent_lawful deed p front w put (may is) s in
+      let there : P k = subst P (sym is) here in
+      there leaves
+  sent_if k deed false p front w e put may s leaves = (tt, tt)
+
+  heard_if : (n k : ℕ) (part : Part Token) (way : Way) (b : Bool) (p : Place) (front : Front) (w : Bool) → whose d n ≡ Some k → (k == key) ≡ b → Standing outs d key front.stage w p
+      → AnswersOnce (outs n) (done_by d n part) → Lawful p front.stage (if b then unless_withdrawn w (said_in (done_by d n part)) else [])
+  heard_if n k part way true p front w mine e s once =
+      hears_lawful d key outs outs2 sound sit n part way front.stage w p s (mine ∙ ap (λ (x : ℕ). Some x) (eqb-true k key e)) once
+  heard_if n k part way false p front w mine e s once = (tt, tt)
+
+  heard_whose : (n : ℕ) (part : Part Token) (way : Way) (who : Option ℕ) (p : Place) (front : Front) (w : Bool) → whose d n ≡ who → Standing outs d key front.stage w p → AnswersOnce (outs n) (done_by d n part)
+      → Lawful p front.stage (Rattle.tds_relay.specs.Behind.if_whose key who (unless_withdrawn w (said_in (done_by d n part))))
+  heard_whose n part way None p front w mine s once = (tt, tt)
+  heard_whose n part way (Some k) p front w mine s once = heard_if n k part way (k == key) p front w mine refl s once
+
+  fed_if : (bytes : List ℕ) (b : Bool) (p : Place) (front : Front) → Lawful p front.stage (if b then brought front bytes else [])
+  fed_if bytes true p front = fed_lawful front.stage p (judged front.due bytes) (fed front bytes).brings
+  fed_if bytes false p front = (tt, tt)
+
+  pub lawful_by : (move : Move) (p : Place) (front : Front) (w : Bool) → end_at h.ends key ≡ Some (Open front w) → MayMove h move → Standing outs d key front.stage w p
+      → LeavesBy h key outs outs2 sound sit judges known move → ((n : ℕ) → AnswersOnce (outs n) (done_from n d (events_of h move))) → LawfulBy move p front w
+  lawful_by (hall.Does event) p front w e may s leaves once = (tt, tt)
+  lawful_by (hall.Sends k deed) p front w e may s leaves once =
+      sent_if k deed (k == key) p front w refl may.0 (λ is. subst (MayDo deed) e (subst (λ (x : ℕ). MayDo deed (end_at h.ends x)) is may.1)) s leaves
+  lawful_by (hall.LetsGo k gives way) p front w e may s leaves once = (tt, tt)
+  lawful_by (hall.Loses n) p front w e may s leaves once = (tt, tt)
+  lawful_by (hall.Replaces n) p front w e may s leaves once = (tt, tt)
+  lawful_by (hall.Comes n part way) p front w e may s leaves once = heard_whose n part way (whose d n) p front w refl s (came_once d n part way (outs n) (once n))
+  lawful_by (hall.Feeds k bytes) p front w e may s leaves once = fed_if bytes (k == key) p front
+  lawful_by (hall.Closes k) p front w e may s leaves once = (tt, tt)
+  lawful_by (hall.Enters k ends) p front w e may s leaves once = (tt, tt)
+  lawful_by (hall.Quits k gives way) p front w e may s leaves once = (tt, tt)

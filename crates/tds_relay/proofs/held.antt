@@ -1,0 +1,9 @@
+pub mod Away
+pub mod Kept
+pub mod Lining
+pub mod Lists
+pub mod Others
+pub mod Ours
+pub mod Seated
+pub mod Sitting
+pub mod Sparing

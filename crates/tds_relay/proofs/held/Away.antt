@@ -1,0 +1,260 @@
+-- An application that holds no connection, behind any event: it holds none still, or is lent an idle one.
+use Rattle.std.proofs.Common.{◌≡◌, ◌∙◌, ◌⊎◌, ◌==◌, ◌≤◌, ℕ, suc, Bool, true, false, not, List, [], ◌∷◌, ◌++◌, length, refl, sym, ap, subst, arith, inl, inr}
+use Rattle.std.specs.Prelude.{Option, Some, None, filter, nat_lt, if◌then◌else◌, ◌||◌}
+use Rattle.std.proofs.lemmas.Bool.{eqb-true}
+use Rattle.tds_packet.specs.declared.status.Reset.TheVariants.{Full}
+use Rattle.tds_wire.specs.declared.told.Token.{Token}
+use Rattle.tds_service.specs.Line as line
+use Rattle.tds_service.specs.Line.{Line, Stage, new_line}
+use Rattle.tds_service.specs.History.{line_after}
+use Rattle.tds_service.specs.Service as calls
+use Rattle.tds_service.specs.Service.{Service, Step, Call, Leased, Seat, find_by, is_lendable, lease_at, seat_numbered, step, does}
+use Rattle.tds_service.proofs.Numbered.{added_here, change_here}
+use Rattle.tds_service.proofs.Tests.{above}
+use Rattle.tds_relay.specs.declared.desk.Hold.{Hold}
+use Rattle.tds_relay.specs.Desk as desk
+use Rattle.tds_relay.specs.Desk.{Desk, Event, Deed, Turn, Way, Hearing, find_key, holding, lent_in, moves, ticket_in, turn, whose, without_lease, without_number}
+use Rattle.tds_relay.specs.Hall.{is_in}
+use Rattle.tds_relay.specs.Promises.{Each}
+use Rattle.tds_relay.proofs.promises.Seats.{found_meets}
+use Rattle.tds_relay.proofs.promises.Tidy.{UpTo}
+use Rattle.tds_relay.proofs.promises.Caring.{Sound}
+use Rattle.tds_relay.proofs.promises.Bringing.{lendable_idle}
+use Rattle.tds_relay.proofs.held.Lists.{Once, first_other, found_key, line_one, line_other, none_behind, once_behind, once_filtered, none_filtered, places, theirs, theirs_none, theirs_one, theirs_other, theirs_still}
+use Rattle.tds_relay.proofs.held.Others.{Its}
+use Rattle.tds_relay.proofs.held.Ours.{Gone}
+use Rattle.tds_relay.proofs.held.Kept.{IsLent}
+
+-- It holds none, and waits once at most.
+pub record IsAbsent (key : ℕ) (d : Desk) : Type 0 where
+  pub none : theirs key d.holds ≡ []
+  pub once : Once key d.line
+
+pub gone_absent : (key : ℕ) (d : Desk) → Gone key d → IsAbsent key d
+gone_absent key d gone = record { none = gone.holds; once = inl gone.waits }
+
+-- who doesn't wait has no place
+no_place_by : (key k : ℕ) (ks : List ℕ) (b : Bool) → (b || is_in key ks) ≡ false → (is_in key ks ≡ false → places key ks ≡ []) → (if b then k ∷ places key ks else places key ks) ≡ []
+no_place_by key k ks true e ih = absurd (let u : ⊥ = cc in u)
+no_place_by key k ks false e ih = ih e
+
+pub no_place : (key : ℕ) (line : List ℕ) → is_in key line ≡ false → places key line ≡ []
+no_place key [] e = refl
+no_place key (k ∷ ks) e = no_place_by key k ks (k == key) e (no_place key ks)
+
+-- ---- What leaves it away
+
+module _ (d : Desk) (key : ℕ) (none : theirs key d.holds ≡ []) (L : List ℕ → Type 0) (once : L d.line) (left : (p : ℕ → Bool) (line : List ℕ) → L line → L (filter p line)) where
+  abbrev P : Turn → Type 0
+  P t = (theirs key t.desk.holds ≡ []) × L t.desk.line
+
+  brings_away : (s : Service) (gives : Bool) (way : Way) (o : Option desk.Loan) → P (desk.brings_by d s gives way o)
+  brings_away s gives way None = (none, once)
+  brings_away s gives way (Some loan) = (none, once)
+
+  does_away : (deed : Deed) (o : Option Hold) → P (desk.does d deed o)
+  does_away deed None = (none, once)
+  does_away deed (Some x) = (none, once)
+
+  leaves_away : (other : ℕ) (gives : Bool) (way : Way) (o : Option Hold) → P (desk.leaves d other gives way o)
+  leaves_away other gives way None = (none, left (λ (k : ℕ). not (k == other)) d.line once)
+  leaves_away other gives way (Some x) =
+      (theirs_still key (λ (y : Hold). not (y.lease == x.lease)) d.holds none, left (λ (k : ℕ). not (k == other)) d.line once)
+
+  differs_by : (other : ℕ) (x : Hold) (b : Bool) → (x.key == key) ≡ b → find_key other d.holds ≡ Some x → b ≡ false
+  differs_by other x true e found =
+      let is : other ≡ key = sym (eqb-true x.key other (found_key other x d.holds found)) ∙ eqb-true x.key key e in
+      let mine : find_key key d.holds ≡ Some x = subst (λ (k : ℕ). find_key k d.holds ≡ Some x) is found in
+      let nobody = theirs_none key d.holds none in
+      absurd (let u : None ≡ Some x = sym nobody ∙ mine in let v : ⊥ = cc in v)
+  differs_by other x false e found = refl
+
+  differs : (other : ℕ) (x : Hold) → find_key other d.holds ≡ Some x → (x.key == key) ≡ false
+  differs other x found = let b : (x.key == key) ≡ false = differs_by other x (x.key == key) refl found in b
+
+  renews_by_away : (other : ℕ) (x : Hold) (ticket : ℕ) (o : Option desk.Loan) (resumes : Bool) → find_key other d.holds ≡ Some x → P (desk.renews_by d x ticket o resumes)
+  renews_by_away other x ticket o false e = (theirs_still key (λ (y : Hold). not (y.number == x.number)) d.holds none, once)
+  renews_by_away other x ticket None true e = (theirs_still key (λ (y : Hold). not (y.number == x.number)) d.holds none, once)
+  renews_by_away other x ticket (Some loan) true e = (
+    theirs_other key (holding x.key loan.lease loan.number) (without_lease x.lease d.holds) [] (theirs_still key (λ (y : Hold). not (y.lease == x.lease)) d.holds none) (differs other x e),
+    once,
+  )
+
+  keeps_by_away : (other : ℕ) (x : Hold) (resumes : Bool) (s : Service) (o : Option ℕ) → find_key other d.holds ≡ Some x → P (desk.keeps_by d x resumes s o)
+  keeps_by_away other x resumes s None e = (none, once)
+  keeps_by_away other x resumes s (Some ticket) e = renews_by_away other x ticket (lent_in (step {T = Token} s (calls.Resume ticket)).reply) resumes e
+
+  renews_away : (other : ℕ) (resumes : Bool) (o : Option Hold) → find_key other d.holds ≡ o → P (desk.renews d resumes o)
+  renews_away other resumes None e = (none, once)
+  renews_away other resumes (Some x) e =
+      let kept = step {T = Token} d.service (calls.Keep x.lease) in
+      keeps_by_away other x resumes kept.service (ticket_in kept.reply) e
+
+  comes_away : (number : ℕ) (call : Call Token) (s : Service) (way : Way) (o : Option ℕ) (hearing : Hearing) → P (desk.comes_by d call s number way o hearing)
+  comes_away number call s way o desk.Goes = (none, once)
+  comes_away number call s way o desk.Settled = (none, once)
+  comes_away number call s way o desk.Wrong = (theirs_still key (λ (y : Hold). not (y.number == number)) d.holds none, once)
+
+  serves_by_away : (k : ℕ) (others : List ℕ) (o : Option desk.Loan) → (k == key) ≡ false → L others → P (desk.serves_by d k others o)
+  serves_by_away k others None ne behind = (none, once)
+  serves_by_away k others (Some loan) ne behind = (theirs_other key (holding k loan.lease loan.number) d.holds [] none ne, behind)
+
+waits_once : (d : Desk) (key other : ℕ) (b : Bool) → Once key d.line → (other == key) ≡ b → (other ≡ key → places key d.line ≡ []) → Once key (d.line ++ other ∷ [])
+waits_once d key other true once e away =
+    let is : other ≡ key = eqb-true other key e in
+    let line = line_one key d.line (away is) in
+    inr (subst (λ (k : ℕ). places key (d.line ++ k ∷ []) ≡ key ∷ []) (sym is) line)
+waits_once d key other false once e away = subst (λ (x : List ℕ). (x ≡ []) ⊎ (x ≡ key ∷ [])) (sym (line_other key other d.line e)) once
+
+-- ---- It's lent one
+
+abbrev Then : ℕ → Desk → Type 0
+Then key d = IsLent key d ⊎ IsAbsent key d
+
+numbered_none : (last : ℕ) (cs : List Seat) → Each (UpTo last) cs → seat_numbered (suc last) cs ≡ None
+numbered_none last [] h = refl
+numbered_none last (c ∷ cs) h =
+    let le : c.number ≤ last = h.0 in
+    let ne : (c.number == suc last) ≡ false = above c.number (suc last) (omega arith) in
+    rw ne (numbered_none last cs h.1)
+
+full_idle : (l : Line) → l.stage ≡ line.Idle → (line_after {T = Token} l (line.Mark Full ∷ [])).stage ≡ line.Idle
+full_idle l is = ap (λ (st : Stage). (line.marks {T = Token} l Full st).line.stage) is ∙ is
+
+module _ (d : Desk) (key k : ℕ) (others : List ℕ) (x : IsAbsent key d) (sound : Sound d) (waits : d.line ≡ k ∷ others) (mine : (k == key) ≡ true) where
+  abbrev Served : Type 0
+  Served = Then key (turn d desk.Serves).desk
+
+  is_first : (lease number : ℕ) (l : Line) → lent_in (step {T = Token} d.service calls.Lease).reply ≡ Some (record { lease = lease; number = number })
+      → seat_numbered number (step {T = Token} d.service calls.Lease).service.seats ≡ Some (record { number = number; place = Leased lease; line = l }) → l.stage ≡ line.Idle → Served
+  is_first lease number l lent there idle =
+      let h = holding k lease number in
+      let c : Seat = record { number = number; place = Leased lease; line = l } in
+      let t : turn d desk.Serves ≡ moves d (d.holds ++ h ∷ []) others (calls.Lease ∷ []) = ap (λ (y : List ℕ). desk.serves d y) waits ∙ ap (λ (y : Option desk.Loan). desk.serves_by d k others y) lent in
+      let once : Once key (k ∷ others) = subst (λ (y : List ℕ). Once key y) waits x.once in
+      let its : Its (turn d desk.Serves).desk key h c =
+      subst (λ (y : Turn). Its y.desk key h c) (sym t) (record { sole = theirs_one key h d.holds x.none mine; there = there; lent = refl; line = none_behind key k others once mine }) in
+      inl (record { hold = h; seat = c; its = its; idle = idle })
+
+  not_lent : lent_in (step {T = Token} d.service calls.Lease).reply ≡ None → Served
+  not_lent none =
+      let t : turn d desk.Serves ≡ moves d d.holds d.line [] = ap (λ (y : List ℕ). desk.serves d y) waits ∙ ap (λ (y : Option desk.Loan). desk.serves_by d k others y) none in
+      inr (record { none = ap (λ (y : Turn). theirs key y.desk.holds) t ∙ x.none; once = subst (λ (y : Turn). Once key y.desk.line) (sym t) x.once })
+
+  lent_used : (c : Seat) → find_by is_lendable d.service.seats ≡ Some c → Served
+  lent_used c e =
+      let lease = suc d.service.given in
+      let l = line_after {T = Token} c.line (line.Mark Full ∷ []) in
+      let did : step {T = Token} d.service calls.Lease ≡ does d.service lease is_lendable c (Some (Leased lease)) (line.Mark Full ∷ []) (calls.Lent lease c.number true) =
+      ap (λ (o : Option Seat). calls.lends {T = Token} d.service o) e in
+      let idle = lendable_idle c (found_meets is_lendable c d.service.seats e) in
+      let there = change_here is_lendable c (Leased lease) l d.service.seats sound.tidy.distinct e in
+      is_first lease c.number l (ap (λ (t : Step Token). lent_in t.reply) did) (ap (λ (t : Step Token). seat_numbered c.number t.service.seats) did ∙ there) (full_idle c.line idle)
+
+  lent_new : find_by is_lendable d.service.seats ≡ None → nat_lt (length d.service.seats) d.service.max ≡ true → Served
+  lent_new e room =
+      let lease = suc d.service.given in
+      let number = suc d.service.last in
+      let c : Seat = record { number = number; place = Leased lease; line = new_line } in
+      let did : step {T = Token} d.service calls.Lease ≡ calls.opens d.service true =
+      ap (λ (o : Option Seat). calls.lends {T = Token} d.service o) e ∙ ap (λ (b : Bool). calls.opens {T = Token} d.service b) room in
+      let there : seat_numbered number (d.service.seats ++ c ∷ []) ≡ Some c = added_here c d.service.seats (numbered_none d.service.last d.service.seats sound.tidy.upto) in
+      is_first lease number new_line (ap (λ (t : Step Token). lent_in t.reply) did) (ap (λ (y : Step Token). seat_numbered number y.service.seats) did ∙ there) refl
+
+  lent_by_room : (b : Bool) → find_by is_lendable d.service.seats ≡ None → nat_lt (length d.service.seats) d.service.max ≡ b → Served
+  lent_by_room true e room = lent_new e room
+  lent_by_room false e room = not_lent (rw (e, room) refl)
+
+  lent_by : (o : Option Seat) → find_by is_lendable d.service.seats ≡ o → Served
+  lent_by None e = lent_by_room (nat_lt (length d.service.seats) d.service.max) e refl
+  lent_by (Some c) e = lent_used c e
+
+-- ---- Any event
+
+-- It waits only where it doesn't.
+abbrev pub WaitsOnce : ℕ → Desk → Event → Type 0
+WaitsOnce key d (desk.Waits other) = other ≡ key → (find_key key d.holds ≡ None) × (places key d.line ≡ [])
+WaitsOnce key d event = Unit {0}
+
+module _ (d : Desk) (key : ℕ) (x : IsAbsent key d) (sound : Sound d) where
+  abbrev L : List ℕ → Type 0
+  L line = Once key line
+
+  left : (p : ℕ → Bool) (line : List ℕ) → L line → L (filter p line)
+  left p line once = once_filtered key p line once
+
+  abbrev Q : Turn → Type 0
+  Q t = P d key x.none L x.once left t
+
+  stays : (event : Event) → Q (turn d event) → Then key (turn d event).desk
+  stays event p = inr (record { none = p.0; once = p.1 })
+
+  serves_first : (k : ℕ) (others : List ℕ) (b : Bool) → (k == key) ≡ b → d.line ≡ k ∷ others → Then key (turn d desk.Serves).desk
+  serves_first k others true mine waits = lent_by d key k others x sound waits mine (find_by is_lendable d.service.seats) refl
+  serves_first k others false mine waits =
+      let once : Once key (k ∷ others) = subst (λ (y : List ℕ). Once key y) waits x.once in
+      stays desk.Serves (subst (λ (y : List ℕ). Q (desk.serves d y)) (sym waits)
+      (serves_by_away d key x.none L x.once left k others (lent_in (step {T = Token} d.service calls.Lease).reply) mine (once_behind key k others once mine)))
+
+  serves_line : (waiting : List ℕ) → d.line ≡ waiting → Then key (turn d desk.Serves).desk
+  serves_line [] waits = stays desk.Serves (subst (λ (y : List ℕ). Q (desk.serves d y)) (sym waits) (x.none, x.once))
+  serves_line (k ∷ others) waits = serves_first k others (k == key) refl waits
+
+  pub away : (event : Event) → WaitsOnce key d event → Then key (turn d event).desk
+  away (desk.Waits other) w = stays (desk.Waits other) (x.none, waits_once d key other (other == key) x.once refl (λ is. (w is).1))
+  away (desk.Unwaits other) w = stays (desk.Unwaits other) (x.none, left (λ (k : ℕ). not (k == other)) d.line x.once)
+  away desk.Serves w = serves_line d.line refl
+  away (desk.Brings gives way) w =
+      let lent = step {T = Token} d.service calls.Lease in
+      stays (desk.Brings gives way) (brings_away d key x.none L x.once left lent.service gives way (lent_in lent.reply))
+  away (desk.Does other deed) w = stays (desk.Does other deed) (does_away d key x.none L x.once left deed (find_key other d.holds))
+  away (desk.Leaves other gives way) w = stays (desk.Leaves other gives way) (leaves_away d key x.none L x.once left other gives way (find_key other d.holds))
+  away (desk.Renews other resumes) w = stays (desk.Renews other resumes) (renews_away d key x.none L x.once left other resumes (find_key other d.holds) refl)
+  away (desk.Comes number part way) w =
+      let heard = step {T = Token} d.service (calls.Came number part) in
+      stays (desk.Comes number part way)
+      (comes_away d key x.none L x.once left number (calls.Came number part) heard.service way (lease_at (seat_numbered number d.service.seats)) (desk.hearing heard.dones))
+  away (desk.Loses number) w = stays (desk.Loses number) (theirs_still key (λ (y : Hold). not (y.number == number)) d.holds x.none, x.once)
+
+-- ---- One that isn't there neither holds nor waits
+
+-- It comes to wait no more.
+abbrev pub WaitsNot : ℕ → Event → Type 0
+WaitsNot key (desk.Waits other) = (other == key) ≡ false
+WaitsNot key event = Unit {0}
+
+module _ (d : Desk) (key : ℕ) (x : Gone key d) where
+  abbrev G : List ℕ → Type 0
+  G line = places key line ≡ []
+
+  out : (p : ℕ → Bool) (line : List ℕ) → G line → G (filter p line)
+  out p line none = none_filtered key p line none
+
+  abbrev R : Turn → Type 0
+  R t = P d key x.holds G x.waits out t
+
+  gone_by : (event : Event) → R (turn d event) → Gone key (turn d event).desk
+  gone_by event p = record { holds = p.0; waits = p.1 }
+
+  gone_serves : (waiting : List ℕ) → d.line ≡ waiting → Gone key (turn d desk.Serves).desk
+  gone_serves [] waits = gone_by desk.Serves (subst (λ (y : List ℕ). R (desk.serves d y)) (sym waits) (x.holds, x.waits))
+  gone_serves (k ∷ others) waits =
+      let f = first_other key k others (subst G waits x.waits) in
+      gone_by desk.Serves (subst (λ (y : List ℕ). R (desk.serves d y)) (sym waits)
+      (serves_by_away d key x.holds G x.waits out k others (lent_in (step {T = Token} d.service calls.Lease).reply) f.0 f.1))
+
+  pub stays_gone : (event : Event) → WaitsNot key event → Gone key (turn d event).desk
+  stays_gone (desk.Waits other) w = gone_by (desk.Waits other) (x.holds, line_other key other d.line w ∙ x.waits)
+  stays_gone (desk.Unwaits other) w = gone_by (desk.Unwaits other) (x.holds, out (λ (k : ℕ). not (k == other)) d.line x.waits)
+  stays_gone desk.Serves w = gone_serves d.line refl
+  stays_gone (desk.Brings gives way) w =
+      let lent = step {T = Token} d.service calls.Lease in
+      gone_by (desk.Brings gives way) (brings_away d key x.holds G x.waits out lent.service gives way (lent_in lent.reply))
+  stays_gone (desk.Does other deed) w = gone_by (desk.Does other deed) (does_away d key x.holds G x.waits out deed (find_key other d.holds))
+  stays_gone (desk.Leaves other gives way) w = gone_by (desk.Leaves other gives way) (leaves_away d key x.holds G x.waits out other gives way (find_key other d.holds))
+  stays_gone (desk.Renews other resumes) w = gone_by (desk.Renews other resumes) (renews_away d key x.holds G x.waits out other resumes (find_key other d.holds) refl)
+  stays_gone (desk.Comes number part way) w =
+      let heard = step {T = Token} d.service (calls.Came number part) in
+      gone_by (desk.Comes number part way)
+      (comes_away d key x.holds G x.waits out number (calls.Came number part) heard.service way (lease_at (seat_numbered number d.service.seats)) (desk.hearing heard.dones))
+  stays_gone (desk.Loses number) w = gone_by (desk.Loses number) (theirs_still key (λ (y : Hold). not (y.number == number)) d.holds x.holds, x.waits)

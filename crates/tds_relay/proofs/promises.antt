@@ -1,0 +1,12 @@
+pub mod Astray
+pub mod Bringing
+pub mod Caring
+pub mod Hearing
+pub mod Holding
+pub mod Owning
+pub mod Phases
+pub mod Promised
+pub mod Renewing
+pub mod Saying
+pub mod Seats
+pub mod Tidy

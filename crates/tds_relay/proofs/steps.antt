@@ -1,0 +1,12 @@
+pub mod Calling
+pub mod Fed
+pub mod Fronts
+pub mod Handed
+pub mod Made
+pub mod Posting
+pub mod Putting
+pub mod Reaching
+pub mod Slots
+pub mod Staying
+pub mod Stepping
+pub mod Told

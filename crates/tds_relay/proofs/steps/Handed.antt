@@ -1,0 +1,227 @@
+-- Packets that are handed on, and what steps they are.
+use Rattle.std.proofs.Common.{◌≡◌, ◌∙◌, ℕ, Bool, true, false, List, Option, Some, None, inl, inr, refl, sym, ap, subst, not, ◌∷◌, if◌then◌else◌, slice_set, option_map, [], ◌++◌, take}
+use Rattle.std.proofs.lemmas.List.{set-get_or}
+use Rattle.std.specs.Prelude.{IsSome}
+use Rattle.slab.specs.Slab.{Slab, get, with_value}
+use Rattle.tds_wire.specs.Reading.{Reading}
+use Rattle.tds_packet.specs.declared.header.Header.{Header}
+use Rattle.tds_packet.specs.Layout.{IsPacket}
+use Rattle.tds_packet.specs.Reading as packets
+use Rattle.tds_packet.specs.Reading.{IsWhole, up_to_end, with_taken}
+use Rattle.tds_packet.specs.Stream.{IsLess}
+use Rattle.tds_service.specs.Service.{Seat, find_by, has_number, lease_at, seat_numbered}
+use Rattle.tds_service.specs.Table.{reading_by, seat_in, seats_in}
+use Rattle.tds_service.specs.declared.seat.Seat as seats
+use Rattle.tds_relay.specs.declared.application.Application.{Application}
+use Rattle.tds_relay.specs.declared.desk.coming.Heard.{Heard}
+use Rattle.tds_relay.specs.declared.desk.coming.What.{What}
+use Rattle.tds_relay.specs.declared.desk.coming.What.TheVariants as whats
+use Rattle.tds_relay.specs.declared.link.Answer.{Answer}
+use Rattle.tds_relay.specs.declared.link.Link.{Link}
+use Rattle.tds_relay.specs.declared.link.News.{News}
+use Rattle.tds_relay.specs.declared.link.News.TheVariants as how
+use Rattle.tds_relay.specs.Cutting.{ends_in}
+use Rattle.tds_relay.specs.Desk.{Desk, Comes, Way, turn, whose}
+use Rattle.tds_relay.specs.Fronts.{IsWhat, end_of, ends_in as ends_of, house_with, told_by}
+use Rattle.tds_relay.specs.Hall as hall
+use Rattle.tds_relay.specs.Hall.{End, Ends, Open, Over, done_by, end_at, told, what_in}
+use Rattle.tds_relay.specs.Handing.{Brings, Hears, IsBy, IsDone, IsFor, Passing, fed, news_with}
+use Rattle.tds_relay.specs.House.{House, IsHanded, IsRight, Manner, MayHand, Withheld, after, change_whose, closes, end_whose, handed, is_said, put_some}
+use Rattle.tds_relay.specs.Posts.{Post, Posts, change, post_at, post_of, posts_in}
+use Rattle.tds_relay.specs.Ties.{Turns, part_on}
+use Rattle.tds_relay.proofs.steps.Fronts.{end_is, told_whose}
+use Rattle.tds_relay.proofs.steps.Posting.{posts_changed}
+
+-- ---- As it may be
+
+right_by : (goes : News) (a : Answer) (h : Header) (content : List ℕ) (manner : Manner) → IsBy goes a h content manner → IsRight h content manner
+right_by how.Comes a h content manner by = subst (λ (m : Manner). IsRight h content m) (sym by) tt
+right_by how.IsCut a h content manner by = subst (λ (m : Manner). IsRight h content m) (sym by.1) (a, by.2)
+right_by how.IsTold a h content manner by = subst (λ (m : Manner). IsRight h content m) (sym by) tt
+
+right_for : (said : Bool) (goes : News) (a : Answer) (h : Header) (content : List ℕ) (manner : Manner) → IsFor said goes a h content manner → IsRight h content manner
+right_for false goes a h content manner by = subst (λ (m : Manner). IsRight h content m) (sym by) tt
+right_for true goes a h content manner by = right_by goes a h content manner by
+
+on_by : (goes : News) (a : Answer) (h : Header) (content : List ℕ) (manner : Manner) → IsBy goes a h content manner → IsHanded true manner
+on_by how.Comes a h content manner by = subst (IsHanded true) (sym by) tt
+on_by how.IsCut a h content manner by = subst (IsHanded true) (sym by.1) tt
+on_by how.IsTold a h content manner by = subst (IsHanded true) (sym by) tt
+
+on_for : (said : Bool) (goes : News) (a : Answer) (h : Header) (content : List ℕ) (manner : Manner) → IsFor said goes a h content manner → IsHanded said manner
+on_for false goes a h content manner by = by
+on_for true goes a h content manner by = on_by goes a h content manner by
+
+-- what came of it is what the service answers, where it is somebody's
+said_alike : (who : Option ℕ) (what : What) (dones : List (Rattle.tds_service.specs.History.Done Rattle.tds_wire.specs.declared.told.Token.Token)) (es : Ends) → IsWhat who what dones
+    → is_said (what_in dones) (end_whose who es) ≡ is_said what (end_whose who es)
+said_alike None what dones es is = refl
+said_alike (Some key) what dones es is = ap (λ (w : What). is_said w (end_at es key)) (sym is)
+
+pub may_hand : (number : ℕ) (walker : Option Reading) (goes : News) (a : Answer) (r : packets.Reading) (heard : Heard) (old new : House) → (p : Passing number walker goes a r heard old new)
+    → MayHand old number p.header p.content (part_on walker p.content (ends_in p.header)) p.manner
+may_hand number walker goes a r heard old new p =
+    let dones = done_by old.hall.desk number (part_on walker p.content (ends_in p.header)) in
+    let same : is_said (what_in dones) (end_whose (whose old.hall.desk number) old.hall.ends) ≡ is_said heard.what (end_whose heard.key old.hall.ends) =
+    ap (λ (o : Option ℕ). is_said (what_in dones) (end_whose o old.hall.ends)) (sym p.whose_is) ∙ said_alike heard.key heard.what dones old.hall.ends p.what_is in
+    record {
+      counted = p.packet.laid_out.counted;
+      walker = walker;
+      part_is = refl;
+      has_walker = p.has_walker;
+      right = right_for (is_said heard.what (end_whose heard.key old.hall.ends)) (news_with heard.what goes) a p.header p.content p.manner p.by;
+      handed_on = subst (λ (b : Bool). IsHanded b p.manner) (sym same) (on_for (is_said heard.what (end_whose heard.key old.hall.ends)) (news_with heard.what goes) a p.header p.content p.manner p.by);
+    }
+
+-- ---- What waits by it
+
+same_post : (o : Option Post) → option_map (put_some None) o ≡ o
+same_post None = refl
+same_post (Some p) = refl
+
+pub nothing_put : (posts : Posts) (key : ℕ) → change key (put_some None) posts ≡ posts
+nothing_put posts key = ap (λ (o : Option Post). slice_set posts key o) (same_post (post_at posts key)) ∙ set-get_or posts key None
+
+-- nothing of it is
+pub withheld_is : (who : Option ℕ) (h : Header) (content : List ℕ) (posts : Posts) → posts ≡ change_whose who (put_some (handed Withheld h content)) posts
+withheld_is None h content posts = refl
+withheld_is (Some key) h content posts = sym (nothing_put posts key)
+
+-- its application has it
+pub handed_is : (who : Option ℕ) (key : ℕ) (h : Header) (content : List ℕ) (manner : Manner) (s : Slab Application) (a b : Application) → Some key ≡ who → Some a ≡ get s key → post_of b ≡ put_some (handed manner h content) (post_of a)
+    → posts_in (with_value s key b) ≡ change_whose who (put_some (handed manner h content)) (posts_in s)
+handed_is who key h content manner s a b its is passes =
+    posts_changed s key a b (put_some (handed manner h content)) is passes ∙ ap (λ (o : Option ℕ). change_whose o (put_some (handed manner h content)) (posts_in s)) its
+
+-- ---- Why
+
+pub withheld_for : (said : Bool) (goes : News) (a : Answer) (h : Header) (content : List ℕ) → said ≡ false → IsFor said goes a h content Withheld
+withheld_for false goes a h content e = refl
+withheld_for true goes a h content e = absurd (let u : ⊥ = cc in u)
+
+pub handed_for : (said : Bool) (goes : News) (a : Answer) (h : Header) (content : List ℕ) (manner : Manner) → said ≡ true → IsBy goes a h content manner → IsFor said goes a h content manner
+handed_for false goes a h content manner e by = absurd (let u : ⊥ = cc in u)
+handed_for true goes a h content manner e by = by
+
+-- the connection is closed behind it
+pub to_closed : (what : What) (o : Option End) → closes what ≡ true → is_said what o ≡ false
+to_closed what None e = refl
+to_closed what (Some (Open front true)) e = refl
+to_closed what (Some (Open front false)) e = ap not e
+to_closed what (Some Over) e = refl
+
+-- nobody has it
+pub to_nobody : (what : What) (who : Option ℕ) (es : Ends) → who ≡ None → is_said what (end_whose who es) ≡ false
+to_nobody what who es e = ap (λ (o : Option ℕ). is_said what (end_whose o es)) e
+
+-- who has it is there no more
+pub to_absent : (what : What) (s : Slab Application) (who : Option ℕ) (key : ℕ) → who ≡ Some key → get s key ≡ None → is_said what (end_whose who (ends_of s)) ≡ false
+to_absent what s who key its none =
+    ap (λ (o : Option ℕ). is_said what (end_whose o (ends_of s))) its ∙ ap (is_said what) (end_is s key ∙ ap (option_map end_of) none)
+
+end_whose_is : (s : Slab Application) (who : Option ℕ) (key : ℕ) (a : Application) → who ≡ Some key → Some a ≡ get s key → end_whose who (ends_of s) ≡ Some (end_of a)
+end_whose_is s who key a its is = ap (λ (o : Option ℕ). end_whose o (ends_of s)) its ∙ end_is s key ∙ ap (option_map end_of) (sym is)
+
+-- it hears nothing
+deaf : (what : What) (e : End) → is_said whats.Goes (Some e) ≡ false → is_said what (Some e) ≡ false
+deaf what (Open front true) h = refl
+deaf what (Open front false) h = absurd (let u : ⊥ = cc in u)
+deaf what Over h = refl
+
+pub to_deaf : (what : What) (s : Slab Application) (who : Option ℕ) (key : ℕ) (a : Application) → who ≡ Some key → Some a ≡ get s key → is_said whats.Goes (Some (end_of a)) ≡ false
+    → is_said what (end_whose who (ends_of s)) ≡ false
+to_deaf what s who key a its is h = ap (is_said what) (end_whose_is s who key a its is) ∙ deaf what (end_of a) h
+
+-- it is handed on
+heard_by : (what : What) (e : End) → closes what ≡ false → is_said whats.Goes (Some e) ≡ true → is_said what (Some e) ≡ true
+heard_by what (Open front true) c h = absurd (let u : ⊥ = cc in u)
+heard_by what (Open front false) c h = ap not c
+heard_by what Over c h = absurd (let u : ⊥ = cc in u)
+
+pub to_one : (what : What) (s : Slab Application) (who : Option ℕ) (key : ℕ) (a : Application) → closes what ≡ false → who ≡ Some key → Some a ≡ get s key → is_said whats.Goes (Some (end_of a)) ≡ true
+    → is_said what (end_whose who (ends_of s)) ≡ true
+to_one what s who key a on its is h = ap (is_said what) (end_whose_is s who key a its is) ∙ heard_by what (end_of a) on h
+
+-- ---- The walker
+
+walker_if : (b : Bool) (test : Seat → Bool) (x : seats.Seat) (xs : List seats.Seat) (c : Seat) → (if b then Some (seat_in x) else find_by test (seats_in xs)) ≡ Some c
+    → (find_by test (seats_in xs) ≡ Some c → IsSome (reading_by test xs)) → IsSome (if b then Some x.connection.walker else reading_by test xs)
+walker_if true test x xs c e later = refl
+walker_if false test x xs c e later = later e
+
+pub walker_by : (test : Seat → Bool) (cs : List seats.Seat) (c : Seat) → find_by test (seats_in cs) ≡ Some c → IsSome (reading_by test cs)
+walker_by test [] c e = absurd (let u : ⊥ = cc in u)
+walker_by test (x ∷ xs) c e = walker_if (test (seat_in x)) test x xs c e (walker_by test xs c)
+
+-- a connection that is somebody's has one
+found_seat : (d : Desk) (number key : ℕ) (o : Option Seat) → seat_numbered number d.service.seats ≡ o → whose d number ≡ Some key → (c : Seat) × (o ≡ Some c)
+found_seat d number key (Some c) e h = (c, refl)
+found_seat d number key None e h =
+    absurd (let nobody : whose d number ≡ None = ap (λ (o : Option Seat). Rattle.tds_relay.specs.Desk.whose_by (lease_at o) d.holds) e in let u : Some key ≡ None = sym h ∙ nobody in let v : ⊥ = cc in v)
+
+pub has_walker : (d : Desk) (number key : ℕ) (cs : List seats.Seat) → d.service.seats ≡ seats_in cs → whose d number ≡ Some key → IsSome (reading_by (has_number number) cs)
+has_walker d number key cs is h =
+    let c = found_seat d number key (seat_numbered number d.service.seats) refl h in
+    walker_by (has_number number) cs c.0 (ap (λ (xs : List Seat). seat_numbered number xs) (sym is) ∙ c.1)
+
+-- ---- That it was
+
+-- a packet has come, and was handed on so
+pub passing : (number : ℕ) (walker : Option Reading) (goes : News) (a : Answer) (r : packets.Reading) (heard : Heard) (d d1 : Desk) (es : Ends) (p p1 : Posts) (h : Header) (content : List ℕ) (ends : Bool) (way : Way) (manner : Manner) (before after : List ℕ)
+    → IsPacket r.direction r.size r.taken h content → ends ≡ ends_in h → Turns (Comes number (part_on walker content ends) way) d d1 before after
+    → heard.key ≡ whose d number → IsWhat heard.key heard.what (done_by d number (part_on walker content ends)) → ((key : ℕ) → whose d number ≡ Some key → IsSome walker)
+    → IsFor (is_said heard.what (end_whose heard.key es)) (news_with heard.what goes) a h content manner → p1 ≡ change_whose (whose d number) (put_some (handed manner h content)) p
+    → Brings number walker goes a r heard (house_with d es p) (house_with d1 (told_by (Some heard) es) p1)
+passing number walker goes a r heard d d1 es p p1 h content ends way manner before after packet last turned its what there by is =
+    let turns = subst (λ (b : Bool). Turns (Comes number (part_on walker content b) way) d d1 before after) last turned in
+    let said = subst (λ (b : Bool). IsWhat heard.key heard.what (done_by d number (part_on walker content b))) last what in
+    let dones = done_by d number (part_on walker content (ends_in h)) in
+    inr (record {
+      header = h;
+      content = content;
+      packet = packet;
+      way = way;
+      manner = manner;
+      whose_is = its;
+      what_is = said;
+      has_walker = there;
+      by = by;
+      is =
+          ap (λ (e : Desk). house_with e (told_by (Some heard) es) p1) turns.desk_is
+          ∙ ap (λ (x : Ends). house_with (turn d (Comes number (part_on walker content (ends_in h)) way)).desk x p1)
+          (sym (ap (λ (o : Option ℕ). hall.change_whose o (told (what_in dones)) es) (sym its) ∙ told_whose heard.key heard.what dones es said))
+          ∙ ap (λ (q : Posts). house_with (turn d (Comes number (part_on walker content (ends_in h)) way)).desk (hall.change_whose (whose d number) (told (what_in dones)) es) q) is;
+    })
+
+-- ---- Of which bytes
+
+left_less : ((r : packets.Reading) (bytes : List ℕ) → ¬ IsWhole (with_taken r (up_to_end r bytes)) → IsLess r (up_to_end r bytes)) → ((r : packets.Reading) → IsLess r [])
+    → (number : ℕ) (walker : Option Reading) (goes : News) (a : Answer) (r next : packets.Reading) (bytes : List ℕ) (heard : Heard) (old new : House)
+    → Brings number walker goes a (fed r bytes) heard old new → IsDone (fed r bytes) next → IsLess next next.taken
+left_less less nothing number walker goes a r next bytes heard old new (inl none) done =
+    subst (λ (x : packets.Reading). IsLess x x.taken) (sym (done.less none.0)) (less r (r.taken ++ bytes) none.0)
+left_less less nothing number walker goes a r next bytes heard old new (inr p) done =
+    subst (λ (x : packets.Reading). IsLess x x.taken) (sym (done.whole (p.header, p.content, p.packet))) (nothing r)
+
+pub hears_is : ((r : packets.Reading) (bytes : List ℕ) → ¬ IsWhole (with_taken r (up_to_end r bytes)) → IsLess r (up_to_end r bytes)) → ((r : packets.Reading) → IsLess r [])
+    → (number : ℕ) (walker : Option Reading) (link next : Link) (bytes : List ℕ) (count : ℕ) (heard : Heard) (old new : House) (r s : packets.Reading)
+    → r ≡ fed link.reader bytes → r.taken ≡ link.reader.taken ++ take count bytes → Brings number walker link.news link.answer r heard old new
+    → s ≡ r → (IsWhole s → next.reader ≡ with_taken s []) → (¬ IsWhole s → next.reader ≡ s) → Hears number walker link next bytes count heard old new
+hears_is less nothing number walker link next bytes count heard old new r s is took brings same whole none =
+    let brought = subst (λ (x : packets.Reading). Brings number walker link.news link.answer x heard old new) is brings in
+    let done : IsDone (fed link.reader bytes) next.reader =
+    subst (λ (x : packets.Reading). IsDone x next.reader) (same ∙ is) (record { whole = whole; less = none }) in
+    record {
+      taken = ap (λ (x : packets.Reading). x.taken) (sym is) ∙ took;
+      brings = brought;
+      done = done;
+      less = left_less less nothing number walker link.news link.answer link.reader next.reader bytes heard old new brought done;
+    }
+
+-- its reader goes the same way
+pub done_keeps : (number : ℕ) (walker : Option Reading) (goes : News) (a : Answer) (r s next : packets.Reading) (heard : Heard) (old new : House) → Brings number walker goes a r heard old new
+    → s ≡ r → (IsWhole s → next ≡ with_taken s []) → (¬ IsWhole s → next ≡ s) → next.direction ≡ s.direction
+done_keeps number walker goes a r s next heard old new (inl none) same whole less =
+    ap (λ (x : packets.Reading). x.direction) (less (subst (λ (x : packets.Reading). ¬ IsWhole x) (sym same) none.0))
+done_keeps number walker goes a r s next heard old new (inr p) same whole less =
+    ap (λ (x : packets.Reading). x.direction) (whole (subst (λ (x : packets.Reading). IsWhole x) (sym same) (p.header, p.content, p.packet)))

@@ -1,0 +1,200 @@
+-- What is taken of an application's bytes by steps, and whether it is to be closed behind them.
+use Rattle.std.proofs.Common.{◌≡◌, ◌∙◌, ◌==◌, ◌++◌, ℕ, Bool, true, false, List, [], ◌∷◌, Option, Some, None, ◌⊎◌, inl, inr, refl, sym, ap, subst, option_map, if◌then◌else◌}
+use Rattle.std.proofs.lemmas.Bool.{eq-eqb}
+use Rattle.std.specs.Prelude.{Result, Ok, Err, OnOk, drop}
+use Rattle.tds_front.specs.declared.front.Front.{Front}
+use Rattle.tds_front.specs.declared.front.Said.{Said}
+use Rattle.tds_service.specs.Line.{Packet}
+use Rattle.tds_relay.specs.Desk as desk
+use Rattle.tds_relay.specs.Desk.{Desk}
+use Rattle.tds_relay.specs.Fronts.{ClosesInstead, FedOn, IsFed, Moved, MovedOn, TakesBetween, given_by, hall_of_ends, house_with}
+use Rattle.tds_relay.specs.Hall as hall
+use Rattle.tds_relay.specs.Hall.{End, Ends, Feeds, Hall, IsQuiet, Move, Moves, Open, Over, change_end, closes, end_at, ends_behind, goes_on, hands_on, holder, lets_go, moved, moved_all, sent_by, takes_back}
+use Rattle.tds_relay.specs.House.{House, Step, Admits, CausesStep, Hands, Makes, MayAll, Removes, Steps, Takes, Writes, after, after_all, owed, put_some}
+use Rattle.tds_relay.specs.Posts.{Posts, change}
+use Rattle.tds_relay.specs.Promises.{Each}
+use Rattle.tds_relay.specs.Taking.{AreTaken, IsDeaf, Tells, left_by}
+use Rattle.tds_relay.specs.Ties.{Application}
+use Rattle.tds_relay.proofs.steps.Fed.{fed_is, left_fed, waits_fed}
+use Rattle.tds_relay.proofs.steps.Fronts.{each_both, moves_closes, no_moves}
+use Rattle.tds_relay.proofs.steps.Slots.{changed_at}
+use Rattle.tds_relay.proofs.steps.Stepping.{after_both, after_makes, caused_makes, makes_all, may_both, may_makes}
+
+-- ---- Steps one behind the other
+
+taken_both : (key : ℕ) (h : House) (xs ys : List Step) (a b c : List ℕ) → AreTaken key h xs a b → AreTaken key (after_all h xs) ys b c → AreTaken key h (xs ++ ys) a c
+taken_both key h [] ys a b c t u = subst (λ (bytes : List ℕ). AreTaken key h ys bytes c) (sym t) u
+taken_both key h (Takes other more ∷ xs) ys a b c t u = (t.0, t.1, taken_both key (after h (Takes other more)) xs ys (left_by a (end_at h.hall.ends key)) b c t.2 u)
+taken_both key h (Makes move ∷ xs) ys a b c t u = taken_both key (after h (Makes move)) xs ys a b c t u
+taken_both key h (Hands number header content part way manner ∷ xs) ys a b c t u = taken_both key (after h (Hands number header content part way manner)) xs ys a b c t u
+taken_both key h (Writes other count ∷ xs) ys a b c t u = taken_both key (after h (Writes other count)) xs ys a b c t u
+taken_both key h (Admits other ends posts ∷ xs) ys a b c t u = taken_both key (after h (Admits other ends posts)) xs ys a b c t u
+taken_both key h (Removes other gives way ∷ xs) ys a b c t u = taken_both key (after h (Removes other gives way)) xs ys a b c t u
+
+none_taken : (key : ℕ) (h : House) (moves : List Move) (bytes : List ℕ) → AreTaken key h (makes_all moves) bytes bytes
+none_taken key h [] bytes = refl
+none_taken key h (move ∷ moves) bytes = none_taken key (after h (Makes move)) moves bytes
+
+-- ---- Who is to be closed stays so
+
+deaf_if : (b : Bool) (by : End → End) (o : Option End) → by Over ≡ Over → IsDeaf o → IsDeaf (if b then option_map by o else o)
+deaf_if true by None over d = tt
+deaf_if true by (Some (Open front w)) over d = absurd d
+deaf_if true by (Some Over) over d = subst (λ (e : End). IsDeaf (Some e)) (sym over) tt
+deaf_if false by o over d = d
+
+deaf_changed : (es : Ends) (k key : ℕ) (by : End → End) → by Over ≡ Over → IsDeaf (end_at es key) → IsDeaf (end_at (change_end k by es) key)
+deaf_changed es k key by over d = subst IsDeaf (sym (changed_at End es k key by)) (deaf_if (k == key) by (end_at es key) over d)
+
+deaf_whose : (es : Ends) (who : Option ℕ) (key : ℕ) (by : End → End) → by Over ≡ Over → IsDeaf (end_at es key) → IsDeaf (end_at (hall.change_whose who by es) key)
+deaf_whose es None key by over d = d
+deaf_whose es (Some k) key by over d = deaf_changed es k key by over d
+
+over_goes : (packets : List Packet) → goes_on packets Over ≡ Over
+over_goes [] = refl
+over_goes (packet ∷ packets) = refl
+
+deaf_moved : (key : ℕ) (h : Hall) (move : Move) → IsQuiet move → IsDeaf (end_at h.ends key) → IsDeaf (end_at (ends_behind h move) key)
+deaf_moved key h (hall.Does event) quiet d = d
+deaf_moved key h (hall.Sends k deed) quiet d = deaf_changed h.ends k key (goes_on (sent_by h.desk (desk.Does k deed))) (over_goes (sent_by h.desk (desk.Does k deed))) d
+deaf_moved key h (hall.LetsGo k gives way) quiet d = deaf_changed h.ends k key lets_go refl d
+deaf_moved key h (hall.Loses number) quiet d = deaf_whose h.ends (holder h.desk number) key closes refl d
+deaf_moved key h (hall.Replaces number) quiet d = deaf_whose h.ends (holder h.desk number) key lets_go refl d
+deaf_moved key h (hall.Closes k) quiet d = deaf_changed h.ends k key closes refl d
+deaf_moved key h (hall.Comes number part way) quiet d = absurd quiet
+deaf_moved key h (hall.Feeds k bytes) quiet d = absurd quiet
+deaf_moved key h (hall.Enters k ends) quiet d = absurd quiet
+deaf_moved key h (hall.Quits k gives way) quiet d = absurd quiet
+
+deaf_along : (key : ℕ) (h : Hall) (moves : List Move) → Each IsQuiet moves → IsDeaf (end_at h.ends key) → IsDeaf (end_at (moved_all h moves).ends key)
+deaf_along key h [] quiet d = d
+deaf_along key h (move ∷ moves) quiet d = deaf_along key (moved h move) moves quiet.1 (deaf_moved key h move quiet.0 d)
+
+pub deaf_behind : (key : ℕ) (old new : Hall) → Moves (Application key) old new → IsDeaf (end_at old.ends key) → IsDeaf (end_at new.ends key)
+deaf_behind key old new m d = subst (λ (h : Hall). IsDeaf (end_at h.ends key)) m.are (deaf_along key old m.moves m.quiet d)
+
+closed_deaf : (b : Bool) (o : Option End) → b ≡ true → IsDeaf (if b then option_map closes o else o)
+closed_deaf true None e = tt
+closed_deaf true (Some end) e = tt
+closed_deaf false o e = absurd (let u : ⊥ = cc in u)
+
+pub deaf_closed : (key : ℕ) (es : Ends) → IsDeaf (end_at (change_end key closes es) key)
+deaf_closed key es = subst IsDeaf (sym (changed_at End es key key closes)) (closed_deaf (key == key) (end_at es key) (eq-eqb key key refl))
+
+-- bytes were taken, and then it goes on
+pub fed_then : (key : ℕ) (d : Desk) (before now : Ends) (bytes : List ℕ) (answer : Said) (new : Hall) → takes_back answer ≡ false → hands_on answer ≡ false → IsFed key before now bytes answer
+    → Moved (Application key) (hall_of_ends d now) new → TakesBetween key (hall_of_ends d before) bytes new ⊎ ClosesInstead key answer (hall_of_ends d before) new
+fed_then key d before now bytes answer new keeps here f m = inl (record {
+  mid = hall_of_ends d before;
+  first = no_moves (Application key) (hall_of_ends d before);
+  same = refl;
+  next = subst (λ (h : Hall). Moves (Application key) h new) (sym (fed_is key d before now bytes answer keeps here f)) (m (hall_of_ends d now) (no_moves (Application key) (hall_of_ends d now)));
+})
+
+-- ---- Of a call
+
+pub tells_begin : (key : ℕ) (h : House) (bytes : List ℕ) → Tells key h bytes bytes h
+tells_begin key h bytes = record { steps = []; are = refl; may = tt; caused = tt; rest = bytes; takes = refl; all = inl refl }
+
+pub tells_steps : (key : ℕ) (old new : House) (bytes left : List ℕ) → Tells key old bytes left new → Steps (Application key) old new
+tells_steps key old new bytes left t = record { steps = t.steps; are = t.are; may = t.may; caused = t.caused }
+
+pub tells_left : (key : ℕ) (old new : House) (bytes left rest : List ℕ) → rest ≡ left → Tells key old bytes left new → Tells key old bytes rest new
+tells_left key old new bytes left rest is t = subst (λ (xs : List ℕ). Tells key old bytes xs new) (sym is) t
+
+-- it is to be closed, so the others aren't taken
+pub tells_deaf : (key : ℕ) (old new : House) (bytes left rest : List ℕ) → IsDeaf (end_at new.hall.ends key) → Tells key old bytes left new → Tells key old bytes rest new
+tells_deaf key old new bytes left rest deaf t = record { steps = t.steps; are = t.are; may = t.may; caused = t.caused; rest = t.rest; takes = t.takes; all = inr deaf }
+
+-- the hall moves on
+pub tells_moves : (key : ℕ) (old : House) (bytes left : List ℕ) (h h1 : Hall) (ps ps1 : Posts) → Moves (Application key) h h1 → ps1 ≡ ps
+    → Tells key old bytes left (record { hall = h; posts = ps }) → Tells key old bytes left (record { hall = h1; posts = ps1 })
+tells_moves key old bytes left h h1 ps ps1 m kept t =
+    let more : List Step = makes_all m.moves in
+    let mid : House = record { hall = h; posts = ps } in
+    record {
+      steps = t.steps ++ more;
+      are =
+          after_both old t.steps more ∙ ap (λ (x : House). after_all x more) t.are ∙ after_makes mid m.moves
+          ∙ ap (λ (x : Hall). record { hall = x; posts = ps }) m.are
+          ∙ ap (λ (xs : Posts). record { hall = h1; posts = xs }) (sym kept);
+      may = may_both old t.steps more t.may (subst (λ (x : House). MayAll x more) (sym t.are) (may_makes mid m.moves m.may m.quiet));
+      caused = each_both (CausesStep (Application key)) t.steps more t.caused (caused_makes (Application key) m.moves m.caused);
+      rest = t.rest;
+      takes = taken_both key old t.steps more bytes t.rest t.rest t.takes (none_taken key (after_all old t.steps) m.moves t.rest);
+      all = elim t.all [
+        | inl is ↦ inl is
+        | inr deaf ↦ inr (deaf_behind key h h1 m deaf)
+      ];
+    }
+
+pub tells_moved : (key : ℕ) (old : House) (bytes left : List ℕ) (h h1 : Hall) (ps ps1 : Posts) → Moved (Application key) h h1 → ps1 ≡ ps
+    → Tells key old bytes left (record { hall = h; posts = ps }) → Tells key old bytes left (record { hall = h1; posts = ps1 })
+tells_moved key old bytes left h h1 ps ps1 m kept t = tells_moves key old bytes left h h1 ps ps1 (m h (no_moves (Application key) h)) kept t
+
+-- where a call answers
+pub tells_ok : {A E : Type 0} (r : Result A E) (key : ℕ) (old : House) (bytes left : List ℕ) (h h1 : Hall) (ps ps1 : Posts) → Tells key old bytes left (record { hall = h; posts = ps })
+    → OnOk r (MovedOn h h1) → OnOk r (ps1 ≡ ps) → OnOk r (Tells key old bytes left (record { hall = h1; posts = ps1 }))
+tells_ok (Ok x) key old bytes left h h1 ps ps1 t m kept = tells_moved key old bytes left h h1 ps ps1 (m (Application key)) kept t
+tells_ok (Err e) key old bytes left h h1 ps ps1 t m kept = tt
+
+-- bytes are taken where its end is open
+tells_takes : (key : ℕ) (old : House) (bytes left rest : List ℕ) (h : House) (posts1 : Posts) (front : Front) (withdrawn : Bool) → end_at h.hall.ends key ≡ Some (Open front withdrawn)
+    → left_by left (end_at h.hall.ends key) ≡ rest → change key (put_some (owed left (end_at h.hall.ends key))) h.posts ≡ posts1 → Tells key old bytes left h
+    → Tells key old bytes rest (record { hall = moved h.hall (Feeds key left); posts = posts1 })
+tells_takes key old bytes left rest h posts1 front withdrawn open_at left_is waits t =
+    let step : Step = Takes key left in
+    let is : t.rest ≡ left = elim t.all [
+      | inl is ↦ is
+      | inr deaf ↦ absurd (subst IsDeaf open_at deaf)
+    ] in
+    record {
+      steps = t.steps ++ step ∷ [];
+      are = after_both old t.steps (step ∷ []) ∙ ap (λ (x : House). after x step) t.are ∙ ap (λ (ps : Posts). record { hall = moved h.hall (Feeds key left); posts = ps }) waits;
+      may = may_both old t.steps (step ∷ []) t.may (tt, tt);
+      caused = each_both (CausesStep (Application key)) t.steps (step ∷ []) t.caused ((refl, tt), tt);
+      rest = rest;
+      takes = taken_both key old t.steps (step ∷ []) bytes t.rest rest t.takes
+          (refl, sym is, ap (λ (xs : List ℕ). left_by xs (end_at (after_all old t.steps).hall.ends key)) is ∙ ap (λ (x : House). left_by left (end_at x.hall.ends key)) t.are ∙ left_is);
+      all = inl refl;
+    }
+
+-- ---- As it is done
+
+pub tells_refused : (key : ℕ) (old : House) (bytes left rest : List ℕ) (h : House) (h1 : Hall) (ps1 : Posts) (front : Front) (withdrawn : Bool) → end_at h.hall.ends key ≡ Some (Open front withdrawn)
+    → change key (put_some (owed left (end_at h.hall.ends key))) h.posts ≡ h.posts → moved h.hall (Feeds key left) ≡ hall_of_ends h.hall.desk (change_end key closes h.hall.ends)
+    → Moved (Application key) (hall_of_ends h.hall.desk (change_end key closes h.hall.ends)) h1 → ps1 ≡ h.posts → Tells key old bytes left h → Tells key old bytes rest (record { hall = h1; posts = ps1 })
+tells_refused key old bytes left rest h h1 ps1 front withdrawn open_at waits is m kept t =
+    let closed : Hall = hall_of_ends h.hall.desk (change_end key closes h.hall.ends) in
+    let deaf : IsDeaf (end_at closed.ends key) = deaf_closed key h.hall.ends in
+    tells_moved key old bytes rest closed h1 h.posts ps1 m kept
+    (tells_deaf key old (record { hall = closed; posts = h.posts }) bytes (left_by left (end_at h.hall.ends key)) rest deaf
+    (subst (λ (x : Hall). Tells key old bytes (left_by left (end_at h.hall.ends key)) (record { hall = x; posts = h.posts })) is (tells_takes key old bytes left (left_by left (end_at h.hall.ends key)) h h.posts front withdrawn open_at refl waits t)))
+
+-- it is to be closed, whatever it was at
+pub tells_expelled : {A E : Type 0} (r : Result A E) (key : ℕ) (old : House) (bytes left rest : List ℕ) (d : Desk) (es : Ends) (ps ps1 : Posts) (h1 : Hall) → Tells key old bytes left (house_with d es ps)
+    → OnOk r (Moved (Application key) (hall_of_ends d (change_end key closes es)) h1) → OnOk r (ps1 ≡ ps) → OnOk r (Tells key old bytes rest (record { hall = h1; posts = ps1 }))
+tells_expelled (Ok x) key old bytes left rest d es ps ps1 h1 t m kept =
+    tells_moved key old bytes rest (hall_of_ends d (change_end key closes es)) h1 ps ps1 m kept
+    (tells_deaf key old (house_with d (change_end key closes es) ps) bytes left rest (deaf_closed key es)
+    (tells_moved key old bytes left (hall_of_ends d es) (hall_of_ends d (change_end key closes es)) ps ps (λ from h. moves_closes (Application key) from d d es (change_end key closes es) key refl refl h) refl t))
+tells_expelled (Err e) key old bytes left rest d es ps ps1 h1 t m kept = tt
+
+tells_between : (key : ℕ) (old : House) (bytes left rest : List ℕ) (d : Desk) (before now : Ends) (ps ps1 : Posts) (h1 : Hall) (answer : Said) → (f : IsFed key before now left answer)
+    → TakesBetween key (hall_of_ends d before) left h1 ⊎ ClosesInstead key answer (hall_of_ends d before) h1 → rest ≡ drop f.count left → ps1 ≡ given_by key answer ps
+    → Tells key old bytes left (house_with d before ps) → Tells key old bytes rest (record { hall = h1; posts = ps1 })
+tells_between key old bytes left rest d before now ps ps1 h1 answer f (inl b) is given t =
+    let same : end_at b.mid.ends key ≡ end_at before key = ap (λ (es : Ends). end_at es key) b.same in
+    tells_moves key old bytes rest (moved b.mid (Feeds key left)) h1 ps1 ps1 b.next refl
+    (tells_takes key old bytes left rest (record { hall = b.mid; posts = ps }) ps1 f.front f.withdrawn (same ∙ f.was)
+    (ap (left_by left) same ∙ left_fed key before now left answer f ∙ sym is)
+    (ap (λ (o : Option End). change key (put_some (owed left o)) ps) same ∙ waits_fed key before now left answer ps f ∙ sym given)
+    (tells_moves key old bytes left (hall_of_ends d before) b.mid ps ps b.first refl t))
+tells_between key old bytes left rest d before now ps ps1 h1 answer f (inr k) is given t =
+    tells_deaf key old (record { hall = h1; posts = ps1 }) bytes left rest k.deaf
+    (tells_moves key old bytes left (hall_of_ends d before) h1 ps ps1 k.moves (given ∙ k.nothing ps) t)
+
+pub tells_fed : (key : ℕ) (old : House) (bytes left rest : List ℕ) (d : Desk) (before now : Ends) (ps ps1 : Posts) (h1 : Hall) (answer : Said) → FedOn key answer d now h1 → (f : IsFed key before now left answer)
+    → rest ≡ drop f.count left → ps1 ≡ given_by key answer ps → Tells key old bytes left (house_with d before ps) → Tells key old bytes rest (record { hall = h1; posts = ps1 })
+tells_fed key old bytes left rest d before now ps ps1 h1 answer on f is given t =
+    tells_between key old bytes left rest d before now ps ps1 h1 answer f (on before left f) is given t
