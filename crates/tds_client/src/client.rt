@@ -251,7 +251,26 @@ impl Client {
     ///
     /// Refused with `Broken` or, where something is appended, with `Memory`, and then nothing changes.
     #[tactic(auto, unfolding(crate::specs::Sending::cancelled_sending))]
+    #[inline(always)]
     pub fn cancel(&mut self, out: &mut Vec<u8>) -> Result<Cancelled, ClientRefusal>
+        ensures ok { IfOk result (λ answer.
+            Does (cancelled self.old) answer self.new out.old.items out.new.items) }
+        ensures refused { IfErr result (IsRefusal (refusal_of (cancelled self.old))) }
+        ensures memory { result ≡ Err ClientRefusal.Memory
+            → IfOk (cancelled self.old) (λ wanted. wanted.answer ≡ Cancelled.Asked) }
+        ensures err { OnErr result (self.new ≡ self.old) }
+        ensures nothing { OnErr result (out.new.items ≡ out.old.items) }
+    {
+        if let Stage::Idle = &self.stage {
+            return Ok(Cancelled::Nothing);
+        }
+        self.cancel_any(out)
+    }
+
+    /// The same in a place of its own: mostly there is nothing to cancel, which is seen where it is asked.
+    #[inline(never)]
+    #[tactic(auto, unfolding(crate::specs::Sending::cancelled_sending))]
+    fn cancel_any(&mut self, out: &mut Vec<u8>) -> Result<Cancelled, ClientRefusal>
         ensures ok { IfOk result (λ answer.
             Does (cancelled self.old) answer self.new out.old.items out.new.items) }
         ensures refused { IfErr result (IsRefusal (refusal_of (cancelled self.old))) }

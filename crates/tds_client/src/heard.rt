@@ -225,6 +225,7 @@ impl Heard {
 
     /// Applies a change that any server tells: one of a transaction that can't be placed is a fault.
     #[tactic(auto, unfolding(crate::specs::Hearing::place_change, crate::specs::Hearing::hear_change))]
+    #[inline(always)]
     fn place_change(self, change: EnvChange) -> Result<Heard, ClientFault>
         ensures { Gives result (place_change self change) }
     {
@@ -256,6 +257,7 @@ impl Heard {
 
     /// Hears a DONE of any server.
     #[tactic(auto, unfolding(crate::specs::Hearing::place_done))]
+    #[inline(always)]
     fn place_done(self, cancelling: bool, kind: DoneKind, status: u16) -> Result<Heard, ClientFault>
         ensures { Gives result (place_done cancelling self kind status) }
     {

@@ -1,6 +1,6 @@
 //! What a client hears of an answer's bytes.
 
-ghost use Rattle.std.specs.Prelude.{◌≡◌, ◌≤◌, ◌<◌, Ok, Err, None, IfOk, IfErr, MatchResult, drop, length, take};
+ghost use Rattle.std.specs.Prelude.{◌≡◌, ◌≤◌, ◌<◌, Ok, Err, None, IfOk, IfErr, MatchResult, drop, length, take, true};
 ghost use Rattle.std.specs.Prelude.{if◌then◌else◌};
 ghost use Rattle.tds_client.specs.declared.sign.Rules.TheVariants.{Any};
 ghost use Rattle.tds_client.specs.Machine.{Listens, signed, tells};
@@ -110,23 +110,45 @@ pub fn next_to(
     Ok(count)
 }
 
-/// The client hears a token: whether its caller may be told of it.
+/// The client hears a sign. The answer is how many bytes are done with.
 #[inline(always)]
-fn hear_token(client: &mut Client, token: &Token) -> Result<bool, ClientFault>
+fn hear_sign(client: &mut Client, sign: Sign, count: usize) -> Result<usize, ClientFault>
     ensures heard { MatchResult result
-        (λ told. (signed Any client.old (sign_of token.now) ≡ Ok client.new)
-        × (told ≡ tells client.old.stage))
+        (λ done. (signed Any client.old sign ≡ Ok client.new) × (done ≡ count))
+        (λ fault. signed Any client.old sign ≡ Err fault) }
+    ensures broken { IfErr result (λ fault. client.new ≡ broken_by client.old fault) }
+{
+    match client.hear_sign(Rules::Any, sign) {
+        Ok(()) => Ok(count),
+        Err(fault) => Err(fault),
+    }
+}
+
+/// The same of the sign of a token of which nobody may be told. It isn't put into its callers, in whose way
+/// it would be.
+#[inline(never)]
+fn hear_untold(client: &mut Client, token: &Token, count: usize) -> Result<usize, ClientFault>
+    ensures heard { MatchResult result
+        (λ done. (signed Any client.old (sign_of token.now) ≡ Ok client.new) × (done ≡ count))
         (λ fault. signed Any client.old (sign_of token.now) ≡ Err fault) }
     ensures broken { IfErr result (λ fault. client.new ≡ broken_by client.old fault) }
 {
-    let told = client.may_tell();
-    let sign = sign_of(token);
-    if told && sign == Sign::Nothing {
-        return Ok(true);
-    }
-    match client.hear_sign(Rules::Any, sign) {
-        Ok(()) => Ok(told),
-        Err(fault) => Err(fault),
+    hear_sign(client, sign_of(token), count)
+}
+
+/// The same of one that is told.
+#[inline(always)]
+fn hear_told(client: &mut Client, token: &Token, count: usize) -> Result<usize, ClientFault>
+    requires { tells client.old.stage ≡ true }
+    ensures heard { MatchResult result
+        (λ done. (signed Any client.old (sign_of token.now) ≡ Ok client.new) × (done ≡ count))
+        (λ fault. signed Any client.old (sign_of token.now) ≡ Err fault) }
+    ensures broken { IfErr result (λ fault. client.new ≡ broken_by client.old fault) }
+{
+    match sign_of(token) {
+        Sign::Nothing => Ok(count),
+        Sign::Change(change) => hear_sign(client, Sign::Change(change), count),
+        Sign::Done { kind, status } => hear_sign(client, Sign::Done { kind, status }, count),
     }
 }
 
@@ -165,9 +187,11 @@ pub fn next_whole(
     let Some(token) = told else {
         return Ok(count);
     };
-    match hear_token(client, token) {
-        Ok(true) => Ok(count),
-        Ok(false) => {
+    if client.may_tell() {
+        return hear_told(client, token, count);
+    }
+    match hear_untold(client, token, count) {
+        Ok(count) => {
             *told = None;
             Ok(count)
         }

@@ -20,7 +20,9 @@ use crate::fault::WireFault;
 use crate::features::Features;
 use crate::memory::Memory;
 use crate::shape::Shape;
-pub(crate) use whole::may_be_whole;
+pub(crate) use whole::{
+    change_length, counted_length, has_done, has_status, may_be_whole, reset_length,
+};
 
 /// Where bytes led.
 pub enum Step {

@@ -5,9 +5,12 @@ ghost use Rattle.tds_wire.specs.Told.{added, told_of};
 ghost use Rattle.tds_wire.specs.Memory.{shapes_of, walk_of};
 ghost use Rattle.tds_wire.specs.Reading.{IsReady, behind, found_of, found_with, is_between, kept, next_token, refusal_at, restarted, token_with};
 ghost use Rattle.tds_wire.specs.Lent.{head_of, reading_of};
+ghost use Rattle.tds_wire.specs.Whole.{IsWhole};
 ghost use Rattle.tds_wire.specs.declared.memory.Memory.{Memory as AnyMemory};
 
-use crate::cursor::{Cursor, Step, may_be_whole};
+use crate::cursor::{
+    Cursor, Step, change_length, counted_length, has_done, has_status, may_be_whole, reset_length,
+};
 use crate::due::Standing;
 use crate::fault::{Refusal, WireFault};
 use crate::features::Features;
@@ -188,7 +191,8 @@ impl LentWalk {
         }
     }
 
-    /// The same between two tokens. It isn't put into its callers, of whose tokens it holds the place.
+    /// The same between two tokens. It isn't put into its callers, of whose tokens it holds the place. Each
+    /// kind that most answers have is written at once, as its length is known.
     #[inline(never)]
     fn take_ready(&mut self, memory: &Memory, piece: &[u8], token: &mut Option<Token>) -> usize
         requires { IsReady (reading_of self.old memory.now) }
@@ -205,16 +209,75 @@ impl LentWalk {
         ensures most { self.new.cursor.most ≡ self.old.cursor.most }
         ensures features { self.new.cursor.features ≡ self.old.cursor.features }
     {
-        let count = self.cursor.pass_ready(memory, piece);
-        if count == 0 {
+        if has_done(piece) {
+            self.take_of(memory, piece, 13, token);
+            return 13;
+        }
+        if has_status(piece) {
+            self.take_of(memory, piece, 5, token);
+            return 5;
+        }
+        let reset = reset_length(piece);
+        if reset > 0 {
+            self.take_of(memory, piece, reset, token);
+            return reset;
+        }
+        self.take_other(memory, piece, token)
+    }
+
+    /// The same of a token of any other kind.
+    #[inline(never)]
+    fn take_other(&mut self, memory: &Memory, piece: &[u8], token: &mut Option<Token>) -> usize
+        requires { IsReady (reading_of self.old memory.now) }
+        ensures within { result ≤ length piece.now }
+        ensures same { result ≡ 0 → self.new ≡ self.old }
+        ensures stays { result ≡ 0 → token.new ≡ token.old }
+        ensures some { 0 < result → IsSome token.new }
+        ensures ready { 0 < result → IsReady (reading_of self.new memory.now) }
+        ensures exact { 0 < result
+            → found_with (Ok result) token.new (reading_of self.new memory.now) piece.now
+            ≡ next_token (reading_of self.old memory.now) piece.now }
+        ensures start { 0 < result → IfSome token.new
+            (λ token. self.new.start ≡ added token.start token.length) }
+        ensures most { self.new.cursor.most ≡ self.old.cursor.most }
+        ensures features { self.new.cursor.features ≡ self.old.cursor.features }
+    {
+        let change = change_length(piece);
+        if change > 0 {
+            self.take_of(memory, piece, change, token);
+            return change;
+        }
+        let counted = counted_length(piece);
+        if counted == 0 {
             return 0;
         }
+        self.take_of(memory, piece, counted, token);
+        counted
+    }
+
+    /// Takes the token of so many bytes that bytes begin with.
+    #[inline(always)]
+    fn take_of(&mut self, memory: &Memory, piece: &[u8], count: usize, token: &mut Option<Token>)
+        requires ready { IsReady (reading_of self.old memory.now) }
+        requires many { 0 < count }
+        requires within { count ≤ length piece.now }
+        requires whole { IsWhole count piece.now }
+        ensures some { IsSome token.new }
+        ensures ready { IsReady (reading_of self.new memory.now) }
+        ensures exact { found_with (Ok count) token.new (reading_of self.new memory.now) piece.now
+            ≡ next_token (reading_of self.old memory.now) piece.now }
+        ensures start { IfSome token.new
+            (λ token. self.new.start ≡ added token.start token.length) }
+        ensures most { self.new.cursor.most ≡ self.old.cursor.most }
+        ensures features { self.new.cursor.features ≡ self.old.cursor.features }
+    {
         // Nothing of it was passed before.
         let length = added(0, count as u64);
-        let kind = self.cursor.at.kind;
-        put_token(kind, self.start, length, first_of(&piece[..count]), token);
-        self.start = added(self.start, length);
-        count
+        let start = self.start;
+        let next = added(start, length);
+        put_token(piece[0], start, length, first_of(&piece[..count]), token);
+        self.cursor.pass_of(memory, piece, count);
+        self.start = next;
     }
 
     /// A token has ended with these bytes.

@@ -1,5 +1,5 @@
 //! Tokens that stand whole in a run of bytes, and say in their first bytes how long they are.
-ghost use Rattle.std.specs.Prelude.{◌≡◌, ◌≤◌, ◌<◌, true, drop, length};
+ghost use Rattle.std.specs.Prelude.{◌≡◌, ◌≤◌, ◌<◌, true, drop, get_or, length};
 ghost use Rattle.tds_wire.specs.Bytes.{Over, onward};
 ghost use Rattle.tds_wire.specs.Inside.{IsBetween};
 ghost use Rattle.tds_wire.specs.Memory.{walk_of};
@@ -14,17 +14,27 @@ use crate::cursor::Cursor;
 use crate::due::Due;
 use crate::memory::Memory;
 
-/// How many bytes a token of this kind has behind its first one, where all of its kind have as many
-/// (MS-TDS 2.2.7.6 to 2.2.7.8, 2.2.7.18); else 0.
+/// Whether a token of this kind has 12 bytes behind its first one (MS-TDS 2.2.7.6 to 2.2.7.8).
 #[inline(always)]
 #[tactic(auto, unfolding(crate::specs::Walking::begun))]
-fn fixed_behind(kind: u8) -> usize
-    ensures { 0 < result → (w : Walk) → begun w kind ≡ with_run w result Ended }
+fn is_done(kind: u8) -> bool
+    ensures { result ≡ true → (w : Walk) → begun w kind ≡ with_run w 12 Ended }
 {
     match kind {
-        0xFD | 0xFE | 0xFF => 12,
-        0x79 => 4,
-        _ => 0,
+        0xFD | 0xFE | 0xFF => true,
+        _ => false,
+    }
+}
+
+/// Whether it has 4 (MS-TDS 2.2.7.18).
+#[inline(always)]
+#[tactic(auto, unfolding(crate::specs::Walking::begun))]
+fn is_status(kind: u8) -> bool
+    ensures { result ≡ true → (w : Walk) → begun w kind ≡ with_run w 4 Ended }
+{
+    match kind {
+        0x79 => true,
+        _ => false,
     }
 }
 
@@ -41,26 +51,33 @@ fn is_counted(kind: u8) -> bool
     }
 }
 
-/// How many bytes a DONE has, or a RETURNSTATUS; 0 where none begins here, or it isn't whole.
+/// Whether a DONE stands here whole.
 #[inline(always)]
-fn fixed_length(bytes: &[u8]) -> usize
-    ensures within { result ≤ length bytes.now }
-    ensures token { 0 < result → IsWhole result bytes.now }
+pub(crate) fn has_done(bytes: &[u8]) -> bool
+    ensures within { result ≡ true → 13 ≤ length bytes.now }
+    ensures token { result ≡ true → IsWhole 13 bytes.now }
 {
-    if bytes.is_empty() {
-        return 0;
+    if bytes.len() < 13 {
+        return false;
     }
-    let behind = fixed_behind(bytes[0]);
-    if behind > 0 && behind < bytes.len() {
-        behind + 1
-    } else {
-        0
-    }
+    is_done(bytes[0])
 }
 
-/// The same of a token with a count.
+/// Whether a RETURNSTATUS does.
 #[inline(always)]
-fn counted_length(bytes: &[u8]) -> usize
+pub(crate) fn has_status(bytes: &[u8]) -> bool
+    ensures within { result ≡ true → 5 ≤ length bytes.now }
+    ensures token { result ≡ true → IsWhole 5 bytes.now }
+{
+    if bytes.len() < 5 {
+        return false;
+    }
+    is_status(bytes[0])
+}
+
+/// How many bytes a token with a count has; 0 where none begins here, or it isn't whole.
+#[inline(always)]
+pub(crate) fn counted_length(bytes: &[u8]) -> usize
     ensures within { result ≤ length bytes.now }
     ensures token { 0 < result → IsWhole result bytes.now }
 {
@@ -78,7 +95,7 @@ fn counted_length(bytes: &[u8]) -> usize
 /// The same of an ENVCHANGE (MS-TDS 2.2.7.9). One of type 15 has counts of its own, and is left out, as is
 /// one without a type.
 #[inline(always)]
-fn change_length(bytes: &[u8]) -> usize
+pub(crate) fn change_length(bytes: &[u8]) -> usize
     ensures within { result ≤ length bytes.now }
     ensures token { 0 < result → IsWhole result bytes.now }
 {
@@ -93,15 +110,29 @@ fn change_length(bytes: &[u8]) -> usize
     }
 }
 
+/// The same of the end of a reset, of type 18.
+#[inline(always)]
+pub(crate) fn reset_length(bytes: &[u8]) -> usize
+    ensures within { result ≤ length bytes.now }
+    ensures token { 0 < result → IsWhole result bytes.now }
+{
+    if bytes.len() < 4 || bytes[3] != 18 {
+        return 0;
+    }
+    change_length(bytes)
+}
+
 /// The same of any of them.
 #[inline(always)]
 fn whole_length(bytes: &[u8]) -> usize
     ensures within { result ≤ length bytes.now }
     ensures token { 0 < result → IsWhole result bytes.now }
 {
-    let fixed = fixed_length(bytes);
-    if fixed > 0 {
-        return fixed;
+    if has_done(bytes) {
+        return 13;
+    }
+    if has_status(bytes) {
+        return 5;
     }
     let change = change_length(bytes);
     if change > 0 {
@@ -117,6 +148,24 @@ pub(crate) fn may_be_whole(bytes: &[u8]) -> bool {
 }
 
 impl Cursor {
+    /// Passes the token of so many bytes that bytes begin with.
+    #[inline(always)]
+    pub(crate) fn pass_of(&mut self, memory: &Memory, piece: &[u8], count: usize)
+        requires due { self.old.at.due ≡ dues.Token }
+        requires some { 0 < count }
+        requires within { count ≤ length piece.now }
+        requires whole { IsWhole count piece.now }
+        ensures between { IsBetween (walk_of self.new memory.now) }
+        ensures exact { onward (walk_of self.old memory.now) piece.now
+            ≡ Over (walk_of self.new memory.now) (drop count piece.now) }
+        ensures kind { self.new.at.kind ≡ get_or piece.now 0 0 }
+        ensures most { self.new.most ≡ self.old.most }
+        ensures features { self.new.features ≡ self.old.features }
+    {
+        memory.bounds();
+        self.at.kind = piece[0];
+    }
+
     /// Passes the token that bytes begin with, where it is whole and says in its first bytes how long it
     /// is: how many bytes it has. Else nothing is done, and the answer is 0.
     #[inline(always)]
@@ -130,11 +179,11 @@ impl Cursor {
         ensures most { self.new.most ≡ self.old.most }
         ensures features { self.new.features ≡ self.old.features }
     {
-        memory.bounds();
         let length = whole_length(piece);
-        if length > 0 {
-            self.at.kind = piece[0];
+        if length == 0 {
+            return 0;
         }
+        self.pass_of(memory, piece, length);
         length
     }
 
