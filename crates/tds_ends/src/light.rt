@@ -53,6 +53,13 @@ impl LightReader {
         self.reader.is_none()
     }
 
+    /// The packet size.
+    pub fn size(&self) -> PacketSize
+        ensures { result ≡ self.now.size }
+    {
+        self.size
+    }
+
     /// Takes the reader out. Where no bytes are held, its buffer is taken now, and memory may be
     /// wanted: nothing changes then.
     pub fn open(&mut self) -> Result<Box<PacketReader>, NoMemory>
