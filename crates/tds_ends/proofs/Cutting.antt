@@ -26,7 +26,7 @@ use Rattle.tds_ends.specs.Feeding.{Coming, IsComing, Listened, listened, on_take
 use Rattle.tds_ends.proofs.FedClient as client
 use Rattle.tds_ends.proofs.FedServer as server
 
-all_both : (P : Coming → Type 0) (ps qs : List Coming) → AllByRecursion P ps → AllByRecursion P qs → AllByRecursion P (ps ++ qs)
+pub all_both : (P : Coming → Type 0) (ps qs : List Coming) → AllByRecursion P ps → AllByRecursion P qs → AllByRecursion P (ps ++ qs)
 all_both P [] qs a b = b
 all_both P (p ∷ ps) qs a b = (a.0, all_both P ps qs a.1 b)
 
@@ -47,7 +47,7 @@ end_same : (r : Reading) (taken bytes : List ℕ) → up_to_end (with_taken r ta
 unfolding end_of
 end_same r taken bytes = refl
 
-stops_so : (stop : Stop) (r mid new : Reading) (piece more left : List ℕ) (first second : ℕ) → first ≤ length piece → mid ≡ with_taken r mid.taken → IsLeft stop mid new (drop first piece ++ more) second left → IsLeft stop r new (piece ++ more) (first + second) left
+pub stops_so : (stop : Stop) (r mid new : Reading) (piece more left : List ℕ) (first second : ℕ) → first ≤ length piece → mid ≡ with_taken r mid.taken → IsLeft stop mid new (drop first piece ++ more) second left → IsLeft stop r new (piece ++ more) (first + second) left
 stops_so Drained r mid new piece more left first second within same is =
     let long : length (drop first piece ++ more) ≡ length (drop first piece) + length more = length-append (drop first piece) more in
     let short : length (drop first piece) ≡ length piece - first = length-drop first piece in
@@ -97,14 +97,14 @@ settles_last takes.Acknowledged before first = refl
 settles_last takes.NoMemory before first = refl
 
 -- The same, with what was settled before.
-abbrev with_settled : Option RequestStatus → Listened → Listened
+abbrev pub with_settled : Option RequestStatus → Listened → Listened
 with_settled first then = record then { settled = settled_last then.settled first }
 
 on_each : (found : Result ClientMove ClientFault) (f g : ClientMove → Option Listened) (then other : Listened) → ((t : ClientMove) → f t ≡ Some then → g t ≡ Some other) → on_taken found f ≡ Some then → on_taken found g ≡ Some other
 on_each (Ok t) f g then other later is = later t is
 on_each (Err fault) f g then other later is = absurd (cc)
 
-settled_before : (s : ClientSession) (before first : Option RequestStatus) (told : List Token) (ps : List Coming) (then : Listened) → listened s before told ps ≡ Some then → listened s (settled_last before first) told ps ≡ Some (with_settled first then)
+pub settled_before : (s : ClientSession) (before first : Option RequestStatus) (told : List Token) (ps : List Coming) (then : Listened) → listened s before told ps ≡ Some then → listened s (settled_last before first) told ps ≡ Some (with_settled first then)
 settled_before s before first told [] then is =
     let same : record { session = s; settled = before; told = told } ≡ then = cc in
     ap (λ (t : Listened). Some (with_settled first t)) same

@@ -1,17 +1,12 @@
--- Whether a reader holds bytes, and what an end makes of no bytes where it holds none.
-use Rattle.std.proofs.Common.{◌≡◌, ◌≢◌, ◌∙◌, ◌≤◌, ℕ, ◌==◌, Bool, true, false, List, [], ◌∷◌, ◌++◌, length, take, ap, refl, sym, subst, Some, None, arith}
-use Rattle.std.proofs.lemmas.Bool.Decides.{nat_tests}
-use Rattle.std.proofs.lemmas.List.{length-take-le, nil_from_length}
-use Rattle.tds_client.specs.Session.{ClientSession}
+-- Whether a reader holds bytes.
+use Rattle.std.proofs.Common.{◌≡◌, ◌≢◌, ◌∙◌, ◌≤◌, ℕ, Bool, true, false, List, [], ◌∷◌, ◌++◌, length, take, ap, refl, sym, subst, Option, Some, None, is_some}
+use Rattle.std.proofs.lemmas.List.{length-take-le}
 use Rattle.tds_packet.specs.declared.fault.PacketFault.{PacketFault}
-use Rattle.tds_packet.specs.Reading.{Reading, fault_of}
-use Rattle.tds_server.specs.State.{ServerState}
-use Rattle.tds_session.specs.Answer.{Answers}
-use Rattle.tds_token.specs.declared.token.Token.{Token}
-use Rattle.tds_ends.specs.Ends.{Feeds, Drained, Listens, Serves}
+use Rattle.tds_packet.specs.declared.kind.Direction.{Direction}
+use Rattle.tds_packet.specs.Reading.{Reading, fault_of, with_taken}
+use Rattle.tds_ends.specs.AllBytes.{new_reader}
 use Rattle.tds_ends.specs.Light.{TellsEmpty}
 use Rattle.tds_ends.proofs.AllBytes.{no_fault_yet}
-use Rattle.tds_ends.proofs.Spelling.{no_packet}
 
 -- ---- Whether it holds bytes
 
@@ -37,38 +32,17 @@ faulty_some r fault found empty =
     let some : fault_of r [] ≡ Some fault = sym (ap (fault_of r) empty) ∙ found in
     absurd (cc)
 
--- ---- No bytes
+-- One that holds none is as new.
+pub as_new : (r : Reading) (direction : Direction) (size : ℕ) → r.direction ≡ direction → size ≡ r.size → r.taken ≡ [] → new_reader direction size ≡ r
+as_new r direction size reads same empty =
+    ap (λ (d : Direction). new_reader d size) (sym reads) ∙ ap (λ (n : ℕ). new_reader r.direction n) same
+    ∙ ap (λ (xs : List ℕ). with_taken r xs) (sym empty)
 
-pub no_bytes : (bytes : List ℕ) → true ≡ (length bytes == 0) → bytes ≡ []
-no_bytes bytes none = nil_from_length bytes (grind (arith, nat_tests))
+-- Whether there is something.
+pub is_there : {A : Type 0} → (b : Bool) (o : Option A) → b ≡ true → b ≡ is_some o → o ≢ None
+is_there b None there tells e = let z : false ≡ true = sym tells ∙ there in absurd (cc)
+is_there b (Some x) there tells e = absurd (cc)
 
-nothing_comes : (r : Reading) (piece : List ℕ) → r.taken ≡ [] → piece ≡ [] → Feeds r r piece 0 Drained [] []
-nothing_comes r piece empty none = record {
-  each = tt;
-  joined = rw (empty, none) refl;
-  same = refl;
-  is_left = (no_packet r, no_fault_yet r, empty, sym (ap (λ (xs : List ℕ). length xs) none));
-}
-
-pub hears_nothing : (r : Reading) (piece : List ℕ) (s : ClientSession) (told : List Token) → r.taken ≡ [] → piece ≡ [] → Listens r r piece s s told told (record { count = 0; settled = None; stop = None })
-hears_nothing r piece s told empty none = record {
-  packets = [];
-  left = [];
-  then = _;
-  feeds = nothing_comes r piece empty none;
-  listens = refl;
-  settled = refl;
-  tells = refl;
-  client = refl;
-}
-
-pub serves_nothing : {E : Type 0} → (answers : Answers) (r : Reading) (piece : List ℕ) (s : ServerState E) (reply : List ℕ) → r.taken ≡ [] → piece ≡ [] → Serves answers r r piece s s reply reply (record { count = 0; stop = None })
-serves_nothing answers r piece s reply empty none = record {
-  packets = [];
-  left = [];
-  then = _;
-  feeds = nothing_comes r piece empty none;
-  serves = refl;
-  replies = refl;
-  server = refl;
-}
+pub is_absent : {A : Type 0} → (b : Bool) (o : Option A) → b ≡ false → b ≡ is_some o → o ≡ None
+is_absent b None absent tells = refl
+is_absent b (Some x) absent tells = let z : true ≡ false = sym tells ∙ absent in absurd (cc)

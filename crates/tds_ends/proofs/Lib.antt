@@ -29,3 +29,6 @@ pub mod SomeOf
 pub mod AllBytes
 pub mod Empty
 pub mod AllHeard
+pub mod Lent
+pub mod LentClient
+pub mod LentServer

@@ -22,6 +22,7 @@ use Rattle.tds_ends.specs.declared.serving.ServerFed.{ServerFed}
 use Rattle.tds_ends.specs.declared.serving.ServerStop.{ServerStop}
 use Rattle.tds_ends.specs.declared.serving.ServerStop.TheVariants as server_stop
 use Rattle.tds_ends.specs.Feeding.{Coming, IsComing, bytes_of, Served, served, Listened, listened}
+use Rattle.tds_ends.specs.Lent.{ClientWaits, LentToClient, LentToServer, ServerWaits}
 
 -- ---- The bytes
 
@@ -157,30 +158,53 @@ server_fed_twice first second =
 
 -- ---- A core with its reader in one value
 
--- There was no memory for the reader's buffer: it held no bytes, nothing of the piece was taken, and nothing
--- changed.
-pub record LacksBuffer {Core Item : Type 0} (r new : Reading) (piece : List ℕ) (s now : Core)
-    (before after : List Item) : Type 0 where
+-- There was no memory for the reader's buffer: it held no bytes, nothing was taken, and nothing changed.
+pub record LacksBuffer {Core Item : Type 0} (r new : Reading) (s now : Core) (before after : List Item)
+    : Type 0 where
   pub empty : r.taken ≡ []
-  pub some : piece ≢ []
   pub reader : new ≡ r
   pub core : now ≡ s
   pub appended : after ≡ before
 
+-- Where the client wants memory, it is for the packet that the reader holds.
+abbrev pub ReaderListens : Reading → Reading → List ℕ → ClientSession → ClientSession → List Token
+    → List Token → ClientFed → Type 0
+ReaderListens r new piece s now told after fed =
+    Listens r new piece s now told after fed × ClientWaits fed.stop new now
+
 abbrev pub client_lacking : ClientFed
 client_lacking = record { count = 0; settled = None; stop = Some client_stop.NoMemory }
 
+-- The piece goes through the reader.
+abbrev pub ClientKeeps : Reading → Reading → List ℕ → ClientSession → ClientSession → List Token
+    → List Token → ClientFed → Type 0
+ClientKeeps r new piece s now told after fed =
+    ReaderListens r new piece s now told after fed
+    ⊎ ((fed ≡ client_lacking) × LacksBuffer r new s now told after)
+
+-- Or, where the end held no bytes, it took whole packets straight from the piece, stopped, and holds none.
 abbrev pub EndListens : Reading → Reading → List ℕ → ClientSession → ClientSession → List Token → List Token
     → ClientFed → Type 0
 EndListens r new piece s now told after fed =
-    Listens r new piece s now told after fed
-    ⊎ ((fed ≡ client_lacking) × LacksBuffer r new piece s now told after)
+    ReaderListens r new piece s now told after fed
+    ⊎ ((r.taken ≡ []) × (new ≡ r) × (fed.stop ≢ None) × LentToClient r piece s now told after fed)
+
+abbrev pub ReaderServes : {E : Type 0} → Answers → Reading → Reading → List ℕ → ServerState E
+    → ServerState E → List ℕ → List ℕ → ServerFed → Type 0
+ReaderServes answers r new piece s now reply after fed =
+    Serves answers r new piece s now reply after fed × ServerWaits fed.stop answers new now
 
 abbrev pub server_lacking : ServerFed
 server_lacking = record { count = 0; stop = Some server_stop.NoMemory }
 
+abbrev pub ServerKeeps : {E : Type 0} → Answers → Reading → Reading → List ℕ → ServerState E
+    → ServerState E → List ℕ → List ℕ → ServerFed → Type 0
+ServerKeeps answers r new piece s now reply after fed =
+    ReaderServes answers r new piece s now reply after fed
+    ⊎ ((fed ≡ server_lacking) × LacksBuffer r new s now reply after)
+
 abbrev pub EndServes : {E : Type 0} → Answers → Reading → Reading → List ℕ → ServerState E → ServerState E
     → List ℕ → List ℕ → ServerFed → Type 0
 EndServes answers r new piece s now reply after fed =
-    Serves answers r new piece s now reply after fed
-    ⊎ ((fed ≡ server_lacking) × LacksBuffer r new piece s now reply after)
+    ReaderServes answers r new piece s now reply after fed
+    ⊎ ((r.taken ≡ []) × (new ≡ r) × (fed.stop ≢ None) × LentToServer answers r piece s now reply after fed)

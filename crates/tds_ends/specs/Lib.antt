@@ -9,3 +9,4 @@ pub mod Deliveries
 pub mod ModelGives
 pub mod Lending
 pub mod Light
+pub mod Lent

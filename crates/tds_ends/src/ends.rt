@@ -4,7 +4,7 @@ ghost use Rattle.std.specs.Prelude.{◌≡◌, ◌≤◌, ◌+◌, ◌*◌, ◌+
 ghost use Rattle.std.specs.Borrow.{sem};
 ghost use Rattle.tds_client.specs.Session.{new_session};
 ghost use Rattle.tds_ends.specs.AllBytes.{new_reader};
-ghost use Rattle.tds_ends.specs.Ends.{EndListens, EndServes};
+ghost use Rattle.tds_ends.specs.Ends.{ClientKeeps, EndListens, EndServes, ServerKeeps};
 ghost use Rattle.tds_packet.specs.declared.kind.Direction.TheVariants.{ToClient, ToServer};
 ghost use Rattle.tds_server.specs.State.{IsAnswering, lost_of, new_server, server_with};
 ghost use Rattle.tds_server.specs.Working.{worked};
@@ -12,8 +12,8 @@ ghost use Rattle.tds_session.specs.Answer.{answer_of};
 
 use crate::NoMemory;
 use crate::light::LightReader;
-use crate::listening::{ClientFed, ClientStop, listen_on};
-use crate::serving::{ServerFed, ServerStop, serve_on};
+use crate::listening::{ClientFed, ClientStop, listen_lent, listen_on, settled_last};
+use crate::serving::{ServerFed, ServerStop, serve_lent, serve_on};
 use std::alloc::Global;
 use tds_client::Client;
 use tds_packet::{Direction, PacketSize};
@@ -59,23 +59,38 @@ impl ClientEnd {
         &mut self.client
     }
 
-    /// Takes a piece of what the server sent, as [`listen`](crate::listen) does. Where no bytes of
-    /// a packet are held it takes memory for one packet, and gives it back once none are held. If
-    /// that is refused it stops at once (`NoMemory`): it takes none of the piece, and nothing
-    /// changes.
+    /// Takes a piece of what the server sent, as [`listen`](crate::listen) does. Where no bytes of a
+    /// packet are held, the packets that the piece begins with are heard straight from it. What is
+    /// left of the piece, and a packet that is held, take memory for one packet, which is given back
+    /// once no bytes are held. If that is refused it stops there (`NoMemory`), as it does where the
+    /// client wants memory.
     pub fn listen(&mut self, piece: &[u8], told: &mut Vec<Token>) -> ClientFed
         ensures within { result.count ≤ length piece.now }
         ensures listens { EndListens self.old.reader self.new.reader piece.now self.old.client
             self.new.client told.old.items told.new.items result }
     {
-        let was_empty = self.reader.is_empty();
-        if was_empty && piece.is_empty() {
-            return ClientFed {
-                count: 0,
-                settled: None,
-                stop: None,
-            };
+        if !self.reader.is_empty() {
+            return self.keep(piece, told);
         }
+        let lent = listen_lent(&mut self.client, self.reader.size(), piece, told);
+        if lent.stop.is_some() || lent.count == piece.len() {
+            return lent;
+        }
+        let kept = self.keep(&piece[lent.count..], told);
+        ClientFed {
+            count: lent.count + kept.count,
+            settled: settled_last(kept.settled, lent.settled),
+            stop: kept.stop,
+        }
+    }
+
+    /// Takes a piece through the reader. Where that holds no bytes, its buffer is taken first.
+    fn keep(&mut self, piece: &[u8], told: &mut Vec<Token>) -> ClientFed
+        ensures within { result.count ≤ length piece.now }
+        ensures keeps { ClientKeeps self.old.reader self.new.reader piece.now self.old.client
+            self.new.client told.old.items told.new.items result }
+    {
+        let was_empty = self.reader.is_empty();
         let Ok(mut reader) = self.reader.open() else {
             return ClientFed {
                 count: 0,
@@ -159,8 +174,10 @@ impl<E: Engine + Drop> ServerEnd<E> {
     }
 
     /// Takes a piece of what the client sent, as [`serve`](crate::serve) does. Where no bytes of a
-    /// packet are held it takes memory for one packet, and gives it back once none are held. If that
-    /// is refused it stops at once (`NoMemory`): it takes none of the piece, and nothing changes.
+    /// packet are held, the packets that the piece begins with are taken straight from it. What is
+    /// left of the piece, and a packet that is held, take memory for one packet, which is given back
+    /// once no bytes are held. If that is refused it stops there (`NoMemory`), as it does where the
+    /// server wants memory.
     pub fn serve(&mut self, piece: &[u8], reply: &mut Vec<u8>) -> ServerFed
         ensures engine { self.new.server.engine ≡ self.old.server.engine }
         ensures on_attention { self.new.server.on_attention ≡ self.old.server.on_attention }
@@ -172,13 +189,33 @@ impl<E: Engine + Drop> ServerEnd<E> {
             EndServes answers self.old.reader self.new.reader piece.now self.old.server
             self.new.server reply.old.items reply.new.items result }
     {
-        let was_empty = self.reader.is_empty();
-        if was_empty && piece.is_empty() {
-            return ServerFed {
-                count: 0,
-                stop: None,
-            };
+        if !self.reader.is_empty() {
+            return self.keep(piece, reply);
         }
+        let lent = serve_lent(&mut self.server, self.reader.size(), piece, reply);
+        if lent.stop.is_some() || lent.count == piece.len() {
+            return lent;
+        }
+        let kept = self.keep(&piece[lent.count..], reply);
+        ServerFed {
+            count: lent.count + kept.count,
+            stop: kept.stop,
+        }
+    }
+
+    /// Takes a piece through the reader. Where that holds no bytes, its buffer is taken first.
+    fn keep(&mut self, piece: &[u8], reply: &mut Vec<u8>) -> ServerFed
+        ensures engine { self.new.server.engine ≡ self.old.server.engine }
+        ensures on_attention { self.new.server.on_attention ≡ self.old.server.on_attention }
+        ensures within { result.count ≤ length piece.now }
+        ensures short { 8 * length reply.new.items ≤ 8 * length reply.old.items
+            + 35 * (length self.old.reader.taken + result.count) }
+        ensures keeps { let answers = answer_of (E.statements_of self.old.server.engine)
+            (E.step_of self.old.server.engine) in
+            ServerKeeps answers self.old.reader self.new.reader piece.now self.old.server
+            self.new.server reply.old.items reply.new.items result }
+    {
+        let was_empty = self.reader.is_empty();
         let Ok(mut reader) = self.reader.open() else {
             return ServerFed {
                 count: 0,

@@ -5,6 +5,7 @@
 pub mod all_bytes;
 mod ends;
 pub mod laws;
+mod lending;
 mod light;
 mod listening;
 mod reading;

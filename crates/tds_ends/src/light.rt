@@ -17,8 +17,8 @@ pub struct LightReader {
     alloc: Global,
     size: PacketSize,
     direction: Direction,
-    /// `None` while no bytes are held.
-    reader: Option<PacketReader>,
+    /// `None` while no bytes are held. It is boxed so that an end that holds none stays small.
+    reader: Option<Box<PacketReader>>,
 }
 
 impl Model for LightReader {
@@ -53,24 +53,34 @@ impl LightReader {
         self.reader.is_none()
     }
 
+    /// The packet size.
+    pub fn size(&self) -> PacketSize
+        ensures { result ≡ self.now.size }
+    {
+        self.size
+    }
+
     /// Takes the reader out. Where no bytes are held, its buffer is taken now, and memory may be
     /// wanted: nothing changes then.
-    pub fn open(&mut self) -> Result<PacketReader, NoMemory>
-        ensures lent { IfOk result (λ reader. reader ≡ self.old) }
+    pub fn open(&mut self) -> Result<Box<PacketReader>, NoMemory>
+        ensures lent { IfOk result (λ reader. reader.value ≡ self.old) }
         ensures left { OnOk result (self.new ≡ with_taken self.old []) }
         ensures refused { OnErr result ((self.new ≡ self.old) × (self.old.taken ≡ [])) }
     {
         match self.reader.take() {
             Some(reader) => Ok(reader),
-            None => PacketReader::new(self.alloc, self.size, self.direction),
+            None => {
+                let reader = PacketReader::new(self.alloc, self.size, self.direction)?;
+                Ok(Box::new(self.alloc, reader)?)
+            }
         }
     }
 
     /// Puts a reader back. Where it holds no bytes, its buffer is given back.
-    pub fn close(&mut self, reader: PacketReader, is_empty: bool)
-        requires same { with_taken reader [] ≡ with_taken self.old [] }
-        requires empty { TellsEmpty is_empty reader.taken }
-        ensures { self.new ≡ reader }
+    pub fn close(&mut self, reader: Box<PacketReader>, is_empty: bool)
+        requires same { with_taken reader.value [] ≡ with_taken self.old [] }
+        requires empty { TellsEmpty is_empty reader.value.taken }
+        ensures { self.new ≡ reader.value }
     {
         self.reader = if is_empty { None } else { Some(reader) };
     }

@@ -1,13 +1,16 @@
 //! What a client makes of bytes that come.
 ghost use Rattle.std.specs.Prelude.{◌≡◌, ◌≤◌, length};
-ghost use Rattle.tds_ends.specs.Ends.{Listens};
+ghost use Rattle.tds_ends.specs.AllBytes.{new_reader};
+ghost use Rattle.tds_ends.specs.Ends.{Listens, settled_last};
 ghost use Rattle.tds_ends.specs.Feeding.{settled_by};
+ghost use Rattle.tds_ends.specs.Lent.{ClientWaits, LentToClient};
 ghost use Rattle.tds_ends.specs.Light.{TellsEmpty};
 ghost use Rattle.tds_packet.specs.declared.kind.Direction.TheVariants.{ToClient};
 
+use crate::lending::front;
 use crate::reading::{is_still_empty, reads_packets};
 use tds_client::{Client, ClientFault, Taken};
-use tds_packet::{PacketFault, PacketReader};
+use tds_packet::{Direction, PacketFault, PacketReader, PacketSize};
 use tds_token::Token;
 use tds_world::RequestStatus;
 
@@ -45,6 +48,19 @@ fn settled_by(took: Taken, before: Option<RequestStatus>) -> Option<RequestStatu
     }
 }
 
+/// What was settled last.
+pub(crate) fn settled_last(
+    now: Option<RequestStatus>,
+    before: Option<RequestStatus>,
+) -> Option<RequestStatus>
+    ensures { result ≡ settled_last now before }
+{
+    match now {
+        None => before,
+        Some(status) => Some(status),
+    }
+}
+
 /// Takes a piece of what a server sent, however it is cut: the client takes each packet that is
 /// whole (MS-TDS 2.2.3), in order, and the tokens that it is told are appended to `told`.
 ///
@@ -67,6 +83,8 @@ pub fn listen(
     // the first that it refuses or has no memory for, or to a header with a fault.
     ensures listens { Listens reader.old reader.new piece.now client.old client.new
         told.old.items told.new.items result }
+    // Memory is wanted only where the client wants it, for the packet that the reader holds.
+    ensures waits { ClientWaits result.stop reader.new client.new }
 {
     listen_on(client, reader, piece, told, false).0
 }
@@ -86,6 +104,7 @@ pub(crate) fn listen_on(
     ensures within { result.0.count ≤ length piece.now }
     ensures listens { Listens reader.old reader.new piece.now client.old client.new
         told.old.items told.new.items result.0 }
+    ensures waits { ClientWaits result.0.stop reader.new client.new }
     ensures empty { TellsEmpty was_empty reader.old.taken → TellsEmpty result.1 reader.new.taken }
 {
     reads_packets();
@@ -125,4 +144,44 @@ pub(crate) fn listen_on(
         stop,
     };
     (fed, is_empty)
+}
+
+/// Takes the whole packets that a piece begins with, straight from it: no buffer is needed. It stops
+/// behind the last of them, or at one that the client refuses, or wants memory for.
+pub(crate) fn listen_lent(
+    client: &mut Client,
+    size: PacketSize,
+    piece: &[u8],
+    told: &mut Vec<Token>,
+) -> ClientFed
+    ensures within { result.count ≤ length piece.now }
+    ensures listens { LentToClient (new_reader ToClient size) piece.now client.old client.new
+        told.old.items told.new.items result }
+{
+    let mut count = 0;
+    let mut settled = None;
+    let stop = 'packets: loop {
+        let Some(packet) = front(&piece[count..], size, Direction::ToClient) else {
+            break None;
+        };
+        let length = 8 + packet.data.len();
+        match client.take(packet, told) {
+            Ok(answer) => {
+                if answer == Taken::NoMemory {
+                    break Some(ClientStop::NoMemory);
+                }
+                settled = settled_by(answer, settled);
+                count += length;
+            }
+            Err(fault) => {
+                count += length;
+                break Some(ClientStop::Client(fault));
+            }
+        }
+    };
+    ClientFed {
+        count,
+        settled,
+        stop,
+    }
 }

@@ -1,12 +1,15 @@
 //! What a server makes of bytes that come.
 ghost use Rattle.std.specs.Prelude.{◌≡◌, ◌≤◌, ◌+◌, ◌*◌, length};
+ghost use Rattle.tds_ends.specs.AllBytes.{new_reader};
 ghost use Rattle.tds_ends.specs.Ends.{Serves};
+ghost use Rattle.tds_ends.specs.Lent.{LentToServer, ServerWaits};
 ghost use Rattle.tds_ends.specs.Light.{TellsEmpty};
 ghost use Rattle.tds_packet.specs.declared.kind.Direction.TheVariants.{ToServer};
 ghost use Rattle.tds_session.specs.Answer.{answer_of};
 
+use crate::lending::front;
 use crate::reading::{is_still_empty, reads_packets};
-use tds_packet::{PacketFault, PacketReader};
+use tds_packet::{Direction, PacketFault, PacketReader, PacketSize};
 use tds_server::{Server, ServerFault, ServerTook};
 use tds_session::Engine;
 
@@ -60,6 +63,9 @@ pub fn serve<E: Engine + Drop>(
     ensures serves { Serves (answer_of (E.statements_of server.old.engine)
         (E.step_of server.old.engine)) reader.old reader.new piece.now server.old server.new
         reply.old.items reply.new.items result }
+    // Memory is wanted only where the server wants it, for the packet that the reader holds.
+    ensures waits { ServerWaits result.stop (answer_of (E.statements_of server.old.engine)
+        (E.step_of server.old.engine)) reader.new server.new }
 {
     serve_on(server, reader, piece, reply, false).0
 }
@@ -84,6 +90,8 @@ pub(crate) fn serve_on<E: Engine + Drop>(
     ensures serves { Serves (answer_of (E.statements_of server.old.engine)
         (E.step_of server.old.engine)) reader.old reader.new piece.now server.old server.new
         reply.old.items reply.new.items result.0 }
+    ensures waits { ServerWaits result.0.stop (answer_of (E.statements_of server.old.engine)
+        (E.step_of server.old.engine)) reader.new server.new }
     ensures empty { TellsEmpty was_empty reader.old.taken → TellsEmpty result.1 reader.new.taken }
 {
     reads_packets();
@@ -116,4 +124,42 @@ pub(crate) fn serve_on<E: Engine + Drop>(
         is_empty = true;
     };
     (ServerFed { count, stop }, is_empty)
+}
+
+/// Takes the whole packets that a piece begins with, straight from it: no buffer is needed. It stops
+/// behind the last of them, or at one that the server refuses, or wants memory for.
+pub(crate) fn serve_lent<E: Engine + Drop>(
+    server: &mut Server<E>,
+    size: PacketSize,
+    piece: &[u8],
+    reply: &mut Vec<u8>,
+) -> ServerFed
+    ensures engine { server.new.engine ≡ server.old.engine }
+    ensures on_attention { server.new.on_attention ≡ server.old.on_attention }
+    ensures within { result.count ≤ length piece.now }
+    ensures short { 8 * length reply.new.items ≤ 8 * length reply.old.items + 35 * result.count }
+    ensures serves { LentToServer (answer_of (E.statements_of server.old.engine)
+        (E.step_of server.old.engine)) (new_reader ToServer size) piece.now server.old server.new
+        reply.old.items reply.new.items result }
+{
+    let mut count = 0;
+    let stop = 'packets: loop {
+        let Some(packet) = front(&piece[count..], size, Direction::ToServer) else {
+            break None;
+        };
+        let length = 8 + packet.data.len();
+        match server.take(packet, reply) {
+            Ok(took) => {
+                if took == ServerTook::NoMemory {
+                    break Some(ServerStop::NoMemory);
+                }
+                count += length;
+            }
+            Err(fault) => {
+                count += length;
+                break Some(ServerStop::Server(fault));
+            }
+        }
+    };
+    ServerFed { count, stop }
 }

@@ -4,6 +4,7 @@ use Rattle.tds_packet.specs.Reading.{IsWhole}
 use Rattle.tds_ends.proofs.Empty.{fed_tells, faulty_some}
 use Rattle.tds_ends.proofs.Feeding.{slice_rest, fed_at, held, faulty_at, drained_at}
 use Rattle.tds_ends.proofs.FedClient.{does_take, untaken, goes_on}
+use Rattle.tds_ends.proofs.LentClient.{wants}
 use Rattle.tds_ends.proofs.listening.listen_on.Goals as goal
 
 pub returns-in-Err-clause-listens : goal.returns-in-Err-clause-listens
@@ -96,3 +97,8 @@ returns-then-eq-clause-empty c = λ tells. fed_tells _ _ c.in-Ok.taken _ _ _ c.i
 
 pub returns-in-Err-take-clause-empty : goal.returns-in-Err-take-clause-empty
 returns-in-Err-take-clause-empty c = λ tells. fed_tells _ _ c.in-Ok.taken _ _ _ c.is_still_empty-is_empty.ensures c.in-Ok.ensures.within c.in-Ok.ensures.count (c.packets.invariant.empty tells)
+
+pub returns-then-eq-clause-waits : goal.returns-then-eq-clause-waits
+returns-then-eq-clause-waits c =
+    let none : c.in-Ok-take.took ≡ NoMemory = search rules in
+    (c.in-Some.packet.header, c.in-Some.packet.data.now, c.in-Some.ensures.lent, wants c.packets.client c.take.new.self c.in-Some.packet.header c.in-Some.packet.data.now c.in-Ok-take.took c.packets.told.items c.take.new.out.items none c.in-Ok-take.ensures.taken)

@@ -5,6 +5,7 @@ use Rattle.tds_session.specs.Answer.{answer_of}
 use Rattle.tds_ends.proofs.Empty.{fed_tells, faulty_some}
 use Rattle.tds_ends.proofs.Feeding.{slice_rest, fed_at, held, faulty_at, drained_at}
 use Rattle.tds_ends.proofs.FedServer.{refused_quietly, same_took, goes_on, fed_length, whole_length}
+use Rattle.tds_ends.proofs.LentServer.{wanting}
 use Rattle.tds_ends.proofs.serving.serve_on.Goals as goal
 
 pub returns-in-Err-clause-serves : goal.returns-in-Err-clause-serves
@@ -107,3 +108,11 @@ returns-then-eq-clause-empty g c = λ tells. fed_tells _ _ c.in-Ok.taken _ _ _ c
 
 pub returns-in-Err-take-clause-empty : goal.returns-in-Err-take-clause-empty
 returns-in-Err-take-clause-empty g c = λ tells. fed_tells _ _ c.in-Ok.taken _ _ _ c.is_still_empty-is_empty.ensures c.in-Ok.ensures.within c.in-Ok.ensures.count (c.packets.invariant.empty tells)
+
+pub returns-then-eq-clause-waits : goal.returns-then-eq-clause-waits
+returns-then-eq-clause-waits g c =
+    let none : c.in-Ok-take.took ≡ NoMemory = search rules in
+    let still = c.take.ensures.memory (c.in-Ok-take.is ∙ ap Ok none) in
+    let answers = ap (λ e. answer_of (g.E.Engine.statements_of e) (g.E.Engine.step_of e)) c.packets.invariant.engine in
+    let wanted = c.take.ensures.wanted (c.in-Ok-take.is ∙ ap Ok none) in
+    (c.in-Some.packet.header, c.in-Some.packet.data.now, c.in-Some.ensures.lent, wanting _ c.packets.server c.take.new.self c.in-Some.packet.header c.in-Some.packet.data.now still.0 (rw answers at wanted))
