@@ -1,5 +1,5 @@
 -- Packets that lie whole in a piece.
-use Rattle.std.proofs.Common.{◌≡◌, ◌≢◌, ◌∙◌, ◌+◌, ◌-◌, ◌<◌, ◌≤◌, inl, inr, ℕ, List, [], ◌∷◌, ◌++◌, length, take, drop, sym, ap, refl, subst, Option, Some, None, Result, Ok, Err, append_assoc, append-nil, arith, length-append, length-drop}
+use Rattle.std.proofs.Common.{◌≡◌, ◌∙◌, ◌+◌, ◌-◌, ◌<◌, ◌≤◌, ℕ, List, [], ◌++◌, length, take, drop, sym, ap, refl, subst, Some, None, append_assoc, append-nil, arith, length-append, length-drop}
 use Rattle.std.proofs.lemmas.Grind.{flat_map-append}
 use Rattle.std.proofs.lemmas.List.{take_at, take-append-drop, length-take-le}
 use Rattle.std.proofs.lemmas.Bool.{ltb-false}
@@ -8,11 +8,10 @@ use Rattle.tds_packet.specs.declared.fault.PacketFault.{PacketFault}
 use Rattle.tds_packet.specs.declared.header.Header.{Header}
 use Rattle.tds_packet.specs.declared.kind.Direction.{Direction}
 use Rattle.tds_packet.specs.Faults.{header_fault, length_field}
-use Rattle.tds_packet.specs.Layout.{IsPacket, header_bytes}
-use Rattle.tds_packet.specs.Reading.{Reading, with_taken, IsWhole}
-use Rattle.tds_packet.specs.Stream.{IsLess, IsOnePacket}
+use Rattle.tds_packet.specs.Layout.{header_bytes}
+use Rattle.tds_packet.specs.Reading.{Reading, with_taken}
+use Rattle.tds_packet.specs.Stream.{IsLess}
 use Rattle.tds_packet.proofs.Faulty.{header_fault-append, header_fault-header, length_field-append, length_field-header, packet_of, passes, spelled_packet}
-use Rattle.tds_ends.specs.AllBytes.{new_reader}
 use Rattle.tds_ends.specs.Ends.{Stop, Feeds, IsLeft}
 use Rattle.tds_ends.specs.Feeding.{Coming, IsComing, bytes_of}
 use Rattle.tds_ends.specs.Lent.{IsFront}

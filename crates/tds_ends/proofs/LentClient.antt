@@ -1,5 +1,5 @@
 -- A client that takes packets straight from a piece.
-use Rattle.std.proofs.Common.{◌≡◌, ◌≢◌, ◌∙◌, ◌+◌, ◌≤◌, inl, inr, ℕ, List, [], ◌∷◌, ◌++◌, length, drop, sym, ap, refl, subst, Option, Some, None, Result, Ok, Err, arith, length-drop}
+use Rattle.std.proofs.Common.{◌≡◌, ◌≢◌, ◌∙◌, ◌+◌, ◌≤◌, inl, inr, ℕ, List, [], ◌++◌, length, drop, sym, ap, refl, subst, Option, Some, None, Ok, Err, arith, length-drop}
 use Rattle.tds_client.specs.declared.fault.ClientFault.{ClientFault}
 use Rattle.tds_client.specs.declared.state.Taken.{Taken}
 use Rattle.tds_client.specs.declared.state.Taken.TheVariants.{More, Finished, Acknowledged, NoMemory}
@@ -168,8 +168,8 @@ heard_behind r new piece rest s between now told some after first second fed emp
             lacking.1.reader,
             subst (λ (x : ClientFed). x.stop ≢ None) (sym lacking.0) (λ e. absurd (cc)),
             subst (λ (x : ClientFed). LentToClient r piece s now told after (client_fed_twice first x)) (sym lacking.0)
-            (subst (λ (x : ClientSession). LentToClient r piece s x told after (client_fed_twice first client_lacking)) (sym lacking.1.core)
-            (subst (λ (xs : List Token). LentToClient r piece s between told xs (client_fed_twice first client_lacking)) (sym lacking.1.appended)
-            (lacking_by r piece s between told some first.count first.settled first.stop none within more a)))
+                (subst (λ (x : ClientSession). LentToClient r piece s x told after (client_fed_twice first client_lacking)) (sym lacking.1.core)
+                (subst (λ (xs : List Token). LentToClient r piece s between told xs (client_fed_twice first client_lacking)) (sym lacking.1.appended)
+                (lacking_by r piece s between told some first.count first.settled first.stop none within more a))),
           )
     ])

@@ -1,5 +1,5 @@
 -- A server that takes packets straight from a piece.
-use Rattle.std.proofs.Common.{◌≡◌, ◌≢◌, ◌∙◌, ◌+◌, ◌≤◌, inl, inr, ℕ, List, [], ◌∷◌, ◌++◌, length, drop, sym, ap, refl, subst, Option, Some, None, Result, Ok, Err, arith, length-drop}
+use Rattle.std.proofs.Common.{◌≡◌, ◌≢◌, ◌∙◌, ◌+◌, ◌≤◌, inl, inr, ℕ, List, [], ◌++◌, length, drop, sym, ap, refl, subst, Option, Some, None, Ok, Err, arith, length-drop}
 use Rattle.tds_packet.specs.declared.header.Header.{Header}
 use Rattle.tds_packet.specs.declared.kind.Direction.{Direction}
 use Rattle.tds_packet.specs.Layout.{header_bytes}
@@ -154,8 +154,8 @@ served_behind {E} answers r new piece rest s between now reply some after first 
             lacking.1.reader,
             subst (λ (x : ServerFed). x.stop ≢ None) (sym lacking.0) (λ e. absurd (cc)),
             subst (λ (x : ServerFed). LentToServer answers r piece s now reply after (server_fed_twice first x)) (sym lacking.0)
-            (subst (λ (x : ServerState E). LentToServer answers r piece s x reply after (server_fed_twice first server_lacking)) (sym lacking.1.core)
-            (subst (λ (xs : List ℕ). LentToServer answers r piece s between reply xs (server_fed_twice first server_lacking)) (sym lacking.1.appended)
-            (lacking_by answers r piece s between reply some first.count first.stop none within more a)))
+                (subst (λ (x : ServerState E). LentToServer answers r piece s x reply after (server_fed_twice first server_lacking)) (sym lacking.1.core)
+                (subst (λ (xs : List ℕ). LentToServer answers r piece s between reply xs (server_fed_twice first server_lacking)) (sym lacking.1.appended)
+                (lacking_by answers r piece s between reply some first.count first.stop none within more a))),
           )
     ])

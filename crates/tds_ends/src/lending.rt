@@ -7,11 +7,7 @@ ghost use Rattle.tds_packet.specs.Stream.{IsLess};
 use tds_packet::{Direction, Header, PacketRef, PacketSize};
 
 /// The packet that these bytes begin with, if it is whole. None, where its header has a fault, too.
-pub(crate) fn front(
-    bytes: &[u8],
-    size: PacketSize,
-    direction: Direction,
-) -> Option<PacketRef<'_>>
+pub(crate) fn front(bytes: &[u8], size: PacketSize, direction: Direction) -> Option<PacketRef<'_>>
     ensures lent { IfSome result (λ packet.
         IsFront direction size bytes.now packet.header packet.«data».now) }
     ensures none { IsNone result → IsLess (new_reader direction size) bytes.now }

@@ -19,9 +19,10 @@ use tds_world::RequestStatus;
 pub enum ClientStop {
     /// A packet's header has this fault (MS-TDS 2.2.3.1). Each later call answers it again.
     Packet(PacketFault),
-    /// The client refused a packet by this fault, and is broken. Each later call answers it again.
+    /// The client refused a packet by this fault, and is broken. Each later packet is answered by it.
     Client(ClientFault),
-    /// Memory was wanted. The packet is still to be taken, and the next call begins with it.
+    /// Memory was wanted. What stands behind `count`, or is held, is still to be taken: the next call
+    /// begins with it.
     NoMemory,
 }
 

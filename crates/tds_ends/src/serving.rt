@@ -18,9 +18,10 @@ use tds_session::Engine;
 pub enum ServerStop {
     /// A packet's header has this fault (MS-TDS 2.2.3.1). Each later call answers it again.
     Packet(PacketFault),
-    /// The server refused a packet by this fault, and is broken. Each later call answers it again.
+    /// The server refused a packet by this fault, and is broken. Each later packet is answered by it.
     Server(ServerFault),
-    /// Memory was wanted. The packet is still to be taken, and the next call begins with it.
+    /// Memory was wanted. What stands behind `count`, or is held, is still to be taken: the next call
+    /// begins with it.
     NoMemory,
 }
 

@@ -1,4 +1,4 @@
-use Rattle.std.proofs.Common.{◌≡◌, ◌∙◌, ◌+◌, ap, refl, sym, subst, drop, true, false, rules}
+use Rattle.std.proofs.Common.{◌≡◌, refl, subst, drop, true, false, rules}
 use Rattle.tds_client.specs.declared.state.Taken.TheVariants.{NoMemory}
 use Rattle.tds_packet.specs.declared.kind.Direction.TheVariants.{ToClient}
 use Rattle.tds_packet.specs.Stream.{IsLess}

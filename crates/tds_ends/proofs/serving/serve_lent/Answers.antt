@@ -1,4 +1,4 @@
-use Rattle.std.proofs.Common.{◌≡◌, ◌∙◌, ◌+◌, length, drop, ap, sym, subst, refl, true, false, Ok, rules, arith}
+use Rattle.std.proofs.Common.{◌≡◌, ◌∙◌, drop, ap, sym, subst, refl, true, false, Ok, rules, arith}
 use Rattle.tds_packet.specs.declared.kind.Direction.TheVariants.{ToServer}
 use Rattle.tds_packet.specs.Stream.{IsLess}
 use Rattle.tds_server.specs.declared.outcome.ServerTook.TheVariants.{NoMemory}

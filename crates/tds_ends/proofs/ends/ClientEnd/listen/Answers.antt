@@ -1,7 +1,5 @@
-use Rattle.std.proofs.Common.{rules, ◌≡◌, ◌≢◌, ◌+◌, length, true, false, inl, inr, [], refl, subst, ap}
+use Rattle.std.proofs.Common.{rules, ◌≡◌, ◌≢◌, ◌+◌, length, true, false, inl, inr, refl, subst, ap}
 use Rattle.tds_packet.specs.declared.kind.Direction.TheVariants.{ToClient}
-use Rattle.tds_ends.specs.AllBytes.{new_reader}
-use Rattle.tds_ends.specs.Ends.{client_fed_twice}
 use Rattle.tds_ends.specs.Lent.{LentToClient}
 use Rattle.tds_ends.proofs.Empty.{as_new, holds_none, is_absent, is_there}
 use Rattle.tds_ends.proofs.Feeding.{slice_rest}

@@ -1,6 +1,5 @@
-use Rattle.std.proofs.Common.{rules, ◌≡◌, ◌≢◌, length, true, false, inl, inr, [], refl, subst, ap}
+use Rattle.std.proofs.Common.{rules, ◌≡◌, ◌≢◌, length, true, false, inl, inr, refl, subst, ap}
 use Rattle.tds_packet.specs.declared.kind.Direction.TheVariants.{ToServer}
-use Rattle.tds_ends.specs.AllBytes.{new_reader}
 use Rattle.tds_ends.specs.Lent.{LentToServer}
 use Rattle.tds_session.specs.Answer.{answer_of}
 use Rattle.tds_ends.proofs.Empty.{as_new, holds_none, is_absent, is_there}
