@@ -1,5 +1,5 @@
 -- Two applications over one connection, worked out by the checker.
-use Rattle.std.proofs.Common.{◌≡◌, ℕ, suc, true, List, [], ◌∷◌, refl, arith}
+use Rattle.std.proofs.Common.{◌≡◌, ℕ, suc, true, List, [], ◌∷◌, refl}
 use Rattle.tds_token.specs.declared.env_change.EnvChange.TheVariants as changes
 use Rattle.tds_client.specs.declared.sign.DoneKind.TheVariants.{Statement}
 use Rattle.tds_client.specs.declared.sign.Sign.TheVariants as signs
@@ -9,12 +9,11 @@ use Rattle.tds_wire.specs.declared.told.Told.TheVariants as tells
 use Rattle.tds_service.specs.Parts as parts
 use Rattle.tds_service.specs.Parts.{Item, Part}
 use Rattle.tds_lawful.specs.Lawful.{Session}
-use Rattle.tds_relay.specs.Away.{IsAway}
 use Rattle.tds_relay.specs.Desk as desk
-use Rattle.tds_relay.specs.Desk.{Desk, Event, Turn, Way, find_key, holding, turn}
-use Rattle.tds_relay.specs.Promises.{comes_to_wait}
-use Rattle.tds_alone.specs.Serving.{Moment, Request, Server, World, answers_alone, but_news, fresh, new_world}
-use Rattle.tds_alone.specs.Alone.{AllOrderly, IsOrderly, IsSaid, asks, given}
+use Rattle.tds_relay.specs.Desk.{Event, Way, turn}
+use Rattle.tds_alone.specs.Serving.{Moment, Request, Server, answers_alone, but_news, fresh, new_world}
+use Rattle.tds_alone.specs.Alone.{AllOrderly, asks, given}
+use Rattle.tds_alone.proofs.Orderly.{orderly}
 
 -- ---- A server that counts the requests of a session
 
@@ -72,29 +71,6 @@ whole items = record { items = items; close = parts.Ends }
 abbrev pub piece : List (Item Token) → Part Token
 piece items = record { items = items; close = parts.Goes }
 
--- ---- Moments as they are supposed
-
-one_two : ◌≡◌ {A = ℕ} 1 2 → ⊥
-one_two e = let u : ⊥ = omega (arith, e) in u
-
-no_wait : (key : ℕ) (xs : List ℕ) → xs ≡ [] → xs ≡ key ∷ [] → ⊥
-no_wait key xs e f = let u : ⊥ = cc in u
-
--- nobody comes to wait
-pub plain : {key : ℕ} {w : World ℕ} {m : Moment ℕ} → comes_to_wait m.event ≡ [] → IsSaid key w m.event → IsOrderly key w m
-plain {key = key} {m = m} none said = record { waits = λ e. absurd (no_wait key (comes_to_wait m.event) none e); said = said }
-
--- another does
-pub one_waits : ◌≡◌ {A = List ℕ} (1 ∷ []) (2 ∷ []) → ⊥
-one_waits e = let same : ◌≡◌ {A = ℕ} 1 2 = cc in one_two same
-
-pub another : {key : ℕ} {w : World ℕ} {m : Moment ℕ} → (comes_to_wait m.event ≡ key ∷ [] → ⊥) → IsSaid key w m.event → IsOrderly key w m
-another other said = record { waits = λ e. absurd (other e); said = said }
-
--- it does itself
-pub waits : {key : ℕ} {w : World ℕ} {m : Moment ℕ} → IsAway key w.desk → IsSaid key w m.event → IsOrderly key w m
-waits none said = record { waits = λ e. none; said = said }
-
 -- ---- The first leaves in the middle of its second answer, and the second gets the connection
 
 abbrev play : List (Moment ℕ)
@@ -123,55 +99,8 @@ first_alone = refl
 
 second_is_orderly : AllOrderly turn 2 counter (new_world counter 1) play
 unfolding place_change place_done
-second_is_orderly = (
-  another one_waits tt,
-  (
-    plain refl tt,
-    (
-      plain refl tt,
-      (
-        waits (record { holds = refl; waits = refl }) tt,
-        (
-          plain refl tt,
-          (
-            plain refl (λ e r. absurd (let u : ⊥ = cc in u)),
-            (
-              plain refl tt,
-              (
-                plain refl tt,
-                (
-                  plain refl (λ e r. absurd (let u : ⊥ = cc in u)),
-                  (
-                    plain refl tt,
-                    (
-                      plain refl tt,
-                      (
-                        plain refl (λ e r. absurd (let u : ⊥ = cc in u)),
-                        (
-                          plain refl (λ e r. absurd (let u : ⊥ = cc in u)),
-                          (
-                            plain refl tt,
-                            (
-                              plain refl tt,
-                              (
-                                plain refl tt,
-                                (plain refl (λ e r. (done ∷ [], refl, tt)), (plain refl (λ e r. ([], refl, refl)), tt)),
-                              ),
-                            ),
-                          ),
-                        ),
-                      ),
-                    ),
-                  ),
-                ),
-              ),
-            ),
-          ),
-        ),
-      ),
-    ),
-  ),
-)
+second_is_orderly =
+    orderly turn 2 counter (new_world counter 1) play (record { holds = refl; waits = refl }, ((λ r. (done ∷ [], refl, tt)), ((λ r. ([], refl, refl)), tt)))
 
 -- ---- The second cancels in the middle of an answer, and goes on in the session that is left
 
@@ -190,28 +119,8 @@ cancelled_alone = refl
 
 cancelled_orderly : AllOrderly turn 2 counter (new_world counter 1) cancelled
 unfolding place_change place_done
-cancelled_orderly = (
-  waits (record { holds = refl; waits = refl }) tt,
-  (
-    plain refl tt,
-    (
-      plain refl tt,
-      (
-        plain refl tt,
-        (
-          plain refl (λ e r. (done ∷ [], refl, tt)),
-          (
-            plain refl tt,
-            (
-              plain refl (λ e r. tt),
-              (plain refl tt, (plain refl tt, (plain refl (λ e r. ([], refl, refl)), tt))),
-            ),
-          ),
-        ),
-      ),
-    ),
-  ),
-)
+cancelled_orderly =
+    orderly turn 2 counter (new_world counter 1) cancelled (record { holds = refl; waits = refl }, ((λ r. (done ∷ [], refl, tt)), ((λ r. tt), ((λ r. ([], refl, refl)), tt))))
 
 -- ---- The connection of the second is lost amid its answer, and whoever has its number next begins anew
 
@@ -230,25 +139,8 @@ lost_alone = refl
 
 lost_orderly : AllOrderly turn 2 counter (new_world counter 1) lost
 unfolding place_change place_done
-lost_orderly = (
-  waits (record { holds = refl; waits = refl }) tt,
-  (
-    plain refl tt,
-    (
-      plain refl tt,
-      (
-        plain refl tt,
-        (
-          plain refl (λ e r. (done ∷ [], refl, tt)),
-          (
-            plain refl tt,
-            (waits (record { holds = refl; waits = refl }) tt, (plain refl tt, (plain refl tt, (plain refl tt, (plain refl (λ e r. ([], refl, refl)), tt))))),
-          ),
-        ),
-      ),
-    ),
-  ),
-)
+lost_orderly =
+    orderly turn 2 counter (new_world counter 1) lost (record { holds = refl; waits = refl }, ((λ r. (done ∷ [], refl, tt)), (record { holds = refl; waits = refl }, ((λ r. ([], refl, refl)), tt))))
 
 -- ---- One keeps its transaction over its own reset, which sets all else anew
 
@@ -276,28 +168,5 @@ kept_alone = refl
 
 kept_orderly : AllOrderly turn 2 counter_late (new_world counter_late 1) kept
 unfolding place_change place_done
-kept_orderly = (
-  waits (record { holds = refl; waits = refl }) tt,
-  (
-    plain refl tt,
-    (
-      plain refl tt,
-      (
-        plain refl tt,
-        (
-          plain refl (λ e r. ([], refl, refl)),
-          (
-            plain refl tt,
-            (
-              plain refl tt,
-              (
-                plain refl tt,
-                (plain refl (λ e r. ([], refl, refl)), tt),
-              ),
-            ),
-          ),
-        ),
-      ),
-    ),
-  ),
-)
+kept_orderly =
+    orderly turn 2 counter_late (new_world counter_late 1) kept (record { holds = refl; waits = refl }, ((λ r. ([], refl, refl)), ((λ r. ([], refl, refl)), tt)))

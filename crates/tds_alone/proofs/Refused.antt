@@ -9,7 +9,8 @@ use Rattle.tds_relay.specs.Desk as desk
 use Rattle.tds_relay.specs.Desk.{Desk, Event, Turn, find_key, holding, moves, rests, turn, without_lease}
 use Rattle.tds_alone.specs.Serving.{Moment, answers_alone, fresh, new_world, world_after}
 use Rattle.tds_alone.specs.Alone.{AllOrderly, AsIfAlone, asks, given, underway}
-use Rattle.tds_alone.proofs.Examples.{another, at, counter, done, one_waits, plain, row, waits, way, whole}
+use Rattle.tds_alone.proofs.Orderly.{orderly}
+use Rattle.tds_alone.proofs.Examples.{at, counter, done, row, way, whole}
 
 numbers_differ : (xs ys : List (Item Token)) (m n : ℕ) (rest : List (Item Token)) → xs ≡ row m ∷ rest → ys ≡ row n ∷ rest → (m ≡ n → ⊥) → xs ≡ ys → ⊥
 numbers_differ xs ys m n rest e f never same =
@@ -34,31 +35,8 @@ handed_on =
 
 handed_on_orderly : AllOrderly hands_on 2 counter (new_world counter 1) handed_on
 unfolding place_change place_done
-handed_on_orderly = (
-  another one_waits tt,
-  (
-    plain refl tt,
-    (
-      plain refl tt,
-      (
-        plain refl tt,
-        (
-          plain refl (λ e r. absurd (let u : ⊥ = cc in u)),
-          (
-            waits (record { holds = refl; waits = refl }) tt,
-            (
-              plain refl tt,
-              (
-                plain refl tt,
-                (plain refl tt, (plain refl (λ e r. ([], refl, refl)), tt)),
-              ),
-            ),
-          ),
-        ),
-      ),
-    ),
-  ),
-)
+handed_on_orderly =
+    orderly hands_on 2 counter (new_world counter 1) handed_on (record { holds = refl; waits = refl }, ((λ r. ([], refl, refl)), tt))
 
 handed_on_given : given hands_on 2 counter (new_world counter 1) handed_on ++ underway 2 (world_after hands_on counter (new_world counter 1) handed_on) ≡ row 1 ∷ done ∷ []
 unfolding place_change place_done
@@ -89,22 +67,8 @@ taken_over =
 
 taken_over_orderly : AllOrderly takes_over 2 counter (new_world counter 1) taken_over
 unfolding place_change place_done
-taken_over_orderly = (
-  another one_waits tt,
-  (
-    plain refl tt,
-    (
-      plain refl tt,
-      (
-        plain refl tt,
-        (
-          waits (record { holds = refl; waits = refl }) tt,
-          (plain refl (λ e r. ([], refl, refl)), tt),
-        ),
-      ),
-    ),
-  ),
-)
+taken_over_orderly =
+    orderly takes_over 2 counter (new_world counter 1) taken_over (record { holds = refl; waits = refl }, ((λ r. ([], refl, refl)), tt))
 
 taken_over_given : given takes_over 2 counter (new_world counter 1) taken_over ++ underway 2 (world_after takes_over counter (new_world counter 1) taken_over) ≡ row 0 ∷ done ∷ []
 unfolding place_change place_done
@@ -132,7 +96,7 @@ kept_back = at (desk.Waits 1) ∷ at desk.Serves ∷ at (desk.Does 1 desk.Asks) 
 
 kept_back_orderly : AllOrderly keeps_back 1 counter (new_world counter 1) kept_back
 kept_back_orderly =
-    (waits (record { holds = refl; waits = refl }) tt, (plain refl tt, (plain refl tt, (plain refl tt, tt))))
+    orderly keeps_back 1 counter (new_world counter 1) kept_back (record { holds = refl; waits = refl }, tt)
 
 kept_back_given : given keeps_back 1 counter (new_world counter 1) kept_back ++ underway 1 (world_after keeps_back counter (new_world counter 1) kept_back) ≡ []
 kept_back_given = refl

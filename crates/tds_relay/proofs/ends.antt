@@ -9,4 +9,5 @@ pub mod Outs
 pub mod Standing
 pub mod Stopping
 pub mod Telling
+pub mod Turning
 pub mod Tying

@@ -33,7 +33,8 @@ use Rattle.tds_relay.proofs.ends.Standing.{Standing, ends_stand, puts_stand}
 use Rattle.tds_relay.proofs.ends.Stopping.{Known, Told, hears_lawful}
 use Rattle.tds_relay.proofs.ends.Feeding.{fed_lawful}
 use Rattle.tds_relay.proofs.ends.Ending.{whose_by, end_by, end_behind_is, passes_by}
-use Rattle.tds_relay.proofs.ends.Moving.{Judges, LeavesBy, StepOf, StoryOf, left_of}
+use Rattle.tds_relay.proofs.ends.Turning.{StepOf, StoryOf}
+use Rattle.tds_relay.proofs.ends.Moving.{Judges, LeavesBy, left_of}
 
 -- ---- Events and calls, one behind the other
 

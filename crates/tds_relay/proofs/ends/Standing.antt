@@ -14,7 +14,7 @@ use Rattle.tds_service.specs.Service.{Leased, Seat, Service, has_number, seat_nu
 use Rattle.tds_service.specs.Ties.{sent_in}
 use Rattle.tds_relay.specs.declared.desk.Hold.{Hold}
 use Rattle.tds_relay.specs.Desk as desk
-use Rattle.tds_relay.specs.Desk.{Deed, Desk, Event, Hearing, Turn, Way, find_key, find_lease, find_number, key_of, turn, whose}
+use Rattle.tds_relay.specs.Desk.{Deed, Desk, Event, Turn, Way, find_lease, find_number, key_of, turn, whose}
 use Rattle.tds_relay.specs.Behind.{gone_on}
 use Rattle.tds_relay.specs.Hall.{IsBegun, IsHere, IsWhole, holder, sent_by}
 use Rattle.tds_relay.specs.Promises.{CaresFor, Each, IsCaredFor}
@@ -28,7 +28,7 @@ use Rattle.tds_relay.proofs.held.Sitting.{Sits}
 use Rattle.tds_relay.proofs.held.Sparing.{remains}
 use Rattle.tds_relay.proofs.held.Others.{Its, IsOthers, Passes, held, key_is, number_is, passes}
 use Rattle.tds_relay.proofs.held.Ours.{Gone, Ours, acts_done, deeds, deeds_none, leaves_gone, loses_gone, own_whose, with_line}
-use Rattle.tds_relay.proofs.held.Kept.{IsLent, Renewed, Rests, Lends, Goes, renewed}
+use Rattle.tds_relay.proofs.held.Kept.{IsLent, Renewed, Rests, Lends, Goes, relent_lent, renewed}
 use Rattle.tds_relay.proofs.held.Away.{IsAbsent, WaitsOnce, away, gone_absent}
 use Rattle.tds_relay.proofs.ends.Outs.{out_after}
 use Rattle.tds_relay.proofs.ends.Leading.{Leads, leads_nothing}
@@ -271,13 +271,13 @@ module _ (d : Desk) (key : ℕ) (outs outs2 : ℕ → Bool) (sound : Sound d) (s
   -- it keeps its connection
   renewed_stands : (resumes : Bool) (stage : Stage) (w : Bool) (p : Place) (k : Holds outs d key stage w p) → Renewed d key k.hold k.seat resumes → Leaves (desk.Renews key resumes)
       → Standing outs2 (turn d (desk.Renews key resumes)).desk key stage w p
-  renewed_stands resumes stage w p k (Rests is) leaves =
+  renewed_stands resumes stage w p k (Rests none is) leaves =
       let out : outs2 k.hold.number ≡ outs k.hold.number = leaves k.hold.number ∙ ap (λ (t : Turn). out_after (outs k.hold.number) (on k.hold.number (steps d.service t.calls))) is in
       let same : Holds outs2 d key stage w p = record { hold = k.hold; seat = k.seat; its = k.its; tied = subst (λ (o : Bool). Tied stage w p k.seat.line.stage o) (sym out) k.tied } in
       inl (subst (λ (t : Turn). Holds outs2 t.desk key stage w p) (sym is) same)
-  renewed_stands resumes stage w p k (Lends idle lent) leaves =
-      lent_stands outs2 (turn d (desk.Renews key resumes)).desk key stage w p (rests k.seat.line.stage stage w p (outs k.hold.number) idle k.tied) (inl lent)
-  renewed_stands resumes stage w p k (Goes idle gone) leaves =
+  renewed_stands resumes stage w p k (Lends ticket some given idle lent) leaves =
+      lent_stands outs2 (turn d (desk.Renews key resumes)).desk key stage w p (rests k.seat.line.stage stage w p (outs k.hold.number) idle k.tied) (inl (relent_lent d key k.hold k.seat resumes idle lent))
+  renewed_stands resumes stage w p k (Goes ticket some given idle gone) leaves =
       inr (record { absent = gone_absent key (turn d (desk.Renews key resumes)).desk gone; rests = rests k.seat.line.stage stage w p (outs k.hold.number) idle k.tied })
 
   pub renews_stand : (resumes : Bool) (stage : Stage) (w : Bool) (p : Place) → Standing outs d key stage w p → Leaves (desk.Renews key resumes) → Standing outs2 (turn d (desk.Renews key resumes)).desk key stage w p

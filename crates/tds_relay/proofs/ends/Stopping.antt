@@ -11,12 +11,12 @@ use Rattle.tds_front.specs.declared.stage.Stage.{Stage}
 use Rattle.tds_front.specs.declared.stage.Stage.TheVariants as stages
 use Rattle.tds_front.specs.Passing.{Event as Passed, EndsWhole, behind}
 use Rattle.tds_front.specs.Serving as serving
-use Rattle.tds_front.specs.Serving.{Place, Ready, Executing, IsLawful, behind_brought}
+use Rattle.tds_front.specs.Serving.{Place, Ready, IsLawful, behind_brought}
 use Rattle.tds_service.specs.Line as line
-use Rattle.tds_service.specs.Line.{Act, Line, turn as turning}
+use Rattle.tds_service.specs.Line.{turn as turning}
 use Rattle.tds_service.specs.History.{Done, history, line_after, done_by as done_so}
 use Rattle.tds_service.specs.Parts.{Part, is_end}
-use Rattle.tds_service.specs.Service.{Seat, seat_numbered, on, steps}
+use Rattle.tds_service.specs.Service.{Seat, seat_numbered, on}
 use Rattle.tds_relay.specs.Desk as desk
 use Rattle.tds_relay.specs.Desk.{Deed, Desk, Event, Hearing, Turn, Way, find_key, hearing_of, moves, turn, whose}
 use Rattle.tds_relay.specs.Behind.{said_by, said_in, unless_withdrawn}
@@ -28,7 +28,7 @@ use Rattle.tds_relay.proofs.held.Seated.{AllSit}
 use Rattle.tds_relay.proofs.held.Sparing.{remains}
 use Rattle.tds_relay.proofs.held.Others.{Its, IsOthers, Passes, found, number_is, passes}
 use Rattle.tds_relay.proofs.held.Ours.{Gone, Ours, acts_done, came_done, deeds, heard_of, hears_right, hears_wrong, leaves_gone, loses_gone, with_came, with_line}
-use Rattle.tds_relay.proofs.held.Kept.{Renewed, Rests, Lends, Goes, renewed}
+use Rattle.tds_relay.proofs.held.Kept.{Renewed, Rests, Lends, Goes, relent, renewed}
 use Rattle.tds_relay.proofs.held.Away.{WaitsOnce, away, gone_absent}
 use Rattle.tds_relay.proofs.ends.Outs.{HeardAs, Breaks, ReadsOn, ReadsEnd, SkipsOn, SkipsEnd, heard_as, out_after, out_by}
 use Rattle.tds_relay.proofs.ends.Leading.{ForgetsFrom, IsGone}
@@ -85,9 +85,9 @@ module _ (d : Desk) (key : ℕ) (sound : Sound d) (sit : AllSit d) where
   waits_then k other false e w = others_then k (desk.Waits other) e
 
   renewed_then : (k : HoldsOne key d) (resumes : Bool) → Renewed d key k.hold k.seat resumes → Then (desk.Renews key resumes)
-  renewed_then k resumes (Rests is) = inl (record { hold = k.hold; seat = k.seat; its = subst (λ (t : Turn). Its t.desk key k.hold k.seat) (sym is) k.its })
-  renewed_then k resumes (Lends idle lent) = inl (record { hold = lent.hold; seat = lent.seat; its = lent.its })
-  renewed_then k resumes (Goes idle gone) = gone_then (desk.Renews key resumes) gone
+  renewed_then k resumes (Rests none is) = inl (record { hold = k.hold; seat = k.seat; its = subst (λ (t : Turn). Its t.desk key k.hold k.seat) (sym is) k.its })
+  renewed_then k resumes (Lends ticket some given idle lent) = inl (record { hold = desk.holding k.hold.key lent.lease k.seat.number; seat = relent lent.lease k.seat; its = lent.its })
+  renewed_then k resumes (Goes ticket some given idle gone) = gone_then (desk.Renews key resumes) gone
 
   does_then : (k : HoldsOne key d) (other : ℕ) (deed : Deed) (b : Bool) → (other == key) ≡ b → Then (desk.Does other deed)
   does_then k other deed true e =

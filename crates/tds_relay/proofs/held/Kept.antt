@@ -6,21 +6,22 @@ use Rattle.tds_packet.specs.declared.status.Reset.TheVariants.{KeepTransaction}
 use Rattle.tds_wire.specs.declared.told.Token.{Token}
 use Rattle.tds_service.specs.Line as line
 use Rattle.tds_service.specs.Line.{Line, Stage}
-use Rattle.tds_service.specs.History.{line_after}
+use Rattle.tds_service.specs.History.{history, line_after}
 use Rattle.tds_service.specs.Service as calls
-use Rattle.tds_service.specs.Service.{Service, Step, Call, Place, Leased, Cleaning, Kept, Free, Draining, Seat, find_by, change_by, has_lease, has_ticket, has_number, is_idle, is_open, keeps, may_keep, seat_numbered, step, does, nothing}
+use Rattle.tds_service.specs.Service.{Step, Call, Place, Leased, Cleaning, Kept, Free, Draining, Seat, find_by, change_by, has_lease, has_ticket, has_number, is_idle, is_open, keeps, may_keep, seat_numbered, on, on_one, step, steps, does, nothing}
 use Rattle.tds_service.proofs.Numbered.{change_here, change_other, is_found}
 use Rattle.tds_relay.specs.declared.desk.Hold.{Hold}
 use Rattle.tds_relay.specs.Desk as desk
-use Rattle.tds_relay.specs.Desk.{Desk, Event, Turn, find_key, holding, lent_in, moves, ticket_in, turn, without_lease, without_number}
+use Rattle.tds_relay.specs.Desk.{Desk, Turn, holding, lent_in, moves, ticket_in, turn, without_lease, without_number}
 use Rattle.tds_relay.specs.Promises.{CaresFor, IsCaredFor}
 use Rattle.tds_relay.proofs.promises.Seats.{Distinct, each_found, found_meets, found_other}
 use Rattle.tds_relay.proofs.promises.Tidy.{step_rises}
 use Rattle.tds_relay.proofs.promises.Renewing.{idle_is}
 use Rattle.tds_relay.proofs.promises.Caring.{Sound}
 use Rattle.tds_relay.proofs.held.Lists.{theirs, theirs_left, theirs_one}
+use Rattle.tds_relay.proofs.held.Sparing.{none_on}
 use Rattle.tds_relay.proofs.held.Others.{Its, found, key_is}
-use Rattle.tds_relay.proofs.held.Ours.{Gone, by_lease, not_same, same_number}
+use Rattle.tds_relay.proofs.held.Ours.{Gone, append_done, by_lease, not_same, on_here, same_number}
 
 and_first : (a b : Bool) → (a && b) ≡ true → a ≡ true
 and_first true b e = refl
@@ -65,7 +66,7 @@ ticket_of d ticket h c (Some x) sound by distinct e =
     ticket_by d ticket h c x (c.number == x.number) sound by refl (found_meets (has_ticket ticket) x (change_by (has_lease h.lease) (Some (Kept ticket)) c.line d.service.seats) e)
     (is_found (has_ticket ticket) x (change_by (has_lease h.lease) (Some (Kept ticket)) c.line d.service.seats) distinct e)
 
-marked_idle : (l : Line) → l.stage ≡ line.Idle → (line_after {T = Token} l (line.Mark KeepTransaction ∷ [])).stage ≡ line.Idle
+pub marked_idle : (l : Line) → l.stage ≡ line.Idle → (line_after {T = Token} l (line.Mark KeepTransaction ∷ [])).stage ≡ line.Idle
 marked_idle l is = ap (λ (st : Stage). (line.marks {T = Token} l KeepTransaction st).line.stage) is ∙ is
 
 -- ---- What comes of it
@@ -77,12 +78,27 @@ pub record IsLent (key : ℕ) (d : Desk) : Type 0 where
   pub its : Its d key hold seat
   pub idle : seat.line.stage ≡ line.Idle
 
+abbrev pub relent : ℕ → Seat → Seat
+relent lease c = record { number = c.number; place = Leased lease; line = line_after {T = Token} c.line (line.Mark KeepTransaction ∷ []) }
+
+-- It holds the one that it held, by another lease. That is marked, and nothing else is done there.
+pub record IsRelent (d : Desk) (key : ℕ) (h : Hold) (c : Seat) (resumes : Bool) : Type 0 where
+  pub lease : ℕ
+  pub its : Its (turn d (desk.Renews key resumes)).desk key (holding h.key lease c.number) (relent lease c)
+  pub out : on c.number (steps d.service (turn d (desk.Renews key resumes)).calls) ≡ history {T = Token} c.line (line.Mark KeepTransaction ∷ [])
+
+pub relent_lent : (d : Desk) (key : ℕ) (h : Hold) (c : Seat) (resumes : Bool) → c.line.stage ≡ line.Idle → IsRelent d key h c resumes → IsLent key (turn d (desk.Renews key resumes)).desk
+relent_lent d key h c resumes idle r = record { hold = holding h.key r.lease c.number; seat = relent r.lease c; its = r.its; idle = marked_idle c.line idle }
+
+abbrev pub ticket_for : Desk → Hold → Option ℕ
+ticket_for d h = ticket_in (step {T = Token} d.service (calls.Keep h.lease)).reply
+
 pub data Renewed (d : Desk) (key : ℕ) (h : Hold) (c : Seat) (resumes : Bool) : Type 0 where
   -- nothing is done
-  Rests : turn d (desk.Renews key resumes) ≡ desk.rests d → Renewed d key h c resumes
-  -- it was idle, and is; or it is gone
-  Lends : c.line.stage ≡ line.Idle → IsLent key (turn d (desk.Renews key resumes)).desk → Renewed d key h c resumes
-  Goes : c.line.stage ≡ line.Idle → Gone key (turn d (desk.Renews key resumes)).desk → Renewed d key h c resumes
+  Rests : ticket_for d h ≡ None → turn d (desk.Renews key resumes) ≡ desk.rests d → Renewed d key h c resumes
+  -- it was idle, and is; or, where memory is refused to it, it is gone
+  Lends : (ticket : ℕ) → ticket_for d h ≡ Some ticket → resumes ≡ true → c.line.stage ≡ line.Idle → IsRelent d key h c resumes → Renewed d key h c resumes
+  Goes : (ticket : ℕ) → ticket_for d h ≡ Some ticket → resumes ≡ false → c.line.stage ≡ line.Idle → Gone key (turn d (desk.Renews key resumes)).desk → Renewed d key h c resumes
 
 module _ (d : Desk) (key : ℕ) (h : Hold) (c : Seat) (sound : Sound d) (its : Its d key h c) where
   unkept : (resumes : Bool) → may_keep c ≡ false → Renewed d key h c resumes
@@ -91,7 +107,7 @@ module _ (d : Desk) (key : ℕ) (h : Hold) (c : Seat) (sound : Sound d) (its : I
       let f = found d key h c sound its in
       let kept = step {T = Token} d.service (calls.Keep h.lease) in
       let none : ticket_in kept.reply ≡ None = rw (by, may) refl in
-      Rests (ap (λ (x : Option Hold). desk.renews d resumes x) f ∙ ap (λ (x : Option ℕ). desk.keeps_by d h resumes kept.service x) none)
+      Rests none (ap (λ (x : Option Hold). desk.renews d resumes x) f ∙ ap (λ (x : Option ℕ). desk.keeps_by d h resumes kept.service x) none)
 
   kept : may_keep c ≡ true → Renewed d key h c true
   kept may =
@@ -118,7 +134,7 @@ module _ (d : Desk) (key : ℕ) (h : Hold) (c : Seat) (sound : Sound d) (its : I
       let all : List (Call Token) = calls.Keep h.lease ∷ calls.Resume ticket ∷ [] in
       let t : turn d (desk.Renews key true) ≡ moves d more d.line all = ap (λ (x : Option Hold). desk.renews d true x) f
       ∙ ap (λ (x : Step Token). desk.keeps_by d h true x.service (ticket_in x.reply)) keeping ∙ ap (λ (x : Step Token). desk.renews_by d h ticket (lent_in x.reply) true) resuming in
-      let c2 : Seat = record { number = c.number; place = Leased lease; line = l2 } in
+      let c2 : Seat = relent lease c in
       let there : seat_numbered c.number resume2.service.seats ≡ Some c2 = change_here (has_ticket ticket) c1 (Leased lease) l2 s1.seats distinct found1 in
       let there2 : seat_numbered c.number (moves d more d.line all).desk.service.seats ≡ Some c2 =
       ap (λ (x : Step Token). seat_numbered c.number (step {T = Token} x.service (calls.Resume ticket)).service.seats) keeping
@@ -127,7 +143,12 @@ module _ (d : Desk) (key : ℕ) (h : Hold) (c : Seat) (sound : Sound d) (its : I
       let sole : theirs key more ≡ h2 ∷ [] =
       theirs_one key h2 (without_lease h.lease d.holds) (theirs_left key h (λ (x : Hold). not (x.lease == h.lease)) d.holds its.sole (not_same h.lease)) yes in
       let its2 : Its (turn d (desk.Renews key true)).desk key h2 c2 = subst (λ (x : Turn). Its x.desk key h2 c2) (sym t) (record { sole = sole; there = there2; lent = refl; line = its.line }) in
-      Lends idle (record { hold = h2; seat = c2; its = its2; idle = marked_idle c.line idle })
+      let done = history {T = Token} c.line (line.Mark KeepTransaction ∷ []) in
+      let out : on c.number (steps d.service (turn d (desk.Renews key true)).calls) ≡ done = ap (λ (x : Turn). on c.number (steps d.service x.calls)) t
+      ∙ ap (λ (x : Step Token). on_one (x.number == c.number) x.dones (on_one ((step {T = Token} x.service (calls.Resume ticket)).number == c.number) (step {T = Token} x.service (calls.Resume ticket)).dones [])) keeping
+      ∙ ap (λ (x : Step Token). on_one (c.number == c.number) [] (on_one (x.number == c.number) x.dones [])) resuming
+      ∙ none_on (c.number == c.number) (on_one (c.number == c.number) done []) ∙ on_here (c.number == c.number) done (same_number c.number) ∙ append_done done in
+      Lends ticket (ap (λ (x : Step Token). ticket_in x.reply) keeping) refl idle (record { lease = lease; its = its2; out = out })
 
   -- where memory is refused to it, it's closed
   refused : may_keep c ≡ true → Renewed d key h c false
@@ -140,7 +161,7 @@ module _ (d : Desk) (key : ℕ) (h : Hold) (c : Seat) (sound : Sound d) (its : I
       let t2 : Turn = moves d (without_number h.number d.holds) d.line (calls.Keep h.lease ∷ calls.Lost h.number ∷ []) in
       let t : turn d (desk.Renews key false) ≡ t2 = ap (λ (x : Option Hold). desk.renews d false x) f ∙ ap (λ (x : Option ℕ). desk.keeps_by d h false keep.service x) some in
       let gone : Gone key t2.desk = record { holds = theirs_left key h (λ (x : Hold). not (x.number == h.number)) d.holds its.sole (not_same h.number); waits = its.line } in
-      Goes (may_idle c may) (subst (λ (x : Turn). Gone key x.desk) (sym t) gone)
+      Goes ticket some refl (may_idle c may) (subst (λ (x : Turn). Gone key x.desk) (sym t) gone)
 
   by : (resumes b : Bool) → may_keep c ≡ b → Renewed d key h c resumes
   by resumes false may = unkept resumes may

@@ -88,11 +88,11 @@ deed_step d h c desk.Stops e = rw e refl
 abbrev pub with_line : Seat → Line → Seat
 with_line c l = record { number = c.number; place = c.place; line = l }
 
-on_here : (b : Bool) (ds : List (Done Token)) → b ≡ true → on_one b ds [] ≡ ds ++ []
+pub on_here : (b : Bool) (ds : List (Done Token)) → b ≡ true → on_one b ds [] ≡ ds ++ []
 on_here true ds e = refl
 on_here false ds e = absurd (let u : ⊥ = cc in u)
 
-append_done : (ds : List (Done Token)) → ds ++ [] ≡ ds
+pub append_done : (ds : List (Done Token)) → ds ++ [] ≡ ds
 append_done [] = refl
 append_done (d ∷ ds) = ap (λ (x : List (Done Token)). d ∷ x) (append_done ds)
 

@@ -1,8 +1,6 @@
 -- How the ends of applications move.
-use Rattle.std.proofs.Common.{◌≡◌, ◌∙◌, ◌++◌, ℕ, zero, suc, Bool, false, List, [], ◌∷◌, Option, Some, None, refl, sym, ap, subst, map, slice_set, option_map}
-use Rattle.std.proofs.lemmas.List.{map-set, set-get_or}
-use Rattle.std.proofs.Math.Seq.{map-set_same}
-use Rattle.std.proofs.Math.ListN.{get_or-map}
+use Rattle.std.proofs.Common.{◌≡◌, ◌∙◌, ◌++◌, ℕ, zero, suc, Bool, false, List, [], ◌∷◌, Option, Some, None, refl, sym, ap, subst, slice_set, option_map}
+use Rattle.std.proofs.lemmas.List.{set-get_or}
 use Rattle.slab.specs.Slab.{Slab, Updates, get, with_value}
 use Rattle.std.specs.Prelude.{Result, Ok, Err, OnOk, OnSome, IfNone}
 use Rattle.tds_front.specs.declared.stage.Stage.{Stage}
@@ -15,34 +13,31 @@ use Rattle.tds_relay.specs.declared.application.Application.{Application}
 use Rattle.tds_relay.specs.declared.desk.coming.Heard.{Heard}
 use Rattle.tds_relay.specs.declared.desk.coming.What.{What}
 use Rattle.tds_relay.specs.Desk as desk
-use Rattle.tds_relay.specs.Desk.{Desk, Event, Way, desk_after, turn}
+use Rattle.tds_relay.specs.Desk.{Desk, Event, Way, turn}
 use Rattle.tds_relay.specs.Fronts.{IsWhat, LetsGoFirst, Moved, MovedOn, end_of, ends_in, hall_of_ends, told_by}
 use Rattle.tds_relay.specs.Hall.{CausesMove, Closes, Does, End, Ends, Hall, HasEntered, IfOpen, IfWhose, IsHere, IsQuiet, LetsGo, Loses, MayDoAlone, MayMove, MayMoveAll, Move, Moves, Open, Replaces, change_end, change_whose, closes, end_at, holder, lets_go, moved, moved_all, told, what_in, what_of}
 use Rattle.tds_relay.specs.Promises.{Each}
 use Rattle.tds_relay.specs.Ties as causes
 use Rattle.tds_relay.specs.Ties.{Cause, Causes, Turns}
+use Rattle.tds_relay.proofs.steps.Seen.{seen_changed, seen_is, seen_kept, seen_new, seen_nobody, seen_others, seen_quit}
 
 -- ---- The ends of all, where one of them changes
 
 -- an application is written back whose end is as it was
 pub ends_kept : (s : Slab Application) (key : ℕ) (a b : Application) → Some a ≡ get s key → end_of b ≡ end_of a → ends_in (with_value s key b) ≡ ends_in s
-ends_kept s key a b is same = map-set_same (option_map end_of) s.slots key (Some b) None (ap Some same ∙ ap (option_map end_of) is)
+ends_kept s key a b is same = seen_kept end_of s key a b is same
 
 -- one's is what its slot has
 pub end_is : (s : Slab Application) (key : ℕ) → end_at (ends_in s) key ≡ option_map end_of (get s key)
-end_is s key = get_or-map (option_map end_of) s.slots key None
+end_is s key = seen_is end_of s key
 
 -- of one that isn't there none moves
 pub ends_nobody : (s : Slab Application) (key : ℕ) (by : End → End) → get s key ≡ None → ends_in s ≡ change_end key by (ends_in s)
-ends_nobody s key by none =
-    let absent : end_at (ends_in s) key ≡ None = end_is s key ∙ ap (option_map end_of) none in
-    sym (ap (λ (o : Option End). slice_set (ends_in s) key o) (ap (option_map by) absent ∙ sym absent) ∙ set-get_or (ends_in s) key None)
+ends_nobody s key by none = sym (seen_nobody end_of s key by none)
 
 -- one is written back whose end has moved
 pub ends_moved : (s : Slab Application) (key : ℕ) (a b : Application) (by : End → End) → Some a ≡ get s key → end_of b ≡ by (end_of a) → ends_in (with_value s key b) ≡ change_end key by (ends_in s)
-ends_moved s key a b by is moves =
-    map-set (option_map end_of) s.slots key (Some b)
-    ∙ ap (λ (o : Option End). slice_set (ends_in s) key o) (ap Some moves ∙ sym (ap (option_map by) (end_is s key ∙ ap (option_map end_of) (sym is))))
+ends_moved s key a b by is moves = seen_changed end_of s key a b by is moves
 
 -- the same behind two steps; or what it is behind the first
 pub ends_more : {A E : Type 0} (r : Result A E) (p q s : Ends) → OnOk r (p ≡ q) → q ≡ s → OnOk r (p ≡ s)
@@ -52,18 +47,15 @@ ends_more (Err e) p q s h k = tt
 -- an application is there no more
 pub ends_quit : (s s1 : Slab Application) (key : ℕ) (r : Option Application) → r ≡ get s key → OnSome r (s1.slots ≡ slice_set s.slots key None) → IfNone r (s1 ≡ s)
     → ends_in s1 ≡ slice_set (ends_in s) key None
-ends_quit s s1 key (Some a) is slots absent = ap (map (option_map end_of)) slots ∙ map-set (option_map end_of) s.slots key None
-ends_quit s s1 key None is slots absent =
-    let none : end_at (ends_in s) key ≡ None = end_is s key ∙ ap (option_map end_of) (sym is) in
-    ap ends_in absent ∙ sym (set-get_or (ends_in s) key None) ∙ ap (λ (o : Option End). slice_set (ends_in s) key o) none
+ends_quit s s1 key r is slots absent = seen_quit end_of s s1 key r is slots absent
 
 -- an application has come
 pub ends_entered : (s s1 : Slab Application) (size key : ℕ) (a : Application) → get s key ≡ None → Updates s s1 key (Some a) → end_of a ≡ Open (new_front size) false → HasEntered key (ends_in s) (ends_in s1)
 ends_entered s s1 size key a none updates is = record {
   was_free = end_is s key ∙ ap (option_map end_of) none;
   size = size;
-  begins = end_is s1 key ∙ ap (option_map end_of) updates.changed ∙ ap Some is;
-  others_stay = λ other apart. end_is s1 other ∙ ap (option_map end_of) (updates.others other apart) ∙ sym (end_is s other);
+  begins = seen_new end_of s s1 key a updates ∙ ap Some is;
+  others_stay = λ other apart. seen_others end_of s s1 key other a updates apart;
 }
 
 -- ---- One end that changes

@@ -16,7 +16,8 @@ use Rattle.tds_relay.proofs.ends.Ending.{end_behind_is, passes_by}
 use Rattle.tds_relay.proofs.ends.Folding.{Alone, ByHistory, IsAt, append_more, known_at, leaves_at, next_at, outs_of, passes_is, sits_at, sound_at, stays_there, step_story}
 use Rattle.tds_relay.proofs.ends.Fronting.{out_of}
 use Rattle.tds_relay.proofs.ends.Leading.{Leads}
-use Rattle.tds_relay.proofs.ends.Moving.{StepOf, StoryOf, step}
+use Rattle.tds_relay.proofs.ends.Turning.{StepOf, StoryOf}
+use Rattle.tds_relay.proofs.ends.Moving.{step}
 use Rattle.tds_relay.proofs.held.Ours.{Gone}
 use Rattle.tds_relay.proofs.ends.Standing.{Standing}
 

@@ -1,0 +1,254 @@
+-- An application's end and what it holds at the desk, behind one event there: its own, or another's.
+use Rattle.std.proofs.Common.{◌≡◌, ◌∙◌, ◌==◌, ℕ, Bool, true, false, List, [], ◌∷◌, refl, sym, ap, subst, inl, inr}
+use Rattle.std.specs.Prelude.{Option, Some, None, not, if◌then◌else◌, option_map}
+use Rattle.std.proofs.lemmas.Bool.{eqb-true, eq-eqb}
+use Rattle.tds_wire.specs.declared.told.Token.{Token}
+use Rattle.tds_front.specs.declared.front.Front.{Front}
+use Rattle.tds_front.specs.declared.stage.Stage.TheVariants as stages
+use Rattle.tds_front.specs.Passing.{Event as Passed}
+use Rattle.tds_front.specs.Serving.{Place, Ready}
+use Rattle.tds_service.specs.Line.{Packet}
+use Rattle.tds_service.specs.Parts.{Part}
+use Rattle.tds_service.specs.Service.{on}
+use Rattle.tds_relay.specs.Desk as desk
+use Rattle.tds_relay.specs.Desk.{Deed, Desk, Event, Way, find_key, turn, whose}
+use Rattle.tds_relay.specs.Behind.{gone_on, if_open, if_whose, said_in, unless_withdrawn}
+use Rattle.tds_relay.specs.Hall.{End, Open, Over, IfOpen, IsHere, IsNotPut, IsPut, IsThere, MayDo, closes, done_by, goes_on, holder, lets_go, sent_by, told, what_in}
+use Rattle.tds_relay.proofs.promises.Caring.{Sound}
+use Rattle.tds_relay.proofs.held.Lists.{places}
+use Rattle.tds_relay.proofs.held.Seated.{AllSit}
+use Rattle.tds_relay.proofs.held.Others.{IsOthers}
+use Rattle.tds_relay.proofs.held.Ours.{Gone}
+use Rattle.tds_relay.proofs.held.Away.{WaitsNot, WaitsOnce, stays_gone}
+use Rattle.tds_relay.proofs.ends.Tying.{went_by}
+use Rattle.tds_relay.proofs.ends.Standing.{AtDesk, Leaves, Sent, Standing, apart_stands, asks_stand, at_desk, ends_stand, lacks_stand, lets_stand, puts_stand, renews_stand, replaced_stands, stays_next, stops_stand, unheard_stands, unlost_stands}
+use Rattle.tds_relay.proofs.ends.Stopping.{Known, Told, desk_next, hears_stand, never_waits, quits_gone}
+use Rattle.tds_relay.proofs.ends.Ending.{whose_by}
+
+-- ---- What is told of it
+
+abbrev pub StoryOf : (ℕ → Bool) → Desk → ℕ → Place → Option End → Type 0
+StoryOf outs d key p None = Gone key d
+StoryOf outs d key p (Some (Open front w)) = Standing outs d key front.stage w p
+StoryOf outs d key p (Some Over) = AtDesk key d
+
+abbrev pub StepOf : (ℕ → Bool) → Desk → ℕ → Place → List Passed → Option End → Option End → Type 0
+StepOf outs d key p es None None = Gone key d
+StepOf outs d key p es None (Some (Open front w)) = Standing outs d key front.stage w Ready × (front.stage ≡ stages.Quiet)
+StepOf outs d key p es None (Some Over) = ⊥
+StepOf outs d key p es (Some (Open front w)) None = Gone key d
+StepOf outs d key p es (Some (Open front w)) (Some end) = Told outs d key front.stage p es end
+StepOf outs d key p es (Some Over) None = Gone key d
+StepOf outs d key p es (Some Over) (Some (Open front w)) = ⊥
+StepOf outs d key p es (Some Over) (Some Over) = AtDesk key d
+
+module _ (d : Desk) (key : ℕ) (outs outs2 : ℕ → Bool) (sound : Sound d) (sit : AllSit d) where
+  abbrev Left : Event → Type 0
+  Left event = Leaves d key outs outs2 sound sit event
+
+  abbrev Behind : Event → Place → List Passed → Option End → Option End → Type 0
+  Behind event p es o o2 = StepOf outs2 (turn d event).desk key p es o o2
+
+  -- an event of another, for which nothing passes
+  abbrev AreOthers : Event → Type 0
+  AreOthers event = (n : ℕ) → IsOthers key n event
+
+  pub apart_step : (event : Event) (p : Place) (o : Option End) → StoryOf outs d key p o → AreOthers event → WaitsOnce key d event → WaitsNot key event → Left event → Behind event p [] o o
+  apart_step event p None s others once not left = stays_gone d key s event not
+  apart_step event p (Some (Open front w)) s others once not left =
+      stays_next outs2 (turn d event).desk key front.stage w p (apart_stands d key outs outs2 sound sit event front.stage w p s others once left)
+  apart_step event p (Some Over) s others once not left = desk_next d key sound sit event s once
+
+  -- ---- At the desk alone
+
+  abbrev Away : Option End → Type 0
+  Away o = IsThere o × (find_key key d.holds ≡ None) × (places key d.line ≡ [])
+
+  waits_step : (p : Place) (o : Option End) → StoryOf outs d key p o → Away o → Left (desk.Waits key) → Behind (desk.Waits key) p [] o o
+  waits_step p None s away left = absurd away.0
+  waits_step p (Some (Open front w)) (inl k) away left = absurd (never_waits d key sound sit (record { hold = k.hold; seat = k.seat; its = k.its }) away.1)
+  waits_step p (Some (Open front w)) (inr k) away left =
+      stays_next outs2 (turn d (desk.Waits key)).desk key front.stage w p (lacks_stand d key outs outs2 sound sit (desk.Waits key) front.stage w p k (λ is. (away.1, away.2)))
+  waits_step p (Some Over) s away left = desk_next d key sound sit (desk.Waits key) s (λ is. (away.1, away.2))
+
+  deed_step : (deed : Deed) (p : Place) (o : Option End) → StoryOf outs d key p o → IsNotPut deed → MayDo deed o → Left (desk.Does key deed) → Behind (desk.Does key deed) p [] o o
+  deed_step deed p None s not may left = stays_gone d key s (desk.Does key deed) tt
+  deed_step deed p (Some Over) s not may left = desk_next d key sound sit (desk.Does key deed) s tt
+  deed_step desk.Asks p (Some (Open front w)) s not may left =
+      stays_next outs2 (turn d (desk.Does key desk.Asks)).desk key front.stage w p (asks_stand d key outs outs2 sound sit front.stage w p s left)
+  deed_step desk.Stops p (Some (Open front w)) s not may left =
+      stays_next outs2 (turn d (desk.Does key desk.Stops)).desk key front.stage w p (stops_stand d key outs outs2 sound sit front.stage w p s may left)
+  deed_step (desk.Puts count) p (Some (Open front w)) s not may left = absurd not
+  deed_step (desk.Ends count) p (Some (Open front w)) s not may left = absurd not
+
+  renews_step : (resumes : Bool) (p : Place) (o : Option End) → StoryOf outs d key p o → Left (desk.Renews key resumes) → Behind (desk.Renews key resumes) p [] o o
+  renews_step resumes p None s left = stays_gone d key s (desk.Renews key resumes) tt
+  renews_step resumes p (Some (Open front w)) s left =
+      stays_next outs2 (turn d (desk.Renews key resumes)).desk key front.stage w p (renews_stand d key outs outs2 sound sit resumes front.stage w p s left)
+  renews_step resumes p (Some Over) s left = desk_next d key sound sit (desk.Renews key resumes) s tt
+
+  -- as of this application, or of another
+  abbrev As : (ℕ → Event) → ℕ → Place → List Passed → Option End → Option End → Type 0
+  As event k p es o o2 = Left (event k) → Behind (event k) p es o o2
+
+  own : (event : ℕ → Event) (k : ℕ) (p : Place) (es : List Passed) (o o2 : Option End) → (k == key) ≡ true → As event key p es o o2 → As event k p es o o2
+  own event k p es o o2 e h = subst (λ (x : ℕ). As event x p es o o2) (sym (eqb-true k key e)) h
+
+  pub never : (k : ℕ) → (k == key) ≡ false → k ≡ key → ⊥
+  never k e is =
+      let u : true ≡ false = sym (eq-eqb k key is) ∙ e in
+      let v : ⊥ = cc in
+      v
+
+  pub waits_if : (k : ℕ) (b : Bool) (p : Place) (o : Option End) → (k == key) ≡ b → StoryOf outs d key p o → (k ≡ key → Away o) → As desk.Waits k p [] o o
+  waits_if k true p o e s away = own desk.Waits k p [] o o e (waits_step p o s (away (eqb-true k key e)))
+  waits_if k false p o e s away = apart_step (desk.Waits k) p o s (λ n. e) (λ is. absurd (never k e is)) e
+
+  pub deed_if : (k : ℕ) (deed : Deed) (b : Bool) (p : Place) (o : Option End) → (k == key) ≡ b → StoryOf outs d key p o → (k ≡ key → IsNotPut deed × MayDo deed o) → As (λ x. desk.Does x deed) k p [] o o
+  deed_if k deed true p o e s may = (let m = may (eqb-true k key e) in own (λ x. desk.Does x deed) k p [] o o e (deed_step deed p o s m.0 m.1))
+  deed_if k deed false p o e s may = apart_step (desk.Does k deed) p o s (λ n. e) tt tt
+
+  pub renews_if : (k : ℕ) (resumes b : Bool) (p : Place) (o : Option End) → (k == key) ≡ b → StoryOf outs d key p o → As (λ x. desk.Renews x resumes) k p [] o o
+  renews_if k resumes true p o e s = own (λ x. desk.Renews x resumes) k p [] o o e (renews_step resumes p o s)
+  renews_if k resumes false p o e s = apart_step (desk.Renews k resumes) p o s (λ n. e) tt tt
+
+  -- ---- Its request goes on
+
+  goes_over : (ps : List Packet) → Over ≡ goes_on ps Over
+  goes_over [] = refl
+  goes_over (p ∷ ps) = refl
+
+  goes_open : (ps : List Packet) (front : Front) (w : Bool) → Open (record front { stage = went_by ps front.stage }) w ≡ goes_on ps (Open front w)
+  goes_open [] front w = refl
+  goes_open (p ∷ ps) front w = refl
+
+  sent_step : (deed : Deed) (front : Front) (w : Bool) (p : Place) → Sent d key outs outs2 sound sit deed front.stage w p
+      → Behind (desk.Does key deed) p (gone_on (sent_by d (desk.Does key deed))) (Some (Open front w)) (Some (goes_on (sent_by d (desk.Does key deed)) (Open front w)))
+  sent_step deed front w p s =
+      let ps = sent_by d (desk.Does key deed) in
+      subst (λ (x : End). Told outs2 (turn d (desk.Does key deed)).desk key front.stage p (gone_on ps) x) (goes_open ps front w) s.next
+
+  sends_step : (deed : Deed) (p : Place) (o : Option End) → StoryOf outs d key p o → IsPut deed → MayDo deed o → Known d key outs outs2 sound sit → Left (desk.Does key deed)
+      → Behind (desk.Does key deed) p (if_open o (λ front withdrawn. gone_on (sent_by d (desk.Does key deed)))) o (option_map (goes_on (sent_by d (desk.Does key deed))) o)
+  sends_step deed p None s put may known left = stays_gone d key s (desk.Does key deed) tt
+  sends_step deed p (Some Over) s put may known left =
+      subst (λ (x : End). StepOf outs2 (turn d (desk.Does key deed)).desk key p [] (Some Over) (Some x)) (goes_over (sent_by d (desk.Does key deed))) (desk_next d key sound sit (desk.Does key deed) s tt)
+  sends_step (desk.Puts count) p (Some (Open front w)) s put may known left =
+      sent_step (desk.Puts count) front w p (puts_stand d key outs outs2 sound sit count front.stage w p s may known left)
+  sends_step (desk.Ends count) p (Some (Open front w)) s put may known left =
+      sent_step (desk.Ends count) front w p (ends_stand d key outs outs2 sound sit count front.stage w p s may left)
+  sends_step desk.Asks p (Some (Open front w)) s put may known left = absurd put
+  sends_step desk.Stops p (Some (Open front w)) s put may known left = absurd put
+
+  pub sends_if : (k : ℕ) (deed : Deed) (b : Bool) (p : Place) (o : Option End) → (k == key) ≡ b → StoryOf outs d key p o → IsPut deed → (k ≡ key → MayDo deed o) → Known d key outs outs2 sound sit → Left (desk.Does k deed)
+      → Behind (desk.Does k deed) p (if b then if_open o (λ front withdrawn. gone_on (sent_by d (desk.Does k deed))) else []) o (if b then option_map (goes_on (sent_by d (desk.Does k deed))) o else o)
+  sends_if k deed true p o e s put may known left =
+      let is = eqb-true k key e in
+      let P : ℕ → Type 0 = λ (x : ℕ). Left (desk.Does x deed)
+      → Behind (desk.Does x deed) p (if_open o (λ front withdrawn. gone_on (sent_by d (desk.Does x deed)))) o (option_map (goes_on (sent_by d (desk.Does x deed))) o) in
+      let here : P key = sends_step deed p o s put (may is) known in
+      let there : P k = subst P (sym is) here in
+      there left
+  sends_if k deed false p o e s put may known left = apart_step (desk.Does k deed) p o s (λ n. e) tt tt left
+
+  -- ---- It lets its connection go, or that is lost
+
+  lets_step : (gives : Bool) (way : Way) (p : Place) (o : Option End) → StoryOf outs d key p o → IfOpen IsHere o → Behind (desk.Leaves key gives way) p [] o (option_map lets_go o)
+  lets_step gives way p None s may = stays_gone d key s (desk.Leaves key gives way) tt
+  lets_step gives way p (Some (Open front w)) s may =
+      stays_next outs2 (turn d (desk.Leaves key gives way)).desk key front.stage false p (lets_stand d key outs outs2 sound sit gives way front.stage w p s may)
+  lets_step gives way p (Some Over) s may = desk_next d key sound sit (desk.Leaves key gives way) s tt
+
+  pub lets_if : (k : ℕ) (gives : Bool) (way : Way) (b : Bool) (p : Place) (o : Option End) → (k == key) ≡ b → StoryOf outs d key p o → (k ≡ key → IfOpen IsHere o)
+      → As (λ x. desk.Leaves x gives way) k p [] o (if b then option_map lets_go o else o)
+  lets_if k gives way true p o e s may = own (λ x. desk.Leaves x gives way) k p [] o (option_map lets_go o) e (λ left. lets_step gives way p o s (may (eqb-true k key e)))
+  lets_if k gives way false p o e s may = apart_step (desk.Leaves k gives way) p o s (λ n. e) tt tt
+
+  unlost_step : (n : ℕ) (p : Place) (o : Option End) → StoryOf outs d key p o → (holder d n ≡ Some key → ⊥) → Left (desk.Loses n) → Behind (desk.Loses n) p [] o o
+  unlost_step n p None s apart left = stays_gone d key s (desk.Loses n) tt
+  unlost_step n p (Some (Open front w)) s apart left =
+      stays_next outs2 (turn d (desk.Loses n)).desk key front.stage w p (unlost_stands d key outs outs2 sound sit n front.stage w p s apart left)
+  unlost_step n p (Some Over) s apart left = desk_next d key sound sit (desk.Loses n) s tt
+
+  lost_step : (n : ℕ) (p : Place) (o : Option End) → StoryOf outs d key p o → Behind (desk.Loses n) p [] o (option_map closes o)
+  lost_step n p None s = stays_gone d key s (desk.Loses n) tt
+  lost_step n p (Some (Open front w)) s = desk_next d key sound sit (desk.Loses n) (at_desk outs d key front.stage w p s) tt
+  lost_step n p (Some Over) s = desk_next d key sound sit (desk.Loses n) s tt
+
+  replaced_step : (n : ℕ) (p : Place) (o : Option End) → StoryOf outs d key p o → IfOpen IsHere o → holder d n ≡ Some key → Behind (desk.Loses n) p [] o (option_map lets_go o)
+  replaced_step n p None s may mine = stays_gone d key s (desk.Loses n) tt
+  replaced_step n p (Some (Open front w)) s may mine =
+      stays_next outs2 (turn d (desk.Loses n)).desk key front.stage false p (replaced_stands d key outs outs2 sound sit n front.stage w p s may mine)
+  replaced_step n p (Some Over) s may mine = desk_next d key sound sit (desk.Loses n) s tt
+
+  -- somebody's, who is this application or another
+  not_some : (k : ℕ) (who : Option ℕ) → who ≡ Some k → (k == key) ≡ false → who ≡ Some key → ⊥
+  not_some k who e ne f = never k ne (let two : Some k ≡ Some key = sym e ∙ f in let one : k ≡ key = cc in one)
+
+  not_none : (who : Option ℕ) → who ≡ None → who ≡ Some key → ⊥
+  not_none who e f = (let two : None ≡ Some key = sym e ∙ f in let u : ⊥ = cc in u)
+
+  loses_if : (n k : ℕ) (b : Bool) (p : Place) (o : Option End) → holder d n ≡ Some k → (k == key) ≡ b → StoryOf outs d key p o → Left (desk.Loses n) → Behind (desk.Loses n) p [] o (if b then option_map closes o else o)
+  loses_if n k true p o h e s left = lost_step n p o s
+  loses_if n k false p o h e s left = unlost_step n p o s (not_some k (holder d n) h e) left
+
+  pub loses_whose : (n : ℕ) (who : Option ℕ) (p : Place) (o : Option End) → holder d n ≡ who → StoryOf outs d key p o → Left (desk.Loses n) → Behind (desk.Loses n) p [] o (whose_by key who closes o)
+  loses_whose n None p o h s left = unlost_step n p o s (not_none (holder d n) h) left
+  loses_whose n (Some k) p o h s left = loses_if n k (k == key) p o h refl s left
+
+  replaces_if : (n k : ℕ) (b : Bool) (p : Place) (o : Option End) → holder d n ≡ Some k → (k == key) ≡ b → StoryOf outs d key p o → (k ≡ key → IfOpen IsHere o) → Left (desk.Loses n)
+      → Behind (desk.Loses n) p [] o (if b then option_map lets_go o else o)
+  replaces_if n k true p o h e s may left =
+      let is = eqb-true k key e in
+      replaced_step n p o s (may is) (h ∙ ap (λ (x : ℕ). Some x) is)
+  replaces_if n k false p o h e s may left = unlost_step n p o s (not_some k (holder d n) h e) left
+
+  pub replaces_whose : (n : ℕ) (who : Option ℕ) (p : Place) (o : Option End) → holder d n ≡ who → StoryOf outs d key p o → (who ≡ Some key → IfOpen IsHere o) → Left (desk.Loses n)
+      → Behind (desk.Loses n) p [] o (whose_by key who lets_go o)
+  replaces_whose n None p o h s may left = unlost_step n p o s (not_none (holder d n) h) left
+  replaces_whose n (Some k) p o h s may left = replaces_if n k (k == key) p o h refl s (λ is. may (ap (λ (x : ℕ). Some x) is)) left
+
+  -- ---- A packet comes
+
+  abbrev Heard : ℕ → Part Token → Option End → List Passed
+  Heard n part o = if_open o (λ front withdrawn. unless_withdrawn withdrawn (said_in (done_by d n part)))
+
+  told_over : (what : Rattle.tds_relay.specs.declared.desk.coming.What.What) → Over ≡ told what Over
+  told_over Rattle.tds_relay.specs.declared.desk.coming.What.TheVariants.Goes = refl
+  told_over Rattle.tds_relay.specs.declared.desk.coming.What.TheVariants.Finished = refl
+  told_over Rattle.tds_relay.specs.declared.desk.coming.What.TheVariants.Acknowledged = refl
+  told_over Rattle.tds_relay.specs.declared.desk.coming.What.TheVariants.Closed = refl
+
+  heard_step : (n : ℕ) (part : Part Token) (way : Way) (p : Place) (o : Option End) → StoryOf outs d key p o → whose d n ≡ Some key → Left (desk.Comes n part way)
+      → Behind (desk.Comes n part way) p (Heard n part o) o (option_map (told (what_in (done_by d n part))) o)
+  heard_step n part way p None s mine left = stays_gone d key s (desk.Comes n part way) tt
+  heard_step n part way p (Some (Open front w)) s mine left = hears_stand d key outs outs2 sound sit n part way front w p s mine left
+  heard_step n part way p (Some Over) s mine left =
+      subst (λ (x : End). StepOf outs2 (turn d (desk.Comes n part way)).desk key p [] (Some Over) (Some x)) (told_over (what_in (done_by d n part))) (desk_next d key sound sit (desk.Comes n part way) s tt)
+
+  unheard_step : (n : ℕ) (part : Part Token) (way : Way) (p : Place) (o : Option End) → StoryOf outs d key p o → (whose d n ≡ Some key → ⊥) → Left (desk.Comes n part way) → Behind (desk.Comes n part way) p [] o o
+  unheard_step n part way p None s apart left = stays_gone d key s (desk.Comes n part way) tt
+  unheard_step n part way p (Some (Open front w)) s apart left =
+      stays_next outs2 (turn d (desk.Comes n part way)).desk key front.stage w p (unheard_stands d key outs outs2 sound sit n part way front.stage w p s apart left)
+  unheard_step n part way p (Some Over) s apart left = desk_next d key sound sit (desk.Comes n part way) s tt
+
+  comes_if : (n k : ℕ) (part : Part Token) (way : Way) (b : Bool) (p : Place) (o : Option End) → whose d n ≡ Some k → (k == key) ≡ b → StoryOf outs d key p o → Left (desk.Comes n part way)
+      → Behind (desk.Comes n part way) p (if b then Heard n part o else []) o (if b then option_map (told (what_in (done_by d n part))) o else o)
+  comes_if n k part way true p o h e s left = heard_step n part way p o s (h ∙ ap (λ (x : ℕ). Some x) (eqb-true k key e)) left
+  comes_if n k part way false p o h e s left = unheard_step n part way p o s (not_some k (whose d n) h e) left
+
+  pub comes_whose : (n : ℕ) (part : Part Token) (way : Way) (who : Option ℕ) (p : Place) (o : Option End) → whose d n ≡ who → StoryOf outs d key p o → Left (desk.Comes n part way)
+      → Behind (desk.Comes n part way) p (if_whose key who (Heard n part o)) o (whose_by key who (told (what_in (done_by d n part))) o)
+  comes_whose n part way None p o h s left = unheard_step n part way p o s (not_none (whose d n) h) left
+  comes_whose n part way (Some k) p o h s left = comes_if n k part way (k == key) p o h refl s left
+
+  -- ---- It quits
+
+  quits_step : (gives : Bool) (way : Way) (p : Place) (o : Option End) → StoryOf outs d key p o → Behind (desk.Leaves key gives way) p [] o None
+  quits_step gives way p None s = stays_gone d key s (desk.Leaves key gives way) tt
+  quits_step gives way p (Some (Open front w)) s = quits_gone d key gives way sound (at_desk outs d key front.stage w p s)
+  quits_step gives way p (Some Over) s = quits_gone d key gives way sound s
+
+  pub quits_if : (k : ℕ) (gives : Bool) (way : Way) (b : Bool) (p : Place) (o : Option End) → (k == key) ≡ b → StoryOf outs d key p o → As (λ x. desk.Leaves x gives way) k p [] o (if b then None else o)
+  quits_if k gives way true p o e s = own (λ x. desk.Leaves x gives way) k p [] o None e (λ left. quits_step gives way p o s)
+  quits_if k gives way false p o e s = apart_step (desk.Leaves k gives way) p o s (λ n. e) tt tt
