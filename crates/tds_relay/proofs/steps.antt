@@ -1,3 +1,4 @@
+pub mod Asked
 pub mod Calling
 pub mod Fed
 pub mod Fronts
@@ -7,7 +8,9 @@ pub mod Posting
 pub mod Putting
 pub mod Reaching
 pub mod Seen
+pub mod Sent
 pub mod Slots
 pub mod Staying
 pub mod Stepping
 pub mod Told
+pub mod Underway

@@ -1,3 +1,4 @@
+pub mod Asking
 pub mod Away
 pub mod Behind
 pub mod Bounds

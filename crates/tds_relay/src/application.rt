@@ -213,6 +213,7 @@ impl Application {
     pub(crate) fn forget(&mut self)
         ensures post { post_of self.new ≡ post_of self.old }
         ensures end { end_of self.new ≡ end_of self.old }
+        ensures asking { self.new.asking ≡ self.old.asking }
     {
         self.held = Vec::new(self.alloc);
     }

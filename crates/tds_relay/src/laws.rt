@@ -11,6 +11,7 @@ ghost use Rattle.tds_front.specs.Exchanges.{place_after};
 ghost use Rattle.tds_front.specs.Serving.{IsLawful, Ready};
 ghost use Rattle.tds_front.specs.Passing.{EndsWhole, behind, towards};
 ghost use Rattle.tds_front.specs.declared.stage.Stage.TheVariants as stages;
+ghost use Rattle.tds_relay.specs.Asking.{Asks};
 ghost use Rattle.tds_relay.specs.Away.{IsAway, WaitsAway, done_before, done_since};
 ghost use Rattle.tds_relay.specs.Behind.{AllAnswerOnce, Stay, passed_in};
 ghost use Rattle.tds_relay.specs.Bounds.{waiting_in};
@@ -149,6 +150,17 @@ pub fn own_bytes(
 /// before has left, all of them; or the application is to be closed behind the call, or isn't there.
 pub fn bytes_that_came(relay: &mut Relay, key: usize, said: &[u8]) -> Result<(), NoMemory>
     ensures { OnOk result (Tells key (house_in relay.old) said.now [] (house_in relay.new)) }
+{
+    relay.said(key, said)
+}
+
+/// A request goes on. Behind each piece of an application's bytes by which its request begins, goes on or ends,
+/// before the next piece is taken, its application stands in the line; or holds a connection that isn't open yet, or
+/// one on which the server hasn't acknowledged yet what it took back; or the request was asked on the connection that
+/// it holds, and is being sent, and where all of it has come its end was sent. Or its application is to be closed.
+pub fn request_goes_on(relay: &mut Relay, key: usize, said: &[u8]) -> Result<(), NoMemory>
+    ensures { OnOk result (Asks key (house_in relay.old) said.now []
+        relay.new.links.items (house_in relay.new)) }
 {
     relay.said(key, said)
 }

@@ -1,8 +1,10 @@
 //! The relay: who is there, and what whoever carries its bytes asks of it.
-ghost use Rattle.std.specs.Prelude.{◌≡◌, ◌+◌, ◌-◌, ◌≤◌, ℕ, IfOk, IfSome, OnOk, Some, length, true, vec_len};
+ghost use Rattle.std.specs.Prelude.{◌≡◌, ◌+◌, ◌-◌, ◌≤◌, ℕ, Bool, IfOk, IfSome, None, OnOk, Some};
+ghost use Rattle.std.specs.Prelude.{false, length, true, vec_len};
 ghost use Rattle.slab.specs.Slab.{get, slab_len};
+ghost use Rattle.tds_relay.specs.Asking.{IsUnderway};
 ghost use Rattle.tds_relay.specs.Bounds.{most_for, waiting_for};
-ghost use Rattle.tds_relay.specs.Desk.{find_number, key_of, new_desk};
+ghost use Rattle.tds_relay.specs.Desk.{find_key, find_number, key_of, new_desk};
 ghost use Rattle.tds_relay.specs.Fronts.{Moved, MovedOn, ends_in, hall_in, house_in};
 ghost use Rattle.tds_relay.specs.Hall.{IfOpen, IsAway, IsHere, change_end, end_at, lets_go};
 ghost use Rattle.tds_relay.specs.House.{Steps, new_house};
@@ -23,7 +25,7 @@ use crate::NoMemory;
 use crate::application::Application;
 use crate::desk::Desk;
 use crate::link::{Link, News};
-use crate::links::{append_to, forget_sent, set_cuts};
+use crate::links::{forget_sent, set_cuts};
 use crate::order::Order;
 use crate::outgoing::{BESIDE, PIECE};
 pub use places::{Counts, Place, PlaceOn};
@@ -277,6 +279,9 @@ impl Relay {
         ensures kept { posts_in self.new.applications ≡ posts_in self.old.applications }
         ensures moves { OnOk result ((by : Cause) → CausesRequest by key
             → Moved by (hall_in self.old) (hall_in self.new)) }
+        ensures underway { find_key key (desk_in self.old.desk).holds ≡ None
+            → OnOk result ((whole : Bool)
+            → IsUnderway whole self.new.links.items key (hall_in self.new)) }
         ensures links { self.new.links.items ≡ self.old.links.items }
     {
         if self.is_away(key) {
@@ -287,8 +292,12 @@ impl Relay {
     }
 
     /// Whether an application is taken from, holds no connection, and waits for none.
+    #[tactic(auto, using(crate::proofs::steps::Underway::of_none, crate::proofs::steps::Underway::of_over))]
     fn is_away(&self, key: usize) -> bool
-        ensures { result ≡ true → IsAway (hall_in self.now) key }
+        ensures away { result ≡ true → IsAway (hall_in self.now) key }
+        ensures underway { result ≡ false → find_key key (desk_in self.now.desk).holds ≡ None
+            → (whole : Bool)
+            → IsUnderway whole self.now.links.items key (hall_in self.now) }
     {
         let Some(application) = self.applications.get(key) else {
             return false;
@@ -306,6 +315,7 @@ impl Relay {
     /// packet. Who held it before may have left in the middle of one.
     fn cut(&mut self, number: u64, cuts: bool)
         ensures desk { self.new.desk ≡ self.old.desk }
+        ensures same { self.new.applications ≡ self.old.applications }
         ensures kept { posts_in self.new.applications ≡ posts_in self.old.applications }
         ensures ends { ends_in self.new.applications ≡ ends_in self.old.applications }
         ensures read { Stays self.old.links.items self.new.links.items }
@@ -322,13 +332,8 @@ impl Relay {
         ensures moves { OnOk result (MovedOn (hall_in self.old) (hall_in self.new)) }
         ensures read { OnOk result (Stays self.old.links.items self.new.links.items) }
     {
-        let fits = append_to(&mut self.links, number, &self.outbox)?;
-        self.outbox.clear();
-        if fits {
-            self.order_write_on(number)
-        } else {
-            self.lose(number)
-        }
+        let fits = self.fits_on(number)?;
+        if fits { Ok(()) } else { self.lose(number) }
     }
 
     /// Something is to be sent to an application. One for which more would wait than may is closed.

@@ -7,7 +7,7 @@ use Rattle.tds_front.specs.declared.front.Said.{Said}
 use Rattle.tds_service.specs.Line.{Packet}
 use Rattle.tds_relay.specs.Desk as desk
 use Rattle.tds_relay.specs.Desk.{Desk}
-use Rattle.tds_relay.specs.Fronts.{ClosesInstead, FedOn, IsFed, Moved, MovedOn, TakesBetween, given_by, hall_of_ends, house_with}
+use Rattle.tds_relay.specs.Fronts.{ClosesInstead, FedOn, IsFed, LetsGoFirst, Moved, MovedOn, TakesBetween, given_by, hall_of_ends, house_with}
 use Rattle.tds_relay.specs.Hall as hall
 use Rattle.tds_relay.specs.Hall.{End, Ends, Feeds, Hall, IsQuiet, Move, Moves, Open, Over, change_end, closes, end_at, ends_behind, goes_on, hands_on, holder, lets_go, moved, moved_all, sent_by, takes_back}
 use Rattle.tds_relay.specs.House.{House, Step, Admits, CausesStep, Hands, Makes, MayAll, Removes, Steps, Takes, Writes, after, after_all, owed, put_some}
@@ -22,7 +22,7 @@ use Rattle.tds_relay.proofs.steps.Stepping.{after_both, after_makes, caused_make
 
 -- ---- Steps one behind the other
 
-taken_both : (key : ℕ) (h : House) (xs ys : List Step) (a b c : List ℕ) → AreTaken key h xs a b → AreTaken key (after_all h xs) ys b c → AreTaken key h (xs ++ ys) a c
+pub taken_both : (key : ℕ) (h : House) (xs ys : List Step) (a b c : List ℕ) → AreTaken key h xs a b → AreTaken key (after_all h xs) ys b c → AreTaken key h (xs ++ ys) a c
 taken_both key h [] ys a b c t u = subst (λ (bytes : List ℕ). AreTaken key h ys bytes c) (sym t) u
 taken_both key h (Takes other more ∷ xs) ys a b c t u = (t.0, t.1, taken_both key (after h (Takes other more)) xs ys (left_by a (end_at h.hall.ends key)) b c t.2 u)
 taken_both key h (Makes move ∷ xs) ys a b c t u = taken_both key (after h (Makes move)) xs ys a b c t u
@@ -31,7 +31,7 @@ taken_both key h (Writes other count ∷ xs) ys a b c t u = taken_both key (afte
 taken_both key h (Admits other ends posts ∷ xs) ys a b c t u = taken_both key (after h (Admits other ends posts)) xs ys a b c t u
 taken_both key h (Removes other gives way ∷ xs) ys a b c t u = taken_both key (after h (Removes other gives way)) xs ys a b c t u
 
-none_taken : (key : ℕ) (h : House) (moves : List Move) (bytes : List ℕ) → AreTaken key h (makes_all moves) bytes bytes
+pub none_taken : (key : ℕ) (h : House) (moves : List Move) (bytes : List ℕ) → AreTaken key h (makes_all moves) bytes bytes
 none_taken key h [] bytes = refl
 none_taken key h (move ∷ moves) bytes = none_taken key (after h (Makes move)) moves bytes
 
@@ -73,6 +73,12 @@ deaf_along key h (move ∷ moves) quiet d = deaf_along key (moved h move) moves 
 pub deaf_behind : (key : ℕ) (old new : Hall) → Moves (Application key) old new → IsDeaf (end_at old.ends key) → IsDeaf (end_at new.ends key)
 deaf_behind key old new m d = subst (λ (h : Hall). IsDeaf (end_at h.ends key)) m.are (deaf_along key old m.moves m.quiet d)
 
+-- where it lets its connection go first
+pub lets_go_deaf : (key : ℕ) (d : Desk) (es : Ends) (new : Hall) → IsDeaf (end_at es key) → LetsGoFirst key (hall_of_ends d es) new → IsDeaf (end_at new.ends key)
+lets_go_deaf key d es new deaf l =
+    let mid : Hall = moved (hall_of_ends d es) (hall.LetsGo key l.0 l.1) in
+    deaf_behind key mid new (l.2 (Application key) mid (no_moves (Application key) mid)) (deaf_changed es key key lets_go refl deaf)
+
 closed_deaf : (b : Bool) (o : Option End) → b ≡ true → IsDeaf (if b then option_map closes o else o)
 closed_deaf true None e = tt
 closed_deaf true (Some end) e = tt
@@ -93,7 +99,7 @@ fed_then key d before now bytes answer new keeps here f m = inl (record {
 
 -- ---- Of a call
 
-pub tells_begin : (key : ℕ) (h : House) (bytes : List ℕ) → Tells key h bytes bytes h
+abbrev pub tells_begin : (key : ℕ) (h : House) (bytes : List ℕ) → Tells key h bytes bytes h
 tells_begin key h bytes = record { steps = []; are = refl; may = tt; caused = tt; rest = bytes; takes = refl; all = inl refl }
 
 pub tells_steps : (key : ℕ) (old new : House) (bytes left : List ℕ) → Tells key old bytes left new → Steps (Application key) old new
@@ -103,11 +109,11 @@ pub tells_left : (key : ℕ) (old new : House) (bytes left rest : List ℕ) → 
 tells_left key old new bytes left rest is t = subst (λ (xs : List ℕ). Tells key old bytes xs new) (sym is) t
 
 -- it is to be closed, so the others aren't taken
-pub tells_deaf : (key : ℕ) (old new : House) (bytes left rest : List ℕ) → IsDeaf (end_at new.hall.ends key) → Tells key old bytes left new → Tells key old bytes rest new
+abbrev pub tells_deaf : (key : ℕ) (old new : House) (bytes left rest : List ℕ) → IsDeaf (end_at new.hall.ends key) → Tells key old bytes left new → Tells key old bytes rest new
 tells_deaf key old new bytes left rest deaf t = record { steps = t.steps; are = t.are; may = t.may; caused = t.caused; rest = t.rest; takes = t.takes; all = inr deaf }
 
 -- the hall moves on
-pub tells_moves : (key : ℕ) (old : House) (bytes left : List ℕ) (h h1 : Hall) (ps ps1 : Posts) → Moves (Application key) h h1 → ps1 ≡ ps
+abbrev pub tells_moves : (key : ℕ) (old : House) (bytes left : List ℕ) (h h1 : Hall) (ps ps1 : Posts) → Moves (Application key) h h1 → ps1 ≡ ps
     → Tells key old bytes left (record { hall = h; posts = ps }) → Tells key old bytes left (record { hall = h1; posts = ps1 })
 tells_moves key old bytes left h h1 ps ps1 m kept t =
     let more : List Step = makes_all m.moves in
@@ -139,7 +145,7 @@ tells_ok (Ok x) key old bytes left h h1 ps ps1 t m kept = tells_moved key old by
 tells_ok (Err e) key old bytes left h h1 ps ps1 t m kept = tt
 
 -- bytes are taken where its end is open
-tells_takes : (key : ℕ) (old : House) (bytes left rest : List ℕ) (h : House) (posts1 : Posts) (front : Front) (withdrawn : Bool) → end_at h.hall.ends key ≡ Some (Open front withdrawn)
+abbrev pub tells_takes : (key : ℕ) (old : House) (bytes left rest : List ℕ) (h : House) (posts1 : Posts) (front : Front) (withdrawn : Bool) → end_at h.hall.ends key ≡ Some (Open front withdrawn)
     → left_by left (end_at h.hall.ends key) ≡ rest → change key (put_some (owed left (end_at h.hall.ends key))) h.posts ≡ posts1 → Tells key old bytes left h
     → Tells key old bytes rest (record { hall = moved h.hall (Feeds key left); posts = posts1 })
 tells_takes key old bytes left rest h posts1 front withdrawn open_at left_is waits t =

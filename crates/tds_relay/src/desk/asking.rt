@@ -1,8 +1,9 @@
 //! What applications do with the connections that they hold.
-ghost use Rattle.std.specs.Prelude.{◌≡◌, ℕ, [], Some, IfOk, OnErr};
+ghost use Rattle.std.specs.Prelude.{◌≡◌, ℕ, [], Some, IfOk, OnErr, false, true};
 ghost use Rattle.tds_client.specs.Session.{ClientSession};
 ghost use Rattle.tds_client.specs.Streams.{finished, put};
 ghost use Rattle.tds_service.specs.Table.{DoesAt, KeepsClients, Opens};
+ghost use Rattle.tds_relay.specs.Asking.{SendsOn};
 ghost use Rattle.tds_relay.specs.Desk.{Asks, Does, Ends, Puts, Stops, find_key};
 ghost use Rattle.tds_relay.specs.Ties.{Turns, desk_in};
 
@@ -16,6 +17,7 @@ impl Desk {
     pub fn ask(&mut self, key: usize, kind: MessageKind) -> Result<Hold, Refusal>
         ensures ok { IfOk result (λ hold. Turns (Does key Asks) (desk_in self.old)
             (desk_in self.new) [] []) }
+        ensures sends { IfOk result (λ hold. SendsOn false (desk_in self.new) key) }
         ensures whose { IfOk result (λ hold. find_key key (desk_in self.old).holds ≡ Some hold) }
         ensures opened { IfOk result (λ hold.
             Opens kind hold.lease self.old.service self.new.service) }
@@ -36,6 +38,7 @@ impl Desk {
     pub fn put(&mut self, key: usize, bytes: &[u8], out: &mut Vec<u8>) -> Result<Hold, Refusal>
         ensures ok { IfOk result (λ hold. (count : ℕ) × Turns (Does key (Puts count))
             (desk_in self.old) (desk_in self.new) out.old.items out.new.items) }
+        ensures sends { IfOk result (λ hold. SendsOn false (desk_in self.new) key) }
         ensures whose { IfOk result (λ hold. find_key key (desk_in self.old).holds ≡ Some hold) }
         ensures puts { IfOk result (λ hold. DoesAt (λ (s : ClientSession). put s bytes.now)
             hold.lease self.old.service self.new.service out.old.items out.new.items) }
@@ -57,6 +60,7 @@ impl Desk {
     pub fn finish(&mut self, key: usize, out: &mut Vec<u8>) -> Result<Hold, Refusal>
         ensures ok { IfOk result (λ hold. (count : ℕ) × Turns (Does key (Ends count))
             (desk_in self.old) (desk_in self.new) out.old.items out.new.items) }
+        ensures sends { IfOk result (λ hold. SendsOn true (desk_in self.new) key) }
         ensures whose { IfOk result (λ hold. find_key key (desk_in self.old).holds ≡ Some hold) }
         ensures ends { IfOk result (λ hold. DoesAt finished
             hold.lease self.old.service self.new.service out.old.items out.new.items) }

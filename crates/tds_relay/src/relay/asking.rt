@@ -1,5 +1,7 @@
 //! What applications say: requests, and cancels.
-ghost use Rattle.std.specs.Prelude.{◌≡◌, [], IfOk, OnOk, drop, true};
+ghost use Rattle.std.specs.Prelude.{◌≡◌, [], Bool, IfOk, OnOk, Some, drop, false, true};
+ghost use Rattle.slab.specs.Slab.{get};
+ghost use Rattle.tds_relay.specs.Asking.{Asks, AsksOn, IfAsks, IsUnderway, SendsOn, waits_of};
 ghost use Rattle.tds_relay.specs.Fronts.{FedOn, MayPut, Moved, MovedOn, ends_in, goes_by, hall_in, puts};
 ghost use Rattle.tds_relay.specs.Fronts.{given_by, house_in};
 ghost use Rattle.tds_relay.specs.Hall.{IfOpen, change_end, end_at};
@@ -26,6 +28,8 @@ impl Relay {
             (house_in self.new)) }
         ensures tells { OnOk result (Tells key (house_in self.old) piece.now []
             (house_in self.new)) }
+        ensures asks { OnOk result (Asks key (house_in self.old) piece.now []
+            self.new.links.items (house_in self.new)) }
         ensures served { OnOk result (NobodyWaits (desk_in self.new.desk)) }
         ensures opens { OnOk result (Opens self.old.links.items self.new.links.items) }
     {
@@ -40,6 +44,8 @@ impl Relay {
             (desk_in self.old.desk) (desk_in self.new.desk)) }
         ensures tells { OnOk result (Tells key (house_in self.old) piece.now []
             (house_in self.new)) }
+        ensures asks { OnOk result (Asks key (house_in self.old) piece.now []
+            self.new.links.items (house_in self.new)) }
         ensures read { OnOk result (Stays self.old.links.items self.new.links.items) }
     {
         let mut rest = piece;
@@ -60,6 +66,8 @@ impl Relay {
             (desk_in self.old.desk) (desk_in self.new.desk)) }
         ensures tells { IfOk result (λ count. TellsOn key piece.now (drop count piece.now)
             (house_in self.old) (house_in self.new)) }
+        ensures asks { IfOk result (λ count. AsksOn key piece.now (drop count piece.now)
+            self.old.links.items self.new.links.items (house_in self.old) (house_in self.new)) }
         ensures read { OnOk result (Stays self.old.links.items self.new.links.items) }
     {
         let Some(application) = self.applications.get_mut(key) else {
@@ -85,6 +93,8 @@ impl Relay {
             ≡ given_by key said (posts_in self.old.applications)) }
         ensures moves { OnOk result (FedOn key said (desk_in self.old.desk)
             (ends_in self.old.applications) (hall_in self.new)) }
+        ensures underway { OnOk result (IfAsks (λ whole. IsUnderway whole
+            self.new.links.items key (hall_in self.new)) said) }
         ensures read { OnOk result (Stays self.old.links.items self.new.links.items) }
     {
         match said {
@@ -105,7 +115,7 @@ impl Relay {
     /// A request begins. Where it asks for a reset itself, its application gives back what it holds; but
     /// where the transaction is to stay, its connection stays too: whether there is one is known once the
     /// server has acknowledged what was taken back before.
-    #[tactic(auto, using(crate::proofs::steps::Reaching::reaches_turn, crate::proofs::steps::Reaching::reaches_left, crate::proofs::steps::Posting::kept_more, crate::proofs::steps::Posting::posts_kept, crate::proofs::steps::Fronts::ends_more, crate::proofs::steps::Fronts::ends_kept, crate::proofs::steps::Staying::stays_refl))]
+    #[tactic(auto, using(crate::proofs::steps::Reaching::reaches_turn, crate::proofs::steps::Reaching::reaches_left, crate::proofs::steps::Posting::kept_more, crate::proofs::steps::Posting::posts_kept, crate::proofs::steps::Fronts::ends_more, crate::proofs::steps::Fronts::ends_kept, crate::proofs::steps::Staying::stays_refl, crate::proofs::steps::Underway::of_none))]
     fn begin(&mut self, key: usize, kind: Kind, reset: Option<Reset>) -> Result<(), NoMemory>
         ensures goes { OnOk result (Goes (Application key)
             (desk_in self.old.desk) (desk_in self.new.desk)) }
@@ -113,13 +123,15 @@ impl Relay {
             ≡ posts_in self.old.applications) }
         ensures moves { OnOk result (Moved (Application key) (hall_in self.old)
             (hall_in self.new)) }
+        ensures underway { OnOk result (IsUnderway false self.new.links.items key
+            (hall_in self.new)) }
         ensures read { OnOk result (Stays self.old.links.items self.new.links.items) }
     {
         let Some(application) = self.applications.get_mut(key) else {
             return Ok(());
         };
         let Some(kind) = message_kind(kind) else {
-            return Ok(());
+            return self.expel(key);
         };
         application.asking = Asking::Waits { kind, whole: false };
         application.reset = reset;
@@ -140,17 +152,42 @@ impl Relay {
         }
     }
 
+    /// A request that waits is asked where its application holds a connection that can take it, and stands
+    /// in the line where it holds none.
+    fn seek(&mut self, key: usize) -> Result<(), NoMemory>
+        ensures goes { OnOk result (Goes (Application key)
+            (desk_in self.old.desk) (desk_in self.new.desk)) }
+        ensures kept { OnOk result (posts_in self.new.applications
+            ≡ posts_in self.old.applications) }
+        ensures moves { OnOk result (Moved (Application key) (hall_in self.old)
+            (hall_in self.new)) }
+        ensures underway { (whole : Bool) → waits_of (get self.old.applications key) ≡ Some whole
+            → OnOk result (IsUnderway whole self.new.links.items key (hall_in self.new)) }
+        ensures read { OnOk result (Stays self.old.links.items self.new.links.items) }
+    {
+        match self.desk.hold_of(key) {
+            Some(_) => self.start(key),
+            None => self.wait(key),
+        }
+    }
+
     /// Whether an application holds a connection with an open transaction, on which the server hasn't
     /// acknowledged yet that its last request was taken back.
-    fn may_keep_later(&self, key: usize) -> bool {
+    #[tactic(auto, using(crate::proofs::steps::Underway::drains))]
+    fn may_keep_later(&self, key: usize) -> bool
+        ensures { result ≡ true
+            → IsUnderway false self.now.links.items key (hall_in self.now) }
+    {
         let Some(hold) = self.desk.hold_of(key) else {
             return false;
         };
-        let is_withdrawn = match self.applications.get(key) {
-            Some(application) => application.is_withdrawn,
-            None => false,
+        let Some(application) = self.applications.get(key) else {
+            return false;
         };
-        is_withdrawn && self.desk.is_open_on(hold.number) == Some(true)
+        if !application.is_withdrawn {
+            return false;
+        }
+        self.desk.is_open_on(hold.number) == Some(true)
     }
 
     /// The application lets its connection go, and waits for one like who has come.
@@ -162,12 +199,17 @@ impl Relay {
             ≡ posts_in self.old.applications) }
         ensures moves { OnOk result (Moved (Application key) (hall_in self.old)
             (hall_in self.new)) }
+        ensures underway { OnOk result ((whole : Bool)
+            → IsUnderway whole self.new.links.items key (hall_in self.new)) }
         ensures read { OnOk result (Stays self.old.links.items self.new.links.items) }
     {
         if !self.has_nothing_out(key) {
             return self.expel(key);
         }
         self.release(key)?;
+        if self.desk.hold_of(key).is_some() {
+            return self.expel(key);
+        }
         self.wait(key)
     }
 
@@ -180,6 +222,8 @@ impl Relay {
             ≡ posts_in self.old.applications) }
         ensures moves { OnOk result (Moved (Application key) (hall_in self.old)
             (hall_in self.new)) }
+        ensures underway { (whole : Bool) → waits_of (get self.old.applications key) ≡ Some whole
+            → OnOk result (IsUnderway whole self.new.links.items key (hall_in self.new)) }
         ensures read { OnOk result (Stays self.old.links.items self.new.links.items) }
     {
         match self.desk.renew(key)? {
@@ -193,7 +237,7 @@ impl Relay {
     }
 
     /// The next bytes of its request's body, with which it is whole or not.
-    #[tactic(auto, using(crate::proofs::steps::Posting::kept_more, crate::proofs::steps::Posting::posts_kept, crate::proofs::steps::Fronts::ends_more, crate::proofs::steps::Fronts::ends_kept, crate::proofs::steps::Staying::stays_refl))]
+    #[tactic(auto, using(crate::proofs::steps::Posting::kept_more, crate::proofs::steps::Posting::posts_kept, crate::proofs::steps::Fronts::ends_more, crate::proofs::steps::Fronts::ends_kept, crate::proofs::steps::Staying::stays_refl, crate::proofs::steps::Underway::of_none))]
     fn go_on(&mut self, key: usize, bytes: &[u8], whole: bool) -> Result<(), NoMemory>
         ensures goes { OnOk result (Goes (Application key)
             (desk_in self.old.desk) (desk_in self.new.desk)) }
@@ -201,19 +245,21 @@ impl Relay {
             ≡ posts_in self.old.applications) }
         ensures moves { OnOk result (Moved (Application key) (hall_in self.old)
             (hall_in self.new)) }
+        ensures underway { OnOk result (IsUnderway whole self.new.links.items key
+            (hall_in self.new)) }
         ensures read { OnOk result (Stays self.old.links.items self.new.links.items) }
     {
         let Some(application) = self.applications.get_mut(key) else {
             return Ok(());
         };
         match application.asking {
-            Asking::Nothing => Ok(()),
+            Asking::Nothing => self.expel(key),
             Asking::Waits { kind, .. } => {
                 if !application.keep(bytes)? {
                     return self.expel(key);
                 }
                 application.asking = Asking::Waits { kind, whole };
-                Ok(())
+                self.seek(key)
             }
             Asking::Goes => self.put(key, bytes, whole),
         }
@@ -226,21 +272,27 @@ impl Relay {
         ensures kept { OnOk result (posts_in self.new.applications
             ≡ posts_in self.old.applications) }
         ensures moves { OnOk result (MovedOn (hall_in self.old) (hall_in self.new)) }
+        ensures underway { OnOk result (IsUnderway whole self.new.links.items key
+            (hall_in self.new)) }
         ensures read { OnOk result (Stays self.old.links.items self.new.links.items) }
     {
         let Some(hold) = self.desk.hold_of(key) else {
-            return Ok(());
+            return self.end(key);
         };
         if !self.may_put(key, whole) {
-            return self.lose(hold.number);
+            return self.fail(key, hold.number);
         }
         self.outbox.clear();
-        let fits = put_on(&mut self.desk, key, bytes, whole, &mut self.outbox);
+        let is_put = put_on(&mut self.desk, key, bytes, whole, &mut self.outbox);
         self.note_went_on(key);
+        if !is_put {
+            return self.fail(key, hold.number);
+        }
+        let fits = self.fits_on(hold.number)?;
         if fits {
-            self.send_on(hold.number)
+            Ok(())
         } else {
-            self.lose(hold.number)
+            self.fail(key, hold.number)
         }
     }
 
@@ -277,6 +329,7 @@ fn put_on(desk: &mut Desk, key: usize, bytes: &[u8], whole: bool, out: &mut Vec<
     ensures goes { GoesOn (desk_in desk.old) (desk_in desk.new) }
     ensures puts { MayPut key whole (desk_in desk.old) (desk_in desk.new) out.old.items
         out.new.items }
+    ensures sends { result ≡ true → SendsOn whole (desk_in desk.new) key }
 {
     let Ok(_) = desk.put(key, bytes, out) else {
         return false;

@@ -3,10 +3,11 @@ ghost use Rattle.std.specs.Prelude.{◌≡◌, None, OnOk};
 ghost use Rattle.tds_relay.specs.Desk.{Loses, turn};
 ghost use Rattle.tds_relay.specs.Fronts.{LetsGoFirst, Moved, MovedOn, ends_in, hall_in, hall_of_ends};
 ghost use Rattle.tds_relay.specs.Fronts.{house_in};
-ghost use Rattle.tds_relay.specs.Hall.{change_end, change_whose, closes};
+ghost use Rattle.tds_relay.specs.Hall.{change_end, change_whose, closes, end_at};
 ghost use Rattle.tds_relay.specs.House.{Steps};
 ghost use Rattle.tds_relay.specs.Posts.{posts_in};
 ghost use Rattle.tds_relay.specs.Reads.{Opens, Stays, reader_at};
+ghost use Rattle.tds_relay.specs.Taking.{IsDeaf};
 ghost use Rattle.tds_relay.specs.Ties.{Application, Connection, Goes, GoesOn, Leaving, NobodyWaits};
 ghost use Rattle.tds_relay.specs.Ties.{desk_in};
 
@@ -54,6 +55,7 @@ impl Relay {
             ≡ posts_in self.old.applications) }
         ensures moves { OnOk result (Moved (Application key) (hall_of_ends (desk_in self.old.desk)
             (change_end key closes (ends_in self.old.applications))) (hall_in self.new)) }
+        ensures over { OnOk result (IsDeaf (end_at (ends_in self.new.applications) key)) }
         ensures read { OnOk result (Stays self.old.links.items self.new.links.items) }
     {
         self.end(key)?;

@@ -1,11 +1,15 @@
 //! Connections that are lent to those who wait, opened, and asked.
-ghost use Rattle.std.specs.Prelude.{◌≡◌, ◌++◌, ◌∷◌, [], ℕ, IfOk, OnOk, false, if◌then◌else◌};
+ghost use Rattle.std.specs.Prelude.{◌≡◌, ◌++◌, ◌∷◌, [], ℕ, Bool, IfOk, None, OnOk, Some, false, true};
+ghost use Rattle.std.specs.Prelude.{if◌then◌else◌};
 ghost use Rattle.slab.specs.Slab.{get};
+ghost use Rattle.tds_relay.specs.Asking.{IsUnderway, waits_of};
 ghost use Rattle.tds_relay.specs.Fronts.{MovedOn, ends_in, hall_in, house_in};
+ghost use Rattle.tds_relay.specs.Hall.{end_at};
 ghost use Rattle.tds_relay.specs.Handing.{news_for};
 ghost use Rattle.tds_relay.specs.House.{Steps};
 ghost use Rattle.tds_relay.specs.Posts.{asks_reset, posts_in};
 ghost use Rattle.tds_relay.specs.Reads.{Opens, OpensFirst, OpensOne, Stays, open_at, opened_at};
+ghost use Rattle.tds_relay.specs.Taking.{IsDeaf};
 ghost use Rattle.tds_relay.specs.Ties.{Connection, Goes, GoesOn, Neither, NobodyWaits, desk_in};
 ghost use Rattle.tds_relay.specs.declared.link.Link.{Link};
 ghost use Rattle.tds_relay.specs.declared.link.News.TheVariants.{Comes, IsTold};
@@ -15,10 +19,9 @@ use crate::NoMemory;
 use crate::application::Asking;
 use crate::desk::Served;
 use crate::link::{Link, News};
-use crate::links::{set_open, set_tag};
+use crate::links::{append_to, place_in, set_open, set_tag};
 use crate::order::Order;
 use std::alloc::AllocError;
-use tds_service::Refusal;
 
 impl Relay {
     /// A connection that is open and logged in has come before any application asked: the first one of
@@ -135,6 +138,10 @@ impl Relay {
             ≡ posts_in self.old.applications) }
         ensures moves { OnOk result (MovedOn (hall_in self.old) (hall_in self.new)) }
         ensures opens { OnOk result (Opens self.old.links.items self.new.links.items) }
+        ensures underway { (whole : Bool) → served.had ≡ true
+            → waits_of (get self.old.applications served.hold.key) ≡ Some whole
+            → OnOk result (IsUnderway whole self.new.links.items served.hold.key
+            (hall_in self.new)) }
         ensures told { served.had ≡ false → OnOk result ((link : Link)
             × (link.news ≡ news_for (get self.old.applications served.hold.key))
             × (self.new.links.items ≡ self.old.links.items ++ link ∷ [])) }
@@ -195,32 +202,34 @@ impl Relay {
         }
     }
 
-    /// Asks what an application asks, where its connection is open and idle.
-    #[tactic(auto, using(crate::proofs::steps::Reaching::reaches_turn, crate::proofs::steps::Reaching::reaches_turned))]
+    /// Asks what an application asks, where its connection is open, and the server has acknowledged there
+    /// what it took back.
+    #[tactic(auto, using(crate::proofs::steps::Reaching::reaches_turn, crate::proofs::steps::Reaching::reaches_turned, crate::proofs::steps::Underway::of_none, crate::proofs::steps::Underway::of_over, crate::proofs::steps::Underway::drains))]
     pub(super) fn start(&mut self, key: usize) -> Result<(), NoMemory>
         ensures goes { OnOk result (GoesOn (desk_in self.old.desk) (desk_in self.new.desk)) }
         ensures kept { OnOk result (posts_in self.new.applications
             ≡ posts_in self.old.applications) }
         ensures moves { OnOk result (MovedOn (hall_in self.old) (hall_in self.new)) }
+        ensures underway { (whole : Bool) → waits_of (get self.old.applications key) ≡ Some whole
+            → OnOk result (IsUnderway whole self.new.links.items key (hall_in self.new)) }
         ensures read { OnOk result (Stays self.old.links.items self.new.links.items) }
     {
         let Some(application) = self.applications.get(key) else {
             return Ok(());
         };
-        if application.is_over || application.is_withdrawn {
+        if application.is_over {
             return Ok(());
         }
         let Asking::Waits { kind, whole } = application.asking else {
             return Ok(());
         };
         let Some(hold) = self.desk.hold_of(key) else {
+            return self.end(key);
+        };
+        if application.is_withdrawn {
             return Ok(());
-        };
-        let may_ask = match self.link(hold.number) {
-            Some(link) => link.is_open,
-            None => false,
-        };
-        if !may_ask {
+        }
+        if !self.is_open(hold.number) {
             return Ok(());
         }
         match self.desk.ask(key, kind) {
@@ -228,18 +237,32 @@ impl Relay {
                 self.counts.requests = self.counts.requests.saturating_add(1);
                 self.put_held(key, whole)
             }
-            Err(Refusal::NotIdle) => Ok(()),
-            Err(_) => self.lose(hold.number),
+            Err(_) => self.fail(key, hold.number),
         }
     }
 
+    /// A connection that an application holds doesn't take its request: both are closed.
+    pub(super) fn fail(&mut self, key: usize, number: u64) -> Result<(), NoMemory>
+        ensures goes { OnOk result (GoesOn (desk_in self.old.desk) (desk_in self.new.desk)) }
+        ensures kept { OnOk result (posts_in self.new.applications
+            ≡ posts_in self.old.applications) }
+        ensures moves { OnOk result (MovedOn (hall_in self.old) (hall_in self.new)) }
+        ensures over { OnOk result (IsDeaf (end_at (ends_in self.new.applications) key)) }
+        ensures read { OnOk result (Stays self.old.links.items self.new.links.items) }
+    {
+        self.lose(number)?;
+        self.end(key)
+    }
+
     /// Puts what is kept of a request on its connection.
-    #[tactic(auto, using(crate::proofs::steps::Posting::kept_more, crate::proofs::steps::Posting::posts_kept, crate::proofs::steps::Fronts::ends_more, crate::proofs::steps::Fronts::ends_kept))]
+    #[tactic(auto, using(crate::proofs::steps::Posting::kept_more, crate::proofs::steps::Posting::posts_kept, crate::proofs::steps::Fronts::ends_more, crate::proofs::steps::Fronts::ends_kept, crate::proofs::steps::Underway::of_none))]
     fn put_held(&mut self, key: usize, whole: bool) -> Result<(), NoMemory>
         ensures goes { OnOk result (GoesOn (desk_in self.old.desk) (desk_in self.new.desk)) }
         ensures kept { OnOk result (posts_in self.new.applications
             ≡ posts_in self.old.applications) }
         ensures moves { OnOk result (MovedOn (hall_in self.old) (hall_in self.new)) }
+        ensures underway { OnOk result (IsUnderway whole self.new.links.items key
+            (hall_in self.new)) }
         ensures read { OnOk result (Stays self.old.links.items self.new.links.items) }
     {
         let Some(application) = self.applications.get_mut(key) else {
@@ -249,6 +272,34 @@ impl Relay {
         let held = application.held().to_vec(self.alloc)?;
         application.forget();
         self.put(key, &held, whole)
+    }
+
+    /// What the desk has to send on a connection waits there. False where more would wait than may.
+    pub(super) fn fits_on(&mut self, number: u64) -> Result<bool, NoMemory>
+        ensures desk { self.new.desk ≡ self.old.desk }
+        ensures kept { OnOk result (posts_in self.new.applications
+            ≡ posts_in self.old.applications) }
+        ensures ends { OnOk result (ends_in self.new.applications
+            ≡ ends_in self.old.applications) }
+        ensures read { OnOk result (Stays self.old.links.items self.new.links.items) }
+    {
+        let fits = append_to(&mut self.links, number, &self.outbox)?;
+        self.outbox.clear();
+        if !fits {
+            return Ok(false);
+        }
+        self.order_write_on(number)?;
+        Ok(true)
+    }
+
+    /// Whether the connection of this number is open.
+    fn is_open(&self, number: u64) -> bool
+        ensures { result ≡ false → open_at number self.now.links.items ≡ None }
+    {
+        match place_in(&self.links, number) {
+            Some(place) => self.links[place].is_open,
+            None => false,
+        }
     }
 }
 

@@ -2,7 +2,8 @@ use Rattle.std.proofs.Common.{refl, rules}
 use Rattle.tds_relay.specs.Ties.{Application}
 use Rattle.tds_relay.proofs.steps.Fronts.{moves_closes, moves_lets_go}
 use Rattle.tds_relay.proofs.steps.Reaching.{ok_if, ok_more, reaches_left}
-use Rattle.tds_relay.proofs.steps.Staying.{stays_same}
+use Rattle.tds_relay.proofs.steps.Staying.{stays_on, stays_same}
+use Rattle.tds_relay.specs.Asking.{Closes}
 use Rattle.tds_relay.proofs.relay.Relay.change.Goals as goal
 
 pub returns-then-not-has_nothing_out-clause-moves : goal.returns-then-not-has_nothing_out-clause-moves
@@ -19,3 +20,24 @@ returns-clause-moves c =
 
 pub returns-clause-read : goal.returns-clause-read
 returns-clause-read c = stays_same c.wait.result _ _ _ c.in_ok-release.ensures.read (ok_if c.wait.result _ c.wait.ensures.links)
+
+pub returns-then-not-has_nothing_out-clause-underway : goal.returns-then-not-has_nothing_out-clause-underway
+returns-then-not-has_nothing_out-clause-underway c = ok_more c.expel.result _ _ (λ d whole. Closes d) c.expel.ensures.over
+
+pub returns-then-is_some-clause-goes : goal.returns-then-is_some-clause-goes
+returns-then-is_some-clause-goes c = ok_more c.expel-then-is_some.result _ _ (λ g from h. g from (reaches_left c.args.key from _ _ c.in_ok-release.ensures.leaving h)) c.expel-then-is_some.ensures.goes
+
+pub returns-then-is_some-clause-moves : goal.returns-then-is_some-clause-moves
+returns-then-is_some-clause-moves c =
+    ok_more c.expel-then-is_some.result _ _
+    (λ m from h. m from (moves_closes (Application c.args.key) from _ _ _ _ c.args.key refl refl (moves_lets_go c.args.key from _ _ _ (c.has_nothing_out.ensures (search rules)) c.in_ok-release.ensures.lets_go h)))
+    c.expel-then-is_some.ensures.moves
+
+pub returns-then-is_some-clause-underway : goal.returns-then-is_some-clause-underway
+returns-then-is_some-clause-underway c = ok_more c.expel-then-is_some.result _ _ (λ d whole. Closes d) c.expel-then-is_some.ensures.over
+
+pub returns-then-is_some-clause-read : goal.returns-then-is_some-clause-read
+returns-then-is_some-clause-read c = stays_on c.expel-then-is_some.result _ _ _ c.in_ok-release.ensures.read c.expel-then-is_some.ensures.read
+
+pub returns-clause-underway : goal.returns-clause-underway
+returns-clause-underway c = c.wait.ensures.underway (search rules)

@@ -1,11 +1,13 @@
 use Rattle.std.proofs.Common.{ap, subst, sym}
 use Rattle.tds_relay.specs.declared.desk.Desk as code
 use Rattle.tds_relay.specs.Ties.{Application, Reaches, desk_in}
-use Rattle.tds_relay.specs.Fronts.{ends_in}
+use Rattle.tds_relay.specs.Fronts.{ends_in, hall_in}
 use Rattle.tds_relay.specs.Hall.{Ends, IfOpen, IsHere, end_at}
 use Rattle.tds_relay.proofs.steps.Fronts.{moves_lets_go, moves_same, open_closed}
 use Rattle.tds_relay.proofs.steps.Reaching.{ok_more, reaches_left}
 use Rattle.tds_relay.proofs.steps.Staying.{stays_from}
+use Rattle.tds_relay.specs.Taking.{IsDeaf}
+use Rattle.tds_relay.proofs.steps.Told.{deaf_closed, lets_go_deaf}
 use Rattle.tds_relay.proofs.relay.Relay.expel.Goals as goal
 
 pub returns-clause-goes : goal.returns-clause-goes
@@ -25,3 +27,9 @@ returns-clause-moves c =
 
 pub returns-clause-read : goal.returns-clause-read
 returns-clause-read c = stays_from c.release.result _ _ _ c.in_ok-end.ensures.links c.release.ensures.read
+
+pub returns-clause-over : goal.returns-clause-over
+returns-clause-over c =
+    ok_more c.release.result _ _
+    (λ l. lets_go_deaf c.args.key (desk_in c.end.new.self.desk) (ends_in c.end.new.self.applications) (hall_in c.release.new.self) (subst (λ (es : Ends). IsDeaf (end_at es c.args.key)) (sym c.in_ok-end.ensures.ends) (deaf_closed c.args.key (ends_in c.args.self.now.applications))) l)
+    c.release.ensures.lets_go

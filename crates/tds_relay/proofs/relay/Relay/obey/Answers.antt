@@ -7,6 +7,9 @@ use Rattle.tds_relay.specs.Ties.{Application}
 use Rattle.tds_relay.proofs.steps.Told.{fed_then}
 use Rattle.tds_relay.proofs.steps.Reaching.{ok_more}
 use Rattle.tds_relay.proofs.steps.Staying.{stays_refl, stays_same}
+use Rattle.std.proofs.Common.{subst}
+use Rattle.tds_relay.specs.Asking.{IfAsks, IsUnderway}
+use Rattle.tds_relay.specs.Fronts.{hall_in}
 use Rattle.tds_relay.proofs.relay.Relay.obey.Goals as goal
 
 pub returns-in-Begin-clause-given : goal.returns-in-Begin-clause-given
@@ -80,3 +83,15 @@ returns-in-Nothing-clause-read c = stays_refl c.args.self.now.links.items
 
 pub returns-in_ok-forget-in-Acknowledge-clause-read : goal.returns-in_ok-forget-in-Acknowledge-clause-read
 returns-in_ok-forget-in-Acknowledge-clause-read c = stays_same c.acknowledge.result _ _ _ c.in_ok-forget-in-Acknowledge.ensures.read c.acknowledge.ensures.links
+
+pub returns-in-Begin-clause-underway : goal.returns-in-Begin-clause-underway
+returns-in-Begin-clause-underway c =
+    ok_more c.begin.result _ _ (λ u. subst (IfAsks (λ whole. IsUnderway whole c.begin.new.self.links.items c.args.key (hall_in c.begin.new.self))) (sym c.in-Begin.is) u) c.begin.ensures.underway
+
+pub returns-in-Body-clause-underway : goal.returns-in-Body-clause-underway
+returns-in-Body-clause-underway c =
+    ok_more c.go_on.result _ _ (λ u. subst (IfAsks (λ whole. IsUnderway whole c.go_on.new.self.links.items c.args.key (hall_in c.go_on.new.self))) (sym c.in-Body.is) u) c.go_on.ensures.underway
+
+pub returns-in-End-clause-underway : goal.returns-in-End-clause-underway
+returns-in-End-clause-underway c =
+    ok_more c.go_on-in-End.result _ _ (λ u. subst (IfAsks (λ whole. IsUnderway whole c.go_on-in-End.new.self.links.items c.args.key (hall_in c.go_on-in-End.new.self))) (sym c.in-End.is) u) c.go_on-in-End.ensures.underway

@@ -1,29 +1,60 @@
-use Rattle.std.proofs.Common.{List, ap, refl, rules, subst, ℕ}
+use Rattle.std.proofs.Common.{◌∙◌, List, ap, refl, rules, subst, sym, ℕ}
+use Rattle.tds_relay.specs.declared.desk.Desk as code
 use Rattle.tds_relay.specs.declared.link.Link.{Link}
+use Rattle.tds_relay.specs.Asking.{Closes, Sends, SendsOn}
 use Rattle.tds_relay.specs.Fronts.{MayPut}
 use Rattle.tds_relay.specs.Reads.{Stays}
 use Rattle.tds_relay.specs.Ties.{desk_in}
-use Rattle.tds_relay.proofs.steps.Fronts.{moves_same}
+use Rattle.tds_relay.proofs.steps.Fronts.{moves_closes, moves_same}
 use Rattle.tds_relay.proofs.steps.Putting.{moves_puts}
 use Rattle.tds_relay.proofs.steps.Reaching.{ok_more}
+use Rattle.tds_relay.proofs.steps.Staying.{stays_behind, stays_on}
+use Rattle.tds_relay.proofs.steps.Underway.{of_closed}
 use Rattle.tds_relay.proofs.relay.Relay.put.Goals as goal
 
+pub returns-in_default-clause-moves : goal.returns-in_default-clause-moves
+returns-in_default-clause-moves c = ok_more c.end.result _ _ (λ e by from h. moves_closes by from _ _ _ _ c.args.key (ap desk_in c.end.ensures.desk) e h) c.end.ensures.ends
+
+pub returns-in_default-clause-underway : goal.returns-in_default-clause-underway
+returns-in_default-clause-underway c = ok_more c.end.result _ _ (λ e. of_closed c.args.whole _ c.args.key _ _ _ e) c.end.ensures.ends
+
+pub returns-then-not-may_put-clause-underway : goal.returns-then-not-may_put-clause-underway
+returns-then-not-may_put-clause-underway c = ok_more c.fail.result _ _ (λ d. Closes d) c.fail.ensures.over
+
+pub returns-then-not-is_put-clause-underway : goal.returns-then-not-is_put-clause-underway
+returns-then-not-is_put-clause-underway c = ok_more c.fail-then-not-is_put.result _ _ (λ d. Closes d) c.fail-then-not-is_put.ensures.over
+
+pub returns-else-fits-clause-underway : goal.returns-else-fits-clause-underway
+returns-else-fits-clause-underway c = ok_more c.fail-else-fits.result _ _ (λ d. Closes d) c.fail-else-fits.ensures.over
+
+pub returns-then-fits-clause-underway : goal.returns-then-fits-clause-underway
+returns-then-fits-clause-underway c =
+    Sends (subst (λ (d : code.Desk). SendsOn c.args.whole (desk_in d) c.args.key) (sym (c.fits_on.ensures.desk ∙ c.note_went_on.ensures.desk)) (c.put_on-is_put.ensures.sends (search rules)))
+
+pub returns-then-not-is_put-clause-read : goal.returns-then-not-is_put-clause-read
+returns-then-not-is_put-clause-read c =
+    ok_more c.fail-then-not-is_put.result _ _ (λ s. subst (λ (ls : List Link). Stays ls c.fail-then-not-is_put.new.self.links.items) c.note_went_on.ensures.links s) c.fail-then-not-is_put.ensures.read
+
 pub returns-then-fits-clause-read : goal.returns-then-fits-clause-read
-returns-then-fits-clause-read c =
-    ok_more c.send_on.result _ _ (λ s. subst (λ (ls : List Link). Stays ls c.send_on.new.self.links.items) c.note_went_on.ensures.links s) c.send_on.ensures.read
+returns-then-fits-clause-read c = stays_behind _ _ _ c.note_went_on.ensures.links c.in_ok-fits.ensures.read
 
 pub returns-else-fits-clause-read : goal.returns-else-fits-clause-read
-returns-else-fits-clause-read c =
-    ok_more c.lose-else-fits.result _ _ (λ s. subst (λ (ls : List Link). Stays ls c.lose-else-fits.new.self.links.items) c.note_went_on.ensures.links s) c.lose-else-fits.ensures.read
+returns-else-fits-clause-read c = stays_on c.fail-else-fits.result _ _ _ (stays_behind _ _ _ c.note_went_on.ensures.links c.in_ok-fits.ensures.read) c.fail-else-fits.ensures.read
+
+pub returns-then-not-is_put-clause-moves : goal.returns-then-not-is_put-clause-moves
+returns-then-not-is_put-clause-moves c =
+    ok_more c.fail-then-not-is_put.result _ _ (λ m by from h. m by from (moves_same by from _ _ _ _ (ap desk_in c.note_went_on.ensures.desk) refl
+    (moves_puts by from _ _ _ _ c.args.key c.args.whole c.put_on-is_put.new.out.items (subst (λ (xs : List ℕ). MayPut c.args.key c.args.whole (desk_in c.args.self.now.desk) (desk_in c.put_on-is_put.new.desk) xs c.put_on-is_put.new.out.items) (search rules) c.put_on-is_put.ensures.puts)
+    (c.may_put.ensures (search rules)) c.note_went_on.ensures.ends h))) c.fail-then-not-is_put.ensures.moves
 
 pub returns-then-fits-clause-moves : goal.returns-then-fits-clause-moves
-returns-then-fits-clause-moves c =
-    ok_more c.send_on.result _ _ (λ m by from h. m by from (moves_same by from _ _ _ _ (ap desk_in c.note_went_on.ensures.desk) refl
-    (moves_puts by from _ _ _ _ c.args.key c.args.whole c.put_on-fits.new.out.items (subst (λ (xs : List ℕ). MayPut c.args.key c.args.whole (desk_in c.args.self.now.desk) (desk_in c.put_on-fits.new.desk) xs c.put_on-fits.new.out.items) (search rules) c.put_on-fits.ensures.puts)
-    (c.may_put.ensures (search rules)) c.note_went_on.ensures.ends h))) c.send_on.ensures.moves
+returns-then-fits-clause-moves c = λ by from h.
+    moves_same by from _ _ _ _ (ap desk_in c.fits_on.ensures.desk) c.in_ok-fits.ensures.ends (moves_same by from _ _ _ _ (ap desk_in c.note_went_on.ensures.desk) refl
+    (moves_puts by from _ _ _ _ c.args.key c.args.whole c.put_on-is_put.new.out.items (subst (λ (xs : List ℕ). MayPut c.args.key c.args.whole (desk_in c.args.self.now.desk) (desk_in c.put_on-is_put.new.desk) xs c.put_on-is_put.new.out.items) (search rules) c.put_on-is_put.ensures.puts)
+    (c.may_put.ensures (search rules)) c.note_went_on.ensures.ends h))
 
 pub returns-else-fits-clause-moves : goal.returns-else-fits-clause-moves
 returns-else-fits-clause-moves c =
-    ok_more c.lose-else-fits.result _ _ (λ m by from h. m by from (moves_same by from _ _ _ _ (ap desk_in c.note_went_on.ensures.desk) refl
-    (moves_puts by from _ _ _ _ c.args.key c.args.whole c.put_on-fits.new.out.items (subst (λ (xs : List ℕ). MayPut c.args.key c.args.whole (desk_in c.args.self.now.desk) (desk_in c.put_on-fits.new.desk) xs c.put_on-fits.new.out.items) (search rules) c.put_on-fits.ensures.puts)
-    (c.may_put.ensures (search rules)) c.note_went_on.ensures.ends h))) c.lose-else-fits.ensures.moves
+    ok_more c.fail-else-fits.result _ _ (λ m by from h. m by from (moves_same by from _ _ _ _ (ap desk_in c.fits_on.ensures.desk) c.in_ok-fits.ensures.ends (moves_same by from _ _ _ _ (ap desk_in c.note_went_on.ensures.desk) refl
+    (moves_puts by from _ _ _ _ c.args.key c.args.whole c.put_on-is_put.new.out.items (subst (λ (xs : List ℕ). MayPut c.args.key c.args.whole (desk_in c.args.self.now.desk) (desk_in c.put_on-is_put.new.desk) xs c.put_on-is_put.new.out.items) (search rules) c.put_on-is_put.ensures.puts)
+    (c.may_put.ensures (search rules)) c.note_went_on.ensures.ends h)))) c.fail-else-fits.ensures.moves

@@ -34,3 +34,6 @@ returns-in-Closed-clause-moves c =
 
 pub returns-in-Kept-clause-read : goal.returns-in-Kept-clause-read
 returns-in-Kept-clause-read c = stays_on c.start.result _ _ _ c.cut.ensures.read c.start.ensures.read
+
+pub returns-in-NotKept-clause-underway : goal.returns-in-NotKept-clause-underway
+returns-in-NotKept-clause-underway c = λ whole waits. ok_more c.change.result _ _ (λ u. u whole) c.change.ensures.underway

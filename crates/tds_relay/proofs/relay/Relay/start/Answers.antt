@@ -1,6 +1,9 @@
-use Rattle.std.proofs.Common.{refl}
-use Rattle.tds_relay.proofs.steps.Fronts.{moves_does}
+use Rattle.std.proofs.Common.{◌∙◌, ap, refl, rules, sym}
+use Rattle.tds_relay.specs.Asking.{Opens}
+use Rattle.tds_relay.specs.Ties.{desk_in}
+use Rattle.tds_relay.proofs.steps.Fronts.{moves_closes, moves_does}
 use Rattle.tds_relay.proofs.steps.Reaching.{ok_more, reaches_turn}
+use Rattle.tds_relay.proofs.steps.Underway.{drains}
 use Rattle.tds_relay.proofs.relay.Relay.start.Goals as goal
 
 pub returns-in-Ok-clause-goes : goal.returns-in-Ok-clause-goes
@@ -8,3 +11,14 @@ returns-in-Ok-clause-goes c = ok_more c.put_held.result _ _ (λ g by from h. g b
 
 pub returns-in-Ok-clause-moves : goal.returns-in-Ok-clause-moves
 returns-in-Ok-clause-moves c = ok_more c.put_held.result _ _ (λ m by from h. m by from (moves_does by from _ _ _ _ _ _ _ c.in-Ok.ensures.ok (tt, tt) tt refl h)) c.put_held.ensures.moves
+
+pub returns-in_default-hold_of-clause-moves : goal.returns-in_default-hold_of-clause-moves
+returns-in_default-hold_of-clause-moves c = ok_more c.end.result _ _ (λ e by from h. moves_closes by from _ _ _ _ c.args.key (ap desk_in c.end.ensures.desk) e h) c.end.ensures.ends
+
+pub returns-then-application-2-clause-underway : goal.returns-then-application-2-clause-underway
+returns-then-application-2-clause-underway c = λ whole waits.
+    drains whole _ c.args.key (desk_in c.args.self.now.desk) c.args.self.now.applications c.in-Some.application.now c.in-Some-hold_of.hold c.in-Some.ensures (search rules)
+    (sym c.hold_of.ensures ∙ c.in-Some-hold_of.is)
+
+pub returns-then-not-is_open-clause-underway : goal.returns-then-not-is_open-clause-underway
+returns-then-not-is_open-clause-underway c = λ whole waits. Opens c.in-Some-hold_of.hold (sym c.hold_of.ensures ∙ c.in-Some-hold_of.is) (c.is_open.ensures (search rules))

@@ -6,6 +6,12 @@ use Rattle.tds_relay.proofs.steps.Fed.{closed_fed, end_open, end_there, ends_wri
 use Rattle.tds_relay.proofs.steps.Fronts.{moved_same}
 use Rattle.tds_relay.proofs.steps.Posting.{posts_kept}
 use Rattle.tds_relay.proofs.steps.Told.{tells_fed, tells_refused}
+use Rattle.slab.specs.Slab.{with_value}
+use Rattle.tds_relay.specs.Fronts.{hall_of_ends}
+use Rattle.tds_relay.proofs.steps.Asked.{asks_deaf, asks_fed, asks_links, asks_moved, asks_refused}
+use Rattle.tds_relay.proofs.steps.Fronts.{ends_kept, moves_same}
+use Rattle.tds_relay.proofs.steps.Underway.{none_deaf, over_deaf}
+use Rattle.tds_relay.proofs.steps.Staying.{stays_opens}
 use Rattle.tds_relay.proofs.relay.Relay.take.Goals as goal
 
 pub returns-in_default-feed-clause-tells : goal.returns-in_default-feed-clause-tells
@@ -31,3 +37,41 @@ returns-clause-tells c = λ first bytes t.
     c.in_ok-obey.ensures.moves
     (is_fed c.args.key slab a _ c.args.piece.now c.in-Ok.fed.count c.in-Ok.fed.said c.in-Some.ensures.value (search rules) (search rules) refl c.feed.ensures.front (search rules)) refl
     (c.in_ok-obey.ensures.given ∙ ap (λ (ps : Posts). given_by c.args.key c.in-Ok.fed.said ps) (posts_kept slab c.args.key a _ c.in-Some.ensures.value refl)) t
+
+pub returns-in_default-feed-clause-asks : goal.returns-in_default-feed-clause-asks
+returns-in_default-feed-clause-asks c = λ first bytes t.
+    let slab = c.args.self.now.applications in
+    let a = c.in-Some.application.now in
+    let es = ends_in slab in
+    let here : a.is_over ≡ false = search rules in
+    let was = end_there slab c.args.key a c.in-Some.ensures.value ∙ ap Some (end_open a here) in
+    let says = sym c.feed.ensures.brings ∙ c.in_default-feed.is in
+    asks_refused c.args.key first bytes c.args.piece.now _ _ (house_in c.args.self.now) (hall_in c.expel.new.self) _ a.front a.is_withdrawn _ was
+    (waits_refused c.args.key es c.args.piece.now a.front a.is_withdrawn _ (posts_in slab) was says)
+    (refused_is c.args.key (desk_in c.args.self.now.desk) es c.args.piece.now a.front a.is_withdrawn _ was says) says
+    (moved_same (Application c.args.key) _ _ _ _ _ refl
+    (sym (closed_fed es _ c.args.key _ (end_of a) (end_there slab c.args.key a c.in-Some.ensures.value) (ends_written slab c.args.key _))) c.in_ok-expel.ensures.moves)
+    (c.in_ok-expel.ensures.kept ∙ posts_kept slab c.args.key a _ c.in-Some.ensures.value refl)
+    (asks_links c.args.key first (house_in c.args.self.now) bytes c.args.piece.now _ _ (stays_opens _ _ c.in_ok-expel.ensures.read) t)
+
+pub returns-clause-asks : goal.returns-clause-asks
+returns-clause-asks c = λ first bytes t.
+    let slab = c.args.self.now.applications in
+    let a = c.in-Some.application.now in
+    asks_fed c.args.key first bytes c.args.piece.now _ _ _ (desk_in c.args.self.now.desk) (ends_in slab) _ (posts_in slab) _ (hall_in c.obey.new.self) c.in-Ok.fed.said
+    c.in_ok-obey.ensures.moves
+    (is_fed c.args.key slab a _ c.args.piece.now c.in-Ok.fed.count c.in-Ok.fed.said c.in-Some.ensures.value (search rules) (search rules) refl c.feed.ensures.front (search rules))
+    c.in_ok-obey.ensures.underway c.in_ok-obey.ensures.read refl
+    (c.in_ok-obey.ensures.given ∙ ap (λ (ps : Posts). given_by c.args.key c.in-Ok.fed.said ps) (posts_kept slab c.args.key a _ c.in-Some.ensures.value refl)) t
+
+pub returns-in_default-clause-asks : goal.returns-in_default-clause-asks
+returns-in_default-clause-asks c = λ first bytes t.
+    asks_deaf c.args.key first (house_in c.args.self.now) bytes c.args.piece.now _ _ (none_deaf c.args.key c.args.self.now.applications (search rules)) t
+
+pub returns-then-application-clause-asks : goal.returns-then-application-clause-asks
+returns-then-application-clause-asks c = λ first bytes t.
+    let slab = c.args.self.now.applications in
+    let a = c.in-Some.application.now in
+    asks_moved c.args.key first bytes _ _ (hall_in c.args.self.now) (hall_of_ends (desk_in c.args.self.now.desk) (ends_in (with_value slab c.args.key a))) (posts_in slab) (posts_in (with_value slab c.args.key a))
+    (λ from m. moves_same (Application c.args.key) from _ _ _ _ refl (ends_kept slab c.args.key a a c.in-Some.ensures.value refl) m) (posts_kept slab c.args.key a a c.in-Some.ensures.value refl)
+    (asks_deaf c.args.key first (house_in c.args.self.now) bytes c.args.piece.now _ _ (over_deaf c.args.key slab a c.in-Some.ensures.value (search rules)) t)

@@ -1,10 +1,12 @@
-use Rattle.std.proofs.Common.{List, subst, sym, ℕ}
+use Rattle.std.proofs.Common.{◌∙◌, List, subst, sym, ℕ}
 use Rattle.tds_relay.specs.declared.relay.Relay.{Relay}
 use Rattle.tds_relay.specs.Fronts.{house_in}
 use Rattle.tds_relay.specs.Reads.{Stays}
 use Rattle.tds_relay.specs.Taking.{Tells}
 use Rattle.tds_relay.proofs.steps.Staying.{stays_both, stays_on, stays_refl}
 use Rattle.tds_relay.proofs.steps.Told.{tells_begin, tells_expelled, tells_left}
+use Rattle.tds_relay.specs.Asking.{Asks}
+use Rattle.tds_relay.proofs.steps.Asked.{asks_begin, asks_expelled, asks_left, empty_is}
 use Rattle.tds_relay.proofs.relay.Relay.take_all.Goals as goal
 use Rattle.tds_relay.proofs.relay.Relay.take_all.Goals.{else-taking-test, then-taking-test+else-is_empty+in_ok-count+else-counter-end}
 
@@ -12,6 +14,7 @@ pub taking-init : goal.taking-init
 taking-init c = record {
   goes = λ from h. h;
   tells = tells_begin c.args.key (house_in c.args.self.now) c.args.piece.now;
+  asks = asks_begin c.args.key (house_in c.args.self.now) c.args.piece.now c.args.self.now.links.items;
   read = stays_refl c.args.self.now.links.items;
 }
 
@@ -19,6 +22,7 @@ pub taking-preserved : goal.taking-preserved
 taking-preserved c = record {
   goes = λ from h. c.in_ok-count.ensures.goes from (c.taking.invariant.goes from h);
   tells = tells_left c.args.key _ _ _ _ _ c.behind-rest.ensures (c.in_ok-count.ensures.tells (house_in c.args.self.now) c.args.piece.now c.taking.invariant.tells);
+  asks = asks_left c.args.key _ _ _ _ _ _ c.behind-rest.ensures (c.in_ok-count.ensures.asks (house_in c.args.self.now) c.args.piece.now c.taking.invariant.asks);
   read = stays_both _ _ _ c.taking.invariant.read c.in_ok-count.ensures.read;
 }
 
@@ -43,3 +47,19 @@ returns-clause-read c =
       | then-taking-test+else-is_empty+in_ok-count+else-counter-end w ↦ subst to (sym w.self-is) (stays_both _ _ _ c.taking.invariant.read w.in_ok-count.ensures.read)
     ] in
     stays_on c.expel.result _ _ _ led c.expel.ensures.read
+
+pub returns-clause-asks : goal.returns-clause-asks
+returns-clause-asks c =
+    let old = house_in c.args.self.now in
+    let to : Relay → Type 0 = λ r. (left : List ℕ) × Asks c.args.key old c.args.piece.now left r.links.items (house_in r) in
+    let led : to c.taking-test.self =
+    elim c.taking-test.branch [
+      | else-taking-test w ↦ subst to (sym w.self-is) (c.taking.rest.now, c.taking.invariant.asks)
+      | then-taking-test+else-is_empty+in_ok-count+else-counter-end w ↦
+          subst to (sym w.self-is) (_, w.in_ok-count.ensures.asks old c.args.piece.now c.taking.invariant.asks)
+    ] in
+    asks_expelled c.expel.result c.args.key old c.args.piece.now led.0 _ _ _ _ _ _ _ _ led.1 c.expel.ensures.moves c.expel.ensures.kept c.expel.ensures.read
+
+pub returns-then-is_empty-clause-asks : goal.returns-then-is_empty-clause-asks
+returns-then-is_empty-clause-asks c =
+    asks_left c.args.key _ _ _ _ _ _ (empty_is c.taking.rest.now (sym c.is_empty.ensures ∙ c.if-is_empty.true)) c.taking.invariant.asks

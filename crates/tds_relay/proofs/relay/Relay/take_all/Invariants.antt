@@ -1,3 +1,4 @@
+use Rattle.tds_relay.specs.Asking.{Asks}
 use Rattle.tds_relay.specs.Fronts.{house_in}
 use Rattle.tds_relay.specs.Reads.{Stays}
 use Rattle.tds_relay.specs.Taking.{Tells}
@@ -8,5 +9,6 @@ abbrev pub invariant-taking : goal.invariant-taking
 invariant-taking l = record {
   goes : Goes (Application l.fn.key) (desk_in l.fn.self.desk) (desk_in l.self.desk);
   tells : Tells l.fn.key (house_in l.fn.self) l.fn.piece l.rest (house_in l.self);
+  asks : Asks l.fn.key (house_in l.fn.self) l.fn.piece l.rest l.self.links.items (house_in l.self);
   read : Stays l.fn.self.links.items l.self.links.items;
 }

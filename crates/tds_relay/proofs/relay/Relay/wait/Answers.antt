@@ -1,6 +1,7 @@
 use Rattle.std.proofs.Common.{refl, rules}
 use Rattle.tds_relay.proofs.steps.Fronts.{moves_does}
 use Rattle.tds_relay.proofs.steps.Reaching.{ok_more, reaches_turn}
+use Rattle.tds_relay.proofs.steps.Underway.{in_line}
 use Rattle.tds_relay.proofs.relay.Relay.wait.Goals as goal
 
 pub returns-then-is_away-clause-goes : goal.returns-then-is_away-clause-goes
@@ -8,4 +9,7 @@ returns-then-is_away-clause-goes c = ok_more c.wait.result _ _ (λ t by cause fr
 
 pub returns-then-is_away-clause-moves : goal.returns-then-is_away-clause-moves
 returns-then-is_away-clause-moves c =
-    ok_more c.wait.result _ _ (λ t by cause from h. moves_does by from _ _ _ _ _ _ _ t (c.is_away.ensures (search rules)) cause refl h) c.wait.ensures.ok
+    ok_more c.wait.result _ _ (λ t by cause from h. moves_does by from _ _ _ _ _ _ _ t (c.is_away.ensures.away (search rules)) cause refl h) c.wait.ensures.ok
+
+pub returns-then-is_away-clause-underway : goal.returns-then-is_away-clause-underway
+returns-then-is_away-clause-underway c = λ none. ok_more c.wait.result _ _ (λ t whole. in_line whole _ c.args.key _ _ _ t.desk_is) c.wait.ensures.ok

@@ -1,5 +1,6 @@
-use Rattle.std.proofs.Common.{inl, inr, refl, rules, subst, sym}
-use Rattle.tds_relay.specs.Ties.{Reaches}
+use Rattle.std.proofs.Common.{◌≡◌, Bool, false, inl, inr, refl, rules, subst, sym, true}
+use Rattle.tds_relay.specs.Asking.{SendsOn}
+use Rattle.tds_relay.specs.Ties.{Reaches, desk_in}
 use Rattle.tds_relay.proofs.steps.Reaching.{reaches_turn}
 use Rattle.tds_relay.proofs.relay.asking.put_on.Goals as goal
 
@@ -27,3 +28,13 @@ returns-in-Ok-finish-clause-puts c = inr (record {
 pub returns-in-Err-clause-puts : goal.returns-in-Err-clause-puts
 returns-in-Err-clause-puts c =
     inr (record { count = c.in-Ok.ensures.ok.0; mid = _; between = _; first = c.in-Ok.ensures.ok.1; last = inl (c.in-Err.ensures.err, c.in-Err.ensures.nothing) })
+
+pub returns-then-not-whole-clause-sends : goal.returns-then-not-whole-clause-sends
+returns-then-not-whole-clause-sends c = λ e.
+    let part : c.args.whole ≡ false = search rules in
+    subst (λ (b : Bool). SendsOn b (desk_in c.put.new.self) c.args.key) (sym part) c.in-Ok.ensures.sends
+
+pub returns-in-Ok-finish-clause-sends : goal.returns-in-Ok-finish-clause-sends
+returns-in-Ok-finish-clause-sends c = λ e.
+    let whole : c.args.whole ≡ true = search rules in
+    subst (λ (b : Bool). SendsOn b (desk_in c.finish.new.self) c.args.key) (sym whole) c.in-Ok-finish.ensures.sends

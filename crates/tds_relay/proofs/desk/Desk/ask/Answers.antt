@@ -1,0 +1,9 @@
+use Rattle.std.proofs.Common.{rules}
+use Rattle.tds_service.specs.Table.{service_in}
+use Rattle.tds_relay.specs.Ties.{desk_in}
+use Rattle.tds_relay.proofs.steps.Sent.{asks_on}
+use Rattle.tds_relay.proofs.desk.Desk.ask.Goals as goal
+
+pub returns-in-Ok-clause-sends : goal.returns-in-Ok-clause-sends
+returns-in-Ok-clause-sends c =
+    asks_on (desk_in c.args.self.now) (service_in c.ask.new.self) c.args.key c.in-Some.hold (search rules) c.in-Ok.ensures.ok.service_is c.in-Ok.ensures.ok.reply_is

@@ -1,0 +1,26 @@
+use Rattle.std.proofs.Common.{◌∙◌, ap, subst, sym}
+use Rattle.tds_relay.specs.declared.desk.Desk as code
+use Rattle.tds_relay.specs.Hall.{Ends, end_at}
+use Rattle.tds_relay.specs.Taking.{IsDeaf}
+use Rattle.tds_relay.specs.Ties.{Reaches, desk_in}
+use Rattle.tds_relay.proofs.steps.Fronts.{moves_closes}
+use Rattle.tds_relay.proofs.steps.Reaching.{ok_if, ok_more}
+use Rattle.tds_relay.proofs.steps.Staying.{stays_same}
+use Rattle.tds_relay.proofs.steps.Told.{deaf_closed}
+use Rattle.tds_relay.proofs.relay.Relay.fail.Goals as goal
+
+pub returns-clause-goes : goal.returns-clause-goes
+returns-clause-goes c = ok_if c.end.result _ (λ by from h. subst (λ (d : code.Desk). Reaches by from (desk_in d)) (sym c.end.ensures.desk) (c.in_ok-lose.ensures.goes by from h))
+
+pub returns-clause-kept : goal.returns-clause-kept
+returns-clause-kept c = ok_more c.end.result _ _ (λ k. k ∙ c.in_ok-lose.ensures.kept) c.end.ensures.kept
+
+pub returns-clause-moves : goal.returns-clause-moves
+returns-clause-moves c =
+    ok_more c.end.result _ _ (λ e by from h. moves_closes by from _ _ _ _ c.args.key (ap desk_in c.end.ensures.desk) e (c.in_ok-lose.ensures.moves by from h)) c.end.ensures.ends
+
+pub returns-clause-over : goal.returns-clause-over
+returns-clause-over c = ok_more c.end.result _ _ (λ e. subst (λ (es : Ends). IsDeaf (end_at es c.args.key)) (sym e) (deaf_closed c.args.key _)) c.end.ensures.ends
+
+pub returns-clause-read : goal.returns-clause-read
+returns-clause-read c = stays_same c.end.result _ _ _ c.in_ok-lose.ensures.read c.end.ensures.links

@@ -1,0 +1,17 @@
+use Rattle.std.proofs.Common.{refl, rules}
+use Rattle.tds_relay.specs.Ties.{Application}
+use Rattle.tds_relay.proofs.steps.Reaching.{ok_if, ok_more}
+use Rattle.tds_relay.proofs.steps.Staying.{stays_refl, stays_same}
+use Rattle.tds_relay.proofs.relay.Relay.seek.Goals as goal
+
+pub returns-in-None-clause-goes : goal.returns-in-None-clause-goes
+returns-in-None-clause-goes c = ok_more c.wait.result _ _ (λ g from h. g (Application c.args.key) refl from h) c.wait.ensures.goes
+
+pub returns-in-None-clause-moves : goal.returns-in-None-clause-moves
+returns-in-None-clause-moves c = ok_more c.wait.result _ _ (λ m from h. m (Application c.args.key) refl from h) c.wait.ensures.moves
+
+pub returns-in-None-clause-underway : goal.returns-in-None-clause-underway
+returns-in-None-clause-underway c = λ whole waits. ok_more c.wait.result _ _ (λ u. u whole) (c.wait.ensures.underway (search rules))
+
+pub returns-in-None-clause-read : goal.returns-in-None-clause-read
+returns-in-None-clause-read c = stays_same c.wait.result _ _ _ (stays_refl c.args.self.now.links.items) (ok_if c.wait.result _ c.wait.ensures.links)

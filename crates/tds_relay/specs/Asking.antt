@@ -1,0 +1,115 @@
+-- That a request goes on: where it is, behind each piece of its application's bytes by which it begins, goes on or ends.
+use Rattle.std.specs.Prelude.{◌≡◌, ◌⊎◌, ℕ, Bool, true, false, List, [], ◌∷◌, Option, Some, None, Result, Ok, Err, option_map}
+use Rattle.tds_front.specs.declared.fault.FrontFault.{FrontFault}
+use Rattle.tds_front.specs.declared.front.Fed.{Fed}
+use Rattle.tds_front.specs.declared.front.Said.{Said}
+use Rattle.tds_front.specs.declared.front.Said.TheVariants as said
+use Rattle.tds_front.specs.Bytes.{fed}
+use Rattle.tds_service.specs.Line as line
+use Rattle.tds_service.specs.Service.{Seat, Service, find_by, has_lease}
+use Rattle.tds_relay.specs.declared.application.Application.{Application}
+use Rattle.tds_relay.specs.declared.application.Asking.{Asking}
+use Rattle.tds_relay.specs.declared.application.Asking.TheVariants as asking
+use Rattle.tds_relay.specs.declared.desk.Hold.{Hold}
+use Rattle.tds_relay.specs.declared.link.Link.{Link}
+use Rattle.tds_relay.specs.Desk.{Desk, find_key}
+use Rattle.tds_relay.specs.Hall.{End, Ends, Hall, Open, Over, end_at, is_in}
+use Rattle.tds_relay.specs.House.{House, Step, Makes, Takes, after, after_all}
+use Rattle.tds_relay.specs.Reads.{open_at}
+use Rattle.tds_relay.specs.Taking.{IsDeaf, Tells}
+
+-- ---- On its connection
+
+-- where the line of a connection is that is lent by this lease
+abbrev pub stage_by : Service → ℕ → Option line.Stage
+stage_by s lease = option_map (λ (c : Seat). c.line.stage) (find_by (has_lease lease) s.seats)
+
+-- A request is being sent there; or all of it was, where it is whole.
+abbrev pub IsSent : Bool → Option line.Stage → Type 0
+IsSent whole None = ⊥
+IsSent whole (Some line.Idle) = ⊥
+IsSent whole (Some (line.Sending begun)) = whole ≡ false
+IsSent whole (Some line.Reading) = whole ≡ true
+IsSent whole (Some line.Cancelling) = ⊥
+IsSent whole (Some (line.Broken fault)) = ⊥
+
+pub record SendsOn (whole : Bool) (d : Desk) (key : ℕ) : Type 0 where
+  pub hold : Hold
+  pub its : find_key key d.holds ≡ Some hold
+  pub sent : IsSent whole (stage_by d.service hold.lease)
+
+-- ---- Where a request is
+
+-- It was taken back, and the server's acknowledgement of that is due.
+abbrev pub IsTakenBack : Option End → Type 0
+IsTakenBack None = ⊥
+IsTakenBack (Some (Open front withdrawn)) = withdrawn ≡ true
+IsTakenBack (Some Over) = ⊥
+
+-- A request of this application, of which all has come or not, beside these connections.
+pub data IsUnderway (whole : Bool) (links : List Link) (key : ℕ) (h : Hall) : Type 0 where
+  -- its application stands in the line
+  Waits : is_in key h.desk.line ≡ true → IsUnderway whole links key h
+  -- or holds a connection that isn't open yet; or one on which what it took back isn't acknowledged yet
+  Opens : (hold : Hold) → find_key key h.desk.holds ≡ Some hold → open_at hold.number links ≡ None → IsUnderway whole links key h
+  Drains : (hold : Hold) → find_key key h.desk.holds ≡ Some hold → IsTakenBack (end_at h.ends key) → IsUnderway whole links key h
+  -- or the request was asked on the connection that its application holds, and is being sent; where all of it has come, its end was sent
+  Sends : SendsOn whole h.desk key → IsUnderway whole links key h
+  -- or its application is to be closed
+  Closes : IsDeaf (end_at h.ends key) → IsUnderway whole links key h
+
+-- ---- Behind each piece
+
+-- what is said of a piece
+abbrev pub said_in : Result Fed FrontFault → Said
+said_in (Ok fed) = fed.said
+said_in (Err fault) = said.Nothing
+
+abbrev pub said_of : List ℕ → Option End → Said
+said_of bytes None = said.Nothing
+said_of bytes (Some (Open front withdrawn)) = said_in (fed front bytes).brings
+said_of bytes (Some Over) = said.Nothing
+
+-- where by it a request begins or goes on, or ends
+abbrev pub IfAsks : (Bool → Type 0) → Said → Type 0
+IfAsks P said.Nothing = Unit {0}
+IfAsks P (said.Begin kind reset) = P false
+IfAsks P (said.Body count) = P false
+IfAsks P (said.End count) = P true
+IfAsks P (said.Forget gone) = Unit {0}
+IfAsks P said.Acknowledge = Unit {0}
+IfAsks P said.HandOn = Unit {0}
+
+-- at once, or by the moves before anything else comes
+abbrev pub Soon : (Hall → Type 0) → House → List Step → Type 0
+Soon P h [] = P h.hall
+Soon P h (Makes move ∷ steps) = P h.hall ⊎ Soon P (after h (Makes move)) steps
+Soon P h (step ∷ steps) = P h.hall
+
+-- Behind each piece that steps take of an application's request this holds, before the next one is taken.
+abbrev pub AreObeyed : (Bool → Hall → Type 0) → ℕ → House → List Step → Type 0
+AreObeyed P key h [] = Unit {0}
+AreObeyed P key h (Takes other bytes ∷ steps) =
+    IfAsks (λ whole. Soon (P whole) (after h (Takes other bytes)) steps) (said_of bytes (end_at h.hall.ends key)) × AreObeyed P key (after h (Takes other bytes)) steps
+AreObeyed P key h (step ∷ steps) = AreObeyed P key (after h step) steps
+
+-- An application's bytes are taken, up to these, and behind each piece its request is underway.
+pub record Asks (key : ℕ) (old : House) (bytes left : List ℕ) (links : List Link) (new : House) : Type 0 where
+  pub tells : Tells key old bytes left new
+  pub obeyed : AreObeyed (λ whole. IsUnderway whole links key) key old tells.steps
+
+-- Whatever was taken before, these bytes are taken behind it, up to these.
+abbrev pub AsksOn : ℕ → List ℕ → List ℕ → List Link → List Link → House → House → Type 0
+AsksOn key left rest links next old new = (first : House) (bytes : List ℕ) → Asks key first bytes left links old → Asks key first bytes rest next new
+
+-- ---- As the code has it
+
+-- whether all has come of an application's request that waits, if one does
+abbrev pub waits_in : Asking → Option Bool
+waits_in asking.Nothing = None
+waits_in (asking.Waits kind whole) = Some whole
+waits_in asking.Goes = None
+
+abbrev pub waits_of : Option Application → Option Bool
+waits_of None = None
+waits_of (Some a) = waits_in a.asking
