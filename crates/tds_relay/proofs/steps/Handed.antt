@@ -10,10 +10,9 @@ use Rattle.tds_packet.specs.Reading as packets
 use Rattle.tds_packet.specs.Reading.{IsWhole, up_to_end, with_taken}
 use Rattle.tds_packet.specs.Stream.{IsLess}
 use Rattle.tds_service.specs.Service.{Seat, find_by, has_number, lease_at, seat_numbered}
-use Rattle.tds_service.specs.Table.{reading_by, reading_on, seat_in, seats_in}
+use Rattle.tds_service.specs.Table.{reading_by, seat_in, seats_in}
 use Rattle.tds_service.specs.declared.seat.Seat as seats
 use Rattle.tds_relay.specs.declared.application.Application.{Application}
-use Rattle.tds_relay.specs.declared.desk.Desk as desks
 use Rattle.tds_relay.specs.declared.desk.coming.Heard.{Heard}
 use Rattle.tds_relay.specs.declared.desk.coming.What.{What}
 use Rattle.tds_relay.specs.declared.desk.coming.What.TheVariants as whats
@@ -23,13 +22,13 @@ use Rattle.tds_relay.specs.declared.link.News.{News}
 use Rattle.tds_relay.specs.declared.link.News.TheVariants as how
 use Rattle.tds_relay.specs.Cutting.{ends_in}
 use Rattle.tds_relay.specs.Desk.{Desk, Comes, Way, turn, whose}
-use Rattle.tds_relay.specs.Fronts.{IsWhat, end_of, ends_in as ends_of, house_of, house_with, told_by}
+use Rattle.tds_relay.specs.Fronts.{IsWhat, end_of, ends_in as ends_of, house_with, told_by}
 use Rattle.tds_relay.specs.Hall as hall
 use Rattle.tds_relay.specs.Hall.{End, Ends, Open, Over, done_by, end_at, told, what_in}
 use Rattle.tds_relay.specs.Handing.{Brings, Hears, IsBy, IsDone, IsFor, Passing, fed, news_with}
 use Rattle.tds_relay.specs.House.{House, IsHanded, IsRight, Manner, MayHand, Withheld, after, change_whose, closes, end_whose, handed, is_said, put_some}
 use Rattle.tds_relay.specs.Posts.{Post, Posts, change, post_at, post_of, posts_in}
-use Rattle.tds_relay.specs.Ties.{Turns, desk_in, part_on}
+use Rattle.tds_relay.specs.Ties.{Turns, part_on}
 use Rattle.tds_relay.proofs.steps.Fronts.{end_is, told_whose}
 use Rattle.tds_relay.proofs.steps.Posting.{posts_changed}
 
@@ -84,7 +83,7 @@ pub nothing_put : (posts : Posts) (key : ℕ) → change key (put_some None) pos
 nothing_put posts key = ap (λ (o : Option Post). slice_set posts key o) (same_post (post_at posts key)) ∙ set-get_or posts key None
 
 -- nothing of it is
-withheld_is : (who : Option ℕ) (h : Header) (content : List ℕ) (posts : Posts) → posts ≡ change_whose who (put_some (handed Withheld h content)) posts
+pub withheld_is : (who : Option ℕ) (h : Header) (content : List ℕ) (posts : Posts) → posts ≡ change_whose who (put_some (handed Withheld h content)) posts
 withheld_is None h content posts = refl
 withheld_is (Some key) h content posts = sym (nothing_put posts key)
 
@@ -96,7 +95,7 @@ handed_is who key h content manner s a b its is passes =
 
 -- ---- Why
 
-withheld_for : (said : Bool) (goes : News) (a : Answer) (h : Header) (content : List ℕ) → said ≡ false → IsFor said goes a h content Withheld
+pub withheld_for : (said : Bool) (goes : News) (a : Answer) (h : Header) (content : List ℕ) → said ≡ false → IsFor said goes a h content Withheld
 withheld_for false goes a h content e = refl
 withheld_for true goes a h content e = absurd (let u : ⊥ = cc in u)
 
@@ -160,7 +159,7 @@ found_seat d number key (Some c) e h = (c, refl)
 found_seat d number key None e h =
     absurd (let nobody : whose d number ≡ None = ap (λ (o : Option Seat). Rattle.tds_relay.specs.Desk.whose_by (lease_at o) d.holds) e in let u : Some key ≡ None = sym h ∙ nobody in let v : ⊥ = cc in v)
 
-has_walker : (d : Desk) (number key : ℕ) (cs : List seats.Seat) → d.service.seats ≡ seats_in cs → whose d number ≡ Some key → IsSome (reading_by (has_number number) cs)
+pub has_walker : (d : Desk) (number key : ℕ) (cs : List seats.Seat) → d.service.seats ≡ seats_in cs → whose d number ≡ Some key → IsSome (reading_by (has_number number) cs)
 has_walker d number key cs is h =
     let c = found_seat d number key (seat_numbered number d.service.seats) refl h in
     walker_by (has_number number) cs c.0 (ap (λ (xs : List Seat). seat_numbered number xs) (sym is) ∙ c.1)
@@ -168,16 +167,12 @@ has_walker d number key cs is h =
 -- ---- That it was
 
 -- a packet has come, and was handed on so
-pub passing : (number : ℕ) (at : desks.Desk) (s : Slab Application) (l : Link) (heard : Heard) (d1 : Desk) (p1 : Posts) (h : Header) (content : List ℕ) (ends : Bool) (way : Way) (manner : Manner) (before after : List ℕ)
-    → IsPacket l.reader.direction l.reader.size l.reader.taken h content → ends ≡ ends_in h → Turns (Comes number (part_on (reading_on number at.service) content ends) way) (desk_in at) d1 before after
-    → heard.key ≡ whose (desk_in at) number → IsWhat heard.key heard.what (done_by (desk_in at) number (part_on (reading_on number at.service) content ends))
-    → IsFor (is_said heard.what (end_whose heard.key (ends_of s))) (news_with heard.what l.news) l.answer h content manner
-    → p1 ≡ change_whose (whose (desk_in at) number) (put_some (handed manner h content)) (posts_in s)
-    → Brings number (reading_on number at.service) l.news l.answer l.reader heard (house_of at s) (house_with d1 (told_by (Some heard) (ends_of s)) p1)
-passing number at s l heard d1 p1 h content ends way manner before after packet last turned its what by is =
-    let d = desk_in at in
-    let es = ends_of s in
-    let walker = reading_on number at.service in
+pub passing : (number : ℕ) (walker : Option Reading) (goes : News) (a : Answer) (r : packets.Reading) (heard : Heard) (d d1 : Desk) (es : Ends) (p p1 : Posts) (h : Header) (content : List ℕ) (ends : Bool) (way : Way) (manner : Manner) (before after : List ℕ)
+    → IsPacket r.direction r.size r.taken h content → ends ≡ ends_in h → Turns (Comes number (part_on walker content ends) way) d d1 before after
+    → heard.key ≡ whose d number → IsWhat heard.key heard.what (done_by d number (part_on walker content ends)) → ((key : ℕ) → whose d number ≡ Some key → IsSome walker)
+    → IsFor (is_said heard.what (end_whose heard.key es)) (news_with heard.what goes) a h content manner → p1 ≡ change_whose (whose d number) (put_some (handed manner h content)) p
+    → Brings number walker goes a r heard (house_with d es p) (house_with d1 (told_by (Some heard) es) p1)
+passing number walker goes a r heard d d1 es p p1 h content ends way manner before after packet last turned its what there by is =
     let turns = subst (λ (b : Bool). Turns (Comes number (part_on walker content b) way) d d1 before after) last turned in
     let said = subst (λ (b : Bool). IsWhat heard.key heard.what (done_by d number (part_on walker content b))) last what in
     let dones = done_by d number (part_on walker content (ends_in h)) in
@@ -189,7 +184,7 @@ passing number at s l heard d1 p1 h content ends way manner before after packet 
       manner = manner;
       whose_is = its;
       what_is = said;
-      has_walker = λ key e. has_walker d number key at.service.seats.items refl e;
+      has_walker = there;
       by = by;
       is =
           ap (λ (e : Desk). house_with e (told_by (Some heard) es) p1) turns.desk_is
@@ -197,16 +192,6 @@ passing number at s l heard d1 p1 h content ends way manner before after packet 
           (sym (ap (λ (o : Option ℕ). hall.change_whose o (told (what_in dones)) es) (sym its) ∙ told_whose heard.key heard.what dones es said))
           ∙ ap (λ (q : Posts). house_with (turn d (Comes number (part_on walker content (ends_in h)) way)).desk (hall.change_whose (whose d number) (told (what_in dones)) es) q) is;
     })
-
--- or to nobody
-pub withheld : (number : ℕ) (at : desks.Desk) (s : Slab Application) (l : Link) (heard : Heard) (d1 : Desk) (p1 : Posts) (h : Header) (content : List ℕ) (ends : Bool) (way : Way) (before after : List ℕ)
-    → IsPacket l.reader.direction l.reader.size l.reader.taken h content → ends ≡ ends_in h → Turns (Comes number (part_on (reading_on number at.service) content ends) way) (desk_in at) d1 before after
-    → heard.key ≡ whose (desk_in at) number → IsWhat heard.key heard.what (done_by (desk_in at) number (part_on (reading_on number at.service) content ends))
-    → is_said heard.what (end_whose heard.key (ends_of s)) ≡ false → p1 ≡ posts_in s
-    → Brings number (reading_on number at.service) l.news l.answer l.reader heard (house_of at s) (house_with d1 (told_by (Some heard) (ends_of s)) p1)
-withheld number at s l heard d1 p1 h content ends way before after packet last turned its what unsaid same =
-    passing number at s l heard d1 p1 h content ends way Withheld before after packet last turned its what
-    (withheld_for (is_said heard.what (end_whose heard.key (ends_of s))) (news_with heard.what l.news) l.answer h content unsaid) (same ∙ withheld_is (whose (desk_in at) number) h content (posts_in s))
 
 -- ---- Of which bytes
 

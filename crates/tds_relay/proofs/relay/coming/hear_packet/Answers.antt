@@ -1,12 +1,15 @@
-use Rattle.std.proofs.Common.{◌≡◌, ◌∙◌, false, refl, rules, sym, true, Some, subst}
+use Rattle.std.proofs.Common.{◌≡◌, ◌∙◌, false, refl, rules, sym, true, Some, ℕ, subst}
+use Rattle.std.specs.Prelude.{IsSome}
+use Rattle.tds_service.specs.Table.{reading_on}
 use Rattle.tds_relay.specs.declared.link.News.{News}
 use Rattle.tds_relay.specs.Desk.{whose}
 use Rattle.tds_relay.specs.Fronts.{ends_in}
 use Rattle.tds_relay.specs.Handing.{IsBy, news_with}
-use Rattle.tds_relay.specs.House.{closes, end_whose, is_said}
+use Rattle.tds_relay.specs.House.{closes, end_whose, is_said, Withheld}
+use Rattle.tds_relay.specs.Posts.{posts_in}
 use Rattle.tds_relay.specs.Ties.{Connection, desk_in}
 use Rattle.tds_relay.proofs.steps.Fronts.{ends_kept}
-use Rattle.tds_relay.proofs.steps.Handed.{handed_for, handed_is, passing, to_absent, to_closed, to_deaf, to_nobody, to_one, withheld}
+use Rattle.tds_relay.proofs.steps.Handed.{handed_for, handed_is, has_walker, passing, to_absent, to_closed, to_deaf, to_nobody, to_one, withheld_for, withheld_is}
 use Rattle.tds_relay.proofs.steps.Posting.{posts_kept}
 use Rattle.tds_relay.proofs.steps.Reaching.{reaches_turn}
 use Rattle.tds_relay.proofs.relay.coming.hear_packet.Goals as goal
@@ -30,49 +33,78 @@ pub returns-then-matches-clause-brings : goal.returns-then-matches-clause-brings
 returns-then-matches-clause-brings c =
     let turned = c.in_ok-heard.ensures.ok in
     let heard = c.in_ok-heard.heard in
-    let unsaid : is_said heard.what (end_whose heard.key (ends_in c.args.applications.now)) ≡ false = to_closed heard.what (end_whose heard.key (ends_in c.args.applications.now)) (search rules) in
-    withheld c.args.number c.args.desk.now c.args.applications.now c.args.link.now heard _ _ c.in-Some.packet.header c.in-Some.packet.«data».now c.ends-ends.result turned.0 _ _
-    c.in-Some.ensures.lent c.ends-ends.ensures turned.1 c.in_ok-heard.ensures.whose c.in_ok-heard.ensures.heard unsaid refl
+    let d = desk_in c.args.desk.now in
+    let es = ends_in c.args.applications.now in
+    let posts = posts_in c.args.applications.now in
+    let walker = reading_on c.args.number c.args.desk.now.service in
+    let there : (key : ℕ) → whose d c.args.number ≡ Some key → IsSome walker = λ key e. has_walker d c.args.number key c.args.desk.now.service.seats.items refl e in
+    let unsaid : is_said heard.what (end_whose heard.key es) ≡ false = to_closed heard.what (end_whose heard.key es) (search rules) in
+    passing c.args.number walker c.args.link.now.news c.args.link.now.answer c.args.link.now.reader heard d _ es posts _ c.in-Some.packet.header c.in-Some.packet.«data».now c.ends-ends.result turned.0 Withheld _ _
+    c.in-Some.ensures.lent c.ends-ends.ensures turned.1 c.in_ok-heard.ensures.whose c.in_ok-heard.ensures.heard there
+    (withheld_for _ (news_with heard.what c.args.link.now.news) c.args.link.now.answer _ _ unsaid) (withheld_is (whose d c.args.number) c.in-Some.packet.header c.in-Some.packet.«data».now posts)
 
 pub returns-in_default-key-clause-brings : goal.returns-in_default-key-clause-brings
 returns-in_default-key-clause-brings c =
     let turned = c.in_ok-heard.ensures.ok in
     let heard = c.in_ok-heard.heard in
-    let unsaid : is_said heard.what (end_whose heard.key (ends_in c.args.applications.now)) ≡ false = to_nobody heard.what heard.key (ends_in c.args.applications.now) (search rules) in
-    withheld c.args.number c.args.desk.now c.args.applications.now c.args.link.now heard _ _ c.in-Some.packet.header c.in-Some.packet.«data».now c.ends-ends.result turned.0 _ _
-    c.in-Some.ensures.lent c.ends-ends.ensures turned.1 c.in_ok-heard.ensures.whose c.in_ok-heard.ensures.heard unsaid refl
+    let d = desk_in c.args.desk.now in
+    let es = ends_in c.args.applications.now in
+    let posts = posts_in c.args.applications.now in
+    let walker = reading_on c.args.number c.args.desk.now.service in
+    let there : (key : ℕ) → whose d c.args.number ≡ Some key → IsSome walker = λ key e. has_walker d c.args.number key c.args.desk.now.service.seats.items refl e in
+    let unsaid : is_said heard.what (end_whose heard.key es) ≡ false = to_nobody heard.what heard.key es (search rules) in
+    passing c.args.number walker c.args.link.now.news c.args.link.now.answer c.args.link.now.reader heard d _ es posts _ c.in-Some.packet.header c.in-Some.packet.«data».now c.ends-ends.result turned.0 Withheld _ _
+    c.in-Some.ensures.lent c.ends-ends.ensures turned.1 c.in_ok-heard.ensures.whose c.in_ok-heard.ensures.heard there
+    (withheld_for _ (news_with heard.what c.args.link.now.news) c.args.link.now.answer _ _ unsaid) (withheld_is (whose d c.args.number) c.in-Some.packet.header c.in-Some.packet.«data».now posts)
 
 pub returns-in_default-get_mut-clause-brings : goal.returns-in_default-get_mut-clause-brings
 returns-in_default-get_mut-clause-brings c =
     let turned = c.in_ok-heard.ensures.ok in
     let heard = c.in_ok-heard.heard in
-    let unsaid : is_said heard.what (end_whose heard.key (ends_in c.args.applications.now)) ≡ false = to_absent heard.what c.args.applications.now heard.key c.in-Some-key.key (search rules) (search rules) in
-    withheld c.args.number c.args.desk.now c.args.applications.now c.args.link.now heard _ _ c.in-Some.packet.header c.in-Some.packet.«data».now c.ends-ends.result turned.0 _ _
-    c.in-Some.ensures.lent c.ends-ends.ensures turned.1 c.in_ok-heard.ensures.whose c.in_ok-heard.ensures.heard unsaid refl
+    let d = desk_in c.args.desk.now in
+    let es = ends_in c.args.applications.now in
+    let posts = posts_in c.args.applications.now in
+    let walker = reading_on c.args.number c.args.desk.now.service in
+    let there : (key : ℕ) → whose d c.args.number ≡ Some key → IsSome walker = λ key e. has_walker d c.args.number key c.args.desk.now.service.seats.items refl e in
+    let unsaid : is_said heard.what (end_whose heard.key es) ≡ false = to_absent heard.what c.args.applications.now heard.key c.in-Some-key.key (search rules) (search rules) in
+    passing c.args.number walker c.args.link.now.news c.args.link.now.answer c.args.link.now.reader heard d _ es posts _ c.in-Some.packet.header c.in-Some.packet.«data».now c.ends-ends.result turned.0 Withheld _ _
+    c.in-Some.ensures.lent c.ends-ends.ensures turned.1 c.in_ok-heard.ensures.whose c.in_ok-heard.ensures.heard there
+    (withheld_for _ (news_with heard.what c.args.link.now.news) c.args.link.now.answer _ _ unsaid) (withheld_is (whose d c.args.number) c.in-Some.packet.header c.in-Some.packet.«data».now posts)
 
 pub returns-then-not-hears-clause-brings : goal.returns-then-not-hears-clause-brings
 returns-then-not-hears-clause-brings c =
     let turned = c.in_ok-heard.ensures.ok in
     let heard = c.in_ok-heard.heard in
-    let unsaid : is_said heard.what (end_whose heard.key (ends_in c.args.applications.now)) ≡ false = to_deaf heard.what c.args.applications.now heard.key c.in-Some-key.key c.in-Some-get_mut.application.now (search rules) c.in-Some-get_mut.ensures.value (search rules) in
-    withheld c.args.number c.args.desk.now c.args.applications.now c.args.link.now heard _ _ c.in-Some.packet.header c.in-Some.packet.«data».now c.ends-ends.result turned.0 _ _
-    c.in-Some.ensures.lent c.ends-ends.ensures turned.1 c.in_ok-heard.ensures.whose c.in_ok-heard.ensures.heard unsaid (posts_kept c.args.applications.now c.in-Some-key.key c.in-Some-get_mut.application.now c.in-Some-get_mut.application.now c.in-Some-get_mut.ensures.value refl)
+    let d = desk_in c.args.desk.now in
+    let es = ends_in c.args.applications.now in
+    let posts = posts_in c.args.applications.now in
+    let walker = reading_on c.args.number c.args.desk.now.service in
+    let there : (key : ℕ) → whose d c.args.number ≡ Some key → IsSome walker = λ key e. has_walker d c.args.number key c.args.desk.now.service.seats.items refl e in
+    let unsaid : is_said heard.what (end_whose heard.key es) ≡ false = to_deaf heard.what c.args.applications.now heard.key c.in-Some-key.key c.in-Some-get_mut.application.now (search rules) c.in-Some-get_mut.ensures.value (search rules) in
+    passing c.args.number walker c.args.link.now.news c.args.link.now.answer c.args.link.now.reader heard d _ es posts _ c.in-Some.packet.header c.in-Some.packet.«data».now c.ends-ends.result turned.0 Withheld _ _
+    c.in-Some.ensures.lent c.ends-ends.ensures turned.1 c.in_ok-heard.ensures.whose c.in_ok-heard.ensures.heard there
+    (withheld_for _ (news_with heard.what c.args.link.now.news) c.args.link.now.answer _ _ unsaid) (posts_kept c.args.applications.now c.in-Some-key.key c.in-Some-get_mut.application.now c.in-Some-get_mut.application.now c.in-Some-get_mut.ensures.value refl ∙ withheld_is (whose d c.args.number) c.in-Some.packet.header c.in-Some.packet.«data».now posts)
 
 pub returns-clause-brings : goal.returns-clause-brings
 returns-clause-brings c =
     let turned = c.in_ok-heard.ensures.ok in
     let heard = c.in_ok-heard.heard in
+    let d = desk_in c.args.desk.now in
+    let es = ends_in c.args.applications.now in
+    let posts = posts_in c.args.applications.now in
+    let walker = reading_on c.args.number c.args.desk.now.service in
+    let there : (key : ℕ) → whose d c.args.number ≡ Some key → IsSome walker = λ key e. has_walker d c.args.number key c.args.desk.now.service.seats.items refl e in
     let passes = c.in_ok-hand_on.ensures.passes in
     let a = c.in-Some-get_mut.application.now in
     let its : heard.key ≡ Some c.in-Some-key.key = search rules in
     let closed : closes heard.what ≡ false = search rules in
-    let said : is_said heard.what (end_whose heard.key (ends_in c.args.applications.now)) ≡ true =
+    let said : is_said heard.what (end_whose heard.key es) ≡ true =
     to_one heard.what c.args.applications.now heard.key c.in-Some-key.key a closed its c.in-Some-get_mut.ensures.value (search rules) in
     let by = subst (λ (n : News). IsBy n c.args.link.now.answer c.in-Some.packet.header c.in-Some.packet.«data».now passes.manner) c.news_with-link.ensures passes.by in
-    passing c.args.number c.args.desk.now c.args.applications.now c.args.link.now heard _ _ c.in-Some.packet.header c.in-Some.packet.«data».now c.ends-ends.result turned.0 passes.manner _ _
-    c.in-Some.ensures.lent c.ends-ends.ensures turned.1 c.in_ok-heard.ensures.whose c.in_ok-heard.ensures.heard
+    passing c.args.number walker c.args.link.now.news c.args.link.now.answer c.args.link.now.reader heard d _ es posts _ c.in-Some.packet.header c.in-Some.packet.«data».now c.ends-ends.result turned.0 passes.manner _ _
+    c.in-Some.ensures.lent c.ends-ends.ensures turned.1 c.in_ok-heard.ensures.whose c.in_ok-heard.ensures.heard there
     (handed_for _ (news_with heard.what c.args.link.now.news) c.args.link.now.answer _ _ passes.manner said by)
-    (handed_is (whose (desk_in c.args.desk.now) c.args.number) c.in-Some-key.key c.in-Some.packet.header c.in-Some.packet.«data».now passes.manner c.args.applications.now a c.hand_on.new.application
+    (handed_is (whose d c.args.number) c.in-Some-key.key c.in-Some.packet.header c.in-Some.packet.«data».now passes.manner c.args.applications.now a c.hand_on.new.application
     (sym its ∙ c.in_ok-heard.ensures.whose) c.in-Some-get_mut.ensures.value passes.is)
 
 pub returns-then-not-hears-clause-ends : goal.returns-then-not-hears-clause-ends
