@@ -6,6 +6,7 @@ pub mod Made
 pub mod Posting
 pub mod Putting
 pub mod Reaching
+pub mod Resets
 pub mod Slots
 pub mod Staying
 pub mod Stepping

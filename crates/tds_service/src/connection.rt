@@ -1,5 +1,5 @@
 ghost use Rattle.std.specs.Prelude.{◌≡◌, ◌≤◌, ◌<◌, ◌+◌, ℕ, List, [], Ok, Err, IfOk, IfErr, OnOk, OnErr};
-ghost use Rattle.std.specs.Prelude.{drop, length, Bool, true, false, None, Some};
+ghost use Rattle.std.specs.Prelude.{drop, is_some, length, Bool, true, false, None, Some};
 ghost use Rattle.tds_client.specs.Sending.{Does as ClientDoes, IsRefusal};
 ghost use Rattle.tds_client.specs.Session.{new_session, state_of, unless_idle};
 ghost use Rattle.tds_client.specs.Streams.{finished, opened, put};
@@ -81,6 +81,13 @@ impl Connection {
             Some(Reset::KeepTransaction) => self.client.descriptor() > 0,
             None => self.client.descriptor() > 0,
         }
+    }
+
+    /// Whether the news of a reset is owed.
+    pub(crate) fn owes_reset(&self) -> bool
+        ensures { result ≡ is_some (line_in self.now).heard.mark }
+    {
+        self.client.reset_mark().is_some()
     }
 
     /// Whether no reset is owed, and no transaction is open.

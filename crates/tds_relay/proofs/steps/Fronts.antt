@@ -58,7 +58,7 @@ ends_quit s s1 key None is slots absent =
     ap ends_in absent ∙ sym (set-get_or (ends_in s) key None) ∙ ap (λ (o : Option End). slice_set (ends_in s) key o) none
 
 -- an application has come
-pub ends_entered : (s s1 : Slab Application) (size key : ℕ) (a : Application) → get s key ≡ None → Updates s s1 key (Some a) → end_of a ≡ Open (new_front size) false → HasEntered key (ends_in s) (ends_in s1)
+pub ends_entered : (s s1 : Slab Application) (size key : ℕ) (a : Application) → get s key ≡ None → Updates s s1 key (Some a) → end_of a ≡ Open (new_front size) false false → HasEntered key (ends_in s) (ends_in s1)
 ends_entered s s1 size key a none updates is = record {
   was_free = end_is s key ∙ ap (option_map end_of) none;
   size = size;

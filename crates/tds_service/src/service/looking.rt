@@ -1,5 +1,5 @@
 //! What whoever watches a service may know of a connection.
-ghost use Rattle.std.specs.Prelude.{◌≡◌, option_map};
+ghost use Rattle.std.specs.Prelude.{◌≡◌, is_some, option_map};
 ghost use Rattle.tds_service.specs.Service.{Seat, is_open, seat_numbered};
 ghost use Rattle.tds_service.specs.Table.{place_of, service_in};
 
@@ -26,5 +26,15 @@ impl Service {
     {
         let index = find(&self.seats, Wanted::Number(number))?;
         Some(self.seats[index].connection.is_open())
+    }
+
+    /// Whether the connection of this number owes the news of a reset: its next request asks for one, or its
+    /// newest one has, and the server hasn't told that it is done (MS-TDS 2.2.7.9, type 18).
+    pub fn owes_reset_on(&self, number: u64) -> Option<bool>
+        ensures { result ≡ option_map (λ (c : Seat). is_some c.line.heard.mark)
+            (seat_numbered number (service_in self.now).seats) }
+    {
+        let index = find(&self.seats, Wanted::Number(number))?;
+        Some(self.seats[index].connection.owes_reset())
     }
 }
