@@ -7,6 +7,7 @@ pub mod Made
 pub mod Posting
 pub mod Putting
 pub mod Reaching
+pub mod Resets
 pub mod Seen
 pub mod Sent
 pub mod Slots

@@ -7,4 +7,5 @@ pub mod Replies
 pub mod Said
 pub mod Sent
 pub mod Stays
+pub mod Tellings
 pub mod Waiting

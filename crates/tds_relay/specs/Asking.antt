@@ -43,7 +43,7 @@ pub record SendsOn (whole : Bool) (d : Desk) (key : ℕ) : Type 0 where
 -- It was taken back, and the server's acknowledgement of that is due.
 abbrev pub IsTakenBack : Option End → Type 0
 IsTakenBack None = ⊥
-IsTakenBack (Some (Open front withdrawn)) = withdrawn ≡ true
+IsTakenBack (Some (Open front withdrawn asks)) = withdrawn ≡ true
 IsTakenBack (Some Over) = ⊥
 
 -- A request of this application, of which all has come or not, beside these connections.
@@ -67,7 +67,7 @@ said_in (Err fault) = said.Nothing
 
 abbrev pub said_of : List ℕ → Option End → Said
 said_of bytes None = said.Nothing
-said_of bytes (Some (Open front withdrawn)) = said_in (fed front bytes).brings
+said_of bytes (Some (Open front withdrawn asks)) = said_in (fed front bytes).brings
 said_of bytes (Some Over) = said.Nothing
 
 -- where by it a request begins or goes on, or ends

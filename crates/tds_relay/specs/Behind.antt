@@ -58,7 +58,7 @@ brought front bytes = brought_by front.stage (judged front.due bytes) (fed front
 -- where its end is open
 abbrev pub if_open : Option End → (Front → Bool → List passing.Event) → List passing.Event
 if_open None what = []
-if_open (Some (Open front withdrawn)) what = what front withdrawn
+if_open (Some (Open front withdrawn asks)) what = what front withdrawn
 if_open (Some Over) what = []
 
 abbrev pub if_same : ℕ → ℕ → List passing.Event → List passing.Event

@@ -1,9 +1,8 @@
 -- How much is kept.
-use Rattle.std.specs.Prelude.{◌≡◌, ◌≤◌, ℕ, ◌+◌, ◌-◌, false, Option, Some, None, vec_len}
+use Rattle.std.specs.Prelude.{◌≡◌, ◌≤◌, ℕ, ◌+◌, ◌-◌, Bool, true, false, Option, Some, None, vec_len}
 use Rattle.tds_relay.specs.declared.application.Application.{Application}
 use Rattle.tds_relay.specs.declared.outgoing.Outgoing.{Outgoing}
 use Rattle.tds_relay.specs.declared.link.News.{News}
-use Rattle.tds_relay.specs.declared.link.News.TheVariants as how
 
 -- the bytes that wait to be sent
 abbrev pub waiting_in : Outgoing → ℕ
@@ -18,9 +17,13 @@ abbrev pub most_for : Option Application → ℕ
 most_for None = 0
 most_for (Some a) = a.out.size + 8192
 
--- there is room for a packet so long, and for the news of a reset (14 bytes) where this is told before it; one that is set anew may need
--- more
-abbrev pub IsRoom : News → Outgoing → ℕ → Type 0
-IsRoom how.Comes o count = (o.is_full ≡ false) × (waiting_in o + count ≤ o.size + 8192)
-IsRoom how.IsCut o count = ⊥
-IsRoom how.IsTold o count = (o.is_full ≡ false) × (waiting_in o + (14 + count) ≤ o.size + 8192)
+-- the length of the news of a reset, where this is told
+abbrev pub news_length : Bool → ℕ
+news_length true = 14
+news_length false = 0
+
+-- there is room for a packet so long, which isn't set anew, and for the news of a reset where this is told before it
+pub record IsRoom (goes : News) (o : Outgoing) (count : ℕ) : Type 0 where
+  pub whole : goes.is_cut ≡ false
+  pub room : o.is_full ≡ false
+  pub fits : waiting_in o + (news_length goes.is_told + count) ≤ o.size + 8192

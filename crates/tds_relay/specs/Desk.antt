@@ -1,12 +1,12 @@
 -- Who holds which connection of a service, who waits for one, and which calls of the service are made. One total function.
-use Rattle.std.specs.Prelude.{ℕ, suc, ◌==◌, not, Bool, true, false, List, [], ◌∷◌, ◌++◌, filter, Option, Some, None, if◌then◌else◌}
+use Rattle.std.specs.Prelude.{ℕ, suc, ◌==◌, not, Bool, true, false, List, [], ◌∷◌, ◌++◌, filter, Option, Some, None, is_some, if◌then◌else◌}
 use Rattle.tds_wire.specs.declared.told.Token.{Token}
 use Rattle.tds_service.specs.Parts.{Part}
 use Rattle.tds_relay.specs.declared.desk.Hold.{Hold}
 use Rattle.tds_service.specs.Line as line
 use Rattle.tds_service.specs.History.{Done}
 use Rattle.tds_service.specs.Service as calls
-use Rattle.tds_service.specs.Service.{Service, Call, Reply, Step, Unknown, AllInUse, NotNow, No, NoMemory, Lent, Ticket, Did, Back, Place, Leased, Cleaning, Kept, Free, Draining, step, service_after, new_service, lease_at, seat_numbered}
+use Rattle.tds_service.specs.Service.{Seat, Service, Call, Reply, Step, Unknown, AllInUse, NotNow, No, NoMemory, Lent, Ticket, Did, Back, Place, Leased, Cleaning, Kept, Free, Draining, step, service_after, new_service, lease_at, seat_numbered}
 
 -- Which application holds which connection, by which lease; and whose requests wait for one, the first one first.
 pub record Desk : Type 0 where
@@ -184,6 +184,14 @@ whose_by (Some lease) holds = key_of (find_lease lease holds)
 
 abbrev pub whose : Desk → ℕ → Option ℕ
 whose d number = whose_by (lease_at (seat_numbered number d.service.seats)) d.holds
+
+-- whether the news of a reset is still to come on a connection
+abbrev pub owes_of : Option Seat → Bool
+owes_of None = false
+owes_of (Some c) = is_some c.line.heard.mark
+
+abbrev pub owes_reset : ℕ → Desk → Bool
+owes_reset number d = owes_of (seat_numbered number d.service.seats)
 
 -- ---- What applications do
 

@@ -1,5 +1,5 @@
 -- The ends of applications, as the code has them beside its desk; what it hears of a packet, and how its calls lead from hall to hall.
-use Rattle.std.specs.Prelude.{◌≡◌, ◌⊎◌, ℕ, Bool, true, false, List, [], ◌∷◌, Option, Some, None, Ok, if◌then◌else◌, map, option_map, slice_set}
+use Rattle.std.specs.Prelude.{◌≡◌, ◌⊎◌, ℕ, Bool, true, false, List, [], ◌∷◌, Option, Some, None, Ok, if◌then◌else◌, map, option_map, slice_set, is_some}
 use Rattle.slab.specs.Slab.{Slab}
 use Rattle.tds_front.specs.declared.front.Front.{Front}
 use Rattle.tds_front.specs.declared.front.Said.{Said}
@@ -16,14 +16,14 @@ use Rattle.tds_relay.specs.declared.desk.coming.What.{What}
 use Rattle.tds_relay.specs.declared.relay.Relay as code
 use Rattle.tds_relay.specs.Desk as desk
 use Rattle.tds_relay.specs.Desk.{Desk, Way}
-use Rattle.tds_relay.specs.Hall.{End, Open, Over, Ends, Hall, Feeds, IsBegun, IsWhole, LetsGo, Moves, change_whose, end_at, move_stage, moved, told, what_in}
+use Rattle.tds_relay.specs.Hall.{End, Open, Over, Ends, Hall, Feeds, IsBegun, IsWhole, LetsGo, Moves, asks_by, change_whose, end_at, move_stage, moved, told, what_in}
 use Rattle.tds_relay.specs.House.{House}
 use Rattle.tds_relay.specs.Posts.{Posts, acknowledgement, give, posts_in}
 use Rattle.tds_relay.specs.Taking.{IsDeaf}
 use Rattle.tds_relay.specs.Ties.{Application as ByApplication, Cause, Turns, desk_in}
 
 abbrev pub end_of : Application → End
-end_of a = if a.is_over then Over else Open a.front a.is_withdrawn
+end_of a = if a.is_over then Over else Open a.front a.is_withdrawn (is_some a.reset)
 
 abbrev pub ends_in : Slab Application → Ends
 ends_in s = map (option_map end_of) s.slots
@@ -87,17 +87,18 @@ MayPut key ends old new before after = ((new ≡ old) × (after ≡ before)) ⊎
 
 -- an application has taken its request back, of which something had gone on
 abbrev pub withdraws : End → End
-withdraws (Open front withdrawn) = Open front true
+withdraws (Open front withdrawn asks) = Open front true asks
 withdraws Over = Over
 
 -- Bytes of an application were taken, of which this was said: its end was before them, and is as they lead.
 pub record IsFed (key : ℕ) (before now : Ends) (bytes : List ℕ) (answer : Said) : Type 0 where
   pub front : Front
   pub withdrawn : Bool
+  pub asks : Bool
   pub count : ℕ
-  pub was : end_at before key ≡ Some (Open front withdrawn)
+  pub was : end_at before key ≡ Some (Open front withdrawn asks)
   pub says : (fed front bytes).brings ≡ Ok (record { count = count; said = answer })
-  pub is : now ≡ slice_set before key (Some (Open (fed front bytes).front withdrawn))
+  pub is : now ≡ slice_set before key (Some (Open (fed front bytes).front withdrawn (asks_by answer asks)))
 
 -- ---- As calls say it
 

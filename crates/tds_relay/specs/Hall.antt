@@ -1,5 +1,5 @@
 -- Who holds which connection, and the ends of applications: how they move together, move by move. One total function.
-use Rattle.std.specs.Prelude.{◌≡◌, ◌≢◌, ℕ, ◌==◌, ◌||◌, Bool, true, false, List, [], ◌∷◌, Option, Some, None, Result, Ok, Err, if◌then◌else◌, option_map, slice_index_or, slice_set}
+use Rattle.std.specs.Prelude.{◌≡◌, ◌≢◌, ℕ, ◌==◌, ◌&&◌, ◌||◌, Bool, true, false, List, [], ◌∷◌, Option, Some, None, is_some, Result, Ok, Err, if◌then◌else◌, option_map, slice_index_or, slice_set}
 use Rattle.tds_front.specs.declared.fault.FrontFault.{FrontFault}
 use Rattle.tds_front.specs.declared.front.Fed.{Fed}
 use Rattle.tds_front.specs.declared.front.Front.{Front}
@@ -28,8 +28,8 @@ use Rattle.tds_relay.specs.Ties.{Cause, Causes, sent_along}
 
 pub data End : Type 0 where
   -- its application is taken from, and told. It may have taken back its request, of which something had gone on: then it has nothing to do
-  -- with its connection until the server's acknowledgement of that
-  Open : (front : Front) (withdrawn : Bool) → End
+  -- with its connection until the server's acknowledgement of that. And its request may ask for a reset, of which it hasn't been told yet
+  Open : (front : Front) (withdrawn asks : Bool) → End
   -- nothing more is taken of it, and it is to be closed
   Over : End
 
@@ -58,7 +58,7 @@ new_hall max = record { desk = new_desk max; ends = [] }
 -- ---- How one moves
 
 abbrev pub move_stage : (Stage → Stage) → End → End
-move_stage by (Open front withdrawn) = Open (record front { stage = by front.stage }) withdrawn
+move_stage by (Open front withdrawn asks) = Open (record front { stage = by front.stage }) withdrawn asks
 move_stage by Over = Over
 
 abbrev pub closes : End → End
@@ -66,7 +66,7 @@ closes end = Over
 
 -- its connection is let go, and with it what was taken back there
 abbrev pub lets_go : End → End
-lets_go (Open front withdrawn) = Open front false
+lets_go (Open front withdrawn asks) = Open front false asks
 lets_go Over = Over
 
 -- something of its request has gone on, where packets went out
@@ -76,15 +76,20 @@ goes_on (packet ∷ packets) end = move_stage rules.went_on end
 
 -- The acknowledgement is the end's, or that of what was taken back.
 abbrev pub acknowledged : End → End
-acknowledged (Open front true) = Open front false
-acknowledged (Open front false) = move_stage rules.acknowledged (Open front false)
+acknowledged (Open front true asks) = Open front false asks
+acknowledged (Open front false asks) = move_stage rules.acknowledged (Open front false asks)
 acknowledged Over = Over
+
+-- A packet of its answer has come: it is told of the reset by now that its request asked for. Of what it took back it hears nothing.
+abbrev pub hears : End → End
+hears (Open front withdrawn asks) = Open front withdrawn (withdrawn && asks)
+hears Over = Over
 
 -- this came of a packet on its connection
 abbrev pub told : What → End → End
-told whats.Goes end = end
-told whats.Finished end = move_stage rules.answered end
-told whats.Acknowledged end = acknowledged end
+told whats.Goes end = hears end
+told whats.Finished end = move_stage rules.answered (hears end)
+told whats.Acknowledged end = acknowledged (hears end)
 told whats.Closed end = Over
 
 -- ---- What came, as the service answers it
@@ -114,12 +119,22 @@ abbrev pub hands_on : Said → Bool
 hands_on said.HandOn = true
 hands_on answer = false
 
-abbrev pub end_behind : Front → Bool → Result Fed FrontFault → End
-end_behind front withdrawn (Ok fed) = Open front (takes_back fed.said || withdrawn)
-end_behind front withdrawn (Err fault) = Over
+-- A request that begins asks for a reset itself or doesn't; of one that is taken back, none is told.
+abbrev pub asks_by : Said → Bool → Bool
+asks_by said.Nothing asks = asks
+asks_by (said.Begin kind reset) asks = is_some reset
+asks_by (said.Body count) asks = asks
+asks_by (said.End count) asks = asks
+asks_by (said.Forget gone) asks = false
+asks_by said.Acknowledge asks = false
+asks_by said.HandOn asks = asks
+
+abbrev pub end_behind : Front → Bool → Bool → Result Fed FrontFault → End
+end_behind front withdrawn asks (Ok fed) = Open front (takes_back fed.said || withdrawn) (asks_by fed.said asks)
+end_behind front withdrawn asks (Err fault) = Over
 
 abbrev pub feeds : List ℕ → End → End
-feeds bytes (Open front withdrawn) = end_behind (fed front bytes).front withdrawn (fed front bytes).brings
+feeds bytes (Open front withdrawn asks) = end_behind (fed front bytes).front withdrawn asks (fed front bytes).brings
 feeds bytes Over = Over
 
 -- whether an attention goes out by them
@@ -128,7 +143,7 @@ stops_by (Ok fed) = takes_back fed.said || hands_on fed.said
 stops_by (Err fault) = false
 
 abbrev pub stops_of : List ℕ → Option End → Bool
-stops_of bytes (Some (Open front withdrawn)) = stops_by (fed front bytes).brings
+stops_of bytes (Some (Open front withdrawn asks)) = stops_by (fed front bytes).brings
 stops_of bytes end = false
 
 -- ---- Moves
@@ -224,7 +239,7 @@ IsWhole (stages.Broken fault) = ⊥
 -- where its end is open
 abbrev pub IfOpen : (Stage → Type 0) → Option End → Type 0
 IfOpen P None = Unit {0}
-IfOpen P (Some (Open front withdrawn)) = P front.stage
+IfOpen P (Some (Open front withdrawn asks)) = P front.stage
 IfOpen P (Some Over) = Unit {0}
 
 abbrev pub is_in : ℕ → List ℕ → Bool
@@ -283,7 +298,7 @@ IfWhose P (Some key) = P key
 pub record HasEntered (key : ℕ) (old new : Ends) : Type 0 where
   pub was_free : end_at old key ≡ None
   pub size : ℕ
-  pub begins : end_at new key ≡ Some (Open (new_front size) false)
+  pub begins : end_at new key ≡ Some (Open (new_front size) false false)
   pub others_stay : (other : ℕ) → other ≢ key → end_at new other ≡ end_at old other
 
 -- Who lets a connection go and stays has nothing there.

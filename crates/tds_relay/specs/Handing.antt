@@ -1,62 +1,51 @@
 -- Which packet the bytes of a connection complete, and how it is handed on.
-use Rattle.std.specs.Prelude.{◌≡◌, ◌⊎◌, ℕ, Bool, true, false, List, [], ◌++◌, take, Option, None, Some, IsSome, if◌then◌else◌}
+use Rattle.std.specs.Prelude.{◌≡◌, ◌⊎◌, ◌&&◌, ℕ, not, Bool, true, false, List, [], ◌++◌, take, Option, None, Some, IsSome}
 use Rattle.tds_packet.specs.declared.header.Header.{Header}
 use Rattle.tds_packet.specs.Layout.{IsPacket}
 use Rattle.tds_packet.specs.Reading as packets
 use Rattle.tds_packet.specs.Reading.{IsWhole, fault_of, up_to_end, with_taken}
 use Rattle.tds_packet.specs.Stream.{IsLess}
 use Rattle.tds_wire.specs.Reading.{Reading}
-use Rattle.tds_relay.specs.declared.application.Application.{Application}
 use Rattle.tds_relay.specs.declared.desk.coming.Heard.{Heard}
-use Rattle.tds_relay.specs.declared.desk.coming.What.{What}
-use Rattle.tds_relay.specs.declared.desk.coming.What.TheVariants as whats
 use Rattle.tds_relay.specs.declared.link.Answer.{Answer}
 use Rattle.tds_relay.specs.declared.link.Link.{Link}
 use Rattle.tds_relay.specs.declared.link.News.{News}
-use Rattle.tds_relay.specs.declared.link.News.TheVariants as how
 use Rattle.tds_relay.specs.Cutting.{IsCut, ends_in}
 use Rattle.tds_relay.specs.Desk.{Way, whose}
 use Rattle.tds_relay.specs.Fronts.{IsWhat}
 use Rattle.tds_relay.specs.Hall.{done_by}
-use Rattle.tds_relay.specs.House.{House, Hands, Manner, Whole, Preceded, Without, Withheld, after, end_whose, handed, is_said, put_some}
-use Rattle.tds_relay.specs.Posts.{Post, asks_reset}
+use Rattle.tds_relay.specs.House.{House, Hands, IsTold, Manner, Whole, Without, Withheld, after, end_whose, handed, hears_of_reset, is_said, put_some}
+use Rattle.tds_relay.specs.Posts.{Post}
 use Rattle.tds_relay.specs.Ties.{part_on}
 
 -- ---- How a packet is handed on
 
--- As it came; without the news where this is cut out, and behind it where it is told.
+-- As it came, or without the news where this is cut out; behind it or not.
+abbrev pub IsOf : Bool → Bool → Answer → Header → List ℕ → Manner → Type 0
+IsOf tells false a header content manner = manner ≡ Whole tells
+IsOf tells true a header content manner = (bytes : List ℕ) × (manner ≡ Without tells bytes) × IsCut a header content bytes
+
 abbrev pub IsBy : News → Answer → Header → List ℕ → Manner → Type 0
-IsBy how.Comes a header content manner = manner ≡ Whole
-IsBy how.IsCut a header content manner = (bytes : List ℕ) × (manner ≡ Without bytes) × IsCut a header content bytes
-IsBy how.IsTold a header content manner = manner ≡ Preceded
+IsBy goes a header content manner = IsOf goes.is_told goes.is_cut a header content manner
 
 pub record Passes (goes : News) (a : Answer) (header : Header) (content : List ℕ) (old new : Post) : Type 0 where
   pub manner : Manner
   pub by : IsBy goes a header content manner
   pub is : new ≡ put_some (handed manner header content) old
 
--- Not at all where no end says it; else as it came, without the news where this is cut out, or behind it where it is told.
+-- Not at all where no end says it.
 abbrev pub IsFor : Bool → News → Answer → Header → List ℕ → Manner → Type 0
 IsFor false goes a header content manner = manner ≡ Withheld
 IsFor true goes a header content manner = IsBy goes a header content manner
 
--- It isn't told before what only acknowledges an attention.
-abbrev pub news_with : What → News → News
-news_with whats.Goes goes = goes
-news_with whats.Finished goes = goes
-news_with whats.Acknowledged how.Comes = how.Comes
-news_with whats.Acknowledged how.IsCut = how.IsCut
-news_with whats.Acknowledged how.IsTold = how.Comes
-news_with whats.Closed goes = goes
-
--- On a connection that nobody had it is told to who is lent it, where its request asks for a reset itself.
-abbrev pub news_for : Option Application → News
-news_for lent = if asks_reset lent then how.IsTold else how.Comes
+-- Who is told of a reset with a packet is told by the relay, unless the server tells it there. To others it isn't told, nor is it twice.
+abbrev pub news_for : Bool → Bool → Bool → News
+news_for asks is_in is_owed = record { is_told = asks && not is_in; is_cut = is_owed && not (asks && is_in) }
 
 -- ---- Which packet is handed on
 
 -- The reader has a packet. The desk hears what its walker makes of it, and whoever has the connection is told, and handed it or not.
-pub record Passing (number : ℕ) (walker : Option Reading) (goes : News) (a : Answer) (r : packets.Reading) (heard : Heard) (old new : House) : Type 0 where
+pub record Passing (number : ℕ) (walker : Option Reading) (a : Answer) (r : packets.Reading) (heard : Heard) (old new : House) : Type 0 where
   pub header : Header
   pub content : List ℕ
   pub packet : IsPacket r.direction r.size r.taken header content
@@ -65,12 +54,14 @@ pub record Passing (number : ℕ) (walker : Option Reading) (goes : News) (a : A
   pub whose_is : heard.key ≡ whose old.hall.desk number
   pub what_is : IsWhat heard.key heard.what (done_by old.hall.desk number (part_on walker content (ends_in header)))
   pub has_walker : (key : ℕ) → whose old.hall.desk number ≡ Some key → IsSome walker
-  pub by : IsFor (is_said heard.what (end_whose heard.key old.hall.ends)) (news_with heard.what goes) a header content manner
+  pub goes : News
+  pub by : IsFor (is_said heard.what (end_whose heard.key old.hall.ends)) goes a header content manner
+  pub told : IsTold (hears_of_reset heard.what (end_whose heard.key old.hall.ends)) manner (part_on walker content (ends_in header))
   pub is : new ≡ after old (Hands number header content (part_on walker content (ends_in header)) way manner)
 
 -- That one, once, and no other. Where the reader has none, nothing is done.
-abbrev pub Brings : ℕ → Option Reading → News → Answer → packets.Reading → Heard → House → House → Type 0
-Brings number walker goes a r heard old new = ((¬ IsWhole r) × (new ≡ old)) ⊎ Passing number walker goes a r heard old new
+abbrev pub Brings : ℕ → Option Reading → Answer → packets.Reading → Heard → House → House → Type 0
+Brings number walker a r heard old new = ((¬ IsWhole r) × (new ≡ old)) ⊎ Passing number walker a r heard old new
 
 -- A packet that was handed on is done.
 pub record IsDone (r new : packets.Reading) : Type 0 where
@@ -86,7 +77,7 @@ fed r bytes = with_taken r (up_to_end r (r.taken ++ bytes))
 -- So many of these bytes were taken, and what the reader had with them is handed on. It keeps less than a packet.
 pub record Hears (number : ℕ) (walker : Option Reading) (link next : Link) (bytes : List ℕ) (count : ℕ) (heard : Heard) (old new : House) : Type 0 where
   pub taken : (fed link.reader bytes).taken ≡ link.reader.taken ++ take count bytes
-  pub brings : Brings number walker link.news link.answer (fed link.reader bytes) heard old new
+  pub brings : Brings number walker link.answer (fed link.reader bytes) heard old new
   pub done : IsDone (fed link.reader bytes) next.reader
   pub less : IsLess next.reader next.reader.taken
 

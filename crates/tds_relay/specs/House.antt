@@ -1,6 +1,6 @@
 -- What happens at a relay, one thing after the other: how the ends of applications move with the desk, and what each application is given
 -- by that. One total function.
-use Rattle.std.specs.Prelude.{◌≡◌, ◌&&◌, ℕ, ◌+◌, not, Bool, true, false, List, [], ◌∷◌, ◌++◌, length, Option, Some, None, IsSome, Result, Ok, Err, slice_set}
+use Rattle.std.specs.Prelude.{◌≡◌, ◌&&◌, ℕ, ◌+◌, suc, not, Bool, true, false, List, [], ◌∷◌, ◌++◌, length, Option, Some, None, IsSome, Result, Ok, Err, slice_set}
 use Rattle.tds_packet.specs.declared.header.Header.{Header}
 use Rattle.tds_packet.specs.Layout.{header_bytes}
 use Rattle.tds_front.specs.declared.fault.FrontFault.{FrontFault}
@@ -10,7 +10,10 @@ use Rattle.tds_front.specs.declared.front.Said.TheVariants as said
 use Rattle.tds_front.specs.Bytes.{fed}
 use Rattle.tds_wire.specs.declared.told.Token.{Token}
 use Rattle.tds_wire.specs.Reading.{Reading}
-use Rattle.tds_service.specs.Parts.{Part}
+use Rattle.tds_token.specs.declared.env_change.EnvChange.TheVariants as changes
+use Rattle.tds_client.specs.declared.sign.Sign.{Sign}
+use Rattle.tds_client.specs.declared.sign.Sign.TheVariants as signs
+use Rattle.tds_service.specs.Parts.{Item, Part}
 use Rattle.tds_relay.specs.declared.desk.coming.What.{What}
 use Rattle.tds_relay.specs.declared.desk.coming.What.TheVariants as whats
 use Rattle.tds_relay.specs.declared.link.Answer.{Answer}
@@ -20,7 +23,7 @@ use Rattle.tds_relay.specs.Hall as hall
 use Rattle.tds_relay.specs.Hall.{End, Open, Over, Ends, Hall, Move, CausesMove, HasEntered, IsQuiet, MayMove, done_by, end_at, moved_all, new_hall, what_in}
 use Rattle.tds_relay.specs.Posts as waiting
 use Rattle.tds_relay.specs.Posts.{Post, Posts, acknowledgement, change, news, put, without_first}
-use Rattle.tds_relay.specs.Promises.{Each}
+use Rattle.tds_relay.specs.Promises.{Each, one_if}
 use Rattle.tds_relay.specs.Ties.{Cause, Neither, part_on}
 
 -- The hall, and what waits to be sent to each application.
@@ -31,11 +34,10 @@ pub record House : Type 0 where
 abbrev pub new_house : ℕ → House
 new_house max = record { hall = new_hall max; posts = [] }
 
--- How a packet is handed on: as it came; so, behind the news of a reset; as these bytes, without the news of one; or not at all.
+-- How a packet is handed on, behind the news of a reset or not: as it came; or as these bytes, without the news of one. Or not at all.
 pub data Manner : Type 0 where
-  Whole : Manner
-  Preceded : Manner
-  Without : (bytes : List ℕ) → Manner
+  Whole : (tells : Bool) → Manner
+  Without : (tells : Bool) (bytes : List ℕ) → Manner
   Withheld : Manner
 
 pub data Step : Type 0 where
@@ -62,10 +64,13 @@ moves_of (Admits key ends posts) = hall.Enters key ends ∷ []
 moves_of (Removes key gives way) = hall.Quits key gives way ∷ []
 
 -- the packets by which a packet is handed on, if it is
+abbrev pub behind_news : Bool → List ℕ → List (List ℕ)
+behind_news true piece = news ∷ piece ∷ []
+behind_news false piece = piece ∷ []
+
 abbrev pub handed : Manner → Header → List ℕ → Option (List (List ℕ))
-handed Whole header content = Some ((header_bytes header ++ content) ∷ [])
-handed Preceded header content = Some (news ∷ (header_bytes header ++ content) ∷ [])
-handed (Without bytes) header content = Some (bytes ∷ [])
+handed (Whole tells) header content = Some (behind_news tells (header_bytes header ++ content))
+handed (Without tells bytes) header content = Some (behind_news tells bytes)
 handed Withheld header content = None
 
 -- the acknowledgement of an attention that is its end's own
@@ -79,7 +84,7 @@ owed_by (Err fault) = None
 
 abbrev pub owed : List ℕ → Option End → Option (List (List ℕ))
 owed bytes None = None
-owed bytes (Some (Open front withdrawn)) = owed_by (fed front bytes).brings
+owed bytes (Some (Open front withdrawn asks)) = owed_by (fed front bytes).brings
 owed bytes (Some Over) = None
 
 -- these pieces are put behind what waits, one after the other
@@ -123,7 +128,7 @@ closes whats.Closed = true
 -- connection is closed behind it.
 abbrev pub is_said : What → Option End → Bool
 is_said what None = false
-is_said what (Some (Open front withdrawn)) = not withdrawn && not (closes what)
+is_said what (Some (Open front withdrawn asks)) = not withdrawn && not (closes what)
 is_said what (Some Over) = false
 
 -- It is handed on exactly where it is.
@@ -138,13 +143,50 @@ end_whose (Some key) ends = end_at ends key
 
 -- Without the news is what is left of the data, token by token, from where a walker stands.
 abbrev pub IsRight : Header → List ℕ → Manner → Type 0
-IsRight header content Whole = Unit {0}
-IsRight header content Preceded = Unit {0}
-IsRight header content (Without bytes) = (a : Answer) × IsCut a header content bytes
+IsRight header content (Whole tells) = Unit {0}
+IsRight header content (Without tells bytes) = (a : Answer) × IsCut a header content bytes
 IsRight header content Withheld = Unit {0}
 
+-- how often this sign tells that a reset is done, and the ones behind it so often
+abbrev pub counted : Sign → ℕ → ℕ
+counted signs.Nothing others = others
+counted (signs.Change (changes.Begin descriptor)) others = others
+counted (signs.Change (changes.Commit descriptor)) others = others
+counted (signs.Change (changes.Rollback descriptor)) others = others
+counted (signs.Change changes.ResetDone) others = suc others
+counted (signs.Done kind status) others = others
+
+abbrev pub news_in : List (Item Token) → ℕ
+news_in [] = 0
+news_in (item ∷ items) = counted item.sign (news_in items)
+
+-- how often its application is told so by it: what is cut out isn't
+abbrev pub tellings : Manner → Part Token → ℕ
+tellings (Whole tells) part = one_if tells + news_in part.items
+tellings (Without tells bytes) part = one_if tells
+tellings Withheld part = 0
+
+-- it only acknowledges an attention
+abbrev pub acknowledges : What → Bool
+acknowledges whats.Goes = false
+acknowledges whats.Finished = false
+acknowledges whats.Acknowledged = true
+acknowledges whats.Closed = false
+
+-- Whether it is told with a packet by which this came: where its request asks for a reset, of which it hasn't been told.
+abbrev pub hears_of_reset : What → Option End → Bool
+hears_of_reset what None = false
+hears_of_reset what (Some (Open front withdrawn asks)) = asks && not (acknowledges what)
+hears_of_reset what (Some Over) = false
+
+abbrev pub IsTold : Bool → Manner → Part Token → Type 0
+IsTold hears (Whole tells) part = tellings (Whole tells) part ≡ one_if hears
+IsTold hears (Without tells bytes) part = tellings (Without tells bytes) part ≡ one_if hears
+IsTold hears Withheld part = Unit {0}
+
 -- A packet has come, whose data are this part to the walker over what its connection answers; and it is handed on exactly where its
--- application's end says it.
+-- application's end says it. With it its application is told of a reset once, where its request asks for one and hasn't been told, and
+-- else never.
 pub record MayHand (h : House) (number : ℕ) (header : Header) (content : List ℕ) (part : Part Token) (manner : Manner) : Type 0 where
   pub counted : header.length ≡ 8 + length content
   pub walker : Option Reading
@@ -152,6 +194,7 @@ pub record MayHand (h : House) (number : ℕ) (header : Header) (content : List 
   pub has_walker : (key : ℕ) → whose h.hall.desk number ≡ Some key → IsSome walker
   pub right : IsRight header content manner
   pub handed_on : IsHanded (is_said (what_in (done_by h.hall.desk number part)) (end_whose (whose h.hall.desk number) h.hall.ends)) manner
+  pub told : IsTold (hears_of_reset (what_in (done_by h.hall.desk number part)) (end_whose (whose h.hall.desk number) h.hall.ends)) manner part
 
 abbrev pub MayStep : House → Step → Type 0
 MayStep h (Makes move) = MayMove h.hall move × IsQuiet move

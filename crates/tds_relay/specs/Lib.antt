@@ -16,4 +16,5 @@ pub mod Posts
 pub mod Promises
 pub mod Reads
 pub mod Taking
+pub mod Telling
 pub mod Ties

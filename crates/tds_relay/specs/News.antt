@@ -1,6 +1,6 @@
 -- The news of a reset that no application asked for, cut out of an answer: ENVCHANGE (227) of type 18, which stands behind its length
 -- in two bytes (MS-TDS 2.2.7.9).
-use Rattle.std.specs.Prelude.{ℕ, ◌==◌, Bool, true, false, List, [], ◌∷◌, ◌++◌, if◌then◌else◌}
+use Rattle.std.specs.Prelude.{ℕ, ◌==◌, List, [], ◌∷◌, ◌++◌, if◌then◌else◌}
 use Rattle.tds_relay.specs.declared.news.Known.{Known}
 use Rattle.tds_relay.specs.declared.news.Known.TheVariants as known
 
@@ -43,11 +43,3 @@ goes_on before (byte ∷ bytes) = let_on before byte (known_by before byte) ++ g
 -- the same, and with the token's end what was held back
 abbrev pub goes_on_to_end : Known → List ℕ → List ℕ
 goes_on_to_end before bytes = goes_on before bytes ++ held (known_after before bytes)
-
-abbrev pub is_news : Known → Bool
-is_news known.None = false
-is_news known.One = false
-is_news (known.Two low) = false
-is_news (known.Three low high) = false
-is_news known.Other = false
-is_news known.News = true

@@ -1,5 +1,5 @@
 -- What waits to be sent to each application.
-use Rattle.std.specs.Prelude.{◌≡◌, ◌≢◌, ℕ, ◌+◌, nat_le, Bool, true, false, not, ◌&&◌, List, ◌∷◌, [], ◌++◌, drop, length, map, Option, Some, None, option_map, is_some, if◌then◌else◌, slice_index_or, slice_set}
+use Rattle.std.specs.Prelude.{◌≡◌, ◌≢◌, ℕ, ◌+◌, nat_le, Bool, true, false, not, ◌&&◌, List, ◌∷◌, [], ◌++◌, drop, length, map, Option, Some, None, option_map, if◌then◌else◌, slice_index_or, slice_set}
 use Rattle.slab.specs.Slab.{Slab}
 use Rattle.tds_packet.specs.declared.kind.Kind.TheVariants.{Answer}
 use Rattle.tds_packet.specs.Layout.{header_bytes, status_of}
@@ -66,6 +66,11 @@ news =
     header_bytes (record { kind = Answer; status = status_of 0; length = 14; spid = 0; packet_id = 1; window = 0 })
     ++ 0xe3 ∷ 3 ∷ 0 ∷ 18 ∷ 0 ∷ 0 ∷ []
 
+-- it is put there, where it is told
+abbrev pub put_news : Bool → Post → Post
+put_news true p = put news p
+put_news false p = p
+
 -- ---- As the code has them
 
 abbrev pub post_in : Outgoing → Post
@@ -76,11 +81,6 @@ post_of a = post_in a.out
 
 abbrev pub posts_in : Slab Application → Posts
 posts_in s = map (option_map post_of) s.slots
-
--- whether its request asks for a reset itself
-abbrev pub asks_reset : Option Application → Bool
-asks_reset None = false
-asks_reset (Some a) = is_some a.reset
 
 -- what of it is still to be sent
 abbrev pub unsent_of : Option Application → List ℕ

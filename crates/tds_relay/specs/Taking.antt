@@ -11,7 +11,7 @@ use Rattle.tds_relay.specs.Ties.{Application}
 -- Nothing more is taken of an application: it is to be closed, or isn't there.
 abbrev pub IsDeaf : Option End → Type 0
 IsDeaf None = Unit {0}
-IsDeaf (Some (Open front withdrawn)) = ⊥
+IsDeaf (Some (Open front withdrawn asks)) = ⊥
 IsDeaf (Some Over) = Unit {0}
 
 -- how many of these bytes its end takes at once: all of them, where it is to be closed by them
@@ -20,7 +20,7 @@ count_by (Ok fed) bytes = fed.count
 count_by (Err fault) bytes = length bytes
 
 abbrev pub left_by : List ℕ → Option End → List ℕ
-left_by bytes (Some (Open front withdrawn)) = drop (count_by (fed front bytes).brings bytes) bytes
+left_by bytes (Some (Open front withdrawn asks)) = drop (count_by (fed front bytes).brings bytes) bytes
 left_by bytes end = bytes
 
 -- Steps take these bytes, each what the one before has left, up to these.

@@ -1,13 +1,14 @@
 //! An application, as the relay knows it.
-ghost use Rattle.std.specs.Prelude.{◌≡◌, ◌≤◌, ◌-◌, Some, false, true, vec_len};
+ghost use Rattle.std.specs.Prelude.{◌≡◌, ◌≤◌, ◌-◌, IfOk, Some, false, is_some, length, true, vec_len};
 ghost use Rattle.tds_relay.specs.declared.application.TheConstants.{MOST_HELD};
 ghost use Rattle.tds_relay.specs.declared.outgoing.TheConstants.{PIECE};
 
 use crate::NoMemory;
+use crate::desk::What;
 use crate::outgoing::{BESIDE, Outgoing, PIECE};
 use std::alloc::Global;
 use tds_client::MessageKind;
-use tds_front::{Front, Stage};
+use tds_front::{Fed, Front, FrontFault, Said, Stage};
 use tds_packet::{PacketSize, Reset};
 
 /// The most bytes of a request that are kept while it waits for a connection.
@@ -32,7 +33,8 @@ pub(crate) struct Application {
     pub(crate) front: Front,
     pub(crate) out: Outgoing,
     pub(crate) asking: Asking,
-    /// The reset that its request asks for itself.
+    /// The reset that its request asks for itself, while it hasn't been told of it: no packet of the answer
+    /// has been handed on.
     pub(crate) reset: Option<Reset>,
     /// What has come of the body of a request that waits.
     held: Vec<u8>,
@@ -49,16 +51,17 @@ pub(crate) struct Application {
 impl Application {
     ghost use Rattle.tds_front.specs.Rules as rules;
     ghost use Rattle.tds_relay.specs.Fronts.{end_of, puts, withdraws};
-    ghost use Rattle.tds_front.specs.Bytes.{new_front};
-    ghost use Rattle.tds_relay.specs.Hall.{IfOpen, IsHere, Open, acknowledged, closes, lets_go, move_stage};
-    ghost use Rattle.tds_relay.specs.House.{is_said};
+    ghost use Rattle.tds_front.specs.Bytes.{fed, new_front};
+    ghost use Rattle.tds_relay.specs.Hall.{IfOpen, IsHere, Open, acknowledged, asks_by, closes, hears};
+    ghost use Rattle.tds_relay.specs.Hall.{lets_go, move_stage};
+    ghost use Rattle.tds_relay.specs.House.{hears_of_reset, is_said};
     ghost use Rattle.tds_relay.specs.Posts.{nothing, post_of};
     ghost use Rattle.tds_relay.specs.declared.desk.coming.What.TheVariants.{Goes};
 
     pub(crate) fn new(alloc: Global, tag: usize, size: PacketSize) -> Application
         ensures size { result.out.size ≡ size }
         ensures post { post_of result ≡ nothing size }
-        ensures end { end_of result ≡ Open (new_front size) false }
+        ensures end { end_of result ≡ Open (new_front size) false false }
     {
         Application {
             alloc,
@@ -72,6 +75,27 @@ impl Application {
             is_over: false,
             begun: 0,
         }
+    }
+
+    /// Takes some of these bytes. A request that begins asks for a reset itself or doesn't; of one that is
+    /// taken back no reset is told.
+    pub(crate) fn feed(&mut self, piece: &[u8]) -> Result<Fed, FrontFault>
+        ensures post { post_of self.new ≡ post_of self.old }
+        ensures front { self.new.front ≡ (fed self.old.front piece.now).front }
+        ensures brings { result ≡ (fed self.old.front piece.now).brings }
+        ensures within { IfOk result (λ taken. taken.count ≤ length piece.now) }
+        ensures asks { IfOk result (λ taken. is_some self.new.reset
+            ≡ asks_by taken.said (is_some self.old.reset)) }
+        ensures withdrawn { self.new.is_withdrawn ≡ self.old.is_withdrawn }
+        ensures over { self.new.is_over ≡ self.old.is_over }
+    {
+        let fed = self.front.feed(piece)?;
+        match fed.said {
+            Said::Begin { reset, .. } => self.reset = reset,
+            Said::Forget { .. } | Said::Acknowledge => self.reset = None,
+            _ => {}
+        }
+        Ok(fed)
     }
 
     /// Whether it waits with a request that asks for a reset but for the transaction.
@@ -118,13 +142,24 @@ impl Application {
         Ok(true)
     }
 
+    /// A packet of its answer has come. Unless that is of a request that it took back, it is told of the reset
+    /// that it asked for.
+    pub(crate) fn goes_on(&mut self)
+        ensures post { post_of self.new ≡ post_of self.old }
+        ensures end { end_of self.new ≡ hears (end_of self.old) }
+    {
+        if !self.is_withdrawn {
+            self.reset = None;
+        }
+    }
+
     /// Its request has its answer.
     pub(crate) fn answered(&mut self)
         ensures post { post_of self.new ≡ post_of self.old }
-        ensures end { end_of self.new ≡ move_stage rules.answered (end_of self.old) }
+        ensures end { end_of self.new ≡ move_stage rules.answered (hears (end_of self.old)) }
     {
         self.asking = Asking::Nothing;
-        self.reset = None;
+        self.goes_on();
         self.front.answered();
     }
 
@@ -132,7 +167,7 @@ impl Application {
     /// Answers whether that.
     pub(crate) fn acknowledged(&mut self) -> bool
         ensures post { post_of self.new ≡ post_of self.old }
-        ensures end { end_of self.new ≡ acknowledged (end_of self.old) }
+        ensures end { end_of self.new ≡ acknowledged (hears (end_of self.old)) }
     {
         if self.is_withdrawn {
             self.is_withdrawn = false;
@@ -199,6 +234,18 @@ impl Application {
             Stage::Underway { gone } => !gone,
             Stage::Stopping => false,
             Stage::Broken(_) => false,
+        }
+    }
+
+    /// Whether it is told of a reset with a packet of which this came, if it hears that: its request asks for
+    /// one, and this is the first one of its answer. What only acknowledges an attention is none.
+    pub(crate) fn is_told(&self, what: What) -> bool
+        ensures { is_said Goes (Some (end_of self.now)) ≡ true
+            → result ≡ hears_of_reset what (Some (end_of self.now)) }
+    {
+        match what {
+            What::Goes | What::Finished | What::Closed => self.reset.is_some(),
+            What::Acknowledged => false,
         }
     }
 

@@ -3,6 +3,7 @@ ghost use Rattle.std.specs.Prelude.{◌≡◌, [], IfOk, OnOk, OnErr, length, op
 ghost use Rattle.tds_service.specs.Service.{Seat, is_open, seat_numbered};
 ghost use Rattle.tds_service.specs.Table.{place_of};
 ghost use Rattle.tds_relay.specs.Desk.{Serves, Unwaits, Waits, find_key, find_number, key_of, new_desk};
+ghost use Rattle.tds_relay.specs.Desk.{owes_reset};
 ghost use Rattle.tds_relay.specs.Hall.{is_in};
 ghost use Rattle.tds_relay.specs.Ties.{Serving, Turns, desk_in};
 
@@ -156,6 +157,16 @@ impl Desk {
             (seat_numbered number (desk_in self.now).service.seats) }
     {
         self.service.is_open_on(number)
+    }
+
+    /// Whether the news of a reset is still to come on the connection of this number.
+    pub fn owes_reset(&self, number: u64) -> bool
+        ensures { result ≡ owes_reset number (desk_in self.now) }
+    {
+        match self.service.owes_reset_on(number) {
+            Some(owes) => owes,
+            None => false,
+        }
     }
 
     /// The applications that wait, the first one first.

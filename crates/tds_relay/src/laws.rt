@@ -27,6 +27,7 @@ ghost use Rattle.tds_relay.specs.House.{House, IsLedTo, MayAll, Step, Steps};
 ghost use Rattle.tds_packet.specs.Reading.{Reading, joined};
 ghost use Rattle.tds_relay.specs.Reads.{Call, Comes, Follow, Reads, bytes_in, open_at, packets_in};
 ghost use Rattle.tds_relay.specs.Taking.{Tells};
+ghost use Rattle.tds_relay.specs.Telling.{IsToldOnce, happens_to};
 ghost use Rattle.tds_relay.specs.Ties as causes;
 ghost use Rattle.tds_relay.specs.Ties.{Cause, Causes, Connection, Goes, IsReached, Owns};
 
@@ -250,6 +251,13 @@ pub fn given_by_server()
     line_by_history::<Token>();
     bytes_are_packets();
 }
+
+/// An application is told of a reset (ENVCHANGE 18) just where its request asks for one, and once: with the first packet
+/// of the answer, unless that only acknowledges an attention, or the request was taken back before. The relay tells it
+/// before the packet, or the server in it; of no other reset is it told, whoever shares with it.
+pub fn told_once()
+    ensures { (max key : ℕ) (v : Visit max key) → IsToldOnce false (happens_to v) }
+{}
 
 /// An application comes to wait only where it neither waits nor holds a connection: from where it enters, behind
 /// any steps, and while it stays.

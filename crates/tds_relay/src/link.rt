@@ -13,15 +13,13 @@ use tds_wire::{Features, Walker};
 /// The most columns of a result.
 pub(crate) const COLUMNS: u16 = 4096;
 
-/// How the news of a reset goes with what comes on a connection.
+/// How the news of a reset goes with a packet that is handed on.
 #[derive(Clone, Copy, Debug)]
-pub(crate) enum News {
-    /// As it comes.
-    Comes,
-    /// It is cut out, until it was: its application didn't ask for that reset.
-    IsCut,
-    /// It is told before the next packet: its application asked for a reset, and nobody had the connection.
-    IsTold,
+pub(crate) struct News {
+    /// Whether the relay tells it, before the packet.
+    pub(crate) is_told: bool,
+    /// Whether what the server tells of it is cut out of the packet.
+    pub(crate) is_cut: bool,
 }
 
 #[derive(Drop)]
@@ -31,7 +29,6 @@ pub(crate) struct Link {
     pub(crate) tag: Option<usize>,
     /// Whether it is logged in.
     pub(crate) is_open: bool,
-    pub(crate) news: News,
     pub(crate) out: Outgoing,
     pub(crate) reader: PacketReader,
     pub(crate) answer: Answer,
@@ -46,8 +43,6 @@ pub(crate) struct Answer {
     size: PacketSize,
     walker: Walker,
     known: Known,
-    /// Whether the news was met.
-    was_cut: bool,
 }
 
 impl Link {
@@ -56,10 +51,8 @@ impl Link {
         number: u64,
         size: PacketSize,
         features: Features,
-        news: News,
     ) -> Result<Link, NoMemory>
         ensures closed { IfOk result (λ link. link.is_open ≡ false) }
-        ensures news { IfOk result (λ link. link.news ≡ news) }
         ensures number { IfOk result (λ link. link.number ≡ number) }
         ensures unread { IfOk result (λ link. link.reader.taken ≡ []) }
     {
@@ -68,13 +61,11 @@ impl Link {
             size,
             walker: Walker::new(alloc, COLUMNS, features)?,
             known: Known::None,
-            was_cut: false,
         };
         Ok(Link {
             number,
             tag: None,
             is_open: false,
-            news,
             out: Outgoing::new(alloc, size),
             reader: PacketReader::new(alloc, size, Direction::ToClient)?,
             answer,
@@ -91,17 +82,23 @@ impl Answer {
     pub(crate) fn restart(&mut self) {
         self.walker.restart();
         self.known = Known::None;
-        self.was_cut = false;
     }
 
-    /// Appends a packet of an answer without the news of a reset. True behind the end of a message by
-    /// which the news was met: no other comes then.
+    /// Whether bytes of a token were held back: what comes next isn't handed on without them.
+    pub(crate) fn holds(&self) -> bool {
+        match self.known {
+            Known::None | Known::Other => false,
+            Known::One | Known::Two(_) | Known::Three(..) | Known::News => true,
+        }
+    }
+
+    /// Appends a packet of an answer without the news of a reset.
     pub(crate) fn put_without_news(
         &mut self,
         header: Header,
         bytes: &[u8],
         on: &mut Outgoing,
-    ) -> Result<bool, NoMemory>
+    ) -> Result<(), NoMemory>
         ensures { OnOk result ((sent : List ℕ) × IsCut self.old header bytes.now sent
             × (post_in on.new ≡ put sent (post_in on.old))) }
     {
@@ -111,12 +108,7 @@ impl Answer {
         self.close(ends, &mut kept)?;
         let mut packets = Vec::new(self.alloc);
         put_data(&mut packets, self.size, header.packet_id, ends, &kept)?;
-        on.append(&packets)?;
-        let is_over = ends && self.was_cut;
-        if is_over {
-            self.was_cut = false;
-        }
-        Ok(is_over)
+        on.append(&packets)
     }
 
     /// Appends what was held back, where the message ends here.
@@ -142,7 +134,7 @@ impl Answer {
     {
         self.known.pass(bytes, kept)?;
         if ends {
-            self.was_cut = self.known.end(kept)? || self.was_cut;
+            self.known.end(kept)?;
         }
         Ok(())
     }

@@ -3,7 +3,7 @@ ghost use Rattle.std.specs.Prelude.{◌≡◌, ◌<◌, ℕ, IfSome, length};
 ghost use Rattle.tds_relay.specs.Reads.{Stays, open_at, opened_at, place_of, without_link};
 
 use crate::NoMemory;
-use crate::link::{Link, News};
+use crate::link::Link;
 
 /// Where the connection of this number is among these.
 #[tactic(auto, using(crate::proofs::steps::Staying::within_is))]
@@ -39,16 +39,15 @@ pub(crate) fn append_to(links: &mut Vec<Link>, number: u64, bytes: &[u8]) -> Res
     Ok(!link.out.is_full())
 }
 
-/// The news of a reset is cut out of what comes next on a connection, or not.
+/// Nothing has come of the message that comes next on a connection, as far as news are cut out of it.
 #[tactic(auto, using(crate::proofs::steps::Staying::stays_written, crate::proofs::steps::Staying::stays_refl))]
-pub(crate) fn set_cuts(links: &mut Vec<Link>, number: u64, cuts: bool)
+pub(crate) fn restart(links: &mut Vec<Link>, number: u64)
     ensures { Stays links.old.items links.new.items }
 {
     let Some(place) = place_in(links, number) else {
         return;
     };
     let link = &mut links[place];
-    link.news = if cuts { News::IsCut } else { News::Comes };
     link.answer.restart();
 }
 

@@ -1,6 +1,6 @@
 //! The news of a reset that no application asked for, cut out of an answer.
 ghost use Rattle.std.specs.Prelude.{◌≡◌, ◌++◌, OnOk};
-ghost use Rattle.tds_relay.specs.News.{goes_on, held, is_news, known_after, known_by, let_on};
+ghost use Rattle.tds_relay.specs.News.{goes_on, held, known_after, known_by, let_on};
 
 use crate::NoMemory;
 
@@ -96,14 +96,13 @@ impl Known {
         Ok(())
     }
 
-    /// The token has ended: appends what was held back of it. Answers whether it was the news.
-    pub(crate) fn end(&mut self, kept: &mut Vec<u8>) -> Result<bool, NoMemory>
+    /// The token has ended: appends what was held back of it.
+    pub(crate) fn end(&mut self, kept: &mut Vec<u8>) -> Result<(), NoMemory>
         ensures held { OnOk result (kept.new.items ≡ kept.old.items ++ held self.old) }
         ensures anew { OnOk result (self.new ≡ Known.None) }
     {
         put_held(*self, kept)?;
-        let was_news = matches!(*self, Known::News);
         *self = Known::None;
-        Ok(was_news)
+        Ok(())
     }
 }

@@ -42,8 +42,8 @@ pub(crate) struct Outgoing {
 }
 
 impl Outgoing {
-    ghost use Rattle.tds_relay.specs.Bounds.{waiting_in};
-    ghost use Rattle.tds_relay.specs.Posts.{news, nothing, post_in, put, without_first};
+    ghost use Rattle.tds_relay.specs.Bounds.{news_length, waiting_in};
+    ghost use Rattle.tds_relay.specs.Posts.{nothing, post_in, put, put_news, without_first};
 
     pub(crate) fn new(alloc: Global, size: PacketSize) -> Outgoing
         ensures nothing { (result.bytes.items ≡ []) × (result.sent ≡ 0) }
@@ -142,17 +142,17 @@ impl Outgoing {
         put_packet(&mut self.bytes, header, content)
     }
 
-    /// Appends the news of a reset that is done, and a packet behind it.
-    pub(crate) fn put_behind_news(&mut self, header: Header, content: &[u8]) -> Result<(), NoMemory>
-        requires { header.length ≡ 8 + length content.now }
+    /// Appends the news of a reset that is done, where this is told.
+    pub(crate) fn put_news(&mut self, is_told: bool) -> Result<(), NoMemory>
         ensures fits { self.old.is_full ≡ false
-            → waiting_in self.old + (14 + header.length) ≤ self.old.size + PIECE
+            → waiting_in self.old + news_length is_told ≤ self.old.size + PIECE
             → self.new.is_full ≡ false }
-        ensures post { OnOk result (post_in self.new
-            ≡ put (header_bytes header ++ content.now) (put news (post_in self.old))) }
+        ensures size { self.new.size ≡ self.old.size }
+        ensures more { OnOk result (self.new.is_full ≡ false
+            → waiting_in self.new ≡ waiting_in self.old + news_length is_told) }
+        ensures post { OnOk result (post_in self.new ≡ put_news is_told (post_in self.old)) }
     {
-        self.append(&NEWS)?;
-        self.put_packet(header, content)
+        if is_told { self.append(&NEWS) } else { Ok(()) }
     }
 
     /// How many bytes may wait at most.

@@ -24,8 +24,8 @@ mod stopping;
 use crate::NoMemory;
 use crate::application::Application;
 use crate::desk::Desk;
-use crate::link::{Link, News};
-use crate::links::{forget_sent, set_cuts};
+use crate::link::Link;
+use crate::links::{forget_sent, restart};
 use crate::order::Order;
 use crate::outgoing::{BESIDE, PIECE};
 pub use places::{Counts, Place, PlaceOn};
@@ -150,14 +150,15 @@ impl Relay {
         let Some(key) = self.desk.key_on(number) else {
             return PIECE;
         };
-        let room = match self.applications.get(key) {
-            Some(application) => application.out.piece(),
-            None => PIECE,
+        let Some(application) = self.applications.get(key) else {
+            return PIECE;
         };
-        match link.news {
-            News::Comes => room,
-            // Its packets are set anew, or the news goes before them.
-            News::IsCut | News::IsTold => room.saturating_sub(BESIDE),
+        let room = application.out.piece();
+        // Its packets may be set anew, or the news of a reset may go before them.
+        if application.reset.is_some() || link.answer.holds() || self.desk.owes_reset(number) {
+            room.saturating_sub(BESIDE)
+        } else {
+            room
         }
     }
 
@@ -311,16 +312,16 @@ impl Relay {
         }
     }
 
-    /// Whether the news of a reset is cut out of what comes next on a connection: a message's first
-    /// packet. Who held it before may have left in the middle of one.
-    fn cut(&mut self, number: u64, cuts: bool)
+    /// What comes next on a connection is a message's first packet. Who held it before may have left in the
+    /// middle of one.
+    fn restart(&mut self, number: u64)
         ensures desk { self.new.desk ≡ self.old.desk }
         ensures same { self.new.applications ≡ self.old.applications }
         ensures kept { posts_in self.new.applications ≡ posts_in self.old.applications }
         ensures ends { ends_in self.new.applications ≡ ends_in self.old.applications }
         ensures read { Stays self.old.links.items self.new.links.items }
     {
-        set_cuts(&mut self.links, number, cuts);
+        restart(&mut self.links, number);
     }
 
     /// What the desk has to send on a connection waits there. One for which more would wait than may is

@@ -130,7 +130,7 @@ streams_hear number walker had now link next old f g bytes left count heard is h
           let all : packets_of s.steps ++ (link.reader.taken ++ more) ∷ [] ≡ packets_of (s.steps ++ step ∷ []) =
           ap (λ (xs : List ℕ). packets_of s.steps ++ xs ∷ []) (sym packet) ∙ sym (packets_both s.steps (step ∷ [])) in
           let whole : IsWhole r = (p.header, p.content, p.packet) in
-          let may : MayStep f step = may_hand number walker link.news link.answer r heard f g p in
+          let may : MayStep f step = may_hand number walker link.answer r heard f g p in
           record {
             steps = s.steps ++ step ∷ [];
             heard = s.heard ++ more;

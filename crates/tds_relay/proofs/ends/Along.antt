@@ -49,9 +49,9 @@ module _ (max key : ℕ) (alone : Alone) (by : ByHistory) (judges : Judging) whe
   lawful_one : (events : List Event) (h : Hall) (move : Move) (more : List Event) (front : Front) (w : Bool) → (s : Stands max key events h front w) → MayMove h move
       → Answers max (events ++ (events_of h move ++ more)) → Lawful s.place front.stage (passes key h move)
   lawful_one events h move more front w s may once =
-      let one : Lawful s.place front.stage (passes_by key h move (Some (Open front w))) =
+      let one : Lawful s.place front.stage (passes_by key h move (Some (Open front w s.asks))) =
       lawful_by h key (outs_of max events) (outs_of max (events ++ events_of h move)) (sound_at max events h s.is) (sits_at max events h s.is) judges
-      (reached.known_of max key alone by judges events h s.is) move s.place front w s.end_is may s.standing (leaves_at max events h move s.is) (once_of events h move more s.is once) in
+      (reached.known_of max key alone by judges events h s.is) move s.place front w s.asks s.end_is may s.standing (leaves_at max events h move s.is) (once_of events h move more s.is once) in
       subst (λ (es : List Passed). Lawful s.place front.stage es) (ap (passes_by key h move) (sym s.end_is) ∙ passes_is key h move) one
 
   -- and behind it others

@@ -263,19 +263,19 @@ module _ (d : Desk) (key : ℕ) (outs outs2 : ℕ → Bool) (sound : Sound d) (s
       hands_next b stage next head w (takes_back answer || w) p (sym e ∙ or_second (takes_back answer) (hands_on answer) takes hands) (or_right (takes_back answer) w takes) is does known leaves s
 
   -- any bytes
-  pub fed_next : (b : Bool) (stage : Stage) (front : Front) (w : Bool) (p : Place) (packet : Option Head) (brings : Result Fed FrontFault) → stops_by brings ≡ b → front.stage ≡ stage_fed stage packet brings
+  pub fed_next : (b : Bool) (stage : Stage) (front : Front) (w asks : Bool) (p : Place) (packet : Option Head) (brings : Result Fed FrontFault) → stops_by brings ≡ b → front.stage ≡ stage_fed stage packet brings
       → SaysOf stage packet brings → Known d key outs outs2 sound sit → LeavesIf b → Standing outs d key stage w p
-      → Told outs2 (DeskIf b) key stage p (brought_by stage packet brings) (end_behind front w brings)
-  fed_next b stage front w p None (Ok fed) e is says known leaves s =
+      → Told outs2 (DeskIf b) key stage p (brought_by stage packet brings) (end_behind front w asks brings)
+  fed_next b stage front w asks p None (Ok fed) e is says known leaves s =
       let plain = data_plain fed.said says in
       let same : stage ≡ front.stage = sym is in
       let leads : Leads stage p [] front.stage p = record { stage_is = same; place_is = refl } in
       still_next b stage front.stage w (takes_back fed.said || w) p [] (sym e ∙ or_none (takes_back fed.said) (hands_on fed.said) plain.0 plain.1) (or_right (takes_back fed.said) w plain.0) leads leaves
       (subst (λ (x : Stage). Standing outs d key x w p) same s)
-  fed_next b stage front w p (Some head) (Ok fed) e is says known leaves s =
+  fed_next b stage front w asks p (Some head) (Ok fed) e is says known leaves s =
       packet_next b stage front.stage head w p fed.said (said_kind (taken stage head).does fed.said says) e (sym is) known leaves s
-  fed_next true stage front w p packet (Err fault) e is says known leaves s = absurd (let u : ⊥ = cc in u)
-  fed_next false stage front w p packet (Err fault) e is says known leaves s = at_desk outs d key stage w p s
+  fed_next true stage front w asks p packet (Err fault) e is says known leaves s = absurd (let u : ⊥ = cc in u)
+  fed_next false stage front w asks p packet (Err fault) e is says known leaves s = at_desk outs d key stage w p s
 
 -- ---- What is said behind it is lawful
 

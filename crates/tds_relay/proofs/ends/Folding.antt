@@ -147,17 +147,17 @@ may_each h (x ∷ xs) ys may = let more = may_each (moved h x) xs ys may.1 in ((
 -- ---- What is told of an application, behind moves
 
 next_place : (outs : ℕ → Bool) (d : Desk) (key : ℕ) (p : Place) (es : List Passed) (stage : Stage) (end : End) → Told outs d key stage p es end → (q : Place) × StoryOf outs d key q (Some end)
-next_place outs d key p es stage (Open front w) next = (next.place, next.standing)
+next_place outs d key p es stage (Open front w asks) next = (next.place, next.standing)
 next_place outs d key p es stage Over next = (p, next)
 
 pub step_story : (outs : ℕ → Bool) (d : Desk) (key : ℕ) (p : Place) (es : List Passed) (o o2 : Option End) → StepOf outs d key p es o o2 → (q : Place) × StoryOf outs d key q o2
 step_story outs d key p es None None s = (p, s)
-step_story outs d key p es None (Some (Open front w)) s = (Ready, s.0)
+step_story outs d key p es None (Some (Open front w asks)) s = (Ready, s.0)
 step_story outs d key p es None (Some Over) s = absurd s
-step_story outs d key p es (Some (Open front w)) None s = (p, s)
-step_story outs d key p es (Some (Open front w)) (Some end) s = next_place outs d key p es front.stage end s
+step_story outs d key p es (Some (Open front w asks)) None s = (p, s)
+step_story outs d key p es (Some (Open front w asks)) (Some end) s = next_place outs d key p es front.stage end s
 step_story outs d key p es (Some Over) None s = (p, s)
-step_story outs d key p es (Some Over) (Some (Open front w)) s = absurd s
+step_story outs d key p es (Some Over) (Some (Open front w asks)) s = absurd s
 step_story outs d key p es (Some Over) (Some Over) s = (p, s)
 
 -- ---- What passes, by the end as it was
@@ -305,29 +305,29 @@ module _ (h : Hall) (key : ℕ) (outs outs2 : ℕ → Bool) (sound : Sound h.des
   abbrev d : Desk
   d = h.desk
 
-  abbrev LawfulBy : Move → Place → Front → Bool → Type 0
-  LawfulBy move p front w = Lawful p front.stage (passes_by key h move (Some (Open front w)))
+  abbrev LawfulBy : Move → Place → Front → Bool → Bool → Type 0
+  LawfulBy move p front w asks = Lawful p front.stage (passes_by key h move (Some (Open front w asks)))
 
-  sent_lawful : (deed : Deed) (p : Place) (front : Front) (w : Bool) → IsPut deed → MayDo deed (Some (Open front w)) → Standing outs d key front.stage w p → LeavesBy h key outs outs2 sound sit judges known (hall.Sends key deed)
+  sent_lawful : (deed : Deed) (p : Place) (front : Front) (w asks : Bool) → IsPut deed → MayDo deed (Some (Open front w asks)) → Standing outs d key front.stage w p → LeavesBy h key outs outs2 sound sit judges known (hall.Sends key deed)
       → Lawful p front.stage (gone_on (sent_by d (desk.Does key deed)))
-  sent_lawful (desk.Puts count) p front w put may s leaves =
+  sent_lawful (desk.Puts count) p front w asks put may s leaves =
       let sent = puts_stand d key outs outs2 sound sit count front.stage w p s may known (left_of d key outs outs2 sound sit (desk.Does key (desk.Puts count)) leaves) in
       (gone_lawful (sent_by d (desk.Does key (desk.Puts count))) p front.stage, sent.whole)
-  sent_lawful (desk.Ends count) p front w put may s leaves =
+  sent_lawful (desk.Ends count) p front w asks put may s leaves =
       let sent = ends_stand d key outs outs2 sound sit count front.stage w p s may (left_of d key outs outs2 sound sit (desk.Does key (desk.Ends count)) leaves) in
       (gone_lawful (sent_by d (desk.Does key (desk.Ends count))) p front.stage, sent.whole)
-  sent_lawful desk.Asks p front w put may s leaves = absurd put
-  sent_lawful desk.Stops p front w put may s leaves = absurd put
+  sent_lawful desk.Asks p front w asks put may s leaves = absurd put
+  sent_lawful desk.Stops p front w asks put may s leaves = absurd put
 
-  sent_if : (k : ℕ) (deed : Deed) (b : Bool) (p : Place) (front : Front) (w : Bool) → (k == key) ≡ b → IsPut deed → (k ≡ key → MayDo deed (Some (Open front w))) → Standing outs d key front.stage w p
+  sent_if : (k : ℕ) (deed : Deed) (b : Bool) (p : Place) (front : Front) (w asks : Bool) → (k == key) ≡ b → IsPut deed → (k ≡ key → MayDo deed (Some (Open front w asks))) → Standing outs d key front.stage w p
       → LeavesBy h key outs outs2 sound sit judges known (hall.Sends k deed) → Lawful p front.stage (if b then gone_on (sent_by d (desk.Does k deed)) else [])
-  sent_if k deed true p front w e put may s leaves =
+  sent_if k deed true p front w asks e put may s leaves =
       let is = eqb-true k key e in
       let P : ℕ → Type 0 = λ (x : ℕ). LeavesBy h key outs outs2 sound sit judges known (hall.Sends x deed) → Lawful p front.stage (gone_on (sent_by d (desk.Does x deed))) in
-      let here : P key = sent_lawful deed p front w put (may is) s in
+      let here : P key = sent_lawful deed p front w asks put (may is) s in
       let there : P k = subst P (sym is) here in
       there leaves
-  sent_if k deed false p front w e put may s leaves = (tt, tt)
+  sent_if k deed false p front w asks e put may s leaves = (tt, tt)
 
   heard_if : (n k : ℕ) (part : Part Token) (way : Way) (b : Bool) (p : Place) (front : Front) (w : Bool) → whose d n ≡ Some k → (k == key) ≡ b → Standing outs d key front.stage w p
       → AnswersOnce (outs n) (done_by d n part) → Lawful p front.stage (if b then unless_withdrawn w (said_in (done_by d n part)) else [])
@@ -344,16 +344,16 @@ module _ (h : Hall) (key : ℕ) (outs outs2 : ℕ → Bool) (sound : Sound h.des
   fed_if bytes true p front = fed_lawful front.stage p (judged front.due bytes) (fed front bytes).brings
   fed_if bytes false p front = (tt, tt)
 
-  pub lawful_by : (move : Move) (p : Place) (front : Front) (w : Bool) → end_at h.ends key ≡ Some (Open front w) → MayMove h move → Standing outs d key front.stage w p
-      → LeavesBy h key outs outs2 sound sit judges known move → ((n : ℕ) → AnswersOnce (outs n) (done_from n d (events_of h move))) → LawfulBy move p front w
-  lawful_by (hall.Does event) p front w e may s leaves once = (tt, tt)
-  lawful_by (hall.Sends k deed) p front w e may s leaves once =
-      sent_if k deed (k == key) p front w refl may.0 (λ is. subst (MayDo deed) e (subst (λ (x : ℕ). MayDo deed (end_at h.ends x)) is may.1)) s leaves
-  lawful_by (hall.LetsGo k gives way) p front w e may s leaves once = (tt, tt)
-  lawful_by (hall.Loses n) p front w e may s leaves once = (tt, tt)
-  lawful_by (hall.Replaces n) p front w e may s leaves once = (tt, tt)
-  lawful_by (hall.Comes n part way) p front w e may s leaves once = heard_whose n part way (whose d n) p front w refl s (came_once d n part way (outs n) (once n))
-  lawful_by (hall.Feeds k bytes) p front w e may s leaves once = fed_if bytes (k == key) p front
-  lawful_by (hall.Closes k) p front w e may s leaves once = (tt, tt)
-  lawful_by (hall.Enters k ends) p front w e may s leaves once = (tt, tt)
-  lawful_by (hall.Quits k gives way) p front w e may s leaves once = (tt, tt)
+  pub lawful_by : (move : Move) (p : Place) (front : Front) (w asks : Bool) → end_at h.ends key ≡ Some (Open front w asks) → MayMove h move → Standing outs d key front.stage w p
+      → LeavesBy h key outs outs2 sound sit judges known move → ((n : ℕ) → AnswersOnce (outs n) (done_from n d (events_of h move))) → LawfulBy move p front w asks
+  lawful_by (hall.Does event) p front w asks e may s leaves once = (tt, tt)
+  lawful_by (hall.Sends k deed) p front w asks e may s leaves once =
+      sent_if k deed (k == key) p front w asks refl may.0 (λ is. subst (MayDo deed) e (subst (λ (x : ℕ). MayDo deed (end_at h.ends x)) is may.1)) s leaves
+  lawful_by (hall.LetsGo k gives way) p front w asks e may s leaves once = (tt, tt)
+  lawful_by (hall.Loses n) p front w asks e may s leaves once = (tt, tt)
+  lawful_by (hall.Replaces n) p front w asks e may s leaves once = (tt, tt)
+  lawful_by (hall.Comes n part way) p front w asks e may s leaves once = heard_whose n part way (whose d n) p front w refl s (came_once d n part way (outs n) (once n))
+  lawful_by (hall.Feeds k bytes) p front w asks e may s leaves once = fed_if bytes (k == key) p front
+  lawful_by (hall.Closes k) p front w asks e may s leaves once = (tt, tt)
+  lawful_by (hall.Enters k ends) p front w asks e may s leaves once = (tt, tt)
+  lawful_by (hall.Quits k gives way) p front w asks e may s leaves once = (tt, tt)

@@ -40,19 +40,19 @@ module _ (d : Desk) (key : ℕ) (outs outs2 : ℕ → Bool) (sound : Sound d) (s
 
   still_step : (p : Place) (o : Option End) → StoryOf outs d key p o → Still → StepOf outs2 d key p [] o o
   still_step p None s still = s
-  still_step p (Some (Open front w)) s still = stays_next outs2 d key front.stage w p (same_outs front.stage w p still s)
+  still_step p (Some (Open front w asks)) s still = stays_next outs2 d key front.stage w p (same_outs front.stage w p still s)
   still_step p (Some Over) s still = s
 
   closes_step : (p : Place) (o : Option End) → StoryOf outs d key p o → StepOf outs2 d key p [] o (option_map closes o)
   closes_step p None s = s
-  closes_step p (Some (Open front w)) s = at_desk outs d key front.stage w p s
+  closes_step p (Some (Open front w asks)) s = at_desk outs d key front.stage w p s
   closes_step p (Some Over) s = s
 
   closes_if : (k : ℕ) (b : Bool) (p : Place) (o : Option End) → (k == key) ≡ b → StoryOf outs d key p o → Still → StepOf outs2 d key p [] o (if b then option_map closes o else o)
   closes_if k true p o e s still = closes_step p o s
   closes_if k false p o e s still = still_step p o s still
 
-  enters_step : (size : ℕ) (p : Place) (o : Option End) → StoryOf outs d key p o → o ≡ None → StepOf outs2 d key p [] o (Some (Open (new_front size) false))
+  enters_step : (size : ℕ) (p : Place) (o : Option End) → StoryOf outs d key p o → o ≡ None → StepOf outs2 d key p [] o (Some (Open (new_front size) false false))
   enters_step size p None s e =
       (inr (record { absent = gone_absent key d s; rests = record { here = tt; its = refl; ready = refl } }), refl)
   enters_step size p (Some end) s e = absurd (let u : ⊥ = cc in u)
@@ -61,7 +61,7 @@ module _ (d : Desk) (key : ℕ) (outs outs2 : ℕ → Bool) (sound : Sound d) (s
   enters_if k ends old true p e s entered still =
       let is = eqb-true k key e in
       let free : end_at old key ≡ None = subst (λ (x : ℕ). end_at old x ≡ None) is entered.was_free in
-      let begins : end_at ends key ≡ Some (Open (new_front entered.size) false) = subst (λ (x : ℕ). end_at ends x ≡ Some (Open (new_front entered.size) false)) is entered.begins in
+      let begins : end_at ends key ≡ Some (Open (new_front entered.size) false false) = subst (λ (x : ℕ). end_at ends x ≡ Some (Open (new_front entered.size) false false)) is entered.begins in
       subst (λ (x : Option End). StepOf outs2 d key p [] (end_at old key) x) (sym begins) (enters_step entered.size p (end_at old key) s free)
   enters_if k ends old false p e s entered still =
       let same : end_at ends key ≡ end_at old key = entered.others_stay key (λ is. never d key outs outs2 sound sit k e (sym is)) in
@@ -81,9 +81,9 @@ module _ (d : Desk) (key : ℕ) (outs outs2 : ℕ → Bool) (sound : Sound d) (s
 
   feeds_step : (bytes : List ℕ) (p : Place) (o : Option End) → StoryOf outs d key p o → Judges → Known d key outs outs2 sound sit → FedLeaves bytes o → FedAt bytes o p o
   feeds_step bytes p None s judges known leaves = s
-  feeds_step bytes p (Some (Open front w)) s judges known leaves =
+  feeds_step bytes p (Some (Open front w asks)) s judges known leaves =
       let j = judges front bytes in
-      fed_next d key outs outs2 sound sit (stops_by (fed front bytes).brings) front.stage (fed front bytes).front w p (judged front.due bytes) (fed front bytes).brings refl j.0 j.1 known leaves s
+      fed_next d key outs outs2 sound sit (stops_by (fed front bytes).brings) front.stage (fed front bytes).front w asks p (judged front.due bytes) (fed front bytes).brings refl j.0 j.1 known leaves s
   feeds_step bytes p (Some Over) s judges known leaves = s
 
   append_calls : (xs : List (Call Token)) → xs ++ [] ≡ xs

@@ -149,7 +149,7 @@ module _ (d : Desk) (key : ℕ) (sound : Sound d) (sit : AllSit d) where
 
 -- what an end is then
 abbrev pub Told : (ℕ → Bool) → Desk → ℕ → Stage → Place → List Passed → End → Type 0
-Told outs d key stage p es (Open front w) = Next outs d key stage p es front.stage w
+Told outs d key stage p es (Open front w asks) = Next outs d key stage p es front.stage w
 Told outs d key stage p es Over = AtDesk key d
 
 module _ (d : Desk) (key : ℕ) (outs outs2 : ℕ → Bool) (sound : Sound d) (sit : AllSit d) where
@@ -157,67 +157,67 @@ module _ (d : Desk) (key : ℕ) (outs outs2 : ℕ → Bool) (sound : Sound d) (s
       → Ours d key k.hold k.seat (with_came k.seat part) (line.Come part ∷ []) (turn d (desk.Comes k.hold.number part way)) → Leaves d key outs outs2 sound sit (desk.Comes k.hold.number part way)
       → EndTied end stage p es (turning k.seat.line (line.Come part)).line.stage (out_by (outs k.hold.number) (done_so (line.Come part) (turning k.seat.line (line.Come part))))
       → Told outs2 (turn d (desk.Comes k.hold.number part way)).desk key stage p es end
-  told_right k part way stage p es (Open front w) ours leaves t = record {
+  told_right k part way stage p es (Open front w asks) ours leaves t = record {
     place = t.0;
     standing = inl (ours_hold d key outs outs2 sound sit (desk.Comes k.hold.number part way) k.hold k.seat (with_came k.seat part) (line.Come part ∷ []) front.stage w t.0 ours leaves t.1);
     leads = t.2;
   }
   told_right k part way stage p es Over ours leaves t = inl (record { hold = k.hold; seat = with_came k.seat part; its = ours.its })
 
-  told_as : (k : HoldsOne key d) (part : Part Token) (way : Way) (front : Front) (w : Bool) (p : Place) → Tied front.stage w p k.seat.line.stage (outs k.hold.number)
+  told_as : (k : HoldsOne key d) (part : Part Token) (way : Way) (front : Front) (w asks : Bool) (p : Place) → Tied front.stage w p k.seat.line.stage (outs k.hold.number)
       → Leaves d key outs outs2 sound sit (desk.Comes k.hold.number part way) → HeardAs k.seat.line.stage (is_end part.close) (turning k.seat.line (line.Come part))
       → (heard_of k.seat.line part ≡ desk.Wrong → ⊥)
       → Told outs2 (turn d (desk.Comes k.hold.number part way)).desk key front.stage p (unless_withdrawn w (said_by (is_end part.close) (turning k.seat.line (line.Come part)).answer))
-      (told (what_of (turning k.seat.line (line.Come part)).answer) (Open front w))
-  told_as k part way front w p tied leaves heard right =
+      (told (what_of (turning k.seat.line (line.Come part)).answer) (Open front w asks))
+  told_as k part way front w asks p tied leaves heard right =
       let t = turning k.seat.line (line.Come part) in
-      told_right k part way front.stage p (unless_withdrawn w (said_by (is_end part.close) t.answer)) (told (what_of t.answer) (Open front w))
+      told_right k part way front.stage p (unless_withdrawn w (said_by (is_end part.close) t.answer)) (told (what_of t.answer) (Open front w asks))
       (hears_right d key k.hold k.seat part way sound k.its right) leaves
-      (heard_tied front w p (outs k.hold.number) (is_end part.close) k.seat.line.stage t tied heard)
+      (heard_tied front w asks p (outs k.hold.number) (is_end part.close) k.seat.line.stage t tied heard)
 
-  abbrev Result : (k : HoldsOne key d) → Part Token → Way → Front → Bool → Place → Type 0
-  Result k part way front w p =
+  abbrev Result : (k : HoldsOne key d) → Part Token → Way → Front → Bool → Bool → Place → Type 0
+  Result k part way front w asks p =
       Told outs2 (turn d (desk.Comes k.hold.number part way)).desk key front.stage p (unless_withdrawn w (said_by (is_end part.close) (turning k.seat.line (line.Come part)).answer))
-      (told (what_of (turning k.seat.line (line.Come part)).answer) (Open front w))
+      (told (what_of (turning k.seat.line (line.Come part)).answer) (Open front w asks))
 
   not_wrong : (k : HoldsOne key d) (part : Part Token) (answer : line.Answer) → (turning k.seat.line (line.Come part)).answer ≡ answer → (hearing_of answer ≡ desk.Wrong → ⊥) → heard_of k.seat.line part ≡ desk.Wrong → ⊥
   not_wrong k part answer a never wrong = never (ap hearing_of (sym a) ∙ wrong)
 
-  told_by : (k : HoldsOne key d) (part : Part Token) (way : Way) (front : Front) (w : Bool) (p : Place) → Tied front.stage w p k.seat.line.stage (outs k.hold.number)
-      → Leaves d key outs outs2 sound sit (desk.Comes k.hold.number part way) → HeardAs k.seat.line.stage (is_end part.close) (turning k.seat.line (line.Come part)) → Result k part way front w p
-  told_by k part way front w p tied leaves (Breaks fault a) =
+  told_by : (k : HoldsOne key d) (part : Part Token) (way : Way) (front : Front) (w asks : Bool) (p : Place) → Tied front.stage w p k.seat.line.stage (outs k.hold.number)
+      → Leaves d key outs outs2 sound sit (desk.Comes k.hold.number part way) → HeardAs k.seat.line.stage (is_end part.close) (turning k.seat.line (line.Come part)) → Result k part way front w asks p
+  told_by k part way front w asks p tied leaves (Breaks fault a) =
       let wrong : heard_of k.seat.line part ≡ desk.Wrong = ap hearing_of a in
       let gone = hears_wrong d key k.hold k.seat part way k.its wrong in
       let d2 = (turn d (desk.Comes k.hold.number part way)).desk in
       let at : AtDesk key d2 = inr (gone_absent key d2 gone) in
-      subst (λ (x : line.Answer). Told outs2 d2 key front.stage p (unless_withdrawn w (said_by (is_end part.close) x)) (told (what_of x) (Open front w))) (sym a) at
-  told_by k part way front w p tied leaves (ReadsOn is goes a sent l) =
-      told_as k part way front w p tied leaves (ReadsOn is goes a sent l) (not_wrong k part line.More a (λ e. let u : ⊥ = cc in u))
-  told_by k part way front w p tied leaves (ReadsEnd request is a sent l) =
-      told_as k part way front w p tied leaves (ReadsEnd request is a sent l) (not_wrong k part (line.Finished request) a (λ e. let u : ⊥ = cc in u))
-  told_by k part way front w p tied leaves (SkipsOn is a sent l) =
-      told_as k part way front w p tied leaves (SkipsOn is a sent l) (not_wrong k part line.More a (λ e. let u : ⊥ = cc in u))
-  told_by k part way front w p tied leaves (SkipsEnd request is a sent l) =
-      told_as k part way front w p tied leaves (SkipsEnd request is a sent l) (not_wrong k part (line.Acked request) a (λ e. let u : ⊥ = cc in u))
+      subst (λ (x : line.Answer). Told outs2 d2 key front.stage p (unless_withdrawn w (said_by (is_end part.close) x)) (told (what_of x) (Open front w asks))) (sym a) at
+  told_by k part way front w asks p tied leaves (ReadsOn is goes a sent l) =
+      told_as k part way front w asks p tied leaves (ReadsOn is goes a sent l) (not_wrong k part line.More a (λ e. let u : ⊥ = cc in u))
+  told_by k part way front w asks p tied leaves (ReadsEnd request is a sent l) =
+      told_as k part way front w asks p tied leaves (ReadsEnd request is a sent l) (not_wrong k part (line.Finished request) a (λ e. let u : ⊥ = cc in u))
+  told_by k part way front w asks p tied leaves (SkipsOn is a sent l) =
+      told_as k part way front w asks p tied leaves (SkipsOn is a sent l) (not_wrong k part line.More a (λ e. let u : ⊥ = cc in u))
+  told_by k part way front w asks p tied leaves (SkipsEnd request is a sent l) =
+      told_as k part way front w asks p tied leaves (SkipsEnd request is a sent l) (not_wrong k part (line.Acked request) a (λ e. let u : ⊥ = cc in u))
 
-  told_here : (k : HoldsOne key d) (part : Part Token) (way : Way) (front : Front) (w : Bool) (p : Place) → Tied front.stage w p k.seat.line.stage (outs k.hold.number)
+  told_here : (k : HoldsOne key d) (part : Part Token) (way : Way) (front : Front) (w asks : Bool) (p : Place) → Tied front.stage w p k.seat.line.stage (outs k.hold.number)
       → Leaves d key outs outs2 sound sit (desk.Comes k.hold.number part way)
-      → Told outs2 (turn d (desk.Comes k.hold.number part way)).desk key front.stage p (unless_withdrawn w (said_in (done_by d k.hold.number part))) (told (what_in (done_by d k.hold.number part)) (Open front w))
-  told_here k part way front w p tied leaves =
-      subst (λ (ds : List (Done Token)). Told outs2 (turn d (desk.Comes k.hold.number part way)).desk key front.stage p (unless_withdrawn w (said_in ds)) (told (what_in ds) (Open front w)))
-      (sym (came_done d key k.hold k.seat part k.its)) (told_by k part way front w p tied leaves (heard_as k.seat.line part))
+      → Told outs2 (turn d (desk.Comes k.hold.number part way)).desk key front.stage p (unless_withdrawn w (said_in (done_by d k.hold.number part))) (told (what_in (done_by d k.hold.number part)) (Open front w asks))
+  told_here k part way front w asks p tied leaves =
+      subst (λ (ds : List (Done Token)). Told outs2 (turn d (desk.Comes k.hold.number part way)).desk key front.stage p (unless_withdrawn w (said_in ds)) (told (what_in ds) (Open front w asks)))
+      (sym (came_done d key k.hold k.seat part k.its)) (told_by k part way front w asks p tied leaves (heard_as k.seat.line part))
 
-  pub hears_stand : (n : ℕ) (part : Part Token) (way : Way) (front : Front) (w : Bool) (p : Place) → Standing outs d key front.stage w p → whose d n ≡ Some key
+  pub hears_stand : (n : ℕ) (part : Part Token) (way : Way) (front : Front) (w asks : Bool) (p : Place) → Standing outs d key front.stage w p → whose d n ≡ Some key
       → Leaves d key outs outs2 sound sit (desk.Comes n part way)
-      → Told outs2 (turn d (desk.Comes n part way)).desk key front.stage p (unless_withdrawn w (said_in (done_by d n part))) (told (what_in (done_by d n part)) (Open front w))
-  hears_stand n part way front w p (inl k) mine leaves =
+      → Told outs2 (turn d (desk.Comes n part way)).desk key front.stage p (unless_withdrawn w (said_in (done_by d n part))) (told (what_in (done_by d n part)) (Open front w asks))
+  hears_stand n part way front w asks p (inl k) mine leaves =
       let number = whose_number d key n k.hold k.seat sound k.its mine in
       let P : ℕ → Type 0 = λ (m : ℕ). Leaves d key outs outs2 sound sit (desk.Comes m part way)
-      → Told outs2 (turn d (desk.Comes m part way)).desk key front.stage p (unless_withdrawn w (said_in (done_by d m part))) (told (what_in (done_by d m part)) (Open front w)) in
-      let at : P k.hold.number = λ l. told_here (record { hold = k.hold; seat = k.seat; its = k.its }) part way front w p k.tied l in
+      → Told outs2 (turn d (desk.Comes m part way)).desk key front.stage p (unless_withdrawn w (said_in (done_by d m part))) (told (what_in (done_by d m part)) (Open front w asks)) in
+      let at : P k.hold.number = λ l. told_here (record { hold = k.hold; seat = k.seat; its = k.its }) part way front w asks p k.tied l in
       let done : P n = subst P number at in
       done leaves
-  hears_stand n part way front w p (inr k) mine leaves = absurd (absent_whose d key n sound k.absent.none mine)
+  hears_stand n part way front w asks p (inr k) mine leaves = absurd (absent_whose d key n sound k.absent.none mine)
 
   -- what is said to it is lawful
   lawful_here : (k : HoldsOne key d) (part : Part Token) (way : Way) (stage : Stage) (w : Bool) (p : Place) → Tied stage w p k.seat.line.stage (outs k.hold.number)

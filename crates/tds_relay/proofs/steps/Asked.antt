@@ -154,8 +154,8 @@ asks_moved key old bytes left links h h1 ps ps1 m kept a = asks_moves key old by
 
 -- ---- Bytes are taken, and then it goes on
 
-said_is : (bytes : List ℕ) (o : Option End) (front : Front) (withdrawn : Bool) (brings : Result Fed FrontFault) → o ≡ Some (Open front withdrawn) → (fed front bytes).brings ≡ brings → said_of bytes o ≡ said_in brings
-said_is bytes o front withdrawn brings was says = ap (said_of bytes) was ∙ ap said_in says
+said_is : (bytes : List ℕ) (o : Option End) (front : Front) (withdrawn asks : Bool) (brings : Result Fed FrontFault) → o ≡ Some (Open front withdrawn asks) → (fed front bytes).brings ≡ brings → said_of bytes o ≡ said_in brings
+said_is bytes o front withdrawn asks brings was says = ap (said_of bytes) was ∙ ap said_in says
 
 module _ (P : Bool → Hall → Type 0) (key : ℕ) (left : List ℕ) where
   one_obeyed : (h : House) (moves : List Move) (h1 : Hall) → moved_all (moved h.hall (Feeds key left)) moves ≡ h1 → IfAsks (λ whole. P whole h1) (said_of left (end_at h.hall.ends key))
@@ -172,26 +172,26 @@ module _ (P : Bool → Hall → Type 0) (key : ℕ) (left : List ℕ) where
       subst (AreObeyed P key old) (sym (append_assoc xs (Takes key left ∷ []) (makes_all moves)))
       (obeyed_both P key old xs (Takes key left ∷ makes_all moves) o (subst (λ (x : House). AreObeyed P key x (Takes key left ∷ makes_all moves)) (sym e) (one_obeyed h moves h1 are p)))
 
-asks_taken : (key : ℕ) (old : House) (bytes left rest : List ℕ) (links : List Link) (h : House) (h1 : Hall) (ps1 : Posts) (front : Front) (withdrawn : Bool) → end_at h.hall.ends key ≡ Some (Open front withdrawn)
+asks_taken : (key : ℕ) (old : House) (bytes left rest : List ℕ) (links : List Link) (h : House) (h1 : Hall) (ps1 : Posts) (front : Front) (withdrawn asks : Bool) → end_at h.hall.ends key ≡ Some (Open front withdrawn asks)
     → left_by left (end_at h.hall.ends key) ≡ rest → change key (put_some (owed left (end_at h.hall.ends key))) h.posts ≡ ps1 → Moves (Application key) (moved h.hall (Feeds key left)) h1
     → IfAsks (λ whole. IsUnderway whole links key h1) (said_of left (end_at h.hall.ends key)) → Asks key old bytes left links h → Asks key old bytes rest links (record { hall = h1; posts = ps1 })
-asks_taken key old bytes left rest links h h1 ps1 front withdrawn opened left_is waits m p a = record {
-  tells = tells_moves key old bytes rest (moved h.hall (Feeds key left)) h1 ps1 ps1 m refl (tells_takes key old bytes left rest h ps1 front withdrawn opened left_is waits a.tells);
+asks_taken key old bytes left rest links h h1 ps1 front withdrawn asks opened left_is waits m p a = record {
+  tells = tells_moves key old bytes rest (moved h.hall (Feeds key left)) h1 ps1 ps1 m refl (tells_takes key old bytes left rest h ps1 front withdrawn asks opened left_is waits a.tells);
   obeyed = taken_obeyed (λ whole. IsUnderway whole links key) key left old h a.tells.steps m.moves h1 a.tells.are m.are p a.obeyed;
 }
 
 -- ---- As it is done
 
-pub asks_refused : (key : ℕ) (old : House) (bytes left rest : List ℕ) (links : List Link) (h : House) (h1 : Hall) (ps1 : Posts) (front : Front) (withdrawn : Bool) (fault : FrontFault) → end_at h.hall.ends key ≡ Some (Open front withdrawn)
+pub asks_refused : (key : ℕ) (old : House) (bytes left rest : List ℕ) (links : List Link) (h : House) (h1 : Hall) (ps1 : Posts) (front : Front) (withdrawn asks : Bool) (fault : FrontFault) → end_at h.hall.ends key ≡ Some (Open front withdrawn asks)
     → change key (put_some (owed left (end_at h.hall.ends key))) h.posts ≡ h.posts → moved h.hall (Feeds key left) ≡ hall_of_ends h.hall.desk (change_end key closes h.hall.ends) → (fed front left).brings ≡ Err fault
     → Moved (Application key) (hall_of_ends h.hall.desk (change_end key closes h.hall.ends)) h1 → ps1 ≡ h.posts → Asks key old bytes left links h → Asks key old bytes rest links (record { hall = h1; posts = ps1 })
-asks_refused key old bytes left rest links h h1 ps1 front withdrawn fault opened waits is says m kept a =
+asks_refused key old bytes left rest links h h1 ps1 front withdrawn asks fault opened waits is says m kept a =
     let closed : Hall = hall_of_ends h.hall.desk (change_end key closes h.hall.ends) in
     let moves : Moves (Application key) (moved h.hall (Feeds key left)) closed = subst (Moves (Application key) (moved h.hall (Feeds key left))) is (no_moves (Application key) (moved h.hall (Feeds key left))) in
     asks_moved key old bytes rest links closed h1 h.posts ps1 m kept
     (asks_deaf key old (record { hall = closed; posts = h.posts }) bytes (left_by left (end_at h.hall.ends key)) rest links (deaf_closed key h.hall.ends)
-    (asks_taken key old bytes left (left_by left (end_at h.hall.ends key)) links h closed h.posts front withdrawn opened refl waits moves
-    (subst (IfAsks (λ whole. IsUnderway whole links key closed)) (sym (said_is left (end_at h.hall.ends key) front withdrawn (Err fault) opened says)) tt) a))
+    (asks_taken key old bytes left (left_by left (end_at h.hall.ends key)) links h closed h.posts front withdrawn asks opened refl waits moves
+    (subst (IfAsks (λ whole. IsUnderway whole links key closed)) (sym (said_is left (end_at h.hall.ends key) front withdrawn asks (Err fault) opened says)) tt) a))
 
 pub asks_expelled : {A E : Type 0} (r : Result A E) (key : ℕ) (old : House) (bytes left rest : List ℕ) (links next : List Link) (d : Desk) (es : Ends) (ps ps1 : Posts) (h1 : Hall) → Asks key old bytes left links (house_with d es ps)
     → OnOk r (Moved (Application key) (hall_of_ends d (change_end key closes es)) h1) → OnOk r (ps1 ≡ ps) → OnOk r (reads.Stays links next) → OnOk r (Asks key old bytes rest next (record { hall = h1; posts = ps1 }))
@@ -207,11 +207,11 @@ asks_between : (key : ℕ) (old : House) (bytes left rest : List ℕ) (links : L
     → Asks key old bytes left links (house_with d before ps) → Asks key old bytes rest links (record { hall = h1; posts = ps1 })
 asks_between key old bytes left rest links d before now ps ps1 h1 answer f (inl b) p is given a =
     let same : end_at b.mid.ends key ≡ end_at before key = ap (λ (es : Ends). end_at es key) b.same in
-    asks_taken key old bytes left rest links (record { hall = b.mid; posts = ps }) h1 ps1 f.front f.withdrawn (same ∙ f.was)
+    asks_taken key old bytes left rest links (record { hall = b.mid; posts = ps }) h1 ps1 f.front f.withdrawn f.asks (same ∙ f.was)
     (ap (left_by left) same ∙ left_fed key before now left answer f ∙ sym is)
     (ap (λ (o : Option End). change key (put_some (owed left o)) ps) same ∙ waits_fed key before now left answer ps f ∙ sym given)
     b.next
-    (subst (IfAsks (λ whole. IsUnderway whole links key h1)) (sym (said_is left (end_at b.mid.ends key) f.front f.withdrawn (Ok (record { count = f.count; said = answer })) (same ∙ f.was) f.says)) p)
+    (subst (IfAsks (λ whole. IsUnderway whole links key h1)) (sym (said_is left (end_at b.mid.ends key) f.front f.withdrawn f.asks (Ok (record { count = f.count; said = answer })) (same ∙ f.was) f.says)) p)
     (asks_moves key old bytes left links (hall_of_ends d before) b.mid ps ps b.first refl a)
 asks_between key old bytes left rest links d before now ps ps1 h1 answer f (inr k) p is given a =
     asks_deaf key old (record { hall = h1; posts = ps1 }) bytes left rest links k.deaf

@@ -1,7 +1,7 @@
 -- Bytes of an application, and what is taken back by them.
 use Rattle.std.proofs.Common.{◌≡◌, ◌∙◌, ◌||◌, ℕ, Bool, true, false, List, Option, Some, drop, refl, sym, ap, subst, slice_set, option_map, if◌then◌else◌}
 use Rattle.std.proofs.lemmas.List.{map-set}
-use Rattle.std.specs.Prelude.{Result, Ok, Err}
+use Rattle.std.specs.Prelude.{Result, Ok, Err, is_some}
 use Rattle.slab.specs.Slab.{Slab, get, with_value}
 use Rattle.tds_front.specs.declared.fault.FrontFault.{FrontFault}
 use Rattle.tds_front.specs.declared.front.Fed.{Fed}
@@ -9,11 +9,12 @@ use Rattle.tds_front.specs.declared.front.Front.{Front}
 use Rattle.tds_front.specs.declared.front.Said.{Said}
 use Rattle.tds_front.specs.declared.front.Said.TheVariants as said
 use Rattle.tds_front.specs.Bytes.{fed}
+use Rattle.tds_front.specs.Rules as rules
 use Rattle.tds_relay.specs.declared.application.Application.{Application}
 use Rattle.tds_relay.specs.Desk as desk
 use Rattle.tds_relay.specs.Desk.{Desk, Event, desk_after, turn}
 use Rattle.tds_relay.specs.Fronts.{IsFed, end_of, ends_in, given_by, hall_of_ends, withdraws}
-use Rattle.tds_relay.specs.Hall.{End, Ends, Feeds, IsThere, Open, Over, change_end, closes, end_at, end_behind, event_if, feeds, hands_on, moved, stops_by, stops_of, takes_back}
+use Rattle.tds_relay.specs.Hall.{End, Ends, Feeds, IsThere, Open, Over, acknowledged, asks_by, change_end, closes, end_at, end_behind, event_if, feeds, hands_on, hears, moved, stops_by, stops_of, takes_back}
 use Rattle.tds_relay.specs.House.{owed, owed_by, put_some}
 use Rattle.tds_relay.specs.Posts.{Posts, change}
 use Rattle.tds_relay.specs.Ties.{Turns}
@@ -24,14 +25,14 @@ use Rattle.tds_relay.proofs.steps.Handed.{nothing_put}
 -- ---- The move
 
 -- what bytes lead to, of which this was said
-end_fed : (bytes : List ℕ) (front : Front) (withdrawn : Bool) (o : Option End) (count : ℕ) (answer : Said) → o ≡ Some (Open front withdrawn)
-    → (fed front bytes).brings ≡ Ok (record { count = count; said = answer }) → option_map (feeds bytes) o ≡ Some (Open (fed front bytes).front (takes_back answer || withdrawn))
-end_fed bytes front withdrawn o count answer was says =
-    ap (option_map (feeds bytes)) was ∙ ap (λ (r : Result Fed FrontFault). Some (end_behind (fed front bytes).front withdrawn r)) says
+end_fed : (bytes : List ℕ) (front : Front) (withdrawn asks : Bool) (o : Option End) (count : ℕ) (answer : Said) → o ≡ Some (Open front withdrawn asks)
+    → (fed front bytes).brings ≡ Ok (record { count = count; said = answer }) → option_map (feeds bytes) o ≡ Some (Open (fed front bytes).front (takes_back answer || withdrawn) (asks_by answer asks))
+end_fed bytes front withdrawn asks o count answer was says =
+    ap (option_map (feeds bytes)) was ∙ ap (λ (r : Result Fed FrontFault). Some (end_behind (fed front bytes).front withdrawn asks r)) says
 
-stops_fed : (bytes : List ℕ) (front : Front) (withdrawn : Bool) (o : Option End) (count : ℕ) (answer : Said) → o ≡ Some (Open front withdrawn)
+stops_fed : (bytes : List ℕ) (front : Front) (withdrawn asks : Bool) (o : Option End) (count : ℕ) (answer : Said) → o ≡ Some (Open front withdrawn asks)
     → (fed front bytes).brings ≡ Ok (record { count = count; said = answer }) → stops_of bytes o ≡ (takes_back answer || hands_on answer)
-stops_fed bytes front withdrawn o count answer was says = ap (stops_of bytes) was ∙ ap stops_by says
+stops_fed bytes front withdrawn asks o count answer was says = ap (stops_of bytes) was ∙ ap stops_by says
 
 -- what it is given by them
 given_is : (key count : ℕ) (answer : Said) (posts : Posts) → change key (put_some (owed_by (Ok (record { count = count; said = answer })))) posts ≡ given_by key answer posts
@@ -43,15 +44,15 @@ given_is key count (said.Forget gone) posts = nothing_put posts key
 given_is key count said.Acknowledge posts = refl
 given_is key count said.HandOn posts = nothing_put posts key
 
-given_fed : (key : ℕ) (bytes : List ℕ) (front : Front) (withdrawn : Bool) (o : Option End) (count : ℕ) (answer : Said) (posts : Posts) → o ≡ Some (Open front withdrawn)
+given_fed : (key : ℕ) (bytes : List ℕ) (front : Front) (withdrawn asks : Bool) (o : Option End) (count : ℕ) (answer : Said) (posts : Posts) → o ≡ Some (Open front withdrawn asks)
     → (fed front bytes).brings ≡ Ok (record { count = count; said = answer }) → change key (put_some (owed bytes o)) posts ≡ given_by key answer posts
-given_fed key bytes front withdrawn o count answer posts was says =
+given_fed key bytes front withdrawn asks o count answer posts was says =
     ap (λ (x : Option End). change key (put_some (owed bytes x)) posts) was
     ∙ ap (λ (r : Result Fed FrontFault). change key (put_some (owed_by r)) posts) says ∙ given_is key count answer posts
 
 -- what waits for it then
 pub waits_fed : (key : ℕ) (before now : Ends) (bytes : List ℕ) (answer : Said) (posts : Posts) → IsFed key before now bytes answer → change key (put_some (owed bytes (end_at before key))) posts ≡ given_by key answer posts
-waits_fed key before now bytes answer posts f = given_fed key bytes f.front f.withdrawn (end_at before key) f.count answer posts f.was f.says
+waits_fed key before now bytes answer posts f = given_fed key bytes f.front f.withdrawn f.asks (end_at before key) f.count answer posts f.was f.says
 
 -- what is left of them
 pub left_fed : (key : ℕ) (before now : Ends) (bytes : List ℕ) (answer : Said) → (f : IsFed key before now bytes answer) → left_by bytes (end_at before key) ≡ drop f.count bytes
@@ -60,11 +61,11 @@ left_fed key before now bytes answer f = ap (left_by bytes) f.was ∙ ap (λ (r 
 -- bytes were taken: what is done at the desk by them, and the end that they lead to
 hall_fed : (key : ℕ) (d : Desk) (before now : Ends) (bytes : List ℕ) (answer : Said) (stops : Bool) → (takes_back answer || hands_on answer) ≡ stops → (f : IsFed key before now bytes answer)
     → moved (hall_of_ends d before) (Feeds key bytes)
-    ≡ hall_of_ends (desk_after d (event_if stops (desk.Does key desk.Stops))) (slice_set before key (Some (Open (fed f.front bytes).front (takes_back answer || f.withdrawn))))
+    ≡ hall_of_ends (desk_after d (event_if stops (desk.Does key desk.Stops))) (slice_set before key (Some (Open (fed f.front bytes).front (takes_back answer || f.withdrawn) (asks_by answer f.asks))))
 hall_fed key d before now bytes answer stops same f =
     same_hall (desk_after d (event_if (stops_of bytes (end_at before key)) (desk.Does key desk.Stops))) _ (change_end key (feeds bytes) before) _
-    (ap (λ (b : Bool). desk_after d (event_if b (desk.Does key desk.Stops))) (sym (stops_fed bytes f.front f.withdrawn (end_at before key) f.count answer f.was f.says ∙ same)))
-    (ap (λ (o : Option End). slice_set before key o) (sym (end_fed bytes f.front f.withdrawn (end_at before key) f.count answer f.was f.says)))
+    (ap (λ (b : Bool). desk_after d (event_if b (desk.Does key desk.Stops))) (sym (stops_fed bytes f.front f.withdrawn f.asks (end_at before key) f.count answer f.was f.says ∙ same)))
+    (ap (λ (o : Option End). slice_set before key o) (sym (end_fed bytes f.front f.withdrawn f.asks (end_at before key) f.count answer f.was f.says)))
 
 -- ---- As it is done
 
@@ -73,15 +74,15 @@ pub fed_is : (key : ℕ) (d : Desk) (before now : Ends) (bytes : List ℕ) (answ
     → moved (hall_of_ends d before) (Feeds key bytes) ≡ hall_of_ends d now
 fed_is key d before now bytes answer keeps here f =
     hall_fed key d before now bytes answer false (ap (λ (b : Bool). b || hands_on answer) keeps ∙ here) f
-    ∙ same_hall d d (slice_set before key (Some (Open (fed f.front bytes).front (takes_back answer || f.withdrawn)))) now refl
-    (f.is ∙ ap (λ (b : Bool). slice_set before key (Some (Open (fed f.front bytes).front (b || f.withdrawn)))) (sym keeps))
+    ∙ same_hall d d (slice_set before key (Some (Open (fed f.front bytes).front (takes_back answer || f.withdrawn) (asks_by answer f.asks)))) now refl
+    (f.is ∙ ap (λ (b : Bool). slice_set before key (Some (Open (fed f.front bytes).front (b || f.withdrawn) (asks_by answer f.asks)))) (sym keeps))
 
 -- its attention is the server's
 pub handed_on_is : (key : ℕ) (d d1 : Desk) (before now : Ends) (bytes out out1 : List ℕ) → IsFed key before now bytes said.HandOn → Turns (desk.Does key desk.Stops) d d1 out out1
     → moved (hall_of_ends d before) (Feeds key bytes) ≡ hall_of_ends d1 now
 handed_on_is key d d1 before now bytes out out1 f t =
     hall_fed key d before now bytes said.HandOn true refl f
-    ∙ same_hall (turn d (desk.Does key desk.Stops)).desk d1 (slice_set before key (Some (Open (fed f.front bytes).front f.withdrawn))) now t.desk_is f.is
+    ∙ same_hall (turn d (desk.Does key desk.Stops)).desk d1 (slice_set before key (Some (Open (fed f.front bytes).front f.withdrawn f.asks))) now t.desk_is f.is
 
 -- it stays what it is written twice
 set_twice : (before now : Ends) (key : ℕ) (end was : End) (by : End → End) → end_at before key ≡ Some was → now ≡ slice_set before key (Some end) → change_end key by now ≡ slice_set before key (Some (by end))
@@ -95,22 +96,22 @@ pub taken_back_is : (key : ℕ) (d d1 : Desk) (before now behind : Ends) (bytes 
     → behind ≡ change_end key withdraws now → moved (hall_of_ends d before) (Feeds key bytes) ≡ hall_of_ends d1 behind
 taken_back_is key d d1 before now behind bytes out out1 f t is =
     hall_fed key d before now bytes (said.Forget true) true refl f
-    ∙ same_hall (turn d (desk.Does key desk.Stops)).desk d1 (slice_set before key (Some (Open (fed f.front bytes).front true))) behind t.desk_is
-    (is ∙ set_twice before now key (Open (fed f.front bytes).front f.withdrawn) (Open f.front f.withdrawn) withdraws f.was f.is)
+    ∙ same_hall (turn d (desk.Does key desk.Stops)).desk d1 (slice_set before key (Some (Open (fed f.front bytes).front true false))) behind t.desk_is
+    (is ∙ set_twice before now key (Open (fed f.front bytes).front f.withdrawn false) (Open f.front f.withdrawn f.asks) withdraws f.was f.is)
 
 -- they are none of a client's, and it is closed by them
-pub refused_is : (key : ℕ) (d : Desk) (es : Ends) (bytes : List ℕ) (front : Front) (withdrawn : Bool) (fault : FrontFault) → end_at es key ≡ Some (Open front withdrawn) → (fed front bytes).brings ≡ Err fault
+pub refused_is : (key : ℕ) (d : Desk) (es : Ends) (bytes : List ℕ) (front : Front) (withdrawn asks : Bool) (fault : FrontFault) → end_at es key ≡ Some (Open front withdrawn asks) → (fed front bytes).brings ≡ Err fault
     → moved (hall_of_ends d es) (Feeds key bytes) ≡ hall_of_ends d (change_end key closes es)
-refused_is key d es bytes front withdrawn fault was says =
+refused_is key d es bytes front withdrawn asks fault was says =
     same_hall (desk_after d (event_if (stops_of bytes (end_at es key)) (desk.Does key desk.Stops))) d (change_end key (feeds bytes) es) (change_end key closes es)
     (ap (λ (b : Bool). desk_after d (event_if b (desk.Does key desk.Stops))) (sym (ap (stops_of bytes) was ∙ ap stops_by says)))
     (ap (λ (o : Option End). slice_set es key o)
     (ap (option_map closes) was
-    ∙ sym (ap (option_map (feeds bytes)) was ∙ ap (λ (r : Result Fed FrontFault). Some (end_behind (fed front bytes).front withdrawn r)) says)))
+    ∙ sym (ap (option_map (feeds bytes)) was ∙ ap (λ (r : Result Fed FrontFault). Some (end_behind (fed front bytes).front withdrawn asks r)) says)))
 
-pub waits_refused : (key : ℕ) (es : Ends) (bytes : List ℕ) (front : Front) (withdrawn : Bool) (fault : FrontFault) (posts : Posts) → end_at es key ≡ Some (Open front withdrawn) → (fed front bytes).brings ≡ Err fault
+pub waits_refused : (key : ℕ) (es : Ends) (bytes : List ℕ) (front : Front) (withdrawn asks : Bool) (fault : FrontFault) (posts : Posts) → end_at es key ≡ Some (Open front withdrawn asks) → (fed front bytes).brings ≡ Err fault
     → change key (put_some (owed bytes (end_at es key))) posts ≡ posts
-waits_refused key es bytes front withdrawn fault posts was says =
+waits_refused key es bytes front withdrawn asks fault posts was says =
     ap (λ (x : Option End). change key (put_some (owed bytes x)) posts) was
     ∙ ap (λ (r : Result Fed FrontFault). change key (put_some (owed_by r)) posts) says ∙ nothing_put posts key
 
@@ -120,7 +121,7 @@ closed_fed before now key end was there is =
     ap (λ (o : Option End). slice_set before key (option_map closes o)) there ∙ sym (set_twice before now key end was closes there is)
 
 pub closed_as_fed : (key : ℕ) (before now : Ends) (bytes : List ℕ) (answer : Said) → IsFed key before now bytes answer → change_end key closes before ≡ change_end key closes now
-closed_as_fed key before now bytes answer f = closed_fed before now key (Open (fed f.front bytes).front f.withdrawn) (Open f.front f.withdrawn) f.was f.is
+closed_as_fed key before now bytes answer f = closed_fed before now key (Open (fed f.front bytes).front f.withdrawn (asks_by answer f.asks)) (Open f.front f.withdrawn f.asks) f.was f.is
 
 -- ---- As the code has it
 
@@ -130,21 +131,36 @@ end_there s key a is = end_is s key ∙ ap (option_map end_of) (sym is)
 pub ends_written : (s : Slab Application) (key : ℕ) (a : Application) → ends_in (with_value s key a) ≡ slice_set (ends_in s) key (Some (end_of a))
 ends_written s key a = map-set (option_map end_of) s.slots key (Some a)
 
-pub end_open : (a : Application) → a.is_over ≡ false → end_of a ≡ Open a.front a.is_withdrawn
-end_open a over = ap (λ (b : Bool). if b then Over else Open a.front a.is_withdrawn) over
+pub end_open : (a : Application) → a.is_over ≡ false → end_of a ≡ Open a.front a.is_withdrawn (is_some a.reset)
+end_open a over = ap (λ (b : Bool). if b then Over else Open a.front a.is_withdrawn (is_some a.reset)) over
 
 abbrev pub is_fed : (key : ℕ) (s : Slab Application) (a b : Application) (bytes : List ℕ) (count : ℕ) (answer : Said) → Some a ≡ get s key → a.is_over ≡ false → b.is_over ≡ false
-    → b.is_withdrawn ≡ a.is_withdrawn → b.front ≡ (fed a.front bytes).front → Ok (record { count = count; said = answer }) ≡ (fed a.front bytes).brings → IsFed key (ends_in s) (ends_in (with_value s key b)) bytes answer
-is_fed key s a b bytes count answer is begins still withdrawn front says = record {
+    → b.is_withdrawn ≡ a.is_withdrawn → is_some b.reset ≡ asks_by answer (is_some a.reset) → b.front ≡ (fed a.front bytes).front → Ok (record { count = count; said = answer }) ≡ (fed a.front bytes).brings → IsFed key (ends_in s) (ends_in (with_value s key b)) bytes answer
+is_fed key s a b bytes count answer is begins still withdrawn asks front says = record {
   front = a.front;
   withdrawn = a.is_withdrawn;
+  asks = is_some a.reset;
   count = count;
   was = end_there s key a is ∙ ap Some (end_open a begins);
   says = sym says;
   is =
       ends_written s key b
-      ∙ ap (λ (e : End). slice_set (ends_in s) key (Some e)) (end_open b still ∙ ap (λ (f : Front). Open f b.is_withdrawn) front ∙ ap (λ (w : Bool). Open (fed a.front bytes).front w) withdrawn);
+      ∙ ap (λ (e : End). slice_set (ends_in s) key (Some e)) (end_open b still ∙ ap (λ (f : Front). Open f b.is_withdrawn (is_some b.reset)) front
+      ∙ ap (λ (w : Bool). Open (fed a.front bytes).front w (is_some b.reset)) withdrawn ∙ ap (λ (x : Bool). Open (fed a.front bytes).front a.is_withdrawn x) asks);
 }
 
 pub is_there : (s : Slab Application) (key : ℕ) (a : Application) → Some a ≡ get s key → IsThere (end_at (ends_in s) key)
 is_there s key a is = subst IsThere (sym (end_there s key a is)) tt
+
+-- its attention has the acknowledgement; or what it took back has
+pub acked_if : (over : Bool) (front : Front) (withdrawn asks : Bool) → withdrawn ≡ false
+    → (if over then Over else Open (record front { stage = rules.acknowledged front.stage }) withdrawn false) ≡ acknowledged (hears (if over then Over else Open front withdrawn asks))
+acked_if true front withdrawn asks e = refl
+acked_if false front true asks e = absurd (let u : ⊥ = cc in u)
+acked_if false front false asks e = refl
+
+pub resumed_if : (over : Bool) (front : Front) (withdrawn asks : Bool) → withdrawn ≡ true
+    → (if over then Over else Open front false asks) ≡ acknowledged (hears (if over then Over else Open front withdrawn asks))
+resumed_if true front withdrawn asks e = refl
+resumed_if false front true asks e = refl
+resumed_if false front false asks e = absurd (let u : ⊥ = cc in u)

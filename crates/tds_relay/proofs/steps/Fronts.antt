@@ -50,7 +50,7 @@ pub ends_quit : (s s1 : Slab Application) (key : ℕ) (r : Option Application) �
 ends_quit s s1 key r is slots absent = seen_quit end_of s s1 key r is slots absent
 
 -- an application has come
-pub ends_entered : (s s1 : Slab Application) (size key : ℕ) (a : Application) → get s key ≡ None → Updates s s1 key (Some a) → end_of a ≡ Open (new_front size) false → HasEntered key (ends_in s) (ends_in s1)
+pub ends_entered : (s s1 : Slab Application) (size key : ℕ) (a : Application) → get s key ≡ None → Updates s s1 key (Some a) → end_of a ≡ Open (new_front size) false false → HasEntered key (ends_in s) (ends_in s1)
 ends_entered s s1 size key a none updates is = record {
   was_free = end_is s key ∙ ap (option_map end_of) none;
   size = size;

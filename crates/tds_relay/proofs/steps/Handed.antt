@@ -19,34 +19,37 @@ use Rattle.tds_relay.specs.declared.desk.coming.What.TheVariants as whats
 use Rattle.tds_relay.specs.declared.link.Answer.{Answer}
 use Rattle.tds_relay.specs.declared.link.Link.{Link}
 use Rattle.tds_relay.specs.declared.link.News.{News}
-use Rattle.tds_relay.specs.declared.link.News.TheVariants as how
 use Rattle.tds_relay.specs.Cutting.{ends_in}
 use Rattle.tds_relay.specs.Desk.{Desk, Comes, Way, turn, whose}
 use Rattle.tds_relay.specs.Fronts.{IsWhat, end_of, ends_in as ends_of, house_with, told_by}
 use Rattle.tds_relay.specs.Hall as hall
 use Rattle.tds_relay.specs.Hall.{End, Ends, Open, Over, done_by, end_at, told, what_in}
-use Rattle.tds_relay.specs.Handing.{Brings, Hears, IsBy, IsDone, IsFor, Passing, fed, news_with}
-use Rattle.tds_relay.specs.House.{House, IsHanded, IsRight, Manner, MayHand, Withheld, after, change_whose, closes, end_whose, handed, is_said, put_some}
-use Rattle.tds_relay.specs.Posts.{Post, Posts, change, post_at, post_of, posts_in}
+use Rattle.tds_relay.specs.Handing.{Brings, Hears, IsBy, IsDone, IsFor, IsOf, Passing, fed}
+use Rattle.tds_relay.specs.House.{House, IsHanded, IsRight, IsTold, Manner, MayHand, Withheld, after, behind_news, change_whose, closes, end_whose, handed, hears_of_reset, is_said, put_all, put_some}
+use Rattle.tds_relay.specs.Posts.{Post, Posts, change, post_at, post_of, posts_in, put, put_news}
 use Rattle.tds_relay.specs.Ties.{Turns, part_on}
 use Rattle.tds_relay.proofs.steps.Fronts.{end_is, told_whose}
 use Rattle.tds_relay.proofs.steps.Posting.{posts_changed}
 
 -- ---- As it may be
 
+right_of : (tells cut : Bool) (a : Answer) (h : Header) (content : List ℕ) (manner : Manner) → IsOf tells cut a h content manner → IsRight h content manner
+right_of tells false a h content manner by = subst (λ (m : Manner). IsRight h content m) (sym by) tt
+right_of tells true a h content manner by = subst (λ (m : Manner). IsRight h content m) (sym by.1) (a, by.2)
+
 right_by : (goes : News) (a : Answer) (h : Header) (content : List ℕ) (manner : Manner) → IsBy goes a h content manner → IsRight h content manner
-right_by how.Comes a h content manner by = subst (λ (m : Manner). IsRight h content m) (sym by) tt
-right_by how.IsCut a h content manner by = subst (λ (m : Manner). IsRight h content m) (sym by.1) (a, by.2)
-right_by how.IsTold a h content manner by = subst (λ (m : Manner). IsRight h content m) (sym by) tt
+right_by goes a h content manner by = right_of goes.is_told goes.is_cut a h content manner by
 
 right_for : (said : Bool) (goes : News) (a : Answer) (h : Header) (content : List ℕ) (manner : Manner) → IsFor said goes a h content manner → IsRight h content manner
 right_for false goes a h content manner by = subst (λ (m : Manner). IsRight h content m) (sym by) tt
 right_for true goes a h content manner by = right_by goes a h content manner by
 
+on_of : (tells cut : Bool) (a : Answer) (h : Header) (content : List ℕ) (manner : Manner) → IsOf tells cut a h content manner → IsHanded true manner
+on_of tells false a h content manner by = subst (IsHanded true) (sym by) tt
+on_of tells true a h content manner by = subst (IsHanded true) (sym by.1) tt
+
 on_by : (goes : News) (a : Answer) (h : Header) (content : List ℕ) (manner : Manner) → IsBy goes a h content manner → IsHanded true manner
-on_by how.Comes a h content manner by = subst (IsHanded true) (sym by) tt
-on_by how.IsCut a h content manner by = subst (IsHanded true) (sym by.1) tt
-on_by how.IsTold a h content manner by = subst (IsHanded true) (sym by) tt
+on_by goes a h content manner by = on_of goes.is_told goes.is_cut a h content manner by
 
 on_for : (said : Bool) (goes : News) (a : Answer) (h : Header) (content : List ℕ) (manner : Manner) → IsFor said goes a h content manner → IsHanded said manner
 on_for false goes a h content manner by = by
@@ -58,22 +61,37 @@ said_alike : (who : Option ℕ) (what : What) (dones : List (Rattle.tds_service.
 said_alike None what dones es is = refl
 said_alike (Some key) what dones es is = ap (λ (w : What). is_said w (end_at es key)) (sym is)
 
-pub may_hand : (number : ℕ) (walker : Option Reading) (goes : News) (a : Answer) (r : packets.Reading) (heard : Heard) (old new : House) → (p : Passing number walker goes a r heard old new)
+told_alike : (who : Option ℕ) (what : What) (dones : List (Rattle.tds_service.specs.History.Done Rattle.tds_wire.specs.declared.told.Token.Token)) (es : Ends) → IsWhat who what dones
+    → hears_of_reset (what_in dones) (end_whose who es) ≡ hears_of_reset what (end_whose who es)
+told_alike None what dones es is = refl
+told_alike (Some key) what dones es is = ap (λ (w : What). hears_of_reset w (end_at es key)) (sym is)
+
+pub may_hand : (number : ℕ) (walker : Option Reading) (a : Answer) (r : packets.Reading) (heard : Heard) (old new : House) → (p : Passing number walker a r heard old new)
     → MayHand old number p.header p.content (part_on walker p.content (ends_in p.header)) p.manner
-may_hand number walker goes a r heard old new p =
-    let dones = done_by old.hall.desk number (part_on walker p.content (ends_in p.header)) in
-    let same : is_said (what_in dones) (end_whose (whose old.hall.desk number) old.hall.ends) ≡ is_said heard.what (end_whose heard.key old.hall.ends) =
+may_hand number walker a r heard old new p =
+    let part = part_on walker p.content (ends_in p.header) in
+    let dones = done_by old.hall.desk number part in
+    let who = whose old.hall.desk number in
+    let same : is_said (what_in dones) (end_whose who old.hall.ends) ≡ is_said heard.what (end_whose heard.key old.hall.ends) =
     ap (λ (o : Option ℕ). is_said (what_in dones) (end_whose o old.hall.ends)) (sym p.whose_is) ∙ said_alike heard.key heard.what dones old.hall.ends p.what_is in
+    let alike : hears_of_reset (what_in dones) (end_whose who old.hall.ends) ≡ hears_of_reset heard.what (end_whose heard.key old.hall.ends) =
+    ap (λ (o : Option ℕ). hears_of_reset (what_in dones) (end_whose o old.hall.ends)) (sym p.whose_is) ∙ told_alike heard.key heard.what dones old.hall.ends p.what_is in
     record {
       counted = p.packet.laid_out.counted;
       walker = walker;
       part_is = refl;
       has_walker = p.has_walker;
-      right = right_for (is_said heard.what (end_whose heard.key old.hall.ends)) (news_with heard.what goes) a p.header p.content p.manner p.by;
-      handed_on = subst (λ (b : Bool). IsHanded b p.manner) (sym same) (on_for (is_said heard.what (end_whose heard.key old.hall.ends)) (news_with heard.what goes) a p.header p.content p.manner p.by);
+      right = right_for (is_said heard.what (end_whose heard.key old.hall.ends)) p.goes a p.header p.content p.manner p.by;
+      handed_on = subst (λ (b : Bool). IsHanded b p.manner) (sym same) (on_for (is_said heard.what (end_whose heard.key old.hall.ends)) p.goes a p.header p.content p.manner p.by);
+      told = subst (λ (b : Bool). IsTold b p.manner part) (sym alike) p.told;
     }
 
 -- ---- What waits by it
+
+-- the news first, where it is told
+pub news_first : (tells : Bool) (bytes : List ℕ) (p : Post) → put bytes (put_news tells p) ≡ put_all (behind_news tells bytes) p
+news_first true bytes p = refl
+news_first false bytes p = refl
 
 same_post : (o : Option Post) → option_map (put_some None) o ≡ o
 same_post None = refl
@@ -106,8 +124,8 @@ handed_for true goes a h content manner e by = by
 -- the connection is closed behind it
 pub to_closed : (what : What) (o : Option End) → closes what ≡ true → is_said what o ≡ false
 to_closed what None e = refl
-to_closed what (Some (Open front true)) e = refl
-to_closed what (Some (Open front false)) e = ap not e
+to_closed what (Some (Open front true asks)) e = refl
+to_closed what (Some (Open front false asks)) e = ap not e
 to_closed what (Some Over) e = refl
 
 -- nobody has it
@@ -119,13 +137,13 @@ pub to_absent : (what : What) (s : Slab Application) (who : Option ℕ) (key : �
 to_absent what s who key its none =
     ap (λ (o : Option ℕ). is_said what (end_whose o (ends_of s))) its ∙ ap (is_said what) (end_is s key ∙ ap (option_map end_of) none)
 
-end_whose_is : (s : Slab Application) (who : Option ℕ) (key : ℕ) (a : Application) → who ≡ Some key → Some a ≡ get s key → end_whose who (ends_of s) ≡ Some (end_of a)
+pub end_whose_is : (s : Slab Application) (who : Option ℕ) (key : ℕ) (a : Application) → who ≡ Some key → Some a ≡ get s key → end_whose who (ends_of s) ≡ Some (end_of a)
 end_whose_is s who key a its is = ap (λ (o : Option ℕ). end_whose o (ends_of s)) its ∙ end_is s key ∙ ap (option_map end_of) (sym is)
 
 -- it hears nothing
 deaf : (what : What) (e : End) → is_said whats.Goes (Some e) ≡ false → is_said what (Some e) ≡ false
-deaf what (Open front true) h = refl
-deaf what (Open front false) h = absurd (let u : ⊥ = cc in u)
+deaf what (Open front true asks) h = refl
+deaf what (Open front false asks) h = absurd (let u : ⊥ = cc in u)
 deaf what Over h = refl
 
 pub to_deaf : (what : What) (s : Slab Application) (who : Option ℕ) (key : ℕ) (a : Application) → who ≡ Some key → Some a ≡ get s key → is_said whats.Goes (Some (end_of a)) ≡ false
@@ -134,8 +152,8 @@ to_deaf what s who key a its is h = ap (is_said what) (end_whose_is s who key a 
 
 -- it is handed on
 heard_by : (what : What) (e : End) → closes what ≡ false → is_said whats.Goes (Some e) ≡ true → is_said what (Some e) ≡ true
-heard_by what (Open front true) c h = absurd (let u : ⊥ = cc in u)
-heard_by what (Open front false) c h = ap not c
+heard_by what (Open front true asks) c h = absurd (let u : ⊥ = cc in u)
+heard_by what (Open front false asks) c h = ap not c
 heard_by what Over c h = absurd (let u : ⊥ = cc in u)
 
 pub to_one : (what : What) (s : Slab Application) (who : Option ℕ) (key : ℕ) (a : Application) → closes what ≡ false → who ≡ Some key → Some a ≡ get s key → is_said whats.Goes (Some (end_of a)) ≡ true
@@ -170,10 +188,11 @@ has_walker d number key cs is h =
 pub passing : (number : ℕ) (walker : Option Reading) (goes : News) (a : Answer) (r : packets.Reading) (heard : Heard) (d d1 : Desk) (es : Ends) (p p1 : Posts) (h : Header) (content : List ℕ) (ends : Bool) (way : Way) (manner : Manner) (before after : List ℕ)
     → IsPacket r.direction r.size r.taken h content → ends ≡ ends_in h → Turns (Comes number (part_on walker content ends) way) d d1 before after
     → heard.key ≡ whose d number → IsWhat heard.key heard.what (done_by d number (part_on walker content ends)) → ((key : ℕ) → whose d number ≡ Some key → IsSome walker)
-    → IsFor (is_said heard.what (end_whose heard.key es)) (news_with heard.what goes) a h content manner → p1 ≡ change_whose (whose d number) (put_some (handed manner h content)) p
-    → Brings number walker goes a r heard (house_with d es p) (house_with d1 (told_by (Some heard) es) p1)
-passing number walker goes a r heard d d1 es p p1 h content ends way manner before after packet last turned its what there by is =
-    let turns = subst (λ (b : Bool). Turns (Comes number (part_on walker content b) way) d d1 before after) last turned in
+    → IsFor (is_said heard.what (end_whose heard.key es)) goes a h content manner → IsTold (hears_of_reset heard.what (end_whose heard.key es)) manner (part_on walker content ends) → p1 ≡ change_whose (whose d number) (put_some (handed manner h content)) p
+    → Brings number walker a r heard (house_with d es p) (house_with d1 (told_by (Some heard) es) p1)
+passing number walker goes a r heard d d1 es p p1 h content ends way manner before behind packet last turned its what there by tells is =
+    let turns = subst (λ (b : Bool). Turns (Comes number (part_on walker content b) way) d d1 before behind) last turned in
+    let hears = subst (λ (b : Bool). IsTold (hears_of_reset heard.what (end_whose heard.key es)) manner (part_on walker content b)) last tells in
     let said = subst (λ (b : Bool). IsWhat heard.key heard.what (done_by d number (part_on walker content b))) last what in
     let dones = done_by d number (part_on walker content (ends_in h)) in
     inr (record {
@@ -185,7 +204,9 @@ passing number walker goes a r heard d d1 es p p1 h content ends way manner befo
       whose_is = its;
       what_is = said;
       has_walker = there;
+      goes = goes;
       by = by;
+      told = hears;
       is =
           ap (λ (e : Desk). house_with e (told_by (Some heard) es) p1) turns.desk_is
           ∙ ap (λ (x : Ends). house_with (turn d (Comes number (part_on walker content (ends_in h)) way)).desk x p1)
@@ -196,32 +217,32 @@ passing number walker goes a r heard d d1 es p p1 h content ends way manner befo
 -- ---- Of which bytes
 
 left_less : ((r : packets.Reading) (bytes : List ℕ) → ¬ IsWhole (with_taken r (up_to_end r bytes)) → IsLess r (up_to_end r bytes)) → ((r : packets.Reading) → IsLess r [])
-    → (number : ℕ) (walker : Option Reading) (goes : News) (a : Answer) (r next : packets.Reading) (bytes : List ℕ) (heard : Heard) (old new : House)
-    → Brings number walker goes a (fed r bytes) heard old new → IsDone (fed r bytes) next → IsLess next next.taken
-left_less less nothing number walker goes a r next bytes heard old new (inl none) done =
+    → (number : ℕ) (walker : Option Reading) (a : Answer) (r next : packets.Reading) (bytes : List ℕ) (heard : Heard) (old new : House)
+    → Brings number walker a (fed r bytes) heard old new → IsDone (fed r bytes) next → IsLess next next.taken
+left_less less nothing number walker a r next bytes heard old new (inl none) done =
     subst (λ (x : packets.Reading). IsLess x x.taken) (sym (done.less none.0)) (less r (r.taken ++ bytes) none.0)
-left_less less nothing number walker goes a r next bytes heard old new (inr p) done =
+left_less less nothing number walker a r next bytes heard old new (inr p) done =
     subst (λ (x : packets.Reading). IsLess x x.taken) (sym (done.whole (p.header, p.content, p.packet))) (nothing r)
 
 pub hears_is : ((r : packets.Reading) (bytes : List ℕ) → ¬ IsWhole (with_taken r (up_to_end r bytes)) → IsLess r (up_to_end r bytes)) → ((r : packets.Reading) → IsLess r [])
     → (number : ℕ) (walker : Option Reading) (link next : Link) (bytes : List ℕ) (count : ℕ) (heard : Heard) (old new : House) (r s : packets.Reading)
-    → r ≡ fed link.reader bytes → r.taken ≡ link.reader.taken ++ take count bytes → Brings number walker link.news link.answer r heard old new
+    → r ≡ fed link.reader bytes → r.taken ≡ link.reader.taken ++ take count bytes → Brings number walker link.answer r heard old new
     → s ≡ r → (IsWhole s → next.reader ≡ with_taken s []) → (¬ IsWhole s → next.reader ≡ s) → Hears number walker link next bytes count heard old new
 hears_is less nothing number walker link next bytes count heard old new r s is took brings same whole none =
-    let brought = subst (λ (x : packets.Reading). Brings number walker link.news link.answer x heard old new) is brings in
+    let brought = subst (λ (x : packets.Reading). Brings number walker link.answer x heard old new) is brings in
     let done : IsDone (fed link.reader bytes) next.reader =
     subst (λ (x : packets.Reading). IsDone x next.reader) (same ∙ is) (record { whole = whole; less = none }) in
     record {
       taken = ap (λ (x : packets.Reading). x.taken) (sym is) ∙ took;
       brings = brought;
       done = done;
-      less = left_less less nothing number walker link.news link.answer link.reader next.reader bytes heard old new brought done;
+      less = left_less less nothing number walker link.answer link.reader next.reader bytes heard old new brought done;
     }
 
 -- its reader goes the same way
-pub done_keeps : (number : ℕ) (walker : Option Reading) (goes : News) (a : Answer) (r s next : packets.Reading) (heard : Heard) (old new : House) → Brings number walker goes a r heard old new
+pub done_keeps : (number : ℕ) (walker : Option Reading) (a : Answer) (r s next : packets.Reading) (heard : Heard) (old new : House) → Brings number walker a r heard old new
     → s ≡ r → (IsWhole s → next ≡ with_taken s []) → (¬ IsWhole s → next ≡ s) → next.direction ≡ s.direction
-done_keeps number walker goes a r s next heard old new (inl none) same whole less =
+done_keeps number walker a r s next heard old new (inl none) same whole less =
     ap (λ (x : packets.Reading). x.direction) (less (subst (λ (x : packets.Reading). ¬ IsWhole x) (sym same) none.0))
-done_keeps number walker goes a r s next heard old new (inr p) same whole less =
+done_keeps number walker a r s next heard old new (inr p) same whole less =
     ap (λ (x : packets.Reading). x.direction) (whole (subst (λ (x : packets.Reading). IsWhole x) (sym same) (p.header, p.content, p.packet)))

@@ -39,7 +39,7 @@ none_taken key h (move ∷ moves) bytes = none_taken key (after h (Makes move)) 
 
 deaf_if : (b : Bool) (by : End → End) (o : Option End) → by Over ≡ Over → IsDeaf o → IsDeaf (if b then option_map by o else o)
 deaf_if true by None over d = tt
-deaf_if true by (Some (Open front w)) over d = absurd d
+deaf_if true by (Some (Open front w asks)) over d = absurd d
 deaf_if true by (Some Over) over d = subst (λ (e : End). IsDeaf (Some e)) (sym over) tt
 deaf_if false by o over d = d
 
@@ -145,10 +145,10 @@ tells_ok (Ok x) key old bytes left h h1 ps ps1 t m kept = tells_moved key old by
 tells_ok (Err e) key old bytes left h h1 ps ps1 t m kept = tt
 
 -- bytes are taken where its end is open
-abbrev pub tells_takes : (key : ℕ) (old : House) (bytes left rest : List ℕ) (h : House) (posts1 : Posts) (front : Front) (withdrawn : Bool) → end_at h.hall.ends key ≡ Some (Open front withdrawn)
+abbrev pub tells_takes : (key : ℕ) (old : House) (bytes left rest : List ℕ) (h : House) (posts1 : Posts) (front : Front) (withdrawn asks : Bool) → end_at h.hall.ends key ≡ Some (Open front withdrawn asks)
     → left_by left (end_at h.hall.ends key) ≡ rest → change key (put_some (owed left (end_at h.hall.ends key))) h.posts ≡ posts1 → Tells key old bytes left h
     → Tells key old bytes rest (record { hall = moved h.hall (Feeds key left); posts = posts1 })
-tells_takes key old bytes left rest h posts1 front withdrawn open_at left_is waits t =
+tells_takes key old bytes left rest h posts1 front withdrawn asks open_at left_is waits t =
     let step : Step = Takes key left in
     let is : t.rest ≡ left = elim t.all [
       | inl is ↦ is
@@ -167,15 +167,15 @@ tells_takes key old bytes left rest h posts1 front withdrawn open_at left_is wai
 
 -- ---- As it is done
 
-pub tells_refused : (key : ℕ) (old : House) (bytes left rest : List ℕ) (h : House) (h1 : Hall) (ps1 : Posts) (front : Front) (withdrawn : Bool) → end_at h.hall.ends key ≡ Some (Open front withdrawn)
+pub tells_refused : (key : ℕ) (old : House) (bytes left rest : List ℕ) (h : House) (h1 : Hall) (ps1 : Posts) (front : Front) (withdrawn asks : Bool) → end_at h.hall.ends key ≡ Some (Open front withdrawn asks)
     → change key (put_some (owed left (end_at h.hall.ends key))) h.posts ≡ h.posts → moved h.hall (Feeds key left) ≡ hall_of_ends h.hall.desk (change_end key closes h.hall.ends)
     → Moved (Application key) (hall_of_ends h.hall.desk (change_end key closes h.hall.ends)) h1 → ps1 ≡ h.posts → Tells key old bytes left h → Tells key old bytes rest (record { hall = h1; posts = ps1 })
-tells_refused key old bytes left rest h h1 ps1 front withdrawn open_at waits is m kept t =
+tells_refused key old bytes left rest h h1 ps1 front withdrawn asks open_at waits is m kept t =
     let closed : Hall = hall_of_ends h.hall.desk (change_end key closes h.hall.ends) in
     let deaf : IsDeaf (end_at closed.ends key) = deaf_closed key h.hall.ends in
     tells_moved key old bytes rest closed h1 h.posts ps1 m kept
     (tells_deaf key old (record { hall = closed; posts = h.posts }) bytes (left_by left (end_at h.hall.ends key)) rest deaf
-    (subst (λ (x : Hall). Tells key old bytes (left_by left (end_at h.hall.ends key)) (record { hall = x; posts = h.posts })) is (tells_takes key old bytes left (left_by left (end_at h.hall.ends key)) h h.posts front withdrawn open_at refl waits t)))
+    (subst (λ (x : Hall). Tells key old bytes (left_by left (end_at h.hall.ends key)) (record { hall = x; posts = h.posts })) is (tells_takes key old bytes left (left_by left (end_at h.hall.ends key)) h h.posts front withdrawn asks open_at refl waits t)))
 
 -- it is to be closed, whatever it was at
 pub tells_expelled : {A E : Type 0} (r : Result A E) (key : ℕ) (old : House) (bytes left rest : List ℕ) (d : Desk) (es : Ends) (ps ps1 : Posts) (h1 : Hall) → Tells key old bytes left (house_with d es ps)
@@ -192,7 +192,7 @@ tells_between : (key : ℕ) (old : House) (bytes left rest : List ℕ) (d : Desk
 tells_between key old bytes left rest d before now ps ps1 h1 answer f (inl b) is given t =
     let same : end_at b.mid.ends key ≡ end_at before key = ap (λ (es : Ends). end_at es key) b.same in
     tells_moves key old bytes rest (moved b.mid (Feeds key left)) h1 ps1 ps1 b.next refl
-    (tells_takes key old bytes left rest (record { hall = b.mid; posts = ps }) ps1 f.front f.withdrawn (same ∙ f.was)
+    (tells_takes key old bytes left rest (record { hall = b.mid; posts = ps }) ps1 f.front f.withdrawn f.asks (same ∙ f.was)
     (ap (left_by left) same ∙ left_fed key before now left answer f ∙ sym is)
     (ap (λ (o : Option End). change key (put_some (owed left o)) ps) same ∙ waits_fed key before now left answer ps f ∙ sym given)
     (tells_moves key old bytes left (hall_of_ends d before) b.mid ps ps b.first refl t))

@@ -19,7 +19,7 @@ use Rattle.tds_relay.specs.Desk.{Desk, Event, Way, whose}
 use Rattle.tds_relay.specs.Giving.{AreSaid, Given, IsPacketOf, IsSaid, if_its}
 use Rattle.tds_relay.specs.Hall as hall
 use Rattle.tds_relay.specs.Hall.{End, Open, done_by, end_at, what_in, what_of}
-use Rattle.tds_relay.specs.House.{House, IsHanded, IsRight, Manner, MayHand, Whole, Preceded, Without, Withheld, closes, end_whose, handed, is_said}
+use Rattle.tds_relay.specs.House.{House, IsHanded, IsRight, Manner, MayHand, Whole, Without, Withheld, closes, end_whose, handed, is_said}
 use Rattle.tds_relay.proofs.ends.Folding.{outs_of, sound_at}
 use Rattle.tds_relay.proofs.held.Ours.{came_done}
 use Rattle.tds_relay.proofs.ends.Outs.{HeardAs, Breaks, ReadsOn, ReadsEnd, SkipsOn, SkipsEnd, heard_as}
@@ -57,10 +57,9 @@ live_stopping stage p s out tied is =
 
 goes : (header : Header) (content : List ℕ) (manner : Manner) (ends : Bool) (reply : Reply) → IsRight header content manner → IsHanded true manner → ends_in header ≡ ends
     → ((given : Given) → IsPacketOf ends given → IsSaid reply given) → AreSaid (Goes reply ∷ []) (gives (handed manner header content))
-goes header content Whole ends reply right on is says = (says _ (record { header = header; content = content; manner = Whole; ends_is = is; right = right; are = refl }), refl)
-goes header content Preceded ends reply right on is says = (says _ (record { header = header; content = content; manner = Preceded; ends_is = is; right = right; are = refl }), refl)
-goes header content (Without bytes) ends reply right on is says =
-    (says _ (record { header = header; content = content; manner = Without bytes; ends_is = is; right = right; are = refl }), refl)
+goes header content (Whole tells) ends reply right on is says = (says _ (record { header = header; content = content; manner = Whole tells; ends_is = is; right = right; are = refl }), refl)
+goes header content (Without tells bytes) ends reply right on is says =
+    (says _ (record { header = header; content = content; manner = Without tells bytes; ends_is = is; right = right; are = refl }), refl)
 goes header content Withheld ends reply right on is says = absurd on
 
 withheld : (header : Header) (content : List ℕ) (manner : Manner) → IsHanded false manner → gives (handed manner header content) ≡ []
@@ -139,7 +138,7 @@ module _ (max key : ℕ) (events : List Event) (h : House) (front : Front) (w : 
   mine_said mine =
       let what = what_in (done_by d number part) in
       let whose_is : IsHanded (is_said what (end_at h.hall.ends key)) manner = subst (λ (who : Option ℕ). IsHanded (is_said what (end_whose who h.hall.ends)) manner) mine may.handed_on in
-      let on : IsHanded (is_said what (Some (Open front w))) manner = subst (λ (o : Option End). IsHanded (is_said what o) manner) stands.end_is whose_is in
+      let on : IsHanded (is_said what (Some (Open front w stands.asks))) manner = subst (λ (o : Option End). IsHanded (is_said what o) manner) stands.end_is whose_is in
       subst (λ (o : Option End). Said front.stage (if_open o (λ front withdrawn. unless_withdrawn withdrawn (said_in (done_by d number part)))) Handed) (sym stands.end_is)
       (its_said stands.standing mine on)
 

@@ -29,7 +29,8 @@ Judging = (front : Front) (bytes : List ℕ) → ((fed front bytes).front.stage 
 -- Its end is open, and tied to what it holds at the desk.
 pub record Stands (max key : ℕ) (events : List Event) (h : Hall) (front : Front) (w : Bool) : Type 0 where
   pub is : IsAt max events h
-  pub end_is : end_at h.ends key ≡ Some (Open front w)
+  pub asks : Bool
+  pub end_is : end_at h.ends key ≡ Some (Open front w asks)
   pub place : Place
   pub standing : Standing (outs_of max events) h.desk key front.stage w place
 
@@ -103,8 +104,8 @@ module _ (max key : ℕ) (alone : Alone) (by : ByHistory) (judges : Judging) whe
   entered_by : (events : List Event) (h : Hall) (o o2 : Option End) (p : Place) (es : List Passed) → IsAt max events h → end_at h.ends key ≡ o2 → o ≡ None → IsThere o2
       → StepOf (outs_of max events) h.desk key p es o o2 → Entered max key events h
   entered_by events h None None p es is same e there s = absurd there
-  entered_by events h None (Some (Open front w)) p es is same e there s =
-      record { front = front; w = w; stands = record { is = is; end_is = same; place = Ready; standing = s.0 }; quiet = s.1; ready = refl }
+  entered_by events h None (Some (Open front w asks)) p es is same e there s =
+      record { front = front; w = w; stands = record { is = is; asks = asks; end_is = same; place = Ready; standing = s.0 }; quiet = s.1; ready = refl }
   entered_by events h None (Some Over) p es is same e there s = absurd s
   entered_by events h (Some end) o2 p es is same e there s = absurd (let u : ⊥ = cc in u)
 
@@ -121,11 +122,11 @@ module _ (max key : ℕ) (alone : Alone) (by : ByHistory) (judges : Judging) whe
 
   -- ---- Behind one more
 
-  then_by : (events : List Event) (h : Hall) (p : Place) (es : List Passed) (front : Front) (w : Bool) (o2 : Option End) → IsAt max events h → end_at h.ends key ≡ o2 → IsThere o2
-      → StepOf (outs_of max events) h.desk key p es (Some (Open front w)) o2 → Then max key events h front.stage p es
-  then_by events h p es front w None is same there s = absurd there
-  then_by events h p es front w (Some (Open next v)) is same there s = Goes next v (record { is = is; end_is = same; place = s.place; standing = s.standing }) s.leads
-  then_by events h p es front w (Some Over) is same there s = IsOver same
+  then_by : (events : List Event) (h : Hall) (p : Place) (es : List Passed) (front : Front) (w asks : Bool) (o2 : Option End) → IsAt max events h → end_at h.ends key ≡ o2 → IsThere o2
+      → StepOf (outs_of max events) h.desk key p es (Some (Open front w asks)) o2 → Then max key events h front.stage p es
+  then_by events h p es front w asks None is same there s = absurd there
+  then_by events h p es front w asks (Some (Open next v then)) is same there s = Goes next v (record { is = is; asks = then; end_is = same; place = s.place; standing = s.standing }) s.leads
+  then_by events h p es front w asks (Some Over) is same there s = IsOver same
 
   pub behind : (events : List Event) (h : Hall) (move : Move) (front : Front) (w : Bool) → (s : Stands max key events h front w) → MayMove h move → StaysIn key move
       → Then max key (events ++ events_of h move) (moved h move) front.stage s.place (passes key h move)
@@ -137,6 +138,6 @@ module _ (max key : ℕ) (alone : Alone) (by : ByHistory) (judges : Judging) whe
       let one : Steps events h move s.place (end_at h.ends key) (end_at h2.ends key) = steps events h move s.place s.is may tale in
       let two : StepOf (outs_of max events2) h2.desk key s.place (passes key h move) (end_at h.ends key) (end_at h2.ends key) =
       subst (λ (es : List Passed). StepOf (outs_of max events2) h2.desk key s.place es (end_at h.ends key) (end_at h2.ends key)) (passes_is key h move) one in
-      let three : StepOf (outs_of max events2) h2.desk key s.place (passes key h move) (Some (Open front w)) (end_at h2.ends key) =
+      let three : StepOf (outs_of max events2) h2.desk key s.place (passes key h move) (Some (Open front w s.asks)) (end_at h2.ends key) =
       subst (λ (o : Option End). StepOf (outs_of max events2) h2.desk key s.place (passes key h move) o (end_at h2.ends key)) s.end_is two in
-      then_by events2 h2 s.place (passes key h move) front w (end_at h2.ends key) (next_at max events h move s.is) refl there three
+      then_by events2 h2 s.place (passes key h move) front w s.asks (end_at h2.ends key) (next_at max events h move s.is) refl there three

@@ -103,7 +103,7 @@ module _ (max key : ℕ) (alone : Alone) (by : ByHistory) (judges : Judging) whe
       let h2 = after h (Takes other bytes) in
       let events2 = events ++ events_of h.hall move in
       said_next events2 h2 front.stage s.place (passes key h.hall move) (if_its key (Some other) (owed bytes (end_at h.hall.ends other))) steps may.1 stays.1
-      (taken_said key h.hall other bytes front w s.end_is (judges front bytes).1)
+      (taken_said key h.hall other bytes front w s.asks s.end_is (judges front bytes).1)
       (λ next v stands. said_along events2 h2 steps next v stands may.1 stays.1)
       (behind max key alone by judges events h.hall move front w s tt tt)
   said_along events h (Writes other count ∷ steps) front w s may stays = said_along events (after h (Writes other count)) steps front w s may.1 stays.1

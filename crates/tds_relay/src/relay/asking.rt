@@ -76,7 +76,7 @@ impl Relay {
         if application.is_over {
             return Ok(piece.len());
         }
-        let Ok(fed) = application.front.feed(piece) else {
+        let Ok(fed) = application.feed(piece) else {
             self.expel(key)?;
             return Ok(piece.len());
         };
@@ -134,7 +134,6 @@ impl Relay {
             return self.expel(key);
         };
         application.asking = Asking::Waits { kind, whole: false };
-        application.reset = reset;
         application.begun = application.begun.saturating_add(1);
         application.forget();
         let holds = self.desk.hold_of(key).is_some();
@@ -228,7 +227,7 @@ impl Relay {
     {
         match self.desk.renew(key)? {
             Renewed::Kept(hold) => {
-                self.cut(hold.number, false);
+                self.restart(hold.number);
                 self.start(key)
             }
             Renewed::NotKept => self.change(key),

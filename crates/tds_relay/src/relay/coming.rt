@@ -1,12 +1,13 @@
 //! What comes on connections.
-ghost use Rattle.std.specs.Prelude.{◌≡◌, ◌+◌, ◌≤◌, Bool, None, Some, drop, false, length, true};
+ghost use Rattle.std.specs.Prelude.{◌≡◌, ◌+◌, ◌≤◌, ◌&&◌, ◌||◌, not, Bool, None, Some, drop, false, length, true};
 ghost use Rattle.std.specs.Prelude.{IfOk, IsNone, OnOk};
 ghost use Rattle.tds_service.specs.Table.{reading_on};
 ghost use Rattle.tds_relay.specs.Fronts.{Moved, end_of, ends_in, hall_in, hall_of_ends, told_by};
 ghost use Rattle.tds_relay.specs.Fronts.{house_in, house_of, house_with};
 ghost use Rattle.tds_relay.specs.Hall.{change_end, change_whose, told};
 ghost use Rattle.tds_relay.specs.declared.desk.coming.What.TheVariants.{Acknowledged, Finished};
-ghost use Rattle.tds_relay.specs.Handing.{Brings, HearsBy, Passes, news_with};
+ghost use Rattle.tds_relay.specs.declared.desk.coming.What.TheVariants as whats;
+ghost use Rattle.tds_relay.specs.Handing.{Brings, HearsBy, Passes, news_for};
 ghost use Rattle.tds_relay.specs.House.{Steps};
 ghost use Rattle.tds_relay.specs.Posts.{post_of, posts_in};
 ghost use Rattle.tds_relay.specs.Reads.{Comes, Continues, OpensOthers, Stays, StreamsAll, if_heard};
@@ -151,7 +152,10 @@ impl Relay {
             return Ok(false);
         };
         match heard.what {
-            What::Goes => Ok(false),
+            What::Goes => {
+                self.goes_on(key);
+                Ok(false)
+            }
             What::Finished => {
                 self.answered(key);
                 Ok(false)
@@ -161,6 +165,20 @@ impl Relay {
                 self.end(key)?;
                 Ok(false)
             }
+        }
+    }
+
+    /// A packet of an answer has come for an application.
+    fn goes_on(&mut self, key: usize)
+        ensures desk { self.new.desk ≡ self.old.desk }
+        ensures kept { posts_in self.new.applications ≡ posts_in self.old.applications }
+        ensures ends { ends_in self.new.applications
+            ≡ change_end key (told whats.Goes) (ends_in self.old.applications) }
+        ensures links { self.new.links.items ≡ self.old.links.items }
+    {
+        match self.applications.get_mut(key) {
+            Some(application) => application.goes_on(),
+            None => {}
         }
     }
 
@@ -178,24 +196,18 @@ impl Relay {
         }
     }
 
-    /// An application's attention has the acknowledgement: of the reset that its request asked for it hears
-    /// no more. Or what it took back has. Answers whether that.
+    /// An application's attention has the acknowledgement; or what it took back has. Answers whether that.
     fn acknowledged(&mut self, key: usize) -> bool
         ensures desk { self.new.desk ≡ self.old.desk }
         ensures kept { posts_in self.new.applications ≡ posts_in self.old.applications }
         ensures ends { ends_in self.new.applications
             ≡ change_end key (told Acknowledged) (ends_in self.old.applications) }
-        ensures read { Stays self.old.links.items self.new.links.items }
+        ensures links { self.new.links.items ≡ self.old.links.items }
     {
-        let Some(application) = self.applications.get_mut(key) else {
-            return false;
-        };
-        let asked_for_reset = application.reset.is_some();
-        let resumes = application.acknowledged();
-        if asked_for_reset && !resumes {
-            self.cut_for(key);
+        match self.applications.get_mut(key) {
+            Some(application) => application.acknowledged(),
+            None => false,
         }
-        resumes
     }
 
     /// The server has acknowledged that an application's request was taken back: its next one goes on.
@@ -235,7 +247,7 @@ impl Relay {
     {
         match self.desk.renew(key)? {
             Renewed::Kept(hold) => {
-                self.cut(hold.number, false);
+                self.restart(hold.number);
                 self.start(key)
             }
             Renewed::NotKept => self.replace(number),
@@ -313,7 +325,7 @@ fn hear_packet(
     ensures goes { OnOk result (Goes (Connection number) (desk_in desk.old)
         (desk_in desk.new)) }
     ensures brings { IfOk result (λ heard. Brings number (reading_on number desk.old.service)
-        link.old.news link.old.answer link.old.reader heard (house_of desk.old applications.old)
+        link.old.answer link.old.reader heard (house_of desk.old applications.old)
         (house_with (desk_in desk.new) (told_by (Some heard) (ends_in applications.old))
         (posts_in applications.new))) }
     ensures reader { link.new.reader ≡ link.old.reader }
@@ -325,6 +337,7 @@ fn hear_packet(
         return Ok(NOTHING);
     };
     let ends = packet.header.status.ends();
+    let owed = desk.owes_reset(number);
     let heard = desk.came(number, packet.data, ends, outbox)?;
     if matches!(heard.what, What::Closed) {
         return Ok(heard);
@@ -338,49 +351,44 @@ fn hear_packet(
     if !application.hears() {
         return Ok(heard);
     }
-    link.news = news_with(heard.what, link.news);
-    hand_on(&mut link.answer, &mut link.news, packet, application)?;
+    let asks = application.is_told(heard.what);
+    let news = news_for(asks, owed, desk.owes_reset(number), link.answer.holds());
+    hand_on(&mut link.answer, news, packet, application)?;
     Ok(heard)
 }
 
-/// How the news of a reset goes with a packet of which this came: it isn't told before what only
-/// acknowledges an attention.
-fn news_with(what: What, news: News) -> News
-    ensures { result ≡ news_with what news }
+/// How the news of a reset goes with a packet, where its application is to be told of one with it or not; where
+/// the server owed that before the packet and owes it behind, and bytes before it were held back.
+fn news_for(asks: bool, owed: bool, owes: bool, holds: bool) -> News
+    ensures { result ≡ news_for asks (owed && not owes) (owed || holds) }
 {
-    match (what, news) {
-        (What::Acknowledged, News::IsTold) => News::Comes,
-        _ => news,
+    let is_in = owed && !owes;
+    News {
+        is_told: asks && !is_in,
+        is_cut: (owed || holds) && !(asks && is_in),
     }
 }
 
-/// Hands a packet on as it came, without the news of a reset, or behind it. One that isn't set anew doesn't
-/// make its application full where it fits in what may wait, with that news.
+/// Hands a packet on as it came or without the news of a reset, and behind it or not. One that isn't set anew
+/// doesn't make its application full where it fits in what may wait, with that news.
 fn hand_on(
     answer: &mut Answer,
-    news: &mut News,
+    news: News,
     packet: PacketRef<'_>,
     application: &mut Application,
 ) -> Result<(), NoMemory>
     requires { packet.header.length ≡ 8 + length packet.«data».now }
-    ensures passes { OnOk result (Passes news.old answer.old packet.entry.header
+    ensures passes { OnOk result (Passes news answer.old packet.entry.header
         packet.entry.«data».now (post_of application.old) (post_of application.new)) }
     ensures end { OnOk result (end_of application.new ≡ end_of application.old) }
-    ensures fits { IsRoom news.old application.old.out packet.entry.header.length
+    ensures fits { IsRoom news application.old.out packet.entry.header.length
         → application.new.out.is_full ≡ false }
 {
     let out = &mut application.out;
-    match *news {
-        News::Comes => out.put_packet(packet.header, packet.data),
-        News::IsCut => {
-            if answer.put_without_news(packet.header, packet.data, out)? {
-                *news = News::Comes;
-            }
-            Ok(())
-        }
-        News::IsTold => {
-            *news = News::Comes;
-            out.put_behind_news(packet.header, packet.data)
-        }
+    out.put_news(news.is_told)?;
+    if news.is_cut {
+        answer.put_without_news(packet.header, packet.data, out)
+    } else {
+        out.put_packet(packet.header, packet.data)
     }
 }

@@ -1,24 +1,20 @@
 //! Connections that are lent to those who wait, opened, and asked.
-ghost use Rattle.std.specs.Prelude.{◌≡◌, ◌++◌, ◌∷◌, [], ℕ, Bool, IfOk, None, OnOk, Some, false, true};
-ghost use Rattle.std.specs.Prelude.{if◌then◌else◌};
+ghost use Rattle.std.specs.Prelude.{◌≡◌, [], ℕ, Bool, IfOk, None, OnOk, Some, false, true};
 ghost use Rattle.slab.specs.Slab.{get};
 ghost use Rattle.tds_relay.specs.Asking.{IsUnderway, waits_of};
 ghost use Rattle.tds_relay.specs.Fronts.{MovedOn, ends_in, hall_in, house_in};
 ghost use Rattle.tds_relay.specs.Hall.{end_at};
-ghost use Rattle.tds_relay.specs.Handing.{news_for};
 ghost use Rattle.tds_relay.specs.House.{Steps};
-ghost use Rattle.tds_relay.specs.Posts.{asks_reset, posts_in};
+ghost use Rattle.tds_relay.specs.Posts.{posts_in};
 ghost use Rattle.tds_relay.specs.Reads.{Opens, OpensFirst, OpensOne, Stays, open_at, opened_at};
 ghost use Rattle.tds_relay.specs.Taking.{IsDeaf};
 ghost use Rattle.tds_relay.specs.Ties.{Connection, Goes, GoesOn, Neither, NobodyWaits, desk_in};
-ghost use Rattle.tds_relay.specs.declared.link.Link.{Link};
-ghost use Rattle.tds_relay.specs.declared.link.News.TheVariants.{Comes, IsTold};
 
 use super::Relay;
 use crate::NoMemory;
 use crate::application::Asking;
 use crate::desk::Served;
-use crate::link::{Link, News};
+use crate::link::Link;
 use crate::links::{append_to, place_in, set_open, set_tag};
 use crate::order::Order;
 use std::alloc::AllocError;
@@ -43,7 +39,7 @@ impl Relay {
         if !left.is_there {
             return Ok(None);
         }
-        let mut link = self.new_link(left.number, News::Comes)?;
+        let mut link = self.new_link(left.number)?;
         link.tag = Some(tag);
         link.is_open = true;
         self.links.push(link)?;
@@ -52,13 +48,12 @@ impl Relay {
         Ok(Some(left.number))
     }
 
-    fn new_link(&self, number: u64, news: News) -> Result<Link, NoMemory>
+    fn new_link(&self, number: u64) -> Result<Link, NoMemory>
         ensures closed { IfOk result (λ link. link.is_open ≡ false) }
-        ensures news { IfOk result (λ link. link.news ≡ news) }
         ensures number { IfOk result (λ link. link.number ≡ number) }
         ensures unread { IfOk result (λ link. link.reader.taken ≡ []) }
     {
-        Link::new(self.alloc, number, self.size, self.features, news)
+        Link::new(self.alloc, number, self.size, self.features)
     }
 
     /// The connection of this number is being opened, and is called so.
@@ -129,8 +124,7 @@ impl Relay {
         Err(AllocError)
     }
 
-    /// A connection is lent to an application. Where this asks for a reset, and nobody had the connection, the
-    /// news of it goes before its answer.
+    /// A connection is lent to an application. One that nobody had is opened.
     #[tactic(auto, using(crate::proofs::steps::Reaching::reaches_turn, crate::proofs::steps::Reaching::reaches_turned))]
     fn lend(&mut self, served: Served) -> Result<(), NoMemory>
         ensures goes { OnOk result (GoesOn (desk_in self.old.desk) (desk_in self.new.desk)) }
@@ -142,64 +136,16 @@ impl Relay {
             → waits_of (get self.old.applications served.hold.key) ≡ Some whole
             → OnOk result (IsUnderway whole self.new.links.items served.hold.key
             (hall_in self.new)) }
-        ensures told { served.had ≡ false → OnOk result ((link : Link)
-            × (link.news ≡ news_for (get self.old.applications served.hold.key))
-            × (self.new.links.items ≡ self.old.links.items ++ link ∷ [])) }
     {
-        let key = served.hold.key;
         let number = served.hold.number;
-        let asks_for_reset = self.asks_for_reset(key);
         if served.had {
-            self.cut(number, !asks_for_reset);
-            return self.start(key);
+            self.restart(number);
+            return self.start(served.hold.key);
         }
-        let link = self.new_link(number, news_of_new(asks_for_reset))?;
+        let link = self.new_link(number)?;
         self.links.push(link)?;
         self.orders.push(Order::Open(number))?;
         Ok(())
-    }
-
-    /// Whether an application's request asks for a reset itself.
-    fn asks_for_reset(&self, key: usize) -> bool
-        ensures { result ≡ asks_reset (get self.now.applications key) }
-    {
-        match self.applications.get(key) {
-            Some(application) => application.reset.is_some(),
-            None => false,
-        }
-    }
-
-    /// An application hears no more of the reset that its request asked for, if it did: the relay doesn't
-    /// tell it, and what a server says of it later is cut out.
-    #[tactic(auto, using(crate::proofs::steps::Staying::stays_refl))]
-    pub(super) fn forget_reset(&mut self, key: usize)
-        ensures desk { self.new.desk ≡ self.old.desk }
-        ensures kept { posts_in self.new.applications ≡ posts_in self.old.applications }
-        ensures ends { ends_in self.new.applications ≡ ends_in self.old.applications }
-        ensures read { Stays self.old.links.items self.new.links.items }
-    {
-        let Some(application) = self.applications.get_mut(key) else {
-            return;
-        };
-        if application.reset.is_none() {
-            return;
-        }
-        application.reset = None;
-        self.cut_for(key);
-    }
-
-    /// The news of a reset is cut out of what comes next for an application.
-    #[tactic(auto, using(crate::proofs::steps::Staying::stays_refl))]
-    pub(super) fn cut_for(&mut self, key: usize)
-        ensures desk { self.new.desk ≡ self.old.desk }
-        ensures kept { posts_in self.new.applications ≡ posts_in self.old.applications }
-        ensures ends { ends_in self.new.applications ≡ ends_in self.old.applications }
-        ensures read { Stays self.old.links.items self.new.links.items }
-    {
-        match self.desk.hold_of(key) {
-            Some(hold) => self.cut(hold.number, true),
-            None => {}
-        }
     }
 
     /// Asks what an application asks, where its connection is open, and the server has acknowledged there
@@ -300,16 +246,5 @@ impl Relay {
             Some(place) => self.links[place].is_open,
             None => false,
         }
-    }
-}
-
-/// How the news of a reset goes on a connection that nobody had, which does none.
-fn news_of_new(asks_for_reset: bool) -> News
-    ensures { result ≡ (if asks_for_reset then IsTold else Comes) }
-{
-    if asks_for_reset {
-        News::IsTold
-    } else {
-        News::Comes
     }
 }

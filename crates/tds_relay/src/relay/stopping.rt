@@ -19,8 +19,7 @@ const ACKNOWLEDGED: [u8; 21] = [
 ];
 
 impl Relay {
-    /// What has come of its request is forgotten, and the reset that this asked for. Nothing of it has gone
-    /// on.
+    /// What has come of its request is forgotten. Nothing of it has gone on.
     pub(super) fn forget(&mut self, key: usize) -> Result<(), NoMemory>
         ensures goes { OnOk result (Goes (Application key)
             (desk_in self.old.desk) (desk_in self.new.desk)) }
@@ -30,7 +29,6 @@ impl Relay {
             (hall_in self.new)) }
         ensures read { OnOk result (Stays self.old.links.items self.new.links.items) }
     {
-        self.forget_reset(key);
         let was_asked = self.forget_request(key);
         if was_asked { self.unask(key) } else { Ok(()) }
     }
@@ -84,7 +82,6 @@ impl Relay {
             (ends_in self.old.applications) (hall_in self.new)) }
         ensures read { OnOk result (Stays self.old.links.items self.new.links.items) }
     {
-        self.forget_reset(key);
         let _ = self.forget_request(key);
         match self.stop(key) {
             Some(number) => {

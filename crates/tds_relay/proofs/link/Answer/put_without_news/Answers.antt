@@ -2,6 +2,7 @@ use Rattle.std.proofs.Common.{◌≡◌, ◌∙◌, ◌++◌, List, ℕ, ap, sub
 use Rattle.tds_relay.specs.Cutting.{IsAnew, IsCut, left_of}
 use Rattle.tds_relay.specs.Posts.{post_in, put}
 use Rattle.tds_relay.proofs.bytes.Cuts.{cut_is}
+use Rattle.tds_relay.proofs.steps.Reaching.{ok_more}
 use Rattle.tds_relay.proofs.link.Answer.put_without_news.Goals as goal
 
 pub returns : goal.returns
@@ -12,9 +13,11 @@ returns c =
     let is_cut : IsCut c.args.self.now c.args.header c.args.bytes.now made.0 =
     cut_is c.args.self.now c.args.header c.args.bytes.now c.close.new.self.size c.ends-ends.result c.cut.new.kept.items c.close.new.kept.items made.0 c.cut.new.self.known
     (c.in_ok-close.ensures.size ∙ c.in_ok-cut.ensures.size) c.ends-ends.ensures kept c.in_ok-cut.ensures.known c.in_ok-close.ensures.kept
-    (subst (λ (bytes : List ℕ). IsAnew c.close.new.self.size c.args.header.packet_id c.ends-ends.result bytes made.0) c.deref.ensures.value made.1) in (
+    (subst (λ (bytes : List ℕ). IsAnew c.close.new.self.size c.args.header.packet_id c.ends-ends.result bytes made.0) c.deref.ensures.value made.1) in
+    ok_more c.append.result _ _
+    (λ post. (
       made.0,
       is_cut,
-      c.in_ok-append.ensures.post
-          ∙ ap (λ (bytes : List ℕ). put bytes (post_in c.args.on.now)) (c.deref-2.ensures.value ∙ made.2 ∙ ap (λ (front : List ℕ). front ++ made.0) c.new-packets.ensures.items),
-    )
+      post ∙ ap (λ (bytes : List ℕ). put bytes (post_in c.args.on.now)) (c.deref-2.ensures.value ∙ made.2 ∙ ap (λ (front : List ℕ). front ++ made.0) c.new-packets.ensures.items),
+    ))
+    c.append.ensures.post

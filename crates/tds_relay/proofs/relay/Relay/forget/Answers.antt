@@ -1,21 +1,19 @@
-use Rattle.std.proofs.Common.{ap, refl}
-use Rattle.tds_relay.specs.Ties.{Application, desk_in}
-use Rattle.tds_relay.proofs.steps.Fronts.{moves_does, moves_same}
+use Rattle.std.proofs.Common.{refl}
+use Rattle.tds_relay.specs.Ties.{Application}
+use Rattle.tds_relay.proofs.steps.Fronts.{moves_does}
 use Rattle.tds_relay.proofs.steps.Reaching.{ok_more}
-use Rattle.tds_relay.proofs.steps.Staying.{stays_on, stays_then}
+use Rattle.tds_relay.proofs.steps.Staying.{stays_from, stays_refl, stays_then}
 use Rattle.tds_relay.proofs.relay.Relay.forget.Goals as goal
 
 pub returns-then-was_asked-clause-moves : goal.returns-then-was_asked-clause-moves
 returns-then-was_asked-clause-moves c =
-    ok_more c.unask.result _ _ (λ m from h. m from (moves_does (Application c.args.key) from _ _ _ _ _ _ _ c.forget_request-was_asked.ensures.turns tt refl c.forget_request-was_asked.ensures.ends
-    (moves_same (Application c.args.key) from _ _ _ _ (ap desk_in c.forget_reset.ensures.desk) c.forget_reset.ensures.ends h))) c.unask.ensures.moves
+    ok_more c.unask.result _ _ (λ m from h. m from (moves_does (Application c.args.key) from _ _ _ _ _ _ _ c.forget_request-was_asked.ensures.turns tt refl c.forget_request-was_asked.ensures.ends h)) c.unask.ensures.moves
 
 pub returns-else-was_asked-clause-moves : goal.returns-else-was_asked-clause-moves
-returns-else-was_asked-clause-moves c = λ from h. (moves_does (Application c.args.key) from _ _ _ _ _ _ _ c.forget_request-was_asked.ensures.turns tt refl c.forget_request-was_asked.ensures.ends
-    (moves_same (Application c.args.key) from _ _ _ _ (ap desk_in c.forget_reset.ensures.desk) c.forget_reset.ensures.ends h))
+returns-else-was_asked-clause-moves c = λ from h. (moves_does (Application c.args.key) from _ _ _ _ _ _ _ c.forget_request-was_asked.ensures.turns tt refl c.forget_request-was_asked.ensures.ends h)
 
 pub returns-then-was_asked-clause-read : goal.returns-then-was_asked-clause-read
-returns-then-was_asked-clause-read c = stays_on c.unask.result _ _ _ (stays_then _ _ _ c.forget_reset.ensures.read c.forget_request-was_asked.ensures.links) c.unask.ensures.read
+returns-then-was_asked-clause-read c = stays_from c.unask.result _ _ _ c.forget_request-was_asked.ensures.links c.unask.ensures.read
 
 pub returns-else-was_asked-clause-read : goal.returns-else-was_asked-clause-read
-returns-else-was_asked-clause-read c = stays_then _ _ _ c.forget_reset.ensures.read c.forget_request-was_asked.ensures.links
+returns-else-was_asked-clause-read c = stays_then _ _ _ (stays_refl c.args.self.now.links.items) c.forget_request-was_asked.ensures.links

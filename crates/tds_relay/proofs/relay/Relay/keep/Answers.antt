@@ -9,7 +9,7 @@ use Rattle.tds_relay.proofs.relay.Relay.keep.Goals as goal
 pub returns-in-Kept-clause-goes : goal.returns-in-Kept-clause-goes
 returns-in-Kept-clause-goes c =
     ok_more c.start.result _ _
-    (λ g from h. g (Connection c.args.number) from (subst (λ (d : code.Desk). Reaches (Connection c.args.number) from (desk_in d)) (sym c.cut.ensures.desk) (reaches_turn (Connection c.args.number) from _ _ _ _ _ c.in_ok-hold.ensures.1 tt h)))
+    (λ g from h. g (Connection c.args.number) from (subst (λ (d : code.Desk). Reaches (Connection c.args.number) from (desk_in d)) (sym c.restart.ensures.desk) (reaches_turn (Connection c.args.number) from _ _ _ _ _ c.in_ok-hold.ensures.1 tt h)))
     c.start.ensures.goes
 
 pub returns-in-NotKept-clause-goes : goal.returns-in-NotKept-clause-goes
@@ -21,7 +21,7 @@ returns-in-Closed-clause-goes c = ok_if c.close.result _ (λ from h. subst (λ (
 pub returns-in-Kept-clause-moves : goal.returns-in-Kept-clause-moves
 returns-in-Kept-clause-moves c =
     ok_more c.start.result _ _
-    (λ m from h. m (Connection c.args.number) from (moves_same (Connection c.args.number) from _ _ _ _ (ap desk_in c.cut.ensures.desk) c.cut.ensures.ends (moves_does (Connection c.args.number) from _ _ _ _ _ _ _ c.in_ok-hold.ensures.1 tt tt refl h)))
+    (λ m from h. m (Connection c.args.number) from (moves_same (Connection c.args.number) from _ _ _ _ (ap desk_in c.restart.ensures.desk) c.restart.ensures.ends (moves_does (Connection c.args.number) from _ _ _ _ _ _ _ c.in_ok-hold.ensures.1 tt tt refl h)))
     c.start.ensures.moves
 
 pub returns-in-NotKept-clause-moves : goal.returns-in-NotKept-clause-moves
@@ -32,4 +32,4 @@ returns-in-Closed-clause-moves c =
     ok_more c.close.result _ _ (λ e from h. moves_closes (Connection c.args.number) from _ _ _ _ c.args.key (ap desk_in c.close.ensures.desk) e (moves_does (Connection c.args.number) from _ _ _ _ _ _ _ c.in_ok-hold.ensures.1 tt tt refl h)) c.close.ensures.ends
 
 pub returns-in-Kept-clause-read : goal.returns-in-Kept-clause-read
-returns-in-Kept-clause-read c = stays_on c.start.result _ _ _ c.cut.ensures.read c.start.ensures.read
+returns-in-Kept-clause-read c = stays_on c.start.result _ _ _ c.restart.ensures.read c.start.ensures.read

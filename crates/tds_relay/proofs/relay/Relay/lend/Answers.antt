@@ -1,24 +1,15 @@
-use Rattle.std.proofs.Common.{◌∙◌, Bool, refl, ap, if◌then◌else◌}
-use Rattle.tds_relay.specs.declared.link.News.{News}
-use Rattle.tds_relay.specs.declared.link.News.TheVariants as how
+use Rattle.std.proofs.Common.{refl, ap}
 use Rattle.tds_relay.specs.Ties.{desk_in}
 use Rattle.tds_relay.proofs.steps.Fronts.{moves_same}
 use Rattle.tds_relay.proofs.steps.Reaching.{ok_more}
 use Rattle.tds_relay.proofs.steps.Staying.{opens_by_push, opens_on}
 use Rattle.tds_relay.proofs.relay.Relay.lend.Goals as goal
 
-pub returns-clause-told : goal.returns-clause-told
-returns-clause-told c = λ new. (
-  c.in_ok-link.link,
-  c.in_ok-link.ensures.news ∙ c.news_of_new.ensures ∙ ap (λ (asks : Bool). let told : News = if asks then how.IsTold else how.Comes in told) c.asks_for_reset-asks_for_reset.ensures,
-  c.in_ok-push.ensures.items,
-)
-
 pub returns-then-served-clause-opens : goal.returns-then-served-clause-opens
-returns-then-served-clause-opens c = opens_on c.start.result _ _ _ c.cut.ensures.read c.start.ensures.read
+returns-then-served-clause-opens c = opens_on c.start.result _ _ _ c.restart.ensures.read c.start.ensures.read
 
 pub returns-clause-opens : goal.returns-clause-opens
 returns-clause-opens c = opens_by_push c.args.self.now.links.items c.args.self.now.links.items c.push.new.self.items c.in_ok-link.link refl c.in_ok-push.ensures.items c.in_ok-link.ensures.closed
 
 pub returns-then-served-clause-moves : goal.returns-then-served-clause-moves
-returns-then-served-clause-moves c = ok_more c.start.result _ _ (λ m by from h. m by from (moves_same by from _ _ _ _ (ap desk_in c.cut.ensures.desk) c.cut.ensures.ends h)) c.start.ensures.moves
+returns-then-served-clause-moves c = ok_more c.start.result _ _ (λ m by from h. m by from (moves_same by from _ _ _ _ (ap desk_in c.restart.ensures.desk) c.restart.ensures.ends h)) c.start.ensures.moves

@@ -1,4 +1,5 @@
 use Rattle.std.proofs.Common.{◌≡◌, ◌∙◌, Some, false, ap, refl, rules, sym}
+use Rattle.std.specs.Prelude.{is_some}
 use Rattle.tds_relay.specs.Fronts.{end_of, ends_in, given_by, hall_in, house_in}
 use Rattle.tds_relay.specs.Posts.{Posts, posts_in}
 use Rattle.tds_relay.specs.Ties.{Application, desk_in}
@@ -22,21 +23,23 @@ returns-in_default-feed-clause-tells c = λ first bytes t.
     let here : a.is_over ≡ false = search rules in
     let was = end_there slab c.args.key a c.in-Some.ensures.value ∙ ap Some (end_open a here) in
     let says = sym c.feed.ensures.brings ∙ c.in_default-feed.is in
-    tells_refused c.args.key first bytes c.args.piece.now _ (house_in c.args.self.now) (hall_in c.expel.new.self) _ a.front a.is_withdrawn was
-    (waits_refused c.args.key es c.args.piece.now a.front a.is_withdrawn _ (posts_in slab) was says)
-    (refused_is c.args.key (desk_in c.args.self.now.desk) es c.args.piece.now a.front a.is_withdrawn _ was says)
+    tells_refused c.args.key first bytes c.args.piece.now _ (house_in c.args.self.now) (hall_in c.expel.new.self) _ a.front a.is_withdrawn (is_some a.reset) was
+    (waits_refused c.args.key es c.args.piece.now a.front a.is_withdrawn (is_some a.reset) _ (posts_in slab) was says)
+    (refused_is c.args.key (desk_in c.args.self.now.desk) es c.args.piece.now a.front a.is_withdrawn (is_some a.reset) _ was says)
     (moved_same (Application c.args.key) _ _ _ _ _ refl
     (sym (closed_fed es _ c.args.key _ (end_of a) (end_there slab c.args.key a c.in-Some.ensures.value) (ends_written slab c.args.key _))) c.in_ok-expel.ensures.moves)
-    (c.in_ok-expel.ensures.kept ∙ posts_kept slab c.args.key a _ c.in-Some.ensures.value refl) t
+    (c.in_ok-expel.ensures.kept ∙ posts_kept slab c.args.key a _ c.in-Some.ensures.value c.feed.ensures.post) t
 
 pub returns-clause-tells : goal.returns-clause-tells
 returns-clause-tells c = λ first bytes t.
     let slab = c.args.self.now.applications in
     let a = c.in-Some.application.now in
+    let here : a.is_over ≡ false = search rules in
     tells_fed c.args.key first bytes c.args.piece.now _ (desk_in c.args.self.now.desk) (ends_in slab) _ (posts_in slab) _ (hall_in c.obey.new.self) c.in-Ok.fed.said
     c.in_ok-obey.ensures.moves
-    (is_fed c.args.key slab a _ c.args.piece.now c.in-Ok.fed.count c.in-Ok.fed.said c.in-Some.ensures.value (search rules) (search rules) refl c.feed.ensures.front (search rules)) refl
-    (c.in_ok-obey.ensures.given ∙ ap (λ (ps : Posts). given_by c.args.key c.in-Ok.fed.said ps) (posts_kept slab c.args.key a _ c.in-Some.ensures.value refl)) t
+    (is_fed c.args.key slab a c.feed.new.self c.args.piece.now c.in-Ok.fed.count c.in-Ok.fed.said c.in-Some.ensures.value here (c.feed.ensures.over ∙ here) c.feed.ensures.withdrawn c.in-Ok.ensures.asks
+    c.feed.ensures.front (search rules)) refl
+    (c.in_ok-obey.ensures.given ∙ ap (λ (ps : Posts). given_by c.args.key c.in-Ok.fed.said ps) (posts_kept slab c.args.key a _ c.in-Some.ensures.value c.feed.ensures.post)) t
 
 pub returns-in_default-feed-clause-asks : goal.returns-in_default-feed-clause-asks
 returns-in_default-feed-clause-asks c = λ first bytes t.
@@ -46,23 +49,25 @@ returns-in_default-feed-clause-asks c = λ first bytes t.
     let here : a.is_over ≡ false = search rules in
     let was = end_there slab c.args.key a c.in-Some.ensures.value ∙ ap Some (end_open a here) in
     let says = sym c.feed.ensures.brings ∙ c.in_default-feed.is in
-    asks_refused c.args.key first bytes c.args.piece.now _ _ (house_in c.args.self.now) (hall_in c.expel.new.self) _ a.front a.is_withdrawn _ was
-    (waits_refused c.args.key es c.args.piece.now a.front a.is_withdrawn _ (posts_in slab) was says)
-    (refused_is c.args.key (desk_in c.args.self.now.desk) es c.args.piece.now a.front a.is_withdrawn _ was says) says
+    asks_refused c.args.key first bytes c.args.piece.now _ _ (house_in c.args.self.now) (hall_in c.expel.new.self) _ a.front a.is_withdrawn (is_some a.reset) _ was
+    (waits_refused c.args.key es c.args.piece.now a.front a.is_withdrawn (is_some a.reset) _ (posts_in slab) was says)
+    (refused_is c.args.key (desk_in c.args.self.now.desk) es c.args.piece.now a.front a.is_withdrawn (is_some a.reset) _ was says) says
     (moved_same (Application c.args.key) _ _ _ _ _ refl
     (sym (closed_fed es _ c.args.key _ (end_of a) (end_there slab c.args.key a c.in-Some.ensures.value) (ends_written slab c.args.key _))) c.in_ok-expel.ensures.moves)
-    (c.in_ok-expel.ensures.kept ∙ posts_kept slab c.args.key a _ c.in-Some.ensures.value refl)
+    (c.in_ok-expel.ensures.kept ∙ posts_kept slab c.args.key a _ c.in-Some.ensures.value c.feed.ensures.post)
     (asks_links c.args.key first (house_in c.args.self.now) bytes c.args.piece.now _ _ (stays_opens _ _ c.in_ok-expel.ensures.read) t)
 
 pub returns-clause-asks : goal.returns-clause-asks
 returns-clause-asks c = λ first bytes t.
     let slab = c.args.self.now.applications in
     let a = c.in-Some.application.now in
+    let here : a.is_over ≡ false = search rules in
     asks_fed c.args.key first bytes c.args.piece.now _ _ _ (desk_in c.args.self.now.desk) (ends_in slab) _ (posts_in slab) _ (hall_in c.obey.new.self) c.in-Ok.fed.said
     c.in_ok-obey.ensures.moves
-    (is_fed c.args.key slab a _ c.args.piece.now c.in-Ok.fed.count c.in-Ok.fed.said c.in-Some.ensures.value (search rules) (search rules) refl c.feed.ensures.front (search rules))
+    (is_fed c.args.key slab a c.feed.new.self c.args.piece.now c.in-Ok.fed.count c.in-Ok.fed.said c.in-Some.ensures.value here (c.feed.ensures.over ∙ here) c.feed.ensures.withdrawn c.in-Ok.ensures.asks
+    c.feed.ensures.front (search rules))
     c.in_ok-obey.ensures.underway c.in_ok-obey.ensures.read refl
-    (c.in_ok-obey.ensures.given ∙ ap (λ (ps : Posts). given_by c.args.key c.in-Ok.fed.said ps) (posts_kept slab c.args.key a _ c.in-Some.ensures.value refl)) t
+    (c.in_ok-obey.ensures.given ∙ ap (λ (ps : Posts). given_by c.args.key c.in-Ok.fed.said ps) (posts_kept slab c.args.key a _ c.in-Some.ensures.value c.feed.ensures.post)) t
 
 pub returns-in_default-clause-asks : goal.returns-in_default-clause-asks
 returns-in_default-clause-asks c = λ first bytes t.

@@ -6,20 +6,19 @@ use Rattle.tds_relay.proofs.steps.Fed.{closed_as_fed, taken_back_is}
 use Rattle.tds_relay.proofs.steps.Fronts.{moves_closes, moves_does, moves_same, no_moves, open_closed}
 use Rattle.tds_relay.proofs.steps.Reaching.{ok_more}
 use Rattle.tds_relay.proofs.steps.Told.{deaf_behind, deaf_closed}
-use Rattle.tds_relay.proofs.steps.Staying.{stays_on, stays_then}
+use Rattle.tds_relay.proofs.steps.Staying.{stays_from}
 use Rattle.tds_relay.proofs.relay.Relay.take_back.Goals as goal
 
 pub returns-in-Some-clause-moves : goal.returns-in-Some-clause-moves
 returns-in-Some-clause-moves c =
     let by = Application c.args.key in
     let now = ends_in c.args.self.now.applications in
-    let same = c.stop.ensures.ends ∙ c.forget_request.ensures.ends ∙ c.forget_reset.ensures.ends in
+    let same = c.stop.ensures.ends ∙ c.forget_request.ensures.ends in
     let d1 = desk_in c.forget_request.new.self.desk in
     ok_more c.send_on.result _ _
     (λ m before bytes f. inl (record {
       mid = hall_of_ends d1 before;
-      first = moves_does by (hall_of_ends (desk_in c.args.self.now.desk) before) _ _ _ _ _ _ _ c.forget_request.ensures.turns tt refl refl
-          (moves_same by _ _ _ _ _ (ap desk_in c.forget_reset.ensures.desk) refl (no_moves by (hall_of_ends (desk_in c.args.self.now.desk) before)));
+      first = moves_does by (hall_of_ends (desk_in c.args.self.now.desk) before) _ _ _ _ _ _ _ c.forget_request.ensures.turns tt refl refl (no_moves by (hall_of_ends (desk_in c.args.self.now.desk) before));
       same = refl;
       next = subst (λ (h : Hall). Moves by h (hall_in c.send_on.new.self))
           (sym (taken_back_is c.args.key d1 (desk_in c.stop.new.self.desk) before now (ends_in c.withdraw.new.self.applications) bytes _ _ f
@@ -32,7 +31,7 @@ pub returns-in-None-clause-moves : goal.returns-in-None-clause-moves
 returns-in-None-clause-moves c =
     let by = Application c.args.key in
     let now = ends_in c.args.self.now.applications in
-    let same = c.stop.ensures.ends ∙ c.forget_request.ensures.ends ∙ c.forget_reset.ensures.ends in
+    let same = c.stop.ensures.ends ∙ c.forget_request.ensures.ends in
     ok_more c.expel.result _ _
     (λ m before bytes f.
     let from = hall_of_ends (desk_in c.args.self.now.desk) before in
@@ -43,15 +42,14 @@ returns-in-None-clause-moves c =
           (ap (change_end c.args.key closes) same ∙ sym (closed_as_fed c.args.key before now bytes _ f))
           (c.stop.ensures.moves (change_end c.args.key closes before) (open_closed IsHere before c.args.key) from
           (moves_closes by from _ _ before _ c.args.key refl refl
-          (moves_does by from _ _ _ _ _ _ _ c.forget_request.ensures.turns tt refl refl
-          (moves_same by from _ _ _ _ (ap desk_in c.forget_reset.ensures.desk) refl (no_moves by from))))));
+          (moves_does by from _ _ _ _ _ _ _ c.forget_request.ensures.turns tt refl refl (no_moves by from)))));
       deaf = deaf_behind c.args.key _ _ last (deaf_closed c.args.key (ends_in c.stop.new.self.applications));
       nothing = λ posts. refl;
     }))
     c.expel.ensures.moves
 
 pub returns-in-Some-clause-read : goal.returns-in-Some-clause-read
-returns-in-Some-clause-read c = stays_on c.send_on.result _ _ _ (stays_then _ _ _ c.forget_reset.ensures.read (c.withdraw.ensures.links ∙ c.stop.ensures.links ∙ c.forget_request.ensures.links)) c.send_on.ensures.read
+returns-in-Some-clause-read c = stays_from c.send_on.result _ _ _ (c.withdraw.ensures.links ∙ c.stop.ensures.links ∙ c.forget_request.ensures.links) c.send_on.ensures.read
 
 pub returns-in-None-clause-read : goal.returns-in-None-clause-read
-returns-in-None-clause-read c = stays_on c.expel.result _ _ _ (stays_then _ _ _ c.forget_reset.ensures.read (c.stop.ensures.links ∙ c.forget_request.ensures.links)) c.expel.ensures.read
+returns-in-None-clause-read c = stays_from c.expel.result _ _ _ (c.stop.ensures.links ∙ c.forget_request.ensures.links) c.expel.ensures.read

@@ -1,15 +1,12 @@
-use Rattle.std.proofs.Common.{refl}
 use Rattle.tds_relay.specs.declared.desk.coming.What.TheVariants as whats
-use Rattle.tds_relay.specs.Hall.{told}
-use Rattle.tds_relay.proofs.steps.Fronts.{changed_not, told_as, told_nobody}
+use Rattle.tds_relay.proofs.steps.Fronts.{told_as, told_nobody}
 use Rattle.tds_relay.proofs.relay.Relay.tell.Goals as goal
 
 pub returns-in_default-clause-ends : goal.returns-in_default-clause-ends
 returns-in_default-clause-ends c = told_nobody c.args.heard.key c.args.heard.what _ c.in_default.is
 
 pub returns-in-Goes-clause-ends : goal.returns-in-Goes-clause-ends
-returns-in-Goes-clause-ends c =
-    told_as c.args.heard.key c.in-Some.key c.args.heard.what whats.Goes _ _ c.in-Some.is c.in-Goes.is (changed_not _ c.in-Some.key (told whats.Goes) (λ e. refl))
+returns-in-Goes-clause-ends c = told_as c.args.heard.key c.in-Some.key c.args.heard.what whats.Goes _ _ c.in-Some.is c.in-Goes.is c.goes_on.ensures.ends
 
 pub returns-in-Finished-clause-ends : goal.returns-in-Finished-clause-ends
 returns-in-Finished-clause-ends c = told_as c.args.heard.key c.in-Some.key c.args.heard.what whats.Finished _ _ c.in-Some.is c.in-Finished.is c.answered.ensures.ends

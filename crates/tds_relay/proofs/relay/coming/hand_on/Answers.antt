@@ -1,23 +1,37 @@
-use Rattle.std.proofs.Common.{refl, subst, sym}
-use Rattle.tds_relay.specs.declared.link.News.{News}
-use Rattle.tds_relay.specs.Handing.{IsBy}
-use Rattle.tds_relay.specs.House.{Without}
+use Rattle.std.proofs.Common.{◌∙◌, ◌++◌, ℕ, Bool, List, ap, refl, subst, sym}
+use Rattle.tds_packet.specs.Layout.{header_bytes}
+use Rattle.tds_relay.specs.Handing.{IsOf}
+use Rattle.tds_relay.specs.House.{Whole, Without}
+use Rattle.tds_relay.specs.Posts.{Post, post_of, put}
+use Rattle.tds_relay.proofs.steps.Handed.{news_first}
+use Rattle.tds_relay.proofs.steps.Reaching.{ok_if, ok_more}
 use Rattle.tds_relay.proofs.relay.coming.hand_on.Goals as goal
 
-pub returns-then-branch-clause-passes : goal.returns-then-branch-clause-passes
-returns-then-branch-clause-passes c =
-    let made = c.in_ok-put_without_news-in-IsCut.ensures in
-    record {
-      manner = Without made.0;
-      by = subst (λ (n : News). IsBy n c.args.answer.now c.args.packet.header c.args.packet.«data».now (Without made.0)) (sym c.in-IsCut.is) (made.0, refl, made.1);
-      is = made.2;
-    }
+pub returns-then-news-clause-passes : goal.returns-then-news-clause-passes
+returns-then-news-clause-passes c =
+    let tells = c.args.news.is_told in
+    ok_more c.put_without_news.result _ _
+    (λ made. record {
+      manner = Without tells made.0;
+      by = subst (λ (b : Bool). IsOf tells b c.args.answer.now c.args.packet.header c.args.packet.«data».now (Without tells made.0)) (sym c.if-news.true) (made.0, refl, made.1);
+      is = made.2 ∙ ap (λ (p : Post). put made.0 p) c.in_ok-put_news.ensures.post ∙ news_first tells made.0 (post_of c.args.application.now);
+    })
+    c.put_without_news.ensures
 
-pub returns-else-branch-clause-passes : goal.returns-else-branch-clause-passes
-returns-else-branch-clause-passes c =
-    let made = c.in_ok-put_without_news-in-IsCut.ensures in
-    record {
-      manner = Without made.0;
-      by = subst (λ (n : News). IsBy n c.args.answer.now c.args.packet.header c.args.packet.«data».now (Without made.0)) (sym c.in-IsCut.is) (made.0, refl, made.1);
-      is = made.2;
-    }
+pub returns-else-news-clause-passes : goal.returns-else-news-clause-passes
+returns-else-news-clause-passes c =
+    let tells = c.args.news.is_told in
+    let piece : List ℕ = header_bytes c.args.packet.header ++ c.args.packet.«data».now in
+    ok_more c.put_packet.result _ _
+    (λ post. record {
+      manner = Whole tells;
+      by = subst (λ (b : Bool). IsOf tells b c.args.answer.now c.args.packet.header c.args.packet.«data».now (Whole tells)) (sym c.if-news.false) refl;
+      is = post ∙ ap (λ (p : Post). put piece p) c.in_ok-put_news.ensures.post ∙ news_first tells piece (post_of c.args.application.now);
+    })
+    c.put_packet.ensures.post
+
+pub returns-then-news-clause-end : goal.returns-then-news-clause-end
+returns-then-news-clause-end c = ok_if c.put_without_news.result _ refl
+
+pub returns-else-news-clause-end : goal.returns-else-news-clause-end
+returns-else-news-clause-end c = ok_if c.put_packet.result _ refl

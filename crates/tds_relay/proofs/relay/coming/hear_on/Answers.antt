@@ -9,7 +9,7 @@ invariant_of-link-2 c =
     let direction : c.hear_packet.new.link.reader.direction ≡ ToClient = search rules in
     record {
       reads =
-          done_keeps c.args.number (reading_on c.args.number c.args.desk.now.service) _ _ _ _ _ _ _ _
+          done_keeps c.args.number (reading_on c.args.number c.args.desk.now.service) _ _ _ _ _ _ _
           c.in_ok-heard.ensures.brings c.in_ok-heard.ensures.reader c.done.ensures.next c.done.ensures.same ∙ direction;
       unread = λ closed. absurd (let no : true ≡ false = sym (c.hear_packet.ensures.is_open ∙ c.requires) ∙ closed in let u : ⊥ = cc in u);
     }

@@ -1,18 +1,25 @@
-use Rattle.std.proofs.Common.{◌≡◌, ◌∙◌, false, refl, rules, sym, true, Some, ℕ, subst}
+use Rattle.std.proofs.Common.{◌≡◌, ◌∙◌, ◌&&◌, ◌||◌, not, Bool, Option, ap, false, refl, rules, sym, true, Some, ℕ, subst}
 use Rattle.std.specs.Prelude.{IsSome}
 use Rattle.tds_service.specs.Table.{reading_on}
 use Rattle.tds_relay.specs.declared.link.News.{News}
 use Rattle.tds_relay.specs.Desk.{whose}
-use Rattle.tds_relay.specs.Fronts.{ends_in}
-use Rattle.tds_relay.specs.Handing.{IsBy, news_with}
-use Rattle.tds_relay.specs.House.{closes, end_whose, is_said, Withheld}
+use Rattle.tds_relay.specs.declared.desk.coming.What.TheVariants as whats
+use Rattle.tds_relay.specs.Fronts.{end_of, ends_in}
+use Rattle.tds_relay.specs.Hall.{End}
+use Rattle.tds_relay.specs.Handing.{IsBy, news_for}
+use Rattle.tds_relay.specs.House.{IsTold, Withheld, closes, end_whose, hears_of_reset, is_said}
 use Rattle.tds_relay.specs.Posts.{posts_in}
-use Rattle.tds_relay.specs.Ties.{Connection, desk_in}
+use Rattle.tds_relay.specs.Ties.{Connection, desk_in, part_on}
 use Rattle.tds_relay.proofs.steps.Fronts.{ends_kept}
-use Rattle.tds_relay.proofs.steps.Handed.{handed_for, handed_is, has_walker, passing, to_absent, to_closed, to_deaf, to_nobody, to_one, withheld_for, withheld_is}
+use Rattle.tds_relay.proofs.steps.Handed.{end_whose_is, handed_for, handed_is, has_walker, passing, to_absent, to_closed, to_deaf, to_nobody, to_one, withheld_for, withheld_is}
 use Rattle.tds_relay.proofs.steps.Posting.{posts_kept}
 use Rattle.tds_relay.proofs.steps.Reaching.{reaches_turn}
+use Rattle.tds_relay.proofs.steps.Resets.{heard_so, told_for, unowed}
 use Rattle.tds_relay.proofs.relay.coming.hear_packet.Goals as goal
+
+-- where it isn't handed on
+none : News
+none = news_for false false false
 
 pub returns-then-matches-clause-goes : goal.returns-then-matches-clause-goes
 returns-then-matches-clause-goes c = λ from h. reaches_turn (Connection c.args.number) from _ _ _ _ _ c.in_ok-heard.ensures.ok.1 refl h
@@ -39,9 +46,9 @@ returns-then-matches-clause-brings c =
     let walker = reading_on c.args.number c.args.desk.now.service in
     let there : (key : ℕ) → whose d c.args.number ≡ Some key → IsSome walker = λ key e. has_walker d c.args.number key c.args.desk.now.service.seats.items refl e in
     let unsaid : is_said heard.what (end_whose heard.key es) ≡ false = to_closed heard.what (end_whose heard.key es) (search rules) in
-    passing c.args.number walker c.args.link.now.news c.args.link.now.answer c.args.link.now.reader heard d _ es posts _ c.in-Some.packet.header c.in-Some.packet.«data».now c.ends-ends.result turned.0 Withheld _ _
+    passing c.args.number walker none c.args.link.now.answer c.args.link.now.reader heard d _ es posts _ c.in-Some.packet.header c.in-Some.packet.«data».now c.ends-ends.result turned.0 Withheld _ _
     c.in-Some.ensures.lent c.ends-ends.ensures turned.1 c.in_ok-heard.ensures.whose c.in_ok-heard.ensures.heard there
-    (withheld_for _ (news_with heard.what c.args.link.now.news) c.args.link.now.answer _ _ unsaid) (withheld_is (whose d c.args.number) c.in-Some.packet.header c.in-Some.packet.«data».now posts)
+    (withheld_for _ none c.args.link.now.answer _ _ unsaid) tt (withheld_is (whose d c.args.number) c.in-Some.packet.header c.in-Some.packet.«data».now posts)
 
 pub returns-in_default-key-clause-brings : goal.returns-in_default-key-clause-brings
 returns-in_default-key-clause-brings c =
@@ -53,9 +60,9 @@ returns-in_default-key-clause-brings c =
     let walker = reading_on c.args.number c.args.desk.now.service in
     let there : (key : ℕ) → whose d c.args.number ≡ Some key → IsSome walker = λ key e. has_walker d c.args.number key c.args.desk.now.service.seats.items refl e in
     let unsaid : is_said heard.what (end_whose heard.key es) ≡ false = to_nobody heard.what heard.key es (search rules) in
-    passing c.args.number walker c.args.link.now.news c.args.link.now.answer c.args.link.now.reader heard d _ es posts _ c.in-Some.packet.header c.in-Some.packet.«data».now c.ends-ends.result turned.0 Withheld _ _
+    passing c.args.number walker none c.args.link.now.answer c.args.link.now.reader heard d _ es posts _ c.in-Some.packet.header c.in-Some.packet.«data».now c.ends-ends.result turned.0 Withheld _ _
     c.in-Some.ensures.lent c.ends-ends.ensures turned.1 c.in_ok-heard.ensures.whose c.in_ok-heard.ensures.heard there
-    (withheld_for _ (news_with heard.what c.args.link.now.news) c.args.link.now.answer _ _ unsaid) (withheld_is (whose d c.args.number) c.in-Some.packet.header c.in-Some.packet.«data».now posts)
+    (withheld_for _ none c.args.link.now.answer _ _ unsaid) tt (withheld_is (whose d c.args.number) c.in-Some.packet.header c.in-Some.packet.«data».now posts)
 
 pub returns-in_default-get_mut-clause-brings : goal.returns-in_default-get_mut-clause-brings
 returns-in_default-get_mut-clause-brings c =
@@ -67,9 +74,9 @@ returns-in_default-get_mut-clause-brings c =
     let walker = reading_on c.args.number c.args.desk.now.service in
     let there : (key : ℕ) → whose d c.args.number ≡ Some key → IsSome walker = λ key e. has_walker d c.args.number key c.args.desk.now.service.seats.items refl e in
     let unsaid : is_said heard.what (end_whose heard.key es) ≡ false = to_absent heard.what c.args.applications.now heard.key c.in-Some-key.key (search rules) (search rules) in
-    passing c.args.number walker c.args.link.now.news c.args.link.now.answer c.args.link.now.reader heard d _ es posts _ c.in-Some.packet.header c.in-Some.packet.«data».now c.ends-ends.result turned.0 Withheld _ _
+    passing c.args.number walker none c.args.link.now.answer c.args.link.now.reader heard d _ es posts _ c.in-Some.packet.header c.in-Some.packet.«data».now c.ends-ends.result turned.0 Withheld _ _
     c.in-Some.ensures.lent c.ends-ends.ensures turned.1 c.in_ok-heard.ensures.whose c.in_ok-heard.ensures.heard there
-    (withheld_for _ (news_with heard.what c.args.link.now.news) c.args.link.now.answer _ _ unsaid) (withheld_is (whose d c.args.number) c.in-Some.packet.header c.in-Some.packet.«data».now posts)
+    (withheld_for _ none c.args.link.now.answer _ _ unsaid) tt (withheld_is (whose d c.args.number) c.in-Some.packet.header c.in-Some.packet.«data».now posts)
 
 pub returns-then-not-hears-clause-brings : goal.returns-then-not-hears-clause-brings
 returns-then-not-hears-clause-brings c =
@@ -81,30 +88,43 @@ returns-then-not-hears-clause-brings c =
     let walker = reading_on c.args.number c.args.desk.now.service in
     let there : (key : ℕ) → whose d c.args.number ≡ Some key → IsSome walker = λ key e. has_walker d c.args.number key c.args.desk.now.service.seats.items refl e in
     let unsaid : is_said heard.what (end_whose heard.key es) ≡ false = to_deaf heard.what c.args.applications.now heard.key c.in-Some-key.key c.in-Some-get_mut.application.now (search rules) c.in-Some-get_mut.ensures.value (search rules) in
-    passing c.args.number walker c.args.link.now.news c.args.link.now.answer c.args.link.now.reader heard d _ es posts _ c.in-Some.packet.header c.in-Some.packet.«data».now c.ends-ends.result turned.0 Withheld _ _
+    passing c.args.number walker none c.args.link.now.answer c.args.link.now.reader heard d _ es posts _ c.in-Some.packet.header c.in-Some.packet.«data».now c.ends-ends.result turned.0 Withheld _ _
     c.in-Some.ensures.lent c.ends-ends.ensures turned.1 c.in_ok-heard.ensures.whose c.in_ok-heard.ensures.heard there
-    (withheld_for _ (news_with heard.what c.args.link.now.news) c.args.link.now.answer _ _ unsaid) (posts_kept c.args.applications.now c.in-Some-key.key c.in-Some-get_mut.application.now c.in-Some-get_mut.application.now c.in-Some-get_mut.ensures.value refl ∙ withheld_is (whose d c.args.number) c.in-Some.packet.header c.in-Some.packet.«data».now posts)
+    (withheld_for _ none c.args.link.now.answer _ _ unsaid) tt (posts_kept c.args.applications.now c.in-Some-key.key c.in-Some-get_mut.application.now c.in-Some-get_mut.application.now c.in-Some-get_mut.ensures.value refl ∙ withheld_is (whose d c.args.number) c.in-Some.packet.header c.in-Some.packet.«data».now posts)
 
 pub returns-clause-brings : goal.returns-clause-brings
 returns-clause-brings c =
     let turned = c.in_ok-heard.ensures.ok in
     let heard = c.in_ok-heard.heard in
+    let number = c.args.number in
+    let header = c.in-Some.packet.header in
+    let content = c.in-Some.packet.«data».now in
     let d = desk_in c.args.desk.now in
     let es = ends_in c.args.applications.now in
     let posts = posts_in c.args.applications.now in
-    let walker = reading_on c.args.number c.args.desk.now.service in
-    let there : (key : ℕ) → whose d c.args.number ≡ Some key → IsSome walker = λ key e. has_walker d c.args.number key c.args.desk.now.service.seats.items refl e in
+    let walker = reading_on number c.args.desk.now.service in
+    let there : (key : ℕ) → whose d number ≡ Some key → IsSome walker = λ key e. has_walker d number key c.args.desk.now.service.seats.items refl e in
     let passes = c.in_ok-hand_on.ensures.passes in
     let a = c.in-Some-get_mut.application.now in
     let its : heard.key ≡ Some c.in-Some-key.key = search rules in
     let closed : closes heard.what ≡ false = search rules in
-    let said : is_said heard.what (end_whose heard.key es) ≡ true =
-    to_one heard.what c.args.applications.now heard.key c.in-Some-key.key a closed its c.in-Some-get_mut.ensures.value (search rules) in
-    let by = subst (λ (n : News). IsBy n c.args.link.now.answer c.in-Some.packet.header c.in-Some.packet.«data».now passes.manner) c.news_with-link.ensures passes.by in
-    passing c.args.number walker c.args.link.now.news c.args.link.now.answer c.args.link.now.reader heard d _ es posts _ c.in-Some.packet.header c.in-Some.packet.«data».now c.ends-ends.result turned.0 passes.manner _ _
+    let hears : is_said whats.Goes (Some (end_of a)) ≡ true = search rules in
+    let said : is_said heard.what (end_whose heard.key es) ≡ true = to_one heard.what c.args.applications.now heard.key c.in-Some-key.key a closed its c.in-Some-get_mut.ensures.value hears in
+    let part = part_on walker content c.ends-ends.result in
+    let mine : whose d number ≡ Some c.in-Some-key.key = sym c.in_ok-heard.ensures.whose ∙ its in
+    let told = heard_so d number c.in-Some-key.key part heard turned.0 _ _ _ turned.1 mine its c.in_ok-heard.ensures.heard closed c.owes_reset-owed.result c.owes_reset.result c.owes_reset-owed.ensures c.owes_reset.ensures in
+    let asks = c.is_told-asks.ensures hears ∙ ap (λ (o : Option End). hears_of_reset heard.what o) (sym (end_whose_is c.args.applications.now heard.key c.in-Some-key.key a its c.in-Some-get_mut.ensures.value)) in
+    let by : IsBy (news_for c.is_told-asks.result (c.owes_reset-owed.result && not c.owes_reset.result) (c.owes_reset-owed.result || c.holds.result)) c.args.link.now.answer header content passes.manner =
+    subst (λ (n : News). IsBy n c.args.link.now.answer header content passes.manner) c.news_for-news.ensures passes.by in
+    let tells : IsTold (hears_of_reset heard.what (end_whose heard.key es)) passes.manner part =
+    subst (λ (b : Bool). IsTold b passes.manner part) asks
+    (told_for c.is_told-asks.result (c.owes_reset-owed.result && not c.owes_reset.result) (c.owes_reset-owed.result || c.holds.result) c.args.link.now.answer header content passes.manner part told
+    (unowed c.owes_reset-owed.result c.owes_reset.result c.holds.result) by) in
+    passing number walker (news_for c.is_told-asks.result (c.owes_reset-owed.result && not c.owes_reset.result) (c.owes_reset-owed.result || c.holds.result)) c.args.link.now.answer c.args.link.now.reader heard
+    d _ es posts _ header content c.ends-ends.result turned.0 passes.manner _ _
     c.in-Some.ensures.lent c.ends-ends.ensures turned.1 c.in_ok-heard.ensures.whose c.in_ok-heard.ensures.heard there
-    (handed_for _ (news_with heard.what c.args.link.now.news) c.args.link.now.answer _ _ passes.manner said by)
-    (handed_is (whose d c.args.number) c.in-Some-key.key c.in-Some.packet.header c.in-Some.packet.«data».now passes.manner c.args.applications.now a c.hand_on.new.application
+    (handed_for _ _ c.args.link.now.answer _ _ passes.manner said by) tells
+    (handed_is (whose d number) c.in-Some-key.key header content passes.manner c.args.applications.now a c.hand_on.new.application
     (sym its ∙ c.in_ok-heard.ensures.whose) c.in-Some-get_mut.ensures.value passes.is)
 
 pub returns-then-not-hears-clause-ends : goal.returns-then-not-hears-clause-ends

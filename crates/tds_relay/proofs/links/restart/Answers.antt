@@ -2,7 +2,7 @@ use Rattle.std.proofs.Common.{ap}
 use Rattle.tds_relay.specs.declared.link.Link.{Link}
 use Rattle.tds_relay.specs.Reads.{seen_of}
 use Rattle.tds_relay.proofs.steps.Staying.{stays_written}
-use Rattle.tds_relay.proofs.links.set_cuts.Goals as goal
+use Rattle.tds_relay.proofs.links.restart.Goals as goal
 
 pub returns : goal.returns
 returns c =

@@ -1,0 +1,11 @@
+use Rattle.tds_relay.specs.declared.desk.coming.What.TheVariants as whats
+use Rattle.tds_relay.specs.Hall.{told}
+use Rattle.tds_relay.proofs.steps.Fronts.{ends_moved}
+use Rattle.tds_relay.proofs.steps.Posting.{posts_kept}
+use Rattle.tds_relay.proofs.relay.Relay.goes_on.Goals as goal
+
+pub returns-in-Some-clause-kept : goal.returns-in-Some-clause-kept
+returns-in-Some-clause-kept c = posts_kept c.args.self.now.applications c.args.key c.in-Some.application.now c.goes_on.new.self c.in-Some.ensures.value c.goes_on.ensures.post
+
+pub returns-in-Some-clause-ends : goal.returns-in-Some-clause-ends
+returns-in-Some-clause-ends c = ends_moved c.args.self.now.applications c.args.key c.in-Some.application.now c.goes_on.new.self (told whats.Goes) c.in-Some.ensures.value c.goes_on.ensures.end

@@ -1,0 +1,79 @@
+-- When an application is told of a reset (ENVCHANGE 18), and how often: by the relay, before a packet, or in that itself.
+use Rattle.std.specs.Prelude.{◌≡◌, ℕ, ◌==◌, ◌&&◌, not, Bool, true, false, List, [], ◌∷◌, ◌++◌, Option, Some, None, is_some, Result, Ok, Err, if◌then◌else◌}
+use Rattle.tds_front.specs.declared.fault.FrontFault.{FrontFault}
+use Rattle.tds_front.specs.declared.front.Fed.{Fed}
+use Rattle.tds_front.specs.declared.front.Said.{Said}
+use Rattle.tds_front.specs.declared.front.Said.TheVariants as said
+use Rattle.tds_front.specs.Bytes.{fed}
+use Rattle.tds_wire.specs.declared.told.Token.{Token}
+use Rattle.tds_service.specs.Parts.{Part}
+use Rattle.tds_relay.specs.declared.desk.coming.What.{What}
+use Rattle.tds_relay.specs.Desk.{whose}
+use Rattle.tds_relay.specs.Giving.{Visit, house_in}
+use Rattle.tds_relay.specs.Hall.{End, Open, Over, done_by, end_at, what_in}
+use Rattle.tds_relay.specs.House as house
+use Rattle.tds_relay.specs.House.{House, Manner, Step, Whole, Without, Withheld, after, tellings}
+use Rattle.tds_relay.specs.Promises.{one_if}
+
+pub data Event : Type 0 where
+  -- a request of the application begins, which asks for a reset itself or doesn't
+  Asks : (reset : Bool) → Event
+  -- what has come of it is taken back
+  TakesBack : Event
+  -- a packet is handed on to it, which only acknowledges an attention or doesn't, and with it it is told of a reset so often
+  Hears : (acknowledges : Bool) (times : ℕ) → Event
+
+-- ---- In a step
+
+abbrev pub asked_by : Said → List Event
+asked_by said.Nothing = []
+asked_by (said.Begin kind reset) = Asks (is_some reset) ∷ []
+asked_by (said.Body count) = []
+asked_by (said.End count) = []
+asked_by (said.Forget gone) = TakesBack ∷ []
+asked_by said.Acknowledge = TakesBack ∷ []
+asked_by said.HandOn = []
+
+abbrev pub asked : Result Fed FrontFault → List Event
+asked (Ok fed) = asked_by fed.said
+asked (Err fault) = []
+
+abbrev pub asked_in : List ℕ → Option End → List Event
+asked_in bytes None = []
+asked_in bytes (Some (Open front withdrawn asks)) = asked (fed front bytes).brings
+asked_in bytes (Some Over) = []
+
+abbrev pub heard_in : What → Manner → Part Token → List Event
+heard_in what (Whole tells) part = Hears (house.acknowledges what) (tellings (Whole tells) part) ∷ []
+heard_in what (Without tells bytes) part = Hears (house.acknowledges what) (tellings (Without tells bytes) part) ∷ []
+heard_in what Withheld part = []
+
+abbrev pub if_its : ℕ → Option ℕ → List Event → List Event
+if_its key None events = []
+if_its key (Some other) events = if other == key then events else []
+
+abbrev pub happens : ℕ → House → Step → List Event
+happens key h (house.Makes move) = []
+happens key h (house.Hands number header content part way manner) = if_its key (whose h.hall.desk number) (heard_in (what_in (done_by h.hall.desk number part)) manner part)
+happens key h (house.Takes other bytes) = if_its key (Some other) (asked_in bytes (end_at h.hall.ends key))
+happens key h (house.Writes other count) = []
+happens key h (house.Admits other ends posts) = []
+happens key h (house.Removes other gives way) = []
+
+-- ---- Along steps
+
+abbrev pub happen : ℕ → House → List Step → List Event
+happen key h [] = []
+happen key h (step ∷ steps) = happens key h step ++ happen key (after h step) steps
+
+-- Where its request asks for a reset it is told of that once, with the first packet that it hears behind it: unless that only acknowledges
+-- an attention, or it takes the request back before. Else it is told of none.
+abbrev pub IsToldOnce : Bool → List Event → Type 0
+IsToldOnce asks [] = Unit {0}
+IsToldOnce asks (Asks reset ∷ later) = IsToldOnce reset later
+IsToldOnce asks (TakesBack ∷ later) = IsToldOnce false later
+IsToldOnce asks (Hears acknowledges times ∷ later) = (times ≡ one_if (asks && not acknowledges)) × IsToldOnce false later
+
+-- from where an application has come
+abbrev pub happens_to : {max key : ℕ} → Visit max key → List Event
+happens_to {max} {key} v = happen key (house_in v) v.since
