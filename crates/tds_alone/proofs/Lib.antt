@@ -7,3 +7,4 @@ pub mod Told
 pub mod Examples
 pub mod Refused
 pub mod Visits
+pub mod Bytes

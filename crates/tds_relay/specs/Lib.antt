@@ -16,3 +16,4 @@ pub mod Promises
 pub mod Reads
 pub mod Taking
 pub mod Ties
+pub mod Walkers

@@ -5,6 +5,7 @@ ghost use Rattle.tds_service.specs.Table.{place_of};
 ghost use Rattle.tds_relay.specs.Desk.{Serves, Unwaits, Waits, find_key, find_number, key_of, new_desk};
 ghost use Rattle.tds_relay.specs.Hall.{is_in};
 ghost use Rattle.tds_relay.specs.Ties.{Serving, Turns, desk_in};
+ghost use Rattle.tds_relay.specs.Walkers.{AllStand};
 
 mod asking;
 mod coming;
@@ -77,6 +78,7 @@ impl Desk {
     pub fn wait(&mut self, key: usize) -> Result<(), NoMemory>
         ensures ok { OnOk result (Turns (Waits key) (desk_in self.old) (desk_in self.new) [] []) }
         ensures err { OnErr result (desk_in self.new ≡ desk_in self.old) }
+        ensures service { self.new.service ≡ self.old.service }
     {
         self.line.push(key)?;
         Ok(())
@@ -84,7 +86,8 @@ impl Desk {
 
     /// It waits no more.
     pub fn unwait(&mut self, key: usize)
-        ensures { Turns (Unwaits key) (desk_in self.old) (desk_in self.new) [] [] }
+        ensures turns { Turns (Unwaits key) (desk_in self.old) (desk_in self.new) [] [] }
+        ensures service { self.new.service ≡ self.old.service }
     {
         remove_key(&mut self.line, key);
     }
@@ -102,6 +105,7 @@ impl Desk {
         ensures ok { IfOk result (λ served. Turns Serves (desk_in self.old) (desk_in self.new) [] []
             × Serving (desk_in self.old) served) }
         ensures err { OnErr result (desk_in self.new ≡ desk_in self.old) }
+        ensures stand { OnOk result (AllStand self.old.service self.new.service) }
     {
         let Some(key) = self.line.first().copied() else {
             return Ok(None);

@@ -8,6 +8,7 @@ ghost use Rattle.tds_relay.specs.Posts.{posts_in};
 ghost use Rattle.tds_relay.specs.Reads.{Opens, Stays};
 ghost use Rattle.tds_relay.specs.Taking.{Tells, TellsOn};
 ghost use Rattle.tds_relay.specs.Ties.{Application, Goes, GoesOn, NobodyWaits, desk_in};
+ghost use Rattle.tds_relay.specs.Walkers.{AllStand};
 
 use super::Relay;
 use crate::NoMemory;
@@ -28,6 +29,8 @@ impl Relay {
             (house_in self.new)) }
         ensures served { OnOk result (NobodyWaits (desk_in self.new.desk)) }
         ensures opens { OnOk result (Opens self.old.links.items self.new.links.items) }
+        ensures stand { OnOk result (AllStand self.old.desk.service
+            self.new.desk.service) }
     {
         self.take_all(key, piece)?;
         self.serve_line()
@@ -41,6 +44,8 @@ impl Relay {
         ensures tells { OnOk result (Tells key (house_in self.old) piece.now []
             (house_in self.new)) }
         ensures read { OnOk result (Stays self.old.links.items self.new.links.items) }
+        ensures stand { OnOk result (AllStand self.old.desk.service
+            self.new.desk.service) }
     {
         let mut rest = piece;
         'taking: for _ in 0..=piece.len() {
@@ -61,6 +66,8 @@ impl Relay {
         ensures tells { IfOk result (λ count. TellsOn key piece.now (drop count piece.now)
             (house_in self.old) (house_in self.new)) }
         ensures read { OnOk result (Stays self.old.links.items self.new.links.items) }
+        ensures stand { OnOk result (AllStand self.old.desk.service
+            self.new.desk.service) }
     {
         let Some(application) = self.applications.get_mut(key) else {
             return Ok(piece.len());
@@ -86,6 +93,8 @@ impl Relay {
         ensures moves { OnOk result (FedOn key said (desk_in self.old.desk)
             (ends_in self.old.applications) (hall_in self.new)) }
         ensures read { OnOk result (Stays self.old.links.items self.new.links.items) }
+        ensures stand { OnOk result (AllStand self.old.desk.service
+            self.new.desk.service) }
     {
         match said {
             Said::Nothing => Ok(()),
@@ -114,6 +123,8 @@ impl Relay {
         ensures moves { OnOk result (Moved (Application key) (hall_in self.old)
             (hall_in self.new)) }
         ensures read { OnOk result (Stays self.old.links.items self.new.links.items) }
+        ensures stand { OnOk result (AllStand self.old.desk.service
+            self.new.desk.service) }
     {
         let Some(application) = self.applications.get_mut(key) else {
             return Ok(());
@@ -163,6 +174,8 @@ impl Relay {
         ensures moves { OnOk result (Moved (Application key) (hall_in self.old)
             (hall_in self.new)) }
         ensures read { OnOk result (Stays self.old.links.items self.new.links.items) }
+        ensures stand { OnOk result (AllStand self.old.desk.service
+            self.new.desk.service) }
     {
         if !self.has_nothing_out(key) {
             return self.expel(key);
@@ -181,6 +194,8 @@ impl Relay {
         ensures moves { OnOk result (Moved (Application key) (hall_in self.old)
             (hall_in self.new)) }
         ensures read { OnOk result (Stays self.old.links.items self.new.links.items) }
+        ensures stand { OnOk result (AllStand self.old.desk.service
+            self.new.desk.service) }
     {
         match self.desk.renew(key)? {
             Renewed::Kept(hold) => {
@@ -202,6 +217,8 @@ impl Relay {
         ensures moves { OnOk result (Moved (Application key) (hall_in self.old)
             (hall_in self.new)) }
         ensures read { OnOk result (Stays self.old.links.items self.new.links.items) }
+        ensures stand { OnOk result (AllStand self.old.desk.service
+            self.new.desk.service) }
     {
         let Some(application) = self.applications.get_mut(key) else {
             return Ok(());
@@ -227,6 +244,8 @@ impl Relay {
             ≡ posts_in self.old.applications) }
         ensures moves { OnOk result (MovedOn (hall_in self.old) (hall_in self.new)) }
         ensures read { OnOk result (Stays self.old.links.items self.new.links.items) }
+        ensures stand { OnOk result (AllStand self.old.desk.service
+            self.new.desk.service) }
     {
         let Some(hold) = self.desk.hold_of(key) else {
             return Ok(());
@@ -277,6 +296,7 @@ fn put_on(desk: &mut Desk, key: usize, bytes: &[u8], whole: bool, out: &mut Vec<
     ensures goes { GoesOn (desk_in desk.old) (desk_in desk.new) }
     ensures puts { MayPut key whole (desk_in desk.old) (desk_in desk.new) out.old.items
         out.new.items }
+    ensures stand { AllStand desk.old.service desk.new.service }
 {
     let Ok(_) = desk.put(key, bytes, out) else {
         return false;

@@ -9,6 +9,7 @@ ghost use Rattle.tds_relay.specs.Posts.{posts_in};
 ghost use Rattle.tds_relay.specs.Reads.{Opens, Stays, reader_at};
 ghost use Rattle.tds_relay.specs.Ties.{Application, Connection, Goes, GoesOn, Leaving, NobodyWaits};
 ghost use Rattle.tds_relay.specs.Ties.{desk_in};
+ghost use Rattle.tds_relay.specs.Walkers.{AllStand};
 
 use super::Relay;
 use crate::NoMemory;
@@ -25,6 +26,8 @@ impl Relay {
             (house_in self.new)) }
         ensures served { OnOk result (NobodyWaits (desk_in self.new.desk)) }
         ensures opens { OnOk result (Opens self.old.links.items self.new.links.items) }
+        ensures stand { OnOk result (AllStand self.old.desk.service
+            self.new.desk.service) }
     {
         let _ = self.applications.try_remove(key).is_some();
         self.release(key)?;
@@ -40,6 +43,8 @@ impl Relay {
             (house_in self.new)) }
         ensures served { OnOk result (NobodyWaits (desk_in self.new.desk)) }
         ensures opens { OnOk result (Opens self.old.links.items self.new.links.items) }
+        ensures stand { OnOk result (AllStand self.old.desk.service
+            self.new.desk.service) }
     {
         self.lose(number)?;
         self.serve_line()
@@ -55,6 +60,8 @@ impl Relay {
         ensures moves { OnOk result (Moved (Application key) (hall_of_ends (desk_in self.old.desk)
             (change_end key closes (ends_in self.old.applications))) (hall_in self.new)) }
         ensures read { OnOk result (Stays self.old.links.items self.new.links.items) }
+        ensures stand { OnOk result (AllStand self.old.desk.service
+            self.new.desk.service) }
     {
         self.end(key)?;
         self.release(key)
@@ -91,6 +98,8 @@ impl Relay {
             ≡ posts_in self.old.applications) }
         ensures lets_go { OnOk result (LetsGoFirst key (hall_in self.old) (hall_in self.new)) }
         ensures read { OnOk result (Stays self.old.links.items self.new.links.items) }
+        ensures stand { OnOk result (AllStand self.old.desk.service
+            self.new.desk.service) }
     {
         self.outbox.clear();
         let left = self.desk.leave(key, &mut self.outbox)?;
@@ -118,6 +127,8 @@ impl Relay {
         ensures moves { OnOk result (MovedOn (hall_in self.old) (hall_in self.new)) }
         ensures read { OnOk result (Stays self.old.links.items self.new.links.items) }
         ensures gone { OnOk result (reader_at number self.new.links.items ≡ None) }
+        ensures stand { OnOk result (AllStand self.old.desk.service
+            self.new.desk.service) }
     {
         let key = self.desk.lose(number)?;
         self.close(number, key)

@@ -7,6 +7,7 @@ ghost use Rattle.tds_relay.specs.House.{Steps};
 ghost use Rattle.tds_relay.specs.Posts.{asks_reset, posts_in};
 ghost use Rattle.tds_relay.specs.Reads.{Opens, OpensFirst, OpensOne, Stays, open_at, opened_at};
 ghost use Rattle.tds_relay.specs.Ties.{Connection, Goes, GoesOn, Neither, NobodyWaits, desk_in};
+ghost use Rattle.tds_relay.specs.Walkers.{AllStand};
 ghost use Rattle.tds_relay.specs.declared.link.Link.{Link};
 ghost use Rattle.tds_relay.specs.declared.link.News.TheVariants.{Comes, IsTold};
 
@@ -29,6 +30,8 @@ impl Relay {
         ensures steps { OnOk result (Steps Neither (house_in self.old) (house_in self.new)) }
         ensures opens { IfOk result (λ number.
             OpensFirst number self.old.links.items self.new.links.items) }
+        ensures stand { OnOk result (AllStand self.old.desk.service
+            self.new.desk.service) }
     {
         if !self.links.is_empty() {
             return Ok(None);
@@ -75,6 +78,8 @@ impl Relay {
             (house_in self.new)) }
         ensures served { OnOk result (NobodyWaits (desk_in self.new.desk)) }
         ensures opens { OnOk result (OpensOne number self.old.links.items self.new.links.items) }
+        ensures stand { OnOk result (AllStand self.old.desk.service
+            self.new.desk.service) }
     {
         self.set_open(number);
         self.order_write_on(number)?;
@@ -100,6 +105,8 @@ impl Relay {
             ≡ posts_in self.old.applications) }
         ensures moves { OnOk result (MovedOn (hall_in self.old) (hall_in self.new)) }
         ensures read { OnOk result (Stays self.old.links.items self.new.links.items) }
+        ensures stand { OnOk result (AllStand self.old.desk.service
+            self.new.desk.service) }
     {
         match self.desk.key_on(number) {
             Some(key) => self.start(key),
@@ -116,6 +123,8 @@ impl Relay {
         ensures moves { OnOk result (MovedOn (hall_in self.old) (hall_in self.new)) }
         ensures served { OnOk result (NobodyWaits (desk_in self.new.desk)) }
         ensures opens { OnOk result (Opens self.old.links.items self.new.links.items) }
+        ensures stand { OnOk result (AllStand self.old.desk.service
+            self.new.desk.service) }
     {
         'line: for _ in 0..u64::MAX {
             match self.desk.serve()? {
@@ -138,6 +147,8 @@ impl Relay {
         ensures told { served.had ≡ false → OnOk result ((link : Link)
             × (link.news ≡ news_for (get self.old.applications served.hold.key))
             × (self.new.links.items ≡ self.old.links.items ++ link ∷ [])) }
+        ensures stand { OnOk result (AllStand self.old.desk.service
+            self.new.desk.service) }
     {
         let key = served.hold.key;
         let number = served.hold.number;
@@ -158,6 +169,14 @@ impl Relay {
     {
         match self.applications.get(key) {
             Some(application) => application.reset.is_some(),
+            None => false,
+        }
+    }
+
+    /// Whether it asks for one that keeps its transaction.
+    pub(super) fn asks_to_keep(&self, key: usize) -> bool {
+        match self.applications.get(key) {
+            Some(application) => application.asks_to_keep(),
             None => false,
         }
     }
@@ -196,13 +215,15 @@ impl Relay {
     }
 
     /// Asks what an application asks, where its connection is open and idle.
-    #[tactic(auto, using(crate::proofs::steps::Reaching::reaches_turn, crate::proofs::steps::Reaching::reaches_turned))]
+    #[tactic(auto, using(crate::proofs::steps::Reaching::reaches_turn, crate::proofs::steps::Reaching::reaches_turned, crate::proofs::bytes::Walking::stand_on))]
     pub(super) fn start(&mut self, key: usize) -> Result<(), NoMemory>
         ensures goes { OnOk result (GoesOn (desk_in self.old.desk) (desk_in self.new.desk)) }
         ensures kept { OnOk result (posts_in self.new.applications
             ≡ posts_in self.old.applications) }
         ensures moves { OnOk result (MovedOn (hall_in self.old) (hall_in self.new)) }
         ensures read { OnOk result (Stays self.old.links.items self.new.links.items) }
+        ensures stand { OnOk result (AllStand self.old.desk.service
+            self.new.desk.service) }
     {
         let Some(application) = self.applications.get(key) else {
             return Ok(());
@@ -241,6 +262,8 @@ impl Relay {
             ≡ posts_in self.old.applications) }
         ensures moves { OnOk result (MovedOn (hall_in self.old) (hall_in self.new)) }
         ensures read { OnOk result (Stays self.old.links.items self.new.links.items) }
+        ensures stand { OnOk result (AllStand self.old.desk.service
+            self.new.desk.service) }
     {
         let Some(application) = self.applications.get_mut(key) else {
             return Ok(());

@@ -1,6 +1,11 @@
 use Rattle.std.proofs.Common.{rules, []}
 use Rattle.tds_service.specs.Table.{puts_on}
+use Rattle.tds_service.specs.Service as calls
+use Rattle.tds_relay.proofs.bytes.Walking.{keeps_stand}
 use Rattle.tds_relay.proofs.desk.Desk.finish.Goals as goal
 
 pub returns-in-Ok-clause-ok : goal.returns-in-Ok-clause-ok
 returns-in-Ok-clause-ok c = (puts_on c.in-Some.hold.lease c.args.self.now.service [], search rules)
+
+pub returns-in-Ok-clause-stand : goal.returns-in-Ok-clause-stand
+returns-in-Ok-clause-stand c = keeps_stand _ _ (calls.Finish c.in-Some.hold.lease (puts_on c.in-Some.hold.lease c.args.self.now.service [])) c.in-Ok.ensures.ok.service_is c.in-Ok.ensures.keeps

@@ -3,6 +3,7 @@ use Rattle.tds_relay.specs.Ties.{Application}
 use Rattle.tds_relay.proofs.steps.Fronts.{moves_closes, moves_lets_go}
 use Rattle.tds_relay.proofs.steps.Reaching.{ok_if, ok_more, reaches_left}
 use Rattle.tds_relay.proofs.steps.Staying.{stays_same}
+use Rattle.tds_relay.proofs.bytes.Walking.{stand_on}
 use Rattle.tds_relay.proofs.relay.Relay.change.Goals as goal
 
 pub returns-then-not-has_nothing_out-clause-moves : goal.returns-then-not-has_nothing_out-clause-moves
@@ -19,3 +20,6 @@ returns-clause-moves c =
 
 pub returns-clause-read : goal.returns-clause-read
 returns-clause-read c = stays_same c.wait.result _ _ _ c.in_ok-release.ensures.read (ok_if c.wait.result _ c.wait.ensures.links)
+
+pub returns-clause-stand : goal.returns-clause-stand
+returns-clause-stand c = stand_on c.wait.result _ _ _ c.in_ok-release.ensures.stand c.wait.ensures.stand

@@ -6,6 +6,7 @@ use Rattle.tds_relay.specs.Hall.{Ends, IfOpen, IsHere, end_at}
 use Rattle.tds_relay.proofs.steps.Fronts.{moves_lets_go, moves_same, open_closed}
 use Rattle.tds_relay.proofs.steps.Reaching.{ok_more, reaches_left}
 use Rattle.tds_relay.proofs.steps.Staying.{stays_from}
+use Rattle.tds_relay.proofs.bytes.Walking.{stand_from}
 use Rattle.tds_relay.proofs.relay.Relay.expel.Goals as goal
 
 pub returns-clause-goes : goal.returns-clause-goes
@@ -25,3 +26,6 @@ returns-clause-moves c =
 
 pub returns-clause-read : goal.returns-clause-read
 returns-clause-read c = stays_from c.release.result _ _ _ c.in_ok-end.ensures.links c.release.ensures.read
+
+pub returns-clause-stand : goal.returns-clause-stand
+returns-clause-stand c = stand_from c.release.result _ _ _ c.in_ok-end.ensures.desk c.release.ensures.stand

@@ -3,6 +3,7 @@ use Rattle.tds_relay.specs.Ties.{Application, desk_in}
 use Rattle.tds_relay.proofs.steps.Fronts.{moves_does, moves_same}
 use Rattle.tds_relay.proofs.steps.Reaching.{ok_more}
 use Rattle.tds_relay.proofs.steps.Staying.{stays_on, stays_then}
+use Rattle.tds_relay.proofs.bytes.Walking.{stand_back, stand_on}
 use Rattle.tds_relay.proofs.relay.Relay.forget.Goals as goal
 
 pub returns-then-was_asked-clause-moves : goal.returns-then-was_asked-clause-moves
@@ -19,3 +20,9 @@ returns-then-was_asked-clause-read c = stays_on c.unask.result _ _ _ (stays_then
 
 pub returns-else-was_asked-clause-read : goal.returns-else-was_asked-clause-read
 returns-else-was_asked-clause-read c = stays_then _ _ _ c.forget_reset.ensures.read c.forget_request-was_asked.ensures.links
+
+pub returns-then-was_asked-clause-stand : goal.returns-then-was_asked-clause-stand
+returns-then-was_asked-clause-stand c = stand_on c.unask.result _ _ _ (stand_back _ _ _ c.forget_reset.ensures.desk c.forget_request-was_asked.ensures.stand) c.unask.ensures.stand
+
+pub returns-else-was_asked-clause-stand : goal.returns-else-was_asked-clause-stand
+returns-else-was_asked-clause-stand c = stand_back _ _ _ c.forget_reset.ensures.desk c.forget_request-was_asked.ensures.stand

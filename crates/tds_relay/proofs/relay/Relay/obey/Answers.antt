@@ -7,6 +7,8 @@ use Rattle.tds_relay.specs.Ties.{Application}
 use Rattle.tds_relay.proofs.steps.Told.{fed_then}
 use Rattle.tds_relay.proofs.steps.Reaching.{ok_more}
 use Rattle.tds_relay.proofs.steps.Staying.{stays_refl, stays_same}
+use Rattle.tds_relay.proofs.bytes.Walking.{stand_at}
+use Rattle.tds_relay.proofs.steps.Reaching.{ok_if}
 use Rattle.tds_relay.proofs.relay.Relay.obey.Goals as goal
 
 pub returns-in-Begin-clause-given : goal.returns-in-Begin-clause-given
@@ -80,3 +82,6 @@ returns-in-Nothing-clause-read c = stays_refl c.args.self.now.links.items
 
 pub returns-in_ok-forget-in-Acknowledge-clause-read : goal.returns-in_ok-forget-in-Acknowledge-clause-read
 returns-in_ok-forget-in-Acknowledge-clause-read c = stays_same c.acknowledge.result _ _ _ c.in_ok-forget-in-Acknowledge.ensures.read c.acknowledge.ensures.links
+
+pub returns-in_ok-forget-in-Acknowledge-clause-stand : goal.returns-in_ok-forget-in-Acknowledge-clause-stand
+returns-in_ok-forget-in-Acknowledge-clause-stand c = ok_if c.acknowledge.result _ (stand_at _ _ _ c.in_ok-forget-in-Acknowledge.ensures.stand c.acknowledge.ensures.desk)

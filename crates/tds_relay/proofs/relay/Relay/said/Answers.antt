@@ -3,6 +3,7 @@ use Rattle.tds_relay.specs.Ties.{Application}
 use Rattle.tds_relay.proofs.steps.Staying.{opens_served}
 use Rattle.tds_relay.proofs.steps.Stepping.{steps_on_ok}
 use Rattle.tds_relay.proofs.steps.Told.{tells_ok, tells_steps}
+use Rattle.tds_relay.proofs.bytes.Walking.{stand_on}
 use Rattle.tds_relay.proofs.relay.Relay.said.Goals as goal
 
 pub returns-clause-steps : goal.returns-clause-steps
@@ -16,3 +17,6 @@ returns-clause-tells c =
 
 pub returns-clause-opens : goal.returns-clause-opens
 returns-clause-opens c = opens_served c.serve_line.result _ _ _ c.in_ok-take_all.ensures.read c.serve_line.ensures.opens
+
+pub returns-clause-stand : goal.returns-clause-stand
+returns-clause-stand c = stand_on c.serve_line.result _ _ _ c.in_ok-take_all.ensures.stand c.serve_line.ensures.stand

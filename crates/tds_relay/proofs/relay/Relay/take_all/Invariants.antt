@@ -2,6 +2,7 @@ use Rattle.tds_relay.specs.Fronts.{house_in}
 use Rattle.tds_relay.specs.Reads.{Stays}
 use Rattle.tds_relay.specs.Taking.{Tells}
 use Rattle.tds_relay.specs.Ties.{Application, Goes, desk_in}
+use Rattle.tds_relay.specs.Walkers.{AllStand}
 use Rattle.tds_relay.proofs.relay.Relay.take_all.Given as goal
 
 abbrev pub invariant-taking : goal.invariant-taking
@@ -9,4 +10,5 @@ invariant-taking l = record {
   goes : Goes (Application l.fn.key) (desk_in l.fn.self.desk) (desk_in l.self.desk);
   tells : Tells l.fn.key (house_in l.fn.self) l.fn.piece l.rest (house_in l.self);
   read : Stays l.fn.self.links.items l.self.links.items;
+  stand : AllStand l.fn.self.desk.service l.self.desk.service;
 }

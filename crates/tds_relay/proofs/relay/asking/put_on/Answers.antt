@@ -27,3 +27,9 @@ returns-in-Ok-finish-clause-puts c = inr (record {
 pub returns-in-Err-clause-puts : goal.returns-in-Err-clause-puts
 returns-in-Err-clause-puts c =
     inr (record { count = c.in-Ok.ensures.ok.0; mid = _; between = _; first = c.in-Ok.ensures.ok.1; last = inl (c.in-Err.ensures.err, c.in-Err.ensures.nothing) })
+
+pub returns-in-Ok-finish-clause-stand : goal.returns-in-Ok-finish-clause-stand
+returns-in-Ok-finish-clause-stand c = λ n r h. c.in-Ok-finish.ensures.stand n r (c.in-Ok.ensures.stand n r h)
+
+pub returns-in-Err-clause-stand : goal.returns-in-Err-clause-stand
+returns-in-Err-clause-stand c = λ n r h. c.in-Err.ensures.stand n r (c.in-Ok.ensures.stand n r h)
