@@ -8,3 +8,4 @@ pub mod Orderly
 pub mod Examples
 pub mod Refused
 pub mod Visits
+pub mod Bytes

@@ -8,7 +8,7 @@ use Rattle.tds_alone.specs.Serving.{Moment, Server, World, fresh, happens, new_w
 use Rattle.tds_alone.specs.Visits.{AllSaid, Moments, events_in, world_in}
 use Rattle.tds_alone.proofs.Told.{as_if_alone}
 
-desk_along : {V : Type 0} (server : Server V) (w : World V) (ms : List (Moment V)) → (world_after turn server w ms).desk ≡ desk_after w.desk (events_in ms)
+pub desk_along : {V : Type 0} (server : Server V) (w : World V) (ms : List (Moment V)) → (world_after turn server w ms).desk ≡ desk_after w.desk (events_in ms)
 desk_along server w [] = refl
 desk_along server w (m ∷ ms) = desk_along server (happens turn server w m) ms
 

@@ -18,3 +18,4 @@ pub mod Reads
 pub mod Taking
 pub mod Telling
 pub mod Ties
+pub mod Walkers

@@ -4,12 +4,15 @@ use Rattle.std.specs.List.{AllByRecursion}
 use Rattle.tds_packet.specs.Layout.{header_bytes}
 use Rattle.tds_packet.specs.Reading.{Reading, joined, with_taken}
 use Rattle.tds_packet.specs.Stream.{IsLess, IsOnePacket}
+use Rattle.tds_wire.specs.Reading as walkers
+use Rattle.tds_service.specs.declared.service.Service as services
 use Rattle.tds_relay.specs.declared.desk.coming.Heard.{Heard}
 use Rattle.tds_relay.specs.declared.link.Link.{Link}
 use Rattle.tds_relay.specs.Hall.{Moves}
 use Rattle.tds_relay.specs.House.{House, Step, Hands, CausesStep, MayAll, after_all}
 use Rattle.tds_relay.specs.Promises.{Each}
 use Rattle.tds_relay.specs.Ties.{Cause, Connection}
+use Rattle.tds_relay.specs.Walkers.{AllStand, AreRead, Walks, stands_behind}
 
 -- ---- Connections by their numbers
 
@@ -111,8 +114,9 @@ ReadsBy (Some r) bytes packets now = IsLess r r.taken → Reads r bytes packets 
 
 -- ---- In a call
 
--- These bytes were heard, up to these: the packets among them come, in order, by steps that this connection causes.
-pub record Streams (number : ℕ) (had : Option Reading) (old : House) (bytes left : List ℕ) (now : Option Reading) (new : House) : Type 0 where
+-- These bytes were heard, up to these: the packets among them come, in order, by steps that this connection causes. Each is read from where
+-- the one before has left its connection's walker.
+pub record Streams (number : ℕ) (had : Option Reading) (old : House) (from : services.Service) (bytes left : List ℕ) (now : Option Reading) (new : House) (to : services.Service) : Type 0 where
   pub steps : List Step
   pub heard : List ℕ
   pub are : after_all old steps ≡ new
@@ -120,11 +124,12 @@ pub record Streams (number : ℕ) (had : Option Reading) (old : House) (bytes le
   pub caused : Each (CausesStep (Connection number)) steps
   pub bytes_are : bytes ≡ heard ++ left
   pub reads : ReadsBy had heard (packets_of steps) now
+  pub walks : Walks from old steps to
 
 -- All of them, or the connection is lost.
-pub record StreamsAll (number : ℕ) (had : Option Reading) (old : House) (bytes : List ℕ) (now : Option Reading) (new : House) : Type 0 where
+pub record StreamsAll (number : ℕ) (had : Option Reading) (old : House) (from : services.Service) (bytes : List ℕ) (now : Option Reading) (new : House) (to : services.Service) : Type 0 where
   pub left : List ℕ
-  pub streams : Streams number had old bytes left now new
+  pub streams : Streams number had old from bytes left now new to
   pub all : (left ≡ []) ⊎ (now ≡ None)
 
 -- A header that no packet has loses its connection.
@@ -133,35 +138,37 @@ if_heard None now = None
 if_heard (Some heard) now = now
 
 -- Whatever was heard before, these bytes are heard behind it.
-abbrev pub Continues : ℕ → List ℕ → List ℕ → Option Reading → Option Reading → House → House → Type 0
-Continues number left rest now next f g =
-    (had : Option Reading) (old : House) (bytes : List ℕ) → Streams number had old bytes left now f → Streams number had old bytes rest next g
+abbrev pub Continues : ℕ → List ℕ → List ℕ → Option Reading → Option Reading → House → services.Service → House → services.Service → Type 0
+Continues number left rest now next f at g to =
+    (had : Option Reading) (old : House) (from : services.Service) (bytes : List ℕ) → Streams number had old from bytes left now f at → Streams number had old from bytes rest next g to
 
 -- Bytes that come are heard, and then those who wait are served, by which nothing comes: the connection has just what was left of them,
 -- or isn't open.
-pub record Comes (number : ℕ) (had : Option Reading) (old : House) (bytes : List ℕ) (now : Option Reading) (new : House) : Type 0 where
+pub record Comes (number : ℕ) (had : Option Reading) (old : House) (from : services.Service) (bytes : List ℕ) (now : Option Reading) (new : House) (to : services.Service) : Type 0 where
   pub mid : House
   pub left : Option Reading
-  pub streams : StreamsAll number had old bytes left mid
+  pub at : services.Service
+  pub streams : StreamsAll number had old from bytes left mid at
   pub goes_on : (by : Cause) → Moves by mid.hall new.hall
   pub kept : new.posts ≡ mid.posts
   pub has : StaysAt left now
+  pub stand : AllStand at to
 
 -- ---- Over calls
 
--- What a call says of the connection of a number, which is open before it and behind it: from what its reader had to what it has. Bytes
--- come on the connection; or it is left so by another call.
+-- What a call says of the connection of a number, which is open before it and behind it: from what its reader had to what it has, and from
+-- where its walker stood to where it stands. Bytes come on the connection; or it is left so by another call.
 pub data Call (number : ℕ) : Type 0 where
-  Came : (had now : Reading) (bytes : List ℕ) (old new : House) → Comes number (Some had) old bytes (Some now) new → Call number
-  Another : (had now : Reading) → StaysAt (Some had) (Some now) → Call number
+  Came : (had now : Reading) (bytes : List ℕ) (old new : House) (from to : services.Service) → Comes number (Some had) old from bytes (Some now) new to → Call number
+  Another : (had now : Reading) (from to : services.Service) → StaysAt (Some had) (Some now) → AllStand from to → Call number
 
 abbrev pub had_before : {number : ℕ} → Call number → Reading
-had_before (Came had now bytes old new comes) = had
-had_before (Another had now stays) = had
+had_before (Came had now bytes old new from to comes) = had
+had_before (Another had now from to stays stand) = had
 
 abbrev pub has_behind : {number : ℕ} → Call number → Reading
-has_behind (Came had now bytes old new comes) = now
-has_behind (Another had now stays) = now
+has_behind (Came had now bytes old new from to comes) = now
+has_behind (Another had now from to stays stand) = now
 
 -- They follow each other, from this reader to this one.
 abbrev pub Follow : {number : ℕ} → Reading → List (Call number) → Reading → Type 0
@@ -171,11 +178,30 @@ Follow had (call ∷ calls) now = (had ≡ had_before call) × Follow (has_behin
 -- the bytes that come in them
 abbrev pub bytes_in : {number : ℕ} → List (Call number) → List ℕ
 bytes_in [] = []
-bytes_in (Came had now bytes old new comes ∷ calls) = bytes ++ bytes_in calls
-bytes_in (Another had now stays ∷ calls) = bytes_in calls
+bytes_in (Came had now bytes old new from to comes ∷ calls) = bytes ++ bytes_in calls
+bytes_in (Another had now from to stays stand ∷ calls) = bytes_in calls
 
 -- the packets that come by their steps
 abbrev pub packets_in : {number : ℕ} → List (Call number) → List (List ℕ)
 packets_in [] = []
-packets_in (Came had now bytes old new comes ∷ calls) = packets_of comes.streams.streams.steps ++ packets_in calls
-packets_in (Another had now stays ∷ calls) = packets_in calls
+packets_in (Came had now bytes old new from to comes ∷ calls) = packets_of comes.streams.streams.steps ++ packets_in calls
+packets_in (Another had now from to stays stand ∷ calls) = packets_in calls
+
+-- They follow each other from this service to this one.
+abbrev pub FollowAt : {number : ℕ} → services.Service → List (Call number) → services.Service → Type 0
+FollowAt from [] to = from ≡ to
+FollowAt from (Came had now bytes old new before behind comes ∷ calls) to = (from ≡ before) × FollowAt behind calls to
+FollowAt from (Another had now before behind stays stand ∷ calls) to = (from ≡ before) × FollowAt behind calls to
+
+-- where the connection's walker stands behind them
+abbrev pub stands_in : {number : ℕ} → walkers.Reading → List (Call number) → walkers.Reading
+stands_in r [] = r
+stands_in {number} r (Came had now bytes old new from to comes ∷ calls) = stands_in (stands_behind number r comes.streams.streams.steps) calls
+stands_in r (Another had now from to stays stand ∷ calls) = stands_in r calls
+
+-- Each packet in them is read from where the one before has left it.
+abbrev pub AreReadIn : {number : ℕ} → walkers.Reading → List (Call number) → Type 0
+AreReadIn r [] = Unit {0}
+AreReadIn {number} r (Came had now bytes old new from to comes ∷ calls) =
+    AreRead number r old comes.streams.streams.steps × AreReadIn (stands_behind number r comes.streams.streams.steps) calls
+AreReadIn r (Another had now from to stays stand ∷ calls) = AreReadIn r calls

@@ -6,6 +6,7 @@ ghost use Rattle.tds_relay.specs.Desk.{Serves, Unwaits, Waits, find_key, find_nu
 ghost use Rattle.tds_relay.specs.Desk.{owes_reset};
 ghost use Rattle.tds_relay.specs.Hall.{is_in};
 ghost use Rattle.tds_relay.specs.Ties.{Serving, Turns, desk_in};
+ghost use Rattle.tds_relay.specs.Walkers.{AllStand};
 
 mod asking;
 mod coming;
@@ -78,6 +79,7 @@ impl Desk {
     pub fn wait(&mut self, key: usize) -> Result<(), NoMemory>
         ensures ok { OnOk result (Turns (Waits key) (desk_in self.old) (desk_in self.new) [] []) }
         ensures err { OnErr result (desk_in self.new ≡ desk_in self.old) }
+        ensures service { self.new.service ≡ self.old.service }
     {
         self.line.push(key)?;
         Ok(())
@@ -85,7 +87,8 @@ impl Desk {
 
     /// It waits no more.
     pub fn unwait(&mut self, key: usize)
-        ensures { Turns (Unwaits key) (desk_in self.old) (desk_in self.new) [] [] }
+        ensures turns { Turns (Unwaits key) (desk_in self.old) (desk_in self.new) [] [] }
+        ensures service { self.new.service ≡ self.old.service }
     {
         remove_key(&mut self.line, key);
     }
@@ -103,6 +106,7 @@ impl Desk {
         ensures ok { IfOk result (λ served. Turns Serves (desk_in self.old) (desk_in self.new) [] []
             × Serving (desk_in self.old) served) }
         ensures err { OnErr result (desk_in self.new ≡ desk_in self.old) }
+        ensures stand { OnOk result (AllStand self.old.service self.new.service) }
     {
         let Some(key) = self.line.first().copied() else {
             return Ok(None);

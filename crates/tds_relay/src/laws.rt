@@ -25,9 +25,13 @@ ghost use Rattle.tds_relay.specs.Giving.{Visit, given_in, happens_in, pieces_of,
 ghost use Rattle.tds_relay.specs.Giving.{waits_in};
 ghost use Rattle.tds_relay.specs.House.{House, IsLedTo, MayAll, Step, Steps};
 ghost use Rattle.tds_packet.specs.Reading.{Reading, joined};
-ghost use Rattle.tds_relay.specs.Reads.{Call, Comes, Follow, Reads, bytes_in, open_at, packets_in};
+ghost use Rattle.tds_relay.specs.Reads.{AreReadIn, Call, Comes, Follow, FollowAt, Reads, bytes_in};
+ghost use Rattle.tds_relay.specs.Reads.{open_at, packets_in, stands_in};
 ghost use Rattle.tds_relay.specs.Taking.{Tells};
 ghost use Rattle.tds_relay.specs.Telling.{IsToldOnce, happens_to};
+ghost use Rattle.tds_relay.specs.Walkers.{StandsAt};
+ghost use Rattle.tds_service.specs.declared.service.Service.{Service};
+ghost use Rattle.tds_wire.specs.Reading as walkers;
 ghost use Rattle.tds_relay.specs.Ties as causes;
 ghost use Rattle.tds_relay.specs.Ties.{Cause, Causes, Connection, Goes, IsReached, Owns};
 
@@ -173,7 +177,8 @@ pub fn request_goes_on(relay: &mut Relay, key: usize, said: &[u8]) -> Result<(),
 /// connection that isn't open nothing comes.
 pub fn packets_that_came(relay: &mut Relay, number: u64, came: &[u8]) -> Result<(), NoMemory>
     ensures { OnOk result (Comes number (open_at number relay.old.links.items)
-        (house_in relay.old) came.now (open_at number relay.new.links.items) (house_in relay.new)) }
+        (house_in relay.old) relay.old.desk.service came.now
+        (open_at number relay.new.links.items) (house_in relay.new) relay.new.desk.service) }
 {
     relay.came(number, came)
 }
@@ -190,6 +195,15 @@ pub fn packets_over_calls()
 {
     reads_packets();
 }
+
+/// Over any calls, from where the walker of a connection stands: each packet that comes on it is read from where the
+/// one before has left the walker, and each message anew, while the service has the connection. Each call leaves the
+/// walkers of all other connections where they stood: its own contract says so (`AllStand`).
+pub fn read_over_calls()
+    ensures { (number : ℕ) (calls : List (Call number)) (from to : Service) (r : walkers.Reading)
+        → FollowAt from calls to → StandsAt number r from
+        → AreReadIn r calls × StandsAt number (stands_in r calls) to }
+{}
 
 /// Over any calls, and all that is sent in between: what an application is sent, and then what waits for it, are
 /// what waited and then what steps give it, in order, each whole; all of it, unless one didn't fit: then a front.

@@ -3,8 +3,11 @@ use Rattle.std.proofs.Common.{◌≡◌, ◌∙◌, ℕ, List, [], ◌∷◌, �
 use Rattle.std.specs.List.{AllByRecursion}
 use Rattle.tds_packet.specs.Reading.{Reading, joined, with_taken}
 use Rattle.tds_packet.specs.Stream.{IsLess, IsOnePacket}
+use Rattle.tds_service.specs.declared.service.Service.{Service}
+use Rattle.tds_wire.specs.Reading as walkers
 use Rattle.tds_relay.specs.House.{House}
-use Rattle.tds_relay.specs.Reads.{Another, Call, Came, Comes, Follow, Reads, bytes_in, packets_in, packets_of}
+use Rattle.tds_relay.specs.Reads.{Another, AreReadIn, Call, Came, Comes, Follow, FollowAt, Reads, bytes_in, packets_in, packets_of, stands_in}
+use Rattle.tds_relay.specs.Walkers.{StandsAt, stands_behind}
 use Rattle.tds_relay.proofs.bytes.Taking.{joined_both, more_are, reads_nothing}
 
 all_both : (P : List ℕ → Type 0) (xs ys : List (List ℕ)) → AllByRecursion P xs → AllByRecursion P ys → AllByRecursion P (xs ++ ys)
@@ -27,9 +30,9 @@ reads_both r mid now xs ys ps qs s t =
     }
 
 -- all of them were heard, for the connection is open behind them
-came_reads : (number : ℕ) (had now : Reading) (bytes : List ℕ) (old new : House) (c : Comes number (Some had) old bytes (Some now) new) → IsLess had had.taken
+came_reads : (number : ℕ) (had now : Reading) (bytes : List ℕ) (old new : House) (from to : Service) (c : Comes number (Some had) old from bytes (Some now) new to) → IsLess had had.taken
     → Reads had bytes (packets_of c.streams.streams.steps) (Some now)
-came_reads number had now bytes old new c few =
+came_reads number had now bytes old new from to c few =
     let s = c.streams.streams in
     let none_left : c.streams.left ≡ [] = elim c.streams.all [
       | inl none ↦ none
@@ -41,13 +44,26 @@ came_reads number had now bytes old new c few =
 
 pub follow_reads : {number : ℕ} (calls : List (Call number)) (had now : Reading) → IsLess had had.taken → Follow had calls now → Reads had (bytes_in calls) (packets_in calls) (Some now)
 follow_reads [] had now few f = subst (λ (x : Reading). Reads had [] [] (Some x)) f (reads_nothing had few)
-follow_reads {number} (Came r mid bytes old new c ∷ calls) had now few f =
+follow_reads {number} (Came r mid bytes old new from to c ∷ calls) had now few f =
     let first : Reads r bytes (packets_of c.streams.streams.steps) (Some mid) =
-    came_reads number r mid bytes old new c (subst (λ (x : Reading). IsLess x x.taken) f.0 few) in
+    came_reads number r mid bytes old new from to c (subst (λ (x : Reading). IsLess x x.taken) f.0 few) in
     let less : IsLess mid mid.taken = subst (λ (x : Reading). IsLess x x.taken) (sym first.holds.0) first.holds.1 in
     subst (λ (x : Reading). Reads x (bytes ++ bytes_in calls) (packets_of c.streams.streams.steps ++ packets_in calls) (Some now)) (sym f.0)
     (reads_both r mid now bytes (bytes_in calls) (packets_of c.streams.streams.steps) (packets_in calls) first (follow_reads calls mid now less f.1))
-follow_reads (Another r mid stays ∷ calls) had now few f =
+follow_reads (Another r mid from to stays stand ∷ calls) had now few f =
     let same : had ≡ mid = f.0 ∙ (let e : Some r ≡ Some mid = stays in cc) in
     subst (λ (x : Reading). Reads x (bytes_in calls) (packets_in calls) (Some now)) (sym same)
     (follow_reads calls mid now (subst (λ (x : Reading). IsLess x x.taken) same few) f.1)
+
+-- where its walker stands
+pub follow_stands : {number : ℕ} (calls : List (Call number)) (from to : Service) (r : walkers.Reading) → FollowAt from calls to → StandsAt number r from
+    → AreReadIn r calls × StandsAt number (stands_in r calls) to
+follow_stands {number} [] from to r f st = (tt, subst (λ (s : Service). StandsAt number r s) f st)
+follow_stands {number} (Came had now bytes old new before behind c ∷ calls) from to r f st =
+    let walks = c.streams.streams.walks in
+    let there = subst (λ (s : Service). StandsAt number r s) f.0 st in
+    let next = stands_behind number r c.streams.streams.steps in
+    let more = follow_stands calls behind to next f.1 (c.stand number next (walks.stand number r there)) in
+    ((walks.each number r there, more.0), more.1)
+follow_stands {number} (Another had now before behind stays stand ∷ calls) from to r f st =
+    follow_stands calls behind to r f.1 (stand number r (subst (λ (s : Service). StandsAt number r s) f.0 st))

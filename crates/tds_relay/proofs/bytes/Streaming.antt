@@ -6,7 +6,8 @@ use Rattle.tds_packet.specs.Layout.{header_bytes}
 use Rattle.tds_packet.specs.Reading as packets
 use Rattle.tds_packet.specs.Reading.{IsWhole, with_taken}
 use Rattle.tds_packet.specs.Stream.{IsLess}
-use Rattle.tds_wire.specs.Reading.{Reading}
+use Rattle.tds_service.specs.declared.service.Service.{Service}
+use Rattle.tds_service.specs.Table.{reading_on, service_in}
 use Rattle.tds_relay.specs.declared.desk.coming.Heard.{Heard}
 use Rattle.tds_relay.specs.declared.link.Link.{Link}
 use Rattle.tds_relay.specs.Cutting.{ends_in}
@@ -17,6 +18,8 @@ use Rattle.tds_relay.specs.House.{House, Step, Admits, CausesStep, Hands, Makes,
 use Rattle.tds_relay.specs.Posts.{Posts}
 use Rattle.tds_relay.specs.Reads.{Comes, Continues, Opens, Reads, ReadsBy, Stays, StaysAt, Streams, StreamsAll, if_heard, open_at, open_of, packets_of, place_of, reader_at, seen_of}
 use Rattle.tds_relay.specs.Ties.{Connection, part_on}
+use Rattle.tds_relay.specs.Walkers.{AllStand, ReadsBy as WalksBy, ReadsOn, Walks}
+use Rattle.tds_relay.proofs.bytes.Rereading.{walks_both, walks_hands, walks_makes, walks_none, walks_on}
 use Rattle.tds_relay.proofs.steps.Fronts.{each_both, no_moves}
 use Rattle.tds_relay.proofs.steps.Handed.{may_hand}
 use Rattle.tds_relay.proofs.steps.Staying.{IsAt, gone_open, is_at, is_nowhere, is_open_at, is_shut_at, stays_opens}
@@ -44,16 +47,16 @@ begins_by : (had : Option packets.Reading) → ReadsBy had [] [] had
 begins_by None = (refl, refl)
 begins_by (Some r) = λ few. reads_nothing r few
 
-pub streams_begin : (number : ℕ) (had : Option packets.Reading) (h : House) (bytes : List ℕ) → Streams number had h bytes bytes had h
-streams_begin number had h bytes = record { steps = []; heard = []; are = refl; may = tt; caused = tt; bytes_are = refl; reads = begins_by had }
+pub streams_begin : (number : ℕ) (had : Option packets.Reading) (h : House) (s : Service) (bytes : List ℕ) → Streams number had h s bytes bytes had h s
+streams_begin number had h s bytes = record { steps = []; heard = []; are = refl; may = tt; caused = tt; bytes_are = refl; reads = begins_by had; walks = walks_none s h }
 
-pub streams_left : (number : ℕ) (had now : Option packets.Reading) (old h : House) (bytes left rest : List ℕ) → rest ≡ left → Streams number had old bytes left now h → Streams number had old bytes rest now h
-streams_left number had now old h bytes left rest is s = subst (λ (xs : List ℕ). Streams number had old bytes xs now h) (sym is) s
+pub streams_left : (number : ℕ) (had now : Option packets.Reading) (old h : House) (from to : Service) (bytes left rest : List ℕ) → rest ≡ left → Streams number had old from bytes left now h to → Streams number had old from bytes rest now h to
+streams_left number had now old h from to bytes left rest is s = subst (λ (xs : List ℕ). Streams number had old from bytes xs now h to) (sym is) s
 
 -- the hall moves on, and nothing more comes of the connection
-pub streams_go : (number : ℕ) (had now next : Option packets.Reading) (old : House) (h h1 : Hall) (ps ps1 : Posts) (bytes left : List ℕ)
-    → Moves (Connection number) h h1 → ps1 ≡ ps → StaysAt now next → Streams number had old bytes left now (record { hall = h; posts = ps }) → Streams number had old bytes left next (record { hall = h1; posts = ps1 })
-streams_go number had now next old h h1 ps ps1 bytes left m kept stays s =
+pub streams_go : (number : ℕ) (had now next : Option packets.Reading) (old : House) (from at to : Service) (h h1 : Hall) (ps ps1 : Posts) (bytes left : List ℕ)
+    → Moves (Connection number) h h1 → ps1 ≡ ps → StaysAt now next → AllStand at to → Streams number had old from bytes left now (record { hall = h; posts = ps }) at → Streams number had old from bytes left next (record { hall = h1; posts = ps1 }) to
+streams_go number had now next old from at to h h1 ps ps1 bytes left m kept stays stand s =
     let more : List Step = makes_all m.moves in
     let mid : House = record { hall = h; posts = ps } in
     let same : packets_of s.steps ≡ packets_of (s.steps ++ more) =
@@ -69,15 +72,18 @@ streams_go number had now next old h h1 ps ps1 bytes left m kept stays s =
       caused = each_both (CausesStep (Connection number)) s.steps more s.caused (caused_makes (Connection number) m.moves m.caused);
       bytes_are = s.bytes_are;
       reads = subst (λ (xs : List (List ℕ)). ReadsBy had s.heard xs next) same (reads_stays had s.heard (packets_of s.steps) now next stays s.reads);
+      walks = walks_both from at to old s.steps more s.walks (walks_makes at to (after_all old s.steps) m.moves stand);
     }
 
-pub streams_moved : (number : ℕ) (had now next : Option packets.Reading) (old : House) (h h1 : Hall) (ps ps1 : Posts) (bytes left : List ℕ)
-    → Moved (Connection number) h h1 → ps1 ≡ ps → StaysAt now next → Streams number had old bytes left now (record { hall = h; posts = ps }) → Streams number had old bytes left next (record { hall = h1; posts = ps1 })
-streams_moved number had now next old h h1 ps ps1 bytes left m kept stays s = streams_go number had now next old h h1 ps ps1 bytes left (m h (no_moves (Connection number) h)) kept stays s
+pub streams_moved : (number : ℕ) (had now next : Option packets.Reading) (old : House) (from at to : Service) (h h1 : Hall) (ps ps1 : Posts) (bytes left : List ℕ)
+    → Moved (Connection number) h h1 → ps1 ≡ ps → StaysAt now next → AllStand at to → Streams number had old from bytes left now (record { hall = h; posts = ps }) at
+    → Streams number had old from bytes left next (record { hall = h1; posts = ps1 }) to
+streams_moved number had now next old from at to h h1 ps ps1 bytes left m kept stays stand s =
+    streams_go number had now next old from at to h h1 ps ps1 bytes left (m h (no_moves (Connection number) h)) kept stays stand s
 
 -- steps of a call
-pub streams_steps : (number : ℕ) (had now : Option packets.Reading) (old new : House) (bytes left : List ℕ) → Streams number had old bytes left now new → Steps (Connection number) old new
-streams_steps number had now old new bytes left s = record { steps = s.steps; are = s.are; may = s.may; caused = s.caused }
+pub streams_steps : (number : ℕ) (had now : Option packets.Reading) (old new : House) (from to : Service) (bytes left : List ℕ) → Streams number had old from bytes left now new to → Steps (Connection number) old new
+streams_steps number had now old new from to bytes left s = record { steps = s.steps; are = s.are; may = s.may; caused = s.caused }
 
 -- bytes that were heard, and the others
 heard_more : (bytes heard left : List ℕ) (count : ℕ) → bytes ≡ heard ++ left → bytes ≡ (heard ++ take count left) ++ drop count left
@@ -85,9 +91,9 @@ heard_more bytes heard left count e =
     e ∙ ap (λ (xs : List ℕ). heard ++ xs) (sym (take-append-drop count left)) ∙ sym (append_assoc heard (take count left) (drop count left))
 
 -- nobody hears them, for the connection isn't there; or it will be so
-pub streams_unheard : (number : ℕ) (had now : Option packets.Reading) (old f g : House) (bytes left : List ℕ) (count : ℕ) → g ≡ f
-    → Streams number had old bytes left now f → Streams number had old bytes (drop count left) None g
-streams_unheard number had now old f g bytes left count same s = record {
+pub streams_unheard : (number : ℕ) (had now : Option packets.Reading) (old f g : House) (from at to : Service) (bytes left : List ℕ) (count : ℕ) → g ≡ f → AllStand at to
+    → Streams number had old from bytes left now f at → Streams number had old from bytes (drop count left) None g to
+streams_unheard number had now old f g from at to bytes left count same stand s = record {
   steps = s.steps;
   heard = s.heard ++ take count left;
   are = s.are ∙ sym same;
@@ -95,6 +101,7 @@ streams_unheard number had now old f g bytes left count same s = record {
   caused = s.caused;
   bytes_are = heard_more bytes s.heard left count s.bytes_are;
   reads = reads_gone had s.heard (take count left) (packets_of s.steps) (reads_stays had s.heard (packets_of s.steps) now None tt s.reads);
+  walks = walks_on from at to old s.steps s.walks stand;
 }
 
 less_by : (had now : Option packets.Reading) (r next : packets.Reading) (bytes more : List ℕ) (ps : List (List ℕ)) → ReadsBy had bytes ps now → now ≡ Some r → next ≡ with_taken r (r.taken ++ more) → IsLess next next.taken
@@ -108,9 +115,11 @@ packet_by None now r next bytes more ps s is whole fed = absurd (let none = s.1 
 packet_by (Some h) now r next bytes more ps s is whole fed = λ begins. reads_packet h r next bytes more ps (subst (λ (o : Option packets.Reading). Reads h bytes ps o) is (s begins)) whole fed
 
 -- what they are with what was there
-pub streams_hear : (number : ℕ) (walker : Option Reading) (had now : Option packets.Reading) (link next : Link) (old f g : House) (bytes left : List ℕ) (count : ℕ) (heard : Heard)
-    → now ≡ Some link.reader → Hears number walker link next left count heard f g → Streams number had old bytes left now f → Streams number had old bytes (drop count left) (Some next.reader) g
-streams_hear number walker had now link next old f g bytes left count heard is hears s =
+pub streams_hear : (number : ℕ) (had now : Option packets.Reading) (link next : Link) (old f g : House) (from at to : Service) (bytes left : List ℕ) (count : ℕ) (heard : Heard)
+    → now ≡ Some link.reader → f.hall.desk.service ≡ service_in at → Hears number (reading_on number at) link next left count heard f g → ReadsOn number (fed link.reader left) at to
+    → Streams number had old from bytes left now f at → Streams number had old from bytes (drop count left) (Some next.reader) g to
+streams_hear number had now link next old f g from at to bytes left count heard is its hears reads s =
+    let walker = reading_on number at in
     let more : List ℕ = take count left in
     let r : packets.Reading = fed link.reader left in
     let same : r ≡ with_taken link.reader (link.reader.taken ++ more) = ap (λ (xs : List ℕ). with_taken link.reader xs) hears.taken in
@@ -123,6 +132,7 @@ streams_hear number walker had now link next old f g bytes left count heard is h
         caused = s.caused;
         bytes_are = heard_more bytes s.heard left count s.bytes_are;
         reads = less_by had now link.reader next.reader s.heard more (packets_of s.steps) s.reads is (hears.done.less none.0 ∙ same) hears.less;
+        walks = walks_on from at to old s.steps s.walks (reads.none none.0);
       }
       | inr p ↦
           let step : Step = Hands number p.header p.content (part_on walker p.content (ends_in p.header)) p.way p.manner in
@@ -140,82 +150,90 @@ streams_hear number walker had now link next old f g bytes left count heard is h
             bytes_are = heard_more bytes s.heard left count s.bytes_are;
             reads = subst (λ (ps : List (List ℕ)). ReadsBy had (s.heard ++ more) ps (Some next.reader)) all
                 (packet_by had now link.reader next.reader s.heard more (packets_of s.steps) s.reads is (subst (λ (x : packets.Reading). IsWhole x) same whole) (hears.done.whole whole));
+            walks = walks_both from at to old s.steps (step ∷ []) s.walks
+                (subst (λ (h : House). Walks at h (step ∷ []) to) (sym s.are)
+                (walks_hands number p.header p.content p.way p.manner at to f its (reads.one p.header p.content p.packet)));
           }
     ]
 
 -- ---- As calls answer
 
-hear_by : (number : ℕ) (walker : Option Reading) (link next : Link) (piece : List ℕ) (now behind : Option packets.Reading) (f g : House) (count : ℕ) (heard : Option Heard)
-    → now ≡ Some link.reader → behind ≡ Some next.reader → HearsBy number walker link next piece count heard f g → Continues number piece (drop count piece) now (if_heard heard behind) f g
-hear_by number walker link next piece now behind f g count None is after h = λ had old bytes s. streams_unheard number had now old f g bytes piece count h.1 s
-hear_by number walker link next piece now behind f g count (Some heard) is after h = λ had old bytes s.
-    subst (λ (o : Option packets.Reading). Streams number had old bytes (drop count piece) o g) (sym after)
-    (streams_hear number walker had now link next old f g bytes piece count heard is h s)
+hear_by : (number : ℕ) (link next : Link) (piece : List ℕ) (now behind : Option packets.Reading) (f g : House) (at to : Service) (count : ℕ) (heard : Option Heard)
+    → now ≡ Some link.reader → behind ≡ Some next.reader → f.hall.desk.service ≡ service_in at → HearsBy number (reading_on number at) link next piece count heard f g
+    → WalksBy number (fed link.reader piece) heard at to → Continues number piece (drop count piece) now (if_heard heard behind) f at g to
+hear_by number link next piece now behind f g at to count None is after its h walks = λ had old from bytes s. streams_unheard number had now old f g from at to bytes piece count h.1 walks s
+hear_by number link next piece now behind f g at to count (Some heard) is after its h walks = λ had old from bytes s.
+    subst (λ (o : Option packets.Reading). Streams number had old from bytes (drop count piece) o g to) (sym after)
+    (streams_hear number had now link next old f g from at to bytes piece count heard is its h walks s)
 
-pub hear_ok : {E : Type 0} (r : Result (ℕ × Option Heard) E) (number : ℕ) (walker : Option Reading) (link next : Link) (piece : List ℕ) (now behind : Option packets.Reading) (f : House) (g : Option Heard → House)
-    → now ≡ Some link.reader → behind ≡ Some next.reader → IfOk r (λ heard. HearsBy number walker link next piece heard.0 heard.1 f (g heard.1))
-    → IfOk r (λ heard. Continues number piece (drop heard.0 piece) now (if_heard heard.1 behind) f (g heard.1))
-hear_ok (Ok x) number walker link next piece now behind f g is after h = hear_by number walker link next piece now behind f (g x.1) x.0 x.1 is after h
-hear_ok (Err e) number walker link next piece now behind f g is after h = tt
+pub hear_ok : {E : Type 0} (r : Result (ℕ × Option Heard) E) (number : ℕ) (link next : Link) (piece : List ℕ) (now behind : Option packets.Reading) (f : House) (g : Option Heard → House) (at to : Service)
+    → now ≡ Some link.reader → behind ≡ Some next.reader → f.hall.desk.service ≡ service_in at → IfOk r (λ heard. HearsBy number (reading_on number at) link next piece heard.0 heard.1 f (g heard.1))
+    → IfOk r (λ heard. WalksBy number (fed link.reader piece) heard.1 at to)
+    → IfOk r (λ heard. Continues number piece (drop heard.0 piece) now (if_heard heard.1 behind) f at (g heard.1) to)
+hear_ok (Ok x) number link next piece now behind f g at to is after its h walks = hear_by number link next piece now behind f (g x.1) at to x.0 x.1 is after its h walks
+hear_ok (Err e) number link next piece now behind f g at to is after its h walks = tt
 
 -- it is open, and what has come of a packet is written back
-pub hear_at : {E : Type 0} (r : Result (ℕ × Option Heard) E) (number : ℕ) (walker : Option Reading) (ls : List Link) (place : ℕ) (l next : Link) (piece : List ℕ) (f : House) (g : Option Heard → House)
-    → place_of number ls ≡ Some place → l ≡ slice_index_or ls place l → next.number ≡ l.number → l.is_open ≡ true → next.is_open ≡ l.is_open
-    → IfOk r (λ heard. HearsBy number walker l next piece heard.0 heard.1 f (g heard.1))
-    → IfOk r (λ heard. Continues number piece (drop heard.0 piece) (open_at number ls) (if_heard heard.1 (open_at number (slice_set ls place next))) f (g heard.1))
-hear_at r number walker ls place l next piece f g is there same is_open stays h =
+pub hear_at : {E : Type 0} (r : Result (ℕ × Option Heard) E) (number : ℕ) (ls : List Link) (place : ℕ) (l next : Link) (piece : List ℕ) (f : House) (g : Option Heard → House) (from to : Service)
+    → place_of number ls ≡ Some place → l ≡ slice_index_or ls place l → next.number ≡ l.number → l.is_open ≡ true → next.is_open ≡ l.is_open → f.hall.desk.service ≡ service_in from
+    → IfOk r (λ heard. HearsBy number (reading_on number from) l next piece heard.0 heard.1 f (g heard.1)) → IfOk r (λ heard. WalksBy number (fed l.reader piece) heard.1 from to)
+    → IfOk r (λ heard. Continues number piece (drop heard.0 piece) (open_at number ls) (if_heard heard.1 (open_at number (slice_set ls place next))) f from (g heard.1) to)
+hear_at r number ls place l next piece f g from to is there same is_open stays its h walks =
     let at : IsAt number ls place = is_at number ls place is in
-    hear_ok r number walker l next piece (open_at number ls) (open_at number (slice_set ls place next)) f g
+    hear_ok r number l next piece (open_at number ls) (open_at number (slice_set ls place next)) f g from to
     (is_open_at number ls l (at.found l ∙ ap Some (sym there)) is_open)
-    (is_open_at number (slice_set ls place next) next (at.written l next (same ∙ ap (λ (x : Link). x.number) there)) (stays ∙ is_open)) h
+    (is_open_at number (slice_set ls place next) next (at.written l next (same ∙ ap (λ (x : Link). x.number) there)) (stays ∙ is_open)) its h walks
 
 -- it isn't open
-unheard_by : (number : ℕ) (piece : List ℕ) (count : ℕ) (now next : Option packets.Reading) (f : House) → next ≡ None → Continues number piece (drop count piece) now next f f
-unheard_by number piece count now next f none = λ had old bytes s.
-    subst (λ (o : Option packets.Reading). Streams number had old bytes (drop count piece) o f) (sym none) (streams_unheard number had now old f f bytes piece count refl s)
+unheard_by : (number : ℕ) (piece : List ℕ) (count : ℕ) (now next : Option packets.Reading) (f : House) (at : Service) → next ≡ None → Continues number piece (drop count piece) now next f at f at
+unheard_by number piece count now next f at none = λ had old from bytes s.
+    subst (λ (o : Option packets.Reading). Streams number had old from bytes (drop count piece) o f at) (sym none) (streams_unheard number had now old f f from at at bytes piece count refl (λ n r st. st) s)
 
-pub unopened : (number : ℕ) (piece : List ℕ) (count : ℕ) (ls : List Link) (place : ℕ) (l : Link) (f : House) → place_of number ls ≡ Some place → l ≡ slice_index_or ls place l → l.is_open ≡ false
-    → Continues number piece (drop count piece) (open_at number ls) (open_at number (slice_set ls place l)) f f
-unopened number piece count ls place l f is there closed =
-    unheard_by number piece count (open_at number ls) (open_at number (slice_set ls place l)) f
+pub unopened : (number : ℕ) (piece : List ℕ) (count : ℕ) (ls : List Link) (place : ℕ) (l : Link) (f : House) (at : Service) → place_of number ls ≡ Some place → l ≡ slice_index_or ls place l → l.is_open ≡ false
+    → Continues number piece (drop count piece) (open_at number ls) (open_at number (slice_set ls place l)) f at f at
+unopened number piece count ls place l f at is there closed =
+    unheard_by number piece count (open_at number ls) (open_at number (slice_set ls place l)) f at
     (is_shut_at number (slice_set ls place l) l ((is_at number ls place is).written l l (ap (λ (x : Link). x.number) there)) closed)
 
 -- it isn't there
-pub unheard : (number : ℕ) (piece : List ℕ) (count : ℕ) (ls : List Link) (f : House) → place_of number ls ≡ None → Continues number piece (drop count piece) (open_at number ls) (open_at number ls) f f
-unheard number piece count ls f is =
-    unheard_by number piece count (open_at number ls) (open_at number ls) f (ap (λ (o : Option Link). open_of (option_map seen_of o)) (is_nowhere number ls is))
+pub unheard : (number : ℕ) (piece : List ℕ) (count : ℕ) (ls : List Link) (f : House) (at : Service) → place_of number ls ≡ None → Continues number piece (drop count piece) (open_at number ls) (open_at number ls) f at f at
+unheard number piece count ls f at is =
+    unheard_by number piece count (open_at number ls) (open_at number ls) f at (ap (λ (o : Option Link). open_of (option_map seen_of o)) (is_nowhere number ls is))
 
 heard_stays : (number : ℕ) (heard : Option Heard) (ls ms : List Link) → Stays ls ms → (IsNone heard → reader_at number ms ≡ None) → StaysAt (if_heard heard (open_at number ls)) (open_at number ms)
 heard_stays number None ls ms stays gone = subst (λ (o : Option packets.Reading). StaysAt None o) (sym (gone_open number ms (gone refl))) tt
 heard_stays number (Some heard) ls ms stays gone = stays_opens ls ms stays number
 
 -- bytes are heard, and what came of them is done
-pub streams_on : (number : ℕ) (had : Option packets.Reading) (old f : House) (h h1 : Hall) (ps ps1 : Posts) (bytes left rest : List ℕ) (heard : Option Heard) (now : Option packets.Reading) (ls ms : List Link)
-    → Streams number had old bytes left now f → Continues number left rest now (if_heard heard (open_at number ls)) f (record { hall = h; posts = ps })
-    → Moved (Connection number) h h1 → ps1 ≡ ps → Stays ls ms → (IsNone heard → reader_at number ms ≡ None) → Streams number had old bytes rest (open_at number ms) (record { hall = h1; posts = ps1 })
-streams_on number had old f h h1 ps ps1 bytes left rest heard now ls ms s hears m kept stays gone =
-    streams_moved number had (if_heard heard (open_at number ls)) (open_at number ms) old h h1 ps ps1 bytes rest m kept (heard_stays number heard ls ms stays gone) (hears had old bytes s)
+pub streams_on : (number : ℕ) (had : Option packets.Reading) (old f : House) (from at between to : Service) (h h1 : Hall) (ps ps1 : Posts) (bytes left rest : List ℕ) (heard : Option Heard) (now : Option packets.Reading) (ls ms : List Link)
+    → Streams number had old from bytes left now f at → Continues number left rest now (if_heard heard (open_at number ls)) f at (record { hall = h; posts = ps }) between
+    → Moved (Connection number) h h1 → ps1 ≡ ps → Stays ls ms → (IsNone heard → reader_at number ms ≡ None) → AllStand between to → Streams number had old from bytes rest (open_at number ms) (record { hall = h1; posts = ps1 }) to
+streams_on number had old f from at between to h h1 ps ps1 bytes left rest heard now ls ms s hears m kept stays gone stand =
+    streams_moved number had (if_heard heard (open_at number ls)) (open_at number ms) old from between to h h1 ps ps1 bytes rest m kept (heard_stays number heard ls ms stays gone) stand (hears had old from bytes s)
 
 -- the connection is lost, and what is left of them isn't heard
-pub streams_lost : {A E : Type 0} (r : Result A E) (number : ℕ) (had now next : Option packets.Reading) (old : House) (h h1 : Hall) (ps ps1 : Posts) (bytes left : List ℕ)
-    → Streams number had old bytes left now (record { hall = h; posts = ps }) → OnOk r (MovedOn h h1) → OnOk r (ps1 ≡ ps) → OnOk r (next ≡ None) → OnOk r (StreamsAll number had old bytes next (record { hall = h1; posts = ps1 }))
-streams_lost (Ok x) number had now next old h h1 ps ps1 bytes left s m kept gone = record {
+pub streams_lost : {A E : Type 0} (r : Result A E) (number : ℕ) (had now next : Option packets.Reading) (old : House) (from at to : Service) (h h1 : Hall) (ps ps1 : Posts) (bytes left : List ℕ)
+    → Streams number had old from bytes left now (record { hall = h; posts = ps }) at → OnOk r (MovedOn h h1) → OnOk r (ps1 ≡ ps) → OnOk r (next ≡ None) → OnOk r (AllStand at to)
+    → OnOk r (StreamsAll number had old from bytes next (record { hall = h1; posts = ps1 }) to)
+streams_lost (Ok x) number had now next old from at to h h1 ps ps1 bytes left s m kept gone stand = record {
   left = left;
-  streams = streams_moved number had now next old h h1 ps ps1 bytes left (m (Connection number)) kept (subst (λ (o : Option packets.Reading). StaysAt now o) (sym gone) tt) s;
+  streams = streams_moved number had now next old from at to h h1 ps ps1 bytes left (m (Connection number)) kept (subst (λ (o : Option packets.Reading). StaysAt now o) (sym gone) tt) stand s;
   all = inr gone;
 }
-streams_lost (Err e) number had now next old h h1 ps ps1 bytes left s m kept gone = tt
+streams_lost (Err e) number had now next old from at to h h1 ps ps1 bytes left s m kept gone stand = tt
 
 -- and then those who wait are served
-pub comes : {A E : Type 0} (r : Result A E) (number : ℕ) (had : Option packets.Reading) (old : House) (h h1 : Hall) (ps ps1 : Posts) (bytes : List ℕ) (ls ms : List Link)
-    → StreamsAll number had old bytes (open_at number ls) (record { hall = h; posts = ps }) → OnOk r (MovedOn h h1) → OnOk r (ps1 ≡ ps) → OnOk r (Opens ls ms)
-    → OnOk r (Comes number had old bytes (open_at number ms) (record { hall = h1; posts = ps1 }))
-comes (Ok x) number had old h h1 ps ps1 bytes ls ms s on kept opens = record {
+pub comes : {A E : Type 0} (r : Result A E) (number : ℕ) (had : Option packets.Reading) (old : House) (from at to : Service) (h h1 : Hall) (ps ps1 : Posts) (bytes : List ℕ) (ls ms : List Link)
+    → StreamsAll number had old from bytes (open_at number ls) (record { hall = h; posts = ps }) at → OnOk r (MovedOn h h1) → OnOk r (ps1 ≡ ps) → OnOk r (Opens ls ms) → OnOk r (AllStand at to)
+    → OnOk r (Comes number had old from bytes (open_at number ms) (record { hall = h1; posts = ps1 }) to)
+comes (Ok x) number had old from at to h h1 ps ps1 bytes ls ms s on kept opens stand = record {
   mid = record { hall = h; posts = ps };
   left = open_at number ls;
+  at = at;
   streams = s;
   goes_on = λ by. on by h (no_moves by h);
   kept = kept;
   has = opens number;
+  stand = stand;
 }
-comes (Err e) number had old h h1 ps ps1 bytes ls ms s on kept opens = tt
+comes (Err e) number had old from at to h h1 ps ps1 bytes ls ms s on kept opens stand = tt

@@ -187,6 +187,22 @@ came_settled d new n part way s1 lease a out after one answers is holder settled
     (turns_by d (desk.Comes n part way) (service_after s1 all) d.holds d.line (call ∷ all) out after goes
     (made_at call all d.service s1 (service_after s1 all) calls.Did n out after one others))
 
+-- it has a fault, and the connection is lost
+pub came_wrong : (d new : Desk) (n : ℕ) (part : Part Token) (way : Way) (s1 : Service) (a : Answer) (out : List ℕ)
+    → StepsIn (step d.service (calls.Came n part)) s1 calls.Did n [] [] → Answers (calls.Came n part) d.service a → desk.hearing_of a ≡ desk.Wrong
+    → Turns (desk.Loses n) (record { service = s1; holds = d.holds; line = d.line }) new [] [] → Turns (desk.Comes n part way) d new out out
+came_wrong d new n part way s1 a out one answers is lost =
+    let heard = step {T = Token} d.service (calls.Came n part) in
+    let call : Call Token = calls.Came n part in
+    let all : List (Call Token) = call ∷ calls.Lost n ∷ [] in
+    let held = desk.without_number n d.holds in
+    let s2 = lost_by s1 n in
+    let goes : turn d (desk.Comes n part way) ≡ moves d held d.line all =
+    ap (λ (h : desk.Hearing). desk.comes_by d call heard.service n way (lease_at (seat_numbered n d.service.seats)) h) (hearing_answers a heard.dones answers ∙ is) in
+    subst (λ (x : Desk). Turns (desk.Comes n part way) d x out out) (sym lost.desk_is)
+    (turns_by d (desk.Comes n part way) s2 held d.line all out out goes
+    (made_at call (calls.Lost n ∷ []) d.service s1 s2 calls.Did n out out one (makes_lost s1 s2 n out refl)))
+
 came_nothing : (d : Desk) (n : ℕ) (part : Part Token) (way : Way) → seat_numbered n d.service.seats ≡ None → turn d (desk.Comes n part way) ≡ moves d d.holds d.line (calls.Came n part ∷ [])
 came_nothing d n part way e = rw e refl
 

@@ -82,7 +82,7 @@ away_where_it_enters max key alone by judges v =
     subst (IsAway key) at.is away
 
 -- its coming does nothing at the desk
-desk_is : (max key : ℕ) (v : Visit max key) → (house_in v).hall.desk ≡ desk_after (new_desk max) (done_before v)
+pub desk_is : (max key : ℕ) (v : Visit max key) → (house_in v).hall.desk ≡ desk_after (new_desk max) (done_before v)
 desk_is max key v =
     ap (λ (h : House). h.hall.desk) (came max key v).house_is ∙ ap (λ (h : Hall). h.desk) (hall_after (new_house max) v.before) ∙ desk_along (new_hall max) (moves_in v.before)
 

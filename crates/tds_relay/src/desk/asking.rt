@@ -6,6 +6,7 @@ ghost use Rattle.tds_service.specs.Table.{DoesAt, KeepsClients, Opens};
 ghost use Rattle.tds_relay.specs.Asking.{SendsOn};
 ghost use Rattle.tds_relay.specs.Desk.{Asks, Does, Ends, Puts, Stops, find_key};
 ghost use Rattle.tds_relay.specs.Ties.{Turns, desk_in};
+ghost use Rattle.tds_relay.specs.Walkers.{AllStand};
 
 use super::lists::find_key;
 use super::{Desk, Hold};
@@ -24,6 +25,7 @@ impl Desk {
         ensures clients { IfOk result (λ hold.
             KeepsClients hold.lease self.old.service self.new.service) }
         ensures err { OnErr result (desk_in self.new ≡ desk_in self.old) }
+        ensures stand { AllStand self.old.service self.new.service }
     {
         let Some(hold) = find_key(&self.holds, key) else {
             return Err(Refusal::Unknown);
@@ -45,6 +47,7 @@ impl Desk {
         ensures clients { IfOk result (λ hold.
             KeepsClients hold.lease self.old.service self.new.service) }
         ensures err { OnErr result (desk_in self.new ≡ desk_in self.old) }
+        ensures stand { AllStand self.old.service self.new.service }
         ensures nothing { OnErr result (out.new.items ≡ out.old.items) }
     {
         let Some(hold) = find_key(&self.holds, key) else {
@@ -67,6 +70,7 @@ impl Desk {
         ensures clients { IfOk result (λ hold.
             KeepsClients hold.lease self.old.service self.new.service) }
         ensures err { OnErr result (desk_in self.new ≡ desk_in self.old) }
+        ensures stand { AllStand self.old.service self.new.service }
         ensures nothing { OnErr result (out.new.items ≡ out.old.items) }
     {
         let Some(hold) = find_key(&self.holds, key) else {
@@ -84,6 +88,7 @@ impl Desk {
             (desk_in self.old) (desk_in self.new) out.old.items out.new.items) }
         ensures whose { IfOk result (λ done. find_key key (desk_in self.old).holds ≡ Some done.0) }
         ensures err { OnErr result (desk_in self.new ≡ desk_in self.old) }
+        ensures stand { AllStand self.old.service self.new.service }
         ensures nothing { OnErr result (out.new.items ≡ out.old.items) }
     {
         let Some(hold) = find_key(&self.holds, key) else {

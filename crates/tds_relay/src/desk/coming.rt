@@ -5,6 +5,7 @@ ghost use Rattle.tds_relay.specs.Desk.{Comes, Way, cleaned_by, settles, whose, w
 ghost use Rattle.tds_relay.specs.Fronts.{IsWhat};
 ghost use Rattle.tds_relay.specs.Hall.{done_by};
 ghost use Rattle.tds_relay.specs.Ties.{Makes, Settles, Turns, desk_in, part_on};
+ghost use Rattle.tds_relay.specs.Walkers.{AllRead, AllStand};
 
 use super::Desk;
 use super::leaving::{clean, forget};
@@ -35,8 +36,10 @@ pub struct Heard {
 
 /// A cleaning has its answer. False where the connection is in the service no longer.
 fn cleaned(service: &mut Service, number: u64, lease: u64) -> Result<bool, NoMemory>
-    ensures { OnOk result ((out : List ℕ) → Makes (cleaned_by (service_in service.old) number lease)
+    ensures makes { OnOk result ((out : List ℕ)
+        → Makes (cleaned_by (service_in service.old) number lease)
         (service_in service.old) (service_in service.new) out out) }
+    ensures stand { OnOk result (AllStand service.old service.new) }
 {
     match service.cleaned(lease) {
         Ok((_, Rest::Free)) => Ok(true),
@@ -98,6 +101,8 @@ impl Desk {
         ensures heard { IfOk result (λ heard. IsWhat heard.key heard.what
             (done_by (desk_in self.old) number
             (part_on (reading_on number self.old.service) bytes.now ends))) }
+        ensures read { OnOk result (AllRead number ends bytes.now self.old.service
+            self.new.service) }
     {
         let came = match self.service.heard(number, bytes, ends) {
             Ok(came) => came,
@@ -143,6 +148,7 @@ impl Desk {
             out.old.items out.new.items) }
         ensures what { IfOk result (λ heard. (key : ℕ)
             → whose_by lease (desk_in self.old).holds ≡ Some key → heard ≡ what) }
+        ensures stand { OnOk result (AllStand self.old.service self.new.service) }
     {
         match lease {
             Some(lease) => match find_lease(&self.holds, lease) {

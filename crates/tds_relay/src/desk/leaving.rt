@@ -1,9 +1,10 @@
 //! Connections that are let go, and cleaned; that come without being asked for; and that are lost.
-ghost use Rattle.std.specs.Prelude.{◌≡◌, [], Bool, IfOk, OnOk};
-ghost use Rattle.tds_service.specs.Table.{service_in};
+ghost use Rattle.std.specs.Prelude.{◌≡◌, [], Bool, IfOk, None, OnOk};
+ghost use Rattle.tds_service.specs.Table.{reading_on, service_in};
 ghost use Rattle.tds_relay.specs.Desk.{Brings, Leaves, Loses, Renews, Way, cleaning, find_key, find_number};
 ghost use Rattle.tds_relay.specs.Desk.{key_of, releasing};
 ghost use Rattle.tds_relay.specs.Ties.{IsNumberOf, Makes, Turns, desk_in, is_sent, lost_by};
+ghost use Rattle.tds_relay.specs.Walkers.{AllStand, IsLed};
 
 use super::lists::{find_key, find_number, remove_key, remove_lease, remove_number};
 use super::{Desk, Hold};
@@ -32,7 +33,11 @@ pub enum Renewed {
 
 /// The service has this connection no more.
 pub(super) fn forget(service: &mut Service, number: u64) -> Result<(), NoMemory>
-    ensures { OnOk result (service_in service.new ≡ lost_by (service_in service.old) number) }
+    ensures lost { OnOk result (service_in service.new
+        ≡ lost_by (service_in service.old) number) }
+    ensures stand { OnOk result (AllStand service.old service.new) }
+    ensures gone { OnOk result (IsLed (service_in service.old)
+        → reading_on number service.new ≡ None) }
 {
     match service.lost(number) {
         Ok(()) => Ok(()),
@@ -49,9 +54,10 @@ pub(super) fn clean(
     text: &[u8],
     out: &mut Vec<u8>,
 ) -> Result<bool, NoMemory>
-    ensures { IfOk result (λ is_there. (way : Way) × (is_there ≡ is_sent way)
+    ensures makes { IfOk result (λ is_there. (way : Way) × (is_there ≡ is_sent way)
         × Makes (cleaning (service_in service.old) number way) (service_in service.old)
         (service_in service.new) out.old.items out.new.items) }
+    ensures stand { OnOk result (AllStand service.old service.new) }
 {
     let Ok(lent) = service.clean(number) else {
         forget(service, number)?;
@@ -79,9 +85,10 @@ fn release(
     text: &[u8],
     out: &mut Vec<u8>,
 ) -> Result<bool, NoMemory>
-    ensures { IfOk result (λ is_there. (gives : Bool) × (way : Way) × Makes
+    ensures makes { IfOk result (λ is_there. (gives : Bool) × (way : Way) × Makes
         (releasing (service_in service.old) hold.lease hold.number gives way)
         (service_in service.old) (service_in service.new) out.old.items out.new.items) }
+    ensures stand { OnOk result (AllStand service.old service.new) }
 {
     match service.give_back(hold.lease, out) {
         Ok((_, Rest::Free)) => clean(service, hold.number, text, out),
@@ -103,6 +110,7 @@ impl Desk {
             out.old.items out.new.items) }
         ensures whose { IfOk result (λ left.
             IsNumberOf (find_key key (desk_in self.old).holds) left) }
+        ensures stand { OnOk result (AllStand self.old.service self.new.service) }
     {
         remove_key(&mut self.line, key);
         let Some(hold) = find_key(&self.holds, key) else {
@@ -118,8 +126,10 @@ impl Desk {
 
     /// A connection has come that nobody asked for: its number, where it may be one of the service.
     pub fn bring(&mut self, out: &mut Vec<u8>) -> Result<Option<Left>, NoMemory>
-        ensures { IfOk result (λ left. (gives : Bool) × (way : Way) × Turns (Brings gives way)
-            (desk_in self.old) (desk_in self.new) out.old.items out.new.items) }
+        ensures turns { IfOk result (λ left. (gives : Bool) × (way : Way)
+            × Turns (Brings gives way) (desk_in self.old) (desk_in self.new)
+            out.old.items out.new.items) }
+        ensures stand { OnOk result (AllStand self.old.service self.new.service) }
     {
         let lent = match self.service.lease() {
             Ok(lent) => lent,
@@ -140,8 +150,9 @@ impl Desk {
 
     /// An application keeps its connection with the transaction that is open there.
     pub fn renew(&mut self, key: usize) -> Result<Renewed, NoMemory>
-        ensures { IfOk result (λ renewed. (resumes : Bool) × Turns (Renews key resumes)
+        ensures turns { IfOk result (λ renewed. (resumes : Bool) × Turns (Renews key resumes)
             (desk_in self.old) (desk_in self.new) [] []) }
+        ensures stand { OnOk result (AllStand self.old.service self.new.service) }
     {
         let Some(hold) = find_key(&self.holds, key) else {
             return Ok(Renewed::NotKept);
@@ -172,6 +183,9 @@ impl Desk {
             [] []) }
         ensures whose { IfOk result (λ key.
             key ≡ key_of (find_number number (desk_in self.old).holds)) }
+        ensures stand { OnOk result (AllStand self.old.service self.new.service) }
+        ensures gone { OnOk result (IsLed (desk_in self.old).service
+            → reading_on number self.new.service ≡ None) }
     {
         let hold = find_number(&self.holds, number);
         forget(&mut self.service, number)?;

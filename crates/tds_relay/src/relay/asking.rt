@@ -10,6 +10,7 @@ ghost use Rattle.tds_relay.specs.Posts.{posts_in};
 ghost use Rattle.tds_relay.specs.Reads.{Opens, Stays};
 ghost use Rattle.tds_relay.specs.Taking.{Tells, TellsOn};
 ghost use Rattle.tds_relay.specs.Ties.{Application, Goes, GoesOn, NobodyWaits, desk_in};
+ghost use Rattle.tds_relay.specs.Walkers.{AllStand};
 
 use super::Relay;
 use crate::NoMemory;
@@ -32,6 +33,8 @@ impl Relay {
             self.new.links.items (house_in self.new)) }
         ensures served { OnOk result (NobodyWaits (desk_in self.new.desk)) }
         ensures opens { OnOk result (Opens self.old.links.items self.new.links.items) }
+        ensures stand { OnOk result (AllStand self.old.desk.service
+            self.new.desk.service) }
     {
         self.take_all(key, piece)?;
         self.serve_line()
@@ -47,6 +50,8 @@ impl Relay {
         ensures asks { OnOk result (Asks key (house_in self.old) piece.now []
             self.new.links.items (house_in self.new)) }
         ensures read { OnOk result (Stays self.old.links.items self.new.links.items) }
+        ensures stand { OnOk result (AllStand self.old.desk.service
+            self.new.desk.service) }
     {
         let mut rest = piece;
         'taking: for _ in 0..=piece.len() {
@@ -69,6 +74,8 @@ impl Relay {
         ensures asks { IfOk result (λ count. AsksOn key piece.now (drop count piece.now)
             self.old.links.items self.new.links.items (house_in self.old) (house_in self.new)) }
         ensures read { OnOk result (Stays self.old.links.items self.new.links.items) }
+        ensures stand { OnOk result (AllStand self.old.desk.service
+            self.new.desk.service) }
     {
         let Some(application) = self.applications.get_mut(key) else {
             return Ok(piece.len());
@@ -96,6 +103,8 @@ impl Relay {
         ensures underway { OnOk result (IfAsks (λ whole. IsUnderway whole
             self.new.links.items key (hall_in self.new)) said) }
         ensures read { OnOk result (Stays self.old.links.items self.new.links.items) }
+        ensures stand { OnOk result (AllStand self.old.desk.service
+            self.new.desk.service) }
     {
         match said {
             Said::Nothing => Ok(()),
@@ -126,6 +135,8 @@ impl Relay {
         ensures underway { OnOk result (IsUnderway false self.new.links.items key
             (hall_in self.new)) }
         ensures read { OnOk result (Stays self.old.links.items self.new.links.items) }
+        ensures stand { OnOk result (AllStand self.old.desk.service
+            self.new.desk.service) }
     {
         let Some(application) = self.applications.get_mut(key) else {
             return Ok(());
@@ -163,6 +174,8 @@ impl Relay {
         ensures underway { (whole : Bool) → waits_of (get self.old.applications key) ≡ Some whole
             → OnOk result (IsUnderway whole self.new.links.items key (hall_in self.new)) }
         ensures read { OnOk result (Stays self.old.links.items self.new.links.items) }
+        ensures stand { OnOk result (AllStand self.old.desk.service
+            self.new.desk.service) }
     {
         match self.desk.hold_of(key) {
             Some(_) => self.start(key),
@@ -201,6 +214,8 @@ impl Relay {
         ensures underway { OnOk result ((whole : Bool)
             → IsUnderway whole self.new.links.items key (hall_in self.new)) }
         ensures read { OnOk result (Stays self.old.links.items self.new.links.items) }
+        ensures stand { OnOk result (AllStand self.old.desk.service
+            self.new.desk.service) }
     {
         if !self.has_nothing_out(key) {
             return self.expel(key);
@@ -224,6 +239,8 @@ impl Relay {
         ensures underway { (whole : Bool) → waits_of (get self.old.applications key) ≡ Some whole
             → OnOk result (IsUnderway whole self.new.links.items key (hall_in self.new)) }
         ensures read { OnOk result (Stays self.old.links.items self.new.links.items) }
+        ensures stand { OnOk result (AllStand self.old.desk.service
+            self.new.desk.service) }
     {
         match self.desk.renew(key)? {
             Renewed::Kept(hold) => {
@@ -247,6 +264,8 @@ impl Relay {
         ensures underway { OnOk result (IsUnderway whole self.new.links.items key
             (hall_in self.new)) }
         ensures read { OnOk result (Stays self.old.links.items self.new.links.items) }
+        ensures stand { OnOk result (AllStand self.old.desk.service
+            self.new.desk.service) }
     {
         let Some(application) = self.applications.get_mut(key) else {
             return Ok(());
@@ -274,6 +293,8 @@ impl Relay {
         ensures underway { OnOk result (IsUnderway whole self.new.links.items key
             (hall_in self.new)) }
         ensures read { OnOk result (Stays self.old.links.items self.new.links.items) }
+        ensures stand { OnOk result (AllStand self.old.desk.service
+            self.new.desk.service) }
     {
         let Some(hold) = self.desk.hold_of(key) else {
             return self.end(key);
@@ -329,6 +350,7 @@ fn put_on(desk: &mut Desk, key: usize, bytes: &[u8], whole: bool, out: &mut Vec<
     ensures puts { MayPut key whole (desk_in desk.old) (desk_in desk.new) out.old.items
         out.new.items }
     ensures sends { result ≡ true → SendsOn whole (desk_in desk.new) key }
+    ensures stand { AllStand desk.old.service desk.new.service }
 {
     let Ok(_) = desk.put(key, bytes, out) else {
         return false;

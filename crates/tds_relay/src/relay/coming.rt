@@ -7,7 +7,7 @@ ghost use Rattle.tds_relay.specs.Fronts.{house_in, house_of, house_with};
 ghost use Rattle.tds_relay.specs.Hall.{change_end, change_whose, told};
 ghost use Rattle.tds_relay.specs.declared.desk.coming.What.TheVariants.{Acknowledged, Finished};
 ghost use Rattle.tds_relay.specs.declared.desk.coming.What.TheVariants as whats;
-ghost use Rattle.tds_relay.specs.Handing.{Brings, HearsBy, Passes, news_for};
+ghost use Rattle.tds_relay.specs.Handing.{Brings, HearsBy, Passes, news_for, fed};
 ghost use Rattle.tds_relay.specs.House.{Steps};
 ghost use Rattle.tds_relay.specs.Posts.{post_of, posts_in};
 ghost use Rattle.tds_relay.specs.Reads.{Comes, Continues, OpensOthers, Stays, StreamsAll, if_heard};
@@ -15,6 +15,7 @@ ghost use Rattle.tds_relay.specs.Reads.{open_at, reader_at};
 ghost use Rattle.tds_relay.specs.Bounds.{IsRoom};
 ghost use Rattle.tds_relay.specs.Ties as causes;
 ghost use Rattle.tds_relay.specs.Ties.{Connection, Goes, GoesOn, NobodyWaits, desk_in};
+ghost use Rattle.tds_relay.specs.Walkers.{AllStand, HasRead, ReadsBy};
 
 use super::Relay;
 use super::asking::behind;
@@ -36,8 +37,8 @@ impl Relay {
             (house_in self.new)) }
         ensures served { OnOk result (NobodyWaits (desk_in self.new.desk)) }
         ensures comes { OnOk result (Comes number (open_at number self.old.links.items)
-            (house_in self.old) piece.now (open_at number self.new.links.items)
-            (house_in self.new)) }
+            (house_in self.old) self.old.desk.service piece.now
+            (open_at number self.new.links.items) (house_in self.new) self.new.desk.service) }
         ensures others { OnOk result (OpensOthers number
             self.old.links.items self.new.links.items) }
     {
@@ -50,8 +51,8 @@ impl Relay {
         ensures goes { OnOk result (Goes (Connection number)
             (desk_in self.old.desk) (desk_in self.new.desk)) }
         ensures streams { OnOk result (StreamsAll number (open_at number self.old.links.items)
-            (house_in self.old) piece.now (open_at number self.new.links.items)
-            (house_in self.new)) }
+            (house_in self.old) self.old.desk.service piece.now
+            (open_at number self.new.links.items) (house_in self.new) self.new.desk.service) }
         ensures others { OnOk result (OpensOthers number
             self.old.links.items self.new.links.items) }
     {
@@ -77,8 +78,9 @@ impl Relay {
         ensures continues { IfOk result (λ heard. Continues number piece.now
             (drop heard.0 piece.now) (open_at number self.old.links.items)
             (if_heard heard.1 (open_at number self.new.links.items)) (house_in self.old)
-            (house_with (desk_in self.new.desk) (told_by heard.1 (ends_in self.old.applications))
-            (posts_in self.new.applications))) }
+            self.old.desk.service (house_with (desk_in self.new.desk)
+            (told_by heard.1 (ends_in self.old.applications)) (posts_in self.new.applications))
+            self.new.desk.service) }
         ensures others { OnOk result (OpensOthers number
             self.old.links.items self.new.links.items) }
     {
@@ -111,6 +113,8 @@ impl Relay {
             (hall_in self.new)) }
         ensures read { OnOk result (Stays self.old.links.items self.new.links.items) }
         ensures gone { IsNone heard → OnOk result (reader_at number self.new.links.items ≡ None) }
+        ensures stand { OnOk result (AllStand self.old.desk.service
+            self.new.desk.service) }
     {
         let Some(heard) = heard else {
             return self.lose(number);
@@ -219,18 +223,13 @@ impl Relay {
         ensures moves { OnOk result (Moved (Connection number) (hall_in self.old)
             (hall_in self.new)) }
         ensures read { OnOk result (Stays self.old.links.items self.new.links.items) }
+        ensures stand { OnOk result (AllStand self.old.desk.service
+            self.new.desk.service) }
     {
         if self.asks_to_keep(key) {
             self.keep(number, key)
         } else {
             self.start(key)
-        }
-    }
-
-    fn asks_to_keep(&self, key: usize) -> bool {
-        match self.applications.get(key) {
-            Some(application) => application.asks_to_keep(),
-            None => false,
         }
     }
 
@@ -244,6 +243,8 @@ impl Relay {
         ensures moves { OnOk result (Moved (Connection number) (hall_in self.old)
             (hall_in self.new)) }
         ensures read { OnOk result (Stays self.old.links.items self.new.links.items) }
+        ensures stand { OnOk result (AllStand self.old.desk.service
+            self.new.desk.service) }
     {
         match self.desk.renew(key)? {
             Renewed::Kept(hold) => {
@@ -266,6 +267,8 @@ impl Relay {
         ensures moves { OnOk result (Moved (Connection number) (hall_in self.old)
             (hall_in self.new)) }
         ensures read { OnOk result (Stays self.old.links.items self.new.links.items) }
+        ensures stand { OnOk result (AllStand self.old.desk.service
+            self.new.desk.service) }
     {
         let holder = self.desk.lose(number)?;
         let Some(key) = holder else {
@@ -301,6 +304,8 @@ fn hear_on(
         link.old link.new piece.now heard.0 heard.1 (house_of desk.old applications.old)
         (house_with (desk_in desk.new) (told_by heard.1 (ends_in applications.old))
         (posts_in applications.new))) }
+    ensures read { IfOk result (λ heard. ReadsBy number (fed link.old.reader piece.now) heard.1
+        desk.old.service desk.new.service) }
     ensures number { link.new.number ≡ link.old.number }
     ensures is_open { link.new.is_open ≡ link.old.is_open }
     ensures ends { OnOk result (ends_in applications.new ≡ ends_in applications.old) }
@@ -328,6 +333,8 @@ fn hear_packet(
         link.old.answer link.old.reader heard (house_of desk.old applications.old)
         (house_with (desk_in desk.new) (told_by (Some heard) (ends_in applications.old))
         (posts_in applications.new))) }
+    ensures read { OnOk result (HasRead number link.old.reader desk.old.service
+        desk.new.service) }
     ensures reader { link.new.reader ≡ link.old.reader }
     ensures number { link.new.number ≡ link.old.number }
     ensures is_open { link.new.is_open ≡ link.old.is_open }

@@ -10,6 +10,7 @@ ghost use Rattle.tds_relay.specs.Reads.{Opens, Stays, reader_at};
 ghost use Rattle.tds_relay.specs.Taking.{IsDeaf};
 ghost use Rattle.tds_relay.specs.Ties.{Application, Connection, Goes, GoesOn, Leaving, NobodyWaits};
 ghost use Rattle.tds_relay.specs.Ties.{desk_in};
+ghost use Rattle.tds_relay.specs.Walkers.{AllStand};
 
 use super::Relay;
 use crate::NoMemory;
@@ -26,6 +27,8 @@ impl Relay {
             (house_in self.new)) }
         ensures served { OnOk result (NobodyWaits (desk_in self.new.desk)) }
         ensures opens { OnOk result (Opens self.old.links.items self.new.links.items) }
+        ensures stand { OnOk result (AllStand self.old.desk.service
+            self.new.desk.service) }
     {
         let _ = self.applications.try_remove(key).is_some();
         self.release(key)?;
@@ -41,6 +44,8 @@ impl Relay {
             (house_in self.new)) }
         ensures served { OnOk result (NobodyWaits (desk_in self.new.desk)) }
         ensures opens { OnOk result (Opens self.old.links.items self.new.links.items) }
+        ensures stand { OnOk result (AllStand self.old.desk.service
+            self.new.desk.service) }
     {
         self.lose(number)?;
         self.serve_line()
@@ -57,6 +62,8 @@ impl Relay {
             (change_end key closes (ends_in self.old.applications))) (hall_in self.new)) }
         ensures over { OnOk result (IsDeaf (end_at (ends_in self.new.applications) key)) }
         ensures read { OnOk result (Stays self.old.links.items self.new.links.items) }
+        ensures stand { OnOk result (AllStand self.old.desk.service
+            self.new.desk.service) }
     {
         self.end(key)?;
         self.release(key)
@@ -93,6 +100,8 @@ impl Relay {
             ≡ posts_in self.old.applications) }
         ensures lets_go { OnOk result (LetsGoFirst key (hall_in self.old) (hall_in self.new)) }
         ensures read { OnOk result (Stays self.old.links.items self.new.links.items) }
+        ensures stand { OnOk result (AllStand self.old.desk.service
+            self.new.desk.service) }
     {
         self.outbox.clear();
         let left = self.desk.leave(key, &mut self.outbox)?;
@@ -120,6 +129,8 @@ impl Relay {
         ensures moves { OnOk result (MovedOn (hall_in self.old) (hall_in self.new)) }
         ensures read { OnOk result (Stays self.old.links.items self.new.links.items) }
         ensures gone { OnOk result (reader_at number self.new.links.items ≡ None) }
+        ensures stand { OnOk result (AllStand self.old.desk.service
+            self.new.desk.service) }
     {
         let key = self.desk.lose(number)?;
         self.close(number, key)

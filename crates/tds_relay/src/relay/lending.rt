@@ -9,6 +9,7 @@ ghost use Rattle.tds_relay.specs.Posts.{posts_in};
 ghost use Rattle.tds_relay.specs.Reads.{Opens, OpensFirst, OpensOne, Stays, open_at, opened_at};
 ghost use Rattle.tds_relay.specs.Taking.{IsDeaf};
 ghost use Rattle.tds_relay.specs.Ties.{Connection, Goes, GoesOn, Neither, NobodyWaits, desk_in};
+ghost use Rattle.tds_relay.specs.Walkers.{AllStand};
 
 use super::Relay;
 use crate::NoMemory;
@@ -28,6 +29,8 @@ impl Relay {
         ensures steps { OnOk result (Steps Neither (house_in self.old) (house_in self.new)) }
         ensures opens { IfOk result (λ number.
             OpensFirst number self.old.links.items self.new.links.items) }
+        ensures stand { OnOk result (AllStand self.old.desk.service
+            self.new.desk.service) }
     {
         if !self.links.is_empty() {
             return Ok(None);
@@ -73,6 +76,8 @@ impl Relay {
             (house_in self.new)) }
         ensures served { OnOk result (NobodyWaits (desk_in self.new.desk)) }
         ensures opens { OnOk result (OpensOne number self.old.links.items self.new.links.items) }
+        ensures stand { OnOk result (AllStand self.old.desk.service
+            self.new.desk.service) }
     {
         self.set_open(number);
         self.order_write_on(number)?;
@@ -98,6 +103,8 @@ impl Relay {
             ≡ posts_in self.old.applications) }
         ensures moves { OnOk result (MovedOn (hall_in self.old) (hall_in self.new)) }
         ensures read { OnOk result (Stays self.old.links.items self.new.links.items) }
+        ensures stand { OnOk result (AllStand self.old.desk.service
+            self.new.desk.service) }
     {
         match self.desk.key_on(number) {
             Some(key) => self.start(key),
@@ -114,6 +121,8 @@ impl Relay {
         ensures moves { OnOk result (MovedOn (hall_in self.old) (hall_in self.new)) }
         ensures served { OnOk result (NobodyWaits (desk_in self.new.desk)) }
         ensures opens { OnOk result (Opens self.old.links.items self.new.links.items) }
+        ensures stand { OnOk result (AllStand self.old.desk.service
+            self.new.desk.service) }
     {
         'line: for _ in 0..u64::MAX {
             match self.desk.serve()? {
@@ -136,6 +145,8 @@ impl Relay {
             → waits_of (get self.old.applications served.hold.key) ≡ Some whole
             → OnOk result (IsUnderway whole self.new.links.items served.hold.key
             (hall_in self.new)) }
+        ensures stand { OnOk result (AllStand self.old.desk.service
+            self.new.desk.service) }
     {
         let number = served.hold.number;
         if served.had {
@@ -148,9 +159,17 @@ impl Relay {
         Ok(())
     }
 
+    /// Whether an application's request asks for a reset that keeps its transaction.
+    pub(super) fn asks_to_keep(&self, key: usize) -> bool {
+        match self.applications.get(key) {
+            Some(application) => application.asks_to_keep(),
+            None => false,
+        }
+    }
+
     /// Asks what an application asks, where its connection is open, and the server has acknowledged there
     /// what it took back.
-    #[tactic(auto, using(crate::proofs::steps::Reaching::reaches_turn, crate::proofs::steps::Reaching::reaches_turned, crate::proofs::steps::Underway::of_none, crate::proofs::steps::Underway::of_over, crate::proofs::steps::Underway::drains))]
+    #[tactic(auto, using(crate::proofs::steps::Reaching::reaches_turn, crate::proofs::steps::Reaching::reaches_turned, crate::proofs::steps::Underway::of_none, crate::proofs::steps::Underway::of_over, crate::proofs::steps::Underway::drains, crate::proofs::bytes::Walking::stand_on))]
     pub(super) fn start(&mut self, key: usize) -> Result<(), NoMemory>
         ensures goes { OnOk result (GoesOn (desk_in self.old.desk) (desk_in self.new.desk)) }
         ensures kept { OnOk result (posts_in self.new.applications
@@ -159,6 +178,8 @@ impl Relay {
         ensures underway { (whole : Bool) → waits_of (get self.old.applications key) ≡ Some whole
             → OnOk result (IsUnderway whole self.new.links.items key (hall_in self.new)) }
         ensures read { OnOk result (Stays self.old.links.items self.new.links.items) }
+        ensures stand { OnOk result (AllStand self.old.desk.service
+            self.new.desk.service) }
     {
         let Some(application) = self.applications.get(key) else {
             return Ok(());
@@ -195,6 +216,8 @@ impl Relay {
         ensures moves { OnOk result (MovedOn (hall_in self.old) (hall_in self.new)) }
         ensures over { OnOk result (IsDeaf (end_at (ends_in self.new.applications) key)) }
         ensures read { OnOk result (Stays self.old.links.items self.new.links.items) }
+        ensures stand { OnOk result (AllStand self.old.desk.service
+            self.new.desk.service) }
     {
         self.lose(number)?;
         self.end(key)
@@ -210,6 +233,8 @@ impl Relay {
         ensures underway { OnOk result (IsUnderway whole self.new.links.items key
             (hall_in self.new)) }
         ensures read { OnOk result (Stays self.old.links.items self.new.links.items) }
+        ensures stand { OnOk result (AllStand self.old.desk.service
+            self.new.desk.service) }
     {
         let Some(application) = self.applications.get_mut(key) else {
             return Ok(());

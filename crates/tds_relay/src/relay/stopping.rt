@@ -7,6 +7,7 @@ ghost use Rattle.tds_relay.specs.Hall.{Ends, IfOpen, IsHere, change_end, end_at}
 ghost use Rattle.tds_relay.specs.Posts.{acknowledgement, give, posts_in};
 ghost use Rattle.tds_relay.specs.Reads.{Stays};
 ghost use Rattle.tds_relay.specs.Ties.{Application, Goes, Turns, desk_in};
+ghost use Rattle.tds_relay.specs.Walkers.{AllStand};
 
 use super::Relay;
 use crate::NoMemory;
@@ -28,6 +29,8 @@ impl Relay {
         ensures moves { OnOk result (Moved (Application key) (hall_in self.old)
             (hall_in self.new)) }
         ensures read { OnOk result (Stays self.old.links.items self.new.links.items) }
+        ensures stand { OnOk result (AllStand self.old.desk.service
+            self.new.desk.service) }
     {
         let was_asked = self.forget_request(key);
         if was_asked { self.unask(key) } else { Ok(()) }
@@ -40,6 +43,7 @@ impl Relay {
         ensures ends { ends_in self.new.applications ≡ ends_in self.old.applications }
         ensures turns { Turns (Unwaits key) (desk_in self.old.desk) (desk_in self.new.desk) [] [] }
         ensures links { self.new.links.items ≡ self.old.links.items }
+        ensures stand { AllStand self.old.desk.service self.new.desk.service }
     {
         self.desk.unwait(key);
         let Some(application) = self.applications.get_mut(key) else {
@@ -60,6 +64,8 @@ impl Relay {
         ensures moves { OnOk result (Moved (Application key) (hall_in self.old)
             (hall_in self.new)) }
         ensures read { OnOk result (Stays self.old.links.items self.new.links.items) }
+        ensures stand { OnOk result (AllStand self.old.desk.service
+            self.new.desk.service) }
     {
         if !self.has_nothing_out(key) {
             return self.expel(key);
@@ -81,6 +87,8 @@ impl Relay {
         ensures moves { OnOk result (FedOn key (Forget true) (desk_in self.old.desk)
             (ends_in self.old.applications) (hall_in self.new)) }
         ensures read { OnOk result (Stays self.old.links.items self.new.links.items) }
+        ensures stand { OnOk result (AllStand self.old.desk.service
+            self.new.desk.service) }
     {
         let _ = self.forget_request(key);
         match self.stop(key) {
@@ -103,6 +111,7 @@ impl Relay {
             (hall_of_ends (desk_in self.old.desk) ends)
             (hall_of_ends (desk_in self.new.desk) ends) }
         ensures links { self.new.links.items ≡ self.old.links.items }
+        ensures stand { AllStand self.old.desk.service self.new.desk.service }
     {
         self.outbox.clear();
         match self.desk.cancel(key, &mut self.outbox) {
@@ -157,6 +166,8 @@ impl Relay {
         ensures moves { OnOk result (FedOn key HandOn (desk_in self.old.desk)
             (ends_in self.old.applications) (hall_in self.new)) }
         ensures read { OnOk result (Stays self.old.links.items self.new.links.items) }
+        ensures stand { OnOk result (AllStand self.old.desk.service
+            self.new.desk.service) }
     {
         match self.stop(key) {
             Some(number) => {

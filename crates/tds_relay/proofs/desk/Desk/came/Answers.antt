@@ -13,7 +13,10 @@ use Rattle.tds_relay.specs.Ties.{Turns, desk_in, part_on}
 use Rattle.tds_relay.specs.Fronts.{IsWhat}
 use Rattle.tds_relay.specs.Hall.{done_by}
 use Rattle.tds_relay.proofs.steps.Fronts.{is_what, nobodys_what, what_answers}
-use Rattle.tds_relay.proofs.steps.Made.{ok_both, came_settled, came_unknown, unread}
+use Rattle.tds_relay.proofs.steps.Made.{ok_both, came_settled, came_unknown, came_wrong, unread}
+use Rattle.tds_relay.proofs.bytes.Walking.{came_read, lost_read, unknown_read}
+use Rattle.tds_relay.specs.Walkers.{AllRead}
+use Rattle.tds_relay.proofs.steps.Reaching.{ok_if}
 use Rattle.tds_relay.proofs.desk.Desk.came.Goals as goal
 
 pub returns-in_ok-what-in-Finished-clause-ok : goal.returns-in_ok-what-in-Finished-clause-ok
@@ -101,3 +104,44 @@ pub returns-in-Err-clause-heard : goal.returns-in-Err-clause-heard
 returns-in-Err-clause-heard c =
     ok_both c.unheard.result (c.in-Err.refusal ≢ refusals.Memory) (λ heard. heard.key ≡ None) _
     (λ never heard nobody. nobodys_what heard.key heard.what _ nobody) c.unheard.ensures.unknown c.unheard.ensures.nobody
+
+pub returns-in-Err-clause-read : goal.returns-in-Err-clause-read
+returns-in-Err-clause-read c =
+    let same : c.heard.new.self ≡ c.args.self.now.service = search rules in
+    let never : c.in-Err.refusal ≢ refusals.Memory = λ m. let u : refusals.Unknown ≡ refusals.Memory = sym c.in-Err.ensures.unknown ∙ m in let v : ⊥ = cc in v in
+    let none = unread c.args.self.now.service c.args.number c.args.bytes.now c.args.ends c.in-Err.refusal c.in-Err.ensures.refused never in
+    ok_if c.unheard.result _
+    (subst (λ (s : services.Service). AllRead c.args.number c.args.ends c.args.bytes.now c.args.self.now.service s) (sym same) (unknown_read c.args.self.now.service c.args.number c.args.ends c.args.bytes.now none))
+
+pub returns-in-More-clause-read : goal.returns-in-More-clause-read
+returns-in-More-clause-read c =
+    let came = c.in-Ok.ensures.ok in
+    came_read c.args.self.now.service c.heard.new.self _ (packet_part came.0 c.args.bytes.now c.args.ends) c.args.number c.args.ends c.args.bytes.now came.0 came.1 came.2.1.steps.service_is (λ r e. rw c.in-More.is at (c.in-Ok.ensures.reads r e)) c.in-Ok.ensures.others (λ n r h. h)
+
+pub returns-in_ok-what-in-Finished-clause-read : goal.returns-in_ok-what-in-Finished-clause-read
+returns-in_ok-what-in-Finished-clause-read c =
+    let came = c.in-Ok.ensures.ok in
+    came_read c.args.self.now.service c.heard.new.self _ (packet_part came.0 c.args.bytes.now c.args.ends) c.args.number c.args.ends c.args.bytes.now came.0 came.1 came.2.1.steps.service_is (λ r e. rw c.in-Finished.is at (c.in-Ok.ensures.reads r e)) c.in-Ok.ensures.others c.in_ok-what-in-Finished.ensures.stand
+
+pub returns-in_ok-what-in-Acknowledged-clause-read : goal.returns-in_ok-what-in-Acknowledged-clause-read
+returns-in_ok-what-in-Acknowledged-clause-read c =
+    let came = c.in-Ok.ensures.ok in
+    came_read c.args.self.now.service c.heard.new.self _ (packet_part came.0 c.args.bytes.now c.args.ends) c.args.number c.args.ends c.args.bytes.now came.0 came.1 came.2.1.steps.service_is (λ r e. rw c.in-Acknowledged.is at (c.in-Ok.ensures.reads r e)) c.in-Ok.ensures.others c.in_ok-what-in-Acknowledged.ensures.stand
+
+pub returns-in_ok-lose-in-Fault-clause-read : goal.returns-in_ok-lose-in-Fault-clause-read
+returns-in_ok-lose-in-Fault-clause-read c =
+    let came = c.in-Ok.ensures.ok in
+    let next = c.in-Ok.ensures.reads came.0 came.1 in
+    lost_read c.args.self.now.service c.heard.new.self _ (packet_part came.0 c.args.bytes.now c.args.ends) c.args.number c.args.ends c.args.bytes.now next.0 next.1 came.2.1.steps.service_is c.in-Ok.ensures.others c.in_ok-lose-in-Fault.ensures.stand c.in_ok-lose-in-Fault.ensures.gone
+
+pub returns-in_ok-lose-in-Fault-clause-ok : goal.returns-in_ok-lose-in-Fault-clause-ok
+returns-in_ok-lose-in-Fault-clause-ok c =
+    let d = desk_in c.args.self.now in
+    let came = c.in-Ok.ensures.ok in
+    let answers = rw c.in-Fault.is at came.2.1.answers in
+    let P : Option Reading → Type 0 = λ o. Turns (Comes c.args.number (part_on o c.args.bytes.now c.args.ends) NotLent) d (desk_in c.lose.new.self) c.args.out.now.items c.args.out.now.items in (
+      NotLent,
+      subst P (sym came.1)
+          (came_wrong d (desk_in c.lose.new.self) c.args.number (packet_part came.0 c.args.bytes.now c.args.ends) NotLent (service_in c.heard.new.self) (line.Fault _) c.args.out.now.items came.2.1.steps answers refl
+          c.in_ok-lose-in-Fault.ensures.turns),
+    )

@@ -2,6 +2,8 @@ use Rattle.std.proofs.Common.{rules}
 use Rattle.tds_service.specs.Table.{puts_on, service_in}
 use Rattle.tds_relay.specs.Ties.{desk_in}
 use Rattle.tds_relay.proofs.steps.Sent as sent
+use Rattle.tds_service.specs.Service as calls
+use Rattle.tds_relay.proofs.bytes.Walking.{keeps_stand}
 use Rattle.tds_relay.proofs.desk.Desk.put.Goals as goal
 
 pub returns-in-Ok-clause-ok : goal.returns-in-Ok-clause-ok
@@ -10,3 +12,6 @@ returns-in-Ok-clause-ok c = (puts_on c.in-Some.hold.lease c.args.self.now.servic
 pub returns-in-Ok-clause-sends : goal.returns-in-Ok-clause-sends
 returns-in-Ok-clause-sends c =
     sent.puts_on (desk_in c.args.self.now) (service_in c.put.new.self) c.args.key (puts_on c.in-Some.hold.lease c.args.self.now.service c.args.bytes.now) c.in-Some.hold (search rules) c.in-Ok.ensures.ok.service_is c.in-Ok.ensures.ok.reply_is
+
+pub returns-in-Ok-clause-stand : goal.returns-in-Ok-clause-stand
+returns-in-Ok-clause-stand c = keeps_stand _ _ (calls.Put c.in-Some.hold.lease (puts_on c.in-Some.hold.lease c.args.self.now.service c.args.bytes.now)) c.in-Ok.ensures.ok.service_is c.in-Ok.ensures.keeps

@@ -4,10 +4,12 @@ use Rattle.tds_service.specs.Table.{service_in}
 use Rattle.tds_relay.specs.Desk.{find_key, holding, without_lease}
 use Rattle.tds_relay.specs.Ties.{desk_in}
 use Rattle.tds_relay.proofs.steps.Made.{renewed}
+use Rattle.tds_service.specs.Service as calls
+use Rattle.tds_relay.proofs.bytes.Walking.{keeps_stand, same_stand}
 use Rattle.tds_relay.proofs.desk.Desk.renew.Goals as goal
 
-pub returns : goal.returns
-returns c =
+pub returns-clause-turns : goal.returns-clause-turns
+returns-clause-turns c =
     let d = desk_in c.args.self.now in
     let h = c.in-Some.hold in
     let found : find_key c.args.key d.holds ≡ Some h = search rules in
@@ -16,3 +18,12 @@ returns c =
       renewed d c.args.key h (service_in c.keep.new.self) (service_in c.resume.new.self) c.in-Ok.ticket c.in-Ok-resume.lent.lease c.in-Ok-resume.lent.number _ _ c.in-Ok-resume.lent.had c.push.new.self.items found
           c.in-Ok.ensures.ok.1 c.in-Ok-resume.ensures.ok held,
     )
+
+pub returns-in_default-resume-clause-stand : goal.returns-in_default-resume-clause-stand
+returns-in_default-resume-clause-stand c = λ n r h. c.in_ok-forget.ensures.stand n r (same_stand c.keep.new.self c.resume.new.self c.in_default-resume.ensures.err c.in_default-resume.ensures.keeps n r (keeps_stand c.args.self.now.service c.keep.new.self (calls.Keep c.in-Some.hold.lease) c.in-Ok.ensures.ok.1.service_is c.in-Ok.ensures.keeps n r h))
+
+pub returns-clause-stand : goal.returns-clause-stand
+returns-clause-stand c = λ n r h. keeps_stand c.keep.new.self c.resume.new.self (calls.Resume c.in-Ok.ticket) c.in-Ok-resume.ensures.ok.service_is c.in-Ok-resume.ensures.keeps n r (keeps_stand c.args.self.now.service c.keep.new.self (calls.Keep c.in-Some.hold.lease) c.in-Ok.ensures.ok.1.service_is c.in-Ok.ensures.keeps n r h)
+
+pub returns-in-Err-clause-stand : goal.returns-in-Err-clause-stand
+returns-in-Err-clause-stand c = same_stand c.args.self.now.service c.keep.new.self c.in-Err.ensures.err c.in-Err.ensures.keeps

@@ -16,5 +16,5 @@ returns-in_ok-is_there-in-None-find_lease-clause-settles c =
     ap (λ (o : Option ℕ). settles d.holds d.service c.args.number NotLent o) c.in-Some.is ∙ ap (λ (o : Option Hold). settles_of d.service c.args.number lease NotLent o) found in (
       NotLent,
       settles_by d (service_in c.cleaned.new.service) (cleaned_by d.service c.args.number lease) (settles d.holds d.service c.args.number NotLent c.args.lease) c.args.out.now.items c.args.out.now.items is
-          (c.in_ok-is_there-in-None-find_lease.ensures c.args.out.now.items),
+          (c.in_ok-is_there-in-None-find_lease.ensures.makes c.args.out.now.items),
     )

@@ -4,10 +4,12 @@ use Rattle.tds_service.specs.Table.{puts_on, service_in}
 use Rattle.tds_relay.specs.Desk.{Sent, NotEnded, cleaning}
 use Rattle.tds_relay.specs.Ties.{Makes, lost_by}
 use Rattle.tds_relay.proofs.steps.Made.{cleaned_whole, cleaned_unended}
+use Rattle.tds_service.specs.Service as calls
+use Rattle.tds_relay.proofs.bytes.Walking.{keeps_stand, same_stand}
 use Rattle.tds_relay.proofs.desk.leaving.clean.Goals as goal
 
-pub returns-in_default-finish : goal.returns-in_default-finish
-returns-in_default-finish c =
+pub returns-in_default-finish-clause-makes : goal.returns-in_default-finish-clause-makes
+returns-in_default-finish-clause-makes c =
     let put = c.in-Ok-put.ensures.ok in
     let count = puts_on c.in-Ok.lent.lease c.ask.new.self c.args.text.now in
     let same : c.finish.new.self ≡ c.put.new.self = search rules in
@@ -20,8 +22,8 @@ returns-in_default-finish c =
     let P : List ℕ → Type 0 = λ bytes. Makes (cleaning (service_in c.args.service.now) c.args.number (NotEnded count)) (service_in c.args.service.now) (service_in c.forget-in_default-finish.new.service) c.args.out.now.items bytes in
     (NotEnded count, refl, subst P (sym out) made)
 
-pub returns : goal.returns
-returns c =
+pub returns-clause-makes : goal.returns-clause-makes
+returns-clause-makes c =
     let put = c.in-Ok-put.ensures.ok in
     let count = puts_on c.in-Ok.lent.lease c.ask.new.self c.args.text.now in
     let left = puts_on c.in-Ok.lent.lease c.put.new.self [] in
@@ -31,3 +33,18 @@ returns c =
       cleaned_whole (service_in c.args.service.now) (service_in c.clean.new.self) (service_in c.ask.new.self) (service_in c.put.new.self) (service_in c.finish.new.self) c.args.number c.in-Ok.lent.lease
           c.in-Ok.lent.number _ _ _ _ c.in-Ok.lent.had count left c.args.out.now.items c.put.new.out.items c.finish.new.out.items c.in-Ok.ensures.ok c.in-Ok-ask.ensures.ok put end,
     )
+
+pub returns-in_default-clause-stand : goal.returns-in_default-clause-stand
+returns-in_default-clause-stand c = λ n r h. c.in_ok-forget.ensures.stand n r (same_stand c.args.service.now c.clean.new.self c.in_default.ensures.err c.in_default.ensures.keeps n r h)
+
+pub returns-in_default-ask-clause-stand : goal.returns-in_default-ask-clause-stand
+returns-in_default-ask-clause-stand c = λ n r h. c.in_ok-forget-2.ensures.stand n r (same_stand c.clean.new.self c.ask.new.self (ap service_in c.in_default-ask.ensures.err) c.in_default-ask.ensures.keeps n r (keeps_stand c.args.service.now c.clean.new.self (calls.Clean c.args.number) c.in-Ok.ensures.ok.service_is c.in-Ok.ensures.keeps n r h))
+
+pub returns-in_default-put-clause-stand : goal.returns-in_default-put-clause-stand
+returns-in_default-put-clause-stand c = λ n r h. c.in_ok-forget-3.ensures.stand n r (same_stand c.ask.new.self c.put.new.self (ap service_in c.in_default-put.ensures.err) c.in_default-put.ensures.keeps n r (keeps_stand c.clean.new.self c.ask.new.self (calls.Ask c.in-Ok.lent.lease) c.in-Ok-ask.ensures.ok.service_is c.in-Ok-ask.ensures.keeps n r (keeps_stand c.args.service.now c.clean.new.self (calls.Clean c.args.number) c.in-Ok.ensures.ok.service_is c.in-Ok.ensures.keeps n r h)))
+
+pub returns-in_default-finish-clause-stand : goal.returns-in_default-finish-clause-stand
+returns-in_default-finish-clause-stand c = λ n r h. c.in_ok-forget-4.ensures.stand n r (same_stand c.put.new.self c.finish.new.self (ap service_in c.in_default-finish.ensures.err) c.in_default-finish.ensures.keeps n r (keeps_stand c.ask.new.self c.put.new.self (calls.Put c.in-Ok.lent.lease (puts_on c.in-Ok.lent.lease c.ask.new.self c.args.text.now)) c.in-Ok-put.ensures.ok.service_is c.in-Ok-put.ensures.keeps n r (keeps_stand c.clean.new.self c.ask.new.self (calls.Ask c.in-Ok.lent.lease) c.in-Ok-ask.ensures.ok.service_is c.in-Ok-ask.ensures.keeps n r (keeps_stand c.args.service.now c.clean.new.self (calls.Clean c.args.number) c.in-Ok.ensures.ok.service_is c.in-Ok.ensures.keeps n r h))))
+
+pub returns-clause-stand : goal.returns-clause-stand
+returns-clause-stand c = λ n r h. keeps_stand c.put.new.self c.finish.new.self (calls.Finish c.in-Ok.lent.lease (puts_on c.in-Ok.lent.lease c.put.new.self [])) c.in-Ok-finish.ensures.ok.service_is c.in-Ok-finish.ensures.keeps n r (keeps_stand c.ask.new.self c.put.new.self (calls.Put c.in-Ok.lent.lease (puts_on c.in-Ok.lent.lease c.ask.new.self c.args.text.now)) c.in-Ok-put.ensures.ok.service_is c.in-Ok-put.ensures.keeps n r (keeps_stand c.clean.new.self c.ask.new.self (calls.Ask c.in-Ok.lent.lease) c.in-Ok-ask.ensures.ok.service_is c.in-Ok-ask.ensures.keeps n r (keeps_stand c.args.service.now c.clean.new.self (calls.Clean c.args.number) c.in-Ok.ensures.ok.service_is c.in-Ok.ensures.keeps n r h)))

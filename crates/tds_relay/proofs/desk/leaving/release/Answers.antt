@@ -2,10 +2,11 @@ use Rattle.std.proofs.Common.{true}
 use Rattle.std.proofs.lemmas.Result.{IfOk-weaker}
 use Rattle.tds_service.specs.Table.{service_in}
 use Rattle.tds_relay.proofs.steps.Made.{released_free}
+use Rattle.tds_relay.proofs.bytes.Walking.{given_back_stand, same_stand, stand_on}
 use Rattle.tds_relay.proofs.desk.leaving.release.Goals as goal
 
-pub returns-in-Ok-default-Free : goal.returns-in-Ok-default-Free
-returns-in-Ok-default-Free c =
+pub returns-in-Ok-default-Free-clause-makes : goal.returns-in-Ok-default-Free-clause-makes
+returns-in-Ok-default-Free-clause-makes c =
     let back = rw c.in-Ok-default-Free.field-0-1-is at c.in-Ok-default-Free.ensures.ok in
     IfOk-weaker c.clean.result _ _
     (λ is_there h. (
@@ -14,4 +15,16 @@ returns-in-Ok-default-Free c =
       released_free (service_in c.args.service.now) (service_in c.give_back.new.self) (service_in c.clean.new.service) c.args.hold.lease c.args.hold.number _ h.0 c.args.out.now.items c.give_back.new.out.items
           c.clean.new.out.items back h.2,
     ))
-    c.clean.ensures
+    c.clean.ensures.makes
+
+pub returns-in-Ok-default-Free-clause-stand : goal.returns-in-Ok-default-Free-clause-stand
+returns-in-Ok-default-Free-clause-stand c = stand_on c.clean.result _ _ _ (given_back_stand c.args.service.now c.give_back.new.self c.args.hold.lease c.in-Ok-default-Free.field-0-0 c.in-Ok-default-Free.field-0-1 _ _ c.in-Ok-default-Free.ensures.ok c.in-Ok-default-Free.ensures.keeps) c.clean.ensures.stand
+
+pub returns-in-Ok-default-Draining-clause-stand : goal.returns-in-Ok-default-Draining-clause-stand
+returns-in-Ok-default-Draining-clause-stand c = given_back_stand c.args.service.now c.give_back.new.self c.args.hold.lease c.in-Ok-default-Draining.field-0-0 c.in-Ok-default-Draining.field-0-1 _ _ c.in-Ok-default-Draining.ensures.ok c.in-Ok-default-Draining.ensures.keeps
+
+pub returns-in-Ok-default-Closed-clause-stand : goal.returns-in-Ok-default-Closed-clause-stand
+returns-in-Ok-default-Closed-clause-stand c = given_back_stand c.args.service.now c.give_back.new.self c.args.hold.lease c.in-Ok-default-Closed.field-0-0 c.in-Ok-default-Closed.field-0-1 _ _ c.in-Ok-default-Closed.ensures.ok c.in-Ok-default-Closed.ensures.keeps
+
+pub returns-in_ok-forget-in-Err-clause-stand : goal.returns-in_ok-forget-in-Err-clause-stand
+returns-in_ok-forget-in-Err-clause-stand c = λ n r h. c.in_ok-forget-in-Err.ensures.stand n r (same_stand c.args.service.now c.give_back.new.self c.in-Err.ensures.err c.in-Err.ensures.keeps_all n r h)

@@ -8,32 +8,35 @@ use Rattle.tds_relay.proofs.steps.Staying.{first_opens}
 use Rattle.tds_relay.proofs.relay.Relay.bring.Goals as goal
 
 pub returns-in_default-clause-goes : goal.returns-in_default-clause-goes
-returns-in_default-clause-goes c = λ from h. reaches_turn Neither from _ _ _ _ _ c.in_ok-left.ensures.2 refl h
+returns-in_default-clause-goes c = λ from h. reaches_turn Neither from _ _ _ _ _ c.in_ok-left.ensures.turns.2 refl h
 
 pub returns-then-not-left-clause-goes : goal.returns-then-not-left-clause-goes
-returns-then-not-left-clause-goes c = λ from h. reaches_turn Neither from _ _ _ _ _ c.in_ok-left.ensures.2 refl h
+returns-then-not-left-clause-goes c = λ from h. reaches_turn Neither from _ _ _ _ _ c.in_ok-left.ensures.turns.2 refl h
 
 pub returns-clause-goes : goal.returns-clause-goes
 returns-clause-goes c = λ from h.
     c.in_ok-serve_line.ensures.goes Neither from
-    (c.in_ok-send_on.ensures.goes Neither from (reaches_turn Neither from _ _ _ _ _ c.in_ok-left.ensures.2 refl h))
+    (c.in_ok-send_on.ensures.goes Neither from (reaches_turn Neither from _ _ _ _ _ c.in_ok-left.ensures.turns.2 refl h))
 
 pub returns-in_default-clause-steps : goal.returns-in_default-clause-steps
 returns-in_default-clause-steps c =
-    steps_moved Neither (house_in c.args.self.now) _ _ _ _ (λ from h. moves_does Neither from _ _ _ _ _ _ _ c.in_ok-left.ensures.2 tt refl refl h) refl (no_steps Neither (house_in c.args.self.now))
+    steps_moved Neither (house_in c.args.self.now) _ _ _ _ (λ from h. moves_does Neither from _ _ _ _ _ _ _ c.in_ok-left.ensures.turns.2 tt refl refl h) refl (no_steps Neither (house_in c.args.self.now))
 
 pub returns-then-not-left-clause-steps : goal.returns-then-not-left-clause-steps
 returns-then-not-left-clause-steps c =
-    steps_moved Neither (house_in c.args.self.now) _ _ _ _ (λ from h. moves_does Neither from _ _ _ _ _ _ _ c.in_ok-left.ensures.2 tt refl refl h) refl (no_steps Neither (house_in c.args.self.now))
+    steps_moved Neither (house_in c.args.self.now) _ _ _ _ (λ from h. moves_does Neither from _ _ _ _ _ _ _ c.in_ok-left.ensures.turns.2 tt refl refl h) refl (no_steps Neither (house_in c.args.self.now))
 
 pub returns-clause-steps : goal.returns-clause-steps
 returns-clause-steps c =
     steps_moved Neither (house_in c.args.self.now) _ _ _ _ (c.in_ok-serve_line.ensures.moves Neither) c.in_ok-serve_line.ensures.kept
     (steps_moved Neither (house_in c.args.self.now) _ _ _ _ (c.in_ok-send_on.ensures.moves Neither) c.in_ok-send_on.ensures.kept
-    (steps_moved Neither (house_in c.args.self.now) _ _ _ _ (λ from h. moves_does Neither from _ _ _ _ _ _ _ c.in_ok-left.ensures.2 tt refl refl h) refl (no_steps Neither (house_in c.args.self.now))))
+    (steps_moved Neither (house_in c.args.self.now) _ _ _ _ (λ from h. moves_does Neither from _ _ _ _ _ _ _ c.in_ok-left.ensures.turns.2 tt refl refl h) refl (no_steps Neither (house_in c.args.self.now))))
 
 pub returns-clause-opens : goal.returns-clause-opens
 returns-clause-opens c =
     let none : c.is_empty.result ≡ true = search rules in
     first_opens _ _ c.args.self.now.links.items _ _ _ (sym (ap (λ (k : ℕ). k == 0) c.args.self.now.links.ok.0) ∙ sym c.is_empty.ensures ∙ none) c.in_ok-push.ensures.items c.in_ok-link.ensures.number c.in_ok-link.ensures.unread refl
     c.in_ok-send_on.ensures.read c.in_ok-serve_line.ensures.opens
+
+pub returns-clause-stand : goal.returns-clause-stand
+returns-clause-stand c = λ n r h. c.in_ok-serve_line.ensures.stand n r (c.in_ok-send_on.ensures.stand n r (c.in_ok-left.ensures.stand n r h))

@@ -8,6 +8,7 @@ use Rattle.tds_relay.proofs.steps.Reaching.{ok_more, reaches_left}
 use Rattle.tds_relay.proofs.steps.Staying.{stays_from}
 use Rattle.tds_relay.specs.Taking.{IsDeaf}
 use Rattle.tds_relay.proofs.steps.Told.{deaf_closed, lets_go_deaf}
+use Rattle.tds_relay.proofs.bytes.Walking.{stand_from}
 use Rattle.tds_relay.proofs.relay.Relay.expel.Goals as goal
 
 pub returns-clause-goes : goal.returns-clause-goes
@@ -33,3 +34,6 @@ returns-clause-over c =
     ok_more c.release.result _ _
     (λ l. lets_go_deaf c.args.key (desk_in c.end.new.self.desk) (ends_in c.end.new.self.applications) (hall_in c.release.new.self) (subst (λ (es : Ends). IsDeaf (end_at es c.args.key)) (sym c.in_ok-end.ensures.ends) (deaf_closed c.args.key (ends_in c.args.self.now.applications))) l)
     c.release.ensures.lets_go
+
+pub returns-clause-stand : goal.returns-clause-stand
+returns-clause-stand c = stand_from c.release.result _ _ _ c.in_ok-end.ensures.desk c.release.ensures.stand

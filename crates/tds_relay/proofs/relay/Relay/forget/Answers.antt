@@ -3,6 +3,7 @@ use Rattle.tds_relay.specs.Ties.{Application}
 use Rattle.tds_relay.proofs.steps.Fronts.{moves_does}
 use Rattle.tds_relay.proofs.steps.Reaching.{ok_more}
 use Rattle.tds_relay.proofs.steps.Staying.{stays_from, stays_refl, stays_then}
+use Rattle.tds_relay.proofs.bytes.Walking.{stand_back, stand_on}
 use Rattle.tds_relay.proofs.relay.Relay.forget.Goals as goal
 
 pub returns-then-was_asked-clause-moves : goal.returns-then-was_asked-clause-moves
@@ -17,3 +18,9 @@ returns-then-was_asked-clause-read c = stays_from c.unask.result _ _ _ c.forget_
 
 pub returns-else-was_asked-clause-read : goal.returns-else-was_asked-clause-read
 returns-else-was_asked-clause-read c = stays_then _ _ _ (stays_refl c.args.self.now.links.items) c.forget_request-was_asked.ensures.links
+
+pub returns-then-was_asked-clause-stand : goal.returns-then-was_asked-clause-stand
+returns-then-was_asked-clause-stand c = stand_on c.unask.result _ _ _ c.forget_request-was_asked.ensures.stand c.unask.ensures.stand
+
+pub returns-else-was_asked-clause-stand : goal.returns-else-was_asked-clause-stand
+returns-else-was_asked-clause-stand c = c.forget_request-was_asked.ensures.stand

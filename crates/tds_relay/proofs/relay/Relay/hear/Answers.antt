@@ -1,4 +1,4 @@
-use Rattle.std.proofs.Common.{List, Option, ap, length, sym, ◌∙◌, rules}
+use Rattle.std.proofs.Common.{List, Option, ap, length, refl, sym, ◌∙◌, rules}
 use Rattle.tds_relay.specs.declared.link.Link.{Link}
 use Rattle.tds_relay.specs.declared.desk.coming.Heard.{Heard}
 use Rattle.tds_relay.specs.Fronts.{ends_in, house_in, house_with, told_by}
@@ -12,19 +12,20 @@ use Rattle.tds_relay.proofs.relay.Relay.hear.Goals as goal
 
 pub returns-in_default-clause-continues : goal.returns-in_default-clause-continues
 returns-in_default-clause-continues c =
-    unheard c.args.number c.args.piece.now (length c.args.piece.now) c.args.self.now.links.items (house_in c.args.self.now)
+    unheard c.args.number c.args.piece.now (length c.args.piece.now) c.args.self.now.links.items (house_in c.args.self.now) c.args.self.now.desk.service
     (ap (λ (ls : List Link). place_of c.args.number ls) (sym c.deref.ensures.value) ∙ sym c.place_in.ensures.is ∙ c.in_default.is)
 
 pub returns-clause-continues : goal.returns-clause-continues
 returns-clause-continues c =
-    hear_at c.hear_on.result c.args.number _ c.args.self.now.links.items c.in-Some.place c.index_mut-link.result.now c.hear_on.new.link c.args.piece.now (house_in c.args.self.now)
+    hear_at c.hear_on.result c.args.number c.args.self.now.links.items c.in-Some.place c.index_mut-link.result.now c.hear_on.new.link c.args.piece.now (house_in c.args.self.now)
     (λ (heard : Option Heard). house_with (desk_in c.hear_on.new.desk) (told_by heard (ends_in c.args.self.now.applications)) (posts_in c.hear_on.new.applications))
+    c.args.self.now.desk.service c.hear_on.new.desk.service
     (ap (λ (ls : List Link). place_of c.args.number ls) (sym c.deref.ensures.value) ∙ sym c.place_in.ensures.is ∙ c.in-Some.is)
-    c.index_mut-link.ensures.value c.hear_on.ensures.number (search rules) c.hear_on.ensures.is_open c.hear_on.ensures.hears
+    c.index_mut-link.ensures.value c.hear_on.ensures.number (search rules) c.hear_on.ensures.is_open refl c.hear_on.ensures.hears c.hear_on.ensures.read
 
 pub returns-then-not-link-clause-continues : goal.returns-then-not-link-clause-continues
 returns-then-not-link-clause-continues c =
-    unopened c.args.number c.args.piece.now (length c.args.piece.now) c.args.self.now.links.items c.in-Some.place c.index_mut-link.result.now (house_in c.args.self.now)
+    unopened c.args.number c.args.piece.now (length c.args.piece.now) c.args.self.now.links.items c.in-Some.place c.index_mut-link.result.now (house_in c.args.self.now) c.args.self.now.desk.service
     (ap (λ (ls : List Link). place_of c.args.number ls) (sym c.deref.ensures.value) ∙ sym c.place_in.ensures.is ∙ c.in-Some.is)
     c.index_mut-link.ensures.value (search rules)
 

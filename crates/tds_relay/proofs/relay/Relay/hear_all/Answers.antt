@@ -14,7 +14,7 @@ use Rattle.tds_relay.proofs.relay.Relay.hear_all.Goals.{else-taking-test, then-t
 pub taking-init : goal.taking-init
 taking-init c = record {
   goes = λ from h. h;
-  streams = streams_begin c.args.number (open_at c.args.number c.args.self.now.links.items) (house_in c.args.self.now) c.args.piece.now;
+  streams = streams_begin c.args.number (open_at c.args.number c.args.self.now.links.items) (house_in c.args.self.now) c.args.self.now.desk.service c.args.piece.now;
   others = others_open c.args.number _ _ (opens_refl c.args.self.now.links.items);
 }
 
@@ -22,30 +22,30 @@ pub taking-preserved : goal.taking-preserved
 taking-preserved c = record {
   goes = λ from h. c.in_ok-heard.ensures.goes from (c.in_ok-count.ensures.goes from (c.taking.invariant.goes from h));
   streams =
-      streams_left c.args.number _ _ _ _ _ _ _ c.behind-rest.ensures
-      (streams_on c.args.number _ _ _ _ _ _ _ _ _ _ _ _ _ _ c.taking.invariant.streams c.in_ok-count.ensures.continues
+      streams_left c.args.number _ _ _ _ _ _ _ _ _ c.behind-rest.ensures
+      (streams_on c.args.number _ _ _ _ _ _ _ _ _ _ _ _ _ _ _ _ _ _ c.taking.invariant.streams c.in_ok-count.ensures.continues
       (moved_same (Connection c.args.number) _ _ _ _ _ refl (ap (told_by _) c.in_ok-count.ensures.ends) c.in_ok-heard.ensures.moves)
-      c.in_ok-heard.ensures.kept c.in_ok-heard.ensures.read c.in_ok-heard.ensures.gone);
+      c.in_ok-heard.ensures.kept c.in_ok-heard.ensures.read c.in_ok-heard.ensures.gone c.in_ok-heard.ensures.stand);
   others = others_stay c.args.number _ _ _ (others_both c.args.number _ _ _ c.taking.invariant.others c.in_ok-count.ensures.others) c.in_ok-heard.ensures.read;
 }
 
 pub returns-clause-streams : goal.returns-clause-streams
 returns-clause-streams c =
     let had : Option Reading = open_at c.args.number c.args.self.now.links.items in
-    let to : Relay → Type 0 = λ r. (left : List ℕ) × Streams c.args.number had (house_in c.args.self.now) c.args.piece.now left (open_at c.args.number r.links.items) (house_in r) in
+    let to : Relay → Type 0 = λ r. (left : List ℕ) × Streams c.args.number had (house_in c.args.self.now) c.args.self.now.desk.service c.args.piece.now left (open_at c.args.number r.links.items) (house_in r) r.desk.service in
     let led : to c.taking-test.self =
     elim c.taking-test.branch [
       | else-taking-test w ↦ subst to (sym w.self-is) (c.taking.rest.now, c.taking.invariant.streams)
       | then-taking-test+else-is_empty+in_ok-count+in_ok-heard+else-counter-end w ↦
           subst to (sym w.self-is) (
             _,
-            streams_on c.args.number _ _ _ _ _ _ _ _ _ _ _ _ _ _ c.taking.invariant.streams w.in_ok-count.ensures.continues
+            streams_on c.args.number _ _ _ _ _ _ _ _ _ _ _ _ _ _ _ _ _ _ c.taking.invariant.streams w.in_ok-count.ensures.continues
                 (moved_same (Connection c.args.number) _ _ _ _ _ refl (ap (told_by _) w.in_ok-count.ensures.ends) w.in_ok-heard.ensures.moves)
-                w.in_ok-heard.ensures.kept w.in_ok-heard.ensures.read w.in_ok-heard.ensures.gone,
+                w.in_ok-heard.ensures.kept w.in_ok-heard.ensures.read w.in_ok-heard.ensures.gone w.in_ok-heard.ensures.stand,
           )
     ] in
-    streams_lost c.lose.result c.args.number had _ _ _ _ _ _ _ _ led.0 led.1 c.lose.ensures.moves c.lose.ensures.kept
-    (ok_more c.lose.result _ _ (λ g. gone_open c.args.number _ g) c.lose.ensures.gone)
+    streams_lost c.lose.result c.args.number had _ _ _ _ _ _ _ _ _ _ _ led.0 led.1 c.lose.ensures.moves c.lose.ensures.kept
+    (ok_more c.lose.result _ _ (λ g. gone_open c.args.number _ g) c.lose.ensures.gone) c.lose.ensures.stand
 
 pub returns-clause-others : goal.returns-clause-others
 returns-clause-others c =

@@ -6,6 +6,6 @@ use Rattle.tds_relay.proofs.relay.Relay.hear_all.Given as goal
 abbrev pub invariant-taking : goal.invariant-taking
 invariant-taking l = record {
   goes : Goes (Connection l.fn.number) (desk_in l.fn.self.desk) (desk_in l.self.desk);
-  streams : Streams l.fn.number (open_at l.fn.number l.fn.self.links.items) (house_in l.fn.self) l.fn.piece l.rest (open_at l.fn.number l.self.links.items) (house_in l.self);
+  streams : Streams l.fn.number (open_at l.fn.number l.fn.self.links.items) (house_in l.fn.self) l.fn.self.desk.service l.fn.piece l.rest (open_at l.fn.number l.self.links.items) (house_in l.self) l.self.desk.service;
   others : OpensOthers l.fn.number l.fn.self.links.items l.self.links.items;
 }

@@ -3,6 +3,8 @@ use Rattle.tds_relay.specs.Ties.{Connection, desk_in}
 use Rattle.tds_relay.proofs.steps.Fronts.{moves_same, told_none, told_some}
 use Rattle.tds_relay.proofs.steps.Reaching.{ok_more}
 use Rattle.tds_relay.proofs.steps.Staying.{stays_both, stays_on, stays_same}
+use Rattle.tds_relay.proofs.bytes.Walking.{stand_at, stand_back, stand_on}
+use Rattle.tds_relay.proofs.steps.Reaching.{ok_if}
 use Rattle.tds_relay.proofs.relay.Relay.heard.Goals as goal
 
 pub returns-in_default-clause-moves : goal.returns-in_default-clause-moves
@@ -93,3 +95,30 @@ returns-in-Closed-Some-clause-read c =
 pub returns-in-Closed-None-clause-read : goal.returns-in-Closed-None-clause-read
 returns-in-Closed-None-clause-read c =
     stays_on c.close_link-in-Closed-None.result _ _ _ (stays_both _ _ _ c.in_ok-resumes.ensures.read c.in_ok-send_on.ensures.read) c.close_link-in-Closed-None.ensures.read
+
+pub returns-in-Goes-Some-clause-stand : goal.returns-in-Goes-Some-clause-stand
+returns-in-Goes-Some-clause-stand c = ok_if c.order_write.result _ (stand_at _ _ _ (stand_back _ _ _ c.in_ok-resumes.ensures.desk c.in_ok-send_on.ensures.stand) c.order_write.ensures.desk)
+
+pub returns-in-Goes-None-clause-stand : goal.returns-in-Goes-None-clause-stand
+returns-in-Goes-None-clause-stand c = stand_back _ _ _ c.in_ok-resumes.ensures.desk c.in_ok-send_on.ensures.stand
+
+pub returns-in-Finished-Some-clause-stand : goal.returns-in-Finished-Some-clause-stand
+returns-in-Finished-Some-clause-stand c = ok_if c.order_write-in-Finished-Some.result _ (stand_at _ _ _ (stand_back _ _ _ c.in_ok-resumes.ensures.desk c.in_ok-send_on.ensures.stand) c.order_write-in-Finished-Some.ensures.desk)
+
+pub returns-in-Finished-None-clause-stand : goal.returns-in-Finished-None-clause-stand
+returns-in-Finished-None-clause-stand c = stand_back _ _ _ c.in_ok-resumes.ensures.desk c.in_ok-send_on.ensures.stand
+
+pub returns-then-resumes-clause-stand : goal.returns-then-resumes-clause-stand
+returns-then-resumes-clause-stand c = stand_on c.resume.result _ _ _ (stand_back _ _ _ c.in_ok-resumes.ensures.desk c.in_ok-send_on.ensures.stand) c.resume.ensures.stand
+
+pub returns-else-resumes-clause-stand : goal.returns-else-resumes-clause-stand
+returns-else-resumes-clause-stand c = ok_if c.order_write-else-resumes.result _ (stand_at _ _ _ (stand_back _ _ _ c.in_ok-resumes.ensures.desk c.in_ok-send_on.ensures.stand) c.order_write-else-resumes.ensures.desk)
+
+pub returns-in-Acknowledged-None-clause-stand : goal.returns-in-Acknowledged-None-clause-stand
+returns-in-Acknowledged-None-clause-stand c = stand_back _ _ _ c.in_ok-resumes.ensures.desk c.in_ok-send_on.ensures.stand
+
+pub returns-in-Closed-Some-clause-stand : goal.returns-in-Closed-Some-clause-stand
+returns-in-Closed-Some-clause-stand c = ok_if c.close_link.result _ (stand_at _ _ _ (stand_back _ _ _ c.in_ok-resumes.ensures.desk c.in_ok-send_on.ensures.stand) c.close_link.ensures.desk)
+
+pub returns-in-Closed-None-clause-stand : goal.returns-in-Closed-None-clause-stand
+returns-in-Closed-None-clause-stand c = ok_if c.close_link-in-Closed-None.result _ (stand_at _ _ _ (stand_back _ _ _ c.in_ok-resumes.ensures.desk c.in_ok-send_on.ensures.stand) c.close_link-in-Closed-None.ensures.desk)

@@ -7,6 +7,7 @@ use Rattle.tds_relay.proofs.steps.Posting.{quits_is}
 use Rattle.tds_relay.proofs.steps.Reaching.{ok_more}
 use Rattle.tds_relay.proofs.steps.Stepping.{no_steps, steps_on_ok, steps_quits}
 use Rattle.tds_relay.proofs.steps.Staying.{opens_served}
+use Rattle.tds_relay.proofs.bytes.Walking.{stand_on}
 use Rattle.tds_relay.proofs.relay.Relay.left.Goals as goal
 
 pub returns-clause-left : goal.returns-clause-left
@@ -26,3 +27,6 @@ returns-clause-steps c =
 
 pub returns-clause-opens : goal.returns-clause-opens
 returns-clause-opens c = opens_served c.serve_line.result _ _ _ c.in_ok-release.ensures.read c.serve_line.ensures.opens
+
+pub returns-clause-stand : goal.returns-clause-stand
+returns-clause-stand c = stand_on c.serve_line.result _ _ _ c.in_ok-release.ensures.stand c.serve_line.ensures.stand

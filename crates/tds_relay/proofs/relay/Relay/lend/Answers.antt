@@ -3,6 +3,7 @@ use Rattle.tds_relay.specs.Ties.{desk_in}
 use Rattle.tds_relay.proofs.steps.Fronts.{moves_same}
 use Rattle.tds_relay.proofs.steps.Reaching.{ok_more}
 use Rattle.tds_relay.proofs.steps.Staying.{opens_by_push, opens_on}
+use Rattle.tds_relay.proofs.bytes.Walking.{stand_from}
 use Rattle.tds_relay.proofs.relay.Relay.lend.Goals as goal
 
 pub returns-then-served-clause-opens : goal.returns-then-served-clause-opens
@@ -13,3 +14,6 @@ returns-clause-opens c = opens_by_push c.args.self.now.links.items c.args.self.n
 
 pub returns-then-served-clause-moves : goal.returns-then-served-clause-moves
 returns-then-served-clause-moves c = ok_more c.start.result _ _ (λ m by from h. m by from (moves_same by from _ _ _ _ (ap desk_in c.restart.ensures.desk) c.restart.ensures.ends h)) c.start.ensures.moves
+
+pub returns-then-served-clause-stand : goal.returns-then-served-clause-stand
+returns-then-served-clause-stand c = stand_from c.start.result _ _ _ c.restart.ensures.desk c.start.ensures.stand

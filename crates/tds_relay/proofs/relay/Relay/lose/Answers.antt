@@ -3,6 +3,7 @@ use Rattle.tds_relay.specs.declared.desk.Desk as code
 use Rattle.tds_relay.specs.Ties.{Reaches, desk_in}
 use Rattle.tds_relay.proofs.steps.Fronts.{moves_loses, moves_same}
 use Rattle.tds_relay.proofs.steps.Reaching.{ok_if, ok_more, reaches_turn, reaches_turned}
+use Rattle.tds_relay.proofs.bytes.Walking.{stand_at}
 use Rattle.tds_relay.proofs.relay.Relay.lose.Goals as goal
 
 pub returns-clause-lost : goal.returns-clause-lost
@@ -21,3 +22,6 @@ returns-clause-moves c =
     (λ e by from h. moves_same by from _ _ _ _ (ap desk_in c.close.ensures.desk) e
     (moves_loses by from _ _ _ _ c.args.number c.in_ok-key.key _ _ c.in_ok-key.ensures.turns c.in_ok-key.ensures.whose refl h))
     c.close.ensures.ends
+
+pub returns-clause-stand : goal.returns-clause-stand
+returns-clause-stand c = ok_if c.close.result _ (stand_at _ _ _ c.in_ok-key.ensures.stand c.close.ensures.desk)

@@ -2,6 +2,7 @@ use Rattle.tds_relay.specs.Fronts.{house_in}
 use Rattle.tds_relay.specs.Ties.{Connection}
 use Rattle.tds_relay.proofs.steps.Stepping.{no_steps, steps_moved, steps_on_ok}
 use Rattle.tds_relay.proofs.steps.Staying.{opens_served}
+use Rattle.tds_relay.proofs.bytes.Walking.{stand_on}
 use Rattle.tds_relay.proofs.relay.Relay.lost.Goals as goal
 
 pub returns-clause-steps : goal.returns-clause-steps
@@ -13,3 +14,6 @@ returns-clause-steps c =
 
 pub returns-clause-opens : goal.returns-clause-opens
 returns-clause-opens c = opens_served c.serve_line.result _ _ _ c.in_ok-lose.ensures.read c.serve_line.ensures.opens
+
+pub returns-clause-stand : goal.returns-clause-stand
+returns-clause-stand c = stand_on c.serve_line.result _ _ _ c.in_ok-lose.ensures.stand c.serve_line.ensures.stand

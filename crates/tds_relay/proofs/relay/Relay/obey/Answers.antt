@@ -10,6 +10,8 @@ use Rattle.tds_relay.proofs.steps.Staying.{stays_refl, stays_same}
 use Rattle.std.proofs.Common.{subst}
 use Rattle.tds_relay.specs.Asking.{IfAsks, IsUnderway}
 use Rattle.tds_relay.specs.Fronts.{hall_in}
+use Rattle.tds_relay.proofs.bytes.Walking.{stand_at}
+use Rattle.tds_relay.proofs.steps.Reaching.{ok_if}
 use Rattle.tds_relay.proofs.relay.Relay.obey.Goals as goal
 
 pub returns-in-Begin-clause-given : goal.returns-in-Begin-clause-given
@@ -95,3 +97,6 @@ returns-in-Body-clause-underway c =
 pub returns-in-End-clause-underway : goal.returns-in-End-clause-underway
 returns-in-End-clause-underway c =
     ok_more c.go_on-in-End.result _ _ (λ u. subst (IfAsks (λ whole. IsUnderway whole c.go_on-in-End.new.self.links.items c.args.key (hall_in c.go_on-in-End.new.self))) (sym c.in-End.is) u) c.go_on-in-End.ensures.underway
+
+pub returns-in_ok-forget-in-Acknowledge-clause-stand : goal.returns-in_ok-forget-in-Acknowledge-clause-stand
+returns-in_ok-forget-in-Acknowledge-clause-stand c = ok_if c.acknowledge.result _ (stand_at _ _ _ c.in_ok-forget-in-Acknowledge.ensures.stand c.acknowledge.ensures.desk)

@@ -3,6 +3,7 @@ use Rattle.tds_relay.specs.Fronts.{house_in}
 use Rattle.tds_relay.specs.Ties.{Connection, desk_in}
 use Rattle.tds_relay.proofs.steps.Stepping.{no_steps, steps_moved, steps_on_ok, steps_same}
 use Rattle.tds_relay.proofs.steps.Staying.{opens_one_served, stays_behind}
+use Rattle.tds_relay.proofs.bytes.Walking.{stand_back, stand_on}
 use Rattle.tds_relay.proofs.relay.Relay.opened.Goals as goal
 
 pub returns-clause-steps : goal.returns-clause-steps
@@ -20,3 +21,6 @@ pub returns-clause-opens : goal.returns-clause-opens
 returns-clause-opens c =
     opens_one_served c.serve_line.result c.args.number _ _ _ _ c.set_open.ensures.opens
     (stays_behind _ _ _ c.in_ok-order_write_on.ensures.links c.in_ok-start_on.ensures.read) c.serve_line.ensures.opens
+
+pub returns-clause-stand : goal.returns-clause-stand
+returns-clause-stand c = stand_on c.serve_line.result _ _ _ (stand_back _ _ _ (c.order_write_on.ensures.desk ∙ c.set_open.ensures.desk) c.in_ok-start_on.ensures.stand) c.serve_line.ensures.stand

@@ -10,6 +10,7 @@ use Rattle.tds_relay.proofs.steps.Putting.{moves_puts}
 use Rattle.tds_relay.proofs.steps.Reaching.{ok_more}
 use Rattle.tds_relay.proofs.steps.Staying.{stays_behind, stays_on}
 use Rattle.tds_relay.proofs.steps.Underway.{of_closed}
+use Rattle.tds_relay.proofs.bytes.Walking.{stand_at, stand_on}
 use Rattle.tds_relay.proofs.relay.Relay.put.Goals as goal
 
 pub returns-in_default-clause-moves : goal.returns-in_default-clause-moves
@@ -58,3 +59,9 @@ returns-else-fits-clause-moves c =
     ok_more c.fail-else-fits.result _ _ (λ m by from h. m by from (moves_same by from _ _ _ _ (ap desk_in c.fits_on.ensures.desk) c.in_ok-fits.ensures.ends (moves_same by from _ _ _ _ (ap desk_in c.note_went_on.ensures.desk) refl
     (moves_puts by from _ _ _ _ c.args.key c.args.whole c.put_on-is_put.new.out.items (subst (λ (xs : List ℕ). MayPut c.args.key c.args.whole (desk_in c.args.self.now.desk) (desk_in c.put_on-is_put.new.desk) xs c.put_on-is_put.new.out.items) (search rules) c.put_on-is_put.ensures.puts)
     (c.may_put.ensures (search rules)) c.note_went_on.ensures.ends h)))) c.fail-else-fits.ensures.moves
+
+pub returns-then-fits-clause-stand : goal.returns-then-fits-clause-stand
+returns-then-fits-clause-stand c = stand_at _ _ _ (stand_at _ _ _ c.put_on-is_put.ensures.stand c.note_went_on.ensures.desk) c.fits_on.ensures.desk
+
+pub returns-else-fits-clause-stand : goal.returns-else-fits-clause-stand
+returns-else-fits-clause-stand c = stand_on c.fail-else-fits.result _ _ _ (stand_at _ _ _ (stand_at _ _ _ c.put_on-is_put.ensures.stand c.note_went_on.ensures.desk) c.fits_on.ensures.desk) c.fail-else-fits.ensures.stand

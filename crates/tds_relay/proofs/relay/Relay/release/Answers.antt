@@ -3,6 +3,8 @@ use Rattle.tds_relay.specs.Ties.{desk_in}
 use Rattle.tds_relay.proofs.steps.Fronts.{lets_go_first, moved_same, moves_same}
 use Rattle.tds_relay.proofs.steps.Reaching.{ok_more}
 use Rattle.tds_relay.proofs.steps.Staying.{stays_from, stays_refl, stays_then}
+use Rattle.tds_relay.proofs.bytes.Walking.{stand_at, stand_on}
+use Rattle.tds_relay.proofs.steps.Reaching.{ok_if}
 use Rattle.tds_relay.proofs.relay.Relay.release.Goals as goal
 
 pub returns-in_default-clause-lets_go : goal.returns-in_default-clause-lets_go
@@ -24,3 +26,12 @@ returns-then-left-clause-read c = stays_from c.send_on.result _ _ _ c.let_go.ens
 
 pub returns-else-left-clause-read : goal.returns-else-left-clause-read
 returns-else-left-clause-read c = stays_from c.close.result _ _ _ c.let_go.ensures.links c.close.ensures.read
+
+pub returns-in_default-clause-stand : goal.returns-in_default-clause-stand
+returns-in_default-clause-stand c = stand_at _ _ _ c.in_ok-left.ensures.stand c.let_go.ensures.desk
+
+pub returns-then-left-clause-stand : goal.returns-then-left-clause-stand
+returns-then-left-clause-stand c = stand_on c.send_on.result _ _ _ (stand_at _ _ _ c.in_ok-left.ensures.stand c.let_go.ensures.desk) c.send_on.ensures.stand
+
+pub returns-else-left-clause-stand : goal.returns-else-left-clause-stand
+returns-else-left-clause-stand c = ok_if c.close.result _ (stand_at _ _ _ c.in_ok-left.ensures.stand (c.close.ensures.desk ∙ c.let_go.ensures.desk))

@@ -4,36 +4,46 @@ use Rattle.tds_relay.specs.Ties.{Application, Reaches, desk_in}
 use Rattle.tds_relay.proofs.steps.Fronts.{moves_closes, moves_does, moves_same}
 use Rattle.tds_relay.proofs.steps.Reaching.{ok_if, ok_more, reaches_turn}
 use Rattle.tds_relay.proofs.steps.Staying.{stays_on}
+use Rattle.tds_relay.proofs.bytes.Walking.{stand_at, stand_on}
 use Rattle.tds_relay.proofs.relay.Relay.renew.Goals as goal
 
 pub returns-in-Kept-clause-goes : goal.returns-in-Kept-clause-goes
 returns-in-Kept-clause-goes c =
     ok_more c.start.result _ _
-    (λ g from h. g (Application c.args.key) from (subst (λ (d : code.Desk). Reaches (Application c.args.key) from (desk_in d)) (sym c.restart.ensures.desk) (reaches_turn (Application c.args.key) from _ _ _ _ _ c.in_ok-hold.ensures.1 refl h)))
+    (λ g from h. g (Application c.args.key) from (subst (λ (d : code.Desk). Reaches (Application c.args.key) from (desk_in d)) (sym c.restart.ensures.desk) (reaches_turn (Application c.args.key) from _ _ _ _ _ c.in_ok-hold.ensures.turns.1 refl h)))
     c.start.ensures.goes
 
 pub returns-in-NotKept-clause-goes : goal.returns-in-NotKept-clause-goes
-returns-in-NotKept-clause-goes c = ok_more c.change.result _ _ (λ g from h. g from (reaches_turn (Application c.args.key) from _ _ _ _ _ c.in_ok-hold.ensures.1 refl h)) c.change.ensures.goes
+returns-in-NotKept-clause-goes c = ok_more c.change.result _ _ (λ g from h. g from (reaches_turn (Application c.args.key) from _ _ _ _ _ c.in_ok-hold.ensures.turns.1 refl h)) c.change.ensures.goes
 
 pub returns-in-Closed-clause-goes : goal.returns-in-Closed-clause-goes
-returns-in-Closed-clause-goes c = ok_if c.close.result _ (λ from h. subst (λ (d : code.Desk). Reaches (Application c.args.key) from (desk_in d)) (sym c.close.ensures.desk) (reaches_turn (Application c.args.key) from _ _ _ _ _ c.in_ok-hold.ensures.1 refl h))
+returns-in-Closed-clause-goes c = ok_if c.close.result _ (λ from h. subst (λ (d : code.Desk). Reaches (Application c.args.key) from (desk_in d)) (sym c.close.ensures.desk) (reaches_turn (Application c.args.key) from _ _ _ _ _ c.in_ok-hold.ensures.turns.1 refl h))
 
 pub returns-in-Kept-clause-moves : goal.returns-in-Kept-clause-moves
 returns-in-Kept-clause-moves c =
     ok_more c.start.result _ _
     (λ m from h. m (Application c.args.key) from (moves_same (Application c.args.key) from _ _ _ _ (ap desk_in c.restart.ensures.desk) c.restart.ensures.ends
-    (moves_does (Application c.args.key) from _ _ _ _ _ _ _ c.in_ok-hold.ensures.1 tt refl refl h)))
+    (moves_does (Application c.args.key) from _ _ _ _ _ _ _ c.in_ok-hold.ensures.turns.1 tt refl refl h)))
     c.start.ensures.moves
 
 pub returns-in-NotKept-clause-moves : goal.returns-in-NotKept-clause-moves
-returns-in-NotKept-clause-moves c = ok_more c.change.result _ _ (λ m from h. m from (moves_does (Application c.args.key) from _ _ _ _ _ _ _ c.in_ok-hold.ensures.1 tt refl refl h)) c.change.ensures.moves
+returns-in-NotKept-clause-moves c = ok_more c.change.result _ _ (λ m from h. m from (moves_does (Application c.args.key) from _ _ _ _ _ _ _ c.in_ok-hold.ensures.turns.1 tt refl refl h)) c.change.ensures.moves
 
 pub returns-in-Closed-clause-moves : goal.returns-in-Closed-clause-moves
 returns-in-Closed-clause-moves c =
-    ok_more c.close.result _ _ (λ e from h. moves_closes (Application c.args.key) from _ _ _ _ c.args.key (ap desk_in c.close.ensures.desk) e (moves_does (Application c.args.key) from _ _ _ _ _ _ _ c.in_ok-hold.ensures.1 tt refl refl h)) c.close.ensures.ends
+    ok_more c.close.result _ _ (λ e from h. moves_closes (Application c.args.key) from _ _ _ _ c.args.key (ap desk_in c.close.ensures.desk) e (moves_does (Application c.args.key) from _ _ _ _ _ _ _ c.in_ok-hold.ensures.turns.1 tt refl refl h)) c.close.ensures.ends
 
 pub returns-in-Kept-clause-read : goal.returns-in-Kept-clause-read
 returns-in-Kept-clause-read c = stays_on c.start.result _ _ _ c.restart.ensures.read c.start.ensures.read
 
 pub returns-in-NotKept-clause-underway : goal.returns-in-NotKept-clause-underway
 returns-in-NotKept-clause-underway c = λ whole waits. ok_more c.change.result _ _ (λ u. u whole) c.change.ensures.underway
+
+pub returns-in-Kept-clause-stand : goal.returns-in-Kept-clause-stand
+returns-in-Kept-clause-stand c = stand_on c.start.result _ _ _ (stand_at _ _ _ c.in_ok-hold.ensures.stand c.restart.ensures.desk) c.start.ensures.stand
+
+pub returns-in-NotKept-clause-stand : goal.returns-in-NotKept-clause-stand
+returns-in-NotKept-clause-stand c = stand_on c.change.result _ _ _ c.in_ok-hold.ensures.stand c.change.ensures.stand
+
+pub returns-in-Closed-clause-stand : goal.returns-in-Closed-clause-stand
+returns-in-Closed-clause-stand c = ok_if c.close.result _ (stand_at _ _ _ c.in_ok-hold.ensures.stand c.close.ensures.desk)

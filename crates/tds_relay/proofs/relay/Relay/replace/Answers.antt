@@ -6,6 +6,7 @@ use Rattle.tds_relay.specs.Ties.{Connection, Reaches, desk_in}
 use Rattle.tds_relay.proofs.steps.Fronts.{moves_loses, moves_replaces, moves_same}
 use Rattle.tds_relay.proofs.steps.Reaching.{ok_if, ok_more, reaches_turn}
 use Rattle.tds_relay.proofs.steps.Staying.{stays_then}
+use Rattle.tds_relay.proofs.bytes.Walking.{stand_at, stand_on}
 use Rattle.tds_relay.proofs.relay.Relay.replace.Goals as goal
 
 pub returns-in_default-clause-goes : goal.returns-in_default-clause-goes
@@ -49,3 +50,12 @@ pub returns-clause-read : goal.returns-clause-read
 returns-clause-read c =
     ok_if c.wait.result _
     (stays_then _ _ _ (subst (λ (ls : List Link). Stays ls c.close_link-2.new.self.links.items) c.let_go.ensures.links c.in_ok-close_link.ensures.read) c.wait.ensures.links)
+
+pub returns-in_default-clause-stand : goal.returns-in_default-clause-stand
+returns-in_default-clause-stand c = ok_if c.close_link.result _ (stand_at _ _ _ c.in_ok-holder.ensures.stand c.close_link.ensures.desk)
+
+pub returns-then-not-has_nothing_out-clause-stand : goal.returns-then-not-has_nothing_out-clause-stand
+returns-then-not-has_nothing_out-clause-stand c = ok_if c.close.result _ (stand_at _ _ _ c.in_ok-holder.ensures.stand c.close.ensures.desk)
+
+pub returns-clause-stand : goal.returns-clause-stand
+returns-clause-stand c = stand_on c.wait.result _ _ _ (stand_at _ _ _ c.in_ok-holder.ensures.stand (c.in_ok-close_link.ensures.desk ∙ c.let_go.ensures.desk)) c.wait.ensures.stand

@@ -4,6 +4,7 @@ use Rattle.tds_relay.proofs.steps.Staying.{opens_served}
 use Rattle.tds_relay.proofs.steps.Stepping.{steps_on_ok}
 use Rattle.tds_relay.proofs.steps.Told.{tells_ok, tells_steps}
 use Rattle.tds_relay.proofs.steps.Asked.{asks_ok}
+use Rattle.tds_relay.proofs.bytes.Walking.{stand_on}
 use Rattle.tds_relay.proofs.relay.Relay.said.Goals as goal
 
 pub returns-clause-steps : goal.returns-clause-steps
@@ -21,3 +22,6 @@ returns-clause-opens c = opens_served c.serve_line.result _ _ _ c.in_ok-take_all
 pub returns-clause-asks : goal.returns-clause-asks
 returns-clause-asks c =
     asks_ok c.serve_line.result c.args.key (house_in c.args.self.now) _ _ _ _ _ _ _ _ c.in_ok-take_all.ensures.asks c.serve_line.ensures.moves c.serve_line.ensures.kept c.serve_line.ensures.opens
+
+pub returns-clause-stand : goal.returns-clause-stand
+returns-clause-stand c = stand_on c.serve_line.result _ _ _ c.in_ok-take_all.ensures.stand c.serve_line.ensures.stand

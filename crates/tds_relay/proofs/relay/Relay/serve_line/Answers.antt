@@ -10,7 +10,11 @@ line-preserved c = record {
   kept = c.in_ok-lend-in-Some.ensures.kept ∙ c.line.invariant.kept;
   moves = λ by from h. c.in_ok-lend-in-Some.ensures.moves by from (moves_does by from _ _ _ _ _ _ _ c.in_ok-served.ensures.ok.0 tt tt refl (c.line.invariant.moves by from h));
   opens = opens_both _ _ _ c.line.invariant.opens c.in_ok-lend-in-Some.ensures.opens;
+  stand = λ n r h. c.in_ok-lend-in-Some.ensures.stand n r (c.in_ok-served.ensures.stand n r (c.line.invariant.stand n r h));
 }
 
 pub returns-in-None-clause-moves : goal.returns-in-None-clause-moves
 returns-in-None-clause-moves c = λ by from h. moves_does by from _ _ _ _ _ _ _ c.in_ok-served.ensures.ok.0 tt tt refl (c.line.invariant.moves by from h)
+
+pub returns-in-None-clause-stand : goal.returns-in-None-clause-stand
+returns-in-None-clause-stand c = λ n r h. c.in_ok-served.ensures.stand n r (c.line.invariant.stand n r h)

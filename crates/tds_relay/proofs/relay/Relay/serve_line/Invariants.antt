@@ -3,6 +3,7 @@ use Rattle.tds_relay.specs.Fronts.{MovedOn, hall_in}
 use Rattle.tds_relay.specs.Posts.{posts_in}
 use Rattle.tds_relay.specs.Reads.{Opens}
 use Rattle.tds_relay.specs.Ties.{GoesOn, desk_in}
+use Rattle.tds_relay.specs.Walkers.{AllStand}
 use Rattle.tds_relay.proofs.relay.Relay.serve_line.Given as goal
 
 abbrev pub invariant-line : goal.invariant-line
@@ -11,4 +12,5 @@ invariant-line l = record {
   kept : posts_in l.self.applications ≡ posts_in l.fn.self.applications;
   moves : MovedOn (hall_in l.fn.self) (hall_in l.self);
   opens : Opens l.fn.self.links.items l.self.links.items;
+  stand : AllStand l.fn.self.desk.service l.self.desk.service;
 }

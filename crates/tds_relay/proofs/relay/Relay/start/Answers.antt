@@ -4,6 +4,7 @@ use Rattle.tds_relay.specs.Ties.{desk_in}
 use Rattle.tds_relay.proofs.steps.Fronts.{moves_closes, moves_does}
 use Rattle.tds_relay.proofs.steps.Reaching.{ok_more, reaches_turn}
 use Rattle.tds_relay.proofs.steps.Underway.{drains}
+use Rattle.tds_relay.proofs.bytes.Walking.{stand_on}
 use Rattle.tds_relay.proofs.relay.Relay.start.Goals as goal
 
 pub returns-in-Ok-clause-goes : goal.returns-in-Ok-clause-goes
@@ -22,3 +23,6 @@ returns-then-application-2-clause-underway c = λ whole waits.
 
 pub returns-then-not-is_open-clause-underway : goal.returns-then-not-is_open-clause-underway
 returns-then-not-is_open-clause-underway c = λ whole waits. Opens c.in-Some-hold_of.hold (sym c.hold_of.ensures ∙ c.in-Some-hold_of.is) (c.is_open.ensures (search rules))
+
+pub returns-in-Ok-clause-stand : goal.returns-in-Ok-clause-stand
+returns-in-Ok-clause-stand c = stand_on c.put_held.result _ _ _ c.in-Ok.ensures.stand c.put_held.ensures.stand

@@ -3,6 +3,8 @@ use Rattle.tds_relay.specs.declared.relay.Relay.{Relay}
 use Rattle.tds_relay.specs.Fronts.{house_in}
 use Rattle.tds_relay.specs.Reads.{Stays}
 use Rattle.tds_relay.specs.Taking.{Tells}
+use Rattle.tds_relay.specs.Walkers.{AllStand}
+use Rattle.tds_relay.proofs.steps.Reaching.{ok_more}
 use Rattle.tds_relay.proofs.steps.Staying.{stays_both, stays_on, stays_refl}
 use Rattle.tds_relay.proofs.steps.Told.{tells_begin, tells_expelled, tells_left}
 use Rattle.tds_relay.specs.Asking.{Asks}
@@ -16,6 +18,7 @@ taking-init c = record {
   tells = tells_begin c.args.key (house_in c.args.self.now) c.args.piece.now;
   asks = asks_begin c.args.key (house_in c.args.self.now) c.args.piece.now c.args.self.now.links.items;
   read = stays_refl c.args.self.now.links.items;
+  stand = λ n r h. h;
 }
 
 pub taking-preserved : goal.taking-preserved
@@ -24,6 +27,7 @@ taking-preserved c = record {
   tells = tells_left c.args.key _ _ _ _ _ c.behind-rest.ensures (c.in_ok-count.ensures.tells (house_in c.args.self.now) c.args.piece.now c.taking.invariant.tells);
   asks = asks_left c.args.key _ _ _ _ _ _ c.behind-rest.ensures (c.in_ok-count.ensures.asks (house_in c.args.self.now) c.args.piece.now c.taking.invariant.asks);
   read = stays_both _ _ _ c.taking.invariant.read c.in_ok-count.ensures.read;
+  stand = λ n r h. c.in_ok-count.ensures.stand n r (c.taking.invariant.stand n r h);
 }
 
 pub returns-clause-tells : goal.returns-clause-tells
@@ -63,3 +67,13 @@ returns-clause-asks c =
 pub returns-then-is_empty-clause-asks : goal.returns-then-is_empty-clause-asks
 returns-then-is_empty-clause-asks c =
     asks_left c.args.key _ _ _ _ _ _ (empty_is c.taking.rest.now (sym c.is_empty.ensures ∙ c.if-is_empty.true)) c.taking.invariant.asks
+
+pub returns-clause-stand : goal.returns-clause-stand
+returns-clause-stand c =
+    let to : Relay → Type 0 = λ r. AllStand c.args.self.now.desk.service r.desk.service in
+    let led : to c.taking-test.self =
+    elim c.taking-test.branch [
+      | else-taking-test w ↦ subst to (sym w.self-is) c.taking.invariant.stand
+      | then-taking-test+else-is_empty+in_ok-count+else-counter-end w ↦ subst to (sym w.self-is) (λ n r h. w.in_ok-count.ensures.stand n r (c.taking.invariant.stand n r h))
+    ] in
+    ok_more c.expel.result _ _ (λ later n r h. later n r (led n r h)) c.expel.ensures.stand

@@ -3,6 +3,7 @@ use Rattle.tds_relay.specs.Fronts.{house_in}
 use Rattle.tds_relay.specs.Reads.{Stays}
 use Rattle.tds_relay.specs.Taking.{Tells}
 use Rattle.tds_relay.specs.Ties.{Application, Goes, desk_in}
+use Rattle.tds_relay.specs.Walkers.{AllStand}
 use Rattle.tds_relay.proofs.relay.Relay.take_all.Given as goal
 
 abbrev pub invariant-taking : goal.invariant-taking
@@ -11,4 +12,5 @@ invariant-taking l = record {
   tells : Tells l.fn.key (house_in l.fn.self) l.fn.piece l.rest (house_in l.self);
   asks : Asks l.fn.key (house_in l.fn.self) l.fn.piece l.rest l.self.links.items (house_in l.self);
   read : Stays l.fn.self.links.items l.self.links.items;
+  stand : AllStand l.fn.self.desk.service l.self.desk.service;
 }

@@ -2,6 +2,7 @@ use Rattle.std.proofs.Common.{refl, rules}
 use Rattle.tds_relay.specs.Ties.{Application}
 use Rattle.tds_relay.proofs.steps.Fronts.{moves_closes, moves_does}
 use Rattle.tds_relay.proofs.steps.Reaching.{ok_more, reaches_turn}
+use Rattle.tds_relay.proofs.bytes.Walking.{stand_on}
 use Rattle.tds_relay.proofs.relay.Relay.unask.Goals as goal
 
 pub returns-then-not-has_nothing_out-clause-moves : goal.returns-then-not-has_nothing_out-clause-moves
@@ -19,3 +20,9 @@ returns-in-Ok-clause-moves c =
 pub returns-in-Err-clause-moves : goal.returns-in-Err-clause-moves
 returns-in-Err-clause-moves c =
     ok_more c.expel-in-Err.result _ _ (λ m from h. m from (moves_closes (Application c.args.key) from _ _ _ _ c.args.key c.in-Err.ensures.err refl h)) c.expel-in-Err.ensures.moves
+
+pub returns-in-Ok-clause-stand : goal.returns-in-Ok-clause-stand
+returns-in-Ok-clause-stand c = stand_on c.send_on.result _ _ _ c.in-Ok.ensures.stand c.send_on.ensures.stand
+
+pub returns-in-Err-clause-stand : goal.returns-in-Err-clause-stand
+returns-in-Err-clause-stand c = stand_on c.expel-in-Err.result _ _ _ c.in-Err.ensures.stand c.expel-in-Err.ensures.stand

@@ -38,3 +38,9 @@ pub returns-in-Ok-finish-clause-sends : goal.returns-in-Ok-finish-clause-sends
 returns-in-Ok-finish-clause-sends c = λ e.
     let whole : c.args.whole ≡ true = search rules in
     subst (λ (b : Bool). SendsOn b (desk_in c.finish.new.self) c.args.key) (sym whole) c.in-Ok-finish.ensures.sends
+
+pub returns-in-Ok-finish-clause-stand : goal.returns-in-Ok-finish-clause-stand
+returns-in-Ok-finish-clause-stand c = λ n r h. c.in-Ok-finish.ensures.stand n r (c.in-Ok.ensures.stand n r h)
+
+pub returns-in-Err-clause-stand : goal.returns-in-Err-clause-stand
+returns-in-Err-clause-stand c = λ n r h. c.in-Err.ensures.stand n r (c.in-Ok.ensures.stand n r h)

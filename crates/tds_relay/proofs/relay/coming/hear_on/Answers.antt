@@ -2,6 +2,7 @@ use Rattle.std.proofs.Common.{◌≡◌, ◌∙◌, false, rules, sym, true}
 use Rattle.tds_packet.specs.declared.kind.Direction.TheVariants.{ToClient}
 use Rattle.tds_service.specs.Table.{reading_on}
 use Rattle.tds_relay.proofs.steps.Handed.{done_keeps, hears_is}
+use Rattle.tds_relay.proofs.bytes.Walking.{reads_by}
 use Rattle.tds_relay.proofs.relay.coming.hear_on.Goals as goal
 
 pub invariant_of-link-2 : goal.invariant_of-link-2
@@ -18,3 +19,6 @@ pub returns-clause-hears : goal.returns-clause-hears
 returns-clause-hears c =
     hears_is c.reads_packets.ensures.less c.reads_packets.ensures.nothing c.args.number (reading_on c.args.number c.args.desk.now.service) c.args.link.now _ c.args.piece.now _ _ _ _ _ _
     c.feed.ensures.taken c.in-Ok.ensures.count c.in_ok-heard.ensures.brings c.in_ok-heard.ensures.reader c.done.ensures.next c.done.ensures.same
+
+pub returns-clause-read : goal.returns-clause-read
+returns-clause-read c = reads_by c.reads_packets.ensures.one c.args.number _ _ c.in_ok-heard.heard _ _ c.feed.ensures.taken c.in_ok-heard.ensures.read

@@ -15,6 +15,7 @@ use Rattle.tds_relay.proofs.steps.Handed.{end_whose_is, handed_for, handed_is, h
 use Rattle.tds_relay.proofs.steps.Posting.{posts_kept}
 use Rattle.tds_relay.proofs.steps.Reaching.{reaches_turn}
 use Rattle.tds_relay.proofs.steps.Resets.{heard_so, told_for, unowed}
+use Rattle.tds_relay.proofs.bytes.Walking.{has_read}
 use Rattle.tds_relay.proofs.relay.coming.hear_packet.Goals as goal
 
 -- where it isn't handed on
@@ -134,3 +135,18 @@ returns-then-not-hears-clause-ends c =
 pub returns-clause-ends : goal.returns-clause-ends
 returns-clause-ends c =
     ends_kept c.args.applications.now c.in-Some-key.key c.in-Some-get_mut.application.now c.hand_on.new.application c.in-Some-get_mut.ensures.value c.in_ok-hand_on.ensures.end
+
+pub returns-then-matches-clause-read : goal.returns-then-matches-clause-read
+returns-then-matches-clause-read c = has_read c.args.number _ c.in-Some.packet.header c.in-Some.packet.«data».now c.ends-ends.result _ _ c.in-Some.ensures.lent c.ends-ends.ensures c.in_ok-heard.ensures.read
+
+pub returns-in_default-key-clause-read : goal.returns-in_default-key-clause-read
+returns-in_default-key-clause-read c = has_read c.args.number _ c.in-Some.packet.header c.in-Some.packet.«data».now c.ends-ends.result _ _ c.in-Some.ensures.lent c.ends-ends.ensures c.in_ok-heard.ensures.read
+
+pub returns-in_default-get_mut-clause-read : goal.returns-in_default-get_mut-clause-read
+returns-in_default-get_mut-clause-read c = has_read c.args.number _ c.in-Some.packet.header c.in-Some.packet.«data».now c.ends-ends.result _ _ c.in-Some.ensures.lent c.ends-ends.ensures c.in_ok-heard.ensures.read
+
+pub returns-then-not-hears-clause-read : goal.returns-then-not-hears-clause-read
+returns-then-not-hears-clause-read c = has_read c.args.number _ c.in-Some.packet.header c.in-Some.packet.«data».now c.ends-ends.result _ _ c.in-Some.ensures.lent c.ends-ends.ensures c.in_ok-heard.ensures.read
+
+pub returns-clause-read : goal.returns-clause-read
+returns-clause-read c = has_read c.args.number _ c.in-Some.packet.header c.in-Some.packet.«data».now c.ends-ends.result _ _ c.in-Some.ensures.lent c.ends-ends.ensures c.in_ok-heard.ensures.read

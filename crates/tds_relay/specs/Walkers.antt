@@ -1,0 +1,93 @@
+-- Where the walker over what a connection answers stands: each packet is read from where the one before has left it, each message anew.
+use Rattle.std.specs.Prelude.{◌≡◌, ◌⊎◌, ◌≤◌, ℕ, ◌==◌, Bool, List, [], ◌∷◌, Option, Some, None, if◌then◌else◌}
+use Rattle.tds_packet.specs.declared.header.Header.{Header}
+use Rattle.tds_packet.specs.Layout.{IsPacket}
+use Rattle.tds_packet.specs.Reading as packets
+use Rattle.tds_packet.specs.Reading.{IsWhole}
+use Rattle.tds_listen.specs.Hearing.{Stop, Stands, Fails, tokens_in}
+use Rattle.tds_wire.specs.declared.told.Token.{Token}
+use Rattle.tds_wire.specs.Reading.{Reading}
+use Rattle.tds_service.specs.declared.service.Service as services
+use Rattle.tds_service.specs.Packets.{behind_packet, packet_part}
+use Rattle.tds_service.specs.Parts.{Part}
+use Rattle.tds_service.specs.Service.{Service, Call, Seat, new_service, seat_numbered, service_after}
+use Rattle.tds_service.specs.Table.{reading_on, service_in}
+use Rattle.tds_relay.specs.declared.desk.coming.Heard.{Heard}
+use Rattle.tds_relay.specs.Cutting.{ends_in}
+use Rattle.tds_relay.specs.House.{House, Step, Hands, after}
+
+-- ---- What a packet moves
+
+-- where a walker stands behind a packet's data, which end their message or not
+abbrev pub read_to : Bool → Reading → Stop → Reading
+read_to ends r (Stands next) = behind_packet ends next
+read_to ends r (Fails refusal) = r
+
+-- the same of a packet on this connection, or on another one
+abbrev pub read_at : ℕ → ℕ → Bool → List ℕ → Reading → Reading
+read_at number other ends content r = if other == number then read_to ends r (tokens_in r content).stop else r
+
+-- ---- Along steps
+
+-- A packet of a connection that the service has is read from there.
+abbrev pub IsReadBy : Option Seat → Reading → Header → List ℕ → Part Token → Type 0
+IsReadBy None r header content part = Unit {0}
+IsReadBy (Some c) r header content part = part ≡ packet_part r content (ends_in header)
+
+abbrev pub IsReadAt : ℕ → Reading → House → Step → Type 0
+IsReadAt number r h (Hands other header content part way manner) = number ≡ other → IsReadBy (seat_numbered other h.hall.desk.service.seats) r header content part
+IsReadAt number r h step = Unit {0}
+
+abbrev pub stands_by : ℕ → Reading → Step → Reading
+stands_by number r (Hands other header content part way manner) = read_at number other (ends_in header) content r
+stands_by number r step = r
+
+-- Each packet on the connection of this number is read from where the one before has left its walker.
+abbrev pub AreRead : ℕ → Reading → House → List Step → Type 0
+AreRead number r h [] = Unit {0}
+AreRead number r h (step ∷ steps) = IsReadAt number r h step × AreRead number (stands_by number r step) (after h step) steps
+
+abbrev pub stands_behind : ℕ → Reading → List Step → Reading
+stands_behind number r [] = r
+stands_behind number r (step ∷ steps) = stands_behind number (stands_by number r step) steps
+
+-- ---- In a service
+
+-- Calls led to it from a new one.
+abbrev pub IsLed : Service → Type 0
+IsLed s = (max : ℕ) × (all : List (Call Token)) × (service_after (new_service max) all ≡ s)
+
+-- The walker of the connection of this number stands there; or the connection is there no more, and no other has its number.
+pub record StandsAt (number : ℕ) (r : Reading) (s : services.Service) : Type 0 where
+  pub led : IsLed (service_in s)
+  pub given : number ≤ s.last
+  pub there : (now : Reading) → reading_on number s ≡ Some now → now ≡ r
+
+-- Each stands where it stood.
+abbrev pub AllStand : services.Service → services.Service → Type 0
+AllStand old new = (number : ℕ) (r : Reading) → StandsAt number r old → StandsAt number r new
+
+-- A packet with these data has come on the connection of this number.
+abbrev pub AllRead : ℕ → Bool → List ℕ → services.Service → services.Service → Type 0
+AllRead number ends content old new = (other : ℕ) (r : Reading) → StandsAt other r old → StandsAt other (read_at other number ends content r) new
+
+-- That which a reader has, if it has one.
+abbrev pub HasRead : ℕ → packets.Reading → services.Service → services.Service → Type 0
+HasRead number r old new =
+    ((¬ IsWhole r) × AllStand old new)
+    ⊎ ((header : Header) × (content : List ℕ) × IsPacket r.direction r.size r.taken header content × AllRead number (ends_in header) content old new)
+
+-- whatever packet that is
+pub record ReadsOn (number : ℕ) (r : packets.Reading) (old new : services.Service) : Type 0 where
+  pub none : ¬ IsWhole r → AllStand old new
+  pub one : (header : Header) (content : List ℕ) → IsPacket r.direction r.size r.taken header content → AllRead number (ends_in header) content old new
+
+-- a header with a fault is no packet's
+abbrev pub ReadsBy : ℕ → packets.Reading → Option Heard → services.Service → services.Service → Type 0
+ReadsBy number r None old new = AllStand old new
+ReadsBy number r (Some heard) old new = ReadsOn number r old new
+
+-- Behind steps each walker stands where their packets lead it, which are read from there.
+pub record Walks (from : services.Service) (old : House) (steps : List Step) (to : services.Service) : Type 0 where
+  pub each : (number : ℕ) (r : Reading) → StandsAt number r from → AreRead number r old steps
+  pub stand : (number : ℕ) (r : Reading) → StandsAt number r from → StandsAt number (stands_behind number r steps) to
