@@ -1,6 +1,8 @@
 pub mod Anew
+pub mod Calls
 pub mod Cuts
 pub mod Following
+pub mod Reader
 pub mod Rereading
 pub mod Streaming
 pub mod Taking

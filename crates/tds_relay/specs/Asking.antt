@@ -13,8 +13,8 @@ use Rattle.tds_relay.specs.declared.application.Asking.TheVariants as asking
 use Rattle.tds_relay.specs.declared.desk.Hold.{Hold}
 use Rattle.tds_relay.specs.declared.link.Link.{Link}
 use Rattle.tds_relay.specs.Desk.{Desk, find_key}
-use Rattle.tds_relay.specs.Hall.{End, Ends, Hall, Open, Over, end_at, is_in}
-use Rattle.tds_relay.specs.House.{House, Step, Makes, Takes, after, after_all}
+use Rattle.tds_relay.specs.Hall.{End, Hall, Open, Over, end_at, is_in}
+use Rattle.tds_relay.specs.House.{House, Step, Makes, Takes, after}
 use Rattle.tds_relay.specs.Reads.{open_at}
 use Rattle.tds_relay.specs.Taking.{IsDeaf, Tells}
 

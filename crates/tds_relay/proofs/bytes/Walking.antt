@@ -1,23 +1,18 @@
 -- Walkers stand where they stood, behind any call of the service that reads nothing.
-use Rattle.std.proofs.Common.{◌≡◌, ◌≢◌, ◌∙◌, ◌==◌, ◌≤◌, ℕ, suc, Bool, true, false, List, [], ◌∷◌, ◌++◌, length, refl, sym, ap, subst, inl, inr, arith}
-use Rattle.std.specs.Prelude.{Option, Some, None, Result, Ok, Err, OnOk, nat_lt, if◌then◌else◌}
+use Rattle.std.proofs.Common.{◌≡◌, ◌≢◌, ◌∙◌, ◌==◌, ◌≤◌, ℕ, suc, Bool, true, false, List, [], ◌∷◌, ◌++◌, length, refl, sym, ap, subst, arith}
+use Rattle.std.specs.Prelude.{Option, Some, None, nat_lt, if◌then◌else◌}
 use Rattle.std.proofs.lemmas.Bool.{eqb-true}
 use Rattle.tds_client.specs.declared.fault.ClientRefusal.{ClientRefusal}
 use Rattle.tds_wire.specs.declared.told.Token.{Token}
 use Rattle.tds_wire.specs.Reading.{Reading}
-use Rattle.tds_packet.specs.declared.header.Header.{Header}
-use Rattle.tds_packet.specs.Layout.{IsPacket}
-use Rattle.tds_packet.specs.Reading as readers
 use Rattle.tds_listen.specs.Hearing.{Stop, tokens_in}
-use Rattle.tds_relay.specs.declared.desk.Desk as code
-use Rattle.tds_relay.specs.declared.desk.coming.Heard.{Heard}
 use Rattle.tds_packet.specs.declared.status.Reset.TheVariants.{Full, KeepTransaction}
 use Rattle.tds_service.specs.declared.place.Rest.{Rest}
 use Rattle.tds_service.specs.declared.place.Rest.TheVariants as rests
 use Rattle.tds_service.specs.declared.seat.Seat as seats
 use Rattle.tds_service.specs.declared.service.Service as services
 use Rattle.tds_service.specs.Line as line
-use Rattle.tds_service.specs.Line.{Line, Act, Stage, new_line}
+use Rattle.tds_service.specs.Line.{Line, Act, new_line}
 use Rattle.tds_service.specs.History.{line_after}
 use Rattle.tds_service.specs.Parts.{Part}
 use Rattle.tds_service.specs.Refusing.{packets, refusal_in}
@@ -28,8 +23,7 @@ use Rattle.tds_service.specs.Table.{Keeps, KeepsOthers, KeepsBy, StepsIn, readin
 use Rattle.tds_service.proofs.Numbered.{added_other, change_out, same_number}
 use Rattle.tds_service.proofs.Tests.{below}
 use Rattle.tds_relay.specs.Ties.{lost_by}
-use Rattle.tds_relay.specs.Cutting.{ends_in}
-use Rattle.tds_relay.specs.Walkers.{AllRead, AllStand, HasRead, IsLed, ReadsBy, ReadsOn, StandsAt, read_at, read_to}
+use Rattle.tds_relay.specs.Walkers.{AllRead, AllStand, IsLed, StandsAt, read_at, read_to}
 use Rattle.tds_relay.proofs.promises.Seats.{Distinct, found_meets, none_changed}
 use Rattle.tds_relay.proofs.promises.Tidy.{Tidy, all_rise}
 
@@ -382,46 +376,3 @@ unknown_by s number n ends content r false e none h =
 
 pub unknown_read : (s : services.Service) (number : ℕ) (ends : Bool) (content : List ℕ) → seat_numbered number (service_in s).seats ≡ None → AllRead number ends content s s
 unknown_read s number ends content none n r h = unknown_by s number n ends content r (number == n) refl (seat_unread number s none) h
-
--- ---- What a reader has
-
-pub has_read : (number : ℕ) (r : readers.Reading) (header : Header) (content : List ℕ) (ends : Bool) (old new : services.Service) → IsPacket r.direction r.size r.taken header content → ends ≡ ends_in header
-    → AllRead number ends content old new → HasRead number r old new
-has_read number r header content ends old new packet last all =
-    inr (header, content, packet, subst (λ (b : Bool). AllRead number b content old new) last all)
-
-abbrev OnePacket : Type 0
-OnePacket = (r : readers.Reading) (one other : Header) (first second : List ℕ) → IsPacket r.direction r.size r.taken one first → IsPacket r.direction r.size r.taken other second → (one ≡ other) × (first ≡ second)
-
-pub reads_one : OnePacket → (number : ℕ) (r : readers.Reading) (old new : services.Service) → HasRead number r old new → ReadsOn number r old new
-reads_one unique number r old new (inl h) = record { none = λ not. h.1; one = λ header content packet. absurd (h.0 (header, content, packet)) }
-reads_one unique number r old new (inr (header, content, packet, all)) = record {
-  none = λ not. absurd (not (header, content, packet));
-  one = λ other next its.
-      let same = unique r header other content next packet its in
-      subst (λ (c : List ℕ). AllRead number (ends_in other) c old new) same.1 (subst (λ (x : Header). AllRead number (ends_in x) content old new) same.0 all);
-}
-
-pub reads_by : OnePacket → (number : ℕ) (r s : readers.Reading) (heard : Heard) (old new : services.Service) → r ≡ s → HasRead number r old new → ReadsBy number s (Some heard) old new
-reads_by unique number r s heard old new is h = reads_one unique number s old new (subst (λ (x : readers.Reading). HasRead number x old new) is h)
-
--- ---- One call behind the other
-
-pub stand_on : {A E : Type 0} (r : Result A E) (s t u : services.Service) → AllStand s t → OnOk r (AllStand t u) → OnOk r (AllStand s u)
-stand_on (Ok x) s t u first next = λ n r h. next n r (first n r h)
-stand_on (Err e) s t u first next = tt
-
--- the desk is as it was
-pub stand_at : (s : services.Service) (d e : code.Desk) → AllStand s d.service → e ≡ d → AllStand s e.service
-stand_at s d e first same n r h = subst (λ (x : code.Desk). StandsAt n r x.service) (sym same) (first n r h)
-
-pub stand_desk : {A E : Type 0} (r : Result A E) (s : services.Service) (d e : code.Desk) → AllStand s d.service → OnOk r (e ≡ d) → OnOk r (AllStand s e.service)
-stand_desk (Ok x) s d e first same = stand_at s d e first same
-stand_desk (Err x) s d e first same = tt
-
-pub stand_back : (d e : code.Desk) (u : services.Service) → e ≡ d → AllStand e.service u → AllStand d.service u
-stand_back d e u same next n r h = next n r (subst (λ (x : code.Desk). StandsAt n r x.service) (sym same) h)
-
-pub stand_from : {A E : Type 0} (r : Result A E) (d e : code.Desk) (u : services.Service) → e ≡ d → OnOk r (AllStand e.service u) → OnOk r (AllStand d.service u)
-stand_from (Ok x) d e u same next = stand_back d e u same next
-stand_from (Err x) d e u same next = tt

@@ -9,7 +9,6 @@ use Rattle.tds_front.specs.Passing.{Event as Passed}
 use Rattle.tds_front.specs.Serving.{Place, Ready}
 use Rattle.tds_service.specs.Line.{Packet}
 use Rattle.tds_service.specs.Parts.{Part}
-use Rattle.tds_service.specs.Service.{on}
 use Rattle.tds_relay.specs.Desk as desk
 use Rattle.tds_relay.specs.Desk.{Deed, Desk, Event, Way, find_key, turn, whose}
 use Rattle.tds_relay.specs.Behind.{gone_on, if_open, if_whose, said_in, unless_withdrawn}

@@ -12,18 +12,17 @@ use Rattle.tds_relay.specs.declared.link.Link.{Link}
 use Rattle.tds_relay.specs.Asking.{AreObeyed, Asks, Closes, Drains, IfAsks, IsUnderway, Opens, Sends, Soon, Waits, said_in, said_of}
 use Rattle.tds_relay.specs.Desk.{Desk}
 use Rattle.tds_relay.specs.Fronts.{ClosesInstead, FedOn, IsFed, Moved, MovedOn, TakesBetween, given_by, hall_of_ends, house_with}
-use Rattle.tds_relay.specs.Hall as hall
-use Rattle.tds_relay.specs.Hall.{End, Ends, Feeds, Hall, Move, Moves, Open, Over, change_end, closes, end_at, moved, moved_all}
+use Rattle.tds_relay.specs.Hall.{End, Ends, Feeds, Hall, Move, Moves, Open, change_end, closes, end_at, moved, moved_all}
 use Rattle.tds_relay.specs.House.{House, Step, Admits, Hands, Makes, Removes, Takes, Writes, after, after_all, owed, put_some}
 use Rattle.tds_relay.specs.Posts.{Posts, change}
 use Rattle.tds_relay.specs.Reads as reads
 use Rattle.tds_relay.specs.Reads.{StaysAt, open_at}
-use Rattle.tds_relay.specs.Taking.{IsDeaf, Tells, left_by}
+use Rattle.tds_relay.specs.Taking.{IsDeaf, left_by}
 use Rattle.tds_relay.specs.Ties.{Application}
 use Rattle.tds_relay.proofs.steps.Fed.{left_fed, waits_fed}
 use Rattle.tds_relay.proofs.steps.Fronts.{moves_closes, no_moves}
 use Rattle.tds_relay.proofs.steps.Staying.{stays_opens}
-use Rattle.tds_relay.proofs.steps.Stepping.{after_makes, makes_all}
+use Rattle.tds_relay.proofs.steps.Stepping.{makes_all}
 use Rattle.tds_relay.proofs.steps.Told.{deaf_closed, tells_begin, tells_deaf, tells_moves, tells_takes}
 
 -- ---- Steps one behind the other

@@ -25,7 +25,7 @@ use Rattle.tds_relay.specs.Fronts.{IsWhat, end_of, ends_in as ends_of, house_wit
 use Rattle.tds_relay.specs.Hall as hall
 use Rattle.tds_relay.specs.Hall.{End, Ends, Open, Over, done_by, end_at, told, what_in}
 use Rattle.tds_relay.specs.Handing.{Brings, Hears, IsBy, IsDone, IsFor, IsOf, Passing, fed}
-use Rattle.tds_relay.specs.House.{House, IsHanded, IsRight, IsTold, Manner, MayHand, Withheld, after, behind_news, change_whose, closes, end_whose, handed, hears_of_reset, is_said, put_all, put_some}
+use Rattle.tds_relay.specs.House.{House, IsHanded, IsRight, IsTold, Manner, MayHand, Withheld, behind_news, change_whose, closes, end_whose, handed, hears_of_reset, is_said, put_all, put_some}
 use Rattle.tds_relay.specs.Posts.{Post, Posts, change, post_at, post_of, posts_in, put, put_news}
 use Rattle.tds_relay.specs.Ties.{Turns, part_on}
 use Rattle.tds_relay.proofs.steps.Fronts.{end_is, told_whose}

@@ -18,7 +18,6 @@ use Rattle.tds_token.specs.declared.env_change.EnvChange.{EnvChange}
 use Rattle.tds_listen.specs.Hearing.{heard_by}
 use Rattle.tds_listen.specs.declared.fault.ListenFault.{ListenFault}
 use Rattle.tds_wire.specs.declared.told.Token.{Token}
-use Rattle.tds_service.specs.History.{Done, history}
 use Rattle.tds_service.specs.Line as line
 use Rattle.tds_service.specs.Line.{Line, Stage, turn}
 use Rattle.tds_service.specs.Parts as parts
@@ -28,14 +27,13 @@ use Rattle.tds_service.specs.Service.{Place, Seat, Service, change_by, drained, 
 use Rattle.tds_relay.specs.declared.desk.Hold.{Hold}
 use Rattle.tds_relay.specs.declared.desk.coming.Heard as code
 use Rattle.tds_relay.specs.declared.link.Answer.{Answer}
-use Rattle.tds_relay.specs.declared.link.News.{News}
 use Rattle.tds_relay.specs.Desk as desk
 use Rattle.tds_relay.specs.Desk.{Desk, Hearing, Way, find_lease, hearing_of, key_of, owes_of, owes_reset, whose, whose_by}
 use Rattle.tds_relay.specs.Hall.{done_by, what_in, what_of}
 use Rattle.tds_relay.specs.Fronts.{IsWhat}
 use Rattle.tds_relay.specs.Ties.{Turns}
-use Rattle.tds_relay.specs.Handing.{IsBy, IsOf, news_for}
-use Rattle.tds_relay.specs.House.{IsTold, Manner, Whole, Without, Withheld, closes, counted, news_in, tellings}
+use Rattle.tds_relay.specs.Handing.{IsBy, news_for}
+use Rattle.tds_relay.specs.House.{IsTold, Manner, Whole, Without, closes, counted, news_in}
 use Rattle.tds_relay.specs.Promises.{one_if}
 
 -- ---- Of signs

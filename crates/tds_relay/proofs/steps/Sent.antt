@@ -11,8 +11,7 @@ use Rattle.tds_service.specs.Service as calls
 use Rattle.tds_service.specs.Service.{Call, Did, Place, Reply, Seat, Service, acts, acts_unless, change_by, find_by, has_lease, step}
 use Rattle.tds_relay.specs.declared.desk.Hold.{Hold}
 use Rattle.tds_relay.specs.Asking.{IsSent, SendsOn, stage_by}
-use Rattle.tds_relay.specs.Desk as desk
-use Rattle.tds_relay.specs.Desk.{Desk, Deed, call_of, does, find_key, turn as turns}
+use Rattle.tds_relay.specs.Desk.{Desk, find_key}
 
 -- ---- On one line
 

@@ -3,20 +3,18 @@ use Rattle.std.proofs.Common.{◌≡◌, ◌⊎◌, ◌∙◌, ◌<◌, ◌≤�
 use Rattle.std.proofs.lemmas.Bool.{cases_lt, eq-eqb}
 use Rattle.std.proofs.lemmas.List.{get_or-set_same}
 use Rattle.std.proofs.Math.ListN.{get_or-eq_default}
-use Rattle.std.specs.Prelude.{Result, Ok, Err, OnOk, is_some}
+use Rattle.std.specs.Prelude.{is_some}
 use Rattle.slab.specs.Slab.{Slab, get, with_value}
 use Rattle.tds_client.specs.declared.message.MessageKind.{MessageKind}
 use Rattle.tds_relay.specs.declared.application.Application.{Application}
-use Rattle.tds_relay.specs.declared.application.Asking.{Asking}
 use Rattle.tds_relay.specs.declared.application.Asking.TheVariants as asking
 use Rattle.tds_relay.specs.declared.desk.Hold.{Hold}
 use Rattle.tds_relay.specs.declared.link.Link.{Link}
-use Rattle.tds_relay.specs.Asking.{Closes, Drains, IsTakenBack, IsUnderway, Opens, Sends, SendsOn, Waits, waits_in, waits_of}
+use Rattle.tds_relay.specs.Asking.{Closes, Drains, IsTakenBack, IsUnderway, Waits, waits_in, waits_of}
 use Rattle.tds_relay.specs.Desk as desk
 use Rattle.tds_relay.specs.Desk.{Desk, find_key, turn}
 use Rattle.tds_relay.specs.Fronts.{end_of, ends_in, hall_of_ends}
-use Rattle.tds_relay.specs.Hall.{End, Ends, Hall, Open, Over, change_end, closes, end_at, is_in}
-use Rattle.tds_relay.specs.Reads.{open_at}
+use Rattle.tds_relay.specs.Hall.{End, Ends, Open, Over, change_end, closes, end_at, is_in}
 use Rattle.tds_relay.specs.Taking.{IsDeaf}
 use Rattle.tds_relay.proofs.steps.Fed.{end_open, end_there}
 use Rattle.tds_relay.proofs.steps.Fronts.{end_is}

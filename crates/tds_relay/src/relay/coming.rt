@@ -5,7 +5,6 @@ ghost use Rattle.tds_service.specs.Table.{reading_on};
 ghost use Rattle.tds_relay.specs.Fronts.{Moved, end_of, ends_in, hall_in, hall_of_ends, told_by};
 ghost use Rattle.tds_relay.specs.Fronts.{house_in, house_of, house_with};
 ghost use Rattle.tds_relay.specs.Hall.{change_end, change_whose, told};
-ghost use Rattle.tds_relay.specs.declared.desk.coming.What.TheVariants.{Acknowledged, Finished};
 ghost use Rattle.tds_relay.specs.declared.desk.coming.What.TheVariants as whats;
 ghost use Rattle.tds_relay.specs.Handing.{Brings, HearsBy, Passes, news_for, fed};
 ghost use Rattle.tds_relay.specs.House.{Steps};
@@ -191,7 +190,7 @@ impl Relay {
         ensures desk { self.new.desk ≡ self.old.desk }
         ensures kept { posts_in self.new.applications ≡ posts_in self.old.applications }
         ensures ends { ends_in self.new.applications
-            ≡ change_end key (told Finished) (ends_in self.old.applications) }
+            ≡ change_end key (told whats.Finished) (ends_in self.old.applications) }
         ensures links { self.new.links.items ≡ self.old.links.items }
     {
         match self.applications.get_mut(key) {
@@ -205,7 +204,7 @@ impl Relay {
         ensures desk { self.new.desk ≡ self.old.desk }
         ensures kept { posts_in self.new.applications ≡ posts_in self.old.applications }
         ensures ends { ends_in self.new.applications
-            ≡ change_end key (told Acknowledged) (ends_in self.old.applications) }
+            ≡ change_end key (told whats.Acknowledged) (ends_in self.old.applications) }
         ensures links { self.new.links.items ≡ self.old.links.items }
     {
         match self.applications.get_mut(key) {

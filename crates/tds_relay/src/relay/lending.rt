@@ -169,7 +169,7 @@ impl Relay {
 
     /// Asks what an application asks, where its connection is open, and the server has acknowledged there
     /// what it took back.
-    #[tactic(auto, using(crate::proofs::steps::Reaching::reaches_turn, crate::proofs::steps::Reaching::reaches_turned, crate::proofs::steps::Underway::of_none, crate::proofs::steps::Underway::of_over, crate::proofs::steps::Underway::drains, crate::proofs::bytes::Walking::stand_on))]
+    #[tactic(auto, using(crate::proofs::steps::Reaching::reaches_turn, crate::proofs::steps::Reaching::reaches_turned, crate::proofs::steps::Underway::of_none, crate::proofs::steps::Underway::of_over, crate::proofs::steps::Underway::drains, crate::proofs::bytes::Calls::stand_on))]
     pub(super) fn start(&mut self, key: usize) -> Result<(), NoMemory>
         ensures goes { OnOk result (GoesOn (desk_in self.old.desk) (desk_in self.new.desk)) }
         ensures kept { OnOk result (posts_in self.new.applications

@@ -2,15 +2,13 @@ use Rattle.std.proofs.Common.{rules}
 use Rattle.tds_service.specs.Table.{service_in}
 use Rattle.tds_relay.specs.Ties.{desk_in}
 use Rattle.tds_relay.proofs.steps.Sent.{asks_on}
+use Rattle.tds_service.specs.Service as calls
+use Rattle.tds_relay.proofs.bytes.Walking.{keeps_stand}
 use Rattle.tds_relay.proofs.desk.Desk.ask.Goals as goal
 
 pub returns-in-Ok-clause-sends : goal.returns-in-Ok-clause-sends
 returns-in-Ok-clause-sends c =
     asks_on (desk_in c.args.self.now) (service_in c.ask.new.self) c.args.key c.in-Some.hold (search rules) c.in-Ok.ensures.ok.service_is c.in-Ok.ensures.ok.reply_is
-
-use Rattle.tds_service.specs.Service as calls
-use Rattle.tds_relay.proofs.bytes.Walking.{keeps_stand}
-use Rattle.tds_relay.proofs.desk.Desk.ask.Goals as goal
 
 pub returns-in-Ok-clause-stand : goal.returns-in-Ok-clause-stand
 returns-in-Ok-clause-stand c = keeps_stand _ _ (calls.Ask c.in-Some.hold.lease) c.in-Ok.ensures.ok.service_is c.in-Ok.ensures.keeps

@@ -2,7 +2,8 @@ use Rattle.std.proofs.Common.{true}
 use Rattle.std.proofs.lemmas.Result.{IfOk-weaker}
 use Rattle.tds_service.specs.Table.{service_in}
 use Rattle.tds_relay.proofs.steps.Made.{released_free}
-use Rattle.tds_relay.proofs.bytes.Walking.{given_back_stand, same_stand, stand_on}
+use Rattle.tds_relay.proofs.bytes.Calls.{stand_on}
+use Rattle.tds_relay.proofs.bytes.Walking.{given_back_stand, same_stand}
 use Rattle.tds_relay.proofs.desk.leaving.release.Goals as goal
 
 pub returns-in-Ok-default-Free-clause-makes : goal.returns-in-Ok-default-Free-clause-makes

@@ -4,7 +4,7 @@ use Rattle.tds_relay.proofs.steps.Fronts.{moves_closes, moves_lets_go}
 use Rattle.tds_relay.proofs.steps.Reaching.{ok_if, ok_more, reaches_left}
 use Rattle.tds_relay.proofs.steps.Staying.{stays_on, stays_same}
 use Rattle.tds_relay.specs.Asking.{Closes}
-use Rattle.tds_relay.proofs.bytes.Walking.{stand_on}
+use Rattle.tds_relay.proofs.bytes.Calls.{stand_on}
 use Rattle.tds_relay.proofs.relay.Relay.change.Goals as goal
 
 pub returns-then-not-has_nothing_out-clause-moves : goal.returns-then-not-has_nothing_out-clause-moves
@@ -45,3 +45,6 @@ returns-clause-underway c = c.wait.ensures.underway (search rules)
 
 pub returns-clause-stand : goal.returns-clause-stand
 returns-clause-stand c = stand_on c.wait.result _ _ _ c.in_ok-release.ensures.stand c.wait.ensures.stand
+
+pub returns-then-is_some-clause-stand : goal.returns-then-is_some-clause-stand
+returns-then-is_some-clause-stand c = stand_on c.expel-then-is_some.result _ _ _ c.in_ok-release.ensures.stand c.expel-then-is_some.ensures.stand

@@ -8,7 +8,7 @@ use Rattle.tds_relay.proofs.steps.Reaching.{ok_more, reaches_left}
 use Rattle.tds_relay.proofs.steps.Staying.{stays_from}
 use Rattle.tds_relay.specs.Taking.{IsDeaf}
 use Rattle.tds_relay.proofs.steps.Told.{deaf_closed, lets_go_deaf}
-use Rattle.tds_relay.proofs.bytes.Walking.{stand_from}
+use Rattle.tds_relay.proofs.bytes.Calls.{stand_from}
 use Rattle.tds_relay.proofs.relay.Relay.expel.Goals as goal
 
 pub returns-clause-goes : goal.returns-clause-goes

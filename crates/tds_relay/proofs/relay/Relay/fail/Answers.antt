@@ -7,6 +7,7 @@ use Rattle.tds_relay.proofs.steps.Fronts.{moves_closes}
 use Rattle.tds_relay.proofs.steps.Reaching.{ok_if, ok_more}
 use Rattle.tds_relay.proofs.steps.Staying.{stays_same}
 use Rattle.tds_relay.proofs.steps.Told.{deaf_closed}
+use Rattle.tds_relay.proofs.bytes.Calls.{stand_at}
 use Rattle.tds_relay.proofs.relay.Relay.fail.Goals as goal
 
 pub returns-clause-goes : goal.returns-clause-goes
@@ -24,3 +25,6 @@ returns-clause-over c = ok_more c.end.result _ _ (λ e. subst (λ (es : Ends). I
 
 pub returns-clause-read : goal.returns-clause-read
 returns-clause-read c = stays_same c.end.result _ _ _ c.in_ok-lose.ensures.read c.end.ensures.links
+
+pub returns-clause-stand : goal.returns-clause-stand
+returns-clause-stand c = ok_if c.end.result _ (stand_at _ _ _ c.in_ok-lose.ensures.stand c.end.ensures.desk)

@@ -3,7 +3,7 @@ use Rattle.tds_relay.specs.Ties.{Connection, desk_in}
 use Rattle.tds_relay.proofs.steps.Fronts.{moves_same, told_none, told_some}
 use Rattle.tds_relay.proofs.steps.Reaching.{ok_more}
 use Rattle.tds_relay.proofs.steps.Staying.{stays_both, stays_on, stays_same}
-use Rattle.tds_relay.proofs.bytes.Walking.{stand_at, stand_back, stand_on}
+use Rattle.tds_relay.proofs.bytes.Calls.{stand_at, stand_back, stand_on}
 use Rattle.tds_relay.proofs.steps.Reaching.{ok_if}
 use Rattle.tds_relay.proofs.relay.Relay.heard.Goals as goal
 

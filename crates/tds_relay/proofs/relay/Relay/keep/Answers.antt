@@ -4,7 +4,7 @@ use Rattle.tds_relay.specs.Ties.{Connection, Reaches, desk_in}
 use Rattle.tds_relay.proofs.steps.Fronts.{moves_closes, moves_does, moves_same}
 use Rattle.tds_relay.proofs.steps.Reaching.{ok_if, ok_more, reaches_turn}
 use Rattle.tds_relay.proofs.steps.Staying.{stays_on}
-use Rattle.tds_relay.proofs.bytes.Walking.{stand_at, stand_on}
+use Rattle.tds_relay.proofs.bytes.Calls.{stand_at, stand_on}
 use Rattle.tds_relay.proofs.relay.Relay.keep.Goals as goal
 
 pub returns-in-Kept-clause-goes : goal.returns-in-Kept-clause-goes

@@ -7,7 +7,7 @@ use Rattle.tds_relay.proofs.steps.Posting.{quits_is}
 use Rattle.tds_relay.proofs.steps.Reaching.{ok_more}
 use Rattle.tds_relay.proofs.steps.Stepping.{no_steps, steps_on_ok, steps_quits}
 use Rattle.tds_relay.proofs.steps.Staying.{opens_served}
-use Rattle.tds_relay.proofs.bytes.Walking.{stand_on}
+use Rattle.tds_relay.proofs.bytes.Calls.{stand_on}
 use Rattle.tds_relay.proofs.relay.Relay.left.Goals as goal
 
 pub returns-clause-left : goal.returns-clause-left

@@ -3,7 +3,7 @@ use Rattle.tds_relay.specs.declared.desk.Desk as code
 use Rattle.tds_relay.specs.Ties.{Reaches, desk_in}
 use Rattle.tds_relay.proofs.steps.Fronts.{moves_loses, moves_same}
 use Rattle.tds_relay.proofs.steps.Reaching.{ok_if, ok_more, reaches_turn, reaches_turned}
-use Rattle.tds_relay.proofs.bytes.Walking.{stand_at}
+use Rattle.tds_relay.proofs.bytes.Calls.{stand_at}
 use Rattle.tds_relay.proofs.relay.Relay.lose.Goals as goal
 
 pub returns-clause-lost : goal.returns-clause-lost

@@ -10,7 +10,7 @@ use Rattle.tds_relay.proofs.steps.Staying.{stays_refl, stays_same}
 use Rattle.std.proofs.Common.{subst}
 use Rattle.tds_relay.specs.Asking.{IfAsks, IsUnderway}
 use Rattle.tds_relay.specs.Fronts.{hall_in}
-use Rattle.tds_relay.proofs.bytes.Walking.{stand_at}
+use Rattle.tds_relay.proofs.bytes.Calls.{stand_at}
 use Rattle.tds_relay.proofs.steps.Reaching.{ok_if}
 use Rattle.tds_relay.proofs.relay.Relay.obey.Goals as goal
 

@@ -3,7 +3,7 @@ use Rattle.tds_relay.specs.Fronts.{house_in}
 use Rattle.tds_relay.specs.Ties.{Connection, desk_in}
 use Rattle.tds_relay.proofs.steps.Stepping.{no_steps, steps_moved, steps_on_ok, steps_same}
 use Rattle.tds_relay.proofs.steps.Staying.{opens_one_served, stays_behind}
-use Rattle.tds_relay.proofs.bytes.Walking.{stand_back, stand_on}
+use Rattle.tds_relay.proofs.bytes.Calls.{stand_back, stand_on}
 use Rattle.tds_relay.proofs.relay.Relay.opened.Goals as goal
 
 pub returns-clause-steps : goal.returns-clause-steps

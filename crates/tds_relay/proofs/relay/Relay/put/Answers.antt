@@ -10,7 +10,7 @@ use Rattle.tds_relay.proofs.steps.Putting.{moves_puts}
 use Rattle.tds_relay.proofs.steps.Reaching.{ok_more}
 use Rattle.tds_relay.proofs.steps.Staying.{stays_behind, stays_on}
 use Rattle.tds_relay.proofs.steps.Underway.{of_closed}
-use Rattle.tds_relay.proofs.bytes.Walking.{stand_at, stand_on}
+use Rattle.tds_relay.proofs.bytes.Calls.{stand_at, stand_on}
 use Rattle.tds_relay.proofs.relay.Relay.put.Goals as goal
 
 pub returns-in_default-clause-moves : goal.returns-in_default-clause-moves
@@ -65,3 +65,6 @@ returns-then-fits-clause-stand c = stand_at _ _ _ (stand_at _ _ _ c.put_on-is_pu
 
 pub returns-else-fits-clause-stand : goal.returns-else-fits-clause-stand
 returns-else-fits-clause-stand c = stand_on c.fail-else-fits.result _ _ _ (stand_at _ _ _ (stand_at _ _ _ c.put_on-is_put.ensures.stand c.note_went_on.ensures.desk) c.fits_on.ensures.desk) c.fail-else-fits.ensures.stand
+
+pub returns-then-not-is_put-clause-stand : goal.returns-then-not-is_put-clause-stand
+returns-then-not-is_put-clause-stand c = stand_on c.fail-then-not-is_put.result _ _ _ (stand_at _ _ _ c.put_on-is_put.ensures.stand c.note_went_on.ensures.desk) c.fail-then-not-is_put.ensures.stand

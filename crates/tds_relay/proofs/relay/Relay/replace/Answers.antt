@@ -6,7 +6,7 @@ use Rattle.tds_relay.specs.Ties.{Connection, Reaches, desk_in}
 use Rattle.tds_relay.proofs.steps.Fronts.{moves_loses, moves_replaces, moves_same}
 use Rattle.tds_relay.proofs.steps.Reaching.{ok_if, ok_more, reaches_turn}
 use Rattle.tds_relay.proofs.steps.Staying.{stays_then}
-use Rattle.tds_relay.proofs.bytes.Walking.{stand_at, stand_on}
+use Rattle.tds_relay.proofs.bytes.Calls.{stand_at, stand_on}
 use Rattle.tds_relay.proofs.relay.Relay.replace.Goals as goal
 
 pub returns-in_default-clause-goes : goal.returns-in_default-clause-goes

@@ -4,7 +4,7 @@ use Rattle.tds_relay.proofs.steps.Staying.{opens_served}
 use Rattle.tds_relay.proofs.steps.Stepping.{steps_on_ok}
 use Rattle.tds_relay.proofs.steps.Told.{tells_ok, tells_steps}
 use Rattle.tds_relay.proofs.steps.Asked.{asks_ok}
-use Rattle.tds_relay.proofs.bytes.Walking.{stand_on}
+use Rattle.tds_relay.proofs.bytes.Calls.{stand_on}
 use Rattle.tds_relay.proofs.relay.Relay.said.Goals as goal
 
 pub returns-clause-steps : goal.returns-clause-steps

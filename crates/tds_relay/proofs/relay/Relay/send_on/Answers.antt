@@ -3,6 +3,7 @@ use Rattle.tds_relay.specs.Ties.{desk_in}
 use Rattle.tds_relay.proofs.steps.Fronts.{moves_same}
 use Rattle.tds_relay.proofs.steps.Reaching.{ok_more}
 use Rattle.tds_relay.proofs.steps.Staying.{stays_on}
+use Rattle.tds_relay.proofs.bytes.Calls.{stand_from}
 use Rattle.tds_relay.proofs.relay.Relay.send_on.Goals as goal
 
 pub returns-else-fits-clause-read : goal.returns-else-fits-clause-read
@@ -14,3 +15,6 @@ returns-then-fits-clause-moves c = λ by from h. moves_same by from _ _ _ _ (ap 
 pub returns-else-fits-clause-moves : goal.returns-else-fits-clause-moves
 returns-else-fits-clause-moves c =
     ok_more c.lose.result _ _ (λ m by from h. m by from (moves_same by from _ _ _ _ (ap desk_in c.fits_on.ensures.desk) c.in_ok-fits.ensures.ends h)) c.lose.ensures.moves
+
+pub returns-else-fits-clause-stand : goal.returns-else-fits-clause-stand
+returns-else-fits-clause-stand c = stand_from c.lose.result _ _ _ c.fits_on.ensures.desk c.lose.ensures.stand

@@ -7,7 +7,7 @@ use Rattle.tds_relay.proofs.steps.Fronts.{moves_closes, moves_does, moves_same, 
 use Rattle.tds_relay.proofs.steps.Reaching.{ok_more}
 use Rattle.tds_relay.proofs.steps.Told.{deaf_behind, deaf_closed}
 use Rattle.tds_relay.proofs.steps.Staying.{stays_from}
-use Rattle.tds_relay.proofs.bytes.Walking.{stand_at, stand_back, stand_on}
+use Rattle.tds_relay.proofs.bytes.Calls.{stand_at, stand_on}
 use Rattle.tds_relay.proofs.relay.Relay.take_back.Goals as goal
 
 pub returns-in-Some-clause-moves : goal.returns-in-Some-clause-moves

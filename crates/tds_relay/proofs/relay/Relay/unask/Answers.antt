@@ -2,7 +2,7 @@ use Rattle.std.proofs.Common.{refl, rules}
 use Rattle.tds_relay.specs.Ties.{Application}
 use Rattle.tds_relay.proofs.steps.Fronts.{moves_closes, moves_does}
 use Rattle.tds_relay.proofs.steps.Reaching.{ok_more, reaches_turn}
-use Rattle.tds_relay.proofs.bytes.Walking.{stand_on}
+use Rattle.tds_relay.proofs.bytes.Calls.{stand_on}
 use Rattle.tds_relay.proofs.relay.Relay.unask.Goals as goal
 
 pub returns-then-not-has_nothing_out-clause-moves : goal.returns-then-not-has_nothing_out-clause-moves

@@ -2,7 +2,7 @@ use Rattle.std.proofs.Common.{◌≡◌, ◌∙◌, false, rules, sym, true}
 use Rattle.tds_packet.specs.declared.kind.Direction.TheVariants.{ToClient}
 use Rattle.tds_service.specs.Table.{reading_on}
 use Rattle.tds_relay.proofs.steps.Handed.{done_keeps, hears_is}
-use Rattle.tds_relay.proofs.bytes.Walking.{reads_by}
+use Rattle.tds_relay.proofs.bytes.Reader.{reads_by}
 use Rattle.tds_relay.proofs.relay.coming.hear_on.Goals as goal
 
 pub invariant_of-link-2 : goal.invariant_of-link-2

@@ -15,7 +15,7 @@ use Rattle.tds_relay.proofs.steps.Handed.{end_whose_is, handed_for, handed_is, h
 use Rattle.tds_relay.proofs.steps.Posting.{posts_kept}
 use Rattle.tds_relay.proofs.steps.Reaching.{reaches_turn}
 use Rattle.tds_relay.proofs.steps.Resets.{heard_so, told_for, unowed}
-use Rattle.tds_relay.proofs.bytes.Walking.{has_read}
+use Rattle.tds_relay.proofs.bytes.Reader.{has_read}
 use Rattle.tds_relay.proofs.relay.coming.hear_packet.Goals as goal
 
 -- where it isn't handed on
