@@ -69,8 +69,8 @@ pub fn alone_in_visits<V>()
 /// behind any steps, and while it stays. That each packet is read so is what the relay's calls say of theirs
 /// (`read_over_calls` of `tds_relay`).
 pub fn alone_in_bytes<V>()
-    ensures { (server : Server V) (max key : ℕ) (v : Visit max key) (ms : Moments V v) (at : Walkers)
-        → AllRead at (house_in v) v.since
+    ensures { (server : Server V) (max key : ℕ) (v : Visit max key) (ms : Moments V v)
+        (at : Walkers) → AllRead at (house_in v) v.since
         → AllSaid turn key server (world_in server ms) ms.since
         → ReadAsIfAlone turn server (fresh server) at v (world_in server ms) ms.since
         (world_after turn server (world_in server ms) ms.since) }
