@@ -2,6 +2,7 @@
 //! with what a table says that was written by hand.
 #![tactic(auto)]
 
+mod asking;
 mod exchanging;
 mod fault;
 mod player;
@@ -10,6 +11,7 @@ mod table;
 mod timing;
 mod words;
 
+use asking::repeat_asking;
 use exchanging::repeat_exchanges;
 use fault::SceneFault;
 use player::Player;
@@ -32,7 +34,7 @@ fn main(rt: HostRuntime) -> ExitCode {
 }
 
 /// Plays the scenes of the file that the first word names, with each size: whether all came out as
-/// they are written. Or runs `time FILE PIECE TIMES` or `exchange TIMES`.
+/// they are written. Or runs `time FILE PIECE TIMES`, `exchange TIMES` or `ask TIMES`.
 fn run(rt: &HostRuntime) -> io::Result<bool> {
     let mut words = Vec::new(rt.alloc());
     for word in env::args(rt)?.skip(1) {
@@ -47,6 +49,10 @@ fn run(rt: &HostRuntime) -> io::Result<bool> {
     }
     if file.as_str() == "exchange" {
         repeat_exchanges(rt, others)?;
+        return Ok(true);
+    }
+    if file.as_str() == "ask" {
+        repeat_asking(rt, others)?;
         return Ok(true);
     }
     let text = fs::read_to_string(rt, file.as_str())?;
