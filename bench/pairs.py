@@ -86,6 +86,13 @@ def service(_room):
                "request", 100, 2)
 
 
+def client(_room):
+    times = lambda n: [str(100 * n)]
+    what = "from start to idle: a reset asked for, a request and its answer of a packet each"
+    yield Pair("a client", what, "test_listen", lambda n: ["ask", *times(n)], "plain_client.c", times, "request", 100, 2)
+    yield Pair("a client from C, by `libtds_c.a` (`bench/client.c`)", what, "client", times, "plain_client.c", times, "request", 100, 2)
+
+
 def all_of(room):
-    for group in (walks, wire, judge, servers, service):
+    for group in (walks, wire, judge, servers, client, service):
         yield from group(room)
