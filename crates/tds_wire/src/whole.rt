@@ -23,9 +23,9 @@ fn put_whole(start: &mut u64, kind: &mut u8, piece: &[u8], count: usize, token: 
     // Nothing of it was passed before.
     let length = added(0, count as u64);
     let here = *start;
+    put_token(piece[0], here, length, first_of(&piece[..count]), token);
     *kind = piece[0];
     *start = added(here, length);
-    put_token(piece[0], here, length, first_of(&piece[..count]), token);
 }
 
 /// The token that bytes begin with, where it is whole, says in its first bytes how long it is, and is no
