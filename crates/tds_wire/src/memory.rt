@@ -71,7 +71,7 @@ impl Memory {
 
     /// How many columns are known.
     #[inline(always)]
-    pub(crate) fn count(&self) -> u16
+    pub fn count(&self) -> u16
         ensures count { result ≡ length (shapes_of self.now) }
         ensures few { result ≤ 4096 }
     {
@@ -79,7 +79,8 @@ impl Memory {
     }
 
     /// What holds of any memory.
-    pub(crate) fn bounds(&self)
+    #[inline(always)]
+    pub fn bounds(&self)
         ensures few { length (shapes_of self.now) ≤ 4096 }
         ensures nulls { length self.now.nulls ≡ 512 }
     {
