@@ -10,6 +10,8 @@ use Rattle.tds_packet.specs.Layout.{IsPacket, bits_of, has_bit}
 use Rattle.tds_packet.specs.Reading.{Reading, with_taken}
 use Rattle.tds_token.specs.declared.token.Token.{Token}
 use Rattle.tds_world.specs.declared.report.RequestStatus.{RequestStatus}
+use Rattle.tds_ends.specs.declared.listening.ClientStop.{ClientStop}
+use Rattle.tds_ends.specs.Ends.{Feeds, IsClientAt, Listens, client_stops}
 use Rattle.tds_ends.specs.Feeding.{Coming, Listened, listened, on_taken, settled_by}
 use Rattle.tds_ends.proofs.Feeding.{SoFar, begins, done_on}
 
@@ -66,4 +68,18 @@ goes_on r now gone piece content header count s session then told out more settl
       then_more s None told packets (record { bytes = now.taken; header = header; content = content } ∷ []) _ so
       ∙ ap (λ (x : Result ClientMove ClientFault). on_taken x (λ t. Some (record { session = t.session; settled = settled_by t.answer settled; told = before ++ t.tokens }))) does
       ∙ rw (out_is, settles_is) refl;
+}
+
+-- ---- Where it stopped
+
+pub stopped : (r now new : Reading) (piece left : List ℕ) (count n : ℕ) (s session then : ClientSession) (told out after : List Token) (settled : Option RequestStatus) (stop : Option ClientStop) → (l : Listening r now piece count s session told out settled) → Feeds r new piece n (client_stops stop) l.packets left → after ≡ out → IsClientAt stop new session then → Listens r new piece s then told after (record { count = n; settled = settled; stop = stop })
+stopped r now new piece left count n s session then told out after settled stop l feeds tells at = record {
+  packets = l.packets;
+  left = left;
+  then = record { session = session; settled = settled; told = out };
+  feeds = feeds;
+  listens = l.took;
+  settled = refl;
+  tells = tells;
+  client = at;
 }

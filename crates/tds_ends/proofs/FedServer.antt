@@ -9,6 +9,8 @@ use Rattle.tds_server.specs.declared.outcome.ServerTook.{ServerTook}
 use Rattle.tds_server.specs.State.{ServerState}
 use Rattle.tds_server.specs.Taking.{Move, taken, taken_as, moved}
 use Rattle.tds_session.specs.Answer.{Answers}
+use Rattle.tds_ends.specs.declared.serving.ServerStop.{ServerStop}
+use Rattle.tds_ends.specs.Ends.{Feeds, IsServerAt, Serves, server_stops}
 use Rattle.tds_ends.specs.Feeding.{Coming, Served, served, unless_refused}
 use Rattle.tds_ends.proofs.Feeding.{SoFar, done_on}
 
@@ -56,6 +58,19 @@ goes_on answers r now gone piece content header count s state then reply before 
       then_more answers s reply packets (record { bytes = now.taken; header = header; content = content } ∷ []) _ so
       ∙ ap (λ x. unless_refused x (Some (record { state = (taken answers state header content).state; reply = before ++ (taken answers state header content).reply }))) (sym does)
       ∙ rw (out_is, then_is) refl;
+}
+
+-- ---- Where it stopped
+
+pub stopped : {E : Type 0} (answers : Answers) (r now new : Reading) (piece left : List ℕ) (count n : ℕ) (s state then : ServerState E) (reply out after : List ℕ) (stop : Option ServerStop) → (l : Serving answers r now piece count s state reply out) → Feeds r new piece n (server_stops stop) l.packets left → after ≡ out → IsServerAt stop answers new state then → Serves answers r new piece s then reply after (record { count = n; stop = stop })
+stopped answers r now new piece left count n s state then reply out after stop l feeds replies at = record {
+  packets = l.packets;
+  left = left;
+  then = record { state = state; reply = out };
+  feeds = feeds;
+  serves = l.took;
+  replies = replies;
+  server = at;
 }
 
 -- ---- How much is appended

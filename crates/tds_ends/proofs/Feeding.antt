@@ -102,6 +102,11 @@ pub held : (r now : Reading) (piece : List ℕ) (count : ℕ) (packets : List Co
 held r now piece count packets s whole =
     record { each = s.each; joined = s.joined; same = s.same now.taken; is_left = (whole, refl) }
 
+-- It was fed a slice, and holds a packet then.
+pub held_at : (r now new : Reading) (piece slice : List ℕ) (count n : ℕ) (packets : List Coming) → SoFar r now piece count packets → slice ≡ drop count piece → new ≡ with_taken now (up_to_end now (now.taken ++ slice)) → new.taken ≡ now.taken ++ take n slice → IsWhole new → Feeds r new piece (count + n) Held packets (new.taken ++ drop (count + n) piece)
+held_at r now new piece slice count n packets s rest is took whole =
+    held r new piece (count + n) packets (fed_at r now new piece slice count n packets s rest is took) whole
+
 -- What the reader takes doesn't depend on what it has taken.
 taken_same : (r now : Reading) (piece : List ℕ) (count : ℕ) (packets : List Coming) (bytes : List ℕ) → SoFar r now piece count packets → up_to_end now bytes ≡ up_to_end r bytes
 taken_same r now piece count packets bytes s =

@@ -16,6 +16,7 @@ use Rattle.tds_server.specs.Taking as server
 use Rattle.tds_server.specs.Taking.{TakesMemory, moved}
 use Rattle.tds_session.specs.Answer.{Answers}
 use Rattle.tds_token.specs.declared.token.Token.{Token}
+use Rattle.tds_world.specs.declared.report.RequestStatus.{RequestStatus}
 use Rattle.tds_ends.specs.declared.listening.ClientFed.{ClientFed}
 use Rattle.tds_ends.specs.declared.listening.ClientStop.{ClientStop}
 use Rattle.tds_ends.specs.declared.listening.ClientStop.TheVariants as client_stop
@@ -35,6 +36,30 @@ IsFront direction size bytes header content =
 -- There is something, and no whole packet begins it: to keep it takes a buffer.
 abbrev pub WantsRoom : Reading → List ℕ → Type 0
 WantsRoom r left = IsLess r left × (left ≢ [])
+
+-- ---- Any core
+
+-- The next packet is refused. This is behind it.
+abbrev pub RefusesNext : (Coming → Type 0) → Reading → List ℕ → List ℕ → Type 0
+RefusesNext IsRefused r left rest =
+    (p : Coming) × IsComing r p × (left ≡ p.bytes ++ rest) × IsRefused p
+
+-- Memory is wanted for the next packet.
+abbrev pub WantsNext : (Coming → Type 0) → Reading → List ℕ → Type 0
+WantsNext IsWanted r left =
+    (p : Coming) × (behind : List ℕ) × IsComing r p × (left ≡ p.bytes ++ behind) × IsWanted p
+
+-- A core took whole packets that the piece begins with, one after the other, and is that one then. It stopped
+-- there: so much of the piece is done with.
+pub record LentTo {Core : Type 0} (r : Reading) (piece : List ℕ) (count : ℕ)
+    (Took : List Coming → Core → Type 0) (Leaves : List ℕ → List ℕ → Core → Type 0) : Type 0 where
+  pub packets : List Coming
+  pub left : List ℕ
+  pub then : Core
+  pub each : AllByRecursion (IsComing r) packets
+  pub joined : piece ≡ bytes_of packets ++ left
+  pub took : Took packets then
+  pub leaves : Leaves left (drop count piece) then
 
 -- ---- At a client
 
@@ -57,38 +82,32 @@ ClientWaits (Some client_stop.NoMemory) held s =
     (header : Header) × (content : List ℕ)
     × IsPacket held.direction held.size held.taken header content × ClientWants s header content
 
--- The next packet is refused by this fault, which breaks the client. This is behind it.
-abbrev pub RefusesNext : Reading → List ℕ → List ℕ → ClientSession → ClientSession → ClientFault → Type 0
-RefusesNext r left rest then now fault =
-    (p : Coming) × IsComing r p × (left ≡ p.bytes ++ rest)
-    × (client_takes then p.header p.content ≡ Err fault) × (now ≡ client.broken_by then fault)
+-- The client took these packets: that was settled, and its caller was told so much.
+abbrev pub ClientTook : ClientSession → List Token → List Token → Option RequestStatus → List Coming
+    → Listened → Type 0
+ClientTook s told after settled packets then =
+    (listened s None told packets ≡ Some then) × (settled ≡ then.settled) × (after ≡ then.told)
 
--- Memory is wanted for the next packet, by the client.
-abbrev pub WantsNext : Reading → List ℕ → ClientSession → Type 0
-WantsNext r left then =
-    (p : Coming) × (behind : List ℕ) × IsComing r p × (left ≡ p.bytes ++ behind)
-    × ClientWants then p.header p.content
+-- The client refuses this packet by this fault, which breaks it.
+abbrev pub ClientBreaks : ClientSession → ClientSession → ClientFault → Coming → Type 0
+ClientBreaks then now fault p =
+    (client_takes then p.header p.content ≡ Err fault) × (now ≡ client.broken_by then fault)
 
 -- Why the client stopped, where this is left of the piece, and so much of it isn't done with.
-abbrev pub ClientLeaves : Option ClientStop → Reading → List ℕ → List ℕ → ClientSession → ClientSession → Type 0
-ClientLeaves None r left rest then now = (left ≡ rest) × (now ≡ then) × IsLess r left
-ClientLeaves (Some (client_stop.Packet fault)) r left rest then now = ⊥
-ClientLeaves (Some (client_stop.Client fault)) r left rest then now = RefusesNext r left rest then now fault
-ClientLeaves (Some client_stop.NoMemory) r left rest then now =
-    (left ≡ rest) × (now ≡ then) × (WantsNext r left then ⊎ WantsRoom r left)
+abbrev pub ClientLeaves : Option ClientStop → Reading → ClientSession → List ℕ → List ℕ → Listened → Type 0
+ClientLeaves None r now left rest then = (left ≡ rest) × (now ≡ then.session) × IsLess r left
+ClientLeaves (Some (client_stop.Packet fault)) r now left rest then = ⊥
+ClientLeaves (Some (client_stop.Client fault)) r now left rest then =
+    RefusesNext (ClientBreaks then.session now fault) r left rest
+ClientLeaves (Some client_stop.NoMemory) r now left rest then =
+    (left ≡ rest) × (now ≡ then.session)
+    × (WantsNext (λ (p : Coming). ClientWants then.session p.header p.content) r left ⊎ WantsRoom r left)
 
 -- The client took whole packets that the piece begins with, one after the other, and stopped there.
-pub record LentToClient (r : Reading) (piece : List ℕ) (s now : ClientSession) (told after : List Token)
-    (fed : ClientFed) : Type 0 where
-  pub packets : List Coming
-  pub left : List ℕ
-  pub then : Listened
-  pub each : AllByRecursion (IsComing r) packets
-  pub joined : piece ≡ bytes_of packets ++ left
-  pub listens : listened s None told packets ≡ Some then
-  pub settled : fed.settled ≡ then.settled
-  pub tells : after ≡ then.told
-  pub leaves : ClientLeaves fed.stop r left (drop fed.count piece) then.session now
+abbrev pub LentToClient : Reading → List ℕ → ClientSession → ClientSession → List Token → List Token
+    → ClientFed → Type 0
+LentToClient r piece s now told after fed =
+    LentTo r piece fed.count (ClientTook s told after fed.settled) (ClientLeaves fed.stop r now)
 
 -- ---- At a server
 
@@ -106,38 +125,31 @@ ServerWaits (Some server_stop.NoMemory) answers held s =
     (header : Header) × (content : List ℕ)
     × IsPacket held.direction held.size held.taken header content × ServerWants answers s header content
 
--- The next packet is refused by this fault, which breaks the server. This is behind it.
-abbrev pub ServerRefusesNext : {E : Type 0} → Answers → Reading → List ℕ → List ℕ → ServerState E
-    → ServerState E → ServerFault → Type 0
-ServerRefusesNext answers r left rest then now fault =
-    (p : Coming) × IsComing r p × (left ≡ p.bytes ++ rest)
-    × ((server.taken answers then p.header p.content).answer ≡ Err fault)
+-- The server took these packets, and appended so much.
+abbrev pub ServerReplied : {E : Type 0} → Answers → ServerState E → List ℕ → List ℕ → List Coming → Served E
+    → Type 0
+ServerReplied answers s reply after packets then =
+    (served answers s reply packets ≡ Some then) × (after ≡ then.reply)
+
+-- The server refuses this packet by this fault, which breaks it.
+abbrev pub ServerBreaks : {E : Type 0} → Answers → ServerState E → ServerState E → ServerFault → Coming → Type 0
+ServerBreaks answers then now fault p =
+    ((server.taken answers then p.header p.content).answer ≡ Err fault)
     × (now ≡ (server.taken answers then p.header p.content).state)
 
--- Memory is wanted for the next packet, by the server.
-abbrev pub ServerWantsNext : {E : Type 0} → Answers → Reading → List ℕ → ServerState E → Type 0
-ServerWantsNext answers r left then =
-    (p : Coming) × (behind : List ℕ) × IsComing r p × (left ≡ p.bytes ++ behind)
-    × ServerWants answers then p.header p.content
-
 -- Why the server stopped, where this is left of the piece, and so much of it isn't done with.
-abbrev pub ServerLeaves : {E : Type 0} → Option ServerStop → Answers → Reading → List ℕ → List ℕ
-    → ServerState E → ServerState E → Type 0
-ServerLeaves None answers r left rest then now = (left ≡ rest) × (now ≡ then) × IsLess r left
-ServerLeaves (Some (server_stop.Packet fault)) answers r left rest then now = ⊥
-ServerLeaves (Some (server_stop.Server fault)) answers r left rest then now =
-    ServerRefusesNext answers r left rest then now fault
-ServerLeaves (Some server_stop.NoMemory) answers r left rest then now =
-    (left ≡ rest) × (now ≡ then) × (ServerWantsNext answers r left then ⊎ WantsRoom r left)
+abbrev pub ServerLeaves : {E : Type 0} → Option ServerStop → Answers → Reading → ServerState E → List ℕ
+    → List ℕ → Served E → Type 0
+ServerLeaves None answers r now left rest then = (left ≡ rest) × (now ≡ then.state) × IsLess r left
+ServerLeaves (Some (server_stop.Packet fault)) answers r now left rest then = ⊥
+ServerLeaves (Some (server_stop.Server fault)) answers r now left rest then =
+    RefusesNext (ServerBreaks answers then.state now fault) r left rest
+ServerLeaves (Some server_stop.NoMemory) answers r now left rest then =
+    (left ≡ rest) × (now ≡ then.state)
+    × (WantsNext (λ (p : Coming). ServerWants answers then.state p.header p.content) r left ⊎ WantsRoom r left)
 
 -- The server took whole packets that the piece begins with, one after the other, and stopped there.
-pub record LentToServer {E : Type 0} (answers : Answers) (r : Reading) (piece : List ℕ)
-    (s now : ServerState E) (reply after : List ℕ) (fed : ServerFed) : Type 0 where
-  pub packets : List Coming
-  pub left : List ℕ
-  pub then : Served E
-  pub each : AllByRecursion (IsComing r) packets
-  pub joined : piece ≡ bytes_of packets ++ left
-  pub serves : served answers s reply packets ≡ Some then
-  pub replies : after ≡ then.reply
-  pub leaves : ServerLeaves fed.stop answers r left (drop fed.count piece) then.state now
+abbrev pub LentToServer : {E : Type 0} → Answers → Reading → List ℕ → ServerState E → ServerState E → List ℕ
+    → List ℕ → ServerFed → Type 0
+LentToServer answers r piece s now reply after fed =
+    LentTo r piece fed.count (ServerReplied answers s reply after) (ServerLeaves fed.stop answers r now)

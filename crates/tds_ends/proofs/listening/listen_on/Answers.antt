@@ -1,74 +1,44 @@
-use Rattle.std.proofs.Common.{◌≡◌, ◌∙◌, ◌+◌, ap, refl, true, false, rules}
+use Rattle.std.proofs.Common.{◌≡◌, ◌∙◌, ap, refl, true, false, rules}
 use Rattle.tds_client.specs.declared.state.Taken.TheVariants.{NoMemory}
 use Rattle.tds_packet.specs.Reading.{IsWhole}
 use Rattle.tds_ends.proofs.Empty.{fed_tells, faulty_some}
-use Rattle.tds_ends.proofs.Feeding.{slice_rest, fed_at, held, faulty_at, drained_at}
-use Rattle.tds_ends.proofs.FedClient.{does_take, untaken, goes_on}
+use Rattle.tds_ends.proofs.Feeding.{slice_rest, fed_at, held_at, faulty_at, drained_at}
+use Rattle.tds_ends.proofs.FedClient.{does_take, untaken, goes_on, stopped}
 use Rattle.tds_ends.proofs.LentClient.{wants}
 use Rattle.tds_ends.proofs.listening.listen_on.Goals as goal
 
 pub returns-in-Err-clause-listens : goal.returns-in-Err-clause-listens
 returns-in-Err-clause-listens c =
     let so = c.packets.invariant.so_far in
-    record {
-      packets = so.packets;
-      left = _;
-      then = _;
-      feeds = faulty_at c.reads_packets.ensures.faulty _ _ _ _ _ c.packets.count so.packets c.in-Err.fault so.bytes (slice_rest c.packets.count c.args.piece.now) c.in-Err.ensures.taken c.in-Err.ensures.fault;
-      listens = so.took;
-      settled = refl;
-      tells = refl;
-      client = refl;
-    }
+    stopped _ _ c.feed.new.self c.args.piece.now _ c.packets.count _ _ _ _ _ _ _ _ _ so
+    (faulty_at c.reads_packets.ensures.faulty _ _ _ _ _ c.packets.count so.packets c.in-Err.fault so.bytes (slice_rest c.packets.count c.args.piece.now) c.in-Err.ensures.taken c.in-Err.ensures.fault)
+    refl refl
 
 pub returns-in_default-clause-listens : goal.returns-in_default-clause-listens
 returns-in_default-clause-listens c =
     let so = c.packets.invariant.so_far in
     let not : ¬ IsWhole c.feed.new.self = λ whole. let z : false ≡ true = c.in_default.ensures.whole.1 whole in absurd (cc) in
-    record {
-      packets = so.packets;
-      left = _;
-      then = _;
-      feeds = drained_at c.reads_packets.ensures.less _ _ _ _ _ c.packets.count c.in-Ok.taken so.packets so.bytes (slice_rest c.packets.count c.args.piece.now) c.packets.invariant.within c.in-Ok.ensures.within c.in-Ok.ensures.taken c.in-Ok.ensures.count c.in-Ok.ensures.all not c.in-Ok.ensures.fault;
-      listens = so.took;
-      settled = refl;
-      tells = refl;
-      client = refl;
-    }
+    stopped _ _ c.feed.new.self c.args.piece.now _ c.packets.count _ _ _ _ _ _ _ _ _ so
+    (drained_at c.reads_packets.ensures.less _ _ _ _ _ c.packets.count c.in-Ok.taken so.packets so.bytes (slice_rest c.packets.count c.args.piece.now) c.packets.invariant.within c.in-Ok.ensures.within c.in-Ok.ensures.taken c.in-Ok.ensures.count c.in-Ok.ensures.all not c.in-Ok.ensures.fault)
+    refl refl
 
 pub returns-then-eq-clause-listens : goal.returns-then-eq-clause-listens
 returns-then-eq-clause-listens c =
     let so = c.packets.invariant.so_far in
     let whole : IsWhole c.feed.new.self = (c.in-Some.packet.header, c.in-Some.packet.data.now, c.in-Some.ensures.lent) in
-    let fed = fed_at _ _ c.feed.new.self c.args.piece.now _ c.packets.count c.in-Ok.taken so.packets so.bytes (slice_rest c.packets.count c.args.piece.now) c.in-Ok.ensures.taken c.in-Ok.ensures.count in
     let none : c.in-Ok-take.took ≡ NoMemory = search rules in
     let still = untaken _ c.in-Ok-take.took _ _ _ _ none c.in-Ok-take.ensures.taken in
-    record {
-      packets = so.packets;
-      left = _;
-      then = _;
-      feeds = held _ c.feed.new.self c.args.piece.now (c.packets.count + c.in-Ok.taken) so.packets fed whole;
-      listens = so.took;
-      settled = refl;
-      tells = still.1;
-      client = still.0;
-    }
+    stopped _ _ c.feed.new.self c.args.piece.now _ c.packets.count _ _ _ _ _ _ _ _ _ so
+    (held_at _ _ c.feed.new.self c.args.piece.now _ c.packets.count c.in-Ok.taken so.packets so.bytes (slice_rest c.packets.count c.args.piece.now) c.in-Ok.ensures.taken c.in-Ok.ensures.count whole)
+    still.1 still.0
 
 pub returns-in-Err-take-clause-listens : goal.returns-in-Err-take-clause-listens
 returns-in-Err-take-clause-listens c =
     let so = c.packets.invariant.so_far in
     let whole : IsWhole c.feed.new.self = (c.in-Some.packet.header, c.in-Some.packet.data.now, c.in-Some.ensures.lent) in
-    let fed = fed_at _ _ c.feed.new.self c.args.piece.now _ c.packets.count c.in-Ok.taken so.packets so.bytes (slice_rest c.packets.count c.args.piece.now) c.in-Ok.ensures.taken c.in-Ok.ensures.count in
-    record {
-      packets = so.packets;
-      left = _;
-      then = _;
-      feeds = held _ c.feed.new.self c.args.piece.now (c.packets.count + c.in-Ok.taken) so.packets fed whole;
-      listens = so.took;
-      settled = refl;
-      tells = c.in-Err-take.ensures.nothing;
-      client = (c.in-Some.packet.header, c.in-Some.packet.data.now, c.in-Some.ensures.lent, c.in-Err-take.ensures.fault, c.in-Err-take.ensures.broken);
-    }
+    stopped _ _ c.feed.new.self c.args.piece.now _ c.packets.count _ _ _ _ _ _ _ _ _ so
+    (held_at _ _ c.feed.new.self c.args.piece.now _ c.packets.count c.in-Ok.taken so.packets so.bytes (slice_rest c.packets.count c.args.piece.now) c.in-Ok.ensures.taken c.in-Ok.ensures.count whole)
+    c.in-Err-take.ensures.nothing (c.in-Some.packet.header, c.in-Some.packet.data.now, c.in-Some.ensures.lent, c.in-Err-take.ensures.fault, c.in-Err-take.ensures.broken)
 
 pub packets-preserved : goal.packets-preserved
 packets-preserved c =

@@ -4,17 +4,16 @@ use Rattle.tds_packet.specs.Stream.{IsLess}
 use Rattle.tds_server.specs.declared.outcome.ServerTook.TheVariants.{NoMemory}
 use Rattle.tds_session.specs.Answer.{answer_of}
 use Rattle.tds_ends.specs.AllBytes.{new_reader}
-use Rattle.tds_ends.specs.Lent.{IsFront}
 use Rattle.tds_ends.proofs.Feeding.{slice_rest}
 use Rattle.tds_ends.proofs.FedServer.{refused_quietly, same_took}
-use Rattle.tds_ends.proofs.Lent.{lent_within}
+use Rattle.tds_ends.proofs.Lent.{front_at, lent_within}
 use Rattle.tds_ends.proofs.LentServer.{serves_all, serves_on, serves_refused, serves_wanting}
 use Rattle.tds_ends.proofs.serving.serve_lent.Goals as goal
 
 pub packets-preserved : goal.packets-preserved
 packets-preserved g c =
     let so = c.packets.invariant.so_far in
-    let front : IsFront ToServer c.args.size (drop c.packets.count c.args.piece.now) c.in-Some.packet.header c.in-Some.packet.data.now = subst (λ xs. IsFront ToServer c.args.size xs c.in-Some.packet.header c.in-Some.packet.data.now) (slice_rest c.packets.count c.args.piece.now) c.in-Some.ensures.lent in
+    let front = front_at ToServer c.args.size c.args.piece.now c.in-Some.packet.data.now c.in-Some.packet.header c.packets.count c.in-Some.ensures.lent in
     let differs : ¬ (c.in-Ok.took ≡ NoMemory) = λ e. let z : false ≡ true = rw e at c.if-eq.ensures in absurd (cc) in
     let answers = ap (λ e. answer_of (g.E.Engine.statements_of e) (g.E.Engine.step_of e)) c.packets.invariant.engine in
     let took = c.take.ensures.answer (λ e. differs (same_took _ _ c.take.result c.in-Ok.is e)) in
@@ -31,7 +30,7 @@ packets-preserved g c =
 pub returns-then-eq-clause-serves : goal.returns-then-eq-clause-serves
 returns-then-eq-clause-serves g c =
     let so = c.packets.invariant.so_far in
-    let front : IsFront ToServer c.args.size (drop c.packets.count c.args.piece.now) c.in-Some.packet.header c.in-Some.packet.data.now = subst (λ xs. IsFront ToServer c.args.size xs c.in-Some.packet.header c.in-Some.packet.data.now) (slice_rest c.packets.count c.args.piece.now) c.in-Some.ensures.lent in
+    let front = front_at ToServer c.args.size c.args.piece.now c.in-Some.packet.data.now c.in-Some.packet.header c.packets.count c.in-Some.ensures.lent in
     let none : c.in-Ok.took ≡ NoMemory = search rules in
     let still = c.take.ensures.memory (c.in-Ok.is ∙ ap Ok none) in
     let answers = ap (λ e. answer_of (g.E.Engine.statements_of e) (g.E.Engine.step_of e)) c.packets.invariant.engine in
@@ -41,7 +40,7 @@ returns-then-eq-clause-serves g c =
 pub returns-in-Err-clause-serves : goal.returns-in-Err-clause-serves
 returns-in-Err-clause-serves g c =
     let so = c.packets.invariant.so_far in
-    let front : IsFront ToServer c.args.size (drop c.packets.count c.args.piece.now) c.in-Some.packet.header c.in-Some.packet.data.now = subst (λ xs. IsFront ToServer c.args.size xs c.in-Some.packet.header c.in-Some.packet.data.now) (slice_rest c.packets.count c.args.piece.now) c.in-Some.ensures.lent in
+    let front = front_at ToServer c.args.size c.args.piece.now c.in-Some.packet.data.now c.in-Some.packet.header c.packets.count c.in-Some.ensures.lent in
     let answers = ap (λ e. answer_of (g.E.Engine.statements_of e) (g.E.Engine.step_of e)) c.packets.invariant.engine in
     let refused = rw answers at c.in-Err.ensures.answer (λ e. absurd (cc)) in
     let state = rw answers at c.in-Err.ensures.state (λ e. absurd (cc)) in

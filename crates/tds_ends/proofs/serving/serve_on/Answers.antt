@@ -1,75 +1,49 @@
-use Rattle.std.proofs.Common.{◌≡◌, ◌∙◌, ◌+◌, length, ap, sym, refl, true, false, Ok, rules, arith}
+use Rattle.std.proofs.Common.{◌≡◌, ◌∙◌, length, ap, sym, refl, true, false, Ok, rules, arith}
 use Rattle.tds_packet.specs.Reading.{IsWhole}
 use Rattle.tds_server.specs.declared.outcome.ServerTook.TheVariants.{NoMemory}
 use Rattle.tds_session.specs.Answer.{answer_of}
 use Rattle.tds_ends.proofs.Empty.{fed_tells, faulty_some}
-use Rattle.tds_ends.proofs.Feeding.{slice_rest, fed_at, held, faulty_at, drained_at}
-use Rattle.tds_ends.proofs.FedServer.{refused_quietly, same_took, goes_on, fed_length, whole_length}
+use Rattle.tds_ends.proofs.Feeding.{slice_rest, fed_at, held_at, faulty_at, drained_at}
+use Rattle.tds_ends.proofs.FedServer.{refused_quietly, same_took, goes_on, stopped, fed_length, whole_length}
 use Rattle.tds_ends.proofs.LentServer.{wanting}
 use Rattle.tds_ends.proofs.serving.serve_on.Goals as goal
 
 pub returns-in-Err-clause-serves : goal.returns-in-Err-clause-serves
 returns-in-Err-clause-serves g c =
     let so = c.packets.invariant.so_far in
-    record {
-      packets = so.packets;
-      left = _;
-      then = _;
-      feeds = faulty_at c.reads_packets.ensures.faulty _ _ _ _ _ c.packets.count so.packets c.in-Err.fault so.bytes (slice_rest c.packets.count c.args.piece.now) c.in-Err.ensures.taken c.in-Err.ensures.fault;
-      serves = so.took;
-      replies = refl;
-      server = refl;
-    }
+    stopped _ _ _ c.feed.new.self c.args.piece.now _ c.packets.count _ _ _ _ _ _ _ _ so
+    (faulty_at c.reads_packets.ensures.faulty _ _ _ _ _ c.packets.count so.packets c.in-Err.fault so.bytes (slice_rest c.packets.count c.args.piece.now) c.in-Err.ensures.taken c.in-Err.ensures.fault)
+    refl refl
 
 pub returns-in_default-clause-serves : goal.returns-in_default-clause-serves
 returns-in_default-clause-serves g c =
     let so = c.packets.invariant.so_far in
     let not : ¬ IsWhole c.feed.new.self = λ whole. let z : false ≡ true = c.in_default.ensures.whole.1 whole in absurd (cc) in
-    record {
-      packets = so.packets;
-      left = _;
-      then = _;
-      feeds = drained_at c.reads_packets.ensures.less _ _ _ _ _ c.packets.count c.in-Ok.taken so.packets so.bytes (slice_rest c.packets.count c.args.piece.now) c.packets.invariant.within c.in-Ok.ensures.within c.in-Ok.ensures.taken c.in-Ok.ensures.count c.in-Ok.ensures.all not c.in-Ok.ensures.fault;
-      serves = so.took;
-      replies = refl;
-      server = refl;
-    }
+    stopped _ _ _ c.feed.new.self c.args.piece.now _ c.packets.count _ _ _ _ _ _ _ _ so
+    (drained_at c.reads_packets.ensures.less _ _ _ _ _ c.packets.count c.in-Ok.taken so.packets so.bytes (slice_rest c.packets.count c.args.piece.now) c.packets.invariant.within c.in-Ok.ensures.within c.in-Ok.ensures.taken c.in-Ok.ensures.count c.in-Ok.ensures.all not c.in-Ok.ensures.fault)
+    refl refl
 
 pub returns-then-eq-clause-serves : goal.returns-then-eq-clause-serves
 returns-then-eq-clause-serves g c =
     let so = c.packets.invariant.so_far in
     let whole : IsWhole c.feed.new.self = (c.in-Some.packet.header, c.in-Some.packet.data.now, c.in-Some.ensures.lent) in
-    let fed = fed_at _ _ c.feed.new.self c.args.piece.now _ c.packets.count c.in-Ok.taken so.packets so.bytes (slice_rest c.packets.count c.args.piece.now) c.in-Ok.ensures.taken c.in-Ok.ensures.count in
     let none : c.in-Ok-take.took ≡ NoMemory = search rules in
     let still = c.take.ensures.memory (c.in-Ok-take.is ∙ ap Ok none) in
-    record {
-      packets = so.packets;
-      left = _;
-      then = _;
-      feeds = held _ c.feed.new.self c.args.piece.now (c.packets.count + c.in-Ok.taken) so.packets fed whole;
-      serves = so.took;
-      replies = still.1;
-      server = still.0;
-    }
+    stopped _ _ _ c.feed.new.self c.args.piece.now _ c.packets.count _ _ _ _ _ _ _ _ so
+    (held_at _ _ c.feed.new.self c.args.piece.now _ c.packets.count c.in-Ok.taken so.packets so.bytes (slice_rest c.packets.count c.args.piece.now) c.in-Ok.ensures.taken c.in-Ok.ensures.count whole)
+    still.1 still.0
 
 pub returns-in-Err-take-clause-serves : goal.returns-in-Err-take-clause-serves
 returns-in-Err-take-clause-serves g c =
     let so = c.packets.invariant.so_far in
     let whole : IsWhole c.feed.new.self = (c.in-Some.packet.header, c.in-Some.packet.data.now, c.in-Some.ensures.lent) in
-    let fed = fed_at _ _ c.feed.new.self c.args.piece.now _ c.packets.count c.in-Ok.taken so.packets so.bytes (slice_rest c.packets.count c.args.piece.now) c.in-Ok.ensures.taken c.in-Ok.ensures.count in
     let answers = ap (λ e. answer_of (g.E.Engine.statements_of e) (g.E.Engine.step_of e)) c.packets.invariant.engine in
     let refused = rw answers at c.in-Err-take.ensures.answer (λ e. absurd (cc)) in
     let state = rw answers at c.in-Err-take.ensures.state (λ e. absurd (cc)) in
     let reply = rw answers at c.in-Err-take.ensures.reply (λ e. absurd (cc)) in
-    record {
-      packets = so.packets;
-      left = _;
-      then = _;
-      feeds = held _ c.feed.new.self c.args.piece.now (c.packets.count + c.in-Ok.taken) so.packets fed whole;
-      serves = so.took;
-      replies = refused_quietly _ c.packets.server c.in-Some.packet.header c.in-Some.packet.data.now c.packets.reply.items c.take.new.reply.items c.in-Err-take.fault refused reply;
-      server = (c.in-Some.packet.header, c.in-Some.packet.data.now, c.in-Some.ensures.lent, sym refused, state);
-    }
+    stopped _ _ _ c.feed.new.self c.args.piece.now _ c.packets.count _ _ _ _ _ _ _ _ so
+    (held_at _ _ c.feed.new.self c.args.piece.now _ c.packets.count c.in-Ok.taken so.packets so.bytes (slice_rest c.packets.count c.args.piece.now) c.in-Ok.ensures.taken c.in-Ok.ensures.count whole)
+    (refused_quietly _ c.packets.server c.in-Some.packet.header c.in-Some.packet.data.now c.packets.reply.items c.take.new.reply.items c.in-Err-take.fault refused reply) (c.in-Some.packet.header, c.in-Some.packet.data.now, c.in-Some.ensures.lent, sym refused, state)
 
 pub returns-in-Err-take-clause-short : goal.returns-in-Err-take-clause-short
 returns-in-Err-take-clause-short g c =
