@@ -16,6 +16,7 @@ pub mod Places
 pub mod Posts
 pub mod Promises
 pub mod Reads
+pub mod Sparing
 pub mod Taking
 pub mod Telling
 pub mod Ties

@@ -1,0 +1,59 @@
+-- What one application does leaves the requests of all others as they are.
+use Rattle.std.specs.Prelude.{◌≡◌, ◌≢◌, ◌⊎◌, ℕ, Option, Some, None, option_map}
+use Rattle.tds_client.specs.Session.{ClientSession}
+use Rattle.tds_service.specs.declared.service.Service as services
+use Rattle.tds_service.specs.Table.{client_of}
+use Rattle.tds_relay.specs.declared.desk.Desk as desks
+use Rattle.tds_relay.specs.declared.desk.Hold.{Hold}
+use Rattle.tds_relay.specs.declared.relay.Relay as code
+use Rattle.tds_relay.specs.Bodies.{Astray, Body, Spared, body_of}
+use Rattle.tds_relay.specs.Desk.{find_key}
+use Rattle.tds_relay.specs.Ties.{IsReached, desk_in}
+
+-- ---- At a desk
+
+-- the connection that is held, by its number, and its client
+abbrev pub Held : Type 0
+Held = ℕ × ClientSession
+
+abbrev pub held_by : services.Service → Option Hold → Option Held
+held_by s None = None
+held_by s (Some hold) = option_map (λ (client : ClientSession). let held : Held = (hold.number, client) in held) (client_of hold.lease s)
+
+-- what this application holds
+abbrev pub held_at : ℕ → desks.Desk → Option Held
+held_at key d = held_by d.service (find_key key d.holds.items)
+
+-- It holds what it held; where that was nothing, nothing is said.
+abbrev pub HoldsOn : ℕ → desks.Desk → desks.Desk → Type 0
+HoldsOn key old new = (held_at key new ≡ held_at key old) ⊎ (held_at key old ≡ None)
+
+-- All others than this one do, at a desk that was reached by events.
+abbrev pub OthersHold : ℕ → desks.Desk → desks.Desk → Type 0
+OthersHold key old new = IsReached (desk_in old) → (other : ℕ) → other ≢ key → HoldsOn other old new
+
+-- It doesn't hold the connection of this number.
+abbrev pub IsOff : ℕ → ℕ → desks.Desk → Type 0
+IsOff number key d = (client : ClientSession) → held_at key d ≢ Some (number, client)
+
+-- All who don't hold it hold what they held.
+abbrev pub OffHold : ℕ → desks.Desk → desks.Desk → Type 0
+OffHold number old new = IsReached (desk_in old) → (key : ℕ) → IsOff number key old → HoldsOn key old new
+
+-- ---- At a relay
+
+-- It stays, or its application is to be closed; of one that is astray nothing is said.
+abbrev pub Rests : Body → Body → Type 0
+Rests old new = Spared old new ⊎ (old ≡ Astray)
+
+-- So does each,
+abbrev pub AllRest : code.Relay → code.Relay → Type 0
+AllRest old new = (key : ℕ) → Rests (body_of key old) (body_of key new)
+
+-- or each but that of one application.
+abbrev pub OthersRest : ℕ → code.Relay → code.Relay → Type 0
+OthersRest key old new = (other : ℕ) → other ≢ key → Rests (body_of other old) (body_of other new)
+
+-- or each of those who don't hold the connection of this number
+abbrev pub OffRest : ℕ → code.Relay → code.Relay → Type 0
+OffRest number old new = (key : ℕ) → IsOff number key old.desk → Rests (body_of key old) (body_of key new)
