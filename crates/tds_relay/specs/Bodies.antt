@@ -136,23 +136,18 @@ Becomes (said.Forget gone) taken old new = new ≡ Nowhere
 Becomes said.Acknowledge taken old new = new ≡ Nowhere
 Becomes said.HandOn taken old new = Unit {0}
 
--- and then it may start
-pub record Obeys (answer : Said) (taken : List ℕ) (old new : Body) : Type 0 where
-  pub mid : Body
-  pub does : Becomes answer taken old mid
-  pub starts : Starts mid new
-
 -- the bytes that an end takes of these at once
 abbrev pub taken_of : List ℕ → Option End → List ℕ
 taken_of bytes None = []
 taken_of bytes (Some (Open front withdrawn asks)) = take (count_by (fed front bytes).brings bytes) bytes
 taken_of bytes (Some Over) = []
 
--- Piece by piece of what steps take of an application, from the one body to the other.
+-- Piece by piece of what steps take of an application, from the one body to the other; before each and behind the last it may start.
 abbrev pub AreFollowed : ℕ → House → List Step → Body → Body → Type 0
-AreFollowed key h [] old new = new ≡ old
+AreFollowed key h [] old new = Starts old new
 AreFollowed key h (Takes other bytes ∷ steps) old new =
-    (mid : Body) × Obeys (said_of bytes (end_at h.hall.ends key)) (taken_of bytes (end_at h.hall.ends key)) old mid × AreFollowed key (after h (Takes other bytes)) steps mid new
+    (from : Body) × (to : Body) × Starts old from × Becomes (said_of bytes (end_at h.hall.ends key)) (taken_of bytes (end_at h.hall.ends key)) from to
+    × AreFollowed key (after h (Takes other bytes)) steps to new
 AreFollowed key h (step ∷ steps) old new = AreFollowed key (after h step) steps old new
 
 -- An application's bytes are taken, up to these, and its request's body follows them.
@@ -164,13 +159,13 @@ pub record Carries (key : ℕ) (old : House) (bytes left : List ℕ) (from to : 
 abbrev pub CarriesOn : ℕ → List ℕ → List ℕ → Body → Body → House → House → Type 0
 CarriesOn key left rest from to old new = (first : House) (bytes : List ℕ) (at : Body) → Carries key first bytes left at from old → Carries key first bytes rest at to new
 
--- and at last it may start
-pub record CarriesAll (key : ℕ) (old : House) (bytes : List ℕ) (from to : Body) (new : House) : Type 0 where
-  pub last : Body
-  pub carries : Carries key old bytes [] from last new
-  pub starts : Starts last to
-
 -- ---- As the code has it
+
+-- what becomes of it by them, and then it may start
+pub record Obeys (answer : Said) (taken : List ℕ) (old new : Body) : Type 0 where
+  pub mid : Body
+  pub does : Becomes answer taken old mid
+  pub starts : Starts mid new
 
 -- what is kept of an application's request
 abbrev pub held_of : Option Application → List ℕ

@@ -3,7 +3,7 @@ ghost use Rattle.std.specs.Prelude.{◌≡◌, [], Bool, IfOk, IfSome, OnOk, Som
 ghost use Rattle.slab.specs.Slab.{get};
 ghost use Rattle.tds_relay.specs.Asking.{Asks, AsksOn, IfAsks, IsUnderway, SendsOn, waits_of};
 ghost use Rattle.tds_client.specs.Streams.{packets_are};
-ghost use Rattle.tds_relay.specs.Bodies.{AskAsBefore, Begins, Body, CarriesAll, CarriesOn, ClientPuts};
+ghost use Rattle.tds_relay.specs.Bodies.{AskAsBefore, Begins, Body, Carries, CarriesOn, ClientPuts};
 ghost use Rattle.tds_relay.specs.Bodies.{Grows, Obeys, PutsOn, Starts, body_of, last_of};
 ghost use Rattle.tds_relay.specs.Fronts.{FedOn, MayPut, Moved, MovedOn, ends_in, goes_by, hall_in, puts};
 ghost use Rattle.tds_relay.specs.Fronts.{given_by, house_in};
@@ -38,8 +38,8 @@ impl Relay {
         ensures opens { OnOk result (Opens self.old.links.items self.new.links.items) }
         ensures stand { OnOk result (AllStand self.old.desk.service
             self.new.desk.service) }
-        ensures carries { IsReached (desk_in self.old.desk) → OnOk result (CarriesAll key
-            (house_in self.old) piece.now (body_of key self.old) (body_of key self.new)
+        ensures carries { IsReached (desk_in self.old.desk) → OnOk result (Carries key
+            (house_in self.old) piece.now [] (body_of key self.old) (body_of key self.new)
             (house_in self.new)) }
     {
         self.take_all(key, piece)?;
@@ -58,7 +58,7 @@ impl Relay {
         ensures read { OnOk result (Stays self.old.links.items self.new.links.items) }
         ensures stand { OnOk result (AllStand self.old.desk.service
             self.new.desk.service) }
-        ensures carries { OnOk result (CarriesAll key (house_in self.old) piece.now
+        ensures carries { OnOk result (Carries key (house_in self.old) piece.now []
             (body_of key self.old) (body_of key self.new) (house_in self.new)) }
     {
         let mut rest = piece;

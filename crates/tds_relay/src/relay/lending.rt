@@ -276,7 +276,7 @@ impl Relay {
 
     /// Whether the connection of this number is open.
     fn is_open(&self, number: u64) -> bool
-        ensures { result ≡ false → open_at number self.now.links.items ≡ None }
+        ensures shut { result ≡ false → open_at number self.now.links.items ≡ None }
         ensures there { result ≡ true → IsSome (waits_on number self.now.links.items) }
     {
         match place_in(&self.links, number) {
