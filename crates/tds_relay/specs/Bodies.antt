@@ -33,6 +33,8 @@ pub data Body : Type 0 where
   Nowhere : Body
   -- its request waits, with these bytes of it; all has come or not
   Kept : (kind : MessageKind) (bytes : List ℕ) (whole : Bool) → Body
+  -- it is said to go on, and there is no connection on which it does: no call leads to that
+  Astray : Body
   -- it goes on, by this client, on the connection of this number, on which these bytes wait to be sent
   Going : (number : ℕ) (client : ClientSession) (waits : List ℕ) → Body
 
@@ -46,12 +48,12 @@ abbrev pub waits_on : ℕ → List Link → Option (List ℕ)
 waits_on number ls = option_map bytes_on (link_at number ls)
 
 abbrev pub going_by : ℕ → Option ClientSession → Option (List ℕ) → Body
-going_by number None waits = Nowhere
-going_by number (Some client) None = Nowhere
+going_by number None waits = Astray
+going_by number (Some client) None = Astray
 going_by number (Some client) (Some bytes) = Going number client bytes
 
 abbrev pub going : services.Service → List Link → Option Hold → Body
-going s links None = Nowhere
+going s links None = Astray
 going s links (Some hold) = going_by hold.number (client_of hold.lease s) (waits_on hold.number links)
 
 abbrev pub body_by : Asking → List ℕ → Body → Body
@@ -91,11 +93,12 @@ abbrev pub ArePut : Bool → List ℕ → ClientSession → ClientSession → Li
 ArePut false more from to out = put from more ≡ Ok (record { answer = tt; session = to; bytes = out })
 ArePut true more from to out = Streams from (more ∷ []) out to
 
--- It stays, or its application is to be closed. Or one that has waited is put as it was kept, all of it, by a client that begins a request
--- of its kind; what goes out by that waits behind what waited on its connection.
+-- It stays, or its application is to be closed; of one that is astray nothing is said. Or one that has waited is put as it was kept, all of
+-- it, by a client that begins a request of its kind; what goes out by that waits behind what waited on its connection.
 pub data Starts : Body → Body → Type 0 where
   Stays : {b : Body} → Starts b b
   Closes : {b : Body} → Starts b Closed
+  Strays : {b : Body} → Starts Astray b
   Goes : {kind : MessageKind} {bytes : List ℕ} {whole : Bool} {number : ℕ} {to : ClientSession} {waits out : List ℕ}
       → (from : ClientSession) → ArePut whole bytes (opened from kind) to out → Starts (Kept kind bytes whole) (Going number to (waits ++ out))
 
@@ -112,7 +115,7 @@ pub data Grows (whole : Bool) (more : List ℕ) : Body → Body → Type 0 where
   Keeps : {kind : MessageKind} {bytes : List ℕ} {was : Bool} → Grows whole more (Kept kind bytes was) (Kept kind (bytes ++ more) whole)
   Sends : {number : ℕ} {to : ClientSession} {waits out : List ℕ}
       → (from : ClientSession) → ArePut whole more from to out → Grows whole more (Going number from waits) (Going number to (waits ++ out))
-  IsNot : Grows whole more Nowhere Nowhere
+  Drifts : {b : Body} → Grows whole more Astray b
   Shuts : {b : Body} → Grows whole more b Closed
 
 -- A request of packets of this type begins, with nothing of its body; or its application is to be closed.
