@@ -1,5 +1,6 @@
 pub mod Asked
 pub mod Calling
+pub mod Carried
 pub mod Fed
 pub mod Fronts
 pub mod Handed

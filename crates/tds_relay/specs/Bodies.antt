@@ -10,10 +10,11 @@ use Rattle.tds_front.specs.declared.front.Said.{Said}
 use Rattle.tds_front.specs.declared.front.Said.TheVariants as said
 use Rattle.tds_front.specs.Bytes.{fed}
 use Rattle.tds_service.specs.declared.service.Service as services
-use Rattle.tds_service.specs.Table.{client_of}
+use Rattle.tds_service.specs.Table.{Moves, client_of}
 use Rattle.tds_relay.specs.declared.application.Application.{Application}
 use Rattle.tds_relay.specs.declared.application.Asking.{Asking}
 use Rattle.tds_relay.specs.declared.application.Asking.TheVariants as asking
+use Rattle.tds_relay.specs.declared.desk.Desk as desks
 use Rattle.tds_relay.specs.declared.desk.Hold.{Hold}
 use Rattle.tds_relay.specs.declared.link.Link.{Link}
 use Rattle.tds_relay.specs.declared.relay.Relay as code
@@ -73,9 +74,17 @@ going_of key r = going r.desk.service r.links.items (find_key key r.desk.holds.i
 abbrev pub body_of : ℕ → code.Relay → Body
 body_of key r = body_in (get r.applications key) (going_of key r)
 
+-- It stays, or its application is to be closed.
+abbrev pub Spared : Body → Body → Type 0
+Spared old new = (new ≡ old) ⊎ (new ≡ Closed)
+
 -- Each application asks what it asked.
 abbrev pub AskAsBefore : Slab Application → Slab Application → Type 0
 AskAsBefore old new = (key : ℕ) (goes : Body) → body_in (get new key) goes ≡ body_in (get old key) goes
+
+-- Or it is to be closed.
+abbrev pub AskOn : Slab Application → Slab Application → Type 0
+AskOn old new = (key : ℕ) (goes : Body) → Spared (body_in (get old key) goes) (body_in (get new key) goes)
 
 -- ---- What becomes of one
 
@@ -96,10 +105,6 @@ pub data Starts : Body → Body → Type 0 where
 -- So it is of all.
 abbrev pub AllStart : code.Relay → code.Relay → Type 0
 AllStart old new = (key : ℕ) → Starts (body_of key old) (body_of key new)
-
--- It stays, or its application is to be closed.
-abbrev pub Spared : Body → Body → Type 0
-Spared old new = (new ≡ old) ⊎ (new ≡ Closed)
 
 -- So it is of all but that of one application.
 abbrev pub SparesOthers : ℕ → code.Relay → code.Relay → Type 0
@@ -134,23 +139,18 @@ Becomes (said.Forget gone) taken old new = new ≡ Nowhere
 Becomes said.Acknowledge taken old new = new ≡ Nowhere
 Becomes said.HandOn taken old new = Unit {0}
 
--- and then it may start
-pub record Obeys (answer : Said) (taken : List ℕ) (old new : Body) : Type 0 where
-  pub mid : Body
-  pub does : Becomes answer taken old mid
-  pub starts : Starts mid new
-
 -- the bytes that an end takes of these at once
 abbrev pub taken_of : List ℕ → Option End → List ℕ
 taken_of bytes None = []
 taken_of bytes (Some (Open front withdrawn asks)) = take (count_by (fed front bytes).brings bytes) bytes
 taken_of bytes (Some Over) = []
 
--- Piece by piece of what steps take of an application, from the one body to the other.
+-- Piece by piece of what steps take of an application, from the one body to the other; before each and behind the last it may start.
 abbrev pub AreFollowed : ℕ → House → List Step → Body → Body → Type 0
-AreFollowed key h [] old new = new ≡ old
+AreFollowed key h [] old new = Starts old new
 AreFollowed key h (Takes other bytes ∷ steps) old new =
-    (mid : Body) × Obeys (said_of bytes (end_at h.hall.ends key)) (taken_of bytes (end_at h.hall.ends key)) old mid × AreFollowed key (after h (Takes other bytes)) steps mid new
+    (from : Body) × (to : Body) × Starts old from × Becomes (said_of bytes (end_at h.hall.ends key)) (taken_of bytes (end_at h.hall.ends key)) from to
+    × AreFollowed key (after h (Takes other bytes)) steps to new
 AreFollowed key h (step ∷ steps) old new = AreFollowed key (after h step) steps old new
 
 -- An application's bytes are taken, up to these, and its request's body follows them.
@@ -162,8 +162,33 @@ pub record Carries (key : ℕ) (old : House) (bytes left : List ℕ) (from to : 
 abbrev pub CarriesOn : ℕ → List ℕ → List ℕ → Body → Body → House → House → Type 0
 CarriesOn key left rest from to old new = (first : House) (bytes : List ℕ) (at : Body) → Carries key first bytes left at from old → Carries key first bytes rest at to new
 
--- and at last it may start
-pub record CarriesAll (key : ℕ) (old : House) (bytes : List ℕ) (from to : Body) (new : House) : Type 0 where
-  pub last : Body
-  pub carries : Carries key old bytes [] from last new
-  pub starts : Starts last to
+-- ---- As the code has it
+
+-- what becomes of it by them, and then it may start
+pub record Obeys (answer : Said) (taken : List ℕ) (old new : Body) : Type 0 where
+  pub mid : Body
+  pub does : Becomes answer taken old mid
+  pub starts : Starts mid new
+
+-- what is kept of an application's request
+abbrev pub held_of : Option Application → List ℕ
+held_of None = []
+held_of (Some a) = a.held.items
+
+-- The client of the connection that an application holds puts these bytes, with which its message is finished or not.
+pub record ClientPuts (whole : Bool) (more : List ℕ) (key : ℕ) (old new : desks.Desk) (before after : List ℕ) : Type 0 where
+  pub hold : Hold
+  pub its : find_key key old.holds.items ≡ Some hold
+  pub same : new.holds.items ≡ old.holds.items
+  pub from : ClientSession
+  pub to : ClientSession
+  pub moves : Moves hold.lease old.service new.service from to
+  pub out : List ℕ
+  pub put_is : ArePut whole more from to out
+  pub appended : after ≡ before ++ out
+
+-- These bytes are put where an application's request goes on, whether it asks one or not; or it is to be closed.
+abbrev pub PutsOn : Bool → List ℕ → ℕ → code.Relay → code.Relay → Type 0
+PutsOn whole more key old new =
+    (body_of key new ≡ Closed)
+    ⊎ (((goes : Body) → body_in (get new.applications key) goes ≡ body_in (get old.applications key) goes) × Grows whole more (going_of key old) (going_of key new))

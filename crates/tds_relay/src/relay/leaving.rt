@@ -1,5 +1,6 @@
 //! Applications that leave, and connections that are lost.
 ghost use Rattle.std.specs.Prelude.{◌≡◌, None, OnOk};
+ghost use Rattle.tds_relay.specs.Bodies.{AskAsBefore, AskOn};
 ghost use Rattle.tds_relay.specs.Desk.{Loses, turn};
 ghost use Rattle.tds_relay.specs.Fronts.{LetsGoFirst, Moved, MovedOn, ends_in, hall_in, hall_of_ends};
 ghost use Rattle.tds_relay.specs.Fronts.{house_in};
@@ -64,6 +65,7 @@ impl Relay {
         ensures read { OnOk result (Stays self.old.links.items self.new.links.items) }
         ensures stand { OnOk result (AllStand self.old.desk.service
             self.new.desk.service) }
+        ensures asks { OnOk result (AskOn self.old.applications self.new.applications) }
     {
         self.end(key)?;
         self.release(key)
@@ -77,6 +79,7 @@ impl Relay {
         ensures ends { OnOk result (ends_in self.new.applications
             ≡ change_end key closes (ends_in self.old.applications)) }
         ensures links { OnOk result (self.new.links.items ≡ self.old.links.items) }
+        ensures asks { OnOk result (AskOn self.old.applications self.new.applications) }
     {
         match self.applications.get_mut(key) {
             Some(application) => {
@@ -102,6 +105,7 @@ impl Relay {
         ensures read { OnOk result (Stays self.old.links.items self.new.links.items) }
         ensures stand { OnOk result (AllStand self.old.desk.service
             self.new.desk.service) }
+        ensures asks { OnOk result (AskOn self.old.applications self.new.applications) }
     {
         self.outbox.clear();
         let left = self.desk.leave(key, &mut self.outbox)?;
@@ -131,6 +135,7 @@ impl Relay {
         ensures gone { OnOk result (reader_at number self.new.links.items ≡ None) }
         ensures stand { OnOk result (AllStand self.old.desk.service
             self.new.desk.service) }
+        ensures asks { OnOk result (AskOn self.old.applications self.new.applications) }
     {
         let key = self.desk.lose(number)?;
         self.close(number, key)
@@ -145,6 +150,7 @@ impl Relay {
             ≡ ends_in self.old.applications) }
         ensures read { OnOk result (Stays self.old.links.items self.new.links.items) }
         ensures gone { OnOk result (reader_at number self.new.links.items ≡ None) }
+        ensures asks { OnOk result (AskAsBefore self.old.applications self.new.applications) }
     {
         let tag = match self.link(number) {
             Some(link) => link.tag,
@@ -169,6 +175,7 @@ impl Relay {
             ≡ change_whose key closes (ends_in self.old.applications)) }
         ensures read { OnOk result (Stays self.old.links.items self.new.links.items) }
         ensures gone { OnOk result (reader_at number self.new.links.items ≡ None) }
+        ensures asks { OnOk result (AskOn self.old.applications self.new.applications) }
     {
         self.close_link(number)?;
         match key {

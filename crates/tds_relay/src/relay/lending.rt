@@ -1,7 +1,10 @@
 //! Connections that are lent to those who wait, opened, and asked.
-ghost use Rattle.std.specs.Prelude.{◌≡◌, [], ℕ, Bool, IfOk, None, OnOk, Some, false, true};
+ghost use Rattle.std.specs.Prelude.{◌≡◌, ◌++◌, [], ℕ, Bool, IfOk, IsSome, List, None, OnOk, Some};
+ghost use Rattle.std.specs.Prelude.{false, option_map, true};
 ghost use Rattle.slab.specs.Slab.{get};
 ghost use Rattle.tds_relay.specs.Asking.{IsUnderway, waits_of};
+ghost use Rattle.tds_relay.specs.Bodies.{AskAsBefore, Grows, Starts, body_of, going_of, held_of};
+ghost use Rattle.tds_relay.specs.Bodies.{waits_on};
 ghost use Rattle.tds_relay.specs.Fronts.{MovedOn, ends_in, hall_in, house_in};
 ghost use Rattle.tds_relay.specs.Hall.{end_at};
 ghost use Rattle.tds_relay.specs.House.{Steps};
@@ -180,6 +183,7 @@ impl Relay {
         ensures read { OnOk result (Stays self.old.links.items self.new.links.items) }
         ensures stand { OnOk result (AllStand self.old.desk.service
             self.new.desk.service) }
+        ensures body { OnOk result (Starts (body_of key self.old) (body_of key self.new)) }
     {
         let Some(application) = self.applications.get(key) else {
             return Ok(());
@@ -235,6 +239,8 @@ impl Relay {
         ensures read { OnOk result (Stays self.old.links.items self.new.links.items) }
         ensures stand { OnOk result (AllStand self.old.desk.service
             self.new.desk.service) }
+        ensures body { OnOk result (Grows whole (held_of (get self.old.applications key))
+            (going_of key self.old) (body_of key self.new)) }
     {
         let Some(application) = self.applications.get_mut(key) else {
             return Ok(());
@@ -253,6 +259,11 @@ impl Relay {
         ensures ends { OnOk result (ends_in self.new.applications
             ≡ ends_in self.old.applications) }
         ensures read { OnOk result (Stays self.old.links.items self.new.links.items) }
+        ensures asks { OnOk result (AskAsBefore self.old.applications self.new.applications) }
+        ensures waits { IfOk result (λ fits. fits ≡ true
+            → waits_on number self.new.links.items ≡ option_map
+            (λ (waits : List ℕ). waits ++ self.old.outbox.items)
+            (waits_on number self.old.links.items)) }
     {
         let fits = append_to(&mut self.links, number, &self.outbox)?;
         self.outbox.clear();
@@ -265,7 +276,8 @@ impl Relay {
 
     /// Whether the connection of this number is open.
     fn is_open(&self, number: u64) -> bool
-        ensures { result ≡ false → open_at number self.now.links.items ≡ None }
+        ensures shut { result ≡ false → open_at number self.now.links.items ≡ None }
+        ensures there { result ≡ true → IsSome (waits_on number self.now.links.items) }
     {
         match place_in(&self.links, number) {
             Some(place) => self.links[place].is_open,

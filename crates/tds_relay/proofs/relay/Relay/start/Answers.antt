@@ -22,7 +22,7 @@ returns-then-application-2-clause-underway c = λ whole waits.
     (sym c.hold_of.ensures ∙ c.in-Some-hold_of.is)
 
 pub returns-then-not-is_open-clause-underway : goal.returns-then-not-is_open-clause-underway
-returns-then-not-is_open-clause-underway c = λ whole waits. Opens c.in-Some-hold_of.hold (sym c.hold_of.ensures ∙ c.in-Some-hold_of.is) (c.is_open.ensures (search rules))
+returns-then-not-is_open-clause-underway c = λ whole waits. Opens c.in-Some-hold_of.hold (sym c.hold_of.ensures ∙ c.in-Some-hold_of.is) (c.is_open.ensures.shut (search rules))
 
 pub returns-in-Ok-clause-stand : goal.returns-in-Ok-clause-stand
 returns-in-Ok-clause-stand c = stand_on c.put_held.result _ _ _ c.in-Ok.ensures.stand c.put_held.ensures.stand
