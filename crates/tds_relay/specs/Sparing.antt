@@ -32,6 +32,10 @@ HoldsOn key old new = (held_at key new ≡ held_at key old) ⊎ (held_at key old
 abbrev pub OthersHold : ℕ → desks.Desk → desks.Desk → Type 0
 OthersHold key old new = IsReached (desk_in old) → (other : ℕ) → other ≢ key → HoldsOn other old new
 
+-- each does
+abbrev pub AllHold : desks.Desk → desks.Desk → Type 0
+AllHold old new = IsReached (desk_in old) → (key : ℕ) → HoldsOn key old new
+
 -- It doesn't hold the connection of this number.
 abbrev pub IsOff : ℕ → ℕ → desks.Desk → Type 0
 IsOff number key d = (client : ClientSession) → held_at key d ≢ Some (number, client)
@@ -53,7 +57,3 @@ AllRest old new = (key : ℕ) → Rests (body_of key old) (body_of key new)
 -- or each but that of one application.
 abbrev pub OthersRest : ℕ → code.Relay → code.Relay → Type 0
 OthersRest key old new = (other : ℕ) → other ≢ key → Rests (body_of other old) (body_of other new)
-
--- or each of those who don't hold the connection of this number
-abbrev pub OffRest : ℕ → code.Relay → code.Relay → Type 0
-OffRest number old new = (key : ℕ) → IsOff number key old.desk → Rests (body_of key old) (body_of key new)

@@ -5,6 +5,7 @@ ghost use Rattle.tds_service.specs.Table.{place_of};
 ghost use Rattle.tds_relay.specs.Desk.{Serves, Unwaits, Waits, find_key, find_number, key_of, new_desk};
 ghost use Rattle.tds_relay.specs.Desk.{owes_reset};
 ghost use Rattle.tds_relay.specs.Hall.{is_in};
+ghost use Rattle.tds_relay.specs.Sparing.{AllHold};
 ghost use Rattle.tds_relay.specs.Ties.{Serving, Turns, desk_in};
 ghost use Rattle.tds_relay.specs.Walkers.{AllStand};
 
@@ -107,6 +108,7 @@ impl Desk {
             × Serving (desk_in self.old) served) }
         ensures err { OnErr result (desk_in self.new ≡ desk_in self.old) }
         ensures stand { OnOk result (AllStand self.old.service self.new.service) }
+        ensures holds { OnOk result (AllHold self.old self.new) }
     {
         let Some(key) = self.line.first().copied() else {
             return Ok(None);

@@ -11,7 +11,7 @@ use Rattle.tds_relay.specs.declared.desk.Desk as desks
 use Rattle.tds_relay.specs.declared.desk.Hold.{Hold}
 use Rattle.tds_relay.specs.Desk.{Desk, desk_after, find_key, find_lease, find_number, key_of, new_desk, without_number}
 use Rattle.tds_relay.specs.Promises.{Each}
-use Rattle.tds_relay.specs.Sparing.{Held, HoldsOn, IsOff, OffHold, OthersHold, held_at, held_by}
+use Rattle.tds_relay.specs.Sparing.{AllHold, Held, HoldsOn, IsOff, OffHold, OthersHold, held_at, held_by}
 use Rattle.tds_relay.specs.Ties.{IsReached, desk_in}
 use Rattle.tds_relay.proofs.ends.Folding.{always_sits}
 use Rattle.tds_relay.proofs.held.Lists.{found_key}
@@ -227,17 +227,27 @@ off_others d key other g reached its differs = λ client e.
 
 -- ---- What is done
 
+-- nothing
+pub deed_refl : (d : desks.Desk) (key : ℕ) → OthersHold key d d
+deed_refl d key reached other differs = inl refl
+
+pub deed_same : (d e : desks.Desk) (key : ℕ) → e ≡ d → OthersHold key d e
+deed_same d e key same reached other differs = inl (ap (held_at other) same)
+
+pub all_hold : (d : desks.Desk) → AllHold d d
+all_hold d reached key = inl refl
+
 -- on what one of them holds
 pub deed_others : (d e : desks.Desk) (key : ℕ) (g : Hold) → find_key key d.holds.items ≡ Some g → e.holds.items ≡ d.holds.items → KeepsClients g.lease d.service e.service → OthersHold key d e
 deed_others d e key g its same keeps = λ reached other differs.
     holds_on d e other (λ h client theirs there. (ap (find_key other) same ∙ theirs, keeps h.lease (lease_apart (desk_in d) key other g h (sound_at (desk_in d) reached) its theirs differs)))
 
 -- one is lent another
-pub lent_all : (d e : desks.Desk) (x : Hold) → e.holds.items ≡ d.holds.items ++ x ∷ [] → KeepsClients (d.service.given + 1) d.service e.service → IsReached (desk_in d) → (key : ℕ) → HoldsOn key d e
+pub lent_all : (d e : desks.Desk) (x : Hold) → e.holds.items ≡ d.holds.items ++ x ∷ [] → KeepsClients (d.service.given + 1) d.service e.service → AllHold d e
 lent_all d e x more keeps reached key =
     holds_on d e key (λ h client its there. (ap (find_key key) more ∙ added_key key h x d.holds.items its, keeps h.lease (lease_given (desk_in d) key h (sound_at (desk_in d) reached) its)))
 
-pub same_all : (d e : desks.Desk) → e.holds.items ≡ d.holds.items → KeepsClients (d.service.given + 1) d.service e.service → IsReached (desk_in d) → (key : ℕ) → HoldsOn key d e
+pub same_all : (d e : desks.Desk) → e.holds.items ≡ d.holds.items → KeepsClients (d.service.given + 1) d.service e.service → AllHold d e
 same_all d e same keeps reached key =
     holds_on d e key (λ h client its there. (ap (find_key key) same ∙ its, keeps h.lease (lease_given (desk_in d) key h (sound_at (desk_in d) reached) its)))
 

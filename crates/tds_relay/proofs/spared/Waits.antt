@@ -66,12 +66,12 @@ none_waits by number ls is =
 -- ---- What is put there, or sent
 
 put_by : (b : Bool) (bytes : List ℕ) (p : Post) → fits p bytes ≡ b → (put bytes p).is_full ≡ false → (put bytes p).bytes ≡ p.bytes ++ bytes
-put_by true bytes p e open = ap (λ (q : Post). q.bytes) (put_fits bytes p e)
-put_by false bytes p e open = absurd (let u : true ≡ false = sym (ap (λ (q : Post). q.is_full) (put_fills bytes p e)) ∙ open in let v : ⊥ = cc in v)
+put_by true bytes p e all = ap (λ (q : Post). q.bytes) (put_fits bytes p e)
+put_by false bytes p e all = absurd (let u : true ≡ false = sym (ap (λ (q : Post). q.is_full) (put_fills bytes p e)) ∙ all in let v : ⊥ = cc in v)
 
 -- where it isn't full behind it, all of it waits
 pub put_waits : (bytes : List ℕ) (p q : Post) → q ≡ put bytes p → q.is_full ≡ false → q.bytes ≡ p.bytes ++ bytes
-put_waits bytes p q is open = ap (λ (r : Post). r.bytes) is ∙ put_by (fits p bytes) bytes p refl (sym (ap (λ (r : Post). r.is_full) is) ∙ open)
+put_waits bytes p q is all = ap (λ (r : Post). r.bytes) is ∙ put_by (fits p bytes) bytes p refl (sym (ap (λ (r : Post). r.is_full) is) ∙ all)
 
 -- ---- One is taken out
 
