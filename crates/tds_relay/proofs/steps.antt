@@ -1,4 +1,5 @@
 pub mod Asked
+pub mod Bodied
 pub mod Calling
 pub mod Carried
 pub mod Fed

@@ -8,7 +8,7 @@ use Rattle.tds_front.specs.declared.front.Said.{Said}
 use Rattle.tds_front.specs.declared.front.Said.TheVariants as said
 use Rattle.tds_front.specs.Bytes.{fed}
 use Rattle.tds_relay.specs.Asking.{said_of}
-use Rattle.tds_relay.specs.Bodies.{AreFollowed, Body, Carries, Closes, Goes, Obeys, Starts, Stays, taken_of}
+use Rattle.tds_relay.specs.Bodies.{AreFollowed, Body, Carries, Closes, Goes, Obeys, Starts, Stays, Strays, taken_of}
 use Rattle.tds_relay.specs.Desk.{Desk}
 use Rattle.tds_relay.specs.Fronts.{ClosesInstead, FedOn, IsFed, Moved, MovedOn, TakesBetween, given_by, hall_of_ends, house_with}
 use Rattle.tds_relay.specs.Hall.{End, Ends, Feeds, Hall, Move, Moves, Open, change_end, closes, end_at, moved}
@@ -28,6 +28,7 @@ pub starts_both : (a b c : Body) → Starts a b → Starts b c → Starts a c
 starts_both a b c Stays t = t
 starts_both a b c Closes Stays = Closes
 starts_both a b c Closes Closes = Closes
+starts_both a b c Strays t = Strays
 starts_both a b c (Goes waits out from put) Stays = Goes waits out from put
 starts_both a b c (Goes waits out from put) Closes = Closes
 
