@@ -6,7 +6,7 @@ use Rattle.tds_service.specs.Table.{client_of}
 use Rattle.tds_relay.specs.declared.desk.Desk as desks
 use Rattle.tds_relay.specs.declared.desk.Hold.{Hold}
 use Rattle.tds_relay.specs.declared.relay.Relay as code
-use Rattle.tds_relay.specs.Bodies.{Astray, Body, Spared, body_of}
+use Rattle.tds_relay.specs.Bodies.{Astray, Body, Spared, Starts, body_of}
 use Rattle.tds_relay.specs.Desk.{find_key}
 use Rattle.tds_relay.specs.Ties.{IsReached, desk_in}
 
@@ -29,20 +29,20 @@ abbrev pub HoldsOn : ℕ → desks.Desk → desks.Desk → Type 0
 HoldsOn key old new = (held_at key new ≡ held_at key old) ⊎ (held_at key old ≡ None)
 
 -- All others than this one do, at a desk that was reached by events.
-abbrev pub OthersHold : ℕ → desks.Desk → desks.Desk → Type 0
-OthersHold key old new = IsReached (desk_in old) → (other : ℕ) → other ≢ key → HoldsOn other old new
+pub record OthersHold (key : ℕ) (old new : desks.Desk) : Type 0 where
+  pub hold : IsReached (desk_in old) → (other : ℕ) → other ≢ key → HoldsOn other old new
 
 -- each does
-abbrev pub AllHold : desks.Desk → desks.Desk → Type 0
-AllHold old new = IsReached (desk_in old) → (key : ℕ) → HoldsOn key old new
+pub record AllHold (old new : desks.Desk) : Type 0 where
+  pub hold : IsReached (desk_in old) → (key : ℕ) → HoldsOn key old new
 
 -- It doesn't hold the connection of this number.
 abbrev pub IsOff : ℕ → ℕ → desks.Desk → Type 0
 IsOff number key d = (client : ClientSession) → held_at key d ≢ Some (number, client)
 
 -- All who don't hold it hold what they held.
-abbrev pub OffHold : ℕ → desks.Desk → desks.Desk → Type 0
-OffHold number old new = IsReached (desk_in old) → (key : ℕ) → IsOff number key old → HoldsOn key old new
+pub record OffHold (number : ℕ) (old new : desks.Desk) : Type 0 where
+  pub hold : IsReached (desk_in old) → (key : ℕ) → IsOff number key old → HoldsOn key old new
 
 -- ---- At a relay
 
@@ -51,9 +51,13 @@ abbrev pub Rests : Body → Body → Type 0
 Rests old new = Spared old new ⊎ (old ≡ Astray)
 
 -- So does each,
-abbrev pub AllRest : code.Relay → code.Relay → Type 0
-AllRest old new = (key : ℕ) → Rests (body_of key old) (body_of key new)
+pub record AllRest (old new : code.Relay) : Type 0 where
+  pub rest : (key : ℕ) → Rests (body_of key old) (body_of key new)
 
 -- or each but that of one application.
-abbrev pub OthersRest : ℕ → code.Relay → code.Relay → Type 0
-OthersRest key old new = (other : ℕ) → other ≢ key → Rests (body_of other old) (body_of other new)
+pub record OthersRest (key : ℕ) (old new : code.Relay) : Type 0 where
+  pub rest : (other : ℕ) → other ≢ key → Rests (body_of other old) (body_of other new)
+
+-- Each stays or starts, where the desk was reached by events.
+pub record AllGo (old new : code.Relay) : Type 0 where
+  pub go : IsReached (desk_in old.desk) → (key : ℕ) → Starts (body_of key old) (body_of key new)

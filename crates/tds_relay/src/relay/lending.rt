@@ -1,5 +1,5 @@
 //! Connections that are lent to those who wait, opened, and asked.
-ghost use Rattle.std.specs.Prelude.{◌≡◌, ◌++◌, [], ℕ, Bool, IfOk, IsSome, List, None, OnOk, Some};
+ghost use Rattle.std.specs.Prelude.{◌≡◌, ◌≢◌, ◌++◌, [], ℕ, Bool, IfOk, IsSome, List, None, OnOk, Some};
 ghost use Rattle.std.specs.Prelude.{false, option_map, true};
 ghost use Rattle.slab.specs.Slab.{get};
 ghost use Rattle.tds_relay.specs.Asking.{IsUnderway, waits_of};
@@ -10,8 +10,10 @@ ghost use Rattle.tds_relay.specs.Hall.{end_at};
 ghost use Rattle.tds_relay.specs.House.{Steps};
 ghost use Rattle.tds_relay.specs.Posts.{posts_in};
 ghost use Rattle.tds_relay.specs.Reads.{Opens, OpensFirst, OpensOne, Stays, open_at, opened_at};
+ghost use Rattle.tds_relay.specs.Sparing.{AllGo, AllRest, OthersRest};
 ghost use Rattle.tds_relay.specs.Taking.{IsDeaf};
-ghost use Rattle.tds_relay.specs.Ties.{Connection, Goes, GoesOn, Neither, NobodyWaits, desk_in};
+ghost use Rattle.tds_relay.specs.Ties.{Connection, Goes, GoesOn, IsReached, Neither, NobodyWaits};
+ghost use Rattle.tds_relay.specs.Ties.{desk_in};
 ghost use Rattle.tds_relay.specs.Walkers.{AllStand};
 
 use super::Relay;
@@ -81,6 +83,7 @@ impl Relay {
         ensures opens { OnOk result (OpensOne number self.old.links.items self.new.links.items) }
         ensures stand { OnOk result (AllStand self.old.desk.service
             self.new.desk.service) }
+        ensures goes_on { OnOk result (AllGo self.old self.new) }
     {
         self.set_open(number);
         self.order_write_on(number)?;
@@ -94,6 +97,7 @@ impl Relay {
         ensures ends { ends_in self.new.applications ≡ ends_in self.old.applications }
         ensures opens { (other : ℕ) → open_at other self.new.links.items
             ≡ opened_at number other self.old.links.items }
+        ensures same { AllRest self.old self.new }
     {
         set_open(&mut self.links, number);
     }
@@ -108,6 +112,7 @@ impl Relay {
         ensures read { OnOk result (Stays self.old.links.items self.new.links.items) }
         ensures stand { OnOk result (AllStand self.old.desk.service
             self.new.desk.service) }
+        ensures goes_on { OnOk result (AllGo self.old self.new) }
     {
         match self.desk.key_on(number) {
             Some(key) => self.start(key),
@@ -126,6 +131,7 @@ impl Relay {
         ensures opens { OnOk result (Opens self.old.links.items self.new.links.items) }
         ensures stand { OnOk result (AllStand self.old.desk.service
             self.new.desk.service) }
+        ensures goes_on { OnOk result (AllGo self.old self.new) }
     {
         'line: for _ in 0..u64::MAX {
             match self.desk.serve()? {
@@ -150,6 +156,7 @@ impl Relay {
             (hall_in self.new)) }
         ensures stand { OnOk result (AllStand self.old.desk.service
             self.new.desk.service) }
+        ensures goes_on { OnOk result (AllGo self.old self.new) }
     {
         let number = served.hold.number;
         if served.had {
@@ -184,6 +191,8 @@ impl Relay {
         ensures stand { OnOk result (AllStand self.old.desk.service
             self.new.desk.service) }
         ensures body { OnOk result (Starts (body_of key self.old) (body_of key self.new)) }
+        ensures others { IsReached (desk_in self.old.desk)
+            → OnOk result (OthersRest key self.old self.new) }
     {
         let Some(application) = self.applications.get(key) else {
             return Ok(());
@@ -222,6 +231,8 @@ impl Relay {
         ensures read { OnOk result (Stays self.old.links.items self.new.links.items) }
         ensures stand { OnOk result (AllStand self.old.desk.service
             self.new.desk.service) }
+        ensures rests { IsReached (desk_in self.old.desk)
+            → OnOk result (AllRest self.old self.new) }
     {
         self.lose(number)?;
         self.end(key)
@@ -241,6 +252,8 @@ impl Relay {
             self.new.desk.service) }
         ensures body { OnOk result (Grows whole (held_of (get self.old.applications key))
             (going_of key self.old) (body_of key self.new)) }
+        ensures others { IsReached (desk_in self.old.desk)
+            → OnOk result (OthersRest key self.old self.new) }
     {
         let Some(application) = self.applications.get_mut(key) else {
             return Ok(());
@@ -264,6 +277,8 @@ impl Relay {
             → waits_on number self.new.links.items ≡ option_map
             (λ (waits : List ℕ). waits ++ self.old.outbox.items)
             (waits_on number self.old.links.items)) }
+        ensures others { OnOk result ((other : ℕ) → other ≢ number
+            → waits_on other self.new.links.items ≡ waits_on other self.old.links.items) }
     {
         let fits = append_to(&mut self.links, number, &self.outbox)?;
         self.outbox.clear();
