@@ -234,6 +234,9 @@ deed_refl d key = record { hold = λ reached other differs. inl refl }
 pub deed_same : (d e : desks.Desk) (key : ℕ) → e ≡ d → OthersHold key d e
 deed_same d e key same = record { hold = λ reached other differs. inl (ap (held_at other) same) }
 
+pub deed_both : (d e f : desks.Desk) (key : ℕ) → (IsReached (desk_in d) → IsReached (desk_in e)) → OthersHold key d e → OthersHold key e f → OthersHold key d f
+deed_both d e f key led h k = record { hold = λ reached other differs. on_both d e f other (h.hold reached other differs) (k.hold (led reached) other differs) }
+
 pub all_hold : (d : desks.Desk) → AllHold d d
 all_hold d = record { hold = λ reached key. inl refl }
 

@@ -1,5 +1,6 @@
 -- Requests that stay where they are, behind what is done for another application.
 use Rattle.std.proofs.Common.{◌≡◌, ◌≢◌, ◌⊎◌, ◌∙◌, ◌==◌, ◌++◌, ℕ, Bool, true, false, List, [], ◌∷◌, Option, Some, None, inl, inr, refl, sym, ap, subst, option_map, slice_set, if◌then◌else◌}
+use Rattle.std.specs.Prelude.{Result, Ok, Err, OnOk}
 use Rattle.std.proofs.lemmas.Bool.{cases_eq}
 use Rattle.std.proofs.lemmas.List.{get_or-set_other}
 use Rattle.slab.specs.Slab.{Slab, get, with_value}
@@ -9,6 +10,7 @@ use Rattle.tds_service.specs.Table.{client_of}
 use Rattle.tds_relay.specs.declared.application.Application.{Application}
 use Rattle.tds_relay.specs.declared.application.Asking.{Asking}
 use Rattle.tds_relay.specs.declared.application.Asking.TheVariants as asking
+use Rattle.tds_relay.specs.declared.desk.Desk as desks
 use Rattle.tds_relay.specs.declared.desk.Hold.{Hold}
 use Rattle.tds_relay.specs.declared.link.Link.{Link}
 use Rattle.tds_relay.specs.declared.relay.Relay as code
@@ -17,7 +19,7 @@ use Rattle.tds_relay.specs.Desk as desk
 use Rattle.tds_relay.specs.Desk.{Desk, Event, find_key, find_number, key_of, turn}
 use Rattle.tds_relay.specs.Reads.{link_at}
 use Rattle.tds_relay.specs.Sparing.{AllGo, AllHold, AllRest, Held, HoldsOn, IsOff, OffHold, OthersHold, OthersRest, Rests, held_at, held_by}
-use Rattle.tds_relay.specs.Ties.{IsReached, Neither, Turns, desk_in}
+use Rattle.tds_relay.specs.Ties.{CausesDeed, GoesOn, IsReached, Neither, Turns, desk_in}
 use Rattle.tds_relay.proofs.spared.Held.{holder_is, off_others, on_refl}
 use Rattle.tds_relay.proofs.steps.Reaching.{reached_on, reaches_turn}
 
@@ -244,8 +246,68 @@ pushed_rest y old new at apps links = record { rest = λ key.
 
 -- ---- Reached
 
-pub reached_does : (d e : Desk) (key : ℕ) (deed : desk.Deed) (before after : List ℕ) → Turns (desk.Does key deed) d e before after → Rattle.tds_relay.specs.Ties.CausesDeed Neither key deed → IsReached d → IsReached e
+pub reached_does : (d e : Desk) (key : ℕ) (deed : desk.Deed) (before after : List ℕ) → Turns (desk.Does key deed) d e before after → CausesDeed Neither key deed → IsReached d → IsReached e
 reached_does d e key deed before after t cause r = reached_on Neither d e (λ from h. reaches_turn Neither from d e (desk.Does key deed) before after t cause h) r
 
 pub reached_serves : (d e : Desk) (before after : List ℕ) → Turns desk.Serves d e before after → IsReached d → IsReached e
 reached_serves d e before after t r = reached_on Neither d e (λ from h. reaches_turn Neither from d e desk.Serves before after t tt h) r
+
+pub reached_on_does : (d e : Desk) → GoesOn d e → IsReached d → IsReached e
+reached_on_does d e goes r = reached_on Neither d e (goes Neither) r
+
+-- ---- Where a call answers
+
+pub all_on : {A E : Type 0} (r : Result A E) (a b c : code.Relay) → AllRest a b → OnOk r (AllRest b c) → OnOk r (AllRest a c)
+all_on (Ok x) a b c h k = all_both a b c h k
+all_on (Err e) a b c h k = tt
+
+pub others_on : {A E : Type 0} (r : Result A E) (key : ℕ) (a b c : code.Relay) → OnOk r (OthersRest key b c) → OthersRest key a b → OnOk r (OthersRest key a c)
+others_on (Ok x) key a b c k h = others_both key a b c h k
+others_on (Err e) key a b c k h = tt
+
+pub others_all : {A E : Type 0} (r : Result A E) (key : ℕ) (a b c : code.Relay) → OnOk r (AllRest b c) → OthersRest key a b → OnOk r (OthersRest key a c)
+others_all (Ok x) key a b c k h = others_both key a b c h (all_others key b c k)
+others_all (Err e) key a b c k h = tt
+
+-- the desk and the connections are as they were
+pub same_on : {A E : Type 0} (r : Result A E) (a b : code.Relay) → b.desk ≡ a.desk → OnOk r (b.links.items ≡ a.links.items) → OnOk r (AskOn a.applications b.applications) → OnOk r (AllRest a b)
+same_on (Ok x) a b at links asks = all_rest a b at links asks
+same_on (Err e) a b at links asks = tt
+
+pub lost_on : {A E : Type 0} (r : Result A E) (number : ℕ) (old new : code.Relay) (d : desks.Desk) (o : Option ℕ) → IsReached (desk_in old.desk) → o ≡ key_of (find_number number old.desk.holds.items)
+    → OffHold number old.desk d → new.desk ≡ d → OnOk r ((k : ℕ) → o ≡ Some k → (goes : Body) → body_in (get new.applications k) goes ≡ Closed)
+    → OnOk r ((other : ℕ) → other ≢ number → waits_on other new.links.items ≡ waits_on other old.links.items) → OnOk r (AskOn old.applications new.applications) → OnOk r (AllRest old new)
+lost_on (Ok x) number old new d o reached whose holds at shuts waits asks =
+    lost_rest number old new o reached whose shuts (subst (λ (e : desks.Desk). OffHold number old.desk e) (sym at) holds) waits asks
+lost_on (Err e) number old new d o reached whose holds at shuts waits asks = tt
+
+pub go_on_one : {A E : Type 0} (r : Result A E) (key : ℕ) (a b : code.Relay) → OnOk r (Starts (body_of key a) (body_of key b)) → (IsReached (desk_in a.desk) → OnOk r (OthersRest key a b)) → OnOk r (AllGo a b)
+go_on_one (Ok x) key a b own others = go_one key a b own others
+go_on_one (Err e) key a b own others = tt
+
+pub go_on : {A E : Type 0} (r : Result A E) (a b c : code.Relay) → (IsReached (desk_in a.desk) → IsReached (desk_in b.desk)) → AllGo a b → OnOk r (AllGo b c) → OnOk r (AllGo a c)
+go_on (Ok x) a b c led h k = go_both a b c led h k
+go_on (Err e) a b c led h k = tt
+
+-- ---- What is put
+
+pub put_rest : (key : ℕ) (g : Hold) (old mid : code.Relay) (d : desks.Desk) → IsReached (desk_in old.desk) → find_key key old.desk.holds.items ≡ Some g → OthersHold key old.desk d → mid.desk ≡ d
+    → mid.links.items ≡ old.links.items → AskAsBefore old.applications mid.applications → OthersRest key old mid
+put_rest key g old mid d reached its holds at links asks =
+    others_rest key g old mid reached its (subst (λ (e : desks.Desk). OthersHold key old.desk e) (sym at) holds) (λ n differs. ap (waits_on n) links) (asks_on old mid asks)
+
+pub sent_rest : (key : ℕ) (g : Hold) (old mid new : code.Relay) (d : desks.Desk) → IsReached (desk_in old.desk) → find_key key old.desk.holds.items ≡ Some g → OthersHold key old.desk d → mid.desk ≡ d
+    → mid.links.items ≡ old.links.items → AskAsBefore old.applications mid.applications → new.desk ≡ mid.desk
+    → ((other : ℕ) → other ≢ g.number → waits_on other new.links.items ≡ waits_on other mid.links.items) → AskAsBefore mid.applications new.applications → OthersRest key old new
+sent_rest key g old mid new d reached its holds at links asks later waits asked =
+    others_rest key g old new reached its (subst (λ (e : desks.Desk). OthersHold key old.desk e) (sym (later ∙ at)) holds) (λ n differs. waits n differs ∙ ap (waits_on n) links)
+    (λ k goes. inl (asked k goes ∙ asks k goes))
+
+pub put_reached : (d e f : desks.Desk) → GoesOn (desk_in d) (desk_in e) → f ≡ e → IsReached (desk_in d) → IsReached (desk_in f)
+put_reached d e f goes same r = subst (λ (x : desks.Desk). IsReached (desk_in x)) (sym same) (reached_on_does (desk_in d) (desk_in e) goes r)
+
+-- whoever waits is lent another
+pub served_go : (a b m : code.Relay) → GoesOn (desk_in a.desk) (desk_in b.desk) → AllGo a b → AllHold b.desk m.desk → m.links.items ≡ b.links.items → m.applications ≡ b.applications → AllGo a m
+served_go a b m goes h holds links apps =
+    go_both a b m (reached_on_does (desk_in a.desk) (desk_in b.desk) goes) h
+    (rest_go b m (λ reached. held_rest b m (holds.hold reached) (λ n. ap (waits_on n) links) (λ k asked. inl (ap (λ (s : Slab Application). body_in (get s k) asked) apps))))
