@@ -51,8 +51,8 @@ starts_both s Stays = s
 starts_both s Closes = Closes
 starts_both Stays Strays = Strays
 starts_both Strays Strays = Strays
-starts_both Stays (Goes from puts) = Goes from puts
-starts_both Strays (Goes from puts) = Strays
+starts_both Stays (Goes waits out from puts) = Goes waits out from puts
+starts_both Strays (Goes waits out from puts) = Strays
 
 pub rests_start : (a b : Body) → Rests a b → Starts a b
 rests_start a b (inl (inl e)) = subst (λ (x : Body). Starts a x) (sym e) Stays
