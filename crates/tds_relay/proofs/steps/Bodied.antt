@@ -122,3 +122,7 @@ forgot_by a b s (inr shut) = subst (Starts Nowhere) (sym shut) Closes
 pub forgot_on : {A E : Type 0} (r : Result A E) (s t : Slab Application) (key : ℕ) (goes : Body) → ((goes : Body) → Starts Nowhere (body_in (get s key) goes)) → OnOk r (AskOn s t) → OnOk r (Starts Nowhere (body_in (get t key) goes))
 forgot_on (Ok x) s t key goes f on = forgot_by (body_in (get s key) goes) (body_in (get t key) goes) (f goes) (on key goes)
 forgot_on (Err e) s t key goes f on = tt
+
+-- it asks what it asked, and then all go on
+pub asks_kept_on : {A E : Type 0} (r : Result A E) (s u : Slab Application) (key : ℕ) (a b : Application) → Some a ≡ get s key → ((goes : Body) → body_in (Some b) goes ≡ body_in (Some a) goes) → OnOk r (AskOn (with_value s key b) u) → OnOk r (AskOn s u)
+asks_kept_on r s u key a b is same on = kept_on_ok r s (with_value s key b) u (asks_kept s key a b is same) on

@@ -3,7 +3,7 @@ use Rattle.tds_relay.specs.Posts.{acknowledgement, put}
 use Rattle.tds_relay.proofs.steps.Fronts.{ends_kept, moves_same}
 use Rattle.tds_relay.proofs.steps.Posting.{kept_more, posts_changed}
 use Rattle.tds_relay.proofs.steps.Reaching.{ok_more}
-use Rattle.tds_relay.proofs.steps.Bodied.{asks_kept, kept_on_ok}
+use Rattle.tds_relay.proofs.steps.Bodied.{asks_kept_on}
 use Rattle.tds_relay.proofs.relay.Relay.acknowledge.Goals as goal
 
 pub returns-in_ok-append-in-Some-clause-given : goal.returns-in_ok-append-in-Some-clause-given
@@ -19,4 +19,4 @@ returns-in_ok-append-in-Some-clause-moves c =
 
 pub returns-in_ok-append-in-Some-clause-asks : goal.returns-in_ok-append-in-Some-clause-asks
 returns-in_ok-append-in-Some-clause-asks c =
-    kept_on_ok c.order_write.result _ _ _ (asks_kept c.args.self.now.applications c.args.key c.in-Some.application.now _ c.in-Some.ensures.value (λ goes. refl)) c.order_write.ensures.asks
+    asks_kept_on c.order_write.result c.args.self.now.applications c.order_write.new.self.applications c.args.key c.in-Some.application.now _ c.in-Some.ensures.value (λ goes. refl) c.order_write.ensures.asks

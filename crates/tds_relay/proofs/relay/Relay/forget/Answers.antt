@@ -26,8 +26,8 @@ returns-then-was_asked-clause-stand c = stand_on c.unask.result _ _ _ c.forget_r
 pub returns-else-was_asked-clause-stand : goal.returns-else-was_asked-clause-stand
 returns-else-was_asked-clause-stand c = c.forget_request-was_asked.ensures.stand
 
-pub returns-then-was_asked-clause-body : goal.returns-then-was_asked-clause-body
-returns-then-was_asked-clause-body c = forgot_on c.unask.result _ c.unask.new.self.applications c.args.key _ c.forget_request-was_asked.ensures.body c.unask.ensures.asks
-
 pub returns-else-was_asked-clause-body : goal.returns-else-was_asked-clause-body
 returns-else-was_asked-clause-body c = c.forget_request-was_asked.ensures.body _
+
+pub returns-then-was_asked-clause-body : goal.returns-then-was_asked-clause-body
+returns-then-was_asked-clause-body c = forgot_on c.unask.result c.forget_request-was_asked.new.self.applications c.unask.new.self.applications c.args.key _ c.forget_request-was_asked.ensures.body c.unask.ensures.asks

@@ -1,4 +1,4 @@
-use Rattle.std.proofs.Common.{◌≡◌, ◌∙◌, List, None, Option, Some, ap, option_map, sym}
+use Rattle.std.proofs.Common.{refl, ◌≡◌, ◌∙◌, List, None, Option, Some, ap, option_map, sym}
 use Rattle.tds_relay.specs.declared.link.Link.{Link}
 use Rattle.tds_relay.specs.Reads.{open_of, place_of, seen_of}
 use Rattle.tds_relay.proofs.steps.Staying.{is_at, is_nowhere, is_shut_at}
@@ -23,4 +23,4 @@ pub returns-in-Some-clause-there : goal.returns-in-Some-clause-there
 returns-in-Some-clause-there c = λ e.
     let ls : List Link = c.args.self.now.links.items in
     let here : place_of c.args.number ls ≡ Some c.in-Some.place = ap (place_of c.args.number) (sym c.deref.ensures.value) ∙ sym c.place_in.ensures.is ∙ c.in-Some.is in
-    subst IsSome (sym (ap (option_map bytes_on) ((is_at c.args.number ls c.in-Some.place here).found c.index.result.now ∙ ap Some (sym c.index.ensures)))) tt
+    subst IsSome (sym (ap (option_map bytes_on) ((is_at c.args.number ls c.in-Some.place here).found c.index.result.now ∙ ap Some (sym c.index.ensures)))) refl
