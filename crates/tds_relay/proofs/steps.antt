@@ -4,6 +4,7 @@ pub mod Calling
 pub mod Carried
 pub mod Fed
 pub mod Fronts
+pub mod Going
 pub mod Handed
 pub mod Made
 pub mod Posting

@@ -1,5 +1,5 @@
 //! An application, as the relay knows it.
-ghost use Rattle.std.specs.Prelude.{◌≡◌, ◌≤◌, ◌-◌, IfOk, Some, false, is_some, length, true, vec_len};
+ghost use Rattle.std.specs.Prelude.{◌≡◌, ◌≤◌, ◌-◌, ◌++◌, [], IfOk, Some, false, is_some, length, true, vec_len};
 ghost use Rattle.tds_relay.specs.declared.application.TheConstants.{MOST_HELD};
 ghost use Rattle.tds_relay.specs.declared.outgoing.TheConstants.{PIECE};
 

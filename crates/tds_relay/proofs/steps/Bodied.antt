@@ -5,11 +5,14 @@ use Rattle.std.proofs.lemmas.List.{get_or-set_other}
 use Rattle.std.specs.Prelude.{Result, Ok, Err, OnOk, is_some}
 use Rattle.slab.specs.Slab.{Slab, get, with_value}
 use Rattle.tds_relay.specs.declared.application.Application.{Application}
+use Rattle.tds_relay.specs.declared.application.Asking.{Asking}
+use Rattle.tds_relay.specs.declared.application.Asking.TheVariants as asking
 use Rattle.tds_relay.specs.Bodies.{AskAsBefore, AskOn, Body, Closed, Closes, Nowhere, Spared, Starts, Stays, body_in}
 use Rattle.tds_relay.specs.Fronts.{end_of, ends_in}
-use Rattle.tds_relay.specs.Hall.{End, Open, Over, end_at}
+use Rattle.tds_relay.specs.Hall.{End, Ends, Open, Over, change_end, closes, end_at}
 use Rattle.tds_relay.specs.Taking.{IsDeaf}
 use Rattle.tds_relay.proofs.steps.Fronts.{end_is}
+use Rattle.tds_relay.proofs.steps.Told.{deaf_closed}
 use Rattle.tds_relay.proofs.steps.Underway.{written_there}
 
 -- ---- One is written back
@@ -95,3 +98,31 @@ shut s key goes deaf = shut_in (get s key) goes (subst IsDeaf (end_is s key) dea
 
 pub shut_starts : (s : Slab Application) (key : ℕ) (b goes : Body) → IsDeaf (end_at (ends_in s) key) → Starts b (body_in (get s key) goes)
 shut_starts s key b goes deaf = subst (Starts b) (sym (shut s key goes deaf)) Closes
+
+pub closed_body : (key : ℕ) (s : Slab Application) (es : Ends) (goes : Body) → ends_in s ≡ change_end key closes es → body_in (get s key) goes ≡ Closed
+closed_body key s es goes e = shut s key goes (subst (λ (x : Ends). IsDeaf (end_at x key)) (sym e) (deaf_closed key es))
+
+-- ---- Nothing is asked
+
+pub none_starts : (s : Slab Application) (key : ℕ) (goes : Body) → get s key ≡ None → Starts Nowhere (body_in (get s key) goes)
+none_starts s key goes none = subst (λ (o : Option Application). Starts Nowhere (body_in o goes)) (sym none) Closes
+
+nothing_by : (over : Bool) → Starts Nowhere (if over then Closed else Nowhere)
+nothing_by true = Closes
+nothing_by false = Stays
+
+pub nothing_starts : (s : Slab Application) (key : ℕ) (a b : Application) (goes : Body) → Some a ≡ get s key → b.asking ≡ asking.Nothing → Starts Nowhere (body_in (get (with_value s key b) key) goes)
+nothing_starts s key a b goes is nothing =
+    subst (Starts Nowhere) (sym (written_body s key a b goes is ∙ ap (λ (x : Asking). body_in (Some (record b { asking = x })) goes) nothing)) (nothing_by b.is_over)
+
+forgot_by : (a b : Body) → Starts Nowhere a → Spared a b → Starts Nowhere b
+forgot_by a b s (inl e) = subst (Starts Nowhere) (sym e) s
+forgot_by a b s (inr shut) = subst (Starts Nowhere) (sym shut) Closes
+
+pub forgot_on : {A E : Type 0} (r : Result A E) (s t : Slab Application) (key : ℕ) (goes : Body) → ((goes : Body) → Starts Nowhere (body_in (get s key) goes)) → OnOk r (AskOn s t) → OnOk r (Starts Nowhere (body_in (get t key) goes))
+forgot_on (Ok x) s t key goes f on = forgot_by (body_in (get s key) goes) (body_in (get t key) goes) (f goes) (on key goes)
+forgot_on (Err e) s t key goes f on = tt
+
+-- it asks what it asked, and then all go on
+pub asks_kept_on : {A E : Type 0} (r : Result A E) (s u : Slab Application) (key : ℕ) (a b : Application) → Some a ≡ get s key → ((goes : Body) → body_in (Some b) goes ≡ body_in (Some a) goes) → OnOk r (AskOn (with_value s key b) u) → OnOk r (AskOn s u)
+asks_kept_on r s u key a b is same on = kept_on_ok r s (with_value s key b) u (asks_kept s key a b is same) on

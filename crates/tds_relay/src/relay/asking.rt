@@ -360,6 +360,7 @@ impl Relay {
             ≡ change_end key (goes_by self.old.outbox.items) (ends_in self.old.applications) }
         ensures links { self.new.links.items ≡ self.old.links.items }
         ensures asks { AskAsBefore self.old.applications self.new.applications }
+        ensures outbox { self.new.outbox.items ≡ self.old.outbox.items }
     {
         if self.outbox.is_empty() {
             return;
