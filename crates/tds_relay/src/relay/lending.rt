@@ -1,16 +1,18 @@
 //! Connections that are lent to those who wait, opened, and asked.
-ghost use Rattle.std.specs.Prelude.{◌≡◌, ◌≢◌, ◌++◌, [], ℕ, Bool, IfOk, IsSome, List, None, OnOk, Some};
+ghost use Rattle.std.specs.Prelude.{◌≡◌, ◌≢◌, ◌⊎◌, ◌++◌, [], ℕ, Bool, IfOk, IsSome, List, None, OnOk, Some};
 ghost use Rattle.std.specs.Prelude.{false, option_map, true};
 ghost use Rattle.slab.specs.Slab.{get};
 ghost use Rattle.tds_relay.specs.Asking.{IsUnderway, waits_of};
 ghost use Rattle.tds_relay.specs.Bodies.{AskAsBefore, Grows, Starts, body_of, going_of, held_of};
 ghost use Rattle.tds_relay.specs.Bodies.{waits_on};
+ghost use Rattle.tds_relay.specs.Desk.{find_number, key_of};
 ghost use Rattle.tds_relay.specs.Fronts.{MovedOn, ends_in, hall_in, house_in};
 ghost use Rattle.tds_relay.specs.Hall.{end_at};
 ghost use Rattle.tds_relay.specs.House.{Steps};
 ghost use Rattle.tds_relay.specs.Posts.{posts_in};
 ghost use Rattle.tds_relay.specs.Reads.{Opens, OpensFirst, OpensOne, Stays, open_at, opened_at};
-ghost use Rattle.tds_relay.specs.Sparing.{AllGo, AllRest, OthersRest};
+ghost use Rattle.tds_relay.specs.Sparing.{AllGo, AllRest, IsHeldBack, IsUnkept, OthersRest};
+ghost use Rattle.tds_relay.specs.Sparing.{StartsOn};
 ghost use Rattle.tds_relay.specs.Taking.{IsDeaf};
 ghost use Rattle.tds_relay.specs.Ties.{Connection, Goes, GoesOn, IsReached, Neither, NobodyWaits};
 ghost use Rattle.tds_relay.specs.Ties.{desk_in};
@@ -84,6 +86,8 @@ impl Relay {
         ensures stand { OnOk result (AllStand self.old.desk.service
             self.new.desk.service) }
         ensures goes_on { OnOk result (AllGo self.old self.new) }
+        ensures starts { IsReached (desk_in self.old.desk)
+            → OnOk result (StartsOn number self.old self.new) }
     {
         self.set_open(number);
         self.order_write_on(number)?;
@@ -113,6 +117,9 @@ impl Relay {
         ensures stand { OnOk result (AllStand self.old.desk.service
             self.new.desk.service) }
         ensures goes_on { OnOk result (AllGo self.old self.new) }
+        ensures waits { OnOk result ((key : ℕ)
+            → key_of (find_number number (desk_in self.old.desk).holds) ≡ Some key
+            → IsUnkept (body_of key self.new) ⊎ IsHeldBack key self.old) }
     {
         match self.desk.key_on(number) {
             Some(key) => self.start(key),
@@ -193,6 +200,8 @@ impl Relay {
         ensures body { OnOk result (Starts (body_of key self.old) (body_of key self.new)) }
         ensures others { IsReached (desk_in self.old.desk)
             → OnOk result (OthersRest key self.old self.new) }
+        ensures waits { OnOk result (IsUnkept (body_of key self.new)
+            ⊎ IsHeldBack key self.old) }
     {
         let Some(application) = self.applications.get(key) else {
             return Ok(());
@@ -254,6 +263,7 @@ impl Relay {
             (going_of key self.old) (body_of key self.new)) }
         ensures others { IsReached (desk_in self.old.desk)
             → OnOk result (OthersRest key self.old self.new) }
+        ensures gone { OnOk result (IsUnkept (body_of key self.new)) }
     {
         let Some(application) = self.applications.get_mut(key) else {
             return Ok(());

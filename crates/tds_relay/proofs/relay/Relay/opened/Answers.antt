@@ -6,6 +6,8 @@ use Rattle.tds_relay.proofs.steps.Staying.{opens_one_served, stays_behind}
 use Rattle.tds_relay.proofs.bytes.Calls.{stand_back, stand_on}
 use Rattle.tds_relay.specs.declared.desk.Desk as code
 use Rattle.tds_relay.proofs.spared.Resting.{all_both, all_rest, asks_on, go_both, go_on, reached_on_does, rest_go}
+use Rattle.tds_relay.specs.Reads.{open_at}
+use Rattle.tds_relay.proofs.spared.Starting.{started_on}
 use Rattle.tds_relay.proofs.relay.Relay.opened.Goals as goal
 
 pub returns-clause-steps : goal.returns-clause-steps
@@ -39,3 +41,16 @@ returns-clause-goes_on c =
     (asks_on c.set_open.new.self c.order_write_on.new.self c.in_ok-order_write_on.ensures.asks))))
     c.in_ok-start_on.ensures.goes_on)
     c.serve_line.ensures.goes_on
+
+pub returns-clause-starts : goal.returns-clause-starts
+returns-clause-starts c = λ reached.
+    let same = c.order_write_on.ensures.desk ∙ c.set_open.ensures.desk in
+    started_on c.serve_line.result c.args.number c.args.self.now c.order_write_on.new.self c.start_on.new.self c.serve_line.new.self reached same
+    (c.in_ok-order_write_on.ensures.ends ∙ c.set_open.ensures.ends)
+    (λ other. ap (open_at other) c.in_ok-order_write_on.ensures.links ∙ c.set_open.ensures.opens other)
+    (rest_go c.args.self.now c.order_write_on.new.self (λ r. all_both c.args.self.now c.set_open.new.self c.order_write_on.new.self c.set_open.ensures.same
+    (all_rest c.set_open.new.self c.order_write_on.new.self c.order_write_on.ensures.desk c.in_ok-order_write_on.ensures.links
+    (asks_on c.set_open.new.self c.order_write_on.new.self c.in_ok-order_write_on.ensures.asks))))
+    c.in_ok-start_on.ensures.goes_on c.serve_line.ensures.goes_on
+    (λ r. reached_on_does (desk_in c.order_write_on.new.self.desk) (desk_in c.start_on.new.self.desk) c.in_ok-start_on.ensures.goes r)
+    c.in_ok-start_on.ensures.waits

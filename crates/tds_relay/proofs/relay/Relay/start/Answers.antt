@@ -1,4 +1,4 @@
-use Rattle.std.proofs.Common.{◌∙◌, ap, refl, rules, sym, subst}
+use Rattle.std.proofs.Common.{◌∙◌, ap, refl, rules, sym, subst, inl, inr}
 use Rattle.tds_relay.specs.Asking.{Opens}
 use Rattle.tds_relay.specs.Ties.{desk_in, IsReached}
 use Rattle.tds_relay.proofs.steps.Fronts.{moves_closes, moves_does}
@@ -7,6 +7,10 @@ use Rattle.tds_relay.proofs.steps.Underway.{drains}
 use Rattle.tds_relay.proofs.bytes.Calls.{stand_on}
 use Rattle.tds_relay.specs.Desk.{Desk, Asks}
 use Rattle.tds_relay.proofs.spared.Resting.{others_all, others_on, others_refl, put_rest, reached_does, same_on}
+use Rattle.tds_relay.specs.Sparing.{Drains}
+use Rattle.tds_relay.specs.Sparing as sparing
+use Rattle.tds_relay.proofs.steps.Bodied.{shut}
+use Rattle.tds_relay.proofs.spared.Starting.{taken_back, unkept_closed, unkept_none, unkept_over, unkept_there}
 use Rattle.tds_relay.proofs.relay.Relay.start.Goals as goal
 
 pub returns-in-Ok-clause-goes : goal.returns-in-Ok-clause-goes
@@ -44,3 +48,27 @@ pub returns-in_default-hold_of-clause-others : goal.returns-in_default-hold_of-c
 returns-in_default-hold_of-clause-others c = λ reached.
     others_all c.end.result c.args.key c.args.self.now c.args.self.now c.end.new.self (same_on c.end.result c.args.self.now c.end.new.self c.end.ensures.desk c.end.ensures.links c.end.ensures.asks)
     (others_refl c.args.key c.args.self.now)
+
+pub returns-in_default-clause-waits : goal.returns-in_default-clause-waits
+returns-in_default-clause-waits c = inl (unkept_none c.args.self.now.applications c.args.key _ (search rules))
+
+pub returns-then-application-clause-waits : goal.returns-then-application-clause-waits
+returns-then-application-clause-waits c = inl (unkept_over c.args.self.now.applications c.args.key c.in-Some.application.now _ c.in-Some.ensures (search rules))
+
+pub returns-in_default-asking-clause-waits : goal.returns-in_default-asking-clause-waits
+returns-in_default-asking-clause-waits c = inl (unkept_there c.args.key c.args.self.now c.in-Some.application.now c.in-Some.ensures (search rules))
+
+pub returns-in_default-hold_of-clause-waits : goal.returns-in_default-hold_of-clause-waits
+returns-in_default-hold_of-clause-waits c = ok_more c.end.result _ _ (λ s. inl (unkept_closed _ (s _))) c.end.ensures.shuts
+
+pub returns-then-application-2-clause-waits : goal.returns-then-application-2-clause-waits
+returns-then-application-2-clause-waits c = inr (Drains (taken_back c.args.self.now.applications c.args.key c.in-Some.application.now c.in-Some.ensures (search rules) (search rules)))
+
+pub returns-then-not-is_open-clause-waits : goal.returns-then-not-is_open-clause-waits
+returns-then-not-is_open-clause-waits c = inr (sparing.Opens c.in-Some-hold_of.hold (sym c.hold_of.ensures ∙ c.in-Some-hold_of.is) (c.is_open.ensures.shut (search rules)))
+
+pub returns-in-Ok-clause-waits : goal.returns-in-Ok-clause-waits
+returns-in-Ok-clause-waits c = ok_more c.put_held.result _ _ (λ g. inl g) c.put_held.ensures.gone
+
+pub returns-in-Err-clause-waits : goal.returns-in-Err-clause-waits
+returns-in-Err-clause-waits c = ok_more c.fail.result _ _ (λ d. inl (unkept_closed _ (shut c.fail.new.self.applications c.args.key _ d))) c.fail.ensures.over
