@@ -64,20 +64,21 @@ unkept_there key r a is none =
     (unkept_if a.is_over (body_by a.asking a.held.items (going_of key r))
     (unkept_asking a.asking a.held.items (going_of key r) none (unkept_going r.desk.service r.links.items (find_key key r.desk.holds.items))))
 
-put_unkept : (whole : Bool) (more : List ℕ) (key : ℕ) (s : Slab Application) (a b : Application) (mid new : code.Relay) → Some a ≡ get s key → b.asking ≡ asking.Goes → mid.applications ≡ with_value s key b
-    → PutsOn whole more key mid new → IsUnkept (body_of key new)
-put_unkept whole more key s a b mid new is goes apps (inl closed) = unkept_closed (body_of key new) closed
-put_unkept whole more key s a b mid new is goes apps (inr puts) =
+put_unkept : (X : Type 0) (key : ℕ) (s : Slab Application) (a b : Application) (new : code.Relay) → Some a ≡ get s key → b.asking ≡ asking.Goes
+    → (body_of key new ≡ Closed) ⊎ (((goes : Body) → body_in (get new.applications key) goes ≡ body_in (get (with_value s key b) key) goes) × X) → IsUnkept (body_of key new)
+put_unkept X key s a b new is goes (inl closed) = unkept_closed (body_of key new) closed
+put_unkept X key s a b new is goes (inr puts) =
     let g : Body = going_of key new in
-    let one : body_of key new ≡ body_in (Some b) g = puts.0 g ∙ ap (λ (t : Slab Application). body_in (get t key) g) apps ∙ written_body s key a b g is in
+    let one : body_of key new ≡ body_in (Some b) g = puts.0 g ∙ written_body s key a b g is in
     subst IsUnkept (sym one)
     (unkept_if b.is_over (body_by b.asking b.held.items g)
     (unkept_asking b.asking b.held.items g (ap waits_in goes) (unkept_going new.desk.service new.links.items (find_key key new.desk.holds.items))))
 
-pub put_unkept_on : {A E : Type 0} (r : Result A E) (whole : Bool) (more : List ℕ) (key : ℕ) (s : Slab Application) (a b : Application) (mid new : code.Relay) → OnOk r (PutsOn whole more key mid new) → Some a ≡ get s key
-    → b.asking ≡ asking.Goes → mid.applications ≡ with_value s key b → OnOk r (IsUnkept (body_of key new))
-put_unkept_on (Ok x) whole more key s a b mid new puts is goes apps = put_unkept whole more key s a b mid new is goes apps puts
-put_unkept_on (Err e) whole more key s a b mid new puts is goes apps = tt
+pub put_unkept_on : {A E : Type 0} (r : Result A E) (X : Type 0) (key : ℕ) (s : Slab Application) (a b : Application) (new : code.Relay)
+    → OnOk r ((body_of key new ≡ Closed) ⊎ (((goes : Body) → body_in (get new.applications key) goes ≡ body_in (get (with_value s key b) key) goes) × X)) → Some a ≡ get s key
+    → b.asking ≡ asking.Goes → OnOk r (IsUnkept (body_of key new))
+put_unkept_on (Ok x) X key s a b new puts is goes = put_unkept X key s a b new is goes puts
+put_unkept_on (Err e) X key s a b new puts is goes = tt
 
 -- ---- Held back
 
