@@ -1,3 +1,4 @@
 pub mod Held
 pub mod Resting
+pub mod Starting
 pub mod Waits

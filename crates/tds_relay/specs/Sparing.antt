@@ -6,8 +6,12 @@ use Rattle.tds_service.specs.Table.{client_of}
 use Rattle.tds_relay.specs.declared.desk.Desk as desks
 use Rattle.tds_relay.specs.declared.desk.Hold.{Hold}
 use Rattle.tds_relay.specs.declared.relay.Relay as code
-use Rattle.tds_relay.specs.Bodies.{Astray, Body, Spared, body_of}
+use Rattle.tds_relay.specs.Asking.{IsTakenBack}
+use Rattle.tds_relay.specs.Bodies.{Astray, Body, Closed, Going, Kept, Nowhere, Spared, Starts, body_of}
 use Rattle.tds_relay.specs.Desk.{find_key}
+use Rattle.tds_relay.specs.Fronts.{ends_in}
+use Rattle.tds_relay.specs.Hall.{end_at}
+use Rattle.tds_relay.specs.Reads.{open_at, reader_at}
 use Rattle.tds_relay.specs.Ties.{IsReached, desk_in}
 
 -- ---- At a desk
@@ -29,20 +33,20 @@ abbrev pub HoldsOn : ℕ → desks.Desk → desks.Desk → Type 0
 HoldsOn key old new = (held_at key new ≡ held_at key old) ⊎ (held_at key old ≡ None)
 
 -- All others than this one do, at a desk that was reached by events.
-abbrev pub OthersHold : ℕ → desks.Desk → desks.Desk → Type 0
-OthersHold key old new = IsReached (desk_in old) → (other : ℕ) → other ≢ key → HoldsOn other old new
+pub record OthersHold (key : ℕ) (old new : desks.Desk) : Type 0 where
+  pub hold : IsReached (desk_in old) → (other : ℕ) → other ≢ key → HoldsOn other old new
 
 -- each does
-abbrev pub AllHold : desks.Desk → desks.Desk → Type 0
-AllHold old new = IsReached (desk_in old) → (key : ℕ) → HoldsOn key old new
+pub record AllHold (old new : desks.Desk) : Type 0 where
+  pub hold : IsReached (desk_in old) → (key : ℕ) → HoldsOn key old new
 
 -- It doesn't hold the connection of this number.
 abbrev pub IsOff : ℕ → ℕ → desks.Desk → Type 0
 IsOff number key d = (client : ClientSession) → held_at key d ≢ Some (number, client)
 
 -- All who don't hold it hold what they held.
-abbrev pub OffHold : ℕ → desks.Desk → desks.Desk → Type 0
-OffHold number old new = IsReached (desk_in old) → (key : ℕ) → IsOff number key old → HoldsOn key old new
+pub record OffHold (number : ℕ) (old new : desks.Desk) : Type 0 where
+  pub hold : IsReached (desk_in old) → (key : ℕ) → IsOff number key old → HoldsOn key old new
 
 -- ---- At a relay
 
@@ -51,9 +55,48 @@ abbrev pub Rests : Body → Body → Type 0
 Rests old new = Spared old new ⊎ (old ≡ Astray)
 
 -- So does each,
-abbrev pub AllRest : code.Relay → code.Relay → Type 0
-AllRest old new = (key : ℕ) → Rests (body_of key old) (body_of key new)
+pub record AllRest (old new : code.Relay) : Type 0 where
+  pub rest : (key : ℕ) → Rests (body_of key old) (body_of key new)
 
 -- or each but that of one application.
-abbrev pub OthersRest : ℕ → code.Relay → code.Relay → Type 0
-OthersRest key old new = (other : ℕ) → other ≢ key → Rests (body_of other old) (body_of other new)
+pub record OthersRest (key : ℕ) (old new : code.Relay) : Type 0 where
+  pub rest : (other : ℕ) → other ≢ key → Rests (body_of other old) (body_of other new)
+
+-- Each stays or starts, where the desk was reached by events.
+pub record AllGo (old new : code.Relay) : Type 0 where
+  pub go : IsReached (desk_in old.desk) → (key : ℕ) → Starts (body_of key old) (body_of key new)
+
+-- ---- A request that has waited
+
+abbrev pub IsKept : Body → Type 0
+IsKept Closed = ⊥
+IsKept Nowhere = ⊥
+IsKept (Kept kind bytes whole) = Unit {0}
+IsKept Astray = ⊥
+IsKept (Going number client waits) = ⊥
+
+abbrev pub IsUnkept : Body → Type 0
+IsUnkept Closed = Unit {0}
+IsUnkept Nowhere = Unit {0}
+IsUnkept (Kept kind bytes whole) = ⊥
+IsUnkept Astray = Unit {0}
+IsUnkept (Going number client waits) = Unit {0}
+
+-- It goes on, or its application is to be closed.
+abbrev pub HasGone : Body → Type 0
+HasGone Closed = Unit {0}
+HasGone Nowhere = ⊥
+HasGone (Kept kind bytes whole) = ⊥
+HasGone Astray = ⊥
+HasGone (Going number client waits) = Unit {0}
+
+-- It waits: what its application took back isn't acknowledged yet, or the connection that this holds isn't open.
+pub data IsHeldBack (key : ℕ) (r : code.Relay) : Type 0 where
+  Drains : IsTakenBack (end_at (ends_in r.applications) key) → IsHeldBack key r
+  Opens : (hold : Hold) → find_key key r.desk.holds.items ≡ Some hold → open_at hold.number r.links.items ≡ None → IsHeldBack key r
+
+-- One that was kept for the connection of this number goes on there now; but where what its application took back isn't acknowledged yet,
+-- and where there is no such connection.
+pub record StartsOn (number : ℕ) (old new : code.Relay) : Type 0 where
+  pub start : (key : ℕ) (client : ClientSession) → held_at key old.desk ≡ Some (number, client) → IsKept (body_of key old)
+      → HasGone (body_of key new) ⊎ (IsTakenBack (end_at (ends_in old.applications) key) ⊎ (reader_at number old.links.items ≡ None))

@@ -103,6 +103,7 @@ impl Desk {
 
     /// Lends a connection to whoever has waited longest. None where nobody waits, or as many are in use as
     /// may be.
+    #[tactic(auto, using(crate::proofs::spared::Held::all_hold))]
     pub fn serve(&mut self) -> Result<Option<Served>, NoMemory>
         ensures ok { IfOk result (λ served. Turns Serves (desk_in self.old) (desk_in self.new) [] []
             × Serving (desk_in self.old) served) }

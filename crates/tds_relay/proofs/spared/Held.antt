@@ -229,27 +229,36 @@ off_others d key other g reached its differs = λ client e.
 
 -- nothing
 pub deed_refl : (d : desks.Desk) (key : ℕ) → OthersHold key d d
-deed_refl d key reached other differs = inl refl
+deed_refl d key = record { hold = λ reached other differs. inl refl }
 
 pub deed_same : (d e : desks.Desk) (key : ℕ) → e ≡ d → OthersHold key d e
-deed_same d e key same reached other differs = inl (ap (held_at other) same)
+deed_same d e key same = record { hold = λ reached other differs. inl (ap (held_at other) same) }
+
+pub deed_both : (d e f : desks.Desk) (key : ℕ) → (IsReached (desk_in d) → IsReached (desk_in e)) → OthersHold key d e → OthersHold key e f → OthersHold key d f
+deed_both d e f key led h k = record { hold = λ reached other differs. on_both d e f other (h.hold reached other differs) (k.hold (led reached) other differs) }
 
 pub all_hold : (d : desks.Desk) → AllHold d d
-all_hold d reached key = inl refl
+all_hold d = record { hold = λ reached key. inl refl }
 
 -- on what one of them holds
 pub deed_others : (d e : desks.Desk) (key : ℕ) (g : Hold) → find_key key d.holds.items ≡ Some g → e.holds.items ≡ d.holds.items → KeepsClients g.lease d.service e.service → OthersHold key d e
-deed_others d e key g its same keeps = λ reached other differs.
-    holds_on d e other (λ h client theirs there. (ap (find_key other) same ∙ theirs, keeps h.lease (lease_apart (desk_in d) key other g h (sound_at (desk_in d) reached) its theirs differs)))
+deed_others d e key g its same keeps = record {
+  hold = λ reached other differs.
+      holds_on d e other (λ h client theirs there. (ap (find_key other) same ∙ theirs, keeps h.lease (lease_apart (desk_in d) key other g h (sound_at (desk_in d) reached) its theirs differs)));
+}
 
 -- one is lent another
 pub lent_all : (d e : desks.Desk) (x : Hold) → e.holds.items ≡ d.holds.items ++ x ∷ [] → KeepsClients (d.service.given + 1) d.service e.service → AllHold d e
-lent_all d e x more keeps reached key =
-    holds_on d e key (λ h client its there. (ap (find_key key) more ∙ added_key key h x d.holds.items its, keeps h.lease (lease_given (desk_in d) key h (sound_at (desk_in d) reached) its)))
+lent_all d e x more keeps = record {
+  hold = λ reached key.
+      holds_on d e key (λ h client its there. (ap (find_key key) more ∙ added_key key h x d.holds.items its, keeps h.lease (lease_given (desk_in d) key h (sound_at (desk_in d) reached) its)));
+}
 
 pub same_all : (d e : desks.Desk) → e.holds.items ≡ d.holds.items → KeepsClients (d.service.given + 1) d.service e.service → AllHold d e
-same_all d e same keeps reached key =
-    holds_on d e key (λ h client its there. (ap (find_key key) same ∙ its, keeps h.lease (lease_given (desk_in d) key h (sound_at (desk_in d) reached) its)))
+same_all d e same keeps = record {
+  hold = λ reached key.
+      holds_on d e key (λ h client its there. (ap (find_key key) same ∙ its, keeps h.lease (lease_given (desk_in d) key h (sound_at (desk_in d) reached) its)));
+}
 
 not_equal : (b : Bool) (n m : ℕ) → (n == m) ≡ b → n ≢ m → not b ≡ true
 not_equal true n m e differs = absurd (differs (eqb-true n m e))
@@ -257,11 +266,13 @@ not_equal false n m e differs = refl
 
 -- one is lost
 pub lost_off : (number : ℕ) (d e : desks.Desk) → e.holds.items ≡ without_number number d.holds.items → KeepsClientsOff number d.service e.service → OffHold number d e
-lost_off number d e left keeps = λ reached key off.
-    holds_on d e key (λ h client its there.
-    let sound : Sound (desk_in d) = sound_at (desk_in d) reached in
-    let at : Seated (desk_in d) h = seated d key h client sound its there in
-    let differs : h.number ≢ number = λ same. off client (is_held d key h client its there ∙ ap (λ (n : ℕ). let held : Held = (n, client) in Some held) same) in (
-      ap (find_key key) left ∙ kept_key (λ (x : Hold). not (x.number == number)) key h d.holds.items its (not_equal (h.number == number) h.number number refl differs),
-      keeps h.lease at.seat at.found (λ same. differs (at.number ∙ same)),
-    ))
+lost_off number d e left keeps = record {
+  hold = λ reached key off.
+      holds_on d e key (λ h client its there.
+      let sound : Sound (desk_in d) = sound_at (desk_in d) reached in
+      let at : Seated (desk_in d) h = seated d key h client sound its there in
+      let differs : h.number ≢ number = λ same. off client (is_held d key h client its there ∙ ap (λ (n : ℕ). let held : Held = (n, client) in Some held) same) in (
+        ap (find_key key) left ∙ kept_key (λ (x : Hold). not (x.number == number)) key h d.holds.items its (not_equal (h.number == number) h.number number refl differs),
+        keeps h.lease at.seat at.found (λ same. differs (at.number ∙ same)),
+      ));
+}

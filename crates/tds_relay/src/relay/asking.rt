@@ -11,6 +11,7 @@ ghost use Rattle.tds_relay.specs.Hall.{IfOpen, change_end, end_at};
 ghost use Rattle.tds_relay.specs.House.{Steps};
 ghost use Rattle.tds_relay.specs.Posts.{posts_in};
 ghost use Rattle.tds_relay.specs.Reads.{Opens, Stays};
+ghost use Rattle.tds_relay.specs.Sparing.{OthersHold, OthersRest};
 ghost use Rattle.tds_relay.specs.Taking.{Tells, TellsOn};
 ghost use Rattle.tds_relay.specs.Ties.{Application, Goes, GoesOn, IsReached, NobodyWaits, desk_in};
 ghost use Rattle.tds_relay.specs.Walkers.{AllStand};
@@ -318,6 +319,8 @@ impl Relay {
         ensures stand { OnOk result (AllStand self.old.desk.service
             self.new.desk.service) }
         ensures body { OnOk result (PutsOn whole bytes.now key self.old self.new) }
+        ensures others { IsReached (desk_in self.old.desk)
+            → OnOk result (OthersRest key self.old self.new) }
     {
         let Some(hold) = self.desk.hold_of(key) else {
             return self.end(key);
@@ -378,6 +381,7 @@ fn put_on(desk: &mut Desk, key: usize, bytes: &[u8], whole: bool, out: &mut Vec<
     ensures stand { AllStand desk.old.service desk.new.service }
     ensures body { result ≡ true → ClientPuts whole bytes.now key desk.old desk.new
         out.old.items out.new.items }
+    ensures others { OthersHold key desk.old desk.new }
 {
     let Ok(_) = desk.put(key, bytes, out) else {
         return false;

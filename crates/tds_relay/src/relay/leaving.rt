@@ -1,6 +1,7 @@
 //! Applications that leave, and connections that are lost.
-ghost use Rattle.std.specs.Prelude.{◌≡◌, None, OnOk};
-ghost use Rattle.tds_relay.specs.Bodies.{AskAsBefore, AskOn};
+ghost use Rattle.std.specs.Prelude.{◌≡◌, ◌≢◌, ℕ, None, OnOk, Some};
+ghost use Rattle.slab.specs.Slab.{get};
+ghost use Rattle.tds_relay.specs.Bodies.{AskAsBefore, AskOn, Body, Closed, body_in, waits_on};
 ghost use Rattle.tds_relay.specs.Desk.{Loses, turn};
 ghost use Rattle.tds_relay.specs.Fronts.{LetsGoFirst, Moved, MovedOn, ends_in, hall_in, hall_of_ends};
 ghost use Rattle.tds_relay.specs.Fronts.{house_in};
@@ -8,9 +9,10 @@ ghost use Rattle.tds_relay.specs.Hall.{change_end, change_whose, closes, end_at}
 ghost use Rattle.tds_relay.specs.House.{Steps};
 ghost use Rattle.tds_relay.specs.Posts.{posts_in};
 ghost use Rattle.tds_relay.specs.Reads.{Opens, Stays, reader_at};
+ghost use Rattle.tds_relay.specs.Sparing.{AllRest};
 ghost use Rattle.tds_relay.specs.Taking.{IsDeaf};
-ghost use Rattle.tds_relay.specs.Ties.{Application, Connection, Goes, GoesOn, Leaving, NobodyWaits};
-ghost use Rattle.tds_relay.specs.Ties.{desk_in};
+ghost use Rattle.tds_relay.specs.Ties.{Application, Connection, Goes, GoesOn, IsReached, Leaving};
+ghost use Rattle.tds_relay.specs.Ties.{NobodyWaits, desk_in};
 ghost use Rattle.tds_relay.specs.Walkers.{AllStand};
 
 use super::Relay;
@@ -80,6 +82,8 @@ impl Relay {
             ≡ change_end key closes (ends_in self.old.applications)) }
         ensures links { OnOk result (self.new.links.items ≡ self.old.links.items) }
         ensures asks { OnOk result (AskOn self.old.applications self.new.applications) }
+        ensures shuts { OnOk result ((goes : Body)
+            → body_in (get self.new.applications key) goes ≡ Closed) }
     {
         match self.applications.get_mut(key) {
             Some(application) => {
@@ -136,6 +140,8 @@ impl Relay {
         ensures stand { OnOk result (AllStand self.old.desk.service
             self.new.desk.service) }
         ensures asks { OnOk result (AskOn self.old.applications self.new.applications) }
+        ensures rests { IsReached (desk_in self.old.desk)
+            → OnOk result (AllRest self.old self.new) }
     {
         let key = self.desk.lose(number)?;
         self.close(number, key)
@@ -151,6 +157,8 @@ impl Relay {
         ensures read { OnOk result (Stays self.old.links.items self.new.links.items) }
         ensures gone { OnOk result (reader_at number self.new.links.items ≡ None) }
         ensures asks { OnOk result (AskAsBefore self.old.applications self.new.applications) }
+        ensures others { OnOk result ((other : ℕ) → other ≢ number
+            → waits_on other self.new.links.items ≡ waits_on other self.old.links.items) }
     {
         let tag = match self.link(number) {
             Some(link) => link.tag,
@@ -176,6 +184,10 @@ impl Relay {
         ensures read { OnOk result (Stays self.old.links.items self.new.links.items) }
         ensures gone { OnOk result (reader_at number self.new.links.items ≡ None) }
         ensures asks { OnOk result (AskOn self.old.applications self.new.applications) }
+        ensures others { OnOk result ((other : ℕ) → other ≢ number
+            → waits_on other self.new.links.items ≡ waits_on other self.old.links.items) }
+        ensures shuts { OnOk result ((other : ℕ) → key ≡ Some other → (goes : Body)
+            → body_in (get self.new.applications other) goes ≡ Closed) }
     {
         self.close_link(number)?;
         match key {

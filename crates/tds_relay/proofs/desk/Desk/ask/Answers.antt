@@ -1,4 +1,4 @@
-use Rattle.std.proofs.Common.{rules}
+use Rattle.std.proofs.Common.{refl, rules}
 use Rattle.tds_service.specs.Table.{service_in}
 use Rattle.tds_relay.specs.Ties.{desk_in}
 use Rattle.tds_relay.proofs.steps.Sent.{asks_on}

@@ -1,3 +1,4 @@
+use Rattle.std.proofs.Common.{refl, rules}
 use Rattle.tds_service.specs.Service as calls
 use Rattle.tds_relay.proofs.bytes.Walking.{keeps_stand}
 use Rattle.tds_relay.proofs.spared.Held.{deed_others, deed_same}

@@ -1,10 +1,9 @@
-use Rattle.std.proofs.Common.{ap, false, refl, rules}
+use Rattle.std.proofs.Common.{ap, false, refl, rules, ◌≡◌}
 use Rattle.tds_relay.specs.Hall.{change_end, closes}
 use Rattle.tds_relay.specs.Ties.{Application}
 use Rattle.tds_relay.proofs.steps.Fronts.{ends_kept, moves_closes, moves_same}
 use Rattle.tds_relay.proofs.steps.Reaching.{ok_if, ok_more}
 use Rattle.tds_relay.proofs.steps.Staying.{stays_refl, stays_same}
-use Rattle.std.proofs.Common.{◌≡◌}
 use Rattle.tds_relay.specs.Bodies.{Closed, Refuses, Stays, body_of, going_of}
 use Rattle.slab.specs.Slab.{get, with_value}
 use Rattle.tds_relay.proofs.steps.Bodied.{none_closed, same_starts, shut_starts}

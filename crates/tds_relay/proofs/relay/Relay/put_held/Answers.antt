@@ -5,6 +5,8 @@ use Rattle.tds_relay.proofs.steps.Bodied.{none_grows}
 use Rattle.tds_relay.proofs.steps.Going.{grows_asked}
 use Rattle.tds_relay.proofs.steps.Reaching.{ok_more}
 use Rattle.tds_relay.proofs.steps.Underway.{written_there}
+use Rattle.tds_relay.proofs.spared.Resting.{others_on, others_refl, written_rest}
+use Rattle.tds_relay.proofs.spared.Starting.{put_unkept_on, unkept_none}
 use Rattle.tds_relay.proofs.relay.Relay.put_held.Goals as goal
 
 pub returns-in_default-clause-body : goal.returns-in_default-clause-body
@@ -20,3 +22,13 @@ returns-clause-body c =
     (λ p. subst (λ (xs : List ℕ). Grows c.args.whole xs (going_of c.args.key c.args.self.now) (body_of c.args.key c.put.new.self)) (bytes ∙ ap held_of c.in-Some.ensures.value)
     (grows_asked c.args.whole c.deref.result.now (get (with_value s c.args.key b) c.args.key) (get c.put.new.self.applications c.args.key) (going_of c.args.key c.args.self.now) (going_of c.args.key c.put.new.self) b (written_there s c.args.key a b c.in-Some.ensures.value) c.forget.ensures.asking p))
     c.put.ensures.body
+
+pub returns-clause-others : goal.returns-clause-others
+returns-clause-others c = λ reached.
+    others_on c.put.result c.args.key c.args.self.now _ c.put.new.self (c.put.ensures.others reached) (written_rest c.args.key _ c.args.self.now _ refl refl refl)
+
+pub returns-clause-gone : goal.returns-clause-gone
+returns-clause-gone c = put_unkept_on c.put.result _ _ c.args.key c.args.self.now.applications c.in-Some.application.now _ _ c.put.new.self c.put.ensures.body c.in-Some.ensures.value refl refl
+
+pub returns-in_default-clause-gone : goal.returns-in_default-clause-gone
+returns-in_default-clause-gone c = unkept_none c.args.self.now.applications c.args.key _ (search rules)

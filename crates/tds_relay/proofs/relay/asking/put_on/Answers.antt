@@ -1,9 +1,12 @@
 use Rattle.std.proofs.Common.{◌≡◌, Bool, false, inl, inr, refl, rules, subst, sym, true}
 use Rattle.tds_relay.specs.Asking.{SendsOn}
 use Rattle.tds_relay.specs.Ties.{Reaches, desk_in}
+use Rattle.tds_relay.proofs.steps.Reaching.{reaches_turn}
+use Rattle.tds_relay.specs.Desk.{Ends, Puts}
+use Rattle.tds_relay.proofs.spared.Held.{deed_both}
+use Rattle.tds_relay.proofs.spared.Resting.{reached_does}
 use Rattle.tds_relay.specs.Bodies.{ClientPuts}
 use Rattle.tds_relay.proofs.steps.Going.{holds_stay, puts_last, puts_part}
-use Rattle.tds_relay.proofs.steps.Reaching.{reaches_turn}
 use Rattle.tds_relay.proofs.relay.asking.put_on.Goals as goal
 
 pub returns-then-not-whole-clause-goes : goal.returns-then-not-whole-clause-goes
@@ -46,6 +49,14 @@ returns-in-Ok-finish-clause-stand c = λ n r h. c.in-Ok-finish.ensures.stand n r
 
 pub returns-in-Err-clause-stand : goal.returns-in-Err-clause-stand
 returns-in-Err-clause-stand c = λ n r h. c.in-Err.ensures.stand n r (c.in-Ok.ensures.stand n r h)
+
+pub returns-in-Ok-finish-clause-others : goal.returns-in-Ok-finish-clause-others
+returns-in-Ok-finish-clause-others c = deed_both c.args.desk.now c.put.new.self c.finish.new.self c.args.key
+    (reached_does _ _ c.args.key (Puts c.in-Ok.ensures.ok.0) _ _ c.in-Ok.ensures.ok.1 tt) c.put.ensures.others c.finish.ensures.others
+
+pub returns-in-Err-clause-others : goal.returns-in-Err-clause-others
+returns-in-Err-clause-others c = deed_both c.args.desk.now c.put.new.self c.finish.new.self c.args.key
+    (reached_does _ _ c.args.key (Puts c.in-Ok.ensures.ok.0) _ _ c.in-Ok.ensures.ok.1 tt) c.put.ensures.others c.finish.ensures.others
 
 pub returns-then-not-whole-clause-body : goal.returns-then-not-whole-clause-body
 returns-then-not-whole-clause-body c = λ e.
