@@ -242,17 +242,23 @@ all_hold d = record { hold = λ reached key. inl refl }
 
 -- on what one of them holds
 pub deed_others : (d e : desks.Desk) (key : ℕ) (g : Hold) → find_key key d.holds.items ≡ Some g → e.holds.items ≡ d.holds.items → KeepsClients g.lease d.service e.service → OthersHold key d e
-deed_others d e key g its same keeps = record { hold = λ reached other differs.
-    holds_on d e other (λ h client theirs there. (ap (find_key other) same ∙ theirs, keeps h.lease (lease_apart (desk_in d) key other g h (sound_at (desk_in d) reached) its theirs differs))); }
+deed_others d e key g its same keeps = record {
+  hold = λ reached other differs.
+      holds_on d e other (λ h client theirs there. (ap (find_key other) same ∙ theirs, keeps h.lease (lease_apart (desk_in d) key other g h (sound_at (desk_in d) reached) its theirs differs)));
+}
 
 -- one is lent another
 pub lent_all : (d e : desks.Desk) (x : Hold) → e.holds.items ≡ d.holds.items ++ x ∷ [] → KeepsClients (d.service.given + 1) d.service e.service → AllHold d e
-lent_all d e x more keeps = record { hold = λ reached key.
-    holds_on d e key (λ h client its there. (ap (find_key key) more ∙ added_key key h x d.holds.items its, keeps h.lease (lease_given (desk_in d) key h (sound_at (desk_in d) reached) its))); }
+lent_all d e x more keeps = record {
+  hold = λ reached key.
+      holds_on d e key (λ h client its there. (ap (find_key key) more ∙ added_key key h x d.holds.items its, keeps h.lease (lease_given (desk_in d) key h (sound_at (desk_in d) reached) its)));
+}
 
 pub same_all : (d e : desks.Desk) → e.holds.items ≡ d.holds.items → KeepsClients (d.service.given + 1) d.service e.service → AllHold d e
-same_all d e same keeps = record { hold = λ reached key.
-    holds_on d e key (λ h client its there. (ap (find_key key) same ∙ its, keeps h.lease (lease_given (desk_in d) key h (sound_at (desk_in d) reached) its))); }
+same_all d e same keeps = record {
+  hold = λ reached key.
+      holds_on d e key (λ h client its there. (ap (find_key key) same ∙ its, keeps h.lease (lease_given (desk_in d) key h (sound_at (desk_in d) reached) its)));
+}
 
 not_equal : (b : Bool) (n m : ℕ) → (n == m) ≡ b → n ≢ m → not b ≡ true
 not_equal true n m e differs = absurd (differs (eqb-true n m e))
@@ -260,11 +266,13 @@ not_equal false n m e differs = refl
 
 -- one is lost
 pub lost_off : (number : ℕ) (d e : desks.Desk) → e.holds.items ≡ without_number number d.holds.items → KeepsClientsOff number d.service e.service → OffHold number d e
-lost_off number d e left keeps = record { hold = λ reached key off.
-    holds_on d e key (λ h client its there.
-    let sound : Sound (desk_in d) = sound_at (desk_in d) reached in
-    let at : Seated (desk_in d) h = seated d key h client sound its there in
-    let differs : h.number ≢ number = λ same. off client (is_held d key h client its there ∙ ap (λ (n : ℕ). let held : Held = (n, client) in Some held) same) in (
-      ap (find_key key) left ∙ kept_key (λ (x : Hold). not (x.number == number)) key h d.holds.items its (not_equal (h.number == number) h.number number refl differs),
-      keeps h.lease at.seat at.found (λ same. differs (at.number ∙ same)),
-    )); }
+lost_off number d e left keeps = record {
+  hold = λ reached key off.
+      holds_on d e key (λ h client its there.
+      let sound : Sound (desk_in d) = sound_at (desk_in d) reached in
+      let at : Seated (desk_in d) h = seated d key h client sound its there in
+      let differs : h.number ≢ number = λ same. off client (is_held d key h client its there ∙ ap (λ (n : ℕ). let held : Held = (n, client) in Some held) same) in (
+        ap (find_key key) left ∙ kept_key (λ (x : Hold). not (x.number == number)) key h d.holds.items its (not_equal (h.number == number) h.number number refl differs),
+        keeps h.lease at.seat at.found (λ same. differs (at.number ∙ same)),
+      ));
+}

@@ -156,9 +156,11 @@ asks_on old new asks key goes = inl (asks key goes)
 
 -- The desk and the connections are as they were.
 pub all_rest : (old new : code.Relay) → new.desk ≡ old.desk → new.links.items ≡ old.links.items → AskOn old.applications new.applications → AllRest old new
-all_rest old new at links asks = record { rest = λ key.
-    let holds : HoldsOn key old.desk new.desk = inl (ap (held_at key) at) in
-    rests_by key old new (asks key) (goes_as key old new holds (λ held e. inl (ap (waits_on held.0) links))); }
+all_rest old new at links asks = record {
+  rest = λ key.
+      let holds : HoldsOn key old.desk new.desk = inl (ap (held_at key) at) in
+      rests_by key old new (asks key) (goes_as key old new holds (λ held e. inl (ap (waits_on held.0) links)));
+}
 
 -- The connections are, on which the same waits, and each application holds what it held.
 pub held_rest : (old new : code.Relay) → ((key : ℕ) → HoldsOn key old.desk new.desk) → ((n : ℕ) → waits_on n new.links.items ≡ waits_on n old.links.items) → AskOn old.applications new.applications → AllRest old new
@@ -176,16 +178,20 @@ off_rests number key old new off holds waits asks = rests_by key old new asks (g
 -- Something is done on the connection that one holds.
 pub others_rest : (key : ℕ) (g : Hold) (old new : code.Relay) → IsReached (desk_in old.desk) → find_key key old.desk.holds.items ≡ Some g → OthersHold key old.desk new.desk
     → ((other : ℕ) → other ≢ g.number → waits_on other new.links.items ≡ waits_on other old.links.items) → AskOn old.applications new.applications → OthersRest key old new
-others_rest key g old new reached its holds waits asks = record { rest = λ other differs.
-    off_rests g.number other old new (off_others old.desk key other g reached its differs) (holds.hold reached other differs) waits (asks other); }
+others_rest key g old new reached its holds waits asks = record {
+  rest = λ other differs.
+      off_rests g.number other old new (off_others old.desk key other g reached its differs) (holds.hold reached other differs) waits (asks other);
+}
 
 -- One application alone is written back.
 pub written_rest : (key : ℕ) (a : Application) (old new : code.Relay) → new.desk ≡ old.desk → new.links.items ≡ old.links.items → new.applications ≡ with_value old.applications key a → OthersRest key old new
-written_rest key a old new at links apps = record { rest = λ other differs.
-    let same : get new.applications other ≡ get old.applications other =
-    ap (λ (s : Slab Application). get s other) apps ∙ get_or-set_other old.applications.slots key other (Some a) None differs in
-    let holds : HoldsOn other old.desk new.desk = inl (ap (held_at other) at) in
-    rests_by other old new (λ goes. inl (ap (λ (o : Option Application). body_in o goes) same)) (goes_as other old new holds (λ held e. inl (ap (waits_on held.0) links))); }
+written_rest key a old new at links apps = record {
+  rest = λ other differs.
+      let same : get new.applications other ≡ get old.applications other =
+      ap (λ (s : Slab Application). get s other) apps ∙ get_or-set_other old.applications.slots key other (Some a) None differs in
+      let holds : HoldsOn other old.desk new.desk = inl (ap (held_at other) at) in
+      rests_by other old new (λ goes. inl (ap (λ (o : Option Application). body_in o goes) same)) (goes_as other old new holds (λ held e. inl (ap (waits_on held.0) links)));
+}
 
 -- ---- A connection that is lost
 
@@ -238,11 +244,13 @@ pushed_waits n ls ms (inl e) = inl (ap (option_map bytes_on) e)
 pushed_waits n ls ms (inr e) = inr (ap (option_map bytes_on) e)
 
 pub pushed_rest : (y : Link) (old new : code.Relay) → new.desk ≡ old.desk → new.applications ≡ old.applications → new.links.items ≡ old.links.items ++ y ∷ [] → AllRest old new
-pushed_rest y old new at apps links = record { rest = λ key.
-    let holds : HoldsOn key old.desk new.desk = inl (ap (held_at key) at) in
-    rests_by key old new (λ goes. inl (ap (λ (s : Slab Application). body_in (get s key) goes) apps))
-    (goes_as key old new holds (λ held e. pushed_waits held.0 old.links.items new.links.items
-    (subst (λ (ls : List Link). (link_at held.0 ls ≡ link_at held.0 old.links.items) ⊎ (link_at held.0 old.links.items ≡ None)) (sym links) (pushed held.0 y old.links.items)))); }
+pushed_rest y old new at apps links = record {
+  rest = λ key.
+      let holds : HoldsOn key old.desk new.desk = inl (ap (held_at key) at) in
+      rests_by key old new (λ goes. inl (ap (λ (s : Slab Application). body_in (get s key) goes) apps))
+      (goes_as key old new holds (λ held e. pushed_waits held.0 old.links.items new.links.items
+      (subst (λ (ls : List Link). (link_at held.0 ls ≡ link_at held.0 old.links.items) ⊎ (link_at held.0 old.links.items ≡ None)) (sym links) (pushed held.0 y old.links.items))));
+}
 
 -- ---- Reached
 

@@ -141,11 +141,13 @@ started_by number key old mid next new held e same at ends opens first later (in
 pub started : (number : ℕ) (old mid next new : code.Relay) → IsReached (desk_in old.desk) → mid.desk ≡ old.desk → ends_in mid.applications ≡ ends_in old.applications
     → ((other : ℕ) → open_at other mid.links.items ≡ opened_at number other old.links.items) → AllGo old mid → AllGo mid next → AllGo next new → (IsReached (desk_in mid.desk) → IsReached (desk_in next.desk))
     → ((key : ℕ) → key_of (find_number number (desk_in mid.desk).holds) ≡ Some key → IsUnkept (body_of key next) ⊎ IsHeldBack key mid) → StartsOn number old new
-started number old mid next new reached at ends opens zero first later led waits = record { start = λ key client e kept.
-    let held : Held = (number, client) in
-    let here : IsReached (desk_in mid.desk) = subst (λ (d : desks.Desk). IsReached (desk_in d)) (sym at) reached in
-    let whose : key_of (find_number number (desk_in mid.desk).holds) ≡ Some key = ap (λ (d : desks.Desk). key_of (find_number number d.holds.items)) at ∙ holder_is old.desk key held reached e in
-    started_by number key old mid next new held e refl at ends opens (first.go here key) (later.go (led here) key) (waits key whose) (kept_rest (zero.go reached key) kept); }
+started number old mid next new reached at ends opens zero first later led waits = record {
+  start = λ key client e kept.
+      let held : Held = (number, client) in
+      let here : IsReached (desk_in mid.desk) = subst (λ (d : desks.Desk). IsReached (desk_in d)) (sym at) reached in
+      let whose : key_of (find_number number (desk_in mid.desk).holds) ≡ Some key = ap (λ (d : desks.Desk). key_of (find_number number d.holds.items)) at ∙ holder_is old.desk key held reached e in
+      started_by number key old mid next new held e refl at ends opens (first.go here key) (later.go (led here) key) (waits key whose) (kept_rest (zero.go reached key) kept);
+}
 
 pub started_on : {A E : Type 0} (r : Result A E) (number : ℕ) (old mid next new : code.Relay) → IsReached (desk_in old.desk) → mid.desk ≡ old.desk → ends_in mid.applications ≡ ends_in old.applications
     → ((other : ℕ) → open_at other mid.links.items ≡ opened_at number other old.links.items) → AllGo old mid → AllGo mid next → OnOk r (AllGo next new) → (IsReached (desk_in mid.desk) → IsReached (desk_in next.desk))

@@ -7,7 +7,7 @@ use Rattle.slab.specs.Slab.{Slab, get, with_value}
 use Rattle.tds_relay.specs.declared.application.Application.{Application}
 use Rattle.tds_relay.specs.declared.application.Asking.{Asking}
 use Rattle.tds_relay.specs.declared.application.Asking.TheVariants as asking
-use Rattle.tds_relay.specs.Bodies.{AskAsBefore, AskOn, Body, Closed, Closes, Nowhere, Spared, Starts, Stays, body_in}
+use Rattle.tds_relay.specs.Bodies.{AskAsBefore, AskOn, Body, Closed, Closes, Grows, Nowhere, Shuts, Spared, Starts, Stays, body_in}
 use Rattle.tds_relay.specs.Fronts.{end_of, ends_in}
 use Rattle.tds_relay.specs.Hall.{End, Ends, Open, Over, change_end, closes, end_at}
 use Rattle.tds_relay.specs.Taking.{IsDeaf}
@@ -119,10 +119,22 @@ forgot_by : (a b : Body) → Starts Nowhere a → Spared a b → Starts Nowhere 
 forgot_by a b s (inl e) = subst (Starts Nowhere) (sym e) s
 forgot_by a b s (inr shut) = subst (Starts Nowhere) (sym shut) Closes
 
-pub forgot_on : {A E : Type 0} (r : Result A E) (s t : Slab Application) (key : ℕ) (goes : Body) → ((goes : Body) → Starts Nowhere (body_in (get s key) goes)) → OnOk r (AskOn s t) → OnOk r (Starts Nowhere (body_in (get t key) goes))
-forgot_on (Ok x) s t key goes f on = forgot_by (body_in (get s key) goes) (body_in (get t key) goes) (f goes) (on key goes)
-forgot_on (Err e) s t key goes f on = tt
+pub forgot_on : {A E : Type 0} (r : Result A E) (s t : Slab Application) (key : ℕ) → ((goes : Body) → Starts Nowhere (body_in (get s key) goes)) → OnOk r (AskOn s t) → OnOk r ((goes : Body) → Starts Nowhere (body_in (get t key) goes))
+forgot_on (Ok x) s t key f on = λ goes. forgot_by (body_in (get s key) goes) (body_in (get t key) goes) (f goes) (on key goes)
+forgot_on (Err e) s t key f on = tt
 
 -- it asks what it asked, and then all go on
 pub asks_kept_on : {A E : Type 0} (r : Result A E) (s u : Slab Application) (key : ℕ) (a b : Application) → Some a ≡ get s key → ((goes : Body) → body_in (Some b) goes ≡ body_in (Some a) goes) → OnOk r (AskOn (with_value s key b) u) → OnOk r (AskOn s u)
 asks_kept_on r s u key a b is same on = kept_on_ok r s (with_value s key b) u (asks_kept s key a b is same) on
+
+pub none_closed : (s : Slab Application) (key : ℕ) (goes : Body) → get s key ≡ None → Starts Closed (body_in (get s key) goes)
+none_closed s key goes none = subst (λ (o : Option Application). Starts Closed (body_in o goes)) (sym none) Stays
+
+pub none_grows : (whole : Bool) (more : List ℕ) (s : Slab Application) (key : ℕ) (b goes : Body) → get s key ≡ None → Grows whole more b (body_in (get s key) goes)
+none_grows whole more s key b goes none = subst (λ (o : Option Application). Grows whole more b (body_in o goes)) (sym none) Shuts
+
+pub same_starts : (a b : Body) → b ≡ a → Starts a b
+same_starts a b same = subst (Starts a) (sym same) Stays
+
+pub closed_starts : (a b : Body) → b ≡ Closed → Starts a b
+closed_starts a b shut = subst (Starts a) (sym shut) Closes

@@ -1,10 +1,10 @@
 -- What goes on of a request's body: it is put by the client of the connection that its application holds, and waits there.
 use Rattle.std.proofs.Common.{◌≡◌, ◌⊎◌, ◌∙◌, ◌++◌, ℕ, Bool, true, false, List, [], Option, Some, None, inl, inr, refl, sym, ap, subst, option_map, append_assoc}
-use Rattle.std.specs.Prelude.{if◌then◌else◌}
-use Rattle.slab.specs.Slab.{get}
+use Rattle.std.specs.Prelude.{if◌then◌else◌, IsSome}
+use Rattle.tds_packet.specs.declared.kind.Kind.{Kind}
 use Rattle.tds_client.specs.declared.message.MessageKind.{MessageKind}
 use Rattle.tds_client.specs.Session.{ClientSession}
-use Rattle.tds_client.specs.Streams.{finished, opened, put}
+use Rattle.tds_client.specs.Streams.{finished, opened, packets_are, put}
 use Rattle.tds_service.specs.declared.service.Service as services
 use Rattle.tds_service.specs.Table.{DoesAt, Opens, client_of}
 use Rattle.tds_relay.specs.declared.application.Application.{Application}
@@ -13,11 +13,12 @@ use Rattle.tds_relay.specs.declared.application.Asking.TheVariants as asking
 use Rattle.tds_relay.specs.declared.desk.Desk as desks
 use Rattle.tds_relay.specs.declared.desk.Hold.{Hold}
 use Rattle.tds_relay.specs.declared.link.Link.{Link}
-use Rattle.tds_relay.specs.declared.relay.Relay as code
-use Rattle.tds_relay.specs.Bodies.{ArePut, Astray, Body, ClientPuts, Closed, Closes, Drifts, Going, Goes, Grows, Kept, PutsOn, Sends, Shuts, Starts, body_in, body_of, going, going_by, going_of, waits_on}
+use Rattle.tds_relay.specs.Asking.{waits_in, waits_of}
+use Rattle.tds_relay.specs.Bodies.{ArePut, Asks, Begins, Body, ClientPuts, Closed, Closes, Drifts, Going, Goes, Grows, Keeps, Kept, Refuses, Sends, Shuts, Spared, Starts, body_by, body_in, going, going_by, held_of, waits_on}
 use Rattle.tds_relay.specs.Desk as desk
 use Rattle.tds_relay.specs.Desk.{Desk, Deed, does, find_key}
 use Rattle.tds_relay.specs.Ties.{Turns, desk_in}
+use Rattle.tds_relay.proofs.steps.Bodied.{spared_starts}
 
 -- ---- At the desk
 
@@ -99,20 +100,73 @@ asked_is : (a : Application) (goes : Body) → a.asking ≡ asking.Goes → body
 asked_is a goes is = ap (λ (x : Asking). body_in (Some (record a { asking = x })) goes) is
 
 -- it was asked just before
-pub grows_asked : (whole : Bool) (more : List ℕ) (key : ℕ) (old new : code.Relay) (b : Application) → get old.applications key ≡ Some b → b.asking ≡ asking.Goes → PutsOn whole more key old new → Grows whole more (going_of key old) (body_of key new)
-grows_asked whole more key old new b is asked (inl shut) = subst (Grows whole more (going_of key old)) (sym shut) Shuts
-grows_asked whole more key old new b is asked (inr (same, grows)) =
-    subst (Grows whole more (going_of key old)) (sym (same (going_of key new) ∙ ap (λ (o : Option Application). body_in o (going_of key new)) is ∙ asked_is b (going_of key new) asked))
-    (asked_by whole more b.is_over (going_of key old) (going_of key new) grows)
+pub grows_asked : (whole : Bool) (more : List ℕ) (o n : Option Application) (g h : Body) (b : Application) → o ≡ Some b → b.asking ≡ asking.Goes
+    → (body_in n h ≡ Closed) ⊎ (((goes : Body) → body_in n goes ≡ body_in o goes) × Grows whole more g h) → Grows whole more g (body_in n h)
+grows_asked whole more o n g h b is asked (inl shut) = subst (Grows whole more g) (sym shut) Shuts
+grows_asked whole more o n g h b is asked (inr (same, grows)) =
+    subst (Grows whole more g) (sym (same h ∙ ap (λ (x : Option Application). body_in x h) is ∙ asked_is b h asked)) (asked_by whole more b.is_over g h grows)
 
 -- it goes on
-pub grows_going : (whole : Bool) (more : List ℕ) (key : ℕ) (old new : code.Relay) (b : Application) → get old.applications key ≡ Some b → b.asking ≡ asking.Goes → PutsOn whole more key old new → Grows whole more (body_of key old) (body_of key new)
-grows_going whole more key old new b is asked (inl shut) = subst (Grows whole more (body_of key old)) (sym shut) Shuts
-grows_going whole more key old new b is asked (inr (same, grows)) =
-    let was : body_of key old ≡ (if b.is_over then Closed else going_of key old) = ap (λ (o : Option Application). body_in o (going_of key old)) is ∙ asked_is b (going_of key old) asked in
-    let now : body_of key new ≡ (if b.is_over then Closed else going_of key new) = same (going_of key new) ∙ ap (λ (o : Option Application). body_in o (going_of key new)) is ∙ asked_is b (going_of key new) asked in
-    subst (λ (x : Body). Grows whole more x (body_of key new)) (sym was)
-    (subst (Grows whole more (if b.is_over then Closed else going_of key old)) (sym now) (both_by whole more b.is_over (going_of key old) (going_of key new) grows))
+pub grows_going : (whole : Bool) (more : List ℕ) (o m n : Option Application) (f g h : Body) (a b : Application) → Some a ≡ m → o ≡ Some b → a.asking ≡ asking.Goes → b.asking ≡ asking.Goes → b.is_over ≡ a.is_over → f ≡ g
+    → (body_in n h ≡ Closed) ⊎ (((goes : Body) → body_in n goes ≡ body_in o goes) × Grows whole more g h) → Grows whole more (body_in m f) (body_in n h)
+grows_going whole more o m n f g h a b there is asks asked over same_goes (inl shut) = subst (Grows whole more (body_in m f)) (sym shut) Shuts
+grows_going whole more o m n f g h a b there is asks asked over same_goes (inr (same, grows)) =
+    let was : body_in m f ≡ (if b.is_over then Closed else g) =
+    ap (λ (x : Option Application). body_in x f) (sym there) ∙ asked_is a f asks ∙ ap (λ (x : Body). if a.is_over then Closed else x) same_goes ∙ ap (λ (x : Bool). if x then Closed else g) (sym over) in
+    let now : body_in n h ≡ (if b.is_over then Closed else h) = same h ∙ ap (λ (x : Option Application). body_in x h) is ∙ asked_is b h asked in
+    subst (λ (x : Body). Grows whole more x (body_in n h)) (sym was)
+    (subst (Grows whole more (if b.is_over then Closed else g)) (sym now) (both_by whole more b.is_over g h grows))
+
+-- ---- It waits
+
+kept_by : (over : Bool) (kind : MessageKind) (bytes more : List ℕ) (was whole : Bool) → Grows whole more (if over then Closed else Kept kind bytes was) (if over then Closed else Kept kind (bytes ++ more) whole)
+kept_by true kind bytes more was whole = Shuts
+kept_by false kind bytes more was whole = Keeps
+
+waits_is : (a : Application) (goes : Body) (kind : MessageKind) (whole : Bool) → a.asking ≡ asking.Waits kind whole → body_in (Some a) goes ≡ (if a.is_over then Closed else Kept kind a.held.items whole)
+waits_is a goes kind whole is = ap (λ (x : Asking). body_in (Some (record a { asking = x })) goes) is
+
+-- with these bytes behind the others
+pub grows_kept : (whole : Bool) (more : List ℕ) (m n : Option Application) (g h : Body) (a b : Application) (kind : MessageKind) (was : Bool) → Some a ≡ m → n ≡ Some b → a.asking ≡ asking.Waits kind was → b.asking ≡ asking.Waits kind whole
+    → b.is_over ≡ a.is_over → b.held.items ≡ a.held.items ++ more → Grows whole more (body_in m g) (body_in n h)
+grows_kept whole more m n g h a b kind was there is asks asked over held =
+    let from : body_in m g ≡ (if a.is_over then Closed else Kept kind a.held.items was) = ap (λ (x : Option Application). body_in x g) (sym there) ∙ waits_is a g kind was asks in
+    let to : body_in n h ≡ (if a.is_over then Closed else Kept kind (a.held.items ++ more) whole) =
+    ap (λ (x : Option Application). body_in x h) is ∙ waits_is b h kind whole asked ∙ ap (λ (x : Bool). if x then Closed else Kept kind b.held.items whole) over
+    ∙ ap (λ (xs : List ℕ). if a.is_over then Closed else Kept kind xs whole) held in
+    subst (λ (x : Body). Grows whole more x (body_in n h)) (sym from)
+    (subst (Grows whole more (if a.is_over then Closed else Kept kind a.held.items was)) (sym to) (kept_by a.is_over kind a.held.items more was whole))
+
+begun_by : (over : Bool) (kind : Kind) (message : MessageKind) → packets_are message ≡ kind → Begins kind (if over then Closed else Kept message [] false)
+begun_by true kind message is = Refuses
+begun_by false kind message is = Asks message is
+
+-- with nothing of it yet
+pub begun : (n : Option Application) (h : Body) (b : Application) (kind : Kind) (message : MessageKind) → n ≡ Some b → b.asking ≡ asking.Waits message false → b.held.items ≡ [] → packets_are message ≡ kind → Begins kind (body_in n h)
+begun n h b kind message is asked held packets =
+    subst (Begins kind) (sym (ap (λ (x : Option Application). body_in x h) is ∙ waits_is b h message false asked ∙ ap (λ (xs : List ℕ). if b.is_over then Closed else Kept message xs false) held)) (begun_by b.is_over kind message packets)
+
+-- wherever it would go on
+waits_by : (x : Asking) (whole : Bool) (held : List ℕ) (g h : Body) → waits_in x ≡ Some whole → body_by x held g ≡ body_by x held h
+waits_by asking.Nothing whole held g h e = refl
+waits_by (asking.Waits kind was) whole held g h e = refl
+waits_by asking.Goes whole held g h e = absurd (let u : ⊥ = cc in u)
+
+pub waits_any : (o : Option Application) (whole : Bool) (g h : Body) → waits_of o ≡ Some whole → body_in o g ≡ body_in o h
+waits_any None whole g h e = refl
+waits_any (Some a) whole g h e = ap (λ (x : Body). if a.is_over then Closed else x) (waits_by a.asking whole a.held.items g h e)
+
+pub waits_starts : (m n : Option Application) (whole : Bool) (g h x : Body) → waits_of m ≡ Some whole → Spared (body_in m h) (body_in n h) → x ≡ body_in n h → Starts (body_in m g) x
+waits_starts m n whole g h x e spared is = subst (λ (b : Body). Starts b x) (waits_any m whole h g e) (subst (Starts (body_in m h)) (sym is) (spared_starts (body_in m h) (body_in n h) spared))
+
+pub waits_from : (m n : Option Application) (whole : Bool) (g h x : Body) → waits_of m ≡ Some whole → n ≡ m → Starts (body_in n h) x → Starts (body_in m g) x
+waits_from m n whole g h x e same s = subst (λ (b : Body). Starts b x) (ap (λ (o : Option Application). body_in o h) same ∙ waits_any m whole h g e) s
+
+-- as it is kept
+pub kept_at : (m : Option Application) (g : Body) (a : Application) (kind : MessageKind) (whole : Bool) → Some a ≡ m → a.is_over ≡ false → a.asking ≡ asking.Waits kind whole → body_in m g ≡ Kept kind (held_of m) whole
+kept_at m g a kind whole there here asks =
+    ap (λ (x : Option Application). body_in x g) (sym there) ∙ waits_is a g kind whole asks ∙ ap (λ (x : Bool). if x then Closed else Kept kind a.held.items whole) here
+    ∙ ap (λ (x : Option Application). Kept kind (held_of x) whole) there
 
 -- ---- It starts
 
@@ -138,3 +192,14 @@ pub waits_behind : (n : ℕ) (ms ks ls : List Link) (outbox after : List ℕ) �
 waits_behind n ms ks ls outbox after e links out =
     e ∙ ap (λ (xs : List Link). option_map (λ (waits : List ℕ). waits ++ outbox) (waits_on n xs)) links
     ∙ ap (λ (ys : List ℕ). option_map (λ (waits : List ℕ). waits ++ ys) (waits_on n ls)) out
+
+some_of : (o : Option (List ℕ)) → IsSome o → (waits : List ℕ) × (o ≡ Some waits)
+some_of None is = absurd (let u : ⊥ = cc in u)
+some_of (Some waits) is = (waits, refl)
+
+pub starts_there : (whole : Bool) (held : List ℕ) (kind : MessageKind) (key : ℕ) (old new : desks.Desk) (ls : List Link) (hold its : Hold) (b : Body) → find_key key old.holds.items ≡ Some hold → find_key key old.holds.items ≡ Some its
+    → new.holds.items ≡ old.holds.items → Opens kind hold.lease old.service new.service → IsSome (waits_on its.number ls) → Grows whole held (going new.service ls (find_key key new.holds.items)) b → Starts (Kept kind held whole) b
+starts_there whole held kind key old new ls hold its b one two same o there g =
+    let alike : its ≡ hold = (let u : Some its ≡ Some hold = sym two ∙ one in cc) in
+    let waits = some_of (waits_on hold.number ls) (subst (λ (h : Hold). IsSome (waits_on h.number ls)) alike there) in
+    starts_on whole held kind key old new ls hold waits.0 b one same o waits.1 g

@@ -2,7 +2,7 @@
 ghost use Rattle.slab.specs.Slab.{get};
 ghost use Rattle.std.specs.Prelude.{◌≡◌, [], ℕ, IfSome, List, OnOk, true};
 ghost use Rattle.tds_front.specs.declared.front.Said.TheVariants.{Forget, HandOn};
-ghost use Rattle.tds_relay.specs.Bodies.{AskAsBefore, AskOn, Body, Nowhere, Starts, body_in, body_of};
+ghost use Rattle.tds_relay.specs.Bodies.{AskAsBefore, AskOn, Body, Nowhere, Starts, body_in};
 ghost use Rattle.tds_relay.specs.Desk.{Does, Stops, Unwaits};
 ghost use Rattle.tds_relay.specs.Fronts.{FedOn, Moved, MovedOn, ends_in, hall_in, hall_of_ends, withdraws};
 ghost use Rattle.tds_relay.specs.Hall.{Ends, IfOpen, IsHere, change_end, end_at};
@@ -33,7 +33,8 @@ impl Relay {
         ensures read { OnOk result (Stays self.old.links.items self.new.links.items) }
         ensures stand { OnOk result (AllStand self.old.desk.service
             self.new.desk.service) }
-        ensures body { OnOk result (Starts Nowhere (body_of key self.new)) }
+        ensures body { OnOk result ((goes : Body)
+            → Starts Nowhere (body_in (get self.new.applications key) goes)) }
     {
         let was_asked = self.forget_request(key);
         if was_asked { self.unask(key) } else { Ok(()) }
@@ -94,7 +95,8 @@ impl Relay {
         ensures read { OnOk result (Stays self.old.links.items self.new.links.items) }
         ensures stand { OnOk result (AllStand self.old.desk.service
             self.new.desk.service) }
-        ensures body { OnOk result (Starts Nowhere (body_of key self.new)) }
+        ensures body { OnOk result ((goes : Body)
+            → Starts Nowhere (body_in (get self.new.applications key) goes)) }
     {
         let _ = self.forget_request(key);
         match self.stop(key) {

@@ -27,7 +27,7 @@ pub returns-else-was_asked-clause-stand : goal.returns-else-was_asked-clause-sta
 returns-else-was_asked-clause-stand c = c.forget_request-was_asked.ensures.stand
 
 pub returns-else-was_asked-clause-body : goal.returns-else-was_asked-clause-body
-returns-else-was_asked-clause-body c = c.forget_request-was_asked.ensures.body _
+returns-else-was_asked-clause-body c = c.forget_request-was_asked.ensures.body
 
 pub returns-then-was_asked-clause-body : goal.returns-then-was_asked-clause-body
-returns-then-was_asked-clause-body c = forgot_on c.unask.result c.forget_request-was_asked.new.self.applications c.unask.new.self.applications c.args.key _ c.forget_request-was_asked.ensures.body c.unask.ensures.asks
+returns-then-was_asked-clause-body c = forgot_on c.unask.result c.forget_request-was_asked.new.self.applications c.unask.new.self.applications c.args.key c.forget_request-was_asked.ensures.body c.unask.ensures.asks

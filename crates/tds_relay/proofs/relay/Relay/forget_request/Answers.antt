@@ -1,10 +1,9 @@
-use Rattle.std.proofs.Common.{refl}
+use Rattle.std.proofs.Common.{refl, rules}
 use Rattle.tds_relay.specs.Ties.{Application}
 use Rattle.tds_relay.proofs.steps.Fronts.{ends_kept}
 use Rattle.tds_relay.proofs.steps.Posting.{posts_kept}
 use Rattle.tds_relay.proofs.steps.Reaching.{reaches_turn}
 use Rattle.tds_relay.proofs.steps.Bodied.{none_starts, nothing_starts}
-use Rattle.std.proofs.Common.{rules}
 use Rattle.tds_relay.proofs.relay.Relay.forget_request.Goals as goal
 
 pub returns-in_default-clause-goes : goal.returns-in_default-clause-goes

@@ -1,17 +1,14 @@
-use Rattle.std.proofs.Common.{◌≡◌, ◌∙◌, ap, false, rules, sym}
+use Rattle.std.proofs.Common.{◌≡◌, ◌∙◌, ap, false, rules, sym, subst}
 use Rattle.tds_front.specs.declared.front.Said.{Said}
-use Rattle.tds_relay.specs.Fronts.{given_by}
+use Rattle.tds_relay.specs.Fronts.{given_by, hall_in}
 use Rattle.tds_relay.specs.Hall.{hands_on, takes_back}
 use Rattle.tds_relay.specs.Posts.{acknowledgement, give, posts_in, Posts}
 use Rattle.tds_relay.specs.Ties.{Application}
 use Rattle.tds_relay.proofs.steps.Told.{fed_then}
-use Rattle.tds_relay.proofs.steps.Reaching.{ok_more}
+use Rattle.tds_relay.proofs.steps.Reaching.{ok_more, ok_if}
 use Rattle.tds_relay.proofs.steps.Staying.{stays_refl, stays_same}
-use Rattle.std.proofs.Common.{subst}
 use Rattle.tds_relay.specs.Asking.{IfAsks, IsUnderway}
-use Rattle.tds_relay.specs.Fronts.{hall_in}
 use Rattle.tds_relay.proofs.bytes.Calls.{stand_at}
-use Rattle.tds_relay.proofs.steps.Reaching.{ok_if}
 use Rattle.tds_relay.proofs.relay.Relay.obey.Goals as goal
 
 pub returns-in-Begin-clause-given : goal.returns-in-Begin-clause-given

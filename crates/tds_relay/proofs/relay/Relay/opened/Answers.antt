@@ -30,7 +30,7 @@ pub returns-clause-stand : goal.returns-clause-stand
 returns-clause-stand c = stand_on c.serve_line.result _ _ _ (stand_back _ _ _ (c.order_write_on.ensures.desk ∙ c.set_open.ensures.desk) c.in_ok-start_on.ensures.stand) c.serve_line.ensures.stand
 
 pub returns-clause-goes_on : goal.returns-clause-goes_on
-returns-clause-goes_on c = 
+returns-clause-goes_on c =
     let same = c.order_write_on.ensures.desk ∙ c.set_open.ensures.desk in
     let led : IsReached (desk_in c.args.self.now.desk) → IsReached (desk_in c.order_write_on.new.self.desk) = λ r. subst (λ (d : code.Desk). IsReached (desk_in d)) (sym same) r in
     go_on c.serve_line.result c.args.self.now c.start_on.new.self c.serve_line.new.self

@@ -5,11 +5,14 @@ use Rattle.tds_relay.proofs.steps.Fronts.{moves_closes, moves_does}
 use Rattle.tds_relay.proofs.steps.Reaching.{ok_more, reaches_turn}
 use Rattle.tds_relay.proofs.steps.Underway.{drains}
 use Rattle.tds_relay.proofs.bytes.Calls.{stand_on}
+use Rattle.tds_relay.specs.Bodies.{Body, Stays, Starts, body_of, going_of, held_of}
+use Rattle.slab.specs.Slab.{get}
+use Rattle.tds_relay.proofs.steps.Bodied.{closed_body, closed_starts, shut_starts, shut}
+use Rattle.tds_relay.proofs.steps.Going.{holds_stay, kept_at, starts_there}
 use Rattle.tds_relay.specs.Desk.{Desk, Asks}
 use Rattle.tds_relay.proofs.spared.Resting.{others_all, others_on, others_refl, put_rest, reached_does, same_on}
 use Rattle.tds_relay.specs.Sparing.{Drains}
 use Rattle.tds_relay.specs.Sparing as sparing
-use Rattle.tds_relay.proofs.steps.Bodied.{shut}
 use Rattle.tds_relay.proofs.spared.Starting.{taken_back, unkept_closed, unkept_none, unkept_over, unkept_there}
 use Rattle.tds_relay.proofs.relay.Relay.start.Goals as goal
 
@@ -32,6 +35,36 @@ returns-then-not-is_open-clause-underway c = λ whole waits. Opens c.in-Some-hol
 
 pub returns-in-Ok-clause-stand : goal.returns-in-Ok-clause-stand
 returns-in-Ok-clause-stand c = stand_on c.put_held.result _ _ _ c.in-Ok.ensures.stand c.put_held.ensures.stand
+
+pub returns-in_default-clause-body : goal.returns-in_default-clause-body
+returns-in_default-clause-body c = Stays
+
+pub returns-then-application-clause-body : goal.returns-then-application-clause-body
+returns-then-application-clause-body c = Stays
+
+pub returns-in_default-asking-clause-body : goal.returns-in_default-asking-clause-body
+returns-in_default-asking-clause-body c = Stays
+
+pub returns-then-application-2-clause-body : goal.returns-then-application-2-clause-body
+returns-then-application-2-clause-body c = Stays
+
+pub returns-then-not-is_open-clause-body : goal.returns-then-not-is_open-clause-body
+returns-then-not-is_open-clause-body c = Stays
+
+pub returns-in_default-hold_of-clause-body : goal.returns-in_default-hold_of-clause-body
+returns-in_default-hold_of-clause-body c = ok_more c.end.result _ _ (λ e. closed_starts (body_of c.args.key c.args.self.now) (body_of c.args.key c.end.new.self) (closed_body c.args.key c.end.new.self.applications _ (going_of c.args.key c.end.new.self) e)) c.end.ensures.ends
+
+pub returns-in-Err-clause-body : goal.returns-in-Err-clause-body
+returns-in-Err-clause-body c = ok_more c.fail.result _ _ (λ d. shut_starts c.fail.new.self.applications c.args.key (body_of c.args.key c.args.self.now) (going_of c.args.key c.fail.new.self) d) c.fail.ensures.over
+
+pub returns-in-Ok-clause-body : goal.returns-in-Ok-clause-body
+returns-in-Ok-clause-body c =
+    let kept = kept_at (get c.args.self.now.applications c.args.key) (going_of c.args.key c.args.self.now) c.in-Some.application.now c.in-Waits.kind c.in-Waits.whole c.in-Some.ensures c.if-application.false c.in-Waits.is in
+    ok_more c.put_held.result _ _
+    (λ g. subst (λ (b : Body). Starts b (body_of c.args.key c.put_held.new.self)) (sym kept)
+    (starts_there c.in-Waits.whole (held_of (get c.args.self.now.applications c.args.key)) c.in-Waits.kind c.args.key c.args.self.now.desk c.ask.new.self c.args.self.now.links.items _ c.in-Some-hold_of.hold (body_of c.args.key c.put_held.new.self) c.in-Ok.ensures.whose
+    (sym c.hold_of.ensures ∙ c.in-Some-hold_of.is) (holds_stay c.args.key _ (desk_in c.args.self.now.desk) (desk_in c.ask.new.self) _ _ c.in-Ok.ensures.ok) c.in-Ok.ensures.opened (c.is_open.ensures.there (search rules)) g))
+    c.put_held.ensures.body
 
 pub returns-in-Ok-clause-others : goal.returns-in-Ok-clause-others
 returns-in-Ok-clause-others c = λ reached.

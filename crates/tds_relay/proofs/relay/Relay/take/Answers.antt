@@ -1,16 +1,14 @@
 use Rattle.std.proofs.Common.{◌≡◌, ◌∙◌, Some, false, ap, refl, rules, sym}
 use Rattle.std.specs.Prelude.{is_some}
-use Rattle.tds_relay.specs.Fronts.{end_of, ends_in, given_by, hall_in, house_in}
+use Rattle.tds_relay.specs.Fronts.{end_of, ends_in, given_by, hall_in, house_in, hall_of_ends}
 use Rattle.tds_relay.specs.Posts.{Posts, posts_in}
 use Rattle.tds_relay.specs.Ties.{Application, desk_in}
 use Rattle.tds_relay.proofs.steps.Fed.{closed_fed, end_open, end_there, ends_written, is_fed, refused_is, waits_refused}
-use Rattle.tds_relay.proofs.steps.Fronts.{moved_same}
+use Rattle.tds_relay.proofs.steps.Fronts.{moved_same, ends_kept, moves_same}
 use Rattle.tds_relay.proofs.steps.Posting.{posts_kept}
 use Rattle.tds_relay.proofs.steps.Told.{tells_fed, tells_refused}
 use Rattle.slab.specs.Slab.{with_value}
-use Rattle.tds_relay.specs.Fronts.{hall_of_ends}
 use Rattle.tds_relay.proofs.steps.Asked.{asks_deaf, asks_fed, asks_links, asks_moved, asks_refused}
-use Rattle.tds_relay.proofs.steps.Fronts.{ends_kept, moves_same}
 use Rattle.tds_relay.proofs.steps.Underway.{none_deaf, over_deaf}
 use Rattle.tds_relay.proofs.steps.Staying.{stays_opens}
 use Rattle.tds_relay.proofs.relay.Relay.take.Goals as goal

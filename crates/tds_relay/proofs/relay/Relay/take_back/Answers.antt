@@ -64,11 +64,11 @@ returns-in-None-clause-stand c = stand_on c.expel.result _ _ _ (λ n r h. c.stop
 
 pub returns-in-Some-clause-body : goal.returns-in-Some-clause-body
 returns-in-Some-clause-body c =
-    forgot_on c.send_on.result c.forget_request.new.self.applications c.send_on.new.self.applications c.args.key _ c.forget_request.ensures.body
+    forgot_on c.send_on.result c.forget_request.new.self.applications c.send_on.new.self.applications c.args.key c.forget_request.ensures.body
     (kept_on_ok c.send_on.result c.forget_request.new.self.applications c.withdraw.new.self.applications c.send_on.new.self.applications
     (asks_then c.forget_request.new.self.applications c.stop.new.self.applications c.withdraw.new.self.applications c.stop.ensures.asks c.withdraw.ensures.asks) c.send_on.ensures.asks)
 
 pub returns-in-None-clause-body : goal.returns-in-None-clause-body
 returns-in-None-clause-body c =
-    forgot_on c.expel.result c.forget_request.new.self.applications c.expel.new.self.applications c.args.key _ c.forget_request.ensures.body
+    forgot_on c.expel.result c.forget_request.new.self.applications c.expel.new.self.applications c.args.key c.forget_request.ensures.body
     (kept_on_ok c.expel.result c.forget_request.new.self.applications c.stop.new.self.applications c.expel.new.self.applications c.stop.ensures.asks c.expel.ensures.asks)
