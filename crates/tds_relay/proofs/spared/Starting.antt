@@ -1,5 +1,5 @@
 -- A request that has waited, where its connection opens.
-use Rattle.std.proofs.Common.{◌≡◌, ◌⊎◌, ◌∙◌, ◌==◌, ℕ, Bool, true, false, List, Option, Some, None, inl, inr, refl, sym, ap, subst, if◌then◌else◌}
+use Rattle.std.proofs.Common.{◌≡◌, ◌⊎◌, ◌∙◌, ◌==◌, ℕ, Bool, true, false, List, [], ◌∷◌, Option, Some, None, inl, inr, refl, sym, ap, subst, if◌then◌else◌}
 use Rattle.std.specs.Prelude.{Result, Ok, Err, OnOk, is_some}
 use Rattle.std.proofs.lemmas.Bool.{eq-eqb}
 use Rattle.slab.specs.Slab.{Slab, get, with_value}
@@ -19,9 +19,10 @@ use Rattle.tds_relay.specs.Desk.{find_key, find_number, key_of}
 use Rattle.tds_relay.specs.Fronts.{end_of, ends_in}
 use Rattle.tds_relay.specs.Hall.{End, Ends, Open, Over, end_at}
 use Rattle.tds_relay.specs.Reads.{open_at, opened_at, reader_at}
-use Rattle.tds_relay.specs.Sparing.{AllGo, AllRest, Drains, HasGone, Held, IsHeldBack, IsKept, IsUnkept, Opens, StartsOn, held_at}
+use Rattle.tds_relay.specs.Sparing.{AllGo, AreCalls, Drains, HasGone, Held, IsHeldBack, IsKept, IsLeft, IsUnkept, Opens, StartsOn, behind_all, held_at}
 use Rattle.tds_relay.specs.Ties.{IsReached, desk_in}
 use Rattle.tds_relay.proofs.spared.Held.{holder_is, holds}
+use Rattle.tds_relay.proofs.spared.Resting.{starts_both}
 use Rattle.tds_relay.proofs.steps.Bodied.{written_body}
 use Rattle.tds_relay.proofs.steps.Fed.{end_open, end_there}
 
@@ -166,3 +167,32 @@ own_on (Err e) o k P f h = tt
 
 pub none_own : (o : Option ℕ) (P : ℕ → Type 0) → o ≡ None → (key : ℕ) → o ≡ Some key → P key
 none_own o P e key f = absurd (let u : None ≡ Some key = sym e ∙ f in let v : ⊥ = cc in v)
+
+-- ---- Over calls
+
+left_same : (b : Body) → IsLeft b b
+left_same Closed = refl
+left_same Nowhere = inl refl
+left_same (Kept kind bytes whole) = inl refl
+left_same Astray = tt
+left_same (Going number client waits) = inl refl
+
+left_closed : (b : Body) → IsLeft b Closed
+left_closed Closed = refl
+left_closed Nowhere = inr refl
+left_closed (Kept kind bytes whole) = inr (inl refl)
+left_closed Astray = tt
+left_closed (Going number client waits) = inr refl
+
+left_by : {a b : Body} → Starts a b → IsLeft a b
+left_by {a} Stays = left_same a
+left_by {a} Closes = left_closed a
+left_by Strays = tt
+left_by (Goes waits out from puts) = inr (inr (record { number = _; from = from; to = _; waits = waits; out = out; is = refl; put = puts }))
+
+calls_start : (r : code.Relay) (more : List code.Relay) (key : ℕ) → AreCalls r more → Starts (body_of key r) (body_of key (behind_all r more))
+calls_start r [] key h = Stays
+calls_start r (next ∷ more) key h = starts_both (h.1.go h.0 key) (calls_start next more key h.2)
+
+pub calls_left : (r : code.Relay) (more : List code.Relay) (key : ℕ) → AreCalls r more → IsLeft (body_of key r) (body_of key (behind_all r more))
+calls_left r more key h = left_by (calls_start r more key h)

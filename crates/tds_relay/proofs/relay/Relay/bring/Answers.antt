@@ -5,7 +5,7 @@ use Rattle.tds_relay.proofs.steps.Fronts.{moves_does}
 use Rattle.tds_relay.proofs.steps.Reaching.{reaches_turn, reached_on}
 use Rattle.tds_relay.proofs.steps.Stepping.{no_steps, steps_moved}
 use Rattle.tds_relay.proofs.steps.Staying.{first_opens, none_there}
-use Rattle.tds_relay.proofs.spared.Resting.{go_both, none_go}
+use Rattle.tds_relay.proofs.spared.Resting.{go_both, none_go, go_refl}
 use Rattle.tds_relay.proofs.relay.Relay.bring.Goals as goal
 
 pub returns-in_default-clause-goes : goal.returns-in_default-clause-goes
@@ -59,3 +59,6 @@ returns-clause-goes_on c =
     (λ r. reached_on Neither _ _ (λ from h. c.in_ok-send_on.ensures.goes Neither from (reaches_turn Neither from _ _ _ _ _ c.in_ok-left.ensures.turns.2 refl h)) r)
     (none_go c.args.self.now c.send_on.new.self (none_there c.args.self.now.links.items (sym (ap (λ (k : ℕ). k == 0) c.args.self.now.links.ok.0) ∙ sym c.is_empty.ensures ∙ none)) c.in_ok-send_on.ensures.asks)
     c.in_ok-serve_line.ensures.goes_on
+
+pub returns-then-not-is_empty-clause-goes_on : goal.returns-then-not-is_empty-clause-goes_on
+returns-then-not-is_empty-clause-goes_on c = go_refl c.args.self.now
