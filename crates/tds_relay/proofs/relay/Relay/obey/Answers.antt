@@ -1,4 +1,4 @@
-use Rattle.std.proofs.Common.{◌≡◌, ◌∙◌, ap, false, rules, sym, subst, List, ℕ, refl}
+use Rattle.std.proofs.Common.{true, ◌≡◌, ◌∙◌, ap, false, rules, sym, subst, List, ℕ, refl}
 use Rattle.tds_front.specs.declared.front.Said.{Said}
 use Rattle.tds_relay.specs.Fronts.{given_by, hall_in}
 use Rattle.tds_relay.specs.Hall.{hands_on, takes_back}
