@@ -1,13 +1,15 @@
 -- What one application does leaves the requests of all others as they are.
-use Rattle.std.specs.Prelude.{◌≡◌, ◌≢◌, ◌⊎◌, ℕ, Option, Some, None, option_map}
+use Rattle.std.specs.Prelude.{◌≡◌, ◌≢◌, ◌⊎◌, ◌++◌, ℕ, Bool, List, [], ◌∷◌, Option, Some, None, option_map}
+use Rattle.tds_client.specs.declared.message.MessageKind.{MessageKind}
 use Rattle.tds_client.specs.Session.{ClientSession}
+use Rattle.tds_client.specs.Streams.{opened}
 use Rattle.tds_service.specs.declared.service.Service as services
 use Rattle.tds_service.specs.Table.{client_of}
 use Rattle.tds_relay.specs.declared.desk.Desk as desks
 use Rattle.tds_relay.specs.declared.desk.Hold.{Hold}
 use Rattle.tds_relay.specs.declared.relay.Relay as code
 use Rattle.tds_relay.specs.Asking.{IsTakenBack}
-use Rattle.tds_relay.specs.Bodies.{Astray, Body, Closed, Going, Kept, Nowhere, Spared, Starts, body_of}
+use Rattle.tds_relay.specs.Bodies.{ArePut, Astray, Body, Closed, Going, Kept, Nowhere, Spared, Starts, body_of}
 use Rattle.tds_relay.specs.Desk.{find_key}
 use Rattle.tds_relay.specs.Fronts.{ends_in}
 use Rattle.tds_relay.specs.Hall.{end_at}
@@ -100,3 +102,33 @@ pub data IsHeldBack (key : ℕ) (r : code.Relay) : Type 0 where
 pub record StartsOn (number : ℕ) (old new : code.Relay) : Type 0 where
   pub start : (key : ℕ) (client : ClientSession) → held_at key old.desk ≡ Some (number, client) → IsKept (body_of key old)
       → HasGone (body_of key new) ⊎ (IsTakenBack (end_at (ends_in old.applications) key) ⊎ (reader_at number old.links.items ≡ None))
+
+-- ---- Over calls
+
+-- It was put as it was kept, all of it, by a client that began a request of its kind.
+pub record IsPut (kind : MessageKind) (bytes : List ℕ) (whole : Bool) (new : Body) : Type 0 where
+  pub number : ℕ
+  pub from : ClientSession
+  pub to : ClientSession
+  pub waits : List ℕ
+  pub out : List ℕ
+  pub is : new ≡ Going number to (waits ++ out)
+  pub put : ArePut whole bytes (opened from kind) to out
+
+-- It is where it was, or its application is to be closed; or what was kept was put. Of one that is astray nothing is said.
+abbrev pub IsLeft : Body → Body → Type 0
+IsLeft Closed new = new ≡ Closed
+IsLeft Nowhere new = (new ≡ Nowhere) ⊎ (new ≡ Closed)
+IsLeft (Kept kind bytes whole) new = (new ≡ Kept kind bytes whole) ⊎ ((new ≡ Closed) ⊎ IsPut kind bytes whole new)
+IsLeft Astray new = Unit {0}
+IsLeft (Going number client waits) new = (new ≡ Going number client waits) ⊎ (new ≡ Closed)
+
+-- Calls of which each lets all requests stay or start led from one relay to the next.
+abbrev pub AreCalls : code.Relay → List code.Relay → Type 0
+AreCalls r [] = Unit {0}
+AreCalls r (next ∷ more) = IsReached (desk_in r.desk) × AllGo r next × AreCalls next more
+
+-- the last one
+abbrev pub behind_all : code.Relay → List code.Relay → code.Relay
+behind_all r [] = r
+behind_all r (next ∷ more) = behind_all next more

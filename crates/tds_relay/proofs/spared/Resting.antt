@@ -319,3 +319,13 @@ pub served_go : (a b m : code.Relay) → GoesOn (desk_in a.desk) (desk_in b.desk
 served_go a b m goes h holds links apps =
     go_both a b m (reached_on_does (desk_in a.desk) (desk_in b.desk) goes) h
     (rest_go b m (λ reached. held_rest b m (holds.hold reached) (λ n. ap (waits_on n) links) (λ k asked. inl (ap (λ (s : Slab Application). body_in (get s k) asked) apps))))
+
+-- ---- Where there is no connection yet
+
+none_waits : (key : ℕ) (old : code.Relay) (o : Option Held) → held_at key old.desk ≡ o → old.links.items ≡ [] → going_of key old ≡ Astray
+none_waits key old None e none = going_is key old None e
+none_waits key old (Some held) e none = going_is key old (Some held) e ∙ ap (λ (ls : List Link). going_by held.0 (Some held.1) (waits_on held.0 ls)) none
+
+-- nothing goes on
+pub none_go : (old new : code.Relay) → old.links.items ≡ [] → AskOn old.applications new.applications → AllGo old new
+none_go old new none asks = rest_go old new (λ reached. record { rest = λ key. rests_by key old new (asks key) (inr (none_waits key old (held_at key old.desk) refl none)) })

@@ -1,5 +1,5 @@
 -- A request that has waited, where its connection opens.
-use Rattle.std.proofs.Common.{◌≡◌, ◌⊎◌, ◌∙◌, ◌==◌, ℕ, Bool, true, false, List, Option, Some, None, inl, inr, refl, sym, ap, subst, if◌then◌else◌}
+use Rattle.std.proofs.Common.{◌≡◌, ◌⊎◌, ◌∙◌, ◌==◌, ℕ, Bool, true, false, List, [], ◌∷◌, Option, Some, None, inl, inr, refl, sym, ap, subst, if◌then◌else◌}
 use Rattle.std.specs.Prelude.{Result, Ok, Err, OnOk, is_some}
 use Rattle.std.proofs.lemmas.Bool.{eq-eqb}
 use Rattle.slab.specs.Slab.{Slab, get, with_value}
@@ -19,9 +19,10 @@ use Rattle.tds_relay.specs.Desk.{find_key, find_number, key_of}
 use Rattle.tds_relay.specs.Fronts.{end_of, ends_in}
 use Rattle.tds_relay.specs.Hall.{End, Ends, Open, Over, end_at}
 use Rattle.tds_relay.specs.Reads.{open_at, opened_at, reader_at}
-use Rattle.tds_relay.specs.Sparing.{AllGo, AllRest, Drains, HasGone, Held, IsHeldBack, IsKept, IsUnkept, Opens, StartsOn, held_at}
+use Rattle.tds_relay.specs.Sparing.{AllGo, AreCalls, Drains, HasGone, Held, IsHeldBack, IsKept, IsLeft, IsUnkept, Opens, StartsOn, behind_all, held_at}
 use Rattle.tds_relay.specs.Ties.{IsReached, desk_in}
 use Rattle.tds_relay.proofs.spared.Held.{holder_is, holds}
+use Rattle.tds_relay.proofs.spared.Resting.{starts_both}
 use Rattle.tds_relay.proofs.steps.Bodied.{written_body}
 use Rattle.tds_relay.proofs.steps.Fed.{end_open, end_there}
 
@@ -64,20 +65,21 @@ unkept_there key r a is none =
     (unkept_if a.is_over (body_by a.asking a.held.items (going_of key r))
     (unkept_asking a.asking a.held.items (going_of key r) none (unkept_going r.desk.service r.links.items (find_key key r.desk.holds.items))))
 
-put_unkept : (whole : Bool) (more : List ℕ) (key : ℕ) (s : Slab Application) (a b : Application) (mid new : code.Relay) → Some a ≡ get s key → b.asking ≡ asking.Goes → mid.applications ≡ with_value s key b
-    → PutsOn whole more key mid new → IsUnkept (body_of key new)
-put_unkept whole more key s a b mid new is goes apps (inl closed) = unkept_closed (body_of key new) closed
-put_unkept whole more key s a b mid new is goes apps (inr puts) =
+put_unkept : (X : Type 0) (key : ℕ) (s : Slab Application) (a b : Application) (new : code.Relay) → Some a ≡ get s key → b.asking ≡ asking.Goes
+    → (body_of key new ≡ Closed) ⊎ (((goes : Body) → body_in (get new.applications key) goes ≡ body_in (get (with_value s key b) key) goes) × X) → IsUnkept (body_of key new)
+put_unkept X key s a b new is goes (inl closed) = unkept_closed (body_of key new) closed
+put_unkept X key s a b new is goes (inr puts) =
     let g : Body = going_of key new in
-    let one : body_of key new ≡ body_in (Some b) g = puts.0 g ∙ ap (λ (t : Slab Application). body_in (get t key) g) apps ∙ written_body s key a b g is in
+    let one : body_of key new ≡ body_in (Some b) g = puts.0 g ∙ written_body s key a b g is in
     subst IsUnkept (sym one)
     (unkept_if b.is_over (body_by b.asking b.held.items g)
     (unkept_asking b.asking b.held.items g (ap waits_in goes) (unkept_going new.desk.service new.links.items (find_key key new.desk.holds.items))))
 
-pub put_unkept_on : {A E : Type 0} (r : Result A E) (whole : Bool) (more : List ℕ) (key : ℕ) (s : Slab Application) (a b : Application) (mid new : code.Relay) → OnOk r (PutsOn whole more key mid new) → Some a ≡ get s key
-    → b.asking ≡ asking.Goes → mid.applications ≡ with_value s key b → OnOk r (IsUnkept (body_of key new))
-put_unkept_on (Ok x) whole more key s a b mid new puts is goes apps = put_unkept whole more key s a b mid new is goes apps puts
-put_unkept_on (Err e) whole more key s a b mid new puts is goes apps = tt
+pub put_unkept_on : {A E : Type 0} (r : Result A E) (X : Type 0) (key : ℕ) (s : Slab Application) (a b : Application) (new : code.Relay)
+    → OnOk r ((body_of key new ≡ Closed) ⊎ (((goes : Body) → body_in (get new.applications key) goes ≡ body_in (get (with_value s key b) key) goes) × X)) → Some a ≡ get s key
+    → b.asking ≡ asking.Goes → OnOk r (IsUnkept (body_of key new))
+put_unkept_on (Ok x) X key s a b new puts is goes = put_unkept X key s a b new is goes puts
+put_unkept_on (Err e) X key s a b new puts is goes = tt
 
 -- ---- Held back
 
@@ -165,3 +167,32 @@ own_on (Err e) o k P f h = tt
 
 pub none_own : (o : Option ℕ) (P : ℕ → Type 0) → o ≡ None → (key : ℕ) → o ≡ Some key → P key
 none_own o P e key f = absurd (let u : None ≡ Some key = sym e ∙ f in let v : ⊥ = cc in v)
+
+-- ---- Over calls
+
+left_same : (b : Body) → IsLeft b b
+left_same Closed = refl
+left_same Nowhere = inl refl
+left_same (Kept kind bytes whole) = inl refl
+left_same Astray = tt
+left_same (Going number client waits) = inl refl
+
+left_closed : (b : Body) → IsLeft b Closed
+left_closed Closed = refl
+left_closed Nowhere = inr refl
+left_closed (Kept kind bytes whole) = inr (inl refl)
+left_closed Astray = tt
+left_closed (Going number client waits) = inr refl
+
+left_by : {a b : Body} → Starts a b → IsLeft a b
+left_by {a} Stays = left_same a
+left_by {a} Closes = left_closed a
+left_by Strays = tt
+left_by (Goes waits out from puts) = inr (inr (record { number = _; from = from; to = _; waits = waits; out = out; is = refl; put = puts }))
+
+calls_start : (r : code.Relay) (more : List code.Relay) (key : ℕ) → AreCalls r more → Starts (body_of key r) (body_of key (behind_all r more))
+calls_start r [] key h = Stays
+calls_start r (next ∷ more) key h = starts_both (h.1.go h.0 key) (calls_start next more key h.2)
+
+pub calls_left : (r : code.Relay) (more : List code.Relay) (key : ℕ) → AreCalls r more → IsLeft (body_of key r) (body_of key (behind_all r more))
+calls_left r more key h = left_by (calls_start r more key h)

@@ -9,7 +9,7 @@ ghost use Rattle.tds_relay.specs.Hall.{change_end, change_whose, closes, end_at}
 ghost use Rattle.tds_relay.specs.House.{Steps};
 ghost use Rattle.tds_relay.specs.Posts.{posts_in};
 ghost use Rattle.tds_relay.specs.Reads.{Opens, Stays, reader_at};
-ghost use Rattle.tds_relay.specs.Sparing.{AllRest};
+ghost use Rattle.tds_relay.specs.Sparing.{AllGo, AllRest};
 ghost use Rattle.tds_relay.specs.Taking.{IsDeaf};
 ghost use Rattle.tds_relay.specs.Ties.{Application, Connection, Goes, GoesOn, IsReached, Leaving};
 ghost use Rattle.tds_relay.specs.Ties.{NobodyWaits, desk_in};
@@ -49,6 +49,7 @@ impl Relay {
         ensures opens { OnOk result (Opens self.old.links.items self.new.links.items) }
         ensures stand { OnOk result (AllStand self.old.desk.service
             self.new.desk.service) }
+        ensures goes_on { OnOk result (AllGo self.old self.new) }
     {
         self.lose(number)?;
         self.serve_line()

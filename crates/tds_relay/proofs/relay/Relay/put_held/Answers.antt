@@ -27,8 +27,8 @@ pub returns-clause-others : goal.returns-clause-others
 returns-clause-others c = λ reached.
     others_on c.put.result c.args.key c.args.self.now _ c.put.new.self (c.put.ensures.others reached) (written_rest c.args.key _ c.args.self.now _ refl refl refl)
 
-pub returns-clause-gone : goal.returns-clause-gone
-returns-clause-gone c = put_unkept_on c.put.result _ _ c.args.key c.args.self.now.applications c.in-Some.application.now _ _ c.put.new.self c.put.ensures.body c.in-Some.ensures.value refl refl
-
 pub returns-in_default-clause-gone : goal.returns-in_default-clause-gone
 returns-in_default-clause-gone c = unkept_none c.args.self.now.applications c.args.key _ (search rules)
+
+pub returns-clause-gone : goal.returns-clause-gone
+returns-clause-gone c = put_unkept_on c.put.result _ c.args.key c.args.self.now.applications c.in-Some.application.now c.forget.new.self c.put.new.self c.put.ensures.body c.in-Some.ensures.value c.forget.ensures.asking
