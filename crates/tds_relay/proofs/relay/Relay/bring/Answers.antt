@@ -43,17 +43,17 @@ pub returns-clause-stand : goal.returns-clause-stand
 returns-clause-stand c = λ n r h. c.in_ok-serve_line.ensures.stand n r (c.in_ok-send_on.ensures.stand n r (c.in_ok-left.ensures.stand n r h))
 
 pub returns-in_default-clause-goes_on : goal.returns-in_default-clause-goes_on
-returns-in_default-clause-goes_on c = 
+returns-in_default-clause-goes_on c =
     let none : c.is_empty.result ≡ true = search rules in
     none_go c.args.self.now _ (none_there c.args.self.now.links.items (sym (ap (λ (k : ℕ). k == 0) c.args.self.now.links.ok.0) ∙ sym c.is_empty.ensures ∙ none)) (λ key goes. inl refl)
 
 pub returns-then-not-left-clause-goes_on : goal.returns-then-not-left-clause-goes_on
-returns-then-not-left-clause-goes_on c = 
+returns-then-not-left-clause-goes_on c =
     let none : c.is_empty.result ≡ true = search rules in
     none_go c.args.self.now _ (none_there c.args.self.now.links.items (sym (ap (λ (k : ℕ). k == 0) c.args.self.now.links.ok.0) ∙ sym c.is_empty.ensures ∙ none)) (λ key goes. inl refl)
 
 pub returns-clause-goes_on : goal.returns-clause-goes_on
-returns-clause-goes_on c = 
+returns-clause-goes_on c =
     let none : c.is_empty.result ≡ true = search rules in
     go_both c.args.self.now c.send_on.new.self c.serve_line.new.self
     (λ r. reached_on Neither _ _ (λ from h. c.in_ok-send_on.ensures.goes Neither from (reaches_turn Neither from _ _ _ _ _ c.in_ok-left.ensures.turns.2 refl h)) r)

@@ -38,10 +38,10 @@ pub returns-else-not-branch-clause-body : goal.returns-else-not-branch-clause-bo
 returns-else-not-branch-clause-body c =
     let s = c.args.self.now.applications in
     let a = c.in-Some.application.now in
-    let b = record c.keep.new.self { asking = asking.Waits c.in-Waits.kind c.args.whole } in
-    let kept = c.in_ok-branch.ensures.body (search rules) in
+    let b = record c.keep.new.self { asking = asking.Waits c.in-Waits.kind c.args.whole; bounded = c.application-1.given.0 } in
+    let kept = c.in_ok-keep-in-Waits.ensures.body (search rules) in
     ok_more c.seek.result _ _
-    (λ t. (_, grows_kept c.args.whole c.args.bytes.now (get s c.args.key) (get (with_value s c.args.key b) c.args.key) (going_of c.args.key c.args.self.now) _ a b c.in-Waits.kind _ c.in-Some.ensures.value (written_there s c.args.key a b c.in-Some.ensures.value) (search rules) refl kept.0 kept.1, t))
+    (λ t. (_, grows_kept c.args.whole c.args.bytes.now (get s c.args.key) (get (with_value s c.args.key b) c.args.key) (going_of c.args.key c.args.self.now) (going_of c.args.key c.args.self.now) a b c.in-Waits.kind _ c.in-Some.ensures.value (written_there s c.args.key a b c.in-Some.ensures.value) c.in-Waits.is refl kept.0 kept.1, t))
     c.seek.ensures.body
 
 pub returns-in-Goes-clause-body : goal.returns-in-Goes-clause-body
