@@ -1,7 +1,10 @@
 pub mod Asked
+pub mod Bodied
 pub mod Calling
+pub mod Carried
 pub mod Fed
 pub mod Fronts
+pub mod Going
 pub mod Handed
 pub mod Made
 pub mod Posting

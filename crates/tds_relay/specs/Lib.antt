@@ -1,6 +1,7 @@
 pub mod Asking
 pub mod Away
 pub mod Behind
+pub mod Bodies
 pub mod Bounds
 pub mod Cutting
 pub mod Desk
@@ -15,6 +16,7 @@ pub mod Places
 pub mod Posts
 pub mod Promises
 pub mod Reads
+pub mod Sparing
 pub mod Taking
 pub mod Telling
 pub mod Ties

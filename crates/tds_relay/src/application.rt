@@ -1,5 +1,5 @@
 //! An application, as the relay knows it.
-ghost use Rattle.std.specs.Prelude.{◌≡◌, ◌≤◌, ◌-◌, IfOk, Some, false, is_some, length, true, vec_len};
+ghost use Rattle.std.specs.Prelude.{◌≡◌, ◌≤◌, ◌-◌, ◌++◌, [], IfOk, Some, false, is_some, length, true, vec_len};
 ghost use Rattle.tds_relay.specs.declared.application.TheConstants.{MOST_HELD};
 ghost use Rattle.tds_relay.specs.declared.outgoing.TheConstants.{PIECE};
 
@@ -50,6 +50,7 @@ pub(crate) struct Application {
 
 impl Application {
     ghost use Rattle.tds_front.specs.Rules as rules;
+    ghost use Rattle.tds_relay.specs.Bodies.{Body, body_in};
     ghost use Rattle.tds_relay.specs.Fronts.{end_of, puts, withdraws};
     ghost use Rattle.tds_front.specs.Bytes.{fed, new_front};
     ghost use Rattle.tds_relay.specs.Hall.{IfOpen, IsHere, Open, acknowledged, asks_by, closes, hears};
@@ -88,6 +89,8 @@ impl Application {
             ≡ asks_by taken.said (is_some self.old.reset)) }
         ensures withdrawn { self.new.is_withdrawn ≡ self.old.is_withdrawn }
         ensures over { self.new.is_over ≡ self.old.is_over }
+        ensures body { (goes : Body)
+            → body_in (Some self.new) goes ≡ body_in (Some self.old) goes }
     {
         let fed = self.front.feed(piece)?;
         match fed.said {
@@ -105,7 +108,9 @@ impl Application {
     }
 
     /// What is kept of its request.
-    pub(crate) fn held(&self) -> &[u8] {
+    pub(crate) fn held(&self) -> &[u8]
+        ensures { result.now ≡ self.now.held.items }
+    {
         self.held.as_slice()
     }
 
@@ -134,6 +139,8 @@ impl Application {
     pub(crate) fn keep(&mut self, bytes: &[u8]) -> Result<bool, NoMemory>
         ensures post { post_of self.new ≡ post_of self.old }
         ensures end { end_of self.new ≡ end_of self.old }
+        ensures body { IfOk result (λ is. is ≡ true → (self.new.is_over ≡ self.old.is_over)
+            × (self.new.held.items ≡ self.old.held.items ++ bytes.now)) }
     {
         if bytes.len() > self.room_to_keep() {
             return Ok(false);
@@ -183,6 +190,8 @@ impl Application {
     pub(crate) fn went_on(&mut self)
         ensures post { post_of self.new ≡ post_of self.old }
         ensures end { end_of self.new ≡ move_stage rules.went_on (end_of self.old) }
+        ensures body { (goes : Body)
+            → body_in (Some self.new) goes ≡ body_in (Some self.old) goes }
     {
         self.front.went_on();
     }
@@ -191,6 +200,8 @@ impl Application {
     pub(crate) fn withdraw(&mut self)
         ensures post { post_of self.new ≡ post_of self.old }
         ensures end { end_of self.new ≡ withdraws (end_of self.old) }
+        ensures body { (goes : Body)
+            → body_in (Some self.new) goes ≡ body_in (Some self.old) goes }
     {
         self.is_withdrawn = true;
     }
@@ -199,6 +210,8 @@ impl Application {
     pub(crate) fn let_go(&mut self)
         ensures post { post_of self.new ≡ post_of self.old }
         ensures end { end_of self.new ≡ lets_go (end_of self.old) }
+        ensures body { (goes : Body)
+            → body_in (Some self.new) goes ≡ body_in (Some self.old) goes }
     {
         self.is_withdrawn = false;
     }
@@ -261,6 +274,7 @@ impl Application {
         ensures post { post_of self.new ≡ post_of self.old }
         ensures end { end_of self.new ≡ end_of self.old }
         ensures asking { self.new.asking ≡ self.old.asking }
+        ensures body { (self.new.is_over ≡ self.old.is_over) × (self.new.held.items ≡ []) }
     {
         self.held = Vec::new(self.alloc);
     }

@@ -5,6 +5,7 @@ ghost use Rattle.tds_service.specs.Table.{place_of};
 ghost use Rattle.tds_relay.specs.Desk.{Serves, Unwaits, Waits, find_key, find_number, key_of, new_desk};
 ghost use Rattle.tds_relay.specs.Desk.{owes_reset};
 ghost use Rattle.tds_relay.specs.Hall.{is_in};
+ghost use Rattle.tds_relay.specs.Sparing.{AllHold};
 ghost use Rattle.tds_relay.specs.Ties.{Serving, Turns, desk_in};
 ghost use Rattle.tds_relay.specs.Walkers.{AllStand};
 
@@ -102,11 +103,13 @@ impl Desk {
 
     /// Lends a connection to whoever has waited longest. None where nobody waits, or as many are in use as
     /// may be.
+    #[tactic(auto, using(crate::proofs::spared::Held::all_hold))]
     pub fn serve(&mut self) -> Result<Option<Served>, NoMemory>
         ensures ok { IfOk result (λ served. Turns Serves (desk_in self.old) (desk_in self.new) [] []
             × Serving (desk_in self.old) served) }
         ensures err { OnErr result (desk_in self.new ≡ desk_in self.old) }
         ensures stand { OnOk result (AllStand self.old.service self.new.service) }
+        ensures holds { OnOk result (AllHold self.old self.new) }
     {
         let Some(key) = self.line.first().copied() else {
             return Ok(None);

@@ -14,6 +14,7 @@ ghost use Rattle.tds_front.specs.declared.stage.Stage.TheVariants as stages;
 ghost use Rattle.tds_relay.specs.Asking.{Asks};
 ghost use Rattle.tds_relay.specs.Away.{IsAway, WaitsAway, done_before, done_since};
 ghost use Rattle.tds_relay.specs.Behind.{AllAnswerOnce, Stay, passed_in};
+ghost use Rattle.tds_relay.specs.Bodies.{body_of};
 ghost use Rattle.tds_relay.specs.Bounds.{waiting_in};
 ghost use Rattle.tds_relay.specs.declared.application.Application.{Application};
 ghost use Rattle.tds_relay.specs.declared.link.Link.{Link};
@@ -29,6 +30,8 @@ ghost use Rattle.tds_relay.specs.Reads.{AreReadIn, Call, Comes, Follow, FollowAt
 ghost use Rattle.tds_relay.specs.Reads.{open_at, packets_in, stands_in};
 ghost use Rattle.tds_relay.specs.Taking.{Tells};
 ghost use Rattle.tds_relay.specs.Telling.{IsToldOnce, happens_to};
+ghost use Rattle.tds_relay.specs.Sparing.{AreCalls, IsLeft, behind_all};
+ghost use Rattle.tds_relay.specs.declared.relay.Relay.{Relay as Code};
 ghost use Rattle.tds_relay.specs.Walkers.{StandsAt};
 ghost use Rattle.tds_service.specs.declared.service.Service.{Service};
 ghost use Rattle.tds_wire.specs.Reading as walkers;
@@ -287,3 +290,11 @@ pub fn waits_once()
     line_by_history::<Token>();
     bytes_are_packets();
 }
+
+/// Where connections open, come or are lost, and by whoever is lent one, each application's request stays
+/// where it is, or its application is to be closed; or what was kept of it is put once, all of it as it was
+/// kept, by a client that begins a request of its kind. So it is over any such calls.
+pub fn bodies_stay()
+    ensures { (relay : Code) (more : List Code) (key : ℕ) → AreCalls relay more
+        → IsLeft (body_of key relay) (body_of key (behind_all relay more)) }
+{}

@@ -1,5 +1,6 @@
 //! The connections by their numbers.
-ghost use Rattle.std.specs.Prelude.{◌≡◌, ◌<◌, ℕ, IfSome, length};
+ghost use Rattle.std.specs.Prelude.{◌≡◌, ◌≢◌, ◌<◌, ◌++◌, ℕ, List, IfOk, IfSome, drop, length, option_map, true};
+ghost use Rattle.tds_relay.specs.Bodies.{waits_on};
 ghost use Rattle.tds_relay.specs.Reads.{Stays, open_at, opened_at, place_of, without_link};
 
 use crate::NoMemory;
@@ -29,7 +30,11 @@ pub(crate) fn remove_link(links: &mut Vec<Link>, number: u64)
 /// What is to be sent on a connection waits there. False where more would wait than may.
 #[tactic(auto, using(crate::proofs::steps::Staying::stays_written, crate::proofs::steps::Staying::stays_refl))]
 pub(crate) fn append_to(links: &mut Vec<Link>, number: u64, bytes: &[u8]) -> Result<bool, NoMemory>
-    ensures { Stays links.old.items links.new.items }
+    ensures read { Stays links.old.items links.new.items }
+    ensures others { (other : ℕ) → other ≢ number
+        → waits_on other links.new.items ≡ waits_on other links.old.items }
+    ensures appends { IfOk result (λ fits. fits ≡ true → waits_on number links.new.items
+        ≡ option_map (λ (waits : List ℕ). waits ++ bytes.now) (waits_on number links.old.items)) }
 {
     let Some(place) = place_in(links, number) else {
         return Ok(true);
@@ -42,7 +47,9 @@ pub(crate) fn append_to(links: &mut Vec<Link>, number: u64, bytes: &[u8]) -> Res
 /// Nothing has come of the message that comes next on a connection, as far as news are cut out of it.
 #[tactic(auto, using(crate::proofs::steps::Staying::stays_written, crate::proofs::steps::Staying::stays_refl))]
 pub(crate) fn restart(links: &mut Vec<Link>, number: u64)
-    ensures { Stays links.old.items links.new.items }
+    ensures read { Stays links.old.items links.new.items }
+    ensures waits { (other : ℕ)
+        → waits_on other links.new.items ≡ waits_on other links.old.items }
 {
     let Some(place) = place_in(links, number) else {
         return;
@@ -54,7 +61,9 @@ pub(crate) fn restart(links: &mut Vec<Link>, number: u64)
 /// Whoever carries a connection's bytes calls it so.
 #[tactic(auto, using(crate::proofs::steps::Staying::stays_written, crate::proofs::steps::Staying::stays_refl))]
 pub(crate) fn set_tag(links: &mut Vec<Link>, number: u64, tag: usize)
-    ensures { Stays links.old.items links.new.items }
+    ensures read { Stays links.old.items links.new.items }
+    ensures waits { (other : ℕ)
+        → waits_on other links.new.items ≡ waits_on other links.old.items }
 {
     let Some(place) = place_in(links, number) else {
         return;
@@ -66,7 +75,11 @@ pub(crate) fn set_tag(links: &mut Vec<Link>, number: u64, tag: usize)
 /// So many bytes wait on a connection no more. False where it isn't there.
 #[tactic(auto, using(crate::proofs::steps::Staying::stays_written, crate::proofs::steps::Staying::stays_refl))]
 pub(crate) fn forget_sent(links: &mut Vec<Link>, number: u64, count: usize) -> bool
-    ensures { Stays links.old.items links.new.items }
+    ensures read { Stays links.old.items links.new.items }
+    ensures others { (other : ℕ) → other ≢ number
+        → waits_on other links.new.items ≡ waits_on other links.old.items }
+    ensures fewer { waits_on number links.new.items
+        ≡ option_map (drop count) (waits_on number links.old.items) }
 {
     let Some(place) = place_in(links, number) else {
         return false;
@@ -78,7 +91,10 @@ pub(crate) fn forget_sent(links: &mut Vec<Link>, number: u64, count: usize) -> b
 
 /// A connection is open and logged in.
 pub(crate) fn set_open(links: &mut Vec<Link>, number: u64)
-    ensures { (other : ℕ) → open_at other links.new.items ≡ opened_at number other links.old.items }
+    ensures opens { (other : ℕ)
+        → open_at other links.new.items ≡ opened_at number other links.old.items }
+    ensures waits { (other : ℕ)
+        → waits_on other links.new.items ≡ waits_on other links.old.items }
 {
     let Some(place) = place_in(links, number) else {
         return;

@@ -3,6 +3,7 @@ ghost use Rattle.std.specs.Prelude.{◌≡◌, ◌+◌, ◌-◌, ◌≤◌, ℕ,
 ghost use Rattle.std.specs.Prelude.{false, length, true, vec_len};
 ghost use Rattle.slab.specs.Slab.{get, slab_len};
 ghost use Rattle.tds_relay.specs.Asking.{IsUnderway};
+ghost use Rattle.tds_relay.specs.Bodies.{AskAsBefore, AskOn, body_of};
 ghost use Rattle.tds_relay.specs.Bounds.{most_for, waiting_for};
 ghost use Rattle.tds_relay.specs.Desk.{find_key, find_number, key_of, new_desk};
 ghost use Rattle.tds_relay.specs.Fronts.{Moved, MovedOn, ends_in, hall_in, house_in};
@@ -10,6 +11,7 @@ ghost use Rattle.tds_relay.specs.Hall.{IfOpen, IsAway, IsHere, change_end, end_a
 ghost use Rattle.tds_relay.specs.House.{Steps, new_house};
 ghost use Rattle.tds_relay.specs.Posts.{Enters, change, posts_in, unsent_of, without_first};
 ghost use Rattle.tds_relay.specs.Reads.{Stays};
+ghost use Rattle.tds_relay.specs.Sparing.{AllRest};
 ghost use Rattle.tds_relay.specs.Ties.{Cause, CausesRequest, Goes, GoesOn, Neither, desk_in};
 ghost use Rattle.tds_relay.specs.Walkers.{AllStand};
 ghost use Rattle.tds_relay.specs.declared.application.Application.{Application};
@@ -257,6 +259,7 @@ impl Relay {
         ensures ends { ends_in self.new.applications
             ≡ change_end key lets_go (ends_in self.old.applications) }
         ensures links { self.new.links.items ≡ self.old.links.items }
+        ensures asks { AskAsBefore self.old.applications self.new.applications }
     {
         match self.applications.get_mut(key) {
             Some(application) => application.let_go(),
@@ -287,6 +290,7 @@ impl Relay {
         ensures links { self.new.links.items ≡ self.old.links.items }
         ensures stand { OnOk result (AllStand self.old.desk.service
             self.new.desk.service) }
+        ensures body { (other : ℕ) → body_of other self.new ≡ body_of other self.old }
     {
         if self.is_away(key) {
             self.desk.wait(key)
@@ -323,6 +327,7 @@ impl Relay {
         ensures kept { posts_in self.new.applications ≡ posts_in self.old.applications }
         ensures ends { ends_in self.new.applications ≡ ends_in self.old.applications }
         ensures read { Stays self.old.links.items self.new.links.items }
+        ensures rests { AllRest self.old self.new }
     {
         restart(&mut self.links, number);
     }
@@ -337,6 +342,7 @@ impl Relay {
         ensures read { OnOk result (Stays self.old.links.items self.new.links.items) }
         ensures stand { OnOk result (AllStand self.old.desk.service
             self.new.desk.service) }
+        ensures asks { OnOk result (AskOn self.old.applications self.new.applications) }
     {
         let fits = self.fits_on(number)?;
         if fits { Ok(()) } else { self.lose(number) }
@@ -349,6 +355,7 @@ impl Relay {
             ≡ posts_in self.old.applications) }
         ensures moves { OnOk result (MovedOn (hall_in self.old) (hall_in self.new)) }
         ensures links { OnOk result (self.new.links.items ≡ self.old.links.items) }
+        ensures asks { OnOk result (AskOn self.old.applications self.new.applications) }
     {
         let Some(application) = self.applications.get(key) else {
             return Ok(());
@@ -368,6 +375,7 @@ impl Relay {
         ensures ends { OnOk result (ends_in self.new.applications
             ≡ ends_in self.old.applications) }
         ensures links { OnOk result (self.new.links.items ≡ self.old.links.items) }
+        ensures asks { OnOk result (AskAsBefore self.old.applications self.new.applications) }
     {
         let Some(link) = self.link(number) else {
             return Ok(());

@@ -107,7 +107,7 @@ all_sit : (d : Desk) (events : List Event) → Sound d → AllSit d → ((e : De
 all_sit d [] sound sit next = sit
 all_sit d (event ∷ events) sound sit next = all_sit (turn d event).desk events (next d event sound) (turn_sits d sound sit event) next
 
-always_sits : (max : ℕ) (events : List Event) → AllSit (desk_after (new_desk max) events)
+pub always_sits : (max : ℕ) (events : List Event) → AllSit (desk_after (new_desk max) events)
 always_sits max events = all_sit (new_desk max) events (always_sound max []) tt (λ e event sound. Rattle.tds_relay.proofs.promises.Bringing.turn_sound e event sound)
 
 abbrev pub IsAt : ℕ → List Event → Hall → Type 0

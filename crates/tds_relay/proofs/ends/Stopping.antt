@@ -1,7 +1,6 @@
 -- An application's end behind a packet that comes on its connection, and behind a stop of what has gone on.
 use Rattle.std.proofs.Common.{◌≡◌, ◌∙◌, ◌==◌, ℕ, Bool, true, false, List, [], ◌∷◌, refl, sym, ap, subst, inl, inr}
-use Rattle.std.specs.Prelude.{Some, None}
-use Rattle.std.specs.Prelude.{Option, filter, not, if◌then◌else◌}
+use Rattle.std.specs.Prelude.{Some, None, Option, filter, not, if◌then◌else◌}
 use Rattle.tds_relay.proofs.held.Lists.{Once, comm, none_filtered, places, theirs_none}
 use Rattle.std.proofs.lemmas.Bool.{eqb-true, eq-eqb}
 use Rattle.tds_relay.specs.declared.desk.Hold.{Hold}

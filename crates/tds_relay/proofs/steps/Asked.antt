@@ -153,7 +153,7 @@ asks_moved key old bytes left links h h1 ps ps1 m kept a = asks_moves key old by
 
 -- ---- Bytes are taken, and then it goes on
 
-said_is : (bytes : List ℕ) (o : Option End) (front : Front) (withdrawn asks : Bool) (brings : Result Fed FrontFault) → o ≡ Some (Open front withdrawn asks) → (fed front bytes).brings ≡ brings → said_of bytes o ≡ said_in brings
+pub said_is : (bytes : List ℕ) (o : Option End) (front : Front) (withdrawn asks : Bool) (brings : Result Fed FrontFault) → o ≡ Some (Open front withdrawn asks) → (fed front bytes).brings ≡ brings → said_of bytes o ≡ said_in brings
 said_is bytes o front withdrawn asks brings was says = ap (said_of bytes) was ∙ ap said_in says
 
 module _ (P : Bool → Hall → Type 0) (key : ℕ) (left : List ℕ) where

@@ -313,7 +313,7 @@ alone_by true number other l e same none is_open =
     (sym (eqb-true l.number other e) ∙ same, none)
 alone_by false number other l e same none is_open = tt
 
-none_there : (ls : List Link) → (length ls == 0) ≡ true → ls ≡ []
+pub none_there : (ls : List Link) → (length ls == 0) ≡ true → ls ≡ []
 none_there [] e = refl
 none_there (x ∷ xs) e = absurd (let none : length (x ∷ xs) ≡ 0 = eqb-true (length (x ∷ xs)) 0 e in let u : ⊥ = cc in u)
 

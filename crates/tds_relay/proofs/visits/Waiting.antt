@@ -25,11 +25,11 @@ kept_post p full = record { size = p.size; bytes = p.bytes; is_full = full }
 abbrev put_post : List ℕ → Post → Post
 put_post bytes p = record { size = p.size; bytes = p.bytes ++ bytes; is_full = false }
 
-put_fits : (bytes : List ℕ) (p : Post) → fits p bytes ≡ true → put bytes p ≡ put_post bytes p
+pub put_fits : (bytes : List ℕ) (p : Post) → fits p bytes ≡ true → put bytes p ≡ put_post bytes p
 unfolding put
 put_fits bytes p e = subst (λ (b : Bool). (if b then put_post bytes p else kept_post p true) ≡ put_post bytes p) (sym e) refl
 
-put_fills : (bytes : List ℕ) (p : Post) → fits p bytes ≡ false → put bytes p ≡ kept_post p true
+pub put_fills : (bytes : List ℕ) (p : Post) → fits p bytes ≡ false → put bytes p ≡ kept_post p true
 unfolding put
 put_fills bytes p e = subst (λ (b : Bool). (if b then put_post bytes p else kept_post p true) ≡ kept_post p true) (sym e) refl
 

@@ -5,6 +5,7 @@ ghost use Rattle.tds_client.specs.Streams.{finished, put};
 ghost use Rattle.tds_service.specs.Table.{DoesAt, KeepsClients, Opens};
 ghost use Rattle.tds_relay.specs.Asking.{SendsOn};
 ghost use Rattle.tds_relay.specs.Desk.{Asks, Does, Ends, Puts, Stops, find_key};
+ghost use Rattle.tds_relay.specs.Sparing.{OthersHold};
 ghost use Rattle.tds_relay.specs.Ties.{Turns, desk_in};
 ghost use Rattle.tds_relay.specs.Walkers.{AllStand};
 
@@ -15,6 +16,7 @@ use tds_service::Refusal;
 
 impl Desk {
     /// Begins a request of this kind on the connection that an application holds.
+    #[tactic(auto, using(crate::proofs::spared::Held::deed_refl))]
     pub fn ask(&mut self, key: usize, kind: MessageKind) -> Result<Hold, Refusal>
         ensures ok { IfOk result (λ hold. Turns (Does key Asks) (desk_in self.old)
             (desk_in self.new) [] []) }
@@ -26,6 +28,7 @@ impl Desk {
             KeepsClients hold.lease self.old.service self.new.service) }
         ensures err { OnErr result (desk_in self.new ≡ desk_in self.old) }
         ensures stand { AllStand self.old.service self.new.service }
+        ensures others { OthersHold key self.old self.new }
     {
         let Some(hold) = find_key(&self.holds, key) else {
             return Err(Refusal::Unknown);
@@ -37,6 +40,7 @@ impl Desk {
     }
 
     /// Appends these bytes to it. What goes out is appended to `out`, for its connection.
+    #[tactic(auto, using(crate::proofs::spared::Held::deed_refl))]
     pub fn put(&mut self, key: usize, bytes: &[u8], out: &mut Vec<u8>) -> Result<Hold, Refusal>
         ensures ok { IfOk result (λ hold. (count : ℕ) × Turns (Does key (Puts count))
             (desk_in self.old) (desk_in self.new) out.old.items out.new.items) }
@@ -48,6 +52,7 @@ impl Desk {
             KeepsClients hold.lease self.old.service self.new.service) }
         ensures err { OnErr result (desk_in self.new ≡ desk_in self.old) }
         ensures stand { AllStand self.old.service self.new.service }
+        ensures others { OthersHold key self.old self.new }
         ensures nothing { OnErr result (out.new.items ≡ out.old.items) }
     {
         let Some(hold) = find_key(&self.holds, key) else {
@@ -60,6 +65,7 @@ impl Desk {
     }
 
     /// Ends it.
+    #[tactic(auto, using(crate::proofs::spared::Held::deed_refl))]
     pub fn finish(&mut self, key: usize, out: &mut Vec<u8>) -> Result<Hold, Refusal>
         ensures ok { IfOk result (λ hold. (count : ℕ) × Turns (Does key (Ends count))
             (desk_in self.old) (desk_in self.new) out.old.items out.new.items) }
@@ -71,6 +77,7 @@ impl Desk {
             KeepsClients hold.lease self.old.service self.new.service) }
         ensures err { OnErr result (desk_in self.new ≡ desk_in self.old) }
         ensures stand { AllStand self.old.service self.new.service }
+        ensures others { OthersHold key self.old self.new }
         ensures nothing { OnErr result (out.new.items ≡ out.old.items) }
     {
         let Some(hold) = find_key(&self.holds, key) else {
@@ -83,12 +90,14 @@ impl Desk {
     }
 
     /// Cancels it, by an attention where something of it is out.
+    #[tactic(auto, using(crate::proofs::spared::Held::deed_refl))]
     pub fn cancel(&mut self, key: usize, out: &mut Vec<u8>) -> Result<(Hold, Cancelled), Refusal>
         ensures ok { IfOk result (λ done. Turns (Does key Stops)
             (desk_in self.old) (desk_in self.new) out.old.items out.new.items) }
         ensures whose { IfOk result (λ done. find_key key (desk_in self.old).holds ≡ Some done.0) }
         ensures err { OnErr result (desk_in self.new ≡ desk_in self.old) }
         ensures stand { AllStand self.old.service self.new.service }
+        ensures others { OthersHold key self.old self.new }
         ensures nothing { OnErr result (out.new.items ≡ out.old.items) }
     {
         let Some(hold) = find_key(&self.holds, key) else {

@@ -1,8 +1,9 @@
 //! Connections that are let go, and cleaned; that come without being asked for; and that are lost.
 ghost use Rattle.std.specs.Prelude.{◌≡◌, [], Bool, IfOk, None, OnOk};
-ghost use Rattle.tds_service.specs.Table.{reading_on, service_in};
+ghost use Rattle.tds_service.specs.Table.{KeepsClientsOff, reading_on, service_in};
 ghost use Rattle.tds_relay.specs.Desk.{Brings, Leaves, Loses, Renews, Way, cleaning, find_key, find_number};
 ghost use Rattle.tds_relay.specs.Desk.{key_of, releasing};
+ghost use Rattle.tds_relay.specs.Sparing.{OffHold};
 ghost use Rattle.tds_relay.specs.Ties.{IsNumberOf, Makes, Turns, desk_in, is_sent, lost_by};
 ghost use Rattle.tds_relay.specs.Walkers.{AllStand, IsLed};
 
@@ -38,6 +39,7 @@ pub(super) fn forget(service: &mut Service, number: u64) -> Result<(), NoMemory>
     ensures stand { OnOk result (AllStand service.old service.new) }
     ensures gone { OnOk result (IsLed (service_in service.old)
         → reading_on number service.new ≡ None) }
+    ensures clients { OnOk result (KeepsClientsOff number service.old service.new) }
 {
     match service.lost(number) {
         Ok(()) => Ok(()),
@@ -186,6 +188,7 @@ impl Desk {
         ensures stand { OnOk result (AllStand self.old.service self.new.service) }
         ensures gone { OnOk result (IsLed (desk_in self.old).service
             → reading_on number self.new.service ≡ None) }
+        ensures off { OnOk result (OffHold number self.old self.new) }
     {
         let hold = find_number(&self.holds, number);
         forget(&mut self.service, number)?;

@@ -1,15 +1,19 @@
 //! What applications say: requests, and cancels.
-ghost use Rattle.std.specs.Prelude.{◌≡◌, [], Bool, IfOk, OnOk, Some, drop, false, true};
+ghost use Rattle.std.specs.Prelude.{◌≡◌, [], Bool, IfOk, IfSome, OnOk, Some, drop, false, true};
 ghost use Rattle.slab.specs.Slab.{get};
 ghost use Rattle.tds_relay.specs.Asking.{Asks, AsksOn, IfAsks, IsUnderway, SendsOn, waits_of};
+ghost use Rattle.tds_client.specs.Streams.{packets_are};
+ghost use Rattle.tds_relay.specs.Bodies.{AskAsBefore, Begins, Body, Carries, CarriesOn, ClientPuts};
+ghost use Rattle.tds_relay.specs.Bodies.{Grows, Obeys, PutsOn, Starts, body_of, last_of};
 ghost use Rattle.tds_relay.specs.Fronts.{FedOn, MayPut, Moved, MovedOn, ends_in, goes_by, hall_in, puts};
 ghost use Rattle.tds_relay.specs.Fronts.{given_by, house_in};
 ghost use Rattle.tds_relay.specs.Hall.{IfOpen, change_end, end_at};
 ghost use Rattle.tds_relay.specs.House.{Steps};
 ghost use Rattle.tds_relay.specs.Posts.{posts_in};
 ghost use Rattle.tds_relay.specs.Reads.{Opens, Stays};
+ghost use Rattle.tds_relay.specs.Sparing.{OthersHold, OthersRest};
 ghost use Rattle.tds_relay.specs.Taking.{Tells, TellsOn};
-ghost use Rattle.tds_relay.specs.Ties.{Application, Goes, GoesOn, NobodyWaits, desk_in};
+ghost use Rattle.tds_relay.specs.Ties.{Application, Goes, GoesOn, IsReached, NobodyWaits, desk_in};
 ghost use Rattle.tds_relay.specs.Walkers.{AllStand};
 
 use super::Relay;
@@ -35,6 +39,9 @@ impl Relay {
         ensures opens { OnOk result (Opens self.old.links.items self.new.links.items) }
         ensures stand { OnOk result (AllStand self.old.desk.service
             self.new.desk.service) }
+        ensures carries { IsReached (desk_in self.old.desk) → OnOk result (Carries key
+            (house_in self.old) piece.now [] (body_of key self.old) (body_of key self.new)
+            (house_in self.new)) }
     {
         self.take_all(key, piece)?;
         self.serve_line()
@@ -52,6 +59,8 @@ impl Relay {
         ensures read { OnOk result (Stays self.old.links.items self.new.links.items) }
         ensures stand { OnOk result (AllStand self.old.desk.service
             self.new.desk.service) }
+        ensures carries { OnOk result (Carries key (house_in self.old) piece.now []
+            (body_of key self.old) (body_of key self.new) (house_in self.new)) }
     {
         let mut rest = piece;
         'taking: for _ in 0..=piece.len() {
@@ -76,6 +85,8 @@ impl Relay {
         ensures read { OnOk result (Stays self.old.links.items self.new.links.items) }
         ensures stand { OnOk result (AllStand self.old.desk.service
             self.new.desk.service) }
+        ensures carries { IfOk result (λ count. CarriesOn key piece.now (drop count piece.now)
+            (body_of key self.old) (body_of key self.new) (house_in self.old) (house_in self.new)) }
     {
         let Some(application) = self.applications.get_mut(key) else {
             return Ok(piece.len());
@@ -105,6 +116,8 @@ impl Relay {
         ensures read { OnOk result (Stays self.old.links.items self.new.links.items) }
         ensures stand { OnOk result (AllStand self.old.desk.service
             self.new.desk.service) }
+        ensures body { OnOk result (Obeys said bytes.now (body_of key self.old)
+            (body_of key self.new)) }
     {
         match said {
             Said::Nothing => Ok(()),
@@ -137,6 +150,8 @@ impl Relay {
         ensures read { OnOk result (Stays self.old.links.items self.new.links.items) }
         ensures stand { OnOk result (AllStand self.old.desk.service
             self.new.desk.service) }
+        ensures body { OnOk result ((mid : Body) × Begins kind mid
+            × Starts mid (body_of key self.new)) }
     {
         let Some(application) = self.applications.get_mut(key) else {
             return Ok(());
@@ -176,6 +191,7 @@ impl Relay {
         ensures read { OnOk result (Stays self.old.links.items self.new.links.items) }
         ensures stand { OnOk result (AllStand self.old.desk.service
             self.new.desk.service) }
+        ensures body { OnOk result (Starts (body_of key self.old) (body_of key self.new)) }
     {
         match self.desk.hold_of(key) {
             Some(_) => self.start(key),
@@ -216,6 +232,8 @@ impl Relay {
         ensures read { OnOk result (Stays self.old.links.items self.new.links.items) }
         ensures stand { OnOk result (AllStand self.old.desk.service
             self.new.desk.service) }
+        ensures body { (whole : Bool) → waits_of (get self.old.applications key) ≡ Some whole
+            → OnOk result (Starts (body_of key self.old) (body_of key self.new)) }
     {
         if !self.has_nothing_out(key) {
             return self.expel(key);
@@ -241,6 +259,8 @@ impl Relay {
         ensures read { OnOk result (Stays self.old.links.items self.new.links.items) }
         ensures stand { OnOk result (AllStand self.old.desk.service
             self.new.desk.service) }
+        ensures body { (whole : Bool) → waits_of (get self.old.applications key) ≡ Some whole
+            → OnOk result (Starts (body_of key self.old) (body_of key self.new)) }
     {
         match self.desk.renew(key)? {
             Renewed::Kept(hold) => {
@@ -266,6 +286,9 @@ impl Relay {
         ensures read { OnOk result (Stays self.old.links.items self.new.links.items) }
         ensures stand { OnOk result (AllStand self.old.desk.service
             self.new.desk.service) }
+        ensures body { OnOk result ((mid : Body)
+            × Grows whole bytes.now (body_of key self.old) mid
+            × Starts mid (body_of key self.new)) }
     {
         let Some(application) = self.applications.get_mut(key) else {
             return Ok(());
@@ -295,6 +318,9 @@ impl Relay {
         ensures read { OnOk result (Stays self.old.links.items self.new.links.items) }
         ensures stand { OnOk result (AllStand self.old.desk.service
             self.new.desk.service) }
+        ensures body { OnOk result (PutsOn whole bytes.now key self.old self.new) }
+        ensures others { IsReached (desk_in self.old.desk)
+            → OnOk result (OthersRest key self.old self.new) }
     {
         let Some(hold) = self.desk.hold_of(key) else {
             return self.end(key);
@@ -333,6 +359,8 @@ impl Relay {
         ensures ends { ends_in self.new.applications
             ≡ change_end key (goes_by self.old.outbox.items) (ends_in self.old.applications) }
         ensures links { self.new.links.items ≡ self.old.links.items }
+        ensures asks { AskAsBefore self.old.applications self.new.applications }
+        ensures outbox { self.new.outbox.items ≡ self.old.outbox.items }
     {
         if self.outbox.is_empty() {
             return;
@@ -351,6 +379,9 @@ fn put_on(desk: &mut Desk, key: usize, bytes: &[u8], whole: bool, out: &mut Vec<
         out.new.items }
     ensures sends { result ≡ true → SendsOn whole (desk_in desk.new) key }
     ensures stand { AllStand desk.old.service desk.new.service }
+    ensures body { result ≡ true → ClientPuts whole bytes.now key desk.old desk.new
+        out.old.items out.new.items }
+    ensures others { OthersHold key desk.old desk.new }
 {
     let Ok(_) = desk.put(key, bytes, out) else {
         return false;
@@ -375,7 +406,9 @@ pub(super) fn behind(bytes: &[u8], count: usize) -> &[u8]
 }
 
 /// The last of these bytes.
-fn last(bytes: &[u8], count: usize) -> &[u8] {
+fn last(bytes: &[u8], count: usize) -> &[u8]
+    ensures { result.now ≡ last_of count bytes.now }
+{
     match bytes.get(bytes.len().saturating_sub(count)..) {
         Some(last) => last,
         None => &[],
@@ -383,7 +416,9 @@ fn last(bytes: &[u8], count: usize) -> &[u8] {
 }
 
 /// The request that packets of this type are.
-fn message_kind(kind: Kind) -> Option<MessageKind> {
+fn message_kind(kind: Kind) -> Option<MessageKind>
+    ensures { IfSome result (λ message. packets_are message ≡ kind) }
+{
     match kind {
         Kind::Batch => Some(MessageKind::Batch),
         Kind::Procedure => Some(MessageKind::Procedure),

@@ -1,5 +1,7 @@
 //! Applications that leave, and connections that are lost.
-ghost use Rattle.std.specs.Prelude.{◌≡◌, None, OnOk};
+ghost use Rattle.std.specs.Prelude.{◌≡◌, ◌≢◌, ℕ, None, OnOk, Some};
+ghost use Rattle.slab.specs.Slab.{get};
+ghost use Rattle.tds_relay.specs.Bodies.{AskAsBefore, AskOn, Body, Closed, body_in, waits_on};
 ghost use Rattle.tds_relay.specs.Desk.{Loses, turn};
 ghost use Rattle.tds_relay.specs.Fronts.{LetsGoFirst, Moved, MovedOn, ends_in, hall_in, hall_of_ends};
 ghost use Rattle.tds_relay.specs.Fronts.{house_in};
@@ -7,9 +9,10 @@ ghost use Rattle.tds_relay.specs.Hall.{change_end, change_whose, closes, end_at}
 ghost use Rattle.tds_relay.specs.House.{Steps};
 ghost use Rattle.tds_relay.specs.Posts.{posts_in};
 ghost use Rattle.tds_relay.specs.Reads.{Opens, Stays, reader_at};
+ghost use Rattle.tds_relay.specs.Sparing.{AllGo, AllRest};
 ghost use Rattle.tds_relay.specs.Taking.{IsDeaf};
-ghost use Rattle.tds_relay.specs.Ties.{Application, Connection, Goes, GoesOn, Leaving, NobodyWaits};
-ghost use Rattle.tds_relay.specs.Ties.{desk_in};
+ghost use Rattle.tds_relay.specs.Ties.{Application, Connection, Goes, GoesOn, IsReached, Leaving};
+ghost use Rattle.tds_relay.specs.Ties.{NobodyWaits, desk_in};
 ghost use Rattle.tds_relay.specs.Walkers.{AllStand};
 
 use super::Relay;
@@ -46,6 +49,7 @@ impl Relay {
         ensures opens { OnOk result (Opens self.old.links.items self.new.links.items) }
         ensures stand { OnOk result (AllStand self.old.desk.service
             self.new.desk.service) }
+        ensures goes_on { OnOk result (AllGo self.old self.new) }
     {
         self.lose(number)?;
         self.serve_line()
@@ -64,6 +68,7 @@ impl Relay {
         ensures read { OnOk result (Stays self.old.links.items self.new.links.items) }
         ensures stand { OnOk result (AllStand self.old.desk.service
             self.new.desk.service) }
+        ensures asks { OnOk result (AskOn self.old.applications self.new.applications) }
     {
         self.end(key)?;
         self.release(key)
@@ -77,6 +82,9 @@ impl Relay {
         ensures ends { OnOk result (ends_in self.new.applications
             ≡ change_end key closes (ends_in self.old.applications)) }
         ensures links { OnOk result (self.new.links.items ≡ self.old.links.items) }
+        ensures asks { OnOk result (AskOn self.old.applications self.new.applications) }
+        ensures shuts { OnOk result ((goes : Body)
+            → body_in (get self.new.applications key) goes ≡ Closed) }
     {
         match self.applications.get_mut(key) {
             Some(application) => {
@@ -102,6 +110,7 @@ impl Relay {
         ensures read { OnOk result (Stays self.old.links.items self.new.links.items) }
         ensures stand { OnOk result (AllStand self.old.desk.service
             self.new.desk.service) }
+        ensures asks { OnOk result (AskOn self.old.applications self.new.applications) }
     {
         self.outbox.clear();
         let left = self.desk.leave(key, &mut self.outbox)?;
@@ -131,6 +140,9 @@ impl Relay {
         ensures gone { OnOk result (reader_at number self.new.links.items ≡ None) }
         ensures stand { OnOk result (AllStand self.old.desk.service
             self.new.desk.service) }
+        ensures asks { OnOk result (AskOn self.old.applications self.new.applications) }
+        ensures rests { IsReached (desk_in self.old.desk)
+            → OnOk result (AllRest self.old self.new) }
     {
         let key = self.desk.lose(number)?;
         self.close(number, key)
@@ -145,6 +157,9 @@ impl Relay {
             ≡ ends_in self.old.applications) }
         ensures read { OnOk result (Stays self.old.links.items self.new.links.items) }
         ensures gone { OnOk result (reader_at number self.new.links.items ≡ None) }
+        ensures asks { OnOk result (AskAsBefore self.old.applications self.new.applications) }
+        ensures others { OnOk result ((other : ℕ) → other ≢ number
+            → waits_on other self.new.links.items ≡ waits_on other self.old.links.items) }
     {
         let tag = match self.link(number) {
             Some(link) => link.tag,
@@ -169,6 +184,11 @@ impl Relay {
             ≡ change_whose key closes (ends_in self.old.applications)) }
         ensures read { OnOk result (Stays self.old.links.items self.new.links.items) }
         ensures gone { OnOk result (reader_at number self.new.links.items ≡ None) }
+        ensures asks { OnOk result (AskOn self.old.applications self.new.applications) }
+        ensures others { OnOk result ((other : ℕ) → other ≢ number
+            → waits_on other self.new.links.items ≡ waits_on other self.old.links.items) }
+        ensures shuts { OnOk result ((other : ℕ) → key ≡ Some other → (goes : Body)
+            → body_in (get self.new.applications other) goes ≡ Closed) }
     {
         self.close_link(number)?;
         match key {

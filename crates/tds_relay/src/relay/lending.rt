@@ -1,14 +1,21 @@
 //! Connections that are lent to those who wait, opened, and asked.
-ghost use Rattle.std.specs.Prelude.{◌≡◌, [], ℕ, Bool, IfOk, None, OnOk, Some, false, true};
+ghost use Rattle.std.specs.Prelude.{◌≡◌, ◌≢◌, ◌⊎◌, ◌++◌, [], ℕ, Bool, IfOk, IsSome, List, None, OnOk, Some};
+ghost use Rattle.std.specs.Prelude.{false, option_map, true};
 ghost use Rattle.slab.specs.Slab.{get};
 ghost use Rattle.tds_relay.specs.Asking.{IsUnderway, waits_of};
+ghost use Rattle.tds_relay.specs.Bodies.{AskAsBefore, Grows, Starts, body_of, going_of, held_of};
+ghost use Rattle.tds_relay.specs.Bodies.{waits_on};
+ghost use Rattle.tds_relay.specs.Desk.{find_number, key_of};
 ghost use Rattle.tds_relay.specs.Fronts.{MovedOn, ends_in, hall_in, house_in};
 ghost use Rattle.tds_relay.specs.Hall.{end_at};
 ghost use Rattle.tds_relay.specs.House.{Steps};
 ghost use Rattle.tds_relay.specs.Posts.{posts_in};
 ghost use Rattle.tds_relay.specs.Reads.{Opens, OpensFirst, OpensOne, Stays, open_at, opened_at};
+ghost use Rattle.tds_relay.specs.Sparing.{AllGo, AllRest, IsHeldBack, IsUnkept, OthersRest};
+ghost use Rattle.tds_relay.specs.Sparing.{StartsOn};
 ghost use Rattle.tds_relay.specs.Taking.{IsDeaf};
-ghost use Rattle.tds_relay.specs.Ties.{Connection, Goes, GoesOn, Neither, NobodyWaits, desk_in};
+ghost use Rattle.tds_relay.specs.Ties.{Connection, Goes, GoesOn, IsReached, Neither, NobodyWaits};
+ghost use Rattle.tds_relay.specs.Ties.{desk_in};
 ghost use Rattle.tds_relay.specs.Walkers.{AllStand};
 
 use super::Relay;
@@ -23,7 +30,7 @@ use std::alloc::AllocError;
 impl Relay {
     /// A connection that is open and logged in has come before any application asked: the first one of
     /// all. It is cleaned first. Answers its number, or none where it isn't wanted.
-    #[tactic(auto, using(crate::proofs::steps::Reaching::reaches_turn, crate::proofs::steps::Reaching::reaches_turned))]
+    #[tactic(auto, using(crate::proofs::steps::Reaching::reaches_turn, crate::proofs::steps::Reaching::reaches_turned, crate::proofs::spared::Resting::go_refl))]
     pub fn bring(&mut self, tag: usize) -> Result<Option<u64>, NoMemory>
         ensures goes { OnOk result (Goes Neither (desk_in self.old.desk) (desk_in self.new.desk)) }
         ensures steps { OnOk result (Steps Neither (house_in self.old) (house_in self.new)) }
@@ -31,6 +38,7 @@ impl Relay {
             OpensFirst number self.old.links.items self.new.links.items) }
         ensures stand { OnOk result (AllStand self.old.desk.service
             self.new.desk.service) }
+        ensures goes_on { OnOk result (AllGo self.old self.new) }
     {
         if !self.links.is_empty() {
             return Ok(None);
@@ -78,6 +86,9 @@ impl Relay {
         ensures opens { OnOk result (OpensOne number self.old.links.items self.new.links.items) }
         ensures stand { OnOk result (AllStand self.old.desk.service
             self.new.desk.service) }
+        ensures goes_on { OnOk result (AllGo self.old self.new) }
+        ensures starts { IsReached (desk_in self.old.desk)
+            → OnOk result (StartsOn number self.old self.new) }
     {
         self.set_open(number);
         self.order_write_on(number)?;
@@ -91,12 +102,13 @@ impl Relay {
         ensures ends { ends_in self.new.applications ≡ ends_in self.old.applications }
         ensures opens { (other : ℕ) → open_at other self.new.links.items
             ≡ opened_at number other self.old.links.items }
+        ensures same { AllRest self.old self.new }
     {
         set_open(&mut self.links, number);
     }
 
     /// Asks what the application asks that holds a connection.
-    #[tactic(auto, using(crate::proofs::steps::Staying::stays_refl))]
+    #[tactic(auto, using(crate::proofs::steps::Staying::stays_refl, crate::proofs::spared::Resting::go_refl))]
     fn start_on(&mut self, number: u64) -> Result<(), NoMemory>
         ensures goes { OnOk result (GoesOn (desk_in self.old.desk) (desk_in self.new.desk)) }
         ensures kept { OnOk result (posts_in self.new.applications
@@ -105,6 +117,10 @@ impl Relay {
         ensures read { OnOk result (Stays self.old.links.items self.new.links.items) }
         ensures stand { OnOk result (AllStand self.old.desk.service
             self.new.desk.service) }
+        ensures goes_on { OnOk result (AllGo self.old self.new) }
+        ensures waits { OnOk result ((key : ℕ)
+            → key_of (find_number number (desk_in self.old.desk).holds) ≡ Some key
+            → IsUnkept (body_of key self.new) ⊎ IsHeldBack key self.old) }
     {
         match self.desk.key_on(number) {
             Some(key) => self.start(key),
@@ -113,7 +129,7 @@ impl Relay {
     }
 
     /// Lends connections to those who wait, in order, while there are any.
-    #[tactic(auto, using(crate::proofs::steps::Reaching::reaches_turn, crate::proofs::steps::Reaching::reaches_turned))]
+    #[tactic(auto, using(crate::proofs::steps::Reaching::reaches_turn, crate::proofs::steps::Reaching::reaches_turned, crate::proofs::spared::Resting::go_refl))]
     pub(super) fn serve_line(&mut self) -> Result<(), NoMemory>
         ensures goes { OnOk result (GoesOn (desk_in self.old.desk) (desk_in self.new.desk)) }
         ensures kept { OnOk result (posts_in self.new.applications
@@ -123,6 +139,7 @@ impl Relay {
         ensures opens { OnOk result (Opens self.old.links.items self.new.links.items) }
         ensures stand { OnOk result (AllStand self.old.desk.service
             self.new.desk.service) }
+        ensures goes_on { OnOk result (AllGo self.old self.new) }
     {
         'line: for _ in 0..u64::MAX {
             match self.desk.serve()? {
@@ -147,6 +164,7 @@ impl Relay {
             (hall_in self.new)) }
         ensures stand { OnOk result (AllStand self.old.desk.service
             self.new.desk.service) }
+        ensures goes_on { OnOk result (AllGo self.old self.new) }
     {
         let number = served.hold.number;
         if served.had {
@@ -169,7 +187,7 @@ impl Relay {
 
     /// Asks what an application asks, where its connection is open, and the server has acknowledged there
     /// what it took back.
-    #[tactic(auto, using(crate::proofs::steps::Reaching::reaches_turn, crate::proofs::steps::Reaching::reaches_turned, crate::proofs::steps::Underway::of_none, crate::proofs::steps::Underway::of_over, crate::proofs::steps::Underway::drains, crate::proofs::bytes::Calls::stand_on))]
+    #[tactic(auto, using(crate::proofs::steps::Reaching::reaches_turn, crate::proofs::steps::Reaching::reaches_turned, crate::proofs::steps::Underway::of_none, crate::proofs::steps::Underway::of_over, crate::proofs::steps::Underway::drains, crate::proofs::bytes::Calls::stand_on, crate::proofs::spared::Resting::others_refl))]
     pub(super) fn start(&mut self, key: usize) -> Result<(), NoMemory>
         ensures goes { OnOk result (GoesOn (desk_in self.old.desk) (desk_in self.new.desk)) }
         ensures kept { OnOk result (posts_in self.new.applications
@@ -180,6 +198,11 @@ impl Relay {
         ensures read { OnOk result (Stays self.old.links.items self.new.links.items) }
         ensures stand { OnOk result (AllStand self.old.desk.service
             self.new.desk.service) }
+        ensures body { OnOk result (Starts (body_of key self.old) (body_of key self.new)) }
+        ensures others { IsReached (desk_in self.old.desk)
+            → OnOk result (OthersRest key self.old self.new) }
+        ensures waits { OnOk result (IsUnkept (body_of key self.new)
+            ⊎ IsHeldBack key self.old) }
     {
         let Some(application) = self.applications.get(key) else {
             return Ok(());
@@ -218,13 +241,15 @@ impl Relay {
         ensures read { OnOk result (Stays self.old.links.items self.new.links.items) }
         ensures stand { OnOk result (AllStand self.old.desk.service
             self.new.desk.service) }
+        ensures rests { IsReached (desk_in self.old.desk)
+            → OnOk result (AllRest self.old self.new) }
     {
         self.lose(number)?;
         self.end(key)
     }
 
     /// Puts what is kept of a request on its connection.
-    #[tactic(auto, using(crate::proofs::steps::Posting::kept_more, crate::proofs::steps::Posting::posts_kept, crate::proofs::steps::Fronts::ends_more, crate::proofs::steps::Fronts::ends_kept, crate::proofs::steps::Underway::of_none))]
+    #[tactic(auto, using(crate::proofs::steps::Posting::kept_more, crate::proofs::steps::Posting::posts_kept, crate::proofs::steps::Fronts::ends_more, crate::proofs::steps::Fronts::ends_kept, crate::proofs::steps::Underway::of_none, crate::proofs::spared::Resting::others_refl))]
     fn put_held(&mut self, key: usize, whole: bool) -> Result<(), NoMemory>
         ensures goes { OnOk result (GoesOn (desk_in self.old.desk) (desk_in self.new.desk)) }
         ensures kept { OnOk result (posts_in self.new.applications
@@ -235,6 +260,11 @@ impl Relay {
         ensures read { OnOk result (Stays self.old.links.items self.new.links.items) }
         ensures stand { OnOk result (AllStand self.old.desk.service
             self.new.desk.service) }
+        ensures body { OnOk result (Grows whole (held_of (get self.old.applications key))
+            (going_of key self.old) (body_of key self.new)) }
+        ensures others { IsReached (desk_in self.old.desk)
+            → OnOk result (OthersRest key self.old self.new) }
+        ensures gone { OnOk result (IsUnkept (body_of key self.new)) }
     {
         let Some(application) = self.applications.get_mut(key) else {
             return Ok(());
@@ -253,6 +283,13 @@ impl Relay {
         ensures ends { OnOk result (ends_in self.new.applications
             ≡ ends_in self.old.applications) }
         ensures read { OnOk result (Stays self.old.links.items self.new.links.items) }
+        ensures asks { OnOk result (AskAsBefore self.old.applications self.new.applications) }
+        ensures waits { IfOk result (λ fits. fits ≡ true
+            → waits_on number self.new.links.items ≡ option_map
+            (λ (waits : List ℕ). waits ++ self.old.outbox.items)
+            (waits_on number self.old.links.items)) }
+        ensures others { OnOk result ((other : ℕ) → other ≢ number
+            → waits_on other self.new.links.items ≡ waits_on other self.old.links.items) }
     {
         let fits = append_to(&mut self.links, number, &self.outbox)?;
         self.outbox.clear();
@@ -265,7 +302,8 @@ impl Relay {
 
     /// Whether the connection of this number is open.
     fn is_open(&self, number: u64) -> bool
-        ensures { result ≡ false → open_at number self.now.links.items ≡ None }
+        ensures shut { result ≡ false → open_at number self.now.links.items ≡ None }
+        ensures there { result ≡ true → IsSome (waits_on number self.now.links.items) }
     {
         match place_in(&self.links, number) {
             Some(place) => self.links[place].is_open,

@@ -1,6 +1,8 @@
 //! What applications take back: requests that are forgotten, and attentions.
+ghost use Rattle.slab.specs.Slab.{get};
 ghost use Rattle.std.specs.Prelude.{◌≡◌, [], ℕ, IfSome, List, OnOk, true};
 ghost use Rattle.tds_front.specs.declared.front.Said.TheVariants.{Forget, HandOn};
+ghost use Rattle.tds_relay.specs.Bodies.{AskAsBefore, AskOn, Body, Nowhere, Starts, body_in};
 ghost use Rattle.tds_relay.specs.Desk.{Does, Stops, Unwaits};
 ghost use Rattle.tds_relay.specs.Fronts.{FedOn, Moved, MovedOn, ends_in, hall_in, hall_of_ends, withdraws};
 ghost use Rattle.tds_relay.specs.Hall.{Ends, IfOpen, IsHere, change_end, end_at};
@@ -31,6 +33,8 @@ impl Relay {
         ensures read { OnOk result (Stays self.old.links.items self.new.links.items) }
         ensures stand { OnOk result (AllStand self.old.desk.service
             self.new.desk.service) }
+        ensures body { OnOk result ((goes : Body)
+            → Starts Nowhere (body_in (get self.new.applications key) goes)) }
     {
         let was_asked = self.forget_request(key);
         if was_asked { self.unask(key) } else { Ok(()) }
@@ -44,6 +48,7 @@ impl Relay {
         ensures turns { Turns (Unwaits key) (desk_in self.old.desk) (desk_in self.new.desk) [] [] }
         ensures links { self.new.links.items ≡ self.old.links.items }
         ensures stand { AllStand self.old.desk.service self.new.desk.service }
+        ensures body { (goes : Body) → Starts Nowhere (body_in (get self.new.applications key) goes) }
     {
         self.desk.unwait(key);
         let Some(application) = self.applications.get_mut(key) else {
@@ -66,6 +71,7 @@ impl Relay {
         ensures read { OnOk result (Stays self.old.links.items self.new.links.items) }
         ensures stand { OnOk result (AllStand self.old.desk.service
             self.new.desk.service) }
+        ensures asks { OnOk result (AskOn self.old.applications self.new.applications) }
     {
         if !self.has_nothing_out(key) {
             return self.expel(key);
@@ -89,6 +95,8 @@ impl Relay {
         ensures read { OnOk result (Stays self.old.links.items self.new.links.items) }
         ensures stand { OnOk result (AllStand self.old.desk.service
             self.new.desk.service) }
+        ensures body { OnOk result ((goes : Body)
+            → Starts Nowhere (body_in (get self.new.applications key) goes)) }
     {
         let _ = self.forget_request(key);
         match self.stop(key) {
@@ -112,6 +120,7 @@ impl Relay {
             (hall_of_ends (desk_in self.new.desk) ends) }
         ensures links { self.new.links.items ≡ self.old.links.items }
         ensures stand { AllStand self.old.desk.service self.new.desk.service }
+        ensures asks { AskAsBefore self.old.applications self.new.applications }
     {
         self.outbox.clear();
         match self.desk.cancel(key, &mut self.outbox) {
@@ -133,6 +142,7 @@ impl Relay {
         ensures ends { ends_in self.new.applications
             ≡ change_end key withdraws (ends_in self.old.applications) }
         ensures links { self.new.links.items ≡ self.old.links.items }
+        ensures asks { AskAsBefore self.old.applications self.new.applications }
     {
         match self.applications.get_mut(key) {
             Some(application) => application.withdraw(),
@@ -147,6 +157,7 @@ impl Relay {
             ≡ give key acknowledgement (posts_in self.old.applications)) }
         ensures moves { OnOk result (MovedOn (hall_in self.old) (hall_in self.new)) }
         ensures links { OnOk result (self.new.links.items ≡ self.old.links.items) }
+        ensures asks { OnOk result (AskOn self.old.applications self.new.applications) }
     {
         match self.applications.get_mut(key) {
             Some(application) => {

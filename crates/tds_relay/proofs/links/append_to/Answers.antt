@@ -1,15 +1,41 @@
-use Rattle.std.proofs.Common.{ap}
+use Rattle.std.proofs.Common.{List, ap, rules, sym, ◌++◌, ◌∙◌, ℕ}
 use Rattle.tds_relay.specs.declared.link.Link.{Link}
-use Rattle.tds_relay.specs.Reads.{seen_of}
+use Rattle.tds_relay.specs.Reads.{place_of, seen_of}
+use Rattle.tds_relay.specs.Posts.{post_in}
+use Rattle.tds_relay.proofs.spared.Waits.{none_waits, one_waits, others_wait, put_waits}
 use Rattle.tds_relay.proofs.steps.Staying.{stays_written}
 use Rattle.tds_relay.proofs.links.append_to.Goals as goal
 
-pub returns : goal.returns
-returns c =
+pub returns-clause-read : goal.returns-clause-read
+returns-clause-read c =
     stays_written c.args.links.now.items c.in-Some.place c.index_mut-link.result.now _
     (ap (λ (l : Link). l.number) c.index_mut-link.ensures.value) (ap seen_of c.index_mut-link.ensures.value)
 
-pub returns-in_err-append : goal.returns-in_err-append
-returns-in_err-append c =
+pub returns-in_err-append-clause-read : goal.returns-in_err-append-clause-read
+returns-in_err-append-clause-read c =
     stays_written c.args.links.now.items c.in-Some.place c.index_mut-link.result.now _
     (ap (λ (l : Link). l.number) c.index_mut-link.ensures.value) (ap seen_of c.index_mut-link.ensures.value)
+
+pub returns-clause-others : goal.returns-clause-others
+returns-clause-others c =
+    others_wait c.args.number c.args.links.now.items c.in-Some.place c.index_mut-link.result.now _
+    (ap (λ (ls : List Link). place_of c.args.number ls) (sym c.deref.ensures.value) ∙ sym c.place_in.ensures.is ∙ c.in-Some.is)
+    (ap (λ (l : Link). l.number) c.index_mut-link.ensures.value)
+
+pub returns-in_err-append-clause-others : goal.returns-in_err-append-clause-others
+returns-in_err-append-clause-others c =
+    others_wait c.args.number c.args.links.now.items c.in-Some.place c.index_mut-link.result.now _
+    (ap (λ (ls : List Link). place_of c.args.number ls) (sym c.deref.ensures.value) ∙ sym c.place_in.ensures.is ∙ c.in-Some.is)
+    (ap (λ (l : Link). l.number) c.index_mut-link.ensures.value)
+
+pub returns-clause-appends : goal.returns-clause-appends
+returns-clause-appends c = λ fits.
+    one_waits (λ (waits : List ℕ). waits ++ c.args.bytes.now) c.args.number c.args.links.now.items c.in-Some.place c.index_mut-link.result.now _
+    (ap (λ (ls : List Link). place_of c.args.number ls) (sym c.deref.ensures.value) ∙ sym c.place_in.ensures.is ∙ c.in-Some.is)
+    (ap (λ (l : Link). l.number) c.index_mut-link.ensures.value)
+    (put_waits c.args.bytes.now _ _ c.in_ok-append.ensures.post (search rules) ∙ ap (λ (l : Link). (post_in l.out).bytes ++ c.args.bytes.now) c.index_mut-link.ensures.value)
+
+pub returns-in_default-clause-appends : goal.returns-in_default-clause-appends
+returns-in_default-clause-appends c = λ fits.
+    none_waits (λ (waits : List ℕ). waits ++ c.args.bytes.now) c.args.number c.args.links.now.items
+    (ap (λ (ls : List Link). place_of c.args.number ls) (sym c.deref.ensures.value) ∙ sym c.place_in.ensures.is ∙ c.in_default.is)

@@ -1,15 +1,22 @@
 use Rattle.std.proofs.Common.{List, ap, refl, sym, ◌∙◌}
 use Rattle.tds_relay.specs.declared.link.Link.{Link}
+use Rattle.tds_relay.specs.Posts.{post_in}
 use Rattle.tds_relay.specs.Reads.{place_of}
+use Rattle.tds_relay.proofs.spared.Waits.{waits_same}
 use Rattle.tds_relay.proofs.steps.Staying.{opened_nowhere, opened_written}
 use Rattle.tds_relay.proofs.links.set_open.Goals as goal
 
-pub returns-in_default : goal.returns-in_default
-returns-in_default c = opened_nowhere c.args.number c.args.links.now.items
+pub returns-in_default-clause-opens : goal.returns-in_default-clause-opens
+returns-in_default-clause-opens c = opened_nowhere c.args.number c.args.links.now.items
     (ap (λ (ls : List Link). place_of c.args.number ls) (sym c.deref.ensures.value) ∙ sym c.place_in.ensures.is ∙ c.in_default.is)
 
-pub returns : goal.returns
-returns c =
+pub returns-clause-opens : goal.returns-clause-opens
+returns-clause-opens c =
     opened_written c.args.number c.args.links.now.items c.in-Some.place c.index_mut-link.result.now _
     (ap (λ (ls : List Link). place_of c.args.number ls) (sym c.deref.ensures.value) ∙ sym c.place_in.ensures.is ∙ c.in-Some.is)
     (ap (λ (l : Link). l.number) c.index_mut-link.ensures.value) (ap (λ (l : Link). l.reader) c.index_mut-link.ensures.value) refl
+
+pub returns-clause-waits : goal.returns-clause-waits
+returns-clause-waits c =
+    waits_same c.args.links.now.items c.in-Some.place c.index_mut-link.result.now _
+    (ap (λ (l : Link). l.number) c.index_mut-link.ensures.value) (ap (λ (l : Link). (post_in l.out).bytes) c.index_mut-link.ensures.value)

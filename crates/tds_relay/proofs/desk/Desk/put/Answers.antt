@@ -1,9 +1,10 @@
-use Rattle.std.proofs.Common.{rules}
+use Rattle.std.proofs.Common.{refl, rules}
 use Rattle.tds_service.specs.Table.{puts_on, service_in}
 use Rattle.tds_relay.specs.Ties.{desk_in}
 use Rattle.tds_relay.proofs.steps.Sent as sent
 use Rattle.tds_service.specs.Service as calls
 use Rattle.tds_relay.proofs.bytes.Walking.{keeps_stand}
+use Rattle.tds_relay.proofs.spared.Held.{deed_others, deed_same}
 use Rattle.tds_relay.proofs.desk.Desk.put.Goals as goal
 
 pub returns-in-Ok-clause-ok : goal.returns-in-Ok-clause-ok
@@ -15,3 +16,9 @@ returns-in-Ok-clause-sends c =
 
 pub returns-in-Ok-clause-stand : goal.returns-in-Ok-clause-stand
 returns-in-Ok-clause-stand c = keeps_stand _ _ (calls.Put c.in-Some.hold.lease (puts_on c.in-Some.hold.lease c.args.self.now.service c.args.bytes.now)) c.in-Ok.ensures.ok.service_is c.in-Ok.ensures.keeps
+
+pub returns-in-Ok-clause-others : goal.returns-in-Ok-clause-others
+returns-in-Ok-clause-others c = deed_others c.args.self.now _ c.args.key c.in-Some.hold (search rules) refl c.in-Ok.ensures.clients
+
+pub returns-in-Err-clause-others : goal.returns-in-Err-clause-others
+returns-in-Err-clause-others c = deed_same c.args.self.now _ c.args.key (search rules)

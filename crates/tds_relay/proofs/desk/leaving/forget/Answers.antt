@@ -13,4 +13,4 @@ returns-in-Ok-clause-gone c = λ led. lost_gone c.args.service.now c.lost.new.se
 pub returns-in-Err : goal.returns-in-Err
 returns-in-Err c =
     let is : service_in c.lost.new.self ≡ lost_by (service_in c.args.service.now) c.args.number = search rules in
-    record { lost = is; stand = lost_stand _ _ c.args.number is c.in-Err.ensures.keeps; gone = λ led. lost_gone c.args.service.now c.lost.new.self c.args.number is led }
+    record { lost = is; stand = lost_stand _ _ c.args.number is c.in-Err.ensures.keeps; gone = λ led. lost_gone c.args.service.now c.lost.new.self c.args.number is led; clients = c.in-Err.ensures.clients }

@@ -3,6 +3,7 @@ use Rattle.tds_relay.specs.Posts.{acknowledgement, put}
 use Rattle.tds_relay.proofs.steps.Fronts.{ends_kept, moves_same}
 use Rattle.tds_relay.proofs.steps.Posting.{kept_more, posts_changed}
 use Rattle.tds_relay.proofs.steps.Reaching.{ok_more}
+use Rattle.tds_relay.proofs.steps.Bodied.{asks_kept_on}
 use Rattle.tds_relay.proofs.relay.Relay.acknowledge.Goals as goal
 
 pub returns-in_ok-append-in-Some-clause-given : goal.returns-in_ok-append-in-Some-clause-given
@@ -15,3 +16,7 @@ returns-in_ok-append-in-Some-clause-moves c =
     ok_more c.order_write.result _ _
     (λ m by from h. m by from (moves_same by from _ _ _ _ refl (ends_kept c.args.self.now.applications c.args.key c.in-Some.application.now _ c.in-Some.ensures.value refl) h))
     c.order_write.ensures.moves
+
+pub returns-in_ok-append-in-Some-clause-asks : goal.returns-in_ok-append-in-Some-clause-asks
+returns-in_ok-append-in-Some-clause-asks c =
+    asks_kept_on c.order_write.result c.args.self.now.applications c.order_write.new.self.applications c.args.key c.in-Some.application.now _ c.in-Some.ensures.value (λ goes. refl) c.order_write.ensures.asks

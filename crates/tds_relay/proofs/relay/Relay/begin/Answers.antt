@@ -1,9 +1,14 @@
-use Rattle.std.proofs.Common.{ap, false, refl, rules}
+use Rattle.std.proofs.Common.{ap, false, refl, rules, ◌≡◌}
 use Rattle.tds_relay.specs.Hall.{change_end, closes}
 use Rattle.tds_relay.specs.Ties.{Application}
 use Rattle.tds_relay.proofs.steps.Fronts.{ends_kept, moves_closes, moves_same}
 use Rattle.tds_relay.proofs.steps.Reaching.{ok_if, ok_more}
 use Rattle.tds_relay.proofs.steps.Staying.{stays_refl, stays_same}
+use Rattle.tds_relay.specs.Bodies.{Closed, Refuses, Stays, body_of, going_of}
+use Rattle.slab.specs.Slab.{get, with_value}
+use Rattle.tds_relay.proofs.steps.Bodied.{none_closed, same_starts, shut_starts}
+use Rattle.tds_relay.proofs.steps.Going.{begun}
+use Rattle.tds_relay.proofs.steps.Underway.{waits_written, written_there}
 use Rattle.tds_relay.proofs.relay.Relay.begin.Goals as goal
 
 pub returns-in-false-default-clause-goes : goal.returns-in-false-default-clause-goes
@@ -28,3 +33,27 @@ returns-in-false-default-clause-underway c = ok_more c.wait.result _ _ (λ u. u 
 
 pub returns-in-true-Some-Full-clause-underway : goal.returns-in-true-Some-Full-clause-underway
 returns-in-true-Some-Full-clause-underway c = ok_more c.change.result _ _ (λ u. u false) c.change.ensures.underway
+
+pub returns-in_default-clause-body : goal.returns-in_default-clause-body
+returns-in_default-clause-body c = (Closed, Refuses, none_closed c.args.self.now.applications c.args.key (going_of c.args.key c.args.self.now) (search rules))
+
+pub returns-in_default-message_kind-clause-body : goal.returns-in_default-message_kind-clause-body
+returns-in_default-message_kind-clause-body c = ok_more c.expel.result _ _ (λ d. (Closed, Refuses, shut_starts c.expel.new.self.applications c.args.key Closed (going_of c.args.key c.expel.new.self) d)) c.expel.ensures.over
+
+pub returns-in-true-None-clause-underway : goal.returns-in-true-None-clause-underway
+returns-in-true-None-clause-underway c = c.start.ensures.underway false (waits_written c.args.self.now.applications c.args.key c.in-Some.application.now c.forget.new.self _ false c.in-Some.ensures.value c.forget.ensures.asking)
+
+pub returns-in-true-None-clause-body : goal.returns-in-true-None-clause-body
+returns-in-true-None-clause-body c = ok_more c.start.result _ _ (λ s. (_, begun (get (with_value c.args.self.now.applications c.args.key c.forget.new.self) c.args.key) _ c.forget.new.self c.args.kind c.in-Some-message_kind.kind (written_there c.args.self.now.applications c.args.key c.in-Some.application.now c.forget.new.self c.in-Some.ensures.value) c.forget.ensures.asking c.forget.ensures.body.1 (search rules), s)) c.start.ensures.body
+
+pub returns-then-may_keep_later-clause-body : goal.returns-then-may_keep_later-clause-body
+returns-then-may_keep_later-clause-body c = (_, begun (get (with_value c.args.self.now.applications c.args.key c.forget.new.self) c.args.key) _ c.forget.new.self c.args.kind c.in-Some-message_kind.kind (written_there c.args.self.now.applications c.args.key c.in-Some.application.now c.forget.new.self c.in-Some.ensures.value) c.forget.ensures.asking c.forget.ensures.body.1 (search rules), Stays)
+
+pub returns-else-may_keep_later-clause-body : goal.returns-else-may_keep_later-clause-body
+returns-else-may_keep_later-clause-body c = ok_more c.renew.result _ _ (λ s. (_, begun (get (with_value c.args.self.now.applications c.args.key c.forget.new.self) c.args.key) _ c.forget.new.self c.args.kind c.in-Some-message_kind.kind (written_there c.args.self.now.applications c.args.key c.in-Some.application.now c.forget.new.self c.in-Some.ensures.value) c.forget.ensures.asking c.forget.ensures.body.1 (search rules), s)) (c.renew.ensures.body false (waits_written c.args.self.now.applications c.args.key c.in-Some.application.now c.forget.new.self _ false c.in-Some.ensures.value c.forget.ensures.asking))
+
+pub returns-in-true-Some-Full-clause-body : goal.returns-in-true-Some-Full-clause-body
+returns-in-true-Some-Full-clause-body c = ok_more c.change.result _ _ (λ s. (_, begun (get (with_value c.args.self.now.applications c.args.key c.forget.new.self) c.args.key) _ c.forget.new.self c.args.kind c.in-Some-message_kind.kind (written_there c.args.self.now.applications c.args.key c.in-Some.application.now c.forget.new.self c.in-Some.ensures.value) c.forget.ensures.asking c.forget.ensures.body.1 (search rules), s)) (c.change.ensures.body false (waits_written c.args.self.now.applications c.args.key c.in-Some.application.now c.forget.new.self _ false c.in-Some.ensures.value c.forget.ensures.asking))
+
+pub returns-in-false-default-clause-body : goal.returns-in-false-default-clause-body
+returns-in-false-default-clause-body c = ok_if c.wait.result _ (_, begun (get (with_value c.args.self.now.applications c.args.key c.forget.new.self) c.args.key) _ c.forget.new.self c.args.kind c.in-Some-message_kind.kind (written_there c.args.self.now.applications c.args.key c.in-Some.application.now c.forget.new.self c.in-Some.ensures.value) c.forget.ensures.asking c.forget.ensures.body.1 (search rules), same_starts _ (body_of c.args.key c.wait.new.self) (c.wait.ensures.body c.args.key))

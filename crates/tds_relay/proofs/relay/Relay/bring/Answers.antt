@@ -1,10 +1,11 @@
-use Rattle.std.proofs.Common.{◌≡◌, ◌∙◌, ◌==◌, ap, refl, rules, sym, true, ℕ}
+use Rattle.std.proofs.Common.{◌≡◌, ◌∙◌, ◌==◌, ap, refl, rules, sym, true, ℕ, inl}
 use Rattle.tds_relay.specs.Fronts.{house_in}
-use Rattle.tds_relay.specs.Ties.{Neither}
+use Rattle.tds_relay.specs.Ties.{Neither, IsReached, desk_in}
 use Rattle.tds_relay.proofs.steps.Fronts.{moves_does}
-use Rattle.tds_relay.proofs.steps.Reaching.{reaches_turn}
+use Rattle.tds_relay.proofs.steps.Reaching.{reaches_turn, reached_on}
 use Rattle.tds_relay.proofs.steps.Stepping.{no_steps, steps_moved}
-use Rattle.tds_relay.proofs.steps.Staying.{first_opens}
+use Rattle.tds_relay.proofs.steps.Staying.{first_opens, none_there}
+use Rattle.tds_relay.proofs.spared.Resting.{go_both, none_go, go_refl}
 use Rattle.tds_relay.proofs.relay.Relay.bring.Goals as goal
 
 pub returns-in_default-clause-goes : goal.returns-in_default-clause-goes
@@ -40,3 +41,24 @@ returns-clause-opens c =
 
 pub returns-clause-stand : goal.returns-clause-stand
 returns-clause-stand c = λ n r h. c.in_ok-serve_line.ensures.stand n r (c.in_ok-send_on.ensures.stand n r (c.in_ok-left.ensures.stand n r h))
+
+pub returns-in_default-clause-goes_on : goal.returns-in_default-clause-goes_on
+returns-in_default-clause-goes_on c =
+    let none : c.is_empty.result ≡ true = search rules in
+    none_go c.args.self.now _ (none_there c.args.self.now.links.items (sym (ap (λ (k : ℕ). k == 0) c.args.self.now.links.ok.0) ∙ sym c.is_empty.ensures ∙ none)) (λ key goes. inl refl)
+
+pub returns-then-not-left-clause-goes_on : goal.returns-then-not-left-clause-goes_on
+returns-then-not-left-clause-goes_on c =
+    let none : c.is_empty.result ≡ true = search rules in
+    none_go c.args.self.now _ (none_there c.args.self.now.links.items (sym (ap (λ (k : ℕ). k == 0) c.args.self.now.links.ok.0) ∙ sym c.is_empty.ensures ∙ none)) (λ key goes. inl refl)
+
+pub returns-clause-goes_on : goal.returns-clause-goes_on
+returns-clause-goes_on c =
+    let none : c.is_empty.result ≡ true = search rules in
+    go_both c.args.self.now c.send_on.new.self c.serve_line.new.self
+    (λ r. reached_on Neither _ _ (λ from h. c.in_ok-send_on.ensures.goes Neither from (reaches_turn Neither from _ _ _ _ _ c.in_ok-left.ensures.turns.2 refl h)) r)
+    (none_go c.args.self.now c.send_on.new.self (none_there c.args.self.now.links.items (sym (ap (λ (k : ℕ). k == 0) c.args.self.now.links.ok.0) ∙ sym c.is_empty.ensures ∙ none)) c.in_ok-send_on.ensures.asks)
+    c.in_ok-serve_line.ensures.goes_on
+
+pub returns-then-not-is_empty-clause-goes_on : goal.returns-then-not-is_empty-clause-goes_on
+returns-then-not-is_empty-clause-goes_on c = go_refl c.args.self.now

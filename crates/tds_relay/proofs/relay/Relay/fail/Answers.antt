@@ -8,6 +8,7 @@ use Rattle.tds_relay.proofs.steps.Reaching.{ok_if, ok_more}
 use Rattle.tds_relay.proofs.steps.Staying.{stays_same}
 use Rattle.tds_relay.proofs.steps.Told.{deaf_closed}
 use Rattle.tds_relay.proofs.bytes.Calls.{stand_at}
+use Rattle.tds_relay.proofs.spared.Resting.{all_on, same_on}
 use Rattle.tds_relay.proofs.relay.Relay.fail.Goals as goal
 
 pub returns-clause-goes : goal.returns-clause-goes
@@ -28,3 +29,8 @@ returns-clause-read c = stays_same c.end.result _ _ _ c.in_ok-lose.ensures.read 
 
 pub returns-clause-stand : goal.returns-clause-stand
 returns-clause-stand c = ok_if c.end.result _ (stand_at _ _ _ c.in_ok-lose.ensures.stand c.end.ensures.desk)
+
+pub returns-clause-rests : goal.returns-clause-rests
+returns-clause-rests c = λ reached.
+    all_on c.end.result c.args.self.now c.lose.new.self c.end.new.self (c.in_ok-lose.ensures.rests reached)
+    (same_on c.end.result c.lose.new.self c.end.new.self c.end.ensures.desk c.end.ensures.links c.end.ensures.asks)

@@ -4,6 +4,7 @@ use Rattle.tds_relay.proofs.steps.Fronts.{moves_does}
 use Rattle.tds_relay.proofs.steps.Reaching.{ok_more}
 use Rattle.tds_relay.proofs.steps.Staying.{stays_from, stays_refl, stays_then}
 use Rattle.tds_relay.proofs.bytes.Calls.{stand_on}
+use Rattle.tds_relay.proofs.steps.Bodied.{forgot_on}
 use Rattle.tds_relay.proofs.relay.Relay.forget.Goals as goal
 
 pub returns-then-was_asked-clause-moves : goal.returns-then-was_asked-clause-moves
@@ -24,3 +25,9 @@ returns-then-was_asked-clause-stand c = stand_on c.unask.result _ _ _ c.forget_r
 
 pub returns-else-was_asked-clause-stand : goal.returns-else-was_asked-clause-stand
 returns-else-was_asked-clause-stand c = c.forget_request-was_asked.ensures.stand
+
+pub returns-else-was_asked-clause-body : goal.returns-else-was_asked-clause-body
+returns-else-was_asked-clause-body c = c.forget_request-was_asked.ensures.body
+
+pub returns-then-was_asked-clause-body : goal.returns-then-was_asked-clause-body
+returns-then-was_asked-clause-body c = forgot_on c.unask.result c.forget_request-was_asked.new.self.applications c.unask.new.self.applications c.args.key c.forget_request-was_asked.ensures.body c.unask.ensures.asks

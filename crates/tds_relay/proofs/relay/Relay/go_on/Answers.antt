@@ -1,8 +1,14 @@
-use Rattle.std.proofs.Common.{ap, refl}
+use Rattle.std.proofs.Common.{ap, refl, ◌≡◌, true, rules}
+use Rattle.tds_relay.specs.declared.application.Asking.TheVariants as asking
 use Rattle.tds_relay.specs.Hall.{change_end, closes}
 use Rattle.tds_relay.specs.Ties.{Application}
 use Rattle.tds_relay.proofs.steps.Fronts.{ends_kept, moves_closes}
 use Rattle.tds_relay.proofs.steps.Reaching.{ok_more}
+use Rattle.tds_relay.specs.Bodies.{Body, Closed, Grows, Shuts, Stays, Starts, body_of, going_of}
+use Rattle.slab.specs.Slab.{get, with_value}
+use Rattle.tds_relay.proofs.steps.Bodied.{none_closed, shut_starts}
+use Rattle.tds_relay.proofs.steps.Going.{grows_going, grows_kept}
+use Rattle.tds_relay.proofs.steps.Underway.{written_there}
 use Rattle.tds_relay.proofs.relay.Relay.go_on.Goals as goal
 
 pub returns-then-not-branch-clause-moves : goal.returns-then-not-branch-clause-moves
@@ -18,3 +24,36 @@ returns-in-Nothing-clause-moves c =
     (λ m from h. m from (moves_closes (Application c.args.key) from _ _ _ _ c.args.key refl
     (ap (change_end c.args.key closes) (ends_kept c.args.self.now.applications c.args.key c.in-Some.application.now _ c.in-Some.ensures.value refl)) h))
     c.expel.ensures.moves
+
+pub returns-in_default-clause-body : goal.returns-in_default-clause-body
+returns-in_default-clause-body c = (Closed, Shuts, none_closed c.args.self.now.applications c.args.key (going_of c.args.key c.args.self.now) (search rules))
+
+pub returns-in-Nothing-clause-body : goal.returns-in-Nothing-clause-body
+returns-in-Nothing-clause-body c = ok_more c.expel.result _ _ (λ d. (Closed, Shuts, shut_starts c.expel.new.self.applications c.args.key Closed (going_of c.args.key c.expel.new.self) d)) c.expel.ensures.over
+
+pub returns-then-not-branch-clause-body : goal.returns-then-not-branch-clause-body
+returns-then-not-branch-clause-body c = ok_more c.expel-then-not-branch.result _ _ (λ d. (Closed, Shuts, shut_starts c.expel-then-not-branch.new.self.applications c.args.key Closed (going_of c.args.key c.expel-then-not-branch.new.self) d)) c.expel-then-not-branch.ensures.over
+
+pub returns-else-not-branch-clause-body : goal.returns-else-not-branch-clause-body
+returns-else-not-branch-clause-body c =
+    let s = c.args.self.now.applications in
+    let a = c.in-Some.application.now in
+    let b = record c.keep.new.self { asking = asking.Waits c.in-Waits.kind c.args.whole; bounded = c.application-1.given.0 } in
+    let kept = c.in_ok-keep-in-Waits.ensures.body (search rules) in
+    ok_more c.seek.result _ _
+    (λ t. (_, grows_kept c.args.whole c.args.bytes.now (get s c.args.key) (get (with_value s c.args.key b) c.args.key) (going_of c.args.key c.args.self.now) (going_of c.args.key c.args.self.now) a b c.in-Waits.kind _ c.in-Some.ensures.value (written_there s c.args.key a b c.in-Some.ensures.value) c.in-Waits.is refl kept.0 kept.1, t))
+    c.seek.ensures.body
+
+pub returns-in-Goes-clause-body : goal.returns-in-Goes-clause-body
+returns-in-Goes-clause-body c =
+    let s = c.args.self.now.applications in
+    let a = c.in-Some.application.now in
+    let asks : a.asking ≡ asking.Goes = search rules in
+    ok_more c.put.result _ _
+    (λ p. (
+      body_of c.args.key c.put.new.self,
+      grows_going c.args.whole c.args.bytes.now (get (with_value s c.args.key a) c.args.key) (get s c.args.key) (get c.put.new.self.applications c.args.key) (going_of c.args.key c.args.self.now) _ (going_of c.args.key c.put.new.self) a a
+          c.in-Some.ensures.value (written_there s c.args.key a a c.in-Some.ensures.value) asks asks refl refl p,
+      Stays,
+    ))
+    c.put.ensures.body

@@ -1,10 +1,9 @@
 use Rattle.std.proofs.Common.{◌∙◌, ap, refl}
 use Rattle.tds_relay.specs.Ties.{Connection, desk_in}
 use Rattle.tds_relay.proofs.steps.Fronts.{moves_same, told_none, told_some}
-use Rattle.tds_relay.proofs.steps.Reaching.{ok_more}
+use Rattle.tds_relay.proofs.steps.Reaching.{ok_more, ok_if}
 use Rattle.tds_relay.proofs.steps.Staying.{stays_both, stays_on, stays_same}
 use Rattle.tds_relay.proofs.bytes.Calls.{stand_at, stand_back, stand_on}
-use Rattle.tds_relay.proofs.steps.Reaching.{ok_if}
 use Rattle.tds_relay.proofs.relay.Relay.heard.Goals as goal
 
 pub returns-in_default-clause-moves : goal.returns-in_default-clause-moves

@@ -1,9 +1,11 @@
-use Rattle.std.proofs.Common.{refl, ap}
-use Rattle.tds_relay.specs.Ties.{desk_in}
+use Rattle.std.proofs.Common.{refl, ap, subst, sym}
+use Rattle.tds_relay.specs.Ties.{desk_in, IsReached}
 use Rattle.tds_relay.proofs.steps.Fronts.{moves_same}
 use Rattle.tds_relay.proofs.steps.Reaching.{ok_more}
 use Rattle.tds_relay.proofs.steps.Staying.{opens_by_push, opens_on}
 use Rattle.tds_relay.proofs.bytes.Calls.{stand_from}
+use Rattle.tds_relay.specs.declared.desk.Desk as code
+use Rattle.tds_relay.proofs.spared.Resting.{go_on, go_on_one, pushed_rest, rest_go}
 use Rattle.tds_relay.proofs.relay.Relay.lend.Goals as goal
 
 pub returns-then-served-clause-opens : goal.returns-then-served-clause-opens
@@ -17,3 +19,11 @@ returns-then-served-clause-moves c = ok_more c.start.result _ _ (λ m by from h.
 
 pub returns-then-served-clause-stand : goal.returns-then-served-clause-stand
 returns-then-served-clause-stand c = stand_from c.start.result _ _ _ c.restart.ensures.desk c.start.ensures.stand
+
+pub returns-then-served-clause-goes_on : goal.returns-then-served-clause-goes_on
+returns-then-served-clause-goes_on c = go_on c.start.result c.args.self.now c.restart.new.self c.start.new.self (λ r. subst (λ (d : code.Desk). IsReached (desk_in d)) (sym c.restart.ensures.desk) r)
+    (rest_go c.args.self.now c.restart.new.self (λ r. c.restart.ensures.rests))
+    (go_on_one c.start.result c.args.served.hold.key c.restart.new.self c.start.new.self c.start.ensures.body c.start.ensures.others)
+
+pub returns-clause-goes_on : goal.returns-clause-goes_on
+returns-clause-goes_on c = rest_go c.args.self.now _ (λ r. pushed_rest c.in_ok-link.link c.args.self.now _ refl refl c.in_ok-push.ensures.items)

@@ -4,6 +4,7 @@ use Rattle.tds_relay.specs.Ties.{Reaches, desk_in}
 use Rattle.tds_relay.proofs.steps.Fronts.{moves_loses, moves_same}
 use Rattle.tds_relay.proofs.steps.Reaching.{ok_if, ok_more, reaches_turn, reaches_turned}
 use Rattle.tds_relay.proofs.bytes.Calls.{stand_at}
+use Rattle.tds_relay.proofs.spared.Resting.{lost_on}
 use Rattle.tds_relay.proofs.relay.Relay.lose.Goals as goal
 
 pub returns-clause-lost : goal.returns-clause-lost
@@ -25,3 +26,7 @@ returns-clause-moves c =
 
 pub returns-clause-stand : goal.returns-clause-stand
 returns-clause-stand c = ok_if c.close.result _ (stand_at _ _ _ c.in_ok-key.ensures.stand c.close.ensures.desk)
+
+pub returns-clause-rests : goal.returns-clause-rests
+returns-clause-rests c = λ reached.
+    lost_on c.close.result c.args.number c.args.self.now c.close.new.self _ c.in_ok-key.key reached c.in_ok-key.ensures.whose c.in_ok-key.ensures.off c.close.ensures.desk c.close.ensures.shuts c.close.ensures.others c.close.ensures.asks

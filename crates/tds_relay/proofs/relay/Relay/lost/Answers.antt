@@ -1,8 +1,10 @@
 use Rattle.tds_relay.specs.Fronts.{house_in}
-use Rattle.tds_relay.specs.Ties.{Connection}
+use Rattle.tds_relay.specs.Ties.{Connection, desk_in}
 use Rattle.tds_relay.proofs.steps.Stepping.{no_steps, steps_moved, steps_on_ok}
 use Rattle.tds_relay.proofs.steps.Staying.{opens_served}
 use Rattle.tds_relay.proofs.bytes.Calls.{stand_on}
+use Rattle.tds_relay.proofs.spared.Resting.{go_on, reached_on_does, rest_go}
+use Rattle.tds_relay.proofs.steps.Reaching.{ok_more}
 use Rattle.tds_relay.proofs.relay.Relay.lost.Goals as goal
 
 pub returns-clause-steps : goal.returns-clause-steps
@@ -17,3 +19,11 @@ returns-clause-opens c = opens_served c.serve_line.result _ _ _ c.in_ok-lose.ens
 
 pub returns-clause-stand : goal.returns-clause-stand
 returns-clause-stand c = stand_on c.serve_line.result _ _ _ c.in_ok-lose.ensures.stand c.serve_line.ensures.stand
+
+pub returns-clause-goes_on : goal.returns-clause-goes_on
+returns-clause-goes_on c = go_on c.serve_line.result c.args.self.now c.lose.new.self c.serve_line.new.self
+    (λ r. reached_on_does (desk_in c.args.self.now.desk) (desk_in c.lose.new.self.desk) c.in_ok-lose.ensures.goes r)
+    (rest_go c.args.self.now c.lose.new.self (λ r. c.in_ok-lose.ensures.rests r)) c.serve_line.ensures.goes_on
+
+pub returns-clause-lost : goal.returns-clause-lost
+returns-clause-lost c = ok_more c.serve_line.result _ _ (λ g by from h. g by from (c.in_ok-lose.ensures.lost by from h)) c.serve_line.ensures.goes

@@ -1,17 +1,17 @@
-use Rattle.std.proofs.Common.{◌≡◌, ◌∙◌, ap, false, rules, sym}
+use Rattle.std.proofs.Common.{true, ◌≡◌, ◌∙◌, ap, false, rules, sym, subst, List, ℕ, refl}
 use Rattle.tds_front.specs.declared.front.Said.{Said}
-use Rattle.tds_relay.specs.Fronts.{given_by}
+use Rattle.tds_relay.specs.Fronts.{given_by, hall_in}
 use Rattle.tds_relay.specs.Hall.{hands_on, takes_back}
 use Rattle.tds_relay.specs.Posts.{acknowledgement, give, posts_in, Posts}
 use Rattle.tds_relay.specs.Ties.{Application}
 use Rattle.tds_relay.proofs.steps.Told.{fed_then}
-use Rattle.tds_relay.proofs.steps.Reaching.{ok_more}
+use Rattle.tds_relay.proofs.steps.Reaching.{ok_more, ok_if}
 use Rattle.tds_relay.proofs.steps.Staying.{stays_refl, stays_same}
-use Rattle.std.proofs.Common.{subst}
 use Rattle.tds_relay.specs.Asking.{IfAsks, IsUnderway}
-use Rattle.tds_relay.specs.Fronts.{hall_in}
 use Rattle.tds_relay.proofs.bytes.Calls.{stand_at}
-use Rattle.tds_relay.proofs.steps.Reaching.{ok_if}
+use Rattle.tds_relay.specs.Bodies.{Grows, Nowhere, Obeys, Stays, body_of, going_of}
+use Rattle.tds_front.specs.declared.front.Said.TheVariants as said
+use Rattle.tds_relay.proofs.steps.Bodied.{forgot_on}
 use Rattle.tds_relay.proofs.relay.Relay.obey.Goals as goal
 
 pub returns-in-Begin-clause-given : goal.returns-in-Begin-clause-given
@@ -100,3 +100,28 @@ returns-in-End-clause-underway c =
 
 pub returns-in_ok-forget-in-Acknowledge-clause-stand : goal.returns-in_ok-forget-in-Acknowledge-clause-stand
 returns-in_ok-forget-in-Acknowledge-clause-stand c = ok_if c.acknowledge.result _ (stand_at _ _ _ c.in_ok-forget-in-Acknowledge.ensures.stand c.acknowledge.ensures.desk)
+
+pub returns-in-Nothing-clause-body : goal.returns-in-Nothing-clause-body
+returns-in-Nothing-clause-body c = subst (λ (s : Said). Obeys s c.args.bytes.now (body_of c.args.key c.args.self.now) (body_of c.args.key c.args.self.now)) (sym c.in-Nothing.is) (record { mid = body_of c.args.key c.args.self.now; does = refl; starts = Stays })
+
+pub returns-in-Begin-clause-body : goal.returns-in-Begin-clause-body
+returns-in-Begin-clause-body c = ok_more c.begin.result _ _ (λ o. subst (λ (s : Said). Obeys s c.args.bytes.now (body_of c.args.key c.args.self.now) (body_of c.args.key c.begin.new.self)) (sym c.in-Begin.is) (record { mid = o.0; does = o.1; starts = o.2 })) c.begin.ensures.body
+
+pub returns-in-Body-clause-body : goal.returns-in-Body-clause-body
+returns-in-Body-clause-body c = ok_more c.go_on.result _ _ (λ o. subst (λ (s : Said). Obeys s c.args.bytes.now (body_of c.args.key c.args.self.now) (body_of c.args.key c.go_on.new.self)) (sym c.in-Body.is) (record { mid = o.0; does = subst (λ (xs : List ℕ). Grows false xs (body_of c.args.key c.args.self.now) o.0) c.last.ensures o.1; starts = o.2 })) c.go_on.ensures.body
+
+pub returns-in-End-clause-body : goal.returns-in-End-clause-body
+returns-in-End-clause-body c = ok_more c.go_on-in-End.result _ _ (λ o. subst (λ (s : Said). Obeys s c.args.bytes.now (body_of c.args.key c.args.self.now) (body_of c.args.key c.go_on-in-End.new.self)) (sym c.in-End.is) (record { mid = o.0; does = subst (λ (xs : List ℕ). Grows true xs (body_of c.args.key c.args.self.now) o.0) c.last-in-End.ensures o.1; starts = o.2 })) c.go_on-in-End.ensures.body
+
+pub returns-in-Forget-false-clause-body : goal.returns-in-Forget-false-clause-body
+returns-in-Forget-false-clause-body c = ok_more c.forget.result _ _ (λ s. subst (λ (s : Said). Obeys s c.args.bytes.now (body_of c.args.key c.args.self.now) (body_of c.args.key c.forget.new.self)) (sym c.in-Forget-false.is) (record { mid = Nowhere; does = refl; starts = s (going_of c.args.key c.forget.new.self) })) c.forget.ensures.body
+
+pub returns-in-Forget-true-clause-body : goal.returns-in-Forget-true-clause-body
+returns-in-Forget-true-clause-body c = ok_more c.take_back.result _ _ (λ s. subst (λ (s : Said). Obeys s c.args.bytes.now (body_of c.args.key c.args.self.now) (body_of c.args.key c.take_back.new.self)) (sym c.in-Forget-true.is) (record { mid = Nowhere; does = refl; starts = s (going_of c.args.key c.take_back.new.self) })) c.take_back.ensures.body
+
+pub returns-in_ok-forget-in-Acknowledge-clause-body : goal.returns-in_ok-forget-in-Acknowledge-clause-body
+returns-in_ok-forget-in-Acknowledge-clause-body c = ok_more c.acknowledge.result _ _ (λ s. subst (λ (s : Said). Obeys s c.args.bytes.now (body_of c.args.key c.args.self.now) (body_of c.args.key c.acknowledge.new.self)) (sym c.in-Acknowledge.is) (record { mid = Nowhere; does = refl; starts = s (going_of c.args.key c.acknowledge.new.self) }))
+    (forgot_on c.acknowledge.result c.forget-in-Acknowledge.new.self.applications c.acknowledge.new.self.applications c.args.key c.in_ok-forget-in-Acknowledge.ensures.body c.acknowledge.ensures.asks)
+
+pub returns-in-HandOn-clause-body : goal.returns-in-HandOn-clause-body
+returns-in-HandOn-clause-body c = ok_if c.hand_on.result _ (subst (λ (s : Said). Obeys s c.args.bytes.now (body_of c.args.key c.args.self.now) (body_of c.args.key c.hand_on.new.self)) (sym c.in-HandOn.is) (record { mid = body_of c.args.key c.hand_on.new.self; does = tt; starts = Stays }))

@@ -1,9 +1,13 @@
-use Rattle.std.proofs.Common.{◌∙◌, ap}
+use Rattle.std.proofs.Common.{◌∙◌, ap, subst, sym}
 use Rattle.tds_relay.specs.Fronts.{house_in}
-use Rattle.tds_relay.specs.Ties.{Connection, desk_in}
+use Rattle.tds_relay.specs.Ties.{Connection, desk_in, IsReached}
 use Rattle.tds_relay.proofs.steps.Stepping.{no_steps, steps_moved, steps_on_ok, steps_same}
 use Rattle.tds_relay.proofs.steps.Staying.{opens_one_served, stays_behind}
 use Rattle.tds_relay.proofs.bytes.Calls.{stand_back, stand_on}
+use Rattle.tds_relay.specs.declared.desk.Desk as code
+use Rattle.tds_relay.proofs.spared.Resting.{all_both, all_rest, asks_on, go_both, go_on, reached_on_does, rest_go}
+use Rattle.tds_relay.specs.Reads.{open_at}
+use Rattle.tds_relay.proofs.spared.Starting.{started_on}
 use Rattle.tds_relay.proofs.relay.Relay.opened.Goals as goal
 
 pub returns-clause-steps : goal.returns-clause-steps
@@ -24,3 +28,29 @@ returns-clause-opens c =
 
 pub returns-clause-stand : goal.returns-clause-stand
 returns-clause-stand c = stand_on c.serve_line.result _ _ _ (stand_back _ _ _ (c.order_write_on.ensures.desk ∙ c.set_open.ensures.desk) c.in_ok-start_on.ensures.stand) c.serve_line.ensures.stand
+
+pub returns-clause-goes_on : goal.returns-clause-goes_on
+returns-clause-goes_on c =
+    let same = c.order_write_on.ensures.desk ∙ c.set_open.ensures.desk in
+    let led : IsReached (desk_in c.args.self.now.desk) → IsReached (desk_in c.order_write_on.new.self.desk) = λ r. subst (λ (d : code.Desk). IsReached (desk_in d)) (sym same) r in
+    go_on c.serve_line.result c.args.self.now c.start_on.new.self c.serve_line.new.self
+    (λ r. reached_on_does (desk_in c.order_write_on.new.self.desk) (desk_in c.start_on.new.self.desk) c.in_ok-start_on.ensures.goes (led r))
+    (go_both c.args.self.now c.order_write_on.new.self c.start_on.new.self led
+    (rest_go c.args.self.now c.order_write_on.new.self (λ r. all_both c.args.self.now c.set_open.new.self c.order_write_on.new.self c.set_open.ensures.same
+    (all_rest c.set_open.new.self c.order_write_on.new.self c.order_write_on.ensures.desk c.in_ok-order_write_on.ensures.links
+    (asks_on c.set_open.new.self c.order_write_on.new.self c.in_ok-order_write_on.ensures.asks))))
+    c.in_ok-start_on.ensures.goes_on)
+    c.serve_line.ensures.goes_on
+
+pub returns-clause-starts : goal.returns-clause-starts
+returns-clause-starts c = λ reached.
+    let same = c.order_write_on.ensures.desk ∙ c.set_open.ensures.desk in
+    started_on c.serve_line.result c.args.number c.args.self.now c.order_write_on.new.self c.start_on.new.self c.serve_line.new.self reached same
+    (c.in_ok-order_write_on.ensures.ends ∙ c.set_open.ensures.ends)
+    (λ other. ap (open_at other) c.in_ok-order_write_on.ensures.links ∙ c.set_open.ensures.opens other)
+    (rest_go c.args.self.now c.order_write_on.new.self (λ r. all_both c.args.self.now c.set_open.new.self c.order_write_on.new.self c.set_open.ensures.same
+    (all_rest c.set_open.new.self c.order_write_on.new.self c.order_write_on.ensures.desk c.in_ok-order_write_on.ensures.links
+    (asks_on c.set_open.new.self c.order_write_on.new.self c.in_ok-order_write_on.ensures.asks))))
+    c.in_ok-start_on.ensures.goes_on c.serve_line.ensures.goes_on
+    (λ r. reached_on_does (desk_in c.order_write_on.new.self.desk) (desk_in c.start_on.new.self.desk) c.in_ok-start_on.ensures.goes r)
+    c.in_ok-start_on.ensures.waits

@@ -1,16 +1,21 @@
-use Rattle.std.proofs.Common.{◌∙◌, List, ap, refl, rules, subst, sym, ℕ}
+use Rattle.std.proofs.Common.{◌∙◌, List, ap, refl, rules, subst, sym, ℕ, inl, inr, []}
 use Rattle.tds_relay.specs.declared.desk.Desk as code
 use Rattle.tds_relay.specs.declared.link.Link.{Link}
 use Rattle.tds_relay.specs.Asking.{Closes, Sends, SendsOn}
 use Rattle.tds_relay.specs.Fronts.{MayPut}
 use Rattle.tds_relay.specs.Reads.{Stays}
-use Rattle.tds_relay.specs.Ties.{desk_in}
+use Rattle.tds_relay.specs.Ties.{desk_in, Reaches}
 use Rattle.tds_relay.proofs.steps.Fronts.{moves_closes, moves_same}
 use Rattle.tds_relay.proofs.steps.Putting.{moves_puts}
 use Rattle.tds_relay.proofs.steps.Reaching.{ok_more}
 use Rattle.tds_relay.proofs.steps.Staying.{stays_behind, stays_on}
 use Rattle.tds_relay.proofs.steps.Underway.{of_closed}
 use Rattle.tds_relay.proofs.bytes.Calls.{stand_at, stand_on}
+use Rattle.tds_relay.proofs.spared.Resting.{others_all, others_refl, put_reached, put_rest, same_on, sent_rest}
+use Rattle.tds_relay.proofs.steps.Bodied.{closed_body, shut}
+use Rattle.tds_relay.proofs.steps.Going.{grows_on, waits_behind}
+use Rattle.tds_relay.specs.Bodies.{ClientPuts, going_of, waits_on, Body, Grows, going}
+use Rattle.tds_relay.specs.Desk.{find_key}
 use Rattle.tds_relay.proofs.relay.Relay.put.Goals as goal
 
 pub returns-in_default-clause-moves : goal.returns-in_default-clause-moves
@@ -68,3 +73,67 @@ returns-else-fits-clause-stand c = stand_on c.fail-else-fits.result _ _ _ (stand
 
 pub returns-then-not-is_put-clause-stand : goal.returns-then-not-is_put-clause-stand
 returns-then-not-is_put-clause-stand c = stand_on c.fail-then-not-is_put.result _ _ _ (stand_at _ _ _ c.put_on-is_put.ensures.stand c.note_went_on.ensures.desk) c.fail-then-not-is_put.ensures.stand
+
+pub returns-in_default-clause-others : goal.returns-in_default-clause-others
+returns-in_default-clause-others c = λ reached.
+    others_all c.end.result c.args.key c.args.self.now c.args.self.now c.end.new.self (same_on c.end.result c.args.self.now c.end.new.self c.end.ensures.desk c.end.ensures.links c.end.ensures.asks)
+    (others_refl c.args.key c.args.self.now)
+
+pub returns-then-not-may_put-clause-others : goal.returns-then-not-may_put-clause-others
+returns-then-not-may_put-clause-others c = λ reached.
+    others_all c.fail.result c.args.key c.args.self.now c.args.self.now c.fail.new.self (c.fail.ensures.rests reached) (others_refl c.args.key c.args.self.now)
+
+pub returns-then-fits-clause-others : goal.returns-then-fits-clause-others
+returns-then-fits-clause-others c = λ reached.
+    sent_rest c.args.key c.in-Some.hold c.args.self.now c.note_went_on.new.self c.fits_on.new.self c.put_on-is_put.new.desk reached (sym c.hold_of.ensures ∙ c.in-Some.is) c.put_on-is_put.ensures.others c.note_went_on.ensures.desk c.note_went_on.ensures.links c.note_went_on.ensures.asks c.fits_on.ensures.desk
+    c.in_ok-fits.ensures.others c.in_ok-fits.ensures.asks
+
+pub returns-then-not-is_put-clause-others : goal.returns-then-not-is_put-clause-others
+returns-then-not-is_put-clause-others c = λ reached.
+    others_all c.fail-then-not-is_put.result c.args.key c.args.self.now c.note_went_on.new.self c.fail-then-not-is_put.new.self (c.fail-then-not-is_put.ensures.rests (put_reached c.args.self.now.desk c.put_on-is_put.new.desk c.note_went_on.new.self.desk c.put_on-is_put.ensures.goes c.note_went_on.ensures.desk reached))
+    (put_rest c.args.key c.in-Some.hold c.args.self.now c.note_went_on.new.self c.put_on-is_put.new.desk reached (sym c.hold_of.ensures ∙ c.in-Some.is) c.put_on-is_put.ensures.others c.note_went_on.ensures.desk c.note_went_on.ensures.links c.note_went_on.ensures.asks)
+
+pub returns-else-fits-clause-others : goal.returns-else-fits-clause-others
+returns-else-fits-clause-others c = λ reached.
+    others_all c.fail-else-fits.result c.args.key c.args.self.now c.fits_on.new.self c.fail-else-fits.new.self (c.fail-else-fits.ensures.rests (put_reached c.args.self.now.desk c.put_on-is_put.new.desk c.fits_on.new.self.desk c.put_on-is_put.ensures.goes (c.fits_on.ensures.desk ∙ c.note_went_on.ensures.desk) reached))
+    (sent_rest c.args.key c.in-Some.hold c.args.self.now c.note_went_on.new.self c.fits_on.new.self c.put_on-is_put.new.desk reached (sym c.hold_of.ensures ∙ c.in-Some.is) c.put_on-is_put.ensures.others c.note_went_on.ensures.desk c.note_went_on.ensures.links c.note_went_on.ensures.asks c.fits_on.ensures.desk
+    c.in_ok-fits.ensures.others c.in_ok-fits.ensures.asks)
+
+pub returns-then-not-is_put-clause-goes : goal.returns-then-not-is_put-clause-goes
+returns-then-not-is_put-clause-goes c = ok_more c.fail-then-not-is_put.result _ _
+    (λ g by from h. g by from (subst (λ (d : code.Desk). Reaches by from (desk_in d)) (sym c.note_went_on.ensures.desk) (c.put_on-is_put.ensures.goes by from h)))
+    c.fail-then-not-is_put.ensures.goes
+
+pub returns-else-fits-clause-goes : goal.returns-else-fits-clause-goes
+returns-else-fits-clause-goes c = ok_more c.fail-else-fits.result _ _
+    (λ g by from h. g by from (subst (λ (d : code.Desk). Reaches by from (desk_in d)) (sym (c.fits_on.ensures.desk ∙ c.note_went_on.ensures.desk)) (c.put_on-is_put.ensures.goes by from h)))
+    c.fail-else-fits.ensures.goes
+
+pub returns-then-fits-clause-goes : goal.returns-then-fits-clause-goes
+returns-then-fits-clause-goes c = λ by from h.
+    subst (λ (d : code.Desk). Reaches by from (desk_in d)) (sym (c.fits_on.ensures.desk ∙ c.note_went_on.ensures.desk)) (c.put_on-is_put.ensures.goes by from h)
+
+pub returns-in_default-clause-body : goal.returns-in_default-clause-body
+returns-in_default-clause-body c = ok_more c.end.result _ _ (λ e. inl (closed_body c.args.key c.end.new.self.applications _ (going_of c.args.key c.end.new.self) e)) c.end.ensures.ends
+
+pub returns-then-not-may_put-clause-body : goal.returns-then-not-may_put-clause-body
+returns-then-not-may_put-clause-body c = ok_more c.fail.result _ _ (λ d. inl (shut c.fail.new.self.applications c.args.key (going_of c.args.key c.fail.new.self) d)) c.fail.ensures.over
+
+pub returns-then-not-is_put-clause-body : goal.returns-then-not-is_put-clause-body
+returns-then-not-is_put-clause-body c = ok_more c.fail-then-not-is_put.result _ _ (λ d. inl (shut c.fail-then-not-is_put.new.self.applications c.args.key (going_of c.args.key c.fail-then-not-is_put.new.self) d)) c.fail-then-not-is_put.ensures.over
+
+pub returns-else-fits-clause-body : goal.returns-else-fits-clause-body
+returns-else-fits-clause-body c = ok_more c.fail-else-fits.result _ _ (λ d. inl (shut c.fail-else-fits.new.self.applications c.args.key (going_of c.args.key c.fail-else-fits.new.self) d)) c.fail-else-fits.ensures.over
+
+pub returns-then-fits-clause-body : goal.returns-then-fits-clause-body
+returns-then-fits-clause-body c =
+    let after : List ℕ = c.put_on-is_put.new.out.items in
+    let ls : List Link = c.args.self.now.links.items in
+    let p : ClientPuts c.args.whole c.args.bytes.now c.args.key c.args.self.now.desk c.put_on-is_put.new.desk [] after =
+    subst (λ (xs : List ℕ). ClientPuts c.args.whole c.args.bytes.now c.args.key c.args.self.now.desk c.put_on-is_put.new.desk xs after) (search rules) (c.put_on-is_put.ensures.body (search rules)) in
+    inr (
+      λ goes. c.in_ok-fits.ensures.asks c.args.key goes ∙ c.note_went_on.ensures.asks c.args.key goes,
+      subst (λ (d : code.Desk). Grows c.args.whole c.args.bytes.now (going_of c.args.key c.args.self.now) (going d.service c.fits_on.new.self.links.items (find_key c.args.key d.holds.items))) (sym (c.fits_on.ensures.desk ∙ c.note_went_on.ensures.desk))
+          (grows_on c.args.whole c.args.bytes.now c.args.key c.args.self.now.desk c.put_on-is_put.new.desk after ls c.fits_on.new.self.links.items c.in-Some.hold (sym c.hold_of.ensures ∙ c.in-Some.is) p
+          (waits_behind c.in-Some.hold.number c.fits_on.new.self.links.items _ ls _ after (c.in_ok-fits.ensures.waits (search rules)) c.note_went_on.ensures.links c.note_went_on.ensures.outbox)),
+    )

@@ -1,10 +1,9 @@
 use Rattle.std.proofs.Common.{◌∙◌, ap, refl}
 use Rattle.tds_relay.specs.Ties.{desk_in}
 use Rattle.tds_relay.proofs.steps.Fronts.{lets_go_first, moved_same, moves_same}
-use Rattle.tds_relay.proofs.steps.Reaching.{ok_more}
+use Rattle.tds_relay.proofs.steps.Reaching.{ok_more, ok_if}
 use Rattle.tds_relay.proofs.steps.Staying.{stays_from, stays_refl, stays_then}
 use Rattle.tds_relay.proofs.bytes.Calls.{stand_at, stand_on}
-use Rattle.tds_relay.proofs.steps.Reaching.{ok_if}
 use Rattle.tds_relay.proofs.relay.Relay.release.Goals as goal
 
 pub returns-in_default-clause-lets_go : goal.returns-in_default-clause-lets_go

@@ -5,6 +5,11 @@ use Rattle.tds_relay.proofs.steps.Fronts.{moves_closes, moves_does, moves_same}
 use Rattle.tds_relay.proofs.steps.Reaching.{ok_if, ok_more, reaches_turn}
 use Rattle.tds_relay.proofs.steps.Staying.{stays_on}
 use Rattle.tds_relay.proofs.bytes.Calls.{stand_at, stand_on}
+use Rattle.tds_relay.specs.Bodies.{body_of, going_of}
+use Rattle.slab.specs.Slab.{Slab, get}
+use Rattle.tds_relay.specs.declared.application.Application as an
+use Rattle.tds_relay.proofs.steps.Bodied.{closed_body, closed_starts}
+use Rattle.tds_relay.proofs.steps.Going.{waits_from}
 use Rattle.tds_relay.proofs.relay.Relay.renew.Goals as goal
 
 pub returns-in-Kept-clause-goes : goal.returns-in-Kept-clause-goes
@@ -47,3 +52,15 @@ returns-in-NotKept-clause-stand c = stand_on c.change.result _ _ _ c.in_ok-hold.
 
 pub returns-in-Closed-clause-stand : goal.returns-in-Closed-clause-stand
 returns-in-Closed-clause-stand c = ok_if c.close.result _ (stand_at _ _ _ c.in_ok-hold.ensures.stand c.close.ensures.desk)
+
+pub returns-in-Kept-clause-body : goal.returns-in-Kept-clause-body
+returns-in-Kept-clause-body c = λ whole waits.
+    ok_more c.start.result _ _ (λ s. waits_from (get c.args.self.now.applications c.args.key) (get c.restart.new.self.applications c.args.key) whole (going_of c.args.key c.args.self.now) (going_of c.args.key c.restart.new.self) (body_of c.args.key c.start.new.self) waits
+    (ap (λ (s : Slab an.Application). get s c.args.key) c.restart.ensures.same) s) c.start.ensures.body
+
+pub returns-in-NotKept-clause-body : goal.returns-in-NotKept-clause-body
+returns-in-NotKept-clause-body c = λ whole waits.
+    ok_more c.change.result _ _ (λ s. waits_from (get c.args.self.now.applications c.args.key) (get c.args.self.now.applications c.args.key) whole (going_of c.args.key c.args.self.now) _ (body_of c.args.key c.change.new.self) waits refl s) (c.change.ensures.body whole waits)
+
+pub returns-in-Closed-clause-body : goal.returns-in-Closed-clause-body
+returns-in-Closed-clause-body c = λ whole waits. ok_more c.close.result _ _ (λ e. closed_starts (body_of c.args.key c.args.self.now) (body_of c.args.key c.close.new.self) (closed_body c.args.key c.close.new.self.applications _ (going_of c.args.key c.close.new.self) e)) c.close.ensures.ends

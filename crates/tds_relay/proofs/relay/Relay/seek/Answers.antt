@@ -2,6 +2,8 @@ use Rattle.std.proofs.Common.{refl, rules}
 use Rattle.tds_relay.specs.Ties.{Application}
 use Rattle.tds_relay.proofs.steps.Reaching.{ok_if, ok_more}
 use Rattle.tds_relay.proofs.steps.Staying.{stays_refl, stays_same}
+use Rattle.tds_relay.specs.Bodies.{body_of}
+use Rattle.tds_relay.proofs.steps.Bodied.{same_starts}
 use Rattle.tds_relay.proofs.relay.Relay.seek.Goals as goal
 
 pub returns-in-None-clause-goes : goal.returns-in-None-clause-goes
@@ -15,3 +17,6 @@ returns-in-None-clause-underway c = Î» whole waits. ok_more c.wait.result _ _ (Î
 
 pub returns-in-None-clause-read : goal.returns-in-None-clause-read
 returns-in-None-clause-read c = stays_same c.wait.result _ _ _ (stays_refl c.args.self.now.links.items) (ok_if c.wait.result _ c.wait.ensures.links)
+
+pub returns-in-None-clause-body : goal.returns-in-None-clause-body
+returns-in-None-clause-body c = ok_if c.wait.result _ (same_starts (body_of c.args.key c.args.self.now) (body_of c.args.key c.wait.new.self) (c.wait.ensures.body c.args.key))

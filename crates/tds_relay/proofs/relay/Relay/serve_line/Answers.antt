@@ -2,6 +2,7 @@ use Rattle.std.proofs.Common.{refl, ◌∙◌}
 use Rattle.tds_relay.proofs.steps.Fronts.{moves_does}
 use Rattle.tds_relay.proofs.steps.Reaching.{reaches_turn}
 use Rattle.tds_relay.proofs.steps.Staying.{opens_both}
+use Rattle.tds_relay.proofs.spared.Resting.{go_both, go_refl, reached_on_does, reached_serves, served_go}
 use Rattle.tds_relay.proofs.relay.Relay.serve_line.Goals as goal
 
 pub line-preserved : goal.line-preserved
@@ -11,6 +12,9 @@ line-preserved c = record {
   moves = λ by from h. c.in_ok-lend-in-Some.ensures.moves by from (moves_does by from _ _ _ _ _ _ _ c.in_ok-served.ensures.ok.0 tt tt refl (c.line.invariant.moves by from h));
   opens = opens_both _ _ _ c.line.invariant.opens c.in_ok-lend-in-Some.ensures.opens;
   stand = λ n r h. c.in_ok-lend-in-Some.ensures.stand n r (c.in_ok-served.ensures.stand n r (c.line.invariant.stand n r h));
+  going =
+      go_both _ _ _ (λ r. reached_serves _ _ _ _ c.in_ok-served.ensures.ok.0 (reached_on_does _ _ c.line.invariant.goes r))
+      (served_go _ _ _ c.line.invariant.goes c.line.invariant.going c.in_ok-served.ensures.holds refl refl) c.in_ok-lend-in-Some.ensures.goes_on;
 }
 
 pub returns-in-None-clause-moves : goal.returns-in-None-clause-moves
@@ -18,3 +22,6 @@ returns-in-None-clause-moves c = λ by from h. moves_does by from _ _ _ _ _ _ _ 
 
 pub returns-in-None-clause-stand : goal.returns-in-None-clause-stand
 returns-in-None-clause-stand c = λ n r h. c.in_ok-served.ensures.stand n r (c.line.invariant.stand n r h)
+
+pub returns-in-None-clause-goes_on : goal.returns-in-None-clause-goes_on
+returns-in-None-clause-goes_on c = served_go _ _ _ c.line.invariant.goes c.line.invariant.going c.in_ok-served.ensures.holds refl refl

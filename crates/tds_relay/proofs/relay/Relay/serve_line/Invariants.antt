@@ -2,6 +2,7 @@ use Rattle.std.proofs.Common.{◌≡◌}
 use Rattle.tds_relay.specs.Fronts.{MovedOn, hall_in}
 use Rattle.tds_relay.specs.Posts.{posts_in}
 use Rattle.tds_relay.specs.Reads.{Opens}
+use Rattle.tds_relay.specs.Sparing.{AllGo}
 use Rattle.tds_relay.specs.Ties.{GoesOn, desk_in}
 use Rattle.tds_relay.specs.Walkers.{AllStand}
 use Rattle.tds_relay.proofs.relay.Relay.serve_line.Given as goal
@@ -13,4 +14,5 @@ invariant-line l = record {
   moves : MovedOn (hall_in l.fn.self) (hall_in l.self);
   opens : Opens l.fn.self.links.items l.self.links.items;
   stand : AllStand l.fn.self.desk.service l.self.desk.service;
+  going : AllGo l.fn.self l.self;
 }

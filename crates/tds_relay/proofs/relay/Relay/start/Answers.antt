@@ -1,10 +1,19 @@
-use Rattle.std.proofs.Common.{◌∙◌, ap, refl, rules, sym}
+use Rattle.std.proofs.Common.{◌∙◌, ap, refl, rules, sym, subst, inl, inr}
 use Rattle.tds_relay.specs.Asking.{Opens}
-use Rattle.tds_relay.specs.Ties.{desk_in}
+use Rattle.tds_relay.specs.Ties.{desk_in, IsReached}
 use Rattle.tds_relay.proofs.steps.Fronts.{moves_closes, moves_does}
 use Rattle.tds_relay.proofs.steps.Reaching.{ok_more, reaches_turn}
 use Rattle.tds_relay.proofs.steps.Underway.{drains}
 use Rattle.tds_relay.proofs.bytes.Calls.{stand_on}
+use Rattle.tds_relay.specs.Bodies.{Body, Stays, Starts, body_of, going_of, held_of}
+use Rattle.slab.specs.Slab.{get}
+use Rattle.tds_relay.proofs.steps.Bodied.{closed_body, closed_starts, shut_starts, shut}
+use Rattle.tds_relay.proofs.steps.Going.{holds_stay, kept_at, starts_there}
+use Rattle.tds_relay.specs.Desk.{Desk, Asks}
+use Rattle.tds_relay.proofs.spared.Resting.{others_all, others_on, others_refl, put_rest, reached_does, same_on}
+use Rattle.tds_relay.specs.Sparing.{Drains}
+use Rattle.tds_relay.specs.Sparing as sparing
+use Rattle.tds_relay.proofs.spared.Starting.{taken_back, unkept_closed, unkept_none, unkept_over, unkept_there}
 use Rattle.tds_relay.proofs.relay.Relay.start.Goals as goal
 
 pub returns-in-Ok-clause-goes : goal.returns-in-Ok-clause-goes
@@ -22,7 +31,77 @@ returns-then-application-2-clause-underway c = λ whole waits.
     (sym c.hold_of.ensures ∙ c.in-Some-hold_of.is)
 
 pub returns-then-not-is_open-clause-underway : goal.returns-then-not-is_open-clause-underway
-returns-then-not-is_open-clause-underway c = λ whole waits. Opens c.in-Some-hold_of.hold (sym c.hold_of.ensures ∙ c.in-Some-hold_of.is) (c.is_open.ensures (search rules))
+returns-then-not-is_open-clause-underway c = λ whole waits. Opens c.in-Some-hold_of.hold (sym c.hold_of.ensures ∙ c.in-Some-hold_of.is) (c.is_open.ensures.shut (search rules))
 
 pub returns-in-Ok-clause-stand : goal.returns-in-Ok-clause-stand
 returns-in-Ok-clause-stand c = stand_on c.put_held.result _ _ _ c.in-Ok.ensures.stand c.put_held.ensures.stand
+
+pub returns-in_default-clause-body : goal.returns-in_default-clause-body
+returns-in_default-clause-body c = Stays
+
+pub returns-then-application-clause-body : goal.returns-then-application-clause-body
+returns-then-application-clause-body c = Stays
+
+pub returns-in_default-asking-clause-body : goal.returns-in_default-asking-clause-body
+returns-in_default-asking-clause-body c = Stays
+
+pub returns-then-application-2-clause-body : goal.returns-then-application-2-clause-body
+returns-then-application-2-clause-body c = Stays
+
+pub returns-then-not-is_open-clause-body : goal.returns-then-not-is_open-clause-body
+returns-then-not-is_open-clause-body c = Stays
+
+pub returns-in_default-hold_of-clause-body : goal.returns-in_default-hold_of-clause-body
+returns-in_default-hold_of-clause-body c = ok_more c.end.result _ _ (λ e. closed_starts (body_of c.args.key c.args.self.now) (body_of c.args.key c.end.new.self) (closed_body c.args.key c.end.new.self.applications _ (going_of c.args.key c.end.new.self) e)) c.end.ensures.ends
+
+pub returns-in-Err-clause-body : goal.returns-in-Err-clause-body
+returns-in-Err-clause-body c = ok_more c.fail.result _ _ (λ d. shut_starts c.fail.new.self.applications c.args.key (body_of c.args.key c.args.self.now) (going_of c.args.key c.fail.new.self) d) c.fail.ensures.over
+
+pub returns-in-Ok-clause-body : goal.returns-in-Ok-clause-body
+returns-in-Ok-clause-body c =
+    let kept = kept_at (get c.args.self.now.applications c.args.key) (going_of c.args.key c.args.self.now) c.in-Some.application.now c.in-Waits.kind c.in-Waits.whole c.in-Some.ensures c.if-application.false c.in-Waits.is in
+    ok_more c.put_held.result _ _
+    (λ g. subst (λ (b : Body). Starts b (body_of c.args.key c.put_held.new.self)) (sym kept)
+    (starts_there c.in-Waits.whole (held_of (get c.args.self.now.applications c.args.key)) c.in-Waits.kind c.args.key c.args.self.now.desk c.ask.new.self c.args.self.now.links.items _ c.in-Some-hold_of.hold (body_of c.args.key c.put_held.new.self) c.in-Ok.ensures.whose
+    (sym c.hold_of.ensures ∙ c.in-Some-hold_of.is) (holds_stay c.args.key _ (desk_in c.args.self.now.desk) (desk_in c.ask.new.self) _ _ c.in-Ok.ensures.ok) c.in-Ok.ensures.opened (c.is_open.ensures.there (search rules)) g))
+    c.put_held.ensures.body
+
+pub returns-in-Ok-clause-others : goal.returns-in-Ok-clause-others
+returns-in-Ok-clause-others c = λ reached.
+    others_on c.put_held.result c.args.key c.args.self.now _ c.put_held.new.self
+    (c.put_held.ensures.others (reached_does (desk_in c.args.self.now.desk) (desk_in c.ask.new.self) c.args.key Asks _ _ c.in-Ok.ensures.ok tt reached))
+    (put_rest c.args.key c.in-Some-hold_of.hold c.args.self.now _ c.ask.new.self reached (sym c.hold_of.ensures ∙ c.in-Some-hold_of.is) c.ask.ensures.others refl refl (λ k goes. refl))
+
+pub returns-in-Err-clause-others : goal.returns-in-Err-clause-others
+returns-in-Err-clause-others c = λ reached.
+    others_all c.fail.result c.args.key c.args.self.now _ c.fail.new.self (c.fail.ensures.rests (subst (λ (d : Desk). IsReached d) (sym c.in-Err.ensures.err) reached))
+    (put_rest c.args.key c.in-Some-hold_of.hold c.args.self.now _ c.ask.new.self reached (sym c.hold_of.ensures ∙ c.in-Some-hold_of.is) c.ask.ensures.others refl refl (λ k goes. refl))
+
+pub returns-in_default-hold_of-clause-others : goal.returns-in_default-hold_of-clause-others
+returns-in_default-hold_of-clause-others c = λ reached.
+    others_all c.end.result c.args.key c.args.self.now c.args.self.now c.end.new.self (same_on c.end.result c.args.self.now c.end.new.self c.end.ensures.desk c.end.ensures.links c.end.ensures.asks)
+    (others_refl c.args.key c.args.self.now)
+
+pub returns-in_default-clause-waits : goal.returns-in_default-clause-waits
+returns-in_default-clause-waits c = inl (unkept_none c.args.self.now.applications c.args.key _ (search rules))
+
+pub returns-then-application-clause-waits : goal.returns-then-application-clause-waits
+returns-then-application-clause-waits c = inl (unkept_over c.args.self.now.applications c.args.key c.in-Some.application.now _ c.in-Some.ensures (search rules))
+
+pub returns-in_default-asking-clause-waits : goal.returns-in_default-asking-clause-waits
+returns-in_default-asking-clause-waits c = inl (unkept_there c.args.key c.args.self.now c.in-Some.application.now c.in-Some.ensures (search rules))
+
+pub returns-in_default-hold_of-clause-waits : goal.returns-in_default-hold_of-clause-waits
+returns-in_default-hold_of-clause-waits c = ok_more c.end.result _ _ (λ s. inl (unkept_closed _ (s _))) c.end.ensures.shuts
+
+pub returns-then-application-2-clause-waits : goal.returns-then-application-2-clause-waits
+returns-then-application-2-clause-waits c = inr (Drains (taken_back c.args.self.now.applications c.args.key c.in-Some.application.now c.in-Some.ensures (search rules) (search rules)))
+
+pub returns-then-not-is_open-clause-waits : goal.returns-then-not-is_open-clause-waits
+returns-then-not-is_open-clause-waits c = inr (sparing.Opens c.in-Some-hold_of.hold (sym c.hold_of.ensures ∙ c.in-Some-hold_of.is) (c.is_open.ensures.shut (search rules)))
+
+pub returns-in-Ok-clause-waits : goal.returns-in-Ok-clause-waits
+returns-in-Ok-clause-waits c = ok_more c.put_held.result _ _ (λ g. inl g) c.put_held.ensures.gone
+
+pub returns-in-Err-clause-waits : goal.returns-in-Err-clause-waits
+returns-in-Err-clause-waits c = ok_more c.fail.result _ _ (λ d. inl (unkept_closed _ (shut c.fail.new.self.applications c.args.key _ d))) c.fail.ensures.over

@@ -1,18 +1,19 @@
-use Rattle.std.proofs.Common.{◌≡◌, ◌∙◌, Some, false, ap, refl, rules, sym}
-use Rattle.std.specs.Prelude.{is_some}
-use Rattle.tds_relay.specs.Fronts.{end_of, ends_in, given_by, hall_in, house_in}
+use Rattle.std.proofs.Common.{◌≡◌, ◌∙◌, Some, false, ap, refl, rules, sym, List, ℕ, subst}
+use Rattle.std.specs.Prelude.{is_some, take}
+use Rattle.tds_relay.specs.Fronts.{end_of, ends_in, given_by, hall_in, house_in, hall_of_ends}
 use Rattle.tds_relay.specs.Posts.{Posts, posts_in}
 use Rattle.tds_relay.specs.Ties.{Application, desk_in}
 use Rattle.tds_relay.proofs.steps.Fed.{closed_fed, end_open, end_there, ends_written, is_fed, refused_is, waits_refused}
-use Rattle.tds_relay.proofs.steps.Fronts.{moved_same}
+use Rattle.tds_relay.proofs.steps.Fronts.{moved_same, ends_kept, moves_same}
 use Rattle.tds_relay.proofs.steps.Posting.{posts_kept}
 use Rattle.tds_relay.proofs.steps.Told.{tells_fed, tells_refused}
-use Rattle.slab.specs.Slab.{with_value}
-use Rattle.tds_relay.specs.Fronts.{hall_of_ends}
+use Rattle.slab.specs.Slab.{with_value, get}
 use Rattle.tds_relay.proofs.steps.Asked.{asks_deaf, asks_fed, asks_links, asks_moved, asks_refused}
-use Rattle.tds_relay.proofs.steps.Fronts.{ends_kept, moves_same}
 use Rattle.tds_relay.proofs.steps.Underway.{none_deaf, over_deaf}
 use Rattle.tds_relay.proofs.steps.Staying.{stays_opens}
+use Rattle.tds_relay.specs.Bodies.{Body, Obeys, Starts, body_in, body_of, going_of}
+use Rattle.tds_relay.proofs.steps.Bodied.{asks_kept, same_starts, shut_starts}
+use Rattle.tds_relay.proofs.steps.Carried.{carries_deaf, carries_fed, carries_moved, carries_refused}
 use Rattle.tds_relay.proofs.relay.Relay.take.Goals as goal
 
 pub returns-in_default-feed-clause-tells : goal.returns-in_default-feed-clause-tells
@@ -80,3 +81,47 @@ returns-then-application-clause-asks c = λ first bytes t.
     asks_moved c.args.key first bytes _ _ (hall_in c.args.self.now) (hall_of_ends (desk_in c.args.self.now.desk) (ends_in (with_value slab c.args.key a))) (posts_in slab) (posts_in (with_value slab c.args.key a))
     (λ from m. moves_same (Application c.args.key) from _ _ _ _ refl (ends_kept slab c.args.key a a c.in-Some.ensures.value refl) m) (posts_kept slab c.args.key a a c.in-Some.ensures.value refl)
     (asks_deaf c.args.key first (house_in c.args.self.now) bytes c.args.piece.now _ _ (over_deaf c.args.key slab a c.in-Some.ensures.value (search rules)) t)
+
+pub returns-in_default-clause-carries : goal.returns-in_default-clause-carries
+returns-in_default-clause-carries c = λ first bytes at t.
+    carries_deaf c.args.key first (house_in c.args.self.now) bytes c.args.piece.now _ at (body_of c.args.key c.args.self.now) (none_deaf c.args.key c.args.self.now.applications (search rules)) t
+
+pub returns-then-application-clause-carries : goal.returns-then-application-clause-carries
+returns-then-application-clause-carries c = λ first bytes at t.
+    let slab = c.args.self.now.applications in
+    let a = c.in-Some.application.now in
+    carries_moved c.args.key first bytes _ at (body_of c.args.key c.args.self.now) (body_in (get (with_value slab c.args.key a) c.args.key) (going_of c.args.key c.args.self.now)) (hall_in c.args.self.now) (hall_of_ends (desk_in c.args.self.now.desk) (ends_in (with_value slab c.args.key a))) (posts_in slab) (posts_in (with_value slab c.args.key a))
+    (λ from m. moves_same (Application c.args.key) from _ _ _ _ refl (ends_kept slab c.args.key a a c.in-Some.ensures.value refl) m) (posts_kept slab c.args.key a a c.in-Some.ensures.value refl)
+    (same_starts (body_of c.args.key c.args.self.now) (body_in (get (with_value slab c.args.key a) c.args.key) (going_of c.args.key c.args.self.now)) (asks_kept slab c.args.key a a c.in-Some.ensures.value (λ goes. refl) c.args.key (going_of c.args.key c.args.self.now)))
+    (carries_deaf c.args.key first (house_in c.args.self.now) bytes c.args.piece.now _ at (body_of c.args.key c.args.self.now) (over_deaf c.args.key slab a c.in-Some.ensures.value (search rules)) t)
+
+pub returns-in_default-feed-clause-carries : goal.returns-in_default-feed-clause-carries
+returns-in_default-feed-clause-carries c = λ first bytes at t.
+    let slab = c.args.self.now.applications in
+    let a = c.in-Some.application.now in
+    let es = ends_in slab in
+    let here : a.is_over ≡ false = search rules in
+    let was = end_there slab c.args.key a c.in-Some.ensures.value ∙ ap Some (end_open a here) in
+    let says = sym c.feed.ensures.brings ∙ c.in_default-feed.is in
+    carries_refused c.args.key first bytes c.args.piece.now _ at (body_of c.args.key c.args.self.now) (body_of c.args.key c.expel.new.self) (house_in c.args.self.now) (hall_in c.expel.new.self) _ a.front a.is_withdrawn (is_some a.reset) _ was
+    (waits_refused c.args.key es c.args.piece.now a.front a.is_withdrawn (is_some a.reset) _ (posts_in slab) was says)
+    (refused_is c.args.key (desk_in c.args.self.now.desk) es c.args.piece.now a.front a.is_withdrawn (is_some a.reset) _ was says) says
+    (moved_same (Application c.args.key) _ _ _ _ _ refl
+    (sym (closed_fed es _ c.args.key _ (end_of a) (end_there slab c.args.key a c.in-Some.ensures.value) (ends_written slab c.args.key _))) c.in_ok-expel.ensures.moves)
+    (c.in_ok-expel.ensures.kept ∙ posts_kept slab c.args.key a _ c.in-Some.ensures.value c.feed.ensures.post)
+    (shut_starts c.expel.new.self.applications c.args.key (body_of c.args.key c.args.self.now) (going_of c.args.key c.expel.new.self) c.in_ok-expel.ensures.over) t
+
+pub returns-clause-carries : goal.returns-clause-carries
+returns-clause-carries c = λ first bytes at t.
+    let slab = c.args.self.now.applications in
+    let a = c.in-Some.application.now in
+    let here : a.is_over ≡ false = search rules in
+    let same = asks_kept slab c.args.key a c.feed.new.self c.in-Some.ensures.value c.feed.ensures.body c.args.key (going_of c.args.key c.args.self.now) in
+    carries_fed c.args.key first bytes c.args.piece.now _ at (body_of c.args.key c.args.self.now) (body_of c.args.key c.obey.new.self) (desk_in c.args.self.now.desk) (ends_in slab) _ (posts_in slab) _ (hall_in c.obey.new.self) c.in-Ok.fed.said
+    c.in_ok-obey.ensures.moves
+    (is_fed c.args.key slab a c.feed.new.self c.args.piece.now c.in-Ok.fed.count c.in-Ok.fed.said c.in-Some.ensures.value here (c.feed.ensures.over ∙ here) c.feed.ensures.withdrawn c.in-Ok.ensures.asks
+    c.feed.ensures.front (search rules))
+    (subst (λ (xs : List ℕ). Obeys c.in-Ok.fed.said xs (body_of c.args.key c.args.self.now) (body_of c.args.key c.obey.new.self)) (search rules)
+    (subst (λ (b : Body). Obeys c.in-Ok.fed.said _ b (body_of c.args.key c.obey.new.self)) same c.in_ok-obey.ensures.body)) refl
+    (c.in_ok-obey.ensures.given ∙ ap (λ (ps : Posts). given_by c.args.key c.in-Ok.fed.said ps) (posts_kept slab c.args.key a _ c.in-Some.ensures.value c.feed.ensures.post))
+    (λ d. shut_starts c.obey.new.self.applications c.args.key (body_of c.args.key c.args.self.now) (going_of c.args.key c.obey.new.self) d) t

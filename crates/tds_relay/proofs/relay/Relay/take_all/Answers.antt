@@ -9,6 +9,9 @@ use Rattle.tds_relay.proofs.steps.Staying.{stays_both, stays_on, stays_refl}
 use Rattle.tds_relay.proofs.steps.Told.{tells_begin, tells_expelled, tells_left}
 use Rattle.tds_relay.specs.Asking.{Asks}
 use Rattle.tds_relay.proofs.steps.Asked.{asks_begin, asks_expelled, asks_left, empty_is}
+use Rattle.tds_relay.specs.Bodies.{Carries, body_of, going_of}
+use Rattle.tds_relay.proofs.steps.Bodied.{shut_starts}
+use Rattle.tds_relay.proofs.steps.Carried.{carries_begin, carries_expelled, carries_left}
 use Rattle.tds_relay.proofs.relay.Relay.take_all.Goals as goal
 use Rattle.tds_relay.proofs.relay.Relay.take_all.Goals.{else-taking-test, then-taking-test+else-is_empty+in_ok-count+else-counter-end}
 
@@ -18,6 +21,7 @@ taking-init c = record {
   tells = tells_begin c.args.key (house_in c.args.self.now) c.args.piece.now;
   asks = asks_begin c.args.key (house_in c.args.self.now) c.args.piece.now c.args.self.now.links.items;
   read = stays_refl c.args.self.now.links.items;
+  carries = carries_begin c.args.key (house_in c.args.self.now) c.args.piece.now (body_of c.args.key c.args.self.now);
   stand = λ n r h. h;
 }
 
@@ -27,6 +31,7 @@ taking-preserved c = record {
   tells = tells_left c.args.key _ _ _ _ _ c.behind-rest.ensures (c.in_ok-count.ensures.tells (house_in c.args.self.now) c.args.piece.now c.taking.invariant.tells);
   asks = asks_left c.args.key _ _ _ _ _ _ c.behind-rest.ensures (c.in_ok-count.ensures.asks (house_in c.args.self.now) c.args.piece.now c.taking.invariant.asks);
   read = stays_both _ _ _ c.taking.invariant.read c.in_ok-count.ensures.read;
+  carries = carries_left c.args.key _ _ _ _ _ _ _ c.behind-rest.ensures (c.in_ok-count.ensures.carries (house_in c.args.self.now) c.args.piece.now (body_of c.args.key c.args.self.now) c.taking.invariant.carries);
   stand = λ n r h. c.in_ok-count.ensures.stand n r (c.taking.invariant.stand n r h);
 }
 
@@ -77,3 +82,20 @@ returns-clause-stand c =
       | then-taking-test+else-is_empty+in_ok-count+else-counter-end w ↦ subst to (sym w.self-is) (λ n r h. w.in_ok-count.ensures.stand n r (c.taking.invariant.stand n r h))
     ] in
     ok_more c.expel.result _ _ (λ later n r h. later n r (led n r h)) c.expel.ensures.stand
+
+pub returns-clause-carries : goal.returns-clause-carries
+returns-clause-carries c =
+    let old = house_in c.args.self.now in
+    let to : Relay → Type 0 = λ r. (left : List ℕ) × Carries c.args.key old c.args.piece.now left (body_of c.args.key c.args.self.now) (body_of c.args.key r) (house_in r) in
+    let led : to c.taking-test.self =
+    elim c.taking-test.branch [
+      | else-taking-test w ↦ subst to (sym w.self-is) (c.taking.rest.now, c.taking.invariant.carries)
+      | then-taking-test+else-is_empty+in_ok-count+else-counter-end w ↦
+          subst to (sym w.self-is) (_, w.in_ok-count.ensures.carries old c.args.piece.now (body_of c.args.key c.args.self.now) c.taking.invariant.carries)
+    ] in
+    carries_expelled c.expel.result c.args.key old c.args.piece.now led.0 (body_of c.args.key c.args.self.now) (body_of c.args.key c.taking-test.self) (body_of c.args.key c.expel.new.self) _ _ _ _ _ led.1 c.expel.ensures.moves c.expel.ensures.kept
+    (ok_more c.expel.result _ _ (λ d. shut_starts c.expel.new.self.applications c.args.key (body_of c.args.key c.taking-test.self) (going_of c.args.key c.expel.new.self) d) c.expel.ensures.over)
+
+pub returns-then-is_empty-clause-carries : goal.returns-then-is_empty-clause-carries
+returns-then-is_empty-clause-carries c =
+    carries_left c.args.key _ _ _ _ _ _ _ (empty_is c.taking.rest.now (sym c.is_empty.ensures ∙ c.if-is_empty.true)) c.taking.invariant.carries

@@ -1,4 +1,5 @@
 use Rattle.tds_relay.specs.Asking.{Asks}
+use Rattle.tds_relay.specs.Bodies.{Carries, body_of}
 use Rattle.tds_relay.specs.Fronts.{house_in}
 use Rattle.tds_relay.specs.Reads.{Stays}
 use Rattle.tds_relay.specs.Taking.{Tells}
@@ -11,6 +12,7 @@ invariant-taking l = record {
   goes : Goes (Application l.fn.key) (desk_in l.fn.self.desk) (desk_in l.self.desk);
   tells : Tells l.fn.key (house_in l.fn.self) l.fn.piece l.rest (house_in l.self);
   asks : Asks l.fn.key (house_in l.fn.self) l.fn.piece l.rest l.self.links.items (house_in l.self);
+  carries : Carries l.fn.key (house_in l.fn.self) l.fn.piece l.rest (body_of l.fn.key l.fn.self) (body_of l.fn.key l.self) (house_in l.self);
   read : Stays l.fn.self.links.items l.self.links.items;
   stand : AllStand l.fn.self.desk.service l.self.desk.service;
 }

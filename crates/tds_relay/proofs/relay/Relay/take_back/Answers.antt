@@ -8,6 +8,7 @@ use Rattle.tds_relay.proofs.steps.Reaching.{ok_more}
 use Rattle.tds_relay.proofs.steps.Told.{deaf_behind, deaf_closed}
 use Rattle.tds_relay.proofs.steps.Staying.{stays_from}
 use Rattle.tds_relay.proofs.bytes.Calls.{stand_at, stand_on}
+use Rattle.tds_relay.proofs.steps.Bodied.{asks_then, forgot_on, kept_on_ok}
 use Rattle.tds_relay.proofs.relay.Relay.take_back.Goals as goal
 
 pub returns-in-Some-clause-moves : goal.returns-in-Some-clause-moves
@@ -60,3 +61,14 @@ returns-in-Some-clause-stand c = stand_on c.send_on.result _ _ _ (stand_at _ _ _
 
 pub returns-in-None-clause-stand : goal.returns-in-None-clause-stand
 returns-in-None-clause-stand c = stand_on c.expel.result _ _ _ (λ n r h. c.stop.ensures.stand n r (c.forget_request.ensures.stand n r h)) c.expel.ensures.stand
+
+pub returns-in-Some-clause-body : goal.returns-in-Some-clause-body
+returns-in-Some-clause-body c =
+    forgot_on c.send_on.result c.forget_request.new.self.applications c.send_on.new.self.applications c.args.key c.forget_request.ensures.body
+    (kept_on_ok c.send_on.result c.forget_request.new.self.applications c.withdraw.new.self.applications c.send_on.new.self.applications
+    (asks_then c.forget_request.new.self.applications c.stop.new.self.applications c.withdraw.new.self.applications c.stop.ensures.asks c.withdraw.ensures.asks) c.send_on.ensures.asks)
+
+pub returns-in-None-clause-body : goal.returns-in-None-clause-body
+returns-in-None-clause-body c =
+    forgot_on c.expel.result c.forget_request.new.self.applications c.expel.new.self.applications c.args.key c.forget_request.ensures.body
+    (kept_on_ok c.expel.result c.forget_request.new.self.applications c.stop.new.self.applications c.expel.new.self.applications c.stop.ensures.asks c.expel.ensures.asks)

@@ -2,6 +2,11 @@ use Rattle.std.proofs.Common.{◌≡◌, Bool, false, inl, inr, refl, rules, sub
 use Rattle.tds_relay.specs.Asking.{SendsOn}
 use Rattle.tds_relay.specs.Ties.{Reaches, desk_in}
 use Rattle.tds_relay.proofs.steps.Reaching.{reaches_turn}
+use Rattle.tds_relay.specs.Desk.{Ends, Puts}
+use Rattle.tds_relay.proofs.spared.Held.{deed_both}
+use Rattle.tds_relay.proofs.spared.Resting.{reached_does}
+use Rattle.tds_relay.specs.Bodies.{ClientPuts}
+use Rattle.tds_relay.proofs.steps.Going.{holds_stay, puts_last, puts_part}
 use Rattle.tds_relay.proofs.relay.asking.put_on.Goals as goal
 
 pub returns-then-not-whole-clause-goes : goal.returns-then-not-whole-clause-goes
@@ -44,3 +49,25 @@ returns-in-Ok-finish-clause-stand c = λ n r h. c.in-Ok-finish.ensures.stand n r
 
 pub returns-in-Err-clause-stand : goal.returns-in-Err-clause-stand
 returns-in-Err-clause-stand c = λ n r h. c.in-Err.ensures.stand n r (c.in-Ok.ensures.stand n r h)
+
+pub returns-in-Ok-finish-clause-others : goal.returns-in-Ok-finish-clause-others
+returns-in-Ok-finish-clause-others c = deed_both c.args.desk.now c.put.new.self c.finish.new.self c.args.key
+    (reached_does _ _ c.args.key (Puts c.in-Ok.ensures.ok.0) _ _ c.in-Ok.ensures.ok.1 tt) c.put.ensures.others c.finish.ensures.others
+
+pub returns-in-Err-clause-others : goal.returns-in-Err-clause-others
+returns-in-Err-clause-others c = deed_both c.args.desk.now c.put.new.self c.finish.new.self c.args.key
+    (reached_does _ _ c.args.key (Puts c.in-Ok.ensures.ok.0) _ _ c.in-Ok.ensures.ok.1 tt) c.put.ensures.others c.finish.ensures.others
+
+pub returns-then-not-whole-clause-body : goal.returns-then-not-whole-clause-body
+returns-then-not-whole-clause-body c = λ e.
+    let part : c.args.whole ≡ false = search rules in
+    subst (λ (b : Bool). ClientPuts b c.args.bytes.now c.args.key c.args.desk.now c.put.new.self c.args.out.now.items c.put.new.out.items) (sym part)
+    (puts_part c.args.bytes.now c.args.key c.args.desk.now c.put.new.self _ _ _ c.in-Ok.ensures.whose (holds_stay c.args.key _ (desk_in c.args.desk.now) (desk_in c.put.new.self) _ _ c.in-Ok.ensures.ok.1) c.in-Ok.ensures.puts)
+
+pub returns-in-Ok-finish-clause-body : goal.returns-in-Ok-finish-clause-body
+returns-in-Ok-finish-clause-body c = λ e.
+    let whole : c.args.whole ≡ true = search rules in
+    subst (λ (b : Bool). ClientPuts b c.args.bytes.now c.args.key c.args.desk.now c.finish.new.self c.args.out.now.items c.finish.new.out.items) (sym whole)
+    (puts_last c.args.bytes.now c.args.key c.args.desk.now c.put.new.self c.finish.new.self _ _ _ _
+    (puts_part c.args.bytes.now c.args.key c.args.desk.now c.put.new.self _ _ _ c.in-Ok.ensures.whose (holds_stay c.args.key _ (desk_in c.args.desk.now) (desk_in c.put.new.self) _ _ c.in-Ok.ensures.ok.1) c.in-Ok.ensures.puts)
+    c.in-Ok-finish.ensures.whose (holds_stay c.args.key _ (desk_in c.put.new.self) (desk_in c.finish.new.self) _ _ c.in-Ok-finish.ensures.ok.1) c.in-Ok-finish.ensures.ends)

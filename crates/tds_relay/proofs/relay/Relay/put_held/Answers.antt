@@ -1,0 +1,34 @@
+use Rattle.std.proofs.Common.{◌≡◌, ◌∙◌, List, ap, refl, rules, subst, ℕ}
+use Rattle.tds_relay.specs.Bodies.{Grows, body_of, going_of, held_of}
+use Rattle.slab.specs.Slab.{get, with_value}
+use Rattle.tds_relay.proofs.steps.Bodied.{none_grows}
+use Rattle.tds_relay.proofs.steps.Going.{grows_asked}
+use Rattle.tds_relay.proofs.steps.Reaching.{ok_more}
+use Rattle.tds_relay.proofs.steps.Underway.{written_there}
+use Rattle.tds_relay.proofs.spared.Resting.{others_on, others_refl, written_rest}
+use Rattle.tds_relay.proofs.spared.Starting.{put_unkept_on, unkept_none}
+use Rattle.tds_relay.proofs.relay.Relay.put_held.Goals as goal
+
+pub returns-in_default-clause-body : goal.returns-in_default-clause-body
+returns-in_default-clause-body c = none_grows c.args.whole (held_of (get c.args.self.now.applications c.args.key)) c.args.self.now.applications c.args.key (going_of c.args.key c.args.self.now) (going_of c.args.key c.args.self.now) (search rules)
+
+pub returns-clause-body : goal.returns-clause-body
+returns-clause-body c =
+    let s = c.args.self.now.applications in
+    let a = c.in-Some.application.now in
+    let b = c.forget.new.self in
+    let bytes : c.deref.result.now ≡ a.held.items = search rules in
+    ok_more c.put.result _ _
+    (λ p. subst (λ (xs : List ℕ). Grows c.args.whole xs (going_of c.args.key c.args.self.now) (body_of c.args.key c.put.new.self)) (bytes ∙ ap held_of c.in-Some.ensures.value)
+    (grows_asked c.args.whole c.deref.result.now (get (with_value s c.args.key b) c.args.key) (get c.put.new.self.applications c.args.key) (going_of c.args.key c.args.self.now) (going_of c.args.key c.put.new.self) b (written_there s c.args.key a b c.in-Some.ensures.value) c.forget.ensures.asking p))
+    c.put.ensures.body
+
+pub returns-clause-others : goal.returns-clause-others
+returns-clause-others c = λ reached.
+    others_on c.put.result c.args.key c.args.self.now _ c.put.new.self (c.put.ensures.others reached) (written_rest c.args.key _ c.args.self.now _ refl refl refl)
+
+pub returns-in_default-clause-gone : goal.returns-in_default-clause-gone
+returns-in_default-clause-gone c = unkept_none c.args.self.now.applications c.args.key _ (search rules)
+
+pub returns-clause-gone : goal.returns-clause-gone
+returns-clause-gone c = put_unkept_on c.put.result _ c.args.key c.args.self.now.applications c.in-Some.application.now c.forget.new.self c.put.new.self c.put.ensures.body c.in-Some.ensures.value c.forget.ensures.asking

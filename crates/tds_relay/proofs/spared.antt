@@ -1,0 +1,4 @@
+pub mod Held
+pub mod Resting
+pub mod Starting
+pub mod Waits

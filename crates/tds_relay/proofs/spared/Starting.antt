@@ -1,0 +1,198 @@
+-- A request that has waited, where its connection opens.
+use Rattle.std.proofs.Common.{◌≡◌, ◌⊎◌, ◌∙◌, ◌==◌, ℕ, Bool, true, false, List, [], ◌∷◌, Option, Some, None, inl, inr, refl, sym, ap, subst, if◌then◌else◌}
+use Rattle.std.specs.Prelude.{Result, Ok, Err, OnOk, is_some}
+use Rattle.std.proofs.lemmas.Bool.{eq-eqb}
+use Rattle.slab.specs.Slab.{Slab, get, with_value}
+use Rattle.tds_client.specs.Session.{ClientSession}
+use Rattle.tds_service.specs.declared.service.Service as services
+use Rattle.tds_service.specs.Table.{client_of}
+use Rattle.tds_relay.specs.declared.application.Application.{Application}
+use Rattle.tds_relay.specs.declared.application.Asking.{Asking}
+use Rattle.tds_relay.specs.declared.application.Asking.TheVariants as asking
+use Rattle.tds_relay.specs.declared.desk.Desk as desks
+use Rattle.tds_relay.specs.declared.desk.Hold.{Hold}
+use Rattle.tds_relay.specs.declared.link.Link.{Link}
+use Rattle.tds_relay.specs.declared.relay.Relay as code
+use Rattle.tds_relay.specs.Asking.{IsTakenBack, waits_in}
+use Rattle.tds_relay.specs.Bodies.{AskAsBefore, Astray, Body, Closed, Closes, Goes, Going, Kept, Nowhere, PutsOn, Starts, Stays, Strays, body_by, body_in, body_of, going, going_by, going_of, waits_on}
+use Rattle.tds_relay.specs.Desk.{find_key, find_number, key_of}
+use Rattle.tds_relay.specs.Fronts.{end_of, ends_in}
+use Rattle.tds_relay.specs.Hall.{End, Ends, Open, Over, end_at}
+use Rattle.tds_relay.specs.Reads.{open_at, opened_at, reader_at}
+use Rattle.tds_relay.specs.Sparing.{AllGo, AreCalls, Drains, HasGone, Held, IsHeldBack, IsKept, IsLeft, IsUnkept, Opens, StartsOn, behind_all, held_at}
+use Rattle.tds_relay.specs.Ties.{IsReached, desk_in}
+use Rattle.tds_relay.proofs.spared.Held.{holder_is, holds}
+use Rattle.tds_relay.proofs.spared.Resting.{starts_both}
+use Rattle.tds_relay.proofs.steps.Bodied.{written_body}
+use Rattle.tds_relay.proofs.steps.Fed.{end_open, end_there}
+
+-- ---- Kept no more
+
+unkept_by : (number : ℕ) (o : Option ClientSession) (waits : Option (List ℕ)) → IsUnkept (going_by number o waits)
+unkept_by number None waits = tt
+unkept_by number (Some client) None = tt
+unkept_by number (Some client) (Some bytes) = tt
+
+-- what goes on isn't kept
+unkept_going : (s : services.Service) (ls : List Link) (o : Option Hold) → IsUnkept (going s ls o)
+unkept_going s ls None = tt
+unkept_going s ls (Some h) = unkept_by h.number (client_of h.lease s) (waits_on h.number ls)
+
+unkept_if : (over : Bool) (b : Body) → IsUnkept b → IsUnkept (if over then Closed else b)
+unkept_if true b h = tt
+unkept_if false b h = h
+
+pub unkept_closed : (b : Body) → b ≡ Closed → IsUnkept b
+unkept_closed b e = subst IsUnkept (sym e) tt
+
+pub unkept_none : (s : Slab Application) (key : ℕ) (goes : Body) → get s key ≡ None → IsUnkept (body_in (get s key) goes)
+unkept_none s key goes none = subst (λ (o : Option Application). IsUnkept (body_in o goes)) (sym none) tt
+
+pub unkept_over : (s : Slab Application) (key : ℕ) (a : Application) (goes : Body) → Some a ≡ get s key → a.is_over ≡ true → IsUnkept (body_in (get s key) goes)
+unkept_over s key a goes is over =
+    subst (λ (o : Option Application). IsUnkept (body_in o goes)) is
+    (subst (λ (b : Bool). IsUnkept (if b then Closed else body_by a.asking a.held.items goes)) (sym over) tt)
+
+unkept_asking : (x : Asking) (held : List ℕ) (goes : Body) → waits_in x ≡ None → IsUnkept goes → IsUnkept (body_by x held goes)
+unkept_asking asking.Nothing held goes e h = tt
+unkept_asking (asking.Waits kind whole) held goes e h = absurd (let u : ⊥ = cc in u)
+unkept_asking asking.Goes held goes e h = h
+
+-- an application whose request doesn't wait
+pub unkept_there : (key : ℕ) (r : code.Relay) (a : Application) → Some a ≡ get r.applications key → waits_in a.asking ≡ None → IsUnkept (body_of key r)
+unkept_there key r a is none =
+    subst (λ (o : Option Application). IsUnkept (body_in o (going_of key r))) is
+    (unkept_if a.is_over (body_by a.asking a.held.items (going_of key r))
+    (unkept_asking a.asking a.held.items (going_of key r) none (unkept_going r.desk.service r.links.items (find_key key r.desk.holds.items))))
+
+put_unkept : (X : Type 0) (key : ℕ) (s : Slab Application) (a b : Application) (new : code.Relay) → Some a ≡ get s key → b.asking ≡ asking.Goes
+    → (body_of key new ≡ Closed) ⊎ (((goes : Body) → body_in (get new.applications key) goes ≡ body_in (get (with_value s key b) key) goes) × X) → IsUnkept (body_of key new)
+put_unkept X key s a b new is goes (inl closed) = unkept_closed (body_of key new) closed
+put_unkept X key s a b new is goes (inr puts) =
+    let g : Body = going_of key new in
+    let one : body_of key new ≡ body_in (Some b) g = puts.0 g ∙ written_body s key a b g is in
+    subst IsUnkept (sym one)
+    (unkept_if b.is_over (body_by b.asking b.held.items g)
+    (unkept_asking b.asking b.held.items g (ap waits_in goes) (unkept_going new.desk.service new.links.items (find_key key new.desk.holds.items))))
+
+pub put_unkept_on : {A E : Type 0} (r : Result A E) (X : Type 0) (key : ℕ) (s : Slab Application) (a b : Application) (new : code.Relay)
+    → OnOk r ((body_of key new ≡ Closed) ⊎ (((goes : Body) → body_in (get new.applications key) goes ≡ body_in (get (with_value s key b) key) goes) × X)) → Some a ≡ get s key
+    → b.asking ≡ asking.Goes → OnOk r (IsUnkept (body_of key new))
+put_unkept_on (Ok x) X key s a b new puts is goes = put_unkept X key s a b new is goes puts
+put_unkept_on (Err e) X key s a b new puts is goes = tt
+
+-- ---- Held back
+
+pub taken_back : (s : Slab Application) (key : ℕ) (a : Application) → Some a ≡ get s key → a.is_over ≡ false → a.is_withdrawn ≡ true → IsTakenBack (end_at (ends_in s) key)
+taken_back s key a is over back = subst IsTakenBack (sym (end_there s key a is ∙ ap Some (end_open a over))) back
+
+-- ---- One that has waited goes on
+
+both_not : (b : Body) → IsKept b → IsUnkept b → HasGone b
+both_not Closed kept un = absurd kept
+both_not Nowhere kept un = absurd kept
+both_not (Kept kind bytes whole) kept un = absurd un
+both_not Astray kept un = absurd kept
+both_not (Going number client waits) kept un = absurd kept
+
+-- one that was kept, and isn't
+pub gone_by : {a b : Body} → Starts a b → IsKept a → IsUnkept b → HasGone b
+gone_by {a} Stays kept un = both_not a kept un
+gone_by Closes kept un = tt
+gone_by Strays kept un = absurd kept
+gone_by (Goes waits out from puts) kept un = tt
+
+-- and stays so
+pub gone_on : {a b : Body} → Starts a b → HasGone a → HasGone b
+gone_on Stays gone = gone
+gone_on Closes gone = tt
+gone_on Strays gone = absurd gone
+gone_on (Goes waits out from puts) gone = absurd gone
+
+pub kept_rest : {a b : Body} → Starts a b → IsKept a → HasGone b ⊎ IsKept b
+kept_rest Stays kept = inr kept
+kept_rest Closes kept = inl tt
+kept_rest Strays kept = absurd kept
+kept_rest (Goes waits out from puts) kept = inl tt
+
+-- ---- Where its connection opens
+
+-- what it is held back by, before that
+before_open : (number key : ℕ) (old mid : code.Relay) (held : Held) → held_at key old.desk ≡ Some held → held.0 ≡ number → mid.desk ≡ old.desk → ends_in mid.applications ≡ ends_in old.applications
+    → ((other : ℕ) → open_at other mid.links.items ≡ opened_at number other old.links.items) → IsHeldBack key mid
+    → IsTakenBack (end_at (ends_in old.applications) key) ⊎ (reader_at number old.links.items ≡ None)
+before_open number key old mid held e same at ends opens (Drains back) = inl (subst (λ (es : Ends). IsTakenBack (end_at es key)) ends back)
+before_open number key old mid held e same at ends opens (Opens hold its closed) =
+    let x = holds old.desk key held e in
+    let own : find_key key old.desk.holds.items ≡ Some hold = subst (λ (d : desks.Desk). find_key key d.holds.items ≡ Some hold) at its in
+    let one : x.hold ≡ hold = (let u : Some x.hold ≡ Some hold = sym x.its ∙ own in cc) in
+    let named : hold.number ≡ number = sym (ap (λ (h : Hold). h.number) one) ∙ x.number ∙ same in
+    let shut : opened_at number number old.links.items ≡ None = sym (opens number) ∙ subst (λ (n : ℕ). open_at n mid.links.items ≡ None) named closed in
+    let here : (number == number) ≡ true = eq-eqb number number refl in
+    inr (sym (ap (λ (b : Bool). if b then reader_at number old.links.items else open_at number old.links.items) here) ∙ shut)
+
+started_by : (number key : ℕ) (old mid next new : code.Relay) (held : Held) → held_at key old.desk ≡ Some held → held.0 ≡ number → mid.desk ≡ old.desk → ends_in mid.applications ≡ ends_in old.applications
+    → ((other : ℕ) → open_at other mid.links.items ≡ opened_at number other old.links.items) → Starts (body_of key mid) (body_of key next) → Starts (body_of key next) (body_of key new)
+    → IsUnkept (body_of key next) ⊎ IsHeldBack key mid → HasGone (body_of key mid) ⊎ IsKept (body_of key mid)
+    → HasGone (body_of key new) ⊎ (IsTakenBack (end_at (ends_in old.applications) key) ⊎ (reader_at number old.links.items ≡ None))
+started_by number key old mid next new held e same at ends opens first later h (inl gone) = inl (gone_on later (gone_on first gone))
+started_by number key old mid next new held e same at ends opens first later (inl un) (inr kept) = inl (gone_on later (gone_by first kept un))
+started_by number key old mid next new held e same at ends opens first later (inr back) (inr kept) = inr (before_open number key old mid held e same at ends opens back)
+
+pub started : (number : ℕ) (old mid next new : code.Relay) → IsReached (desk_in old.desk) → mid.desk ≡ old.desk → ends_in mid.applications ≡ ends_in old.applications
+    → ((other : ℕ) → open_at other mid.links.items ≡ opened_at number other old.links.items) → AllGo old mid → AllGo mid next → AllGo next new → (IsReached (desk_in mid.desk) → IsReached (desk_in next.desk))
+    → ((key : ℕ) → key_of (find_number number (desk_in mid.desk).holds) ≡ Some key → IsUnkept (body_of key next) ⊎ IsHeldBack key mid) → StartsOn number old new
+started number old mid next new reached at ends opens zero first later led waits = record {
+  start = λ key client e kept.
+      let held : Held = (number, client) in
+      let here : IsReached (desk_in mid.desk) = subst (λ (d : desks.Desk). IsReached (desk_in d)) (sym at) reached in
+      let whose : key_of (find_number number (desk_in mid.desk).holds) ≡ Some key = ap (λ (d : desks.Desk). key_of (find_number number d.holds.items)) at ∙ holder_is old.desk key held reached e in
+      started_by number key old mid next new held e refl at ends opens (first.go here key) (later.go (led here) key) (waits key whose) (kept_rest (zero.go reached key) kept);
+}
+
+pub started_on : {A E : Type 0} (r : Result A E) (number : ℕ) (old mid next new : code.Relay) → IsReached (desk_in old.desk) → mid.desk ≡ old.desk → ends_in mid.applications ≡ ends_in old.applications
+    → ((other : ℕ) → open_at other mid.links.items ≡ opened_at number other old.links.items) → AllGo old mid → AllGo mid next → OnOk r (AllGo next new) → (IsReached (desk_in mid.desk) → IsReached (desk_in next.desk))
+    → ((key : ℕ) → key_of (find_number number (desk_in mid.desk).holds) ≡ Some key → IsUnkept (body_of key next) ⊎ IsHeldBack key mid) → OnOk r (StartsOn number old new)
+started_on (Ok x) number old mid next new reached at ends opens zero first later led waits = started number old mid next new reached at ends opens zero first later led waits
+started_on (Err e) number old mid next new reached at ends opens zero first later led waits = tt
+
+-- ---- Of whom a connection is
+
+own_by : (o : Option ℕ) (k : ℕ) (P : ℕ → Type 0) → o ≡ Some k → P k → (key : ℕ) → o ≡ Some key → P key
+own_by o k P e h key f = subst P (let u : Some k ≡ Some key = sym e ∙ f in cc) h
+
+pub own_on : {A E : Type 0} (r : Result A E) (o : Option ℕ) (k : ℕ) (P : ℕ → Type 0) → o ≡ Some k → OnOk r (P k) → OnOk r ((key : ℕ) → o ≡ Some key → P key)
+own_on (Ok x) o k P e h = own_by o k P e h
+own_on (Err e) o k P f h = tt
+
+pub none_own : (o : Option ℕ) (P : ℕ → Type 0) → o ≡ None → (key : ℕ) → o ≡ Some key → P key
+none_own o P e key f = absurd (let u : None ≡ Some key = sym e ∙ f in let v : ⊥ = cc in v)
+
+-- ---- Over calls
+
+left_same : (b : Body) → IsLeft b b
+left_same Closed = refl
+left_same Nowhere = inl refl
+left_same (Kept kind bytes whole) = inl refl
+left_same Astray = tt
+left_same (Going number client waits) = inl refl
+
+left_closed : (b : Body) → IsLeft b Closed
+left_closed Closed = refl
+left_closed Nowhere = inr refl
+left_closed (Kept kind bytes whole) = inr (inl refl)
+left_closed Astray = tt
+left_closed (Going number client waits) = inr refl
+
+left_by : {a b : Body} → Starts a b → IsLeft a b
+left_by {a} Stays = left_same a
+left_by {a} Closes = left_closed a
+left_by Strays = tt
+left_by (Goes waits out from puts) = inr (inr (record { number = _; from = from; to = _; waits = waits; out = out; is = refl; put = puts }))
+
+calls_start : (r : code.Relay) (more : List code.Relay) (key : ℕ) → AreCalls r more → Starts (body_of key r) (body_of key (behind_all r more))
+calls_start r [] key h = Stays
+calls_start r (next ∷ more) key h = starts_both (h.1.go h.0 key) (calls_start next more key h.2)
+
+pub calls_left : (r : code.Relay) (more : List code.Relay) (key : ℕ) → AreCalls r more → IsLeft (body_of key r) (body_of key (behind_all r more))
+calls_left r more key h = left_by (calls_start r more key h)

@@ -1,0 +1,205 @@
+-- What goes on of a request's body: it is put by the client of the connection that its application holds, and waits there.
+use Rattle.std.proofs.Common.{◌≡◌, ◌⊎◌, ◌∙◌, ◌++◌, ℕ, Bool, true, false, List, [], Option, Some, None, inl, inr, refl, sym, ap, subst, option_map, append_assoc}
+use Rattle.std.specs.Prelude.{if◌then◌else◌, IsSome}
+use Rattle.tds_packet.specs.declared.kind.Kind.{Kind}
+use Rattle.tds_client.specs.declared.message.MessageKind.{MessageKind}
+use Rattle.tds_client.specs.Session.{ClientSession}
+use Rattle.tds_client.specs.Streams.{finished, opened, packets_are, put}
+use Rattle.tds_service.specs.declared.service.Service as services
+use Rattle.tds_service.specs.Table.{DoesAt, Opens, client_of}
+use Rattle.tds_relay.specs.declared.application.Application.{Application}
+use Rattle.tds_relay.specs.declared.application.Asking.{Asking}
+use Rattle.tds_relay.specs.declared.application.Asking.TheVariants as asking
+use Rattle.tds_relay.specs.declared.desk.Desk as desks
+use Rattle.tds_relay.specs.declared.desk.Hold.{Hold}
+use Rattle.tds_relay.specs.declared.link.Link.{Link}
+use Rattle.tds_relay.specs.Asking.{waits_in, waits_of}
+use Rattle.tds_relay.specs.Bodies.{ArePut, Asks, Begins, Body, ClientPuts, Closed, Closes, Drifts, Going, Goes, Grows, Keeps, Kept, Refuses, Sends, Shuts, Spared, Starts, body_by, body_in, going, going_by, held_of, waits_on}
+use Rattle.tds_relay.specs.Desk as desk
+use Rattle.tds_relay.specs.Desk.{Desk, Deed, does, find_key}
+use Rattle.tds_relay.specs.Ties.{Turns, desk_in}
+use Rattle.tds_relay.proofs.steps.Bodied.{spared_starts}
+
+-- ---- At the desk
+
+holds_does : (d : Desk) (deed : Deed) (o : Option Hold) → (does d deed o).desk.holds ≡ d.holds
+holds_does d deed None = refl
+holds_does d deed (Some hold) = refl
+
+-- nobody's hold changes by what an application does with its connection
+pub holds_stay : (key : ℕ) (deed : Deed) (old new : Desk) (before after : List ℕ) → Turns (desk.Does key deed) old new before after → new.holds ≡ old.holds
+holds_stay key deed old new before after t = ap (λ (d : Desk). d.holds) t.desk_is ∙ holds_does old deed (find_key key old.holds)
+
+-- a part of a message
+pub puts_part : (more : List ℕ) (key : ℕ) (old new : desks.Desk) (before after : List ℕ) (hold : Hold) → find_key key old.holds.items ≡ Some hold → new.holds.items ≡ old.holds.items
+    → DoesAt (λ (s : ClientSession). put s more) hold.lease old.service new.service before after → ClientPuts false more key old new before after
+puts_part more key old new before after hold its same d = record {
+  hold = hold;
+  its = its;
+  same = same;
+  from = d.session;
+  to = d.next;
+  moves = d.moves;
+  out = d.does.0;
+  put_is = d.does.1;
+  appended = d.does.2;
+}
+
+-- and its end
+pub puts_last : (more : List ℕ) (key : ℕ) (old mid new : desks.Desk) (before between after : List ℕ) (next : Hold) → (p : ClientPuts false more key old mid before between) → find_key key mid.holds.items ≡ Some next
+    → new.holds.items ≡ mid.holds.items → DoesAt finished next.lease mid.service new.service between after → ClientPuts true more key old new before after
+puts_last more key old mid new before between after next p its same d =
+    let one : next ≡ p.hold = (let u : Some next ≡ Some p.hold = sym its ∙ ap (find_key key) p.same ∙ p.its in cc) in
+    let e : DoesAt finished p.hold.lease mid.service new.service between after = subst (λ (h : Hold). DoesAt finished h.lease mid.service new.service between after) one d in
+    let client : e.session ≡ p.to = (let u : Some e.session ≡ Some p.to = sym e.moves.was ∙ p.moves.is in cc) in
+    record {
+      hold = p.hold;
+      its = p.its;
+      same = same ∙ p.same;
+      from = p.from;
+      to = e.next;
+      moves = record { was = p.moves.was; is = e.moves.is };
+      out = p.out ++ e.does.0;
+      put_is = (p.out, e.does.0, p.to, refl, p.put_is, ap finished (sym client) ∙ e.does.1);
+      appended = e.does.2 ∙ ap (λ (xs : List ℕ). xs ++ e.does.0) p.appended ∙ append_assoc before p.out e.does.0;
+    }
+
+-- ---- And what goes out waits on its connection
+
+grows_by : (whole : Bool) (more : List ℕ) (number : ℕ) (from to : ClientSession) (out : List ℕ) (had : Option (List ℕ)) → ArePut whole more from to out
+    → Grows whole more (going_by number (Some from) had) (going_by number (Some to) (option_map (λ (waits : List ℕ). waits ++ out) had))
+grows_by whole more number from to out None put = Drifts
+grows_by whole more number from to out (Some waits) put = Sends waits out from put
+
+pub grows_on : (whole : Bool) (more : List ℕ) (key : ℕ) (old new : desks.Desk) (after : List ℕ) (ls ms : List Link) (hold : Hold) → find_key key old.holds.items ≡ Some hold → ClientPuts whole more key old new [] after
+    → waits_on hold.number ms ≡ option_map (λ (waits : List ℕ). waits ++ after) (waits_on hold.number ls) → Grows whole more (going old.service ls (find_key key old.holds.items)) (going new.service ms (find_key key new.holds.items))
+grows_on whole more key old new after ls ms hold its p waits =
+    let one : hold ≡ p.hold = (let u : Some hold ≡ Some p.hold = sym its ∙ p.its in cc) in
+    let waits_is : waits_on p.hold.number ms ≡ option_map (λ (xs : List ℕ). xs ++ p.out) (waits_on p.hold.number ls) =
+    subst (λ (h : Hold). waits_on h.number ms ≡ option_map (λ (xs : List ℕ). xs ++ p.out) (waits_on h.number ls)) one
+    (waits ∙ ap (λ (out : List ℕ). option_map (λ (xs : List ℕ). xs ++ out) (waits_on hold.number ls)) p.appended) in
+    let was : going old.service ls (find_key key old.holds.items) ≡ going_by p.hold.number (Some p.from) (waits_on p.hold.number ls) =
+    ap (going old.service ls) p.its ∙ ap (λ (o : Option ClientSession). going_by p.hold.number o (waits_on p.hold.number ls)) p.moves.was in
+    let is : going new.service ms (find_key key new.holds.items) ≡ going_by p.hold.number (Some p.to) (option_map (λ (xs : List ℕ). xs ++ p.out) (waits_on p.hold.number ls)) =
+    ap (λ (hs : List Hold). going new.service ms (find_key key hs)) p.same ∙ ap (going new.service ms) p.its
+    ∙ ap (λ (o : Option ClientSession). going_by p.hold.number o (waits_on p.hold.number ms)) p.moves.is ∙ ap (going_by p.hold.number (Some p.to)) waits_is in
+    subst (λ (b : Body). Grows whole more b (going new.service ms (find_key key new.holds.items))) (sym was)
+    (subst (Grows whole more (going_by p.hold.number (Some p.from) (waits_on p.hold.number ls))) (sym is) (grows_by whole more p.hold.number p.from p.to p.out (waits_on p.hold.number ls) p.put_is))
+
+-- ---- Of an application whose request goes on
+
+asked_by : (whole : Bool) (more : List ℕ) (over : Bool) (a b : Body) → Grows whole more a b → Grows whole more a (if over then Closed else b)
+asked_by whole more true a b g = Shuts
+asked_by whole more false a b g = g
+
+both_by : (whole : Bool) (more : List ℕ) (over : Bool) (a b : Body) → Grows whole more a b → Grows whole more (if over then Closed else a) (if over then Closed else b)
+both_by whole more true a b g = Shuts
+both_by whole more false a b g = g
+
+asked_is : (a : Application) (goes : Body) → a.asking ≡ asking.Goes → body_in (Some a) goes ≡ (if a.is_over then Closed else goes)
+asked_is a goes is = ap (λ (x : Asking). body_in (Some (record a { asking = x })) goes) is
+
+-- it was asked just before
+pub grows_asked : (whole : Bool) (more : List ℕ) (o n : Option Application) (g h : Body) (b : Application) → o ≡ Some b → b.asking ≡ asking.Goes
+    → (body_in n h ≡ Closed) ⊎ (((goes : Body) → body_in n goes ≡ body_in o goes) × Grows whole more g h) → Grows whole more g (body_in n h)
+grows_asked whole more o n g h b is asked (inl shut) = subst (Grows whole more g) (sym shut) Shuts
+grows_asked whole more o n g h b is asked (inr (same, grows)) =
+    subst (Grows whole more g) (sym (same h ∙ ap (λ (x : Option Application). body_in x h) is ∙ asked_is b h asked)) (asked_by whole more b.is_over g h grows)
+
+-- it goes on
+pub grows_going : (whole : Bool) (more : List ℕ) (o m n : Option Application) (f g h : Body) (a b : Application) → Some a ≡ m → o ≡ Some b → a.asking ≡ asking.Goes → b.asking ≡ asking.Goes → b.is_over ≡ a.is_over → f ≡ g
+    → (body_in n h ≡ Closed) ⊎ (((goes : Body) → body_in n goes ≡ body_in o goes) × Grows whole more g h) → Grows whole more (body_in m f) (body_in n h)
+grows_going whole more o m n f g h a b there is asks asked over same_goes (inl shut) = subst (Grows whole more (body_in m f)) (sym shut) Shuts
+grows_going whole more o m n f g h a b there is asks asked over same_goes (inr (same, grows)) =
+    let was : body_in m f ≡ (if b.is_over then Closed else g) =
+    ap (λ (x : Option Application). body_in x f) (sym there) ∙ asked_is a f asks ∙ ap (λ (x : Body). if a.is_over then Closed else x) same_goes ∙ ap (λ (x : Bool). if x then Closed else g) (sym over) in
+    let now : body_in n h ≡ (if b.is_over then Closed else h) = same h ∙ ap (λ (x : Option Application). body_in x h) is ∙ asked_is b h asked in
+    subst (λ (x : Body). Grows whole more x (body_in n h)) (sym was)
+    (subst (Grows whole more (if b.is_over then Closed else g)) (sym now) (both_by whole more b.is_over g h grows))
+
+-- ---- It waits
+
+kept_by : (over : Bool) (kind : MessageKind) (bytes more : List ℕ) (was whole : Bool) → Grows whole more (if over then Closed else Kept kind bytes was) (if over then Closed else Kept kind (bytes ++ more) whole)
+kept_by true kind bytes more was whole = Shuts
+kept_by false kind bytes more was whole = Keeps
+
+waits_is : (a : Application) (goes : Body) (kind : MessageKind) (whole : Bool) → a.asking ≡ asking.Waits kind whole → body_in (Some a) goes ≡ (if a.is_over then Closed else Kept kind a.held.items whole)
+waits_is a goes kind whole is = ap (λ (x : Asking). body_in (Some (record a { asking = x })) goes) is
+
+-- with these bytes behind the others
+pub grows_kept : (whole : Bool) (more : List ℕ) (m n : Option Application) (g h : Body) (a b : Application) (kind : MessageKind) (was : Bool) → Some a ≡ m → n ≡ Some b → a.asking ≡ asking.Waits kind was → b.asking ≡ asking.Waits kind whole
+    → b.is_over ≡ a.is_over → b.held.items ≡ a.held.items ++ more → Grows whole more (body_in m g) (body_in n h)
+grows_kept whole more m n g h a b kind was there is asks asked over held =
+    let from : body_in m g ≡ (if a.is_over then Closed else Kept kind a.held.items was) = ap (λ (x : Option Application). body_in x g) (sym there) ∙ waits_is a g kind was asks in
+    let to : body_in n h ≡ (if a.is_over then Closed else Kept kind (a.held.items ++ more) whole) =
+    ap (λ (x : Option Application). body_in x h) is ∙ waits_is b h kind whole asked ∙ ap (λ (x : Bool). if x then Closed else Kept kind b.held.items whole) over
+    ∙ ap (λ (xs : List ℕ). if a.is_over then Closed else Kept kind xs whole) held in
+    subst (λ (x : Body). Grows whole more x (body_in n h)) (sym from)
+    (subst (Grows whole more (if a.is_over then Closed else Kept kind a.held.items was)) (sym to) (kept_by a.is_over kind a.held.items more was whole))
+
+begun_by : (over : Bool) (kind : Kind) (message : MessageKind) → packets_are message ≡ kind → Begins kind (if over then Closed else Kept message [] false)
+begun_by true kind message is = Refuses
+begun_by false kind message is = Asks message is
+
+-- with nothing of it yet
+pub begun : (n : Option Application) (h : Body) (b : Application) (kind : Kind) (message : MessageKind) → n ≡ Some b → b.asking ≡ asking.Waits message false → b.held.items ≡ [] → packets_are message ≡ kind → Begins kind (body_in n h)
+begun n h b kind message is asked held packets =
+    subst (Begins kind) (sym (ap (λ (x : Option Application). body_in x h) is ∙ waits_is b h message false asked ∙ ap (λ (xs : List ℕ). if b.is_over then Closed else Kept message xs false) held)) (begun_by b.is_over kind message packets)
+
+-- wherever it would go on
+waits_by : (x : Asking) (whole : Bool) (held : List ℕ) (g h : Body) → waits_in x ≡ Some whole → body_by x held g ≡ body_by x held h
+waits_by asking.Nothing whole held g h e = refl
+waits_by (asking.Waits kind was) whole held g h e = refl
+waits_by asking.Goes whole held g h e = absurd (let u : ⊥ = cc in u)
+
+pub waits_any : (o : Option Application) (whole : Bool) (g h : Body) → waits_of o ≡ Some whole → body_in o g ≡ body_in o h
+waits_any None whole g h e = refl
+waits_any (Some a) whole g h e = ap (λ (x : Body). if a.is_over then Closed else x) (waits_by a.asking whole a.held.items g h e)
+
+pub waits_starts : (m n : Option Application) (whole : Bool) (g h x : Body) → waits_of m ≡ Some whole → Spared (body_in m h) (body_in n h) → x ≡ body_in n h → Starts (body_in m g) x
+waits_starts m n whole g h x e spared is = subst (λ (b : Body). Starts b x) (waits_any m whole h g e) (subst (Starts (body_in m h)) (sym is) (spared_starts (body_in m h) (body_in n h) spared))
+
+pub waits_from : (m n : Option Application) (whole : Bool) (g h x : Body) → waits_of m ≡ Some whole → n ≡ m → Starts (body_in n h) x → Starts (body_in m g) x
+waits_from m n whole g h x e same s = subst (λ (b : Body). Starts b x) (ap (λ (o : Option Application). body_in o h) same ∙ waits_any m whole h g e) s
+
+-- as it is kept
+pub kept_at : (m : Option Application) (g : Body) (a : Application) (kind : MessageKind) (whole : Bool) → Some a ≡ m → a.is_over ≡ false → a.asking ≡ asking.Waits kind whole → body_in m g ≡ Kept kind (held_of m) whole
+kept_at m g a kind whole there here asks =
+    ap (λ (x : Option Application). body_in x g) (sym there) ∙ waits_is a g kind whole asks ∙ ap (λ (x : Bool). if x then Closed else Kept kind a.held.items whole) here
+    ∙ ap (λ (x : Option Application). Kept kind (held_of x) whole) there
+
+-- ---- It starts
+
+starts_as : (whole : Bool) (held : List ℕ) (kind : MessageKind) (number : ℕ) (from : ClientSession) (waits : List ℕ) (b : Body) → Grows whole held (Going number (opened from kind) waits) b → Starts (Kept kind held whole) b
+starts_as whole held kind number from waits b (Sends ws out client put) = Goes ws out from put
+starts_as whole held kind number from waits b Shuts = Closes
+
+starts_by : (whole : Bool) (held : List ℕ) (kind : MessageKind) (number : ℕ) (from : ClientSession) (had : Option (List ℕ)) (waits : List ℕ) (b : Body) → had ≡ Some waits
+    → Grows whole held (going_by number (Some (opened from kind)) had) b → Starts (Kept kind held whole) b
+starts_by whole held kind number from had waits b there g = starts_as whole held kind number from waits b (subst (λ (o : Option (List ℕ)). Grows whole held (going_by number (Some (opened from kind)) o) b) there g)
+
+pub starts_on : (whole : Bool) (held : List ℕ) (kind : MessageKind) (key : ℕ) (old new : desks.Desk) (ls : List Link) (hold : Hold) (waits : List ℕ) (b : Body) → find_key key old.holds.items ≡ Some hold → new.holds.items ≡ old.holds.items
+    → Opens kind hold.lease old.service new.service → waits_on hold.number ls ≡ Some waits → Grows whole held (going new.service ls (find_key key new.holds.items)) b → Starts (Kept kind held whole) b
+starts_on whole held kind key old new ls hold waits b its same o there g =
+    let is : going new.service ls (find_key key new.holds.items) ≡ going_by hold.number (Some (opened o.0 kind)) (waits_on hold.number ls) =
+    ap (λ (hs : List Hold). going new.service ls (find_key key hs)) same ∙ ap (going new.service ls) its ∙ ap (λ (c : Option ClientSession). going_by hold.number c (waits_on hold.number ls)) o.1.is in
+    starts_by whole held kind hold.number o.0 (waits_on hold.number ls) waits b there (subst (λ (x : Body). Grows whole held x b) is g)
+
+-- ---- What waits
+
+pub waits_behind : (n : ℕ) (ms ks ls : List Link) (outbox after : List ℕ) → waits_on n ms ≡ option_map (λ (waits : List ℕ). waits ++ outbox) (waits_on n ks) → ks ≡ ls → outbox ≡ after
+    → waits_on n ms ≡ option_map (λ (waits : List ℕ). waits ++ after) (waits_on n ls)
+waits_behind n ms ks ls outbox after e links out =
+    e ∙ ap (λ (xs : List Link). option_map (λ (waits : List ℕ). waits ++ outbox) (waits_on n xs)) links
+    ∙ ap (λ (ys : List ℕ). option_map (λ (waits : List ℕ). waits ++ ys) (waits_on n ls)) out
+
+some_of : (o : Option (List ℕ)) → IsSome o → (waits : List ℕ) × (o ≡ Some waits)
+some_of None is = absurd (let u : ⊥ = cc in u)
+some_of (Some waits) is = (waits, refl)
+
+pub starts_there : (whole : Bool) (held : List ℕ) (kind : MessageKind) (key : ℕ) (old new : desks.Desk) (ls : List Link) (hold its : Hold) (b : Body) → find_key key old.holds.items ≡ Some hold → find_key key old.holds.items ≡ Some its
+    → new.holds.items ≡ old.holds.items → Opens kind hold.lease old.service new.service → IsSome (waits_on its.number ls) → Grows whole held (going new.service ls (find_key key new.holds.items)) b → Starts (Kept kind held whole) b
+starts_there whole held kind key old new ls hold its b one two same o there g =
+    let alike : its ≡ hold = (let u : Some its ≡ Some hold = sym two ∙ one in cc) in
+    let waits = some_of (waits_on hold.number ls) (subst (λ (h : Hold). IsSome (waits_on h.number ls)) alike there) in
+    starts_on whole held kind key old new ls hold waits.0 b one same o waits.1 g

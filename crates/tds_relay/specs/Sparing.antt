@@ -1,0 +1,134 @@
+-- What one application does leaves the requests of all others as they are.
+use Rattle.std.specs.Prelude.{◌≡◌, ◌≢◌, ◌⊎◌, ◌++◌, ℕ, Bool, List, [], ◌∷◌, Option, Some, None, option_map}
+use Rattle.tds_client.specs.declared.message.MessageKind.{MessageKind}
+use Rattle.tds_client.specs.Session.{ClientSession}
+use Rattle.tds_client.specs.Streams.{opened}
+use Rattle.tds_service.specs.declared.service.Service as services
+use Rattle.tds_service.specs.Table.{client_of}
+use Rattle.tds_relay.specs.declared.desk.Desk as desks
+use Rattle.tds_relay.specs.declared.desk.Hold.{Hold}
+use Rattle.tds_relay.specs.declared.relay.Relay as code
+use Rattle.tds_relay.specs.Asking.{IsTakenBack}
+use Rattle.tds_relay.specs.Bodies.{ArePut, Astray, Body, Closed, Going, Kept, Nowhere, Spared, Starts, body_of}
+use Rattle.tds_relay.specs.Desk.{find_key}
+use Rattle.tds_relay.specs.Fronts.{ends_in}
+use Rattle.tds_relay.specs.Hall.{end_at}
+use Rattle.tds_relay.specs.Reads.{open_at, reader_at}
+use Rattle.tds_relay.specs.Ties.{IsReached, desk_in}
+
+-- ---- At a desk
+
+-- the connection that is held, by its number, and its client
+abbrev pub Held : Type 0
+Held = ℕ × ClientSession
+
+abbrev pub held_by : services.Service → Option Hold → Option Held
+held_by s None = None
+held_by s (Some hold) = option_map (λ (client : ClientSession). let held : Held = (hold.number, client) in held) (client_of hold.lease s)
+
+-- what this application holds
+abbrev pub held_at : ℕ → desks.Desk → Option Held
+held_at key d = held_by d.service (find_key key d.holds.items)
+
+-- It holds what it held; where that was nothing, nothing is said.
+abbrev pub HoldsOn : ℕ → desks.Desk → desks.Desk → Type 0
+HoldsOn key old new = (held_at key new ≡ held_at key old) ⊎ (held_at key old ≡ None)
+
+-- All others than this one do, at a desk that was reached by events.
+pub record OthersHold (key : ℕ) (old new : desks.Desk) : Type 0 where
+  pub hold : IsReached (desk_in old) → (other : ℕ) → other ≢ key → HoldsOn other old new
+
+-- each does
+pub record AllHold (old new : desks.Desk) : Type 0 where
+  pub hold : IsReached (desk_in old) → (key : ℕ) → HoldsOn key old new
+
+-- It doesn't hold the connection of this number.
+abbrev pub IsOff : ℕ → ℕ → desks.Desk → Type 0
+IsOff number key d = (client : ClientSession) → held_at key d ≢ Some (number, client)
+
+-- All who don't hold it hold what they held.
+pub record OffHold (number : ℕ) (old new : desks.Desk) : Type 0 where
+  pub hold : IsReached (desk_in old) → (key : ℕ) → IsOff number key old → HoldsOn key old new
+
+-- ---- At a relay
+
+-- It stays, or its application is to be closed; of one that is astray nothing is said.
+abbrev pub Rests : Body → Body → Type 0
+Rests old new = Spared old new ⊎ (old ≡ Astray)
+
+-- So does each,
+pub record AllRest (old new : code.Relay) : Type 0 where
+  pub rest : (key : ℕ) → Rests (body_of key old) (body_of key new)
+
+-- or each but that of one application.
+pub record OthersRest (key : ℕ) (old new : code.Relay) : Type 0 where
+  pub rest : (other : ℕ) → other ≢ key → Rests (body_of other old) (body_of other new)
+
+-- Each stays or starts, where the desk was reached by events.
+pub record AllGo (old new : code.Relay) : Type 0 where
+  pub go : IsReached (desk_in old.desk) → (key : ℕ) → Starts (body_of key old) (body_of key new)
+
+-- ---- A request that has waited
+
+abbrev pub IsKept : Body → Type 0
+IsKept Closed = ⊥
+IsKept Nowhere = ⊥
+IsKept (Kept kind bytes whole) = Unit {0}
+IsKept Astray = ⊥
+IsKept (Going number client waits) = ⊥
+
+abbrev pub IsUnkept : Body → Type 0
+IsUnkept Closed = Unit {0}
+IsUnkept Nowhere = Unit {0}
+IsUnkept (Kept kind bytes whole) = ⊥
+IsUnkept Astray = Unit {0}
+IsUnkept (Going number client waits) = Unit {0}
+
+-- It goes on, or its application is to be closed.
+abbrev pub HasGone : Body → Type 0
+HasGone Closed = Unit {0}
+HasGone Nowhere = ⊥
+HasGone (Kept kind bytes whole) = ⊥
+HasGone Astray = ⊥
+HasGone (Going number client waits) = Unit {0}
+
+-- It waits: what its application took back isn't acknowledged yet, or the connection that this holds isn't open.
+pub data IsHeldBack (key : ℕ) (r : code.Relay) : Type 0 where
+  Drains : IsTakenBack (end_at (ends_in r.applications) key) → IsHeldBack key r
+  Opens : (hold : Hold) → find_key key r.desk.holds.items ≡ Some hold → open_at hold.number r.links.items ≡ None → IsHeldBack key r
+
+-- One that was kept for the connection of this number goes on there now; but where what its application took back isn't acknowledged yet,
+-- and where there is no such connection.
+pub record StartsOn (number : ℕ) (old new : code.Relay) : Type 0 where
+  pub start : (key : ℕ) (client : ClientSession) → held_at key old.desk ≡ Some (number, client) → IsKept (body_of key old)
+      → HasGone (body_of key new) ⊎ (IsTakenBack (end_at (ends_in old.applications) key) ⊎ (reader_at number old.links.items ≡ None))
+
+-- ---- Over calls
+
+-- It was put as it was kept, all of it, by a client that began a request of its kind.
+pub record IsPut (kind : MessageKind) (bytes : List ℕ) (whole : Bool) (new : Body) : Type 0 where
+  pub number : ℕ
+  pub from : ClientSession
+  pub to : ClientSession
+  pub waits : List ℕ
+  pub out : List ℕ
+  pub is : new ≡ Going number to (waits ++ out)
+  pub put : ArePut whole bytes (opened from kind) to out
+
+-- It is where it was, or its application is to be closed; or what was kept was put. Of one that is astray nothing is said.
+abbrev pub IsLeft : Body → Body → Type 0
+IsLeft Closed new = new ≡ Closed
+IsLeft Nowhere new = (new ≡ Nowhere) ⊎ (new ≡ Closed)
+IsLeft (Kept kind bytes whole) new = (new ≡ Kept kind bytes whole) ⊎ ((new ≡ Closed) ⊎ IsPut kind bytes whole new)
+IsLeft Astray new = Unit {0}
+IsLeft (Going number client waits) new = (new ≡ Going number client waits) ⊎ (new ≡ Closed)
+
+-- Calls of which each lets all requests stay or start led from one relay to the next.
+abbrev pub AreCalls : code.Relay → List code.Relay → Type 0
+AreCalls r [] = Unit {0}
+AreCalls r (next ∷ more) = IsReached (desk_in r.desk) × AllGo r next × AreCalls next more
+
+-- the last one
+abbrev pub behind_all : code.Relay → List code.Relay → code.Relay
+behind_all r [] = r
+behind_all r (next ∷ more) = behind_all next more
