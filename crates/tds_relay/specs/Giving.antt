@@ -2,6 +2,7 @@
 use Rattle.std.specs.Prelude.{◌≡◌, ◌≢◌, ◌⊎◌, ℕ, ◌==◌, Bool, true, false, List, [], ◌∷◌, ◌++◌, Option, Some, None, take, if◌then◌else◌}
 use Rattle.tds_packet.specs.declared.header.Header.{Header}
 use Rattle.tds_packet.specs.Reading.{joined}
+use Rattle.tds_wire.specs.declared.features.Features.{Features}
 use Rattle.tds_front.specs.Passing.{towards}
 use Rattle.tds_front.specs.Serving.{Happening, Comes, Goes, Closes, Reply, Tokens, Ends, Acknowledges}
 use Rattle.tds_front.specs.declared.stage.Stage.TheVariants as stages
@@ -15,6 +16,7 @@ use Rattle.tds_relay.specs.House.{House, Step, Makes, Hands, Takes, Writes, Admi
 use Rattle.tds_relay.specs.Promises.{Each}
 use Rattle.tds_relay.specs.Ties.{Cause}
 use Rattle.tds_relay.specs.Posts.{Post, Posts, acknowledgement, post_at}
+use Rattle.tds_relay.specs.Walkers.{AllReadAnew}
 
 -- ---- What it is given
 
@@ -86,7 +88,8 @@ IsKept key h steps =
 
 -- ---- From where it has come
 
--- An application comes, behind these steps, and these are the steps since.
+-- An application comes, behind these steps, and these are the steps since. Each packet on each connection is read from where the one before
+-- has left its walker, which begins as the relay's service was told.
 pub record Visit (max key : ℕ) : Type 0 where
   pub before : List Step
   pub ends : hall.Ends
@@ -94,6 +97,9 @@ pub record Visit (max key : ℕ) : Type 0 where
   pub since : List Step
   pub may : MayAll (new_house max) (before ++ Admits key ends posts ∷ since)
   pub stays : StaysAll key since
+  pub most : ℕ
+  pub features : Features
+  pub read : AllReadAnew most features (new_house max) (before ++ Admits key ends posts ∷ since)
 
 -- where it has come
 abbrev pub house_in : {max key : ℕ} → Visit max key → House

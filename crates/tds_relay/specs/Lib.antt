@@ -1,6 +1,7 @@
 pub mod Asking
 pub mod Away
 pub mod Behind
+pub mod Bodies
 pub mod Bounds
 pub mod Cutting
 pub mod Desk

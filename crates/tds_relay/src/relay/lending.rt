@@ -4,11 +4,11 @@ ghost use Rattle.slab.specs.Slab.{get};
 ghost use Rattle.tds_relay.specs.Asking.{IsUnderway, waits_of};
 ghost use Rattle.tds_relay.specs.Fronts.{MovedOn, ends_in, hall_in, house_in};
 ghost use Rattle.tds_relay.specs.Hall.{end_at};
-ghost use Rattle.tds_relay.specs.House.{Steps};
+ghost use Rattle.tds_relay.specs.House.{Steps, StepsOn};
 ghost use Rattle.tds_relay.specs.Posts.{posts_in};
 ghost use Rattle.tds_relay.specs.Reads.{Opens, OpensFirst, OpensOne, Stays, open_at, opened_at};
 ghost use Rattle.tds_relay.specs.Taking.{IsDeaf};
-ghost use Rattle.tds_relay.specs.Ties.{Connection, Goes, GoesOn, Neither, NobodyWaits, desk_in};
+ghost use Rattle.tds_relay.specs.Ties.{Goes, GoesOn, Neither, NobodyWaits, desk_in};
 ghost use Rattle.tds_relay.specs.Walkers.{AllStand};
 
 use super::Relay;
@@ -72,8 +72,7 @@ impl Relay {
     /// The connection of this number is open and logged in.
     pub fn opened(&mut self, number: u64) -> Result<(), NoMemory>
         ensures goes { OnOk result (GoesOn (desk_in self.old.desk) (desk_in self.new.desk)) }
-        ensures steps { OnOk result (Steps (Connection number) (house_in self.old)
-            (house_in self.new)) }
+        ensures steps { OnOk result (StepsOn (house_in self.old) (house_in self.new)) }
         ensures served { OnOk result (NobodyWaits (desk_in self.new.desk)) }
         ensures opens { OnOk result (OpensOne number self.old.links.items self.new.links.items) }
         ensures stand { OnOk result (AllStand self.old.desk.service
