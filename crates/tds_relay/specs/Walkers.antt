@@ -42,7 +42,8 @@ IsReadAt number r h (Hands other header content part way manner) = number ≡ ot
 IsReadAt number r h step = Unit {0}
 
 abbrev pub stands_by : ℕ → Reading → House → Step → Reading
-stands_by number r h (Hands other header content part way manner) = read_at number other (seat_numbered other h.hall.desk.service.seats) (ends_in header) content r
+stands_by number r h (Hands other header content part way manner) =
+    read_at number other (seat_numbered other h.hall.desk.service.seats) (ends_in header) content r
 stands_by number r h step = r
 
 -- Each packet on the connection of this number is read from where the one before has left its walker.

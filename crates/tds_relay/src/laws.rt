@@ -1,7 +1,7 @@
 //! What a desk promises, over any list of events, and a relay behind any calls. Each function does nothing
 //! when it runs: its contract is the law.
-ghost use Rattle.std.specs.Prelude.{◌≡◌, [], ◌+◌, ◌<◌, ◌≤◌, ◌++◌, ℕ, List, None, OnOk, Option, Some, false};
-ghost use Rattle.std.specs.Prelude.{vec_len};
+ghost use Rattle.std.specs.Prelude.{◌≡◌, [], ◌∷◌, ◌+◌, ◌<◌, ◌≤◌, ◌++◌, ℕ, List, None, OnOk, Option};
+ghost use Rattle.std.specs.Prelude.{Some, false, vec_len};
 ghost use Rattle.tds_wire.specs.declared.told.Token.{Token};
 ghost use Rattle.tds_service.specs.Line.{Idle};
 ghost use Rattle.tds_service.specs.Service.{Lease, Seat, seat_numbered, step};
@@ -21,10 +21,13 @@ ghost use Rattle.tds_relay.specs.declared.link.Link.{Link};
 ghost use Rattle.tds_relay.specs.declared.outgoing.Outgoing.{Outgoing};
 ghost use Rattle.tds_relay.specs.Fronting.{AnswersOnce, done_on, happened};
 ghost use Rattle.tds_relay.specs.Fronts.{house_in};
-ghost use Rattle.tds_relay.specs.Giving.{AreSaid, Gives, IsFrontOf, IsKept, ServersAnswerOnce};
+ghost use Rattle.tds_relay.specs.Giving.{AreSaid, Gives, IsFrontOf, IsKept, ServersAnswerOnce, StaysAll};
 ghost use Rattle.tds_relay.specs.Giving.{Visit, given_in, happens_in, pieces_of, sent_in};
 ghost use Rattle.tds_relay.specs.Giving.{waits_in};
-ghost use Rattle.tds_relay.specs.House.{House, IsLedTo, MayAll, Step, Steps, new_house};
+ghost use Rattle.tds_relay.specs.House.{Admits, House, IsLedTo, MayAll, Step, Steps};
+ghost use Rattle.tds_relay.specs.House.{new_house};
+ghost use Rattle.tds_relay.specs.Hall.{Ends};
+ghost use Rattle.tds_relay.specs.Posts.{Posts};
 ghost use Rattle.tds_packet.specs.Reading.{Reading, joined};
 ghost use Rattle.tds_relay.specs.Reads.{AreReadIn, Call, Comes, Follow, FollowAt, Reads, bytes_in};
 ghost use Rattle.tds_relay.specs.Reads.{open_at, packets_in, stands_in};
@@ -238,6 +241,12 @@ pub fn read_from_new()
         (bytes : List ℕ) (old new : House) (from to : Service)
         → Comes number had old from bytes now new to
         → IsReadTo max most features old from → IsReadTo max most features new to }
+    /// An application that has come by these steps, and is there still, makes a visit of them.
+    ensures visit { (max most key : ℕ) (features : Features) (h : House) (s : Service)
+        (before since : List Step) (ends : Ends) (posts : Posts)
+        (led : IsReadTo max most features h s)
+        → led.steps ≡ before ++ Admits key ends posts ∷ since → StaysAll key since
+        → (v : Visit max key) × (v.before ≡ before) × (v.since ≡ since) }
 {}
 
 /// Behind each application's end is a lawful server's end, from where the application enters and while it

@@ -1,5 +1,5 @@
 -- Packets that come by steps are read from where the one before has left the walker.
-use Rattle.std.proofs.Common.{◌≡◌, ◌≢◌, ◌∙◌, ◌==◌, ℕ, false, List, [], ◌∷◌, ◌++◌, Option, Some, None, inl, inr, length, replicate, refl, sym, ap, subst, arith}
+use Rattle.std.proofs.Common.{◌≡◌, ◌≢◌, ◌∙◌, ◌==◌, ℕ, false, List, [], ◌∷◌, ◌++◌, Option, Some, None, inl, inr, replicate, refl, sym, ap, subst, arith}
 use Rattle.std.proofs.lemmas.Bool.{ne_eqb}
 use Rattle.std.proofs.lemmas.Bool.Decides.{eqb_tells}
 use Rattle.std.proofs.lemmas.List.{length-replicate}
@@ -20,13 +20,14 @@ use Rattle.tds_service.specs.Service.{Seat, Service, has_number, seat_numbered}
 use Rattle.tds_service.specs.Table.{reading_on, service_in}
 use Rattle.tds_relay.specs.Cutting.{ends_in}
 use Rattle.tds_relay.specs.Desk.{Way}
-use Rattle.tds_relay.specs.Hall.{Move}
+use Rattle.tds_relay.specs.Giving.{StaysAll, Visit}
+use Rattle.tds_relay.specs.Hall.{Ends, Move}
 use Rattle.tds_relay.specs.House.{House, Step, Admits, CausesStep, Hands, Makes, Manner, MayAll, Removes, Steps, Takes, Writes, after, after_all, new_house}
 use Rattle.tds_relay.specs.Posts.{Posts}
 use Rattle.tds_relay.specs.Promises.{Each}
 use Rattle.tds_relay.specs.Reads.{Comes}
 use Rattle.tds_relay.specs.Ties.{Cause, IsNoConnection, Neither, part_on}
-use Rattle.tds_relay.specs.Walkers.{AllRead, AllStand, AreRead, IsReadBy, IsReadTo, IsUnread, NoneRead, ReadAnew, StandsAt, There, Unread, Walks, read_at, stands_behind, stands_by}
+use Rattle.tds_relay.specs.Walkers.{AllRead, AllReadAnew, AllStand, AreRead, IsReadBy, IsReadTo, IsUnread, NoneRead, ReadAnew, StandsAt, There, Unread, Walks, read_at, stands_behind, stands_by}
 use Rattle.tds_relay.proofs.bytes.Walking.{low_there, unread_seat}
 use Rattle.tds_relay.proofs.steps.Handed.{walker_by}
 use Rattle.tds_relay.proofs.steps.Stepping.{after_both, makes_all, may_both, steps_of}
@@ -248,3 +249,20 @@ reads_came number max most features had now bytes old new from to c led =
     let mid : IsReadTo max most features c.mid c.at = reads_on max most features old c.mid from c.at s.steps s.are s.may s.walks led in
     let more : Steps Neither (record { hall = c.mid.hall; posts = c.mid.posts }) (record { hall = new.hall; posts = c.mid.posts }) = steps_of Neither c.mid.hall new.hall c.mid.posts (c.goes_on Neither) in
     reads_called Neither max most features c.mid new c.at to tt (subst (λ (ps : Posts). Steps Neither c.mid (record { hall = new.hall; posts = ps })) (sym c.kept) more) c.stand mid
+
+-- who has come, and stays
+pub visits : (max most key : ℕ) (features : Features) (h : House) (s : services.Service) (before since : List Step) (ends : Ends) (posts : Posts) (led : IsReadTo max most features h s)
+    → led.steps ≡ before ++ Admits key ends posts ∷ since → StaysAll key since → (v : Visit max key) × (v.before ≡ before) × (v.since ≡ since)
+visits max most key features h s before since ends posts led are stays =
+    let v : Visit max key = record {
+      before = before;
+      ends = ends;
+      posts = posts;
+      since = since;
+      may = subst (MayAll (new_house max)) are led.may;
+      stays = stays;
+      most = most;
+      features = features;
+      read = subst (AllReadAnew most features (new_house max)) are (λ n. let e = led.each n in (e.0, e.1, e.2));
+    } in
+    (v, refl, refl)

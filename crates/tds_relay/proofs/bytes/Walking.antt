@@ -299,7 +299,7 @@ lent_begun old new number had n is next begins now led none there =
     let low : n ≤ new.last = low_there n new now (led_on (service_in old) (service_in new) calls.Lease is led) there in
     let was_not : (n ≤ old.last) → Begins old.most old.features now =
     λ was.
-        absurd (let gone : reading_on n new ≡ None = none_low old new calls.Lease n is was none in let u : None ≡ Some now = sym gone ∙ there in let v : ⊥ = cc in v) in
+    absurd (let gone : reading_on n new ≡ None = none_low old new calls.Lease n is was none in let u : None ≡ Some now = sym gone ∙ there in let v : ⊥ = cc in v) in
     elim next [
       | inl same ↦ was_not (subst (λ (k : ℕ). n ≤ k) same low)
       | inr opened ↦

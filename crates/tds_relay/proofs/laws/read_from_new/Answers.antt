@@ -1,4 +1,4 @@
-use Rattle.tds_relay.proofs.bytes.Rereading.{reads_called, reads_came, reads_new}
+use Rattle.tds_relay.proofs.bytes.Rereading.{reads_called, reads_came, reads_new, visits}
 use Rattle.tds_relay.proofs.laws.read_from_new.Goals as goal
 
 pub returns-clause-new : goal.returns-clause-new
@@ -9,3 +9,6 @@ returns-clause-called c = reads_called
 
 pub returns-clause-came : goal.returns-clause-came
 returns-clause-came c = reads_came
+
+pub returns-clause-visit : goal.returns-clause-visit
+returns-clause-visit c = visits
