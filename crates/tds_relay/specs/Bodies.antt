@@ -1,10 +1,14 @@
 -- Where the body of an application's request is: kept while that waits, or put by the client of the connection that its application holds.
-use Rattle.std.specs.Prelude.{◌≡◌, ◌⊎◌, ℕ, Bool, true, false, List, [], ◌∷◌, ◌++◌, drop, Option, Some, None, Ok, option_map, if◌then◌else◌}
-use Rattle.slab.specs.Slab.{get}
+use Rattle.std.specs.Prelude.{◌≡◌, ◌≢◌, ◌⊎◌, ◌-◌, ℕ, Bool, true, false, List, [], ◌∷◌, ◌++◌, drop, length, take, Option, Some, None, Ok, option_map, if◌then◌else◌}
+use Rattle.slab.specs.Slab.{Slab, get}
+use Rattle.tds_packet.specs.declared.kind.Kind.{Kind}
 use Rattle.tds_client.specs.declared.message.MessageKind.{MessageKind}
 use Rattle.tds_client.specs.Session.{ClientSession}
 use Rattle.tds_client.specs.Streamed.{Streams}
-use Rattle.tds_client.specs.Streams.{opened, put}
+use Rattle.tds_client.specs.Streams.{opened, packets_are, put}
+use Rattle.tds_front.specs.declared.front.Said.{Said}
+use Rattle.tds_front.specs.declared.front.Said.TheVariants as said
+use Rattle.tds_front.specs.Bytes.{fed}
 use Rattle.tds_service.specs.declared.service.Service as services
 use Rattle.tds_service.specs.Table.{client_of}
 use Rattle.tds_relay.specs.declared.application.Application.{Application}
@@ -13,12 +17,18 @@ use Rattle.tds_relay.specs.declared.application.Asking.TheVariants as asking
 use Rattle.tds_relay.specs.declared.desk.Hold.{Hold}
 use Rattle.tds_relay.specs.declared.link.Link.{Link}
 use Rattle.tds_relay.specs.declared.relay.Relay as code
+use Rattle.tds_relay.specs.Asking.{said_of}
 use Rattle.tds_relay.specs.Desk.{find_key}
+use Rattle.tds_relay.specs.Hall.{End, Open, Over, end_at}
+use Rattle.tds_relay.specs.House.{House, Step, Takes, after}
 use Rattle.tds_relay.specs.Posts.{post_in}
 use Rattle.tds_relay.specs.Reads.{link_at}
+use Rattle.tds_relay.specs.Taking.{Tells, count_by}
 
 pub data Body : Type 0 where
-  -- there is none: nothing is asked, or its application is to be closed
+  -- its application is to be closed, or isn't there
+  Closed : Body
+  -- there is none: nothing is asked
   Nowhere : Body
   -- its request waits, with these bytes of it; all has come or not
   Kept : (kind : MessageKind) (bytes : List ℕ) (whole : Bool) → Body
@@ -28,8 +38,11 @@ pub data Body : Type 0 where
 -- ---- In a relay
 
 -- what waits to be sent on the connection of this number, if that is there
+abbrev pub bytes_on : Link → List ℕ
+bytes_on l = (post_in l.out).bytes
+
 abbrev pub waits_on : ℕ → List Link → Option (List ℕ)
-waits_on number ls = option_map (λ (l : Link). (post_in l.out).bytes) (link_at number ls)
+waits_on number ls = option_map bytes_on (link_at number ls)
 
 abbrev pub going_by : ℕ → Option ClientSession → Option (List ℕ) → Body
 going_by number None waits = Nowhere
@@ -45,30 +58,109 @@ body_by asking.Nothing held goes = Nowhere
 body_by (asking.Waits kind whole) held goes = Kept kind held whole
 body_by asking.Goes held goes = goes
 
+-- by what an application asks: where that goes on, it is this
 abbrev pub body_in : Option Application → Body → Body
-body_in None goes = Nowhere
-body_in (Some a) goes = if a.is_over then Nowhere else body_by a.asking a.held.items goes
+body_in None goes = Closed
+body_in (Some a) goes = if a.is_over then Closed else body_by a.asking a.held.items goes
+
+-- what goes on where it holds a connection
+abbrev pub going_of : ℕ → code.Relay → Body
+going_of key r = going r.desk.service r.links.items (find_key key r.desk.holds.items)
 
 -- that of the request of the application by this key
 abbrev pub body_of : ℕ → code.Relay → Body
-body_of key r = body_in (get r.applications key) (going r.desk.service r.links.items (find_key key r.desk.holds.items))
+body_of key r = body_in (get r.applications key) (going_of key r)
+
+-- Each application asks what it asked.
+abbrev pub AskAsBefore : Slab Application → Slab Application → Type 0
+AskAsBefore old new = (key : ℕ) (goes : Body) → body_in (get new key) goes ≡ body_in (get old key) goes
 
 -- ---- What becomes of one
 
 -- These bytes are put by a client, and with them its message is finished or not: the client behind that, and what goes out.
-abbrev pub Puts : Bool → List ℕ → ClientSession → ClientSession → List ℕ → Type 0
-Puts false more from to out = put from more ≡ Ok (record { answer = tt; session = to; bytes = out })
-Puts true more from to out = Streams from (more ∷ []) out to
+abbrev pub ArePut : Bool → List ℕ → ClientSession → ClientSession → List ℕ → Type 0
+ArePut false more from to out = put from more ≡ Ok (record { answer = tt; session = to; bytes = out })
+ArePut true more from to out = Streams from (more ∷ []) out to
 
--- One that has waited is put as it was kept, all of it, by a client that begins a request of its kind; what goes out by that waits behind what
--- waited on its connection. Or it is where it was.
+-- It stays, or its application is to be closed. Or one that has waited is put as it was kept, all of it, by a client that begins a request
+-- of its kind; what goes out by that waits behind what waited on its connection.
 pub data Starts : Body → Body → Type 0 where
   Stays : {b : Body} → Starts b b
+  Closes : {b : Body} → Starts b Closed
   Goes : {kind : MessageKind} {bytes : List ℕ} {whole : Bool} {number : ℕ} {to : ClientSession} {waits out : List ℕ}
-    → (from : ClientSession) → Puts whole bytes (opened from kind) to out → Starts (Kept kind bytes whole) (Going number to (waits ++ out))
+      → (from : ClientSession) → ArePut whole bytes (opened from kind) to out → Starts (Kept kind bytes whole) (Going number to (waits ++ out))
 
--- These bytes of it have come, with which it is whole or not: they are kept behind the others, or put.
+-- So it is of all.
+abbrev pub AllStart : code.Relay → code.Relay → Type 0
+AllStart old new = (key : ℕ) → Starts (body_of key old) (body_of key new)
+
+-- It stays, or its application is to be closed.
+abbrev pub Spared : Body → Body → Type 0
+Spared old new = (new ≡ old) ⊎ (new ≡ Closed)
+
+-- So it is of all but that of one application.
+abbrev pub SparesOthers : ℕ → code.Relay → code.Relay → Type 0
+SparesOthers key old new = (other : ℕ) → other ≢ key → Spared (body_of other old) (body_of other new)
+
+-- These bytes of it have come, with which it is whole or not: they are kept behind the others, or put. Or its application is to be closed.
 pub data Grows (whole : Bool) (more : List ℕ) : Body → Body → Type 0 where
   Keeps : {kind : MessageKind} {bytes : List ℕ} {was : Bool} → Grows whole more (Kept kind bytes was) (Kept kind (bytes ++ more) whole)
-  Puts : {number : ℕ} {to : ClientSession} {waits out : List ℕ}
-    → (from : ClientSession) → Puts whole more from to out → Grows whole more (Going number from waits) (Going number to (waits ++ out))
+  Sends : {number : ℕ} {to : ClientSession} {waits out : List ℕ}
+      → (from : ClientSession) → ArePut whole more from to out → Grows whole more (Going number from waits) (Going number to (waits ++ out))
+  IsNot : Grows whole more Nowhere Nowhere
+  Shuts : {b : Body} → Grows whole more b Closed
+
+-- A request of packets of this type begins, with nothing of its body; or its application is to be closed.
+pub data Begins (kind : Kind) : Body → Type 0 where
+  Asks : (message : MessageKind) → packets_are message ≡ kind → Begins kind (Kept message [] false)
+  Refuses : Begins kind Closed
+
+-- ---- Piece by piece
+
+-- the last of these bytes
+abbrev pub last_of : ℕ → List ℕ → List ℕ
+last_of count bytes = drop (length bytes - count) bytes
+
+-- What becomes of a body by bytes that are taken of its application, of which this is said. Of an attention that goes on nothing is said here.
+abbrev pub Becomes : Said → List ℕ → Body → Body → Type 0
+Becomes said.Nothing taken old new = new ≡ old
+Becomes (said.Begin kind reset) taken old new = Begins kind new
+Becomes (said.Body count) taken old new = Grows false (last_of count taken) old new
+Becomes (said.End count) taken old new = Grows true (last_of count taken) old new
+Becomes (said.Forget gone) taken old new = new ≡ Nowhere
+Becomes said.Acknowledge taken old new = new ≡ Nowhere
+Becomes said.HandOn taken old new = Unit {0}
+
+-- and then it may start
+pub record Obeys (answer : Said) (taken : List ℕ) (old new : Body) : Type 0 where
+  pub mid : Body
+  pub does : Becomes answer taken old mid
+  pub starts : Starts mid new
+
+-- the bytes that an end takes of these at once
+abbrev pub taken_of : List ℕ → Option End → List ℕ
+taken_of bytes None = []
+taken_of bytes (Some (Open front withdrawn asks)) = take (count_by (fed front bytes).brings bytes) bytes
+taken_of bytes (Some Over) = []
+
+-- Piece by piece of what steps take of an application, from the one body to the other.
+abbrev pub AreFollowed : ℕ → House → List Step → Body → Body → Type 0
+AreFollowed key h [] old new = new ≡ old
+AreFollowed key h (Takes other bytes ∷ steps) old new =
+    (mid : Body) × Obeys (said_of bytes (end_at h.hall.ends key)) (taken_of bytes (end_at h.hall.ends key)) old mid × AreFollowed key (after h (Takes other bytes)) steps mid new
+AreFollowed key h (step ∷ steps) old new = AreFollowed key (after h step) steps old new
+
+-- An application's bytes are taken, up to these, and its request's body follows them.
+pub record Carries (key : ℕ) (old : House) (bytes left : List ℕ) (from to : Body) (new : House) : Type 0 where
+  pub tells : Tells key old bytes left new
+  pub followed : AreFollowed key old tells.steps from to
+
+-- Whatever was taken before, these bytes are taken behind it, up to these.
+abbrev pub CarriesOn : ℕ → List ℕ → List ℕ → Body → Body → House → House → Type 0
+CarriesOn key left rest from to old new = (first : House) (bytes : List ℕ) (at : Body) → Carries key first bytes left at from old → Carries key first bytes rest at to new
+
+-- and at last it may start
+pub record CarriesAll (key : ℕ) (old : House) (bytes : List ℕ) (from to : Body) (new : House) : Type 0 where
+  pub last : Body
+  pub carries : Carries key old bytes [] from last new
+  pub starts : Starts last to
