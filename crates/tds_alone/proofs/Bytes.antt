@@ -12,7 +12,7 @@ use Rattle.tds_relay.specs.Away.{done_since}
 use Rattle.tds_relay.specs.Behind.{events_along}
 use Rattle.tds_relay.specs.Desk as desk
 use Rattle.tds_relay.specs.Desk.{Desk, Event, desk_after, new_desk, turn, whose, whose_by}
-use Rattle.tds_relay.specs.Giving.{Visit, house_in, moves_in}
+use Rattle.tds_relay.specs.Giving.{ReadVisit, Visit, house_in, moves_in}
 use Rattle.tds_relay.specs.Hall as hall
 use Rattle.tds_relay.specs.Hall.{Hall, Move, IsQuiet, MayDoAlone, MayMove, end_at, event_if, events_of, moved, stops_of}
 use Rattle.tds_relay.specs.House.{House, Step, Makes, Hands, Takes, Writes, Admits, Removes, MayAll, after, after_all, new_house}
@@ -20,7 +20,7 @@ use Rattle.tds_relay.specs.Walkers.{AreRead, IsReadBy, stands_behind, stands_by}
 use Rattle.tds_relay.proofs.visits.Absent.{desk_is}
 use Rattle.tds_relay.proofs.visits.Stays.{came}
 use Rattle.tds_alone.specs.Alone.{AsIfAlone, given, given_at, given_in, heard_of, if_its, line_of, underway, unless_wrong}
-use Rattle.tds_alone.specs.Bytes.{ReadAsIfAlone, Walkers, read_all, read_in, walkers_behind, walkers_in}
+use Rattle.tds_alone.specs.Bytes.{AllRead, ReadAsIfAlone, Walkers, read_all, read_in, walkers_behind, walkers_in}
 use Rattle.tds_alone.specs.Serving.{Moment, Server, World, fresh, happens, new_world, world_after}
 use Rattle.tds_alone.specs.Visits.{Moments, events_in, world_in}
 use Rattle.tds_alone.proofs.Visits.{desk_along}
@@ -93,7 +93,7 @@ next_move key h move moves first others one rest =
     ∙ ap (λ (xs : List (Item Token)). along key h.desk (events_of h move) ++ xs) rest
     ∙ sym (along_both key h.desk (events_of h move) (events_along (moved h move) moves))
 
-all_read : (key : ℕ) (at : Walkers) (h : House) (steps : List Step) → MayAll h steps → ((number : ℕ) → AreRead number (at number) h steps) → read_all key at h steps ≡ along key h.hall.desk (events_along h.hall (moves_in steps))
+all_read : (key : ℕ) (at : Walkers) (h : House) (steps : List Step) → MayAll h steps → AllRead at h steps → read_all key at h steps ≡ along key h.hall.desk (events_along h.hall (moves_in steps))
 all_read key at h [] may reads = refl
 all_read key at h (Makes move ∷ steps) may reads =
     next_move key h.hall move (moves_in steps) [] _ (sym (nothing_by key h.hall move may.0.0 may.0.1)) (all_read key (walkers_behind at h (Makes move)) (after h (Makes move)) steps may.1 (λ n. (reads n).1))
@@ -125,22 +125,22 @@ read_later : (n : ℕ) (r : Reading) (h : House) (xs ys : List Step) → AreRead
 read_later n r h [] ys reads = reads
 read_later n r h (x ∷ xs) ys reads = read_later n (stands_by n r h x) (after h x) xs ys reads.1
 
-read_since : (max key : ℕ) (v : Visit max key) (n : ℕ) → AreRead n (walkers_in v n) (house_in v) v.since
+pub read_since : (max key : ℕ) (v : ReadVisit max key) → AllRead (walkers_in v) (house_in v.visit) v.visit.since
 read_since max key v n =
     let r = (v.read n).0 in
-    let enters : List Step = Admits key v.ends v.posts ∷ [] in
-    let all : AreRead n r (new_house max) ((v.before ++ enters) ++ v.since) =
-    subst (λ (steps : List Step). AreRead n r (new_house max) steps) (sym (append_assoc v.before enters v.since)) (v.read n).2 in
-    read_later n r (new_house max) (v.before ++ enters) v.since all
+    let enters : List Step = Admits key v.visit.ends v.visit.posts ∷ [] in
+    let all : AreRead n r (new_house max) ((v.visit.before ++ enters) ++ v.visit.since) =
+    subst (λ (steps : List Step). AreRead n r (new_house max) steps) (sym (append_assoc v.visit.before enters v.visit.since)) (v.read n).2 in
+    read_later n r (new_house max) (v.visit.before ++ enters) v.visit.since all
 
-pub alone_in_bytes : {V : Type 0} (server : Server V) (max key : ℕ) (v : Visit max key) (ms : Moments V v)
+pub alone_in_bytes : {V : Type 0} (server : Server V) (max key : ℕ) (v : Visit max key) (ms : Moments V v) (at : Walkers) → AllRead at (house_in v) v.since
     → AsIfAlone turn key server (fresh server) (world_in server ms) ms.since (world_after turn server (world_in server ms) ms.since)
-    → ReadAsIfAlone turn server (fresh server) v (world_in server ms) ms.since (world_after turn server (world_in server ms) ms.since)
-alone_in_bytes server max key v ms alone =
+    → ReadAsIfAlone turn server (fresh server) at v (world_in server ms) ms.since (world_after turn server (world_in server ms) ms.since)
+alone_in_bytes server max key v ms at reads alone =
     let w = world_in server ms in
     let behind = world_after turn server w ms.since in
-    let is : read_all key (walkers_in v) (house_in v) v.since ≡ given turn key server w ms.since =
-    all_read key (walkers_in v) (house_in v) v.since (came max key v).may_since (read_since max key v)
+    let is : read_all key at (house_in v) v.since ≡ given turn key server w ms.since =
+    all_read key at (house_in v) v.since (came max key v).may_since reads
     ∙ ap (λ (d : Desk). along key d (done_since v)) (desk_in_world server max key v ms)
     ∙ ap (λ (es : List Event). along key w.desk es) (sym ms.since_is)
     ∙ sym (given_along key server w ms.since) in

@@ -88,8 +88,7 @@ IsKept key h steps =
 
 -- ---- From where it has come
 
--- An application comes, behind these steps, and these are the steps since. Each packet on each connection is read from where the one before
--- has left its walker, which begins as the relay's service was told.
+-- An application comes, behind these steps, and these are the steps since.
 pub record Visit (max key : ℕ) : Type 0 where
   pub before : List Step
   pub ends : hall.Ends
@@ -97,9 +96,14 @@ pub record Visit (max key : ℕ) : Type 0 where
   pub since : List Step
   pub may : MayAll (new_house max) (before ++ Admits key ends posts ∷ since)
   pub stays : StaysAll key since
+
+-- So one does in steps by which each packet on each connection is read from where the one before has left its walker, the first one by a
+-- walker that has read nothing, as the relay's service was told.
+pub record ReadVisit (max key : ℕ) : Type 0 where
+  pub visit : Visit max key
   pub most : ℕ
   pub features : Features
-  pub read : AllReadAnew most features (new_house max) (before ++ Admits key ends posts ∷ since)
+  pub read : AllReadAnew most features (new_house max) (visit.before ++ Admits key visit.ends visit.posts ∷ visit.since)
 
 -- where it has come
 abbrev pub house_in : {max key : ℕ} → Visit max key → House

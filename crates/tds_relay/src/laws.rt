@@ -22,7 +22,7 @@ ghost use Rattle.tds_relay.specs.declared.outgoing.Outgoing.{Outgoing};
 ghost use Rattle.tds_relay.specs.Fronting.{AnswersOnce, done_on, happened};
 ghost use Rattle.tds_relay.specs.Fronts.{house_in};
 ghost use Rattle.tds_relay.specs.Giving.{AreSaid, Gives, IsFrontOf, IsKept, ServersAnswerOnce, StaysAll};
-ghost use Rattle.tds_relay.specs.Giving.{Visit, given_in, happens_in, pieces_of, sent_in};
+ghost use Rattle.tds_relay.specs.Giving.{ReadVisit, Visit, given_in, happens_in, pieces_of, sent_in};
 ghost use Rattle.tds_relay.specs.Giving.{waits_in};
 ghost use Rattle.tds_relay.specs.House.{Admits, House, IsLedTo, MayAll, Step, Steps};
 ghost use Rattle.tds_relay.specs.House.{new_house};
@@ -246,7 +246,7 @@ pub fn read_from_new()
         (before since : List Step) (ends : Ends) (posts : Posts)
         (led : IsReadTo max most features h s)
         → led.steps ≡ before ++ Admits key ends posts ∷ since → StaysAll key since
-        → (v : Visit max key) × (v.before ≡ before) × (v.since ≡ since) }
+        → (v : ReadVisit max key) × (v.visit.before ≡ before) × (v.visit.since ≡ since) }
 {}
 
 /// Behind each application's end is a lawful server's end, from where the application enters and while it

@@ -20,7 +20,7 @@ use Rattle.tds_service.specs.Service.{Seat, Service, has_number, seat_numbered}
 use Rattle.tds_service.specs.Table.{reading_on, service_in}
 use Rattle.tds_relay.specs.Cutting.{ends_in}
 use Rattle.tds_relay.specs.Desk.{Way}
-use Rattle.tds_relay.specs.Giving.{StaysAll, Visit}
+use Rattle.tds_relay.specs.Giving.{ReadVisit, StaysAll}
 use Rattle.tds_relay.specs.Hall.{Ends, Move}
 use Rattle.tds_relay.specs.House.{House, Step, Admits, CausesStep, Hands, Makes, Manner, MayAll, Removes, Steps, Takes, Writes, after, after_all, new_house}
 use Rattle.tds_relay.specs.Posts.{Posts}
@@ -252,15 +252,10 @@ reads_came number max most features had now bytes old new from to c led =
 
 -- who has come, and stays
 pub visits : (max most key : ℕ) (features : Features) (h : House) (s : services.Service) (before since : List Step) (ends : Ends) (posts : Posts) (led : IsReadTo max most features h s)
-    → led.steps ≡ before ++ Admits key ends posts ∷ since → StaysAll key since → (v : Visit max key) × (v.before ≡ before) × (v.since ≡ since)
+    → led.steps ≡ before ++ Admits key ends posts ∷ since → StaysAll key since → (v : ReadVisit max key) × (v.visit.before ≡ before) × (v.visit.since ≡ since)
 visits max most key features h s before since ends posts led are stays =
-    let v : Visit max key = record {
-      before = before;
-      ends = ends;
-      posts = posts;
-      since = since;
-      may = subst (MayAll (new_house max)) are led.may;
-      stays = stays;
+    let v : ReadVisit max key = record {
+      visit = record { before = before; ends = ends; posts = posts; since = since; may = subst (MayAll (new_house max)) are led.may; stays = stays };
       most = most;
       features = features;
       read = subst (AllReadAnew most features (new_house max)) are (λ n. let e = led.each n in (e.0, e.1, e.2));
