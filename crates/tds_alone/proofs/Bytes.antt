@@ -1,5 +1,5 @@
 -- What is given along a visit's steps is the tokens of the bytes that come.
-use Rattle.std.proofs.Common.{◌≡◌, ◌∙◌, ℕ, Bool, true, false, List, [], ◌∷◌, ◌++◌, refl, sym, ap, append_assoc}
+use Rattle.std.proofs.Common.{◌≡◌, ◌∙◌, ℕ, Bool, true, false, List, [], ◌∷◌, ◌++◌, refl, sym, ap, subst, append_assoc}
 use Rattle.std.specs.Prelude.{Option, Some, None}
 use Rattle.tds_packet.specs.declared.header.Header.{Header}
 use Rattle.tds_listen.specs.Hearing.{tokens_in}
@@ -11,16 +11,16 @@ use Rattle.tds_service.specs.Service.{Seat, lease_at, seat_numbered}
 use Rattle.tds_relay.specs.Away.{done_since}
 use Rattle.tds_relay.specs.Behind.{events_along}
 use Rattle.tds_relay.specs.Desk as desk
-use Rattle.tds_relay.specs.Desk.{Desk, Event, Way, desk_after, new_desk, turn, whose, whose_by}
-use Rattle.tds_relay.specs.Giving.{Visit, house_in, moves_in}
+use Rattle.tds_relay.specs.Desk.{Desk, Event, desk_after, new_desk, turn, whose, whose_by}
+use Rattle.tds_relay.specs.Giving.{ReadVisit, Visit, house_in, moves_in}
 use Rattle.tds_relay.specs.Hall as hall
 use Rattle.tds_relay.specs.Hall.{Hall, Move, IsQuiet, MayDoAlone, MayMove, end_at, event_if, events_of, moved, stops_of}
-use Rattle.tds_relay.specs.House.{House, Step, Makes, Hands, Takes, Writes, Admits, Removes, MayAll, after}
-use Rattle.tds_relay.specs.Walkers.{IsReadBy}
+use Rattle.tds_relay.specs.House.{House, Step, Makes, Hands, Takes, Writes, Admits, Removes, MayAll, after, after_all, new_house}
+use Rattle.tds_relay.specs.Walkers.{AreRead, IsReadBy, stands_behind, stands_by}
 use Rattle.tds_relay.proofs.visits.Absent.{desk_is}
 use Rattle.tds_relay.proofs.visits.Stays.{came}
 use Rattle.tds_alone.specs.Alone.{AsIfAlone, given, given_at, given_in, heard_of, if_its, line_of, underway, unless_wrong}
-use Rattle.tds_alone.specs.Bytes.{AllRead, ReadAsIfAlone, Walkers, read_all, read_in, walkers_behind}
+use Rattle.tds_alone.specs.Bytes.{AllRead, ReadAsIfAlone, Walkers, read_all, read_in, walkers_behind, walkers_in}
 use Rattle.tds_alone.specs.Serving.{Moment, Server, World, fresh, happens, new_world, world_after}
 use Rattle.tds_alone.specs.Visits.{Moments, events_in, world_in}
 use Rattle.tds_alone.proofs.Visits.{desk_along}
@@ -96,29 +96,42 @@ next_move key h move moves first others one rest =
 all_read : (key : ℕ) (at : Walkers) (h : House) (steps : List Step) → MayAll h steps → AllRead at h steps → read_all key at h steps ≡ along key h.hall.desk (events_along h.hall (moves_in steps))
 all_read key at h [] may reads = refl
 all_read key at h (Makes move ∷ steps) may reads =
-    next_move key h.hall move (moves_in steps) [] _ (sym (nothing_by key h.hall move may.0.0 may.0.1)) (all_read key (walkers_behind at (Makes move)) (after h (Makes move)) steps may.1 (λ n. (reads n).1))
+    next_move key h.hall move (moves_in steps) [] _ (sym (nothing_by key h.hall move may.0.0 may.0.1)) (all_read key (walkers_behind at h (Makes move)) (after h (Makes move)) steps may.1 (λ n. (reads n).1))
 all_read key at h (Hands number header content part way manner ∷ steps) may reads =
     let step = Hands number header content part way manner in
     let d = h.hall.desk in
     let one : read_in key at h step ≡ given_in key d (desk.Comes number part way) =
     its_items key d number (at number) header content part (seat_numbered number d.service.seats) refl ((reads number).0 refl) in
     next_move key h.hall (hall.Comes number part way) (moves_in steps) (read_in key at h step) _ (one ∙ sym (append_none (given_in key d (desk.Comes number part way))))
-    (all_read key (walkers_behind at step) (after h step) steps may.1 (λ n. (reads n).1))
+    (all_read key (walkers_behind at h step) (after h step) steps may.1 (λ n. (reads n).1))
 all_read key at h (Takes k bytes ∷ steps) may reads =
     next_move key h.hall (hall.Feeds k bytes) (moves_in steps) [] _ (sym (stops_nothing key k h.hall.desk (stops_of bytes (end_at h.hall.ends k))))
-    (all_read key (walkers_behind at (Takes k bytes)) (after h (Takes k bytes)) steps may.1 (λ n. (reads n).1))
+    (all_read key (walkers_behind at h (Takes k bytes)) (after h (Takes k bytes)) steps may.1 (λ n. (reads n).1))
 all_read key at h (Writes k count ∷ steps) may reads =
-    all_read key (walkers_behind at (Writes k count)) (after h (Writes k count)) steps may.1 (λ n. (reads n).1)
+    all_read key (walkers_behind at h (Writes k count)) (after h (Writes k count)) steps may.1 (λ n. (reads n).1)
 all_read key at h (Admits k ends posts ∷ steps) may reads =
-    next_move key h.hall (hall.Enters k ends) (moves_in steps) [] _ refl (all_read key (walkers_behind at (Admits k ends posts)) (after h (Admits k ends posts)) steps may.1 (λ n. (reads n).1))
+    next_move key h.hall (hall.Enters k ends) (moves_in steps) [] _ refl (all_read key (walkers_behind at h (Admits k ends posts)) (after h (Admits k ends posts)) steps may.1 (λ n. (reads n).1))
 all_read key at h (Removes k gives way ∷ steps) may reads =
-    next_move key h.hall (hall.Quits k gives way) (moves_in steps) [] _ refl (all_read key (walkers_behind at (Removes k gives way)) (after h (Removes k gives way)) steps may.1 (λ n. (reads n).1))
+    next_move key h.hall (hall.Quits k gives way) (moves_in steps) [] _ refl (all_read key (walkers_behind at h (Removes k gives way)) (after h (Removes k gives way)) steps may.1 (λ n. (reads n).1))
 
 -- ---- In a visit
 
 desk_in_world : {V : Type 0} (server : Server V) (max key : ℕ) (v : Visit max key) (ms : Moments V v) → (house_in v).hall.desk ≡ (world_in server ms).desk
 desk_in_world server max key v ms =
     desk_is max key v ∙ sym (desk_along server (new_world server max) ms.before ∙ ap (desk_after (new_desk max)) ms.before_is)
+
+-- what is read behind the first steps
+read_later : (n : ℕ) (r : Reading) (h : House) (xs ys : List Step) → AreRead n r h (xs ++ ys) → AreRead n (stands_behind n r h xs) (after_all h xs) ys
+read_later n r h [] ys reads = reads
+read_later n r h (x ∷ xs) ys reads = read_later n (stands_by n r h x) (after h x) xs ys reads.1
+
+pub read_since : (max key : ℕ) (v : ReadVisit max key) → AllRead (walkers_in v) (house_in v.visit) v.visit.since
+read_since max key v n =
+    let r = (v.read n).0 in
+    let enters : List Step = Admits key v.visit.ends v.visit.posts ∷ [] in
+    let all : AreRead n r (new_house max) ((v.visit.before ++ enters) ++ v.visit.since) =
+    subst (λ (steps : List Step). AreRead n r (new_house max) steps) (sym (append_assoc v.visit.before enters v.visit.since)) (v.read n).2 in
+    read_later n r (new_house max) (v.visit.before ++ enters) v.visit.since all
 
 pub alone_in_bytes : {V : Type 0} (server : Server V) (max key : ℕ) (v : Visit max key) (ms : Moments V v) (at : Walkers) → AllRead at (house_in v) v.since
     → AsIfAlone turn key server (fresh server) (world_in server ms) ms.since (world_after turn server (world_in server ms) ms.since)

@@ -7,9 +7,9 @@ use Rattle.tds_service.specs.Packets.{items_from}
 use Rattle.tds_service.specs.Parts.{Item}
 use Rattle.tds_lawful.specs.Lawful.{Session}
 use Rattle.tds_relay.specs.Desk.{Desk, Event, Turn, whose}
-use Rattle.tds_relay.specs.Giving.{Visit, house_in}
-use Rattle.tds_relay.specs.House.{House, Step, Hands, after}
-use Rattle.tds_relay.specs.Walkers.{AreRead, stands_by}
+use Rattle.tds_relay.specs.Giving.{ReadVisit, Visit, house_in}
+use Rattle.tds_relay.specs.House.{House, Step, Admits, Hands, after, new_house}
+use Rattle.tds_relay.specs.Walkers.{AreRead, stands_behind, stands_by}
 use Rattle.tds_alone.specs.Alone.{asks, given_at, heard_of, if_its, line_of, underway, unless_wrong}
 use Rattle.tds_alone.specs.Serving.{Moment, Server, World, answers_alone}
 
@@ -24,12 +24,18 @@ read_in key at h (Hands number header content part way manner) =
     (unless_wrong (heard_of (line_of h.hall.desk number) part) (given_at (line_of h.hall.desk number).stage (items_from (tokens_in (at number) content).tokens)) [])
 read_in key at h step = []
 
-abbrev pub walkers_behind : Walkers → Step → Walkers
-walkers_behind at step = λ number. stands_by number (at number) step
+abbrev pub walkers_behind : Walkers → House → Step → Walkers
+walkers_behind at h step = λ number. stands_by number (at number) h step
 
 abbrev pub read_all : ℕ → Walkers → House → List Step → List (Item Token)
 read_all key at h [] = []
-read_all key at h (step ∷ steps) = read_in key at h step ++ read_all key (walkers_behind at step) (after h step) steps
+read_all key at h (step ∷ steps) = read_in key at h step ++ read_all key (walkers_behind at h step) (after h step) steps
+
+-- Where each stands where an application has come: where the packets of all steps before have left it, the first one of which it read from
+-- its beginning.
+abbrev pub walkers_in : {max key : ℕ} → ReadVisit max key → Walkers
+walkers_in {max} {key} v =
+    λ number. stands_behind number (v.read number).0 (new_house max) (v.visit.before ++ Admits key v.visit.ends v.visit.posts ∷ [])
 
 -- Each packet that comes is read from there.
 abbrev pub AllRead : Walkers → House → List Step → Type 0

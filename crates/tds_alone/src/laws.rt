@@ -5,11 +5,11 @@ ghost use Rattle.tds_service.specs.Service.{Seat};
 ghost use Rattle.tds_relay.specs.declared.desk.Hold.{Hold};
 ghost use Rattle.tds_relay.specs.Away.{IsAway};
 ghost use Rattle.tds_relay.specs.Desk.{turn};
-ghost use Rattle.tds_relay.specs.Giving.{Visit, house_in};
+ghost use Rattle.tds_relay.specs.Giving.{ReadVisit, Visit, house_in};
 ghost use Rattle.tds_alone.specs.Serving.{Moment, Server, fresh, reached, world_after};
 ghost use Rattle.tds_alone.specs.Alone.{AllOrderly, AsIfAlone, IsAtRest, asks, found_next};
 ghost use Rattle.tds_alone.specs.Alone.{given, underway};
-ghost use Rattle.tds_alone.specs.Bytes.{AllRead, ReadAsIfAlone, Walkers};
+ghost use Rattle.tds_alone.specs.Bytes.{AllRead, ReadAsIfAlone, Walkers, walkers_in};
 ghost use Rattle.tds_alone.specs.Visits.{AllSaid, Moments, world_in};
 
 use tds_relay::laws::waits_once;
@@ -66,10 +66,16 @@ pub fn alone_in_visits<V>()
 /// What an application is given in bytes: the tokens of the data of the packets that come on the connection that it
 /// is lent, each read from where the one before has left that connection's walker, and what is underway to it, are
 /// what a new server of its own answers to what it asks, but for the news of resets. From where it enters a relay,
-/// behind any steps, and while it stays. That each packet is read so is what the relay's calls say of theirs
-/// (`read_over_calls` of `tds_relay`).
+/// behind any steps, and while it stays.
 pub fn alone_in_bytes<V>()
-    ensures { (server : Server V) (max key : ℕ) (v : Visit max key) (ms : Moments V v)
+    // The first packet on each connection is read by a walker that has read nothing: so it is in all steps that calls
+    // of a relay make, from a new one on (`read_from_new` of `tds_relay`).
+    ensures new { (server : Server V) (max key : ℕ) (v : ReadVisit max key) (ms : Moments V v.visit)
+        → AllSaid turn key server (world_in server ms) ms.since
+        → ReadAsIfAlone turn server (fresh server) (walkers_in v) v.visit (world_in server ms)
+        ms.since (world_after turn server (world_in server ms) ms.since) }
+    // So it is from wherever walkers stand, where each packet is read from there.
+    ensures there { (server : Server V) (max key : ℕ) (v : Visit max key) (ms : Moments V v)
         (at : Walkers) → AllRead at (house_in v) v.since
         → AllSaid turn key server (world_in server ms) ms.since
         → ReadAsIfAlone turn server (fresh server) at v (world_in server ms) ms.since

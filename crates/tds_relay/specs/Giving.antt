@@ -2,6 +2,7 @@
 use Rattle.std.specs.Prelude.{◌≡◌, ◌≢◌, ◌⊎◌, ℕ, ◌==◌, Bool, true, false, List, [], ◌∷◌, ◌++◌, Option, Some, None, take, if◌then◌else◌}
 use Rattle.tds_packet.specs.declared.header.Header.{Header}
 use Rattle.tds_packet.specs.Reading.{joined}
+use Rattle.tds_wire.specs.declared.features.Features.{Features}
 use Rattle.tds_front.specs.Passing.{towards}
 use Rattle.tds_front.specs.Serving.{Happening, Comes, Goes, Closes, Reply, Tokens, Ends, Acknowledges}
 use Rattle.tds_front.specs.declared.stage.Stage.TheVariants as stages
@@ -15,6 +16,7 @@ use Rattle.tds_relay.specs.House.{House, Step, Makes, Hands, Takes, Writes, Admi
 use Rattle.tds_relay.specs.Promises.{Each}
 use Rattle.tds_relay.specs.Ties.{Cause}
 use Rattle.tds_relay.specs.Posts.{Post, Posts, acknowledgement, post_at}
+use Rattle.tds_relay.specs.Walkers.{AllReadAnew}
 
 -- ---- What it is given
 
@@ -94,6 +96,14 @@ pub record Visit (max key : ℕ) : Type 0 where
   pub since : List Step
   pub may : MayAll (new_house max) (before ++ Admits key ends posts ∷ since)
   pub stays : StaysAll key since
+
+-- So one does in steps by which each packet on each connection is read from where the one before has left its walker, the first one by a
+-- walker that has read nothing, as the relay's service was told.
+pub record ReadVisit (max key : ℕ) : Type 0 where
+  pub visit : Visit max key
+  pub most : ℕ
+  pub features : Features
+  pub read : AllReadAnew most features (new_house max) (visit.before ++ Admits key visit.ends visit.posts ∷ visit.since)
 
 -- where it has come
 abbrev pub house_in : {max key : ℕ} → Visit max key → House

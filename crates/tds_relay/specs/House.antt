@@ -221,6 +221,10 @@ pub record Steps (by : Cause) (old new : House) : Type 0 where
   pub may : MayAll old steps
   pub caused : Each (CausesStep by) steps
 
+-- The same, whoever caused it.
+abbrev pub StepsOn : House → House → Type 0
+StepsOn old new = (by : Cause) → Steps by old new
+
 -- ---- A house that a relay is at
 
 -- Steps lead to it from a new one.

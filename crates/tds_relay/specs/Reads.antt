@@ -196,12 +196,12 @@ FollowAt from (Another had now before behind stays stand ∷ calls) to = (from �
 -- where the connection's walker stands behind them
 abbrev pub stands_in : {number : ℕ} → walkers.Reading → List (Call number) → walkers.Reading
 stands_in r [] = r
-stands_in {number} r (Came had now bytes old new from to comes ∷ calls) = stands_in (stands_behind number r comes.streams.streams.steps) calls
+stands_in {number} r (Came had now bytes old new from to comes ∷ calls) = stands_in (stands_behind number r old comes.streams.streams.steps) calls
 stands_in r (Another had now from to stays stand ∷ calls) = stands_in r calls
 
 -- Each packet in them is read from where the one before has left it.
 abbrev pub AreReadIn : {number : ℕ} → walkers.Reading → List (Call number) → Type 0
 AreReadIn r [] = Unit {0}
 AreReadIn {number} r (Came had now bytes old new from to comes ∷ calls) =
-    AreRead number r old comes.streams.streams.steps × AreReadIn (stands_behind number r comes.streams.streams.steps) calls
+    AreRead number r old comes.streams.streams.steps × AreReadIn (stands_behind number r old comes.streams.streams.steps) calls
 AreReadIn r (Another had now from to stays stand ∷ calls) = AreReadIn r calls

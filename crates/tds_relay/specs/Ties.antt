@@ -53,6 +53,12 @@ pub data Cause : Type 0 where
   Connection : (number : ℕ) → Cause
   Neither : Cause
 
+-- Nothing comes on a connection by it.
+abbrev pub IsNoConnection : Cause → Type 0
+IsNoConnection (Application key) = Unit {0}
+IsNoConnection (Connection number) = ⊥
+IsNoConnection Neither = Unit {0}
+
 -- An application's cancel is its own. What is asked for it may also go out once it is lent a connection.
 abbrev pub CausesDeed : Cause → ℕ → Deed → Type 0
 CausesDeed by key Asks = Unit {0}

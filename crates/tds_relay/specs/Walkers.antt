@@ -1,20 +1,22 @@
 -- Where the walker over what a connection answers stands: each packet is read from where the one before has left it, each message anew.
-use Rattle.std.specs.Prelude.{◌≡◌, ◌⊎◌, ◌≤◌, ℕ, ◌==◌, Bool, List, [], ◌∷◌, Option, Some, None, if◌then◌else◌}
+use Rattle.std.specs.Prelude.{◌≡◌, ◌≢◌, ◌⊎◌, ◌≤◌, ℕ, ◌==◌, Bool, List, [], ◌∷◌, Option, Some, None, if◌then◌else◌}
 use Rattle.tds_packet.specs.declared.header.Header.{Header}
 use Rattle.tds_packet.specs.Layout.{IsPacket}
 use Rattle.tds_packet.specs.Reading as packets
 use Rattle.tds_packet.specs.Reading.{IsWhole}
 use Rattle.tds_listen.specs.Hearing.{Stop, Stands, Fails, tokens_in}
+use Rattle.tds_wire.specs.declared.features.Features.{Features}
 use Rattle.tds_wire.specs.declared.told.Token.{Token}
 use Rattle.tds_wire.specs.Reading.{Reading}
 use Rattle.tds_service.specs.declared.service.Service as services
+use Rattle.tds_service.specs.Beginning.{Begins}
 use Rattle.tds_service.specs.Packets.{behind_packet, packet_part}
 use Rattle.tds_service.specs.Parts.{Part}
 use Rattle.tds_service.specs.Service.{Service, Call, Seat, new_service, seat_numbered, service_after}
 use Rattle.tds_service.specs.Table.{reading_on, service_in}
 use Rattle.tds_relay.specs.declared.desk.coming.Heard.{Heard}
 use Rattle.tds_relay.specs.Cutting.{ends_in}
-use Rattle.tds_relay.specs.House.{House, Step, Hands, after}
+use Rattle.tds_relay.specs.House.{House, Step, Hands, MayAll, after, after_all, new_house}
 
 -- ---- What a packet moves
 
@@ -23,9 +25,10 @@ abbrev pub read_to : Bool → Reading → Stop → Reading
 read_to ends r (Stands next) = behind_packet ends next
 read_to ends r (Fails refusal) = r
 
--- the same of a packet on this connection, or on another one
-abbrev pub read_at : ℕ → ℕ → Bool → List ℕ → Reading → Reading
-read_at number other ends content r = if other == number then read_to ends r (tokens_in r content).stop else r
+-- the same of a packet on this connection, or on another one, where the service has that
+abbrev pub read_at : ℕ → ℕ → Option Seat → Bool → List ℕ → Reading → Reading
+read_at number other None ends content r = r
+read_at number other (Some c) ends content r = if other == number then read_to ends r (tokens_in r content).stop else r
 
 -- ---- Along steps
 
@@ -38,18 +41,27 @@ abbrev pub IsReadAt : ℕ → Reading → House → Step → Type 0
 IsReadAt number r h (Hands other header content part way manner) = number ≡ other → IsReadBy (seat_numbered other h.hall.desk.service.seats) r header content part
 IsReadAt number r h step = Unit {0}
 
-abbrev pub stands_by : ℕ → Reading → Step → Reading
-stands_by number r (Hands other header content part way manner) = read_at number other (ends_in header) content r
-stands_by number r step = r
+abbrev pub stands_by : ℕ → Reading → House → Step → Reading
+stands_by number r h (Hands other header content part way manner) =
+    read_at number other (seat_numbered other h.hall.desk.service.seats) (ends_in header) content r
+stands_by number r h step = r
 
 -- Each packet on the connection of this number is read from where the one before has left its walker.
 abbrev pub AreRead : ℕ → Reading → House → List Step → Type 0
 AreRead number r h [] = Unit {0}
-AreRead number r h (step ∷ steps) = IsReadAt number r h step × AreRead number (stands_by number r step) (after h step) steps
+AreRead number r h (step ∷ steps) = IsReadAt number r h step × AreRead number (stands_by number r h step) (after h step) steps
 
-abbrev pub stands_behind : ℕ → Reading → List Step → Reading
-stands_behind number r [] = r
-stands_behind number r (step ∷ steps) = stands_behind number (stands_by number r step) steps
+abbrev pub stands_behind : ℕ → Reading → House → List Step → Reading
+stands_behind number r h [] = r
+stands_behind number r h (step ∷ steps) = stands_behind number (stands_by number r h step) (after h step) steps
+
+-- whatever its walker is, none is read
+abbrev pub NoneRead : ℕ → House → List Step → Type 0
+NoneRead number h steps = (r : Reading) → AreRead number r h steps × (stands_behind number r h steps ≡ r)
+
+-- Each is, on each connection: the first one by a walker that has read nothing.
+abbrev pub AllReadAnew : ℕ → Features → House → List Step → Type 0
+AllReadAnew most features h steps = (number : ℕ) → (r : Reading) × Begins most features r × AreRead number r h steps
 
 -- ---- In a service
 
@@ -63,13 +75,31 @@ pub record StandsAt (number : ℕ) (r : Reading) (s : services.Service) : Type 0
   pub given : number ≤ s.last
   pub there : (now : Reading) → reading_on number s ≡ Some now → now ≡ r
 
+-- The walker of the connection of this number, if it is there already, has read nothing: it has room for so many columns, and its login
+-- acknowledged these features, as the service was told of each.
+pub record IsUnread (most : ℕ) (features : Features) (number : ℕ) (s : services.Service) : Type 0 where
+  pub led : IsLed (service_in s)
+  pub told : (s.most ≡ most) × (s.features ≡ features)
+  pub begins : (now : Reading) → reading_on number s ≡ Some now → Begins most features now
+
+pub data Place : Type 0 where
+  Unread : (most : ℕ) (features : Features) → Place
+  There : (r : Reading) → Place
+
+abbrev pub IsStanding : ℕ → Place → services.Service → Type 0
+IsStanding number (Unread most features) s = IsUnread most features number s
+IsStanding number (There r) s = StandsAt number r s
+
 -- Each stands where it stood.
 abbrev pub AllStand : services.Service → services.Service → Type 0
-AllStand old new = (number : ℕ) (r : Reading) → StandsAt number r old → StandsAt number r new
+AllStand old new = (number : ℕ) (place : Place) → IsStanding number place old → IsStanding number place new
 
 -- A packet with these data has come on the connection of this number.
-abbrev pub AllRead : ℕ → Bool → List ℕ → services.Service → services.Service → Type 0
-AllRead number ends content old new = (other : ℕ) (r : Reading) → StandsAt other r old → StandsAt other (read_at other number ends content r) new
+pub record AllRead (number : ℕ) (ends : Bool) (content : List ℕ) (old new : services.Service) : Type 0 where
+  pub stand : (other : ℕ) (r : Reading) → StandsAt other r old
+      → StandsAt other (read_at other number (seat_numbered number (service_in old).seats) ends content r) new
+  pub unread : (other most : ℕ) (features : Features) → (other ≢ number) ⊎ (seat_numbered number (service_in old).seats ≡ None)
+      → IsUnread most features other old → IsUnread most features other new
 
 -- That which a reader has, if it has one.
 abbrev pub HasRead : ℕ → packets.Reading → services.Service → services.Service → Type 0
@@ -87,7 +117,24 @@ abbrev pub ReadsBy : ℕ → packets.Reading → Option Heard → services.Servi
 ReadsBy number r None old new = AllStand old new
 ReadsBy number r (Some heard) old new = ReadsOn number r old new
 
+-- Each packet on the connection of this number is read, the first one by a walker that has read nothing; it stands where they lead it, or
+-- none was read.
+abbrev pub ReadAnew : ℕ → Features → ℕ → House → List Step → services.Service → Type 0
+ReadAnew most features number h steps to =
+    (r : Reading) × Begins most features r × AreRead number r h steps
+    × (StandsAt number (stands_behind number r h steps) to ⊎ (NoneRead number h steps × IsUnread most features number to))
+
 -- Behind steps each walker stands where their packets lead it, which are read from there.
 pub record Walks (from : services.Service) (old : House) (steps : List Step) (to : services.Service) : Type 0 where
   pub each : (number : ℕ) (r : Reading) → StandsAt number r from → AreRead number r old steps
-  pub stand : (number : ℕ) (r : Reading) → StandsAt number r from → StandsAt number (stands_behind number r steps) to
+  pub stand : (number : ℕ) (r : Reading) → StandsAt number r from → StandsAt number (stands_behind number r old steps) to
+  pub anew : (number most : ℕ) (features : Features) → IsUnread most features number from → ReadAnew most features number old steps to
+
+-- ---- From a new relay
+
+-- Steps led to this house, and to this service, each packet among which is read from where the one before has left its connection's walker.
+pub record IsReadTo (max most : ℕ) (features : Features) (h : House) (s : services.Service) : Type 0 where
+  pub steps : List Step
+  pub are : after_all (new_house max) steps ≡ h
+  pub may : MayAll (new_house max) steps
+  pub each : (number : ℕ) → ReadAnew most features number (new_house max) steps s

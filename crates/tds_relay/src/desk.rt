@@ -1,5 +1,5 @@
 //! Who holds which connection of a service, and whose requests wait for one.
-ghost use Rattle.std.specs.Prelude.{◌≡◌, [], IfOk, OnOk, OnErr, length, option_map};
+ghost use Rattle.std.specs.Prelude.{◌≡◌, [], ℕ, IfOk, OnOk, OnErr, length, option_map};
 ghost use Rattle.tds_service.specs.Service.{Seat, is_open, seat_numbered};
 ghost use Rattle.tds_service.specs.Table.{place_of};
 ghost use Rattle.tds_relay.specs.Desk.{Serves, Unwaits, Waits, find_key, find_number, key_of, new_desk};
@@ -7,7 +7,8 @@ ghost use Rattle.tds_relay.specs.Desk.{owes_reset};
 ghost use Rattle.tds_relay.specs.Hall.{is_in};
 ghost use Rattle.tds_relay.specs.Sparing.{AllHold};
 ghost use Rattle.tds_relay.specs.Ties.{Serving, Turns, desk_in};
-ghost use Rattle.tds_relay.specs.Walkers.{AllStand};
+ghost use Rattle.tds_relay.specs.Walkers.{AllStand, IsUnread};
+ghost use Rattle.tds_relay.specs.declared.link.TheConstants.{COLUMNS};
 
 mod asking;
 mod coming;
@@ -63,7 +64,9 @@ impl Desk {
         size: PacketSize,
         features: Features,
     ) -> Result<Desk, NoMemory>
-        ensures { IfOk result (λ desk. desk_in desk ≡ new_desk most) }
+        ensures desk { IfOk result (λ desk. desk_in desk ≡ new_desk most) }
+        ensures unread { IfOk result (λ desk. (number : ℕ)
+            → IsUnread COLUMNS features number desk.service) }
     {
         let Some(service) = Service::new(alloc, most, size, COLUMNS, features) else {
             return Err(AllocError);

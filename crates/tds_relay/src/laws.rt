@@ -1,6 +1,7 @@
 //! What a desk promises, over any list of events, and a relay behind any calls. Each function does nothing
 //! when it runs: its contract is the law.
-ghost use Rattle.std.specs.Prelude.{◌≡◌, [], ◌+◌, ◌<◌, ◌≤◌, ◌++◌, ℕ, List, None, OnOk, Some, false, vec_len};
+ghost use Rattle.std.specs.Prelude.{◌≡◌, [], ◌∷◌, ◌+◌, ◌<◌, ◌≤◌, ◌++◌, ℕ, List, None, OnOk, Option};
+ghost use Rattle.std.specs.Prelude.{Some, false, vec_len};
 ghost use Rattle.tds_wire.specs.declared.told.Token.{Token};
 ghost use Rattle.tds_service.specs.Line.{Idle};
 ghost use Rattle.tds_service.specs.Service.{Lease, Seat, seat_numbered, step};
@@ -21,10 +22,13 @@ ghost use Rattle.tds_relay.specs.declared.link.Link.{Link};
 ghost use Rattle.tds_relay.specs.declared.outgoing.Outgoing.{Outgoing};
 ghost use Rattle.tds_relay.specs.Fronting.{AnswersOnce, done_on, happened};
 ghost use Rattle.tds_relay.specs.Fronts.{house_in};
-ghost use Rattle.tds_relay.specs.Giving.{AreSaid, Gives, IsFrontOf, IsKept, ServersAnswerOnce};
-ghost use Rattle.tds_relay.specs.Giving.{Visit, given_in, happens_in, pieces_of, sent_in};
+ghost use Rattle.tds_relay.specs.Giving.{AreSaid, Gives, IsFrontOf, IsKept, ServersAnswerOnce, StaysAll};
+ghost use Rattle.tds_relay.specs.Giving.{ReadVisit, Visit, given_in, happens_in, pieces_of, sent_in};
 ghost use Rattle.tds_relay.specs.Giving.{waits_in};
-ghost use Rattle.tds_relay.specs.House.{House, IsLedTo, MayAll, Step, Steps};
+ghost use Rattle.tds_relay.specs.House.{Admits, House, IsLedTo, MayAll, Step, Steps};
+ghost use Rattle.tds_relay.specs.House.{new_house};
+ghost use Rattle.tds_relay.specs.Hall.{Ends};
+ghost use Rattle.tds_relay.specs.Posts.{Posts};
 ghost use Rattle.tds_packet.specs.Reading.{Reading, joined};
 ghost use Rattle.tds_relay.specs.Reads.{AreReadIn, Call, Comes, Follow, FollowAt, Reads, bytes_in};
 ghost use Rattle.tds_relay.specs.Reads.{open_at, packets_in, stands_in};
@@ -32,11 +36,12 @@ ghost use Rattle.tds_relay.specs.Taking.{Tells};
 ghost use Rattle.tds_relay.specs.Telling.{IsToldOnce, happens_to};
 ghost use Rattle.tds_relay.specs.Sparing.{AreCalls, IsLeft, behind_all};
 ghost use Rattle.tds_relay.specs.declared.relay.Relay.{Relay as Code};
-ghost use Rattle.tds_relay.specs.Walkers.{StandsAt};
+ghost use Rattle.tds_relay.specs.Walkers.{AllStand, IsReadTo, IsUnread, StandsAt};
 ghost use Rattle.tds_service.specs.declared.service.Service.{Service};
+ghost use Rattle.tds_wire.specs.declared.features.Features.{Features};
 ghost use Rattle.tds_wire.specs.Reading as walkers;
 ghost use Rattle.tds_relay.specs.Ties as causes;
-ghost use Rattle.tds_relay.specs.Ties.{Cause, Causes, Connection, Goes, IsReached, Owns};
+ghost use Rattle.tds_relay.specs.Ties.{Cause, Causes, Connection, Goes, IsNoConnection, IsReached, Owns};
 
 use crate::reading::reads_packets;
 use crate::{NoMemory, Relay};
@@ -220,6 +225,31 @@ pub fn own_bytes_over_calls()
 pub fn any_calls()
     ensures { (by : Cause) (max : ℕ) (old new : House) → Steps by old new → IsLedTo max old
         → IsLedTo max new }
+{}
+
+/// From a new relay and over any calls, each packet that comes on a connection is read from where the one before has
+/// left the connection's walker, the first one by a walker that has read nothing: so it is of the steps of all calls
+/// (`IsReadTo`).
+pub fn read_from_new()
+    /// So it is of a new relay,
+    ensures new { (max most : ℕ) (features : Features) (s : Service)
+        → ((number : ℕ) → IsUnread most features number s)
+        → IsReadTo max most features (new_house max) s }
+    /// behind a call by which nothing comes on a connection,
+    ensures called { (by : Cause) (max most : ℕ) (features : Features) (old new : House)
+        (from to : Service) → IsNoConnection by → Steps by old new → AllStand from to
+        → IsReadTo max most features old from → IsReadTo max most features new to }
+    /// and behind one by which bytes come.
+    ensures came { (number max most : ℕ) (features : Features) (had now : Option Reading)
+        (bytes : List ℕ) (old new : House) (from to : Service)
+        → Comes number had old from bytes now new to
+        → IsReadTo max most features old from → IsReadTo max most features new to }
+    /// An application that has come by these steps, and is there still, makes a visit of them.
+    ensures visit { (max most key : ℕ) (features : Features) (h : House) (s : Service)
+        (before since : List Step) (ends : Ends) (posts : Posts)
+        (led : IsReadTo max most features h s)
+        → led.steps ≡ before ++ Admits key ends posts ∷ since → StaysAll key since
+        → (v : ReadVisit max key) × (v.visit.before ≡ before) × (v.visit.since ≡ since) }
 {}
 
 /// Behind each application's end is a lawful server's end, from where the application enters and while it

@@ -13,8 +13,9 @@ ghost use Rattle.tds_relay.specs.Posts.{Enters, change, posts_in, unsent_of, wit
 ghost use Rattle.tds_relay.specs.Reads.{Stays};
 ghost use Rattle.tds_relay.specs.Sparing.{AllRest};
 ghost use Rattle.tds_relay.specs.Ties.{Cause, CausesRequest, Goes, GoesOn, Neither, desk_in};
-ghost use Rattle.tds_relay.specs.Walkers.{AllStand};
+ghost use Rattle.tds_relay.specs.Walkers.{AllStand, IsUnread};
 ghost use Rattle.tds_relay.specs.declared.application.Application.{Application};
+ghost use Rattle.tds_relay.specs.declared.link.TheConstants.{COLUMNS};
 ghost use Rattle.tds_relay.specs.declared.outgoing.TheConstants.{PIECE};
 
 mod asking;
@@ -69,6 +70,8 @@ impl Relay {
     ) -> Result<Relay, NoMemory>
         ensures desk { IfOk result (λ relay. desk_in relay.desk ≡ new_desk most) }
         ensures house { IfOk result (λ relay. house_in relay ≡ new_house most) }
+        ensures unread { IfOk result (λ relay. (number : ℕ)
+            → IsUnread COLUMNS features number relay.desk.service) }
     {
         let desk = Desk::new(alloc, most, size, features)?;
         Ok(Relay {

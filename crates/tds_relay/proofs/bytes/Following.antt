@@ -7,7 +7,7 @@ use Rattle.tds_service.specs.declared.service.Service.{Service}
 use Rattle.tds_wire.specs.Reading as walkers
 use Rattle.tds_relay.specs.House.{House}
 use Rattle.tds_relay.specs.Reads.{Another, AreReadIn, Call, Came, Comes, Follow, FollowAt, Reads, bytes_in, packets_in, packets_of, stands_in}
-use Rattle.tds_relay.specs.Walkers.{StandsAt, stands_behind}
+use Rattle.tds_relay.specs.Walkers.{StandsAt, There, stands_behind}
 use Rattle.tds_relay.proofs.bytes.Taking.{joined_both, more_are, reads_nothing}
 
 all_both : (P : List ℕ → Type 0) (xs ys : List (List ℕ)) → AllByRecursion P xs → AllByRecursion P ys → AllByRecursion P (xs ++ ys)
@@ -62,8 +62,8 @@ follow_stands {number} [] from to r f st = (tt, subst (λ (s : Service). StandsA
 follow_stands {number} (Came had now bytes old new before behind c ∷ calls) from to r f st =
     let walks = c.streams.streams.walks in
     let there = subst (λ (s : Service). StandsAt number r s) f.0 st in
-    let next = stands_behind number r c.streams.streams.steps in
-    let more = follow_stands calls behind to next f.1 (c.stand number next (walks.stand number r there)) in
+    let next = stands_behind number r old c.streams.streams.steps in
+    let more = follow_stands calls behind to next f.1 (c.stand number (There next) (walks.stand number r there)) in
     ((walks.each number r there, more.0), more.1)
 follow_stands {number} (Another had now before behind stays stand ∷ calls) from to r f st =
-    follow_stands calls behind to r f.1 (stand number r (subst (λ (s : Service). StandsAt number r s) f.0 st))
+    follow_stands calls behind to r f.1 (stand number (There r) (subst (λ (s : Service). StandsAt number r s) f.0 st))

@@ -1,8 +1,10 @@
 -- Walkers stand where they stood, behind any call of the service that reads nothing.
-use Rattle.std.proofs.Common.{◌≡◌, ◌≢◌, ◌∙◌, ◌==◌, ◌≤◌, ℕ, suc, Bool, true, false, List, [], ◌∷◌, ◌++◌, length, refl, sym, ap, subst, arith}
-use Rattle.std.specs.Prelude.{Option, Some, None, nat_lt, if◌then◌else◌}
+use Rattle.std.proofs.Common.{◌≡◌, ◌≢◌, ◌∙◌, ◌==◌, ◌≤◌, ℕ, suc, Bool, true, false, List, [], ◌∷◌, ◌++◌, length, inl, inr, refl, sym, ap, subst, arith}
+use Rattle.std.specs.Prelude.{◌⊎◌, Option, Some, None, nat_lt, if◌then◌else◌}
 use Rattle.std.proofs.lemmas.Bool.{eqb-true}
+use Rattle.std.proofs.lemmas.Bool.Decides.{nat_tests}
 use Rattle.tds_client.specs.declared.fault.ClientRefusal.{ClientRefusal}
+use Rattle.tds_wire.specs.declared.features.Features.{Features}
 use Rattle.tds_wire.specs.declared.told.Token.{Token}
 use Rattle.tds_wire.specs.Reading.{Reading}
 use Rattle.tds_listen.specs.Hearing.{Stop, tokens_in}
@@ -11,6 +13,7 @@ use Rattle.tds_service.specs.declared.place.Rest.{Rest}
 use Rattle.tds_service.specs.declared.place.Rest.TheVariants as rests
 use Rattle.tds_service.specs.declared.seat.Seat as seats
 use Rattle.tds_service.specs.declared.service.Service as services
+use Rattle.tds_service.specs.Beginning.{Begins, BeginsAt, MakesAlike}
 use Rattle.tds_service.specs.Line as line
 use Rattle.tds_service.specs.Line.{Line, Act, new_line}
 use Rattle.tds_service.specs.History.{line_after}
@@ -23,9 +26,9 @@ use Rattle.tds_service.specs.Table.{Keeps, KeepsOthers, KeepsBy, StepsIn, readin
 use Rattle.tds_service.proofs.Numbered.{added_other, change_out, same_number}
 use Rattle.tds_service.proofs.Tests.{below}
 use Rattle.tds_relay.specs.Ties.{lost_by}
-use Rattle.tds_relay.specs.Walkers.{AllRead, AllStand, IsLed, StandsAt, read_at, read_to}
-use Rattle.tds_relay.proofs.promises.Seats.{Distinct, found_meets, none_changed}
-use Rattle.tds_relay.proofs.promises.Tidy.{Tidy, all_rise}
+use Rattle.tds_relay.specs.Walkers.{AllRead, AllStand, IsLed, IsUnread, StandsAt, There, Unread, read_at, read_to}
+use Rattle.tds_relay.proofs.promises.Seats.{Distinct, each_found, found_meets, none_changed}
+use Rattle.tds_relay.proofs.promises.Tidy.{Tidy, UpTo, all_rise}
 
 -- ---- Services that calls led to
 
@@ -45,16 +48,32 @@ led_tidy s led = subst Tidy led.2 (all_rise (new_service led.0) led.1 (record { 
 
 -- ---- What a call leaves of a service
 
+-- whether it may open a new connection
+abbrev pub Opens : Call Token → Type 0
+Opens calls.Lease = Unit {0}
+Opens (calls.Resume ticket) = ⊥
+Opens (calls.Ask lease) = ⊥
+Opens (calls.Put lease count) = ⊥
+Opens (calls.Finish lease count) = ⊥
+Opens (calls.Cancel lease) = ⊥
+Opens (calls.GiveBack lease) = ⊥
+Opens (calls.Clean number) = ⊥
+Opens (calls.Cleaned lease) = ⊥
+Opens (calls.Keep lease) = ⊥
+Opens (calls.Abandon ticket) = ⊥
+Opens (calls.Came number part) = ⊥
+Opens (calls.Lost number) = ⊥
+Opens (calls.Without call) = ⊥
+
 module _ (s : Service) (P : Service → Type 0) (same : P s)
-    (changed : (given : ℕ) (test : Seat → Bool) (place : Option Place) (l : Line) → P (record { max = s.max; last = s.last; given = given; seats = change_by test place l s.seats }))
-    (opened : P (opens {T = Token} s true).service) where
+    (changed : (given : ℕ) (test : Seat → Bool) (place : Option Place) (l : Line) → P (record { max = s.max; last = s.last; given = given; seats = change_by test place l s.seats })) where
   if_so : (b : Bool) (t u : Step Token) → P t.service → P u.service → P (if b then t else u).service
   if_so true t u h k = h
   if_so false t u h k = k
 
-  opens_so : (b : Bool) → P (opens {T = Token} s b).service
-  opens_so true = opened
-  opens_so false = same
+  opens_so : P (opens {T = Token} s true).service → (b : Bool) → P (opens {T = Token} s b).service
+  opens_so opened true = opened
+  opens_so opened false = same
 
   does_so : (given : ℕ) (test : Seat → Bool) (c : Seat) (place : Option Place) (all : List (Act Token)) (reply : Reply) → P (does s given test c place all reply).service
   does_so given test c place all reply = changed given test place (line_after c.line all)
@@ -67,9 +86,9 @@ module _ (s : Service) (P : Service → Type 0) (same : P s)
   acts_so test first all None = same
   acts_so test first all (Some c) = unless_so test c all (refusal_in (line.turn c.line first).answer)
 
-  lends_so : (o : Option Seat) → P (calls.lends {T = Token} s o).service
-  lends_so None = opens_so (nat_lt (length s.seats) s.max)
-  lends_so (Some c) = does_so (suc s.given) is_lendable c (Some (Leased (suc s.given))) (line.Mark Full ∷ []) (calls.Lent (suc s.given) c.number true)
+  lends_so : P (opens {T = Token} s true).service → (o : Option Seat) → P (calls.lends {T = Token} s o).service
+  lends_so opened None = opens_so opened (nat_lt (length s.seats) s.max)
+  lends_so opened (Some c) = does_so (suc s.given) is_lendable c (Some (Leased (suc s.given))) (line.Mark Full ∷ []) (calls.Lent (suc s.given) c.number true)
 
   resumes_so : (test : Seat → Bool) (o : Option Seat) → P (calls.resumes {T = Token} s test o).service
   resumes_so test None = same
@@ -116,21 +135,21 @@ module _ (s : Service) (P : Service → Type 0) (same : P s)
   loses_so test None = same
   loses_so test (Some c) = does_so s.given test c None (line.Lose ∷ []) (calls.Back None)
 
-  pub step_so : (call : Call Token) → P (step s call).service
-  step_so calls.Lease = lends_so (find_by is_lendable s.seats)
-  step_so (calls.Resume ticket) = resumes_so (has_ticket ticket) (find_by (has_ticket ticket) s.seats)
-  step_so (calls.Ask lease) = acts_so (has_lease lease) line.Ask (line.Ask ∷ []) (find_by (has_lease lease) s.seats)
-  step_so (calls.Put lease count) = acts_so (has_lease lease) (line.Send false) (packets count) (find_by (has_lease lease) s.seats)
-  step_so (calls.Finish lease count) = acts_so (has_lease lease) (line.Send true) (packets count ++ line.Send true ∷ []) (find_by (has_lease lease) s.seats)
-  step_so (calls.Cancel lease) = acts_so (has_lease lease) line.Cancel (line.Cancel ∷ []) (find_by (has_lease lease) s.seats)
-  step_so (calls.GiveBack lease) = gives_so (has_lease lease) (find_by (has_lease lease) s.seats)
-  step_so (calls.Clean number) = cleans_so (has_number number) (find_by (has_number number) s.seats)
-  step_so (calls.Cleaned lease) = cleaned_so (has_lease lease) (find_by (has_lease lease) s.seats)
-  step_so (calls.Keep lease) = keeps_so (has_lease lease) (find_by (has_lease lease) s.seats)
-  step_so (calls.Abandon ticket) = abandons_so (has_ticket ticket) (find_by (has_ticket ticket) s.seats)
-  step_so (calls.Came number part) = hears_so (has_number number) part (find_by (has_number number) s.seats)
-  step_so (calls.Lost number) = loses_so (has_number number) (find_by (has_number number) s.seats)
-  step_so (calls.Without call) = same
+  pub step_so : (call : Call Token) → (Opens call → P (opens {T = Token} s true).service) → P (step s call).service
+  step_so calls.Lease opened = lends_so (opened tt) (find_by is_lendable s.seats)
+  step_so (calls.Resume ticket) opened = resumes_so (has_ticket ticket) (find_by (has_ticket ticket) s.seats)
+  step_so (calls.Ask lease) opened = acts_so (has_lease lease) line.Ask (line.Ask ∷ []) (find_by (has_lease lease) s.seats)
+  step_so (calls.Put lease count) opened = acts_so (has_lease lease) (line.Send false) (packets count) (find_by (has_lease lease) s.seats)
+  step_so (calls.Finish lease count) opened = acts_so (has_lease lease) (line.Send true) (packets count ++ line.Send true ∷ []) (find_by (has_lease lease) s.seats)
+  step_so (calls.Cancel lease) opened = acts_so (has_lease lease) line.Cancel (line.Cancel ∷ []) (find_by (has_lease lease) s.seats)
+  step_so (calls.GiveBack lease) opened = gives_so (has_lease lease) (find_by (has_lease lease) s.seats)
+  step_so (calls.Clean number) opened = cleans_so (has_number number) (find_by (has_number number) s.seats)
+  step_so (calls.Cleaned lease) opened = cleaned_so (has_lease lease) (find_by (has_lease lease) s.seats)
+  step_so (calls.Keep lease) opened = keeps_so (has_lease lease) (find_by (has_lease lease) s.seats)
+  step_so (calls.Abandon ticket) opened = abandons_so (has_ticket ticket) (find_by (has_ticket ticket) s.seats)
+  step_so (calls.Came number part) opened = hears_so (has_number number) part (find_by (has_number number) s.seats)
+  step_so (calls.Lost number) opened = loses_so (has_number number) (find_by (has_number number) s.seats)
+  step_so (calls.Without call) opened = same
 
 -- A number that was given, and of which there is no connection, is of none.
 record Leaves (n : ℕ) (s t : Service) : Type 0 where
@@ -141,10 +160,14 @@ step_leaves : (n : ℕ) (s : Service) (call : Call Token) → n ≤ s.last → L
 step_leaves n s call low =
     step_so s (Leaves n s) (record { rises = omega arith; gone = λ e. e })
     (λ given test place l. record { rises = omega arith; gone = λ e. none_changed n test place l s.seats e })
-    (record {
+    call
+    (λ o. record {
       rises = omega arith;
       gone = λ e. added_other n (record { number = suc s.last; place = Leased (suc s.given); line = new_line }) s.seats (below (suc s.last) n (omega arith)) ∙ e;
-    }) call
+    })
+
+last_stays : (s : Service) (call : Call Token) → (Opens call → ⊥) → (step s call).service.last ≡ s.last
+last_stays s call never = step_so s (λ t. t.last ≡ s.last) refl (λ given test place l. refl) call (λ o. absurd (never o))
 
 -- ---- Where walkers stand
 
@@ -182,6 +205,53 @@ nothing_there r now o none is = absurd (let u : None ≡ Some now = sym none ∙
 differ : (n m : ℕ) → (n == m) ≡ false → n ≢ m
 differ n m e same = let u : ⊥ = grind arith in u
 
+-- whoever is there has a number that was given
+low_by : (n : ℕ) (s : Service) (o : Option Seat) → Tidy s → seat_numbered n s.seats ≡ o → (o ≡ None → ⊥) → n ≤ s.last
+low_by n s None tidy e there = absurd (there refl)
+low_by n s (Some c) tidy e there =
+    let low : c.number ≤ s.last = each_found (UpTo s.last) (has_number n) c s.seats tidy.upto e in
+    subst (λ (k : ℕ). k ≤ s.last) (same_number c.number n (found_meets (has_number n) c s.seats e)) low
+
+pub low_there : (n : ℕ) (s : services.Service) (now : Reading) → IsLed (service_in s) → reading_on n s ≡ Some now → n ≤ s.last
+low_there n s now led is =
+    low_by n (service_in s) (seat_numbered n (service_in s).seats) (led_tidy (service_in s) led) refl
+    (λ none. let u : None ≡ Some now = sym (seat_unread n s none) ∙ is in let v : ⊥ = cc in v)
+
+-- A connection that comes to be there begins as the service was told.
+abbrev Begun : services.Service → services.Service → ℕ → Type 0
+Begun old new n = (now : Reading) → IsLed (service_in old) → reading_on n old ≡ None → reading_on n new ≡ Some now → Begins old.most old.features now
+
+-- none comes to be there whose number was given
+none_low : (old new : services.Service) (call : Call Token) (n : ℕ) → service_in new ≡ (step (service_in old) call).service → n ≤ old.last → reading_on n old ≡ None → reading_on n new ≡ None
+none_low old new call n is low none =
+    let left = subst (Leaves n (service_in old)) (sym is) (step_leaves n (service_in old) call low) in
+    seat_unread n new (left.gone (unread_seat n old none))
+
+-- by a call that opens none
+none_begun : (old new : services.Service) (call : Call Token) (n : ℕ) → service_in new ≡ (step (service_in old) call).service → (Opens call → ⊥) → Begun old new n
+none_begun old new call n is never now led none there =
+    let last_is : new.last ≡ old.last = ap (λ (s : Service). s.last) is ∙ last_stays (service_in old) call never in
+    let low : n ≤ new.last = low_there n new now (led_on (service_in old) (service_in new) call is led) there in
+    let gone : reading_on n new ≡ None = none_low old new call n is (subst (λ (k : ℕ). n ≤ k) last_is low) none in
+    absurd (let u : None ≡ Some now = sym gone ∙ there in let v : ⊥ = cc in v)
+
+begins_by : (most : ℕ) (features : Features) (old new : services.Service) (n : ℕ) (now : Reading) (o : Option Reading) → reading_on n old ≡ o → ((q : Reading) → o ≡ Some q → reading_on n new ≡ Some q)
+    → Begun old new n → IsUnread most features n old → reading_on n new ≡ Some now → Begins most features now
+begins_by most features old new n now None e keeps begun h there =
+    subst (λ (m : ℕ). Begins m features now) h.told.0 (subst (λ (f : Features). Begins old.most f now) h.told.1 (begun now h.led e there))
+begins_by most features old new n now (Some q) e keeps begun h there =
+    let same : q ≡ now = (let u : Some q ≡ Some now = sym (keeps q refl) ∙ there in cc) in
+    subst (Begins most features) same (h.begins q e)
+
+-- where it has read nothing
+unread_one : (most : ℕ) (features : Features) (old new : services.Service) (call : Call Token) (n : ℕ) → service_in new ≡ (step (service_in old) call).service → MakesAlike old new
+    → ((q : Reading) → reading_on n old ≡ Some q → reading_on n new ≡ Some q) → Begun old new n → IsUnread most features n old → IsUnread most features n new
+unread_one most features old new call n is alike keeps begun h = record {
+  led = led_on (service_in old) (service_in new) call is h.led;
+  told = (alike.0 ∙ h.told.0, alike.1 ∙ h.told.1);
+  begins = λ now. begins_by most features old new n now (reading_on n old) refl keeps begun h;
+}
+
 -- where this one stays
 stand_one : (old new : services.Service) (call : Call Token) (n : ℕ) (r : Reading) → service_in new ≡ (step (service_in old) call).service
     → ((q : Reading) → reading_on n old ≡ Some q → reading_on n new ≡ Some q) → StandsAt n r old → StandsAt n r new
@@ -194,12 +264,71 @@ stand_one old new call n r is keeps h =
     }
 
 -- Nothing is read by a call that keeps all.
-pub keeps_stand : (old new : services.Service) (call : Call Token) → service_in new ≡ (step (service_in old) call).service → Keeps old new → AllStand old new
-keeps_stand old new call is keeps n r h = stand_one old new call n r is (keeps n) h
+call_stand : (old new : services.Service) (call : Call Token) → service_in new ≡ (step (service_in old) call).service → MakesAlike old new → Keeps old new → ((n : ℕ) → Begun old new n) → AllStand old new
+call_stand old new call is alike keeps begun n (There r) h = stand_one old new call n r is (keeps n) h
+call_stand old new call is alike keeps begun n (Unread most features) h = unread_one most features old new call n is alike (keeps n) (begun n) h
+
+pub keeps_stand : (old new : services.Service) (call : Call Token) → service_in new ≡ (step (service_in old) call).service → (Opens call → ⊥) → MakesAlike old new → Keeps old new → AllStand old new
+keeps_stand old new call is never alike keeps = call_stand old new call is alike keeps (λ n. none_begun old new call n is never)
 
 -- one that is refused
-pub same_stand : (old new : services.Service) → service_in new ≡ service_in old → Keeps old new → AllStand old new
-same_stand old new is keeps = keeps_stand old new (calls.Without calls.Lease) is keeps
+pub same_stand : (old new : services.Service) → service_in new ≡ service_in old → MakesAlike old new → Keeps old new → AllStand old new
+same_stand old new is alike keeps = keeps_stand old new (calls.Without calls.Lease) is (λ opened. opened) alike keeps
+
+-- ---- One that is lent
+
+-- None is opened, or the next one.
+abbrev OpensNext : Service → Service → ℕ → Bool → Type 0
+OpensNext s t number had = (t.last ≡ s.last) ⊎ ((had ≡ false) × (number ≡ suc s.last) × (t.last ≡ suc s.last))
+
+opens_next : (s : Service) (b : Bool) (lease number : ℕ) (had : Bool) → (opens {T = Token} s b).reply ≡ calls.Lent lease number had → OpensNext s (opens {T = Token} s b).service number had
+opens_next s false lease number had e = inl refl
+opens_next s true lease number had e = inr (let u : had ≡ false = cc in u, let u : number ≡ suc s.last = cc in u, refl)
+
+lends_next : (s : Service) (o : Option Seat) (lease number : ℕ) (had : Bool) → (calls.lends {T = Token} s o).reply ≡ calls.Lent lease number had → OpensNext s (calls.lends {T = Token} s o).service number had
+lends_next s None lease number had e = opens_next s (nat_lt (length s.seats) s.max) lease number had e
+lends_next s (Some c) lease number had e = inl refl
+
+at_most_next : (n last : ℕ) (b : Bool) → (n == suc last) ≡ b → n ≤ suc last → (n ≡ suc last) ⊎ (n ≤ last)
+at_most_next n last true e low = inl (same_number n (suc last) e)
+at_most_next n last false e low = inr (grind (arith, nat_tests))
+
+lent_begun : (old new : services.Service) (number : ℕ) (had : Bool) (n : ℕ) → service_in new ≡ (step {T = Token} (service_in old) calls.Lease).service → OpensNext (service_in old) (service_in new) number had
+    → (had ≡ false → BeginsAt number old new) → Begun old new n
+lent_begun old new number had n is next begins now led none there =
+    let low : n ≤ new.last = low_there n new now (led_on (service_in old) (service_in new) calls.Lease is led) there in
+    let was_not : (n ≤ old.last) → Begins old.most old.features now =
+    λ was.
+    absurd (let gone : reading_on n new ≡ None = none_low old new calls.Lease n is was none in let u : None ≡ Some now = sym gone ∙ there in let v : ⊥ = cc in v) in
+    elim next [
+      | inl same ↦ was_not (subst (λ (k : ℕ). n ≤ k) same low)
+      | inr opened ↦
+          elim (at_most_next n old.last (n == suc old.last) refl (subst (λ (k : ℕ). n ≤ k) opened.2 low)) [
+            | inl is_next ↦
+                let same : number ≡ n = opened.1 ∙ sym is_next in
+                let b = begins opened.0 (subst (λ (k : ℕ). reading_on k old ≡ None) (sym same) none) in
+                let at : b.0 ≡ now = (let u : Some b.0 ≡ Some now = sym (subst (λ (k : ℕ). reading_on k new ≡ Some b.0) same b.1) ∙ there in cc) in
+                subst (Begins old.most old.features) at b.2
+            | inr was ↦ was_not was
+          ]
+    ]
+
+-- A new one has read nothing.
+pub lease_stand : (old new : services.Service) (lease number n : ℕ) (had : Bool) (before after : List ℕ) → StepsIn (step {T = Token} (service_in old) calls.Lease) (service_in new) (calls.Lent lease number had) n before after
+    → MakesAlike old new → Keeps old new → (had ≡ false → BeginsAt number old new) → AllStand old new
+lease_stand old new lease number n had before after one alike keeps begins =
+    let s = service_in old in
+    let next : OpensNext s (service_in new) number had =
+    subst (λ (t : Service). OpensNext s t number had) (sym one.service_is) (lends_next s (find_by is_lendable s.seats) lease number had one.reply_is) in
+    call_stand old new calls.Lease one.service_is alike keeps (λ k. lent_begun old new number had k one.service_is next begins)
+
+unread_gone : (most : ℕ) (features : Features) (old new : services.Service) (call : Call Token) (n : ℕ) → service_in new ≡ (step (service_in old) call).service → MakesAlike old new
+    → reading_on n new ≡ None → IsUnread most features n old → IsUnread most features n new
+unread_gone most features old new call n is alike none h = record {
+  led = led_on (service_in old) (service_in new) call is h.led;
+  told = (alike.0 ∙ h.told.0, alike.1 ∙ h.told.1);
+  begins = λ now there. absurd (let u : None ≡ Some now = sym none ∙ there in let v : ⊥ = cc in v);
+}
 
 gone_by : (old new : services.Service) (call : Call Token) (number n : ℕ) (r : Reading) (b : Bool) → (n == number) ≡ b → service_in new ≡ (step (service_in old) call).service
     → KeepsOthers number old new → (IsLed (service_in old) → seat_numbered number (service_in new).seats ≡ None) → StandsAt n r old → StandsAt n r new
@@ -214,10 +343,19 @@ gone_by old new call number n r true e is keeps gone h =
     }
 gone_by old new call number n r false e is keeps gone h = stand_one old new call n r is (λ q. keeps n q (differ n number e)) h
 
+unread_by : (most : ℕ) (features : Features) (old new : services.Service) (call : Call Token) (number n : ℕ) (b : Bool) → (n == number) ≡ b → service_in new ≡ (step (service_in old) call).service
+    → (Opens call → ⊥) → MakesAlike old new → KeepsOthers number old new → (IsLed (service_in old) → seat_numbered number (service_in new).seats ≡ None) → IsUnread most features n old → IsUnread most features n new
+unread_by most features old new call number n true e is never alike keeps gone h =
+    unread_gone most features old new call n is alike
+    (seat_unread n new (subst (λ (k : ℕ). seat_numbered k (service_in new).seats ≡ None) (sym (same_number n number e)) (gone h.led))) h
+unread_by most features old new call number n false e is never alike keeps gone h =
+    unread_one most features old new call n is alike (λ q. keeps n q (differ n number e)) (none_begun old new call n is never) h
+
 -- or by one behind which this one is there no more
-gone_stand : (old new : services.Service) (call : Call Token) (number : ℕ) → service_in new ≡ (step (service_in old) call).service → KeepsOthers number old new
+gone_stand : (old new : services.Service) (call : Call Token) (number : ℕ) → service_in new ≡ (step (service_in old) call).service → (Opens call → ⊥) → MakesAlike old new → KeepsOthers number old new
     → (IsLed (service_in old) → seat_numbered number (service_in new).seats ≡ None) → AllStand old new
-gone_stand old new call number is keeps gone n r h = gone_by old new call number n r (n == number) refl is keeps gone h
+gone_stand old new call number is never alike keeps gone n (There r) h = gone_by old new call number n r (n == number) refl is keeps gone h
+gone_stand old new call number is never alike keeps gone n (Unread most features) h = unread_by most features old new call number n (n == number) refl is never alike keeps gone h
 
 -- ---- One that is lost
 
@@ -235,9 +373,9 @@ pub lost_gone : (old new : services.Service) (number : ℕ) → service_in new �
 lost_gone old new number is led =
     seat_unread number new (subst (λ (s : Service). seat_numbered number s.seats ≡ None) (sym is) (lost_out (service_in old) number led))
 
-pub lost_stand : (old new : services.Service) (number : ℕ) → service_in new ≡ lost_by (service_in old) number → KeepsOthers number old new → AllStand old new
-lost_stand old new number is keeps =
-    gone_stand old new (calls.Lost number) number is keeps
+pub lost_stand : (old new : services.Service) (number : ℕ) → service_in new ≡ lost_by (service_in old) number → MakesAlike old new → KeepsOthers number old new → AllStand old new
+lost_stand old new number is alike keeps =
+    gone_stand old new (calls.Lost number) number is (λ opened. opened) alike keeps
     (λ led. subst (λ (s : Service). seat_numbered number s.seats ≡ None) (sym is) (lost_out (service_in old) number led))
 
 -- ---- One that is let go
@@ -272,28 +410,28 @@ cleaned_out s test (Some c) number distinct e reply is = cleaned_out_by s test c
 
 -- By its call it is closed, or all are kept.
 back_stand : (old new : services.Service) (call : Call Token) (rest : Rest) (number : ℕ) → service_in new ≡ (step (service_in old) call).service
-    → (rest_of rest ≡ None → IsLed (service_in old) → seat_numbered number (service_in new).seats ≡ None) → KeepsBy rest number old new → AllStand old new
-back_stand old new call rests.Free number is gone keeps = keeps_stand old new call is keeps
-back_stand old new call rests.Draining number is gone keeps = keeps_stand old new call is keeps
-back_stand old new call rests.Closed number is gone keeps = gone_stand old new call number is keeps (gone refl)
+    → (rest_of rest ≡ None → IsLed (service_in old) → seat_numbered number (service_in new).seats ≡ None) → (Opens call → ⊥) → MakesAlike old new → KeepsBy rest number old new → AllStand old new
+back_stand old new call rests.Free number is gone never alike keeps = keeps_stand old new call is never alike keeps
+back_stand old new call rests.Draining number is gone never alike keeps = keeps_stand old new call is never alike keeps
+back_stand old new call rests.Closed number is gone never alike keeps = gone_stand old new call number is never alike keeps (gone refl)
 
 pub given_back_stand : (old new : services.Service) (lease number : ℕ) (rest : Rest) (before after : List ℕ)
-    → StepsIn (step {T = Token} (service_in old) (calls.GiveBack lease)) (service_in new) (calls.Back (rest_of rest)) number before after → KeepsBy rest number old new → AllStand old new
-given_back_stand old new lease number rest before after one keeps =
+    → StepsIn (step {T = Token} (service_in old) (calls.GiveBack lease)) (service_in new) (calls.Back (rest_of rest)) number before after → MakesAlike old new → KeepsBy rest number old new → AllStand old new
+given_back_stand old new lease number rest before after one alike keeps =
     back_stand old new (calls.GiveBack lease) rest number one.service_is
     (λ none led.
     let s = service_in old in
     subst (λ (t : Service). seat_numbered number t.seats ≡ None) (sym one.service_is)
-    (given_out s (has_lease lease) (find_by (has_lease lease) s.seats) number (led_tidy s led).distinct refl (one.reply_is ∙ ap calls.Back none) one.number_is)) keeps
+    (given_out s (has_lease lease) (find_by (has_lease lease) s.seats) number (led_tidy s led).distinct refl (one.reply_is ∙ ap calls.Back none) one.number_is)) (λ opened. opened) alike keeps
 
 pub cleaned_stand : (old new : services.Service) (lease number : ℕ) (rest : Rest) (before after : List ℕ)
-    → StepsIn (step {T = Token} (service_in old) (calls.Cleaned lease)) (service_in new) (calls.Back (rest_of rest)) number before after → KeepsBy rest number old new → AllStand old new
-cleaned_stand old new lease number rest before after one keeps =
+    → StepsIn (step {T = Token} (service_in old) (calls.Cleaned lease)) (service_in new) (calls.Back (rest_of rest)) number before after → MakesAlike old new → KeepsBy rest number old new → AllStand old new
+cleaned_stand old new lease number rest before after one alike keeps =
     back_stand old new (calls.Cleaned lease) rest number one.service_is
     (λ none led.
     let s = service_in old in
     subst (λ (t : Service). seat_numbered number t.seats ≡ None) (sym one.service_is)
-    (cleaned_out s (has_lease lease) (find_by (has_lease lease) s.seats) number (led_tidy s led).distinct refl (one.reply_is ∙ ap calls.Back none) one.number_is)) keeps
+    (cleaned_out s (has_lease lease) (find_by (has_lease lease) s.seats) number (led_tidy s led).distinct refl (one.reply_is ∙ ap calls.Back none) one.number_is)) (λ opened. opened) alike keeps
 
 -- ---- What is read
 
@@ -307,72 +445,104 @@ own_stand old mid call n r next is at h =
       there = λ now e. let u : Some now ≡ Some next = sym e ∙ at in cc;
     }
 
-read_other : (n number : ℕ) (ends : Bool) (content : List ℕ) (r : Reading) → (number == n) ≡ false → read_at n number ends content r ≡ r
-read_other n number ends content r e = rw e refl
+read_other : (n number : ℕ) (o : Option Seat) (ends : Bool) (content : List ℕ) (r : Reading) → (number == n) ≡ false → read_at n number o ends content r ≡ r
+read_other n number None ends content r e = refl
+read_other n number (Some c) ends content r e = rw e refl
 
-read_here : (n number : ℕ) (ends : Bool) (content : List ℕ) (r : Reading) → (number == n) ≡ true → read_at n number ends content r ≡ read_to ends r (tokens_in r content).stop
-read_here n number ends content r e = rw e refl
+-- where it is there
+read_here : (n number : ℕ) (o : Option Seat) (ends : Bool) (content : List ℕ) (r : Reading) → (o ≡ None → ⊥) → (number == n) ≡ true → read_at n number o ends content r ≡ read_to ends r (tokens_in r content).stop
+read_here n number None ends content r there e = absurd (there refl)
+read_here n number (Some c) ends content r there e = rw e refl
 
 to_behind : (ends : Bool) (r next : Reading) (stop : Stop) → ReadsTo ends stop next → read_to ends r stop ≡ next
 to_behind ends r next stop h = ap (λ (s : Stop). read_to ends r s) h.1 ∙ sym h.2
+
+is_there : (number : ℕ) (s : services.Service) (at : Reading) → reading_on number s ≡ Some at → seat_numbered number (service_in s).seats ≡ None → ⊥
+is_there number s at is none = let u : None ≡ Some at = sym (seat_unread number s none) ∙ is in cc
 
 -- what is known of the walker that has read
 abbrev Known : ℕ → Bool → List ℕ → services.Service → services.Service → Type 0
 Known number ends content old mid = (r : Reading) → reading_on number old ≡ Some r → (next : Reading) × (reading_on number mid ≡ Some next) × ReadsTo ends (tokens_in r content).stop next
 
+-- where a connection's walker stands behind a packet on this one
+abbrev behind : ℕ → ℕ → Bool → List ℕ → services.Service → Reading → Reading
+behind n number ends content old r = read_at n number (seat_numbered number (service_in old).seats) ends content r
+
 here_stand : (old mid : services.Service) (part : Part Token) (number n : ℕ) (ends : Bool) (content : List ℕ) (r : Reading) (at : Reading) → reading_on number old ≡ Some at
-    → service_in mid ≡ (step (service_in old) (calls.Came number part)).service → Known number ends content old mid → (number == n) ≡ true → StandsAt n r old → StandsAt n (read_at n number ends content r) mid
+    → service_in mid ≡ (step (service_in old) (calls.Came number part)).service → Known number ends content old mid → (number == n) ≡ true → StandsAt n r old → StandsAt n (behind n number ends content old r) mid
 here_stand old mid part number n ends content r at is step_is known e h =
     let same : number ≡ n = eqb-true number n e in
     let its : at ≡ r = h.there at (subst (λ (k : ℕ). reading_on k old ≡ Some at) same is) in
     let k = known at is in
-    let next_is : read_at n number ends content r ≡ k.0 =
-    read_here n number ends content r e ∙ ap (λ (x : Reading). read_to ends x (tokens_in x content).stop) (sym its) ∙ to_behind ends at k.0 (tokens_in at content).stop k.2 in
+    let next_is : behind n number ends content old r ≡ k.0 =
+    read_here n number (seat_numbered number (service_in old).seats) ends content r (is_there number old at is) e
+    ∙ ap (λ (x : Reading). read_to ends x (tokens_in x content).stop) (sym its) ∙ to_behind ends at k.0 (tokens_in at content).stop k.2 in
     subst (λ (x : Reading). StandsAt n x mid) (sym next_is)
     (own_stand old mid (calls.Came number part) n r k.0 step_is (subst (λ (m : ℕ). reading_on m mid ≡ Some k.0) same k.1) h)
 
 other_stand : (old mid : services.Service) (call : Call Token) (number n : ℕ) (ends : Bool) (content : List ℕ) (r : Reading) → service_in mid ≡ (step (service_in old) call).service → KeepsOthers number old mid
-    → (number == n) ≡ false → StandsAt n r old → StandsAt n (read_at n number ends content r) mid
+    → (number == n) ≡ false → StandsAt n r old → StandsAt n (behind n number ends content old r) mid
 other_stand old mid call number n ends content r is keeps e h =
-    subst (λ (x : Reading). StandsAt n x mid) (sym (read_other n number ends content r e))
+    subst (λ (x : Reading). StandsAt n x mid) (sym (read_other n number (seat_numbered number (service_in old).seats) ends content r e))
     (stand_one old mid call n r is (λ q. keeps n q (λ same. differ number n e (sym same))) h)
 
 came_by : (old mid : services.Service) (part : Part Token) (number n : ℕ) (ends : Bool) (content : List ℕ) (r at : Reading) (b : Bool) → (number == n) ≡ b → reading_on number old ≡ Some at
-    → service_in mid ≡ (step (service_in old) (calls.Came number part)).service → Known number ends content old mid → KeepsOthers number old mid → StandsAt n r old → StandsAt n (read_at n number ends content r) mid
+    → service_in mid ≡ (step (service_in old) (calls.Came number part)).service → Known number ends content old mid → KeepsOthers number old mid → StandsAt n r old → StandsAt n (behind n number ends content old r) mid
 came_by old mid part number n ends content r at true e is step_is known keeps h = here_stand old mid part number n ends content r at is step_is known e h
 came_by old mid part number n ends content r at false e is step_is known keeps h = other_stand old mid (calls.Came number part) number n ends content r step_is keeps e h
 
+-- nothing of another one
+others_unread : (old mid new : services.Service) (part : Part Token) (number : ℕ) (at : Reading) (n most : ℕ) (features : Features) → reading_on number old ≡ Some at
+    → service_in mid ≡ (step (service_in old) (calls.Came number part)).service → MakesAlike old mid → KeepsOthers number old mid → AllStand mid new
+    → (n ≢ number) ⊎ (seat_numbered number (service_in old).seats ≡ None) → IsUnread most features n old → IsUnread most features n new
+others_unread old mid new part number at n most features is step_is alike keeps later (inl other) h =
+    later n (Unread most features)
+    (unread_one most features old mid (calls.Came number part) n step_is alike (λ q. keeps n q other) (none_begun old mid (calls.Came number part) n step_is (λ opened. opened)) h)
+others_unread old mid new part number at n most features is step_is alike keeps later (inr none) h = absurd (is_there number old at is none)
+
 -- a packet has come, and then nothing is read
 pub came_read : (old mid new : services.Service) (part : Part Token) (number : ℕ) (ends : Bool) (content : List ℕ) (at : Reading) → reading_on number old ≡ Some at
-    → service_in mid ≡ (step (service_in old) (calls.Came number part)).service → Known number ends content old mid → KeepsOthers number old mid → AllStand mid new → AllRead number ends content old new
-came_read old mid new part number ends content at is step_is known keeps later n r h =
-    later n (read_at n number ends content r) (came_by old mid part number n ends content r at (number == n) refl is step_is known keeps h)
+    → service_in mid ≡ (step (service_in old) (calls.Came number part)).service → Known number ends content old mid → MakesAlike old mid → KeepsOthers number old mid → AllStand mid new
+    → AllRead number ends content old new
+came_read old mid new part number ends content at is step_is known alike keeps later = record {
+  stand = λ n r h. later n (There (behind n number ends content old r)) (came_by old mid part number n ends content r at (number == n) refl is step_is known keeps h);
+  unread = λ n most features other h. others_unread old mid new part number at n most features is step_is alike keeps later other h;
+}
 
 -- or it has a fault, and the connection is lost
 lost_by_test : (old mid new : services.Service) (part : Part Token) (number n : ℕ) (ends : Bool) (content : List ℕ) (r next : Reading) (b : Bool) → (number == n) ≡ b → reading_on number mid ≡ Some next
     → service_in mid ≡ (step (service_in old) (calls.Came number part)).service → KeepsOthers number old mid → AllStand mid new → (IsLed (service_in mid) → reading_on number new ≡ None)
-    → StandsAt n r old → StandsAt n (read_at n number ends content r) new
+    → StandsAt n r old → StandsAt n (behind n number ends content old r) new
 lost_by_test old mid new part number n ends content r next true e is step_is keeps later gone h =
     let same : number ≡ n = eqb-true number n e in
     let was = own_stand old mid (calls.Came number part) n r next step_is (subst (λ (m : ℕ). reading_on m mid ≡ Some next) same is) h in
-    let now = later n next was in
+    let now = later n (There next) was in
     let none : reading_on n new ≡ None = subst (λ (m : ℕ). reading_on m new ≡ None) same (gone was.led) in
-    record { led = now.led; given = now.given; there = λ x. nothing_there (read_at n number ends content r) x (reading_on n new) none }
+    record { led = now.led; given = now.given; there = λ x. nothing_there (behind n number ends content old r) x (reading_on n new) none }
 lost_by_test old mid new part number n ends content r next false e is step_is keeps later gone h =
-    later n (read_at n number ends content r) (other_stand old mid (calls.Came number part) number n ends content r step_is keeps e h)
+    later n (There (behind n number ends content old r)) (other_stand old mid (calls.Came number part) number n ends content r step_is keeps e h)
 
-pub lost_read : (old mid new : services.Service) (part : Part Token) (number : ℕ) (ends : Bool) (content : List ℕ) (next : Reading) → reading_on number mid ≡ Some next
-    → service_in mid ≡ (step (service_in old) (calls.Came number part)).service → KeepsOthers number old mid → AllStand mid new → (IsLed (service_in mid) → reading_on number new ≡ None) → AllRead number ends content old new
-lost_read old mid new part number ends content next is step_is keeps later gone n r h =
-    lost_by_test old mid new part number n ends content r next (number == n) refl is step_is keeps later gone h
+pub lost_read : (old mid new : services.Service) (part : Part Token) (number : ℕ) (ends : Bool) (content : List ℕ) (at next : Reading) → reading_on number old ≡ Some at → reading_on number mid ≡ Some next
+    → service_in mid ≡ (step (service_in old) (calls.Came number part)).service → MakesAlike old mid → KeepsOthers number old mid → AllStand mid new → (IsLed (service_in mid) → reading_on number new ≡ None)
+    → AllRead number ends content old new
+lost_read old mid new part number ends content at next was is step_is alike keeps later gone = record {
+  stand = λ n r h. lost_by_test old mid new part number n ends content r next (number == n) refl is step_is keeps later gone h;
+  unread = λ n most features other h. others_unread old mid new part number at n most features was step_is alike keeps later other h;
+}
 
 -- or the connection isn't there
-unknown_by : (s : services.Service) (number n : ℕ) (ends : Bool) (content : List ℕ) (r : Reading) (b : Bool) → (number == n) ≡ b → reading_on number s ≡ None → StandsAt n r s → StandsAt n (read_at n number ends content r) s
-unknown_by s number n ends content r true e none h =
-    let gone : reading_on n s ≡ None = subst (λ (m : ℕ). reading_on m s ≡ None) (eqb-true number n e) none in
-    record { led = h.led; given = h.given; there = λ now. nothing_there (read_at n number ends content r) now (reading_on n s) gone }
-unknown_by s number n ends content r false e none h =
-    subst (λ (x : Reading). StandsAt n x s) (sym (read_other n number ends content r e)) h
-
 pub unknown_read : (s : services.Service) (number : ℕ) (ends : Bool) (content : List ℕ) → seat_numbered number (service_in s).seats ≡ None → AllRead number ends content s s
-unknown_read s number ends content none n r h = unknown_by s number n ends content r (number == n) refl (seat_unread number s none) h
+unknown_read s number ends content none = record {
+  stand = λ n r h. subst (λ (o : Option Seat). StandsAt n (read_at n number o ends content r) s) (sym none) h;
+  unread = λ n most features other h. h;
+}
+
+-- where a service is new
+pub unread_new : (max most : ℕ) (features : Features) (s : services.Service) → service_in s ≡ new_service max → (s.most ≡ most) × (s.features ≡ features) → (n : ℕ) → IsUnread most features n s
+unread_new max most features s is told n =
+    let none : reading_on n s ≡ None = seat_unread n s (subst (λ (x : Service). seat_numbered n x.seats ≡ None) (sym is) refl) in
+    record {
+      led = (max, [], sym is);
+      told = told;
+      begins = λ now there. absurd (let u : None ≡ Some now = sym none ∙ there in let v : ⊥ = cc in v);
+    }

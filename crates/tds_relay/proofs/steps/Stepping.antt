@@ -5,7 +5,7 @@ use Rattle.tds_relay.specs.Desk as desk
 use Rattle.tds_relay.specs.Desk.{Desk, turn}
 use Rattle.tds_relay.specs.Fronts.{LetsGoFirst, Moved, MovedOn, hall_of_ends, house_with}
 use Rattle.tds_relay.specs.Hall.{CausesMove, Ends, Hall, HasEntered, IsQuiet, MayMoveAll, Move, Moves, change_end, lets_go, moved_all}
-use Rattle.tds_relay.specs.House.{House, Step, Admits, CausesStep, IsLedTo, Makes, MayAll, MayStep, Removes, Steps, Writes, after, after_all, new_house}
+use Rattle.tds_relay.specs.House.{House, Step, Admits, CausesStep, IsLedTo, Makes, MayAll, MayStep, Removes, Steps, StepsOn, Writes, after, after_all, new_house}
 use Rattle.tds_relay.specs.Posts.{Enters, Posts, change, without_first}
 use Rattle.tds_relay.specs.Promises.{Each}
 use Rattle.tds_relay.specs.Ties as causes
@@ -81,6 +81,12 @@ pub steps_on_ok : {A E : Type 0} (r : Result A E) (by : Cause) (from : House) (o
     → OnOk r (MovedOn old new) → OnOk r (posts1 ≡ posts) → OnOk r (Steps by from (record { hall = new; posts = posts1 }))
 steps_on_ok (Ok x) by from old new posts posts1 s m kept = steps_moved by from old new posts posts1 (m by) kept s
 steps_on_ok (Err e) by from old new posts posts1 s m kept = tt
+
+-- the same, whoever caused it
+pub steps_whoever : {A E : Type 0} (r : Result A E) (from : House) (old new : Hall) (posts posts1 : Posts) → StepsOn from (record { hall = old; posts = posts })
+    → OnOk r (MovedOn old new) → OnOk r (posts1 ≡ posts) → OnOk r (StepsOn from (record { hall = new; posts = posts1 }))
+steps_whoever (Ok x) from old new posts posts1 s m kept = λ by. steps_moved by from old new posts posts1 (m by) kept (s by)
+steps_whoever (Err e) from old new posts posts1 s m kept = tt
 
 pub same_house : (d d1 : Desk) (es es1 : Ends) (ps ps1 : Posts) → d1 ≡ d → es1 ≡ es → ps1 ≡ ps → house_with d es ps ≡ house_with d1 es1 ps1
 same_house d d1 es es1 ps ps1 same ends kept =

@@ -6,12 +6,12 @@ ghost use Rattle.tds_relay.specs.Desk.{Loses, turn};
 ghost use Rattle.tds_relay.specs.Fronts.{LetsGoFirst, Moved, MovedOn, ends_in, hall_in, hall_of_ends};
 ghost use Rattle.tds_relay.specs.Fronts.{house_in};
 ghost use Rattle.tds_relay.specs.Hall.{change_end, change_whose, closes, end_at};
-ghost use Rattle.tds_relay.specs.House.{Steps};
+ghost use Rattle.tds_relay.specs.House.{Steps, StepsOn};
 ghost use Rattle.tds_relay.specs.Posts.{posts_in};
 ghost use Rattle.tds_relay.specs.Reads.{Opens, Stays, reader_at};
 ghost use Rattle.tds_relay.specs.Sparing.{AllGo, AllRest};
 ghost use Rattle.tds_relay.specs.Taking.{IsDeaf};
-ghost use Rattle.tds_relay.specs.Ties.{Application, Connection, Goes, GoesOn, IsReached, Leaving};
+ghost use Rattle.tds_relay.specs.Ties.{Application, Goes, GoesOn, IsReached, Leaving};
 ghost use Rattle.tds_relay.specs.Ties.{NobodyWaits, desk_in};
 ghost use Rattle.tds_relay.specs.Walkers.{AllStand};
 
@@ -43,8 +43,7 @@ impl Relay {
     pub fn lost(&mut self, number: u64) -> Result<(), NoMemory>
         ensures lost { OnOk result (GoesOn (turn (desk_in self.old.desk) (Loses number)).desk
             (desk_in self.new.desk)) }
-        ensures steps { OnOk result (Steps (Connection number) (house_in self.old)
-            (house_in self.new)) }
+        ensures steps { OnOk result (StepsOn (house_in self.old) (house_in self.new)) }
         ensures served { OnOk result (NobodyWaits (desk_in self.new.desk)) }
         ensures opens { OnOk result (Opens self.old.links.items self.new.links.items) }
         ensures stand { OnOk result (AllStand self.old.desk.service

@@ -8,13 +8,13 @@ ghost use Rattle.tds_relay.specs.Bodies.{waits_on};
 ghost use Rattle.tds_relay.specs.Desk.{find_number, key_of};
 ghost use Rattle.tds_relay.specs.Fronts.{MovedOn, ends_in, hall_in, house_in};
 ghost use Rattle.tds_relay.specs.Hall.{end_at};
-ghost use Rattle.tds_relay.specs.House.{Steps};
+ghost use Rattle.tds_relay.specs.House.{Steps, StepsOn};
 ghost use Rattle.tds_relay.specs.Posts.{posts_in};
 ghost use Rattle.tds_relay.specs.Reads.{Opens, OpensFirst, OpensOne, Stays, open_at, opened_at};
 ghost use Rattle.tds_relay.specs.Sparing.{AllGo, AllRest, IsHeldBack, IsUnkept, OthersRest};
 ghost use Rattle.tds_relay.specs.Sparing.{StartsOn};
 ghost use Rattle.tds_relay.specs.Taking.{IsDeaf};
-ghost use Rattle.tds_relay.specs.Ties.{Connection, Goes, GoesOn, IsReached, Neither, NobodyWaits};
+ghost use Rattle.tds_relay.specs.Ties.{Goes, GoesOn, IsReached, Neither, NobodyWaits};
 ghost use Rattle.tds_relay.specs.Ties.{desk_in};
 ghost use Rattle.tds_relay.specs.Walkers.{AllStand};
 
@@ -80,8 +80,7 @@ impl Relay {
     /// The connection of this number is open and logged in.
     pub fn opened(&mut self, number: u64) -> Result<(), NoMemory>
         ensures goes { OnOk result (GoesOn (desk_in self.old.desk) (desk_in self.new.desk)) }
-        ensures steps { OnOk result (Steps (Connection number) (house_in self.old)
-            (house_in self.new)) }
+        ensures steps { OnOk result (StepsOn (house_in self.old) (house_in self.new)) }
         ensures served { OnOk result (NobodyWaits (desk_in self.new.desk)) }
         ensures opens { OnOk result (OpensOne number self.old.links.items self.new.links.items) }
         ensures stand { OnOk result (AllStand self.old.desk.service

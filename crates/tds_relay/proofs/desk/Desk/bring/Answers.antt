@@ -1,9 +1,8 @@
-use Rattle.tds_service.specs.Service as calls
-use Rattle.tds_relay.proofs.bytes.Walking.{keeps_stand, same_stand}
+use Rattle.tds_relay.proofs.bytes.Walking.{lease_stand, same_stand}
 use Rattle.tds_relay.proofs.desk.Desk.bring.Goals as goal
 
 pub returns-clause-stand : goal.returns-clause-stand
-returns-clause-stand c = λ n r h. c.in_ok-is_there.ensures.stand n r (keeps_stand c.args.self.now.service c.lease.new.self calls.Lease c.in-Ok.ensures.ok.service_is c.in-Ok.ensures.keeps n r h)
+returns-clause-stand c = λ n r h. c.in_ok-is_there.ensures.stand n r (lease_stand c.args.self.now.service c.lease.new.self c.in-Ok.lent.lease c.in-Ok.lent.number _ c.in-Ok.lent.had _ _ c.in-Ok.ensures.ok c.in-Ok.ensures.makes c.in-Ok.ensures.keeps c.in-Ok.ensures.begins n r h)
 
 pub returns-in-Err-clause-stand : goal.returns-in-Err-clause-stand
-returns-in-Err-clause-stand c = same_stand c.args.self.now.service c.lease.new.self c.in-Err.ensures.err c.in-Err.ensures.keeps
+returns-in-Err-clause-stand c = same_stand c.args.self.now.service c.lease.new.self c.in-Err.ensures.err c.in-Err.ensures.makes c.in-Err.ensures.keeps

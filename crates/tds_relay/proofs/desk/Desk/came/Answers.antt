@@ -116,23 +116,23 @@ returns-in-Err-clause-read c =
 pub returns-in-More-clause-read : goal.returns-in-More-clause-read
 returns-in-More-clause-read c =
     let came = c.in-Ok.ensures.ok in
-    came_read c.args.self.now.service c.heard.new.self _ (packet_part came.0 c.args.bytes.now c.args.ends) c.args.number c.args.ends c.args.bytes.now came.0 came.1 came.2.1.steps.service_is (λ r e. rw c.in-More.is at (c.in-Ok.ensures.reads r e)) c.in-Ok.ensures.others (λ n r h. h)
+    came_read c.args.self.now.service c.heard.new.self _ (packet_part came.0 c.args.bytes.now c.args.ends) c.args.number c.args.ends c.args.bytes.now came.0 came.1 came.2.1.steps.service_is (λ r e. rw c.in-More.is at (c.in-Ok.ensures.reads r e)) c.in-Ok.ensures.makes c.in-Ok.ensures.others (λ n r h. h)
 
 pub returns-in_ok-what-in-Finished-clause-read : goal.returns-in_ok-what-in-Finished-clause-read
 returns-in_ok-what-in-Finished-clause-read c =
     let came = c.in-Ok.ensures.ok in
-    came_read c.args.self.now.service c.heard.new.self _ (packet_part came.0 c.args.bytes.now c.args.ends) c.args.number c.args.ends c.args.bytes.now came.0 came.1 came.2.1.steps.service_is (λ r e. rw c.in-Finished.is at (c.in-Ok.ensures.reads r e)) c.in-Ok.ensures.others c.in_ok-what-in-Finished.ensures.stand
+    came_read c.args.self.now.service c.heard.new.self _ (packet_part came.0 c.args.bytes.now c.args.ends) c.args.number c.args.ends c.args.bytes.now came.0 came.1 came.2.1.steps.service_is (λ r e. rw c.in-Finished.is at (c.in-Ok.ensures.reads r e)) c.in-Ok.ensures.makes c.in-Ok.ensures.others c.in_ok-what-in-Finished.ensures.stand
 
 pub returns-in_ok-what-in-Acknowledged-clause-read : goal.returns-in_ok-what-in-Acknowledged-clause-read
 returns-in_ok-what-in-Acknowledged-clause-read c =
     let came = c.in-Ok.ensures.ok in
-    came_read c.args.self.now.service c.heard.new.self _ (packet_part came.0 c.args.bytes.now c.args.ends) c.args.number c.args.ends c.args.bytes.now came.0 came.1 came.2.1.steps.service_is (λ r e. rw c.in-Acknowledged.is at (c.in-Ok.ensures.reads r e)) c.in-Ok.ensures.others c.in_ok-what-in-Acknowledged.ensures.stand
+    came_read c.args.self.now.service c.heard.new.self _ (packet_part came.0 c.args.bytes.now c.args.ends) c.args.number c.args.ends c.args.bytes.now came.0 came.1 came.2.1.steps.service_is (λ r e. rw c.in-Acknowledged.is at (c.in-Ok.ensures.reads r e)) c.in-Ok.ensures.makes c.in-Ok.ensures.others c.in_ok-what-in-Acknowledged.ensures.stand
 
 pub returns-in_ok-lose-in-Fault-clause-read : goal.returns-in_ok-lose-in-Fault-clause-read
 returns-in_ok-lose-in-Fault-clause-read c =
     let came = c.in-Ok.ensures.ok in
     let next = c.in-Ok.ensures.reads came.0 came.1 in
-    lost_read c.args.self.now.service c.heard.new.self _ (packet_part came.0 c.args.bytes.now c.args.ends) c.args.number c.args.ends c.args.bytes.now next.0 next.1 came.2.1.steps.service_is c.in-Ok.ensures.others c.in_ok-lose-in-Fault.ensures.stand c.in_ok-lose-in-Fault.ensures.gone
+    lost_read c.args.self.now.service c.heard.new.self _ (packet_part came.0 c.args.bytes.now c.args.ends) c.args.number c.args.ends c.args.bytes.now came.0 next.0 came.1 next.1 came.2.1.steps.service_is c.in-Ok.ensures.makes c.in-Ok.ensures.others c.in_ok-lose-in-Fault.ensures.stand c.in_ok-lose-in-Fault.ensures.gone
 
 pub returns-in_ok-lose-in-Fault-clause-ok : goal.returns-in_ok-lose-in-Fault-clause-ok
 returns-in_ok-lose-in-Fault-clause-ok c =

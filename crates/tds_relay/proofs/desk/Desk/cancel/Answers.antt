@@ -5,7 +5,7 @@ use Rattle.tds_relay.proofs.spared.Held.{deed_others, deed_same}
 use Rattle.tds_relay.proofs.desk.Desk.cancel.Goals as goal
 
 pub returns-in-Ok-clause-stand : goal.returns-in-Ok-clause-stand
-returns-in-Ok-clause-stand c = keeps_stand _ _ (calls.Cancel c.in-Some.hold.lease) c.in-Ok.ensures.ok.service_is c.in-Ok.ensures.keeps
+returns-in-Ok-clause-stand c = keeps_stand _ _ (calls.Cancel c.in-Some.hold.lease) c.in-Ok.ensures.ok.service_is (λ opens. opens) c.in-Ok.ensures.makes c.in-Ok.ensures.keeps
 
 pub returns-in-Ok-clause-others : goal.returns-in-Ok-clause-others
 returns-in-Ok-clause-others c = deed_others c.args.self.now _ c.args.key c.in-Some.hold (search rules) refl c.in-Ok.ensures.clients

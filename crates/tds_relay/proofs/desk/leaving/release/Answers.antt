@@ -19,13 +19,13 @@ returns-in-Ok-default-Free-clause-makes c =
     c.clean.ensures.makes
 
 pub returns-in-Ok-default-Free-clause-stand : goal.returns-in-Ok-default-Free-clause-stand
-returns-in-Ok-default-Free-clause-stand c = stand_on c.clean.result _ _ _ (given_back_stand c.args.service.now c.give_back.new.self c.args.hold.lease c.in-Ok-default-Free.field-0-0 c.in-Ok-default-Free.field-0-1 _ _ c.in-Ok-default-Free.ensures.ok c.in-Ok-default-Free.ensures.keeps) c.clean.ensures.stand
+returns-in-Ok-default-Free-clause-stand c = stand_on c.clean.result _ _ _ (given_back_stand c.args.service.now c.give_back.new.self c.args.hold.lease c.in-Ok-default-Free.field-0-0 c.in-Ok-default-Free.field-0-1 _ _ c.in-Ok-default-Free.ensures.ok c.in-Ok-default-Free.ensures.makes c.in-Ok-default-Free.ensures.keeps) c.clean.ensures.stand
 
 pub returns-in-Ok-default-Draining-clause-stand : goal.returns-in-Ok-default-Draining-clause-stand
-returns-in-Ok-default-Draining-clause-stand c = given_back_stand c.args.service.now c.give_back.new.self c.args.hold.lease c.in-Ok-default-Draining.field-0-0 c.in-Ok-default-Draining.field-0-1 _ _ c.in-Ok-default-Draining.ensures.ok c.in-Ok-default-Draining.ensures.keeps
+returns-in-Ok-default-Draining-clause-stand c = given_back_stand c.args.service.now c.give_back.new.self c.args.hold.lease c.in-Ok-default-Draining.field-0-0 c.in-Ok-default-Draining.field-0-1 _ _ c.in-Ok-default-Draining.ensures.ok c.in-Ok-default-Draining.ensures.makes c.in-Ok-default-Draining.ensures.keeps
 
 pub returns-in-Ok-default-Closed-clause-stand : goal.returns-in-Ok-default-Closed-clause-stand
-returns-in-Ok-default-Closed-clause-stand c = given_back_stand c.args.service.now c.give_back.new.self c.args.hold.lease c.in-Ok-default-Closed.field-0-0 c.in-Ok-default-Closed.field-0-1 _ _ c.in-Ok-default-Closed.ensures.ok c.in-Ok-default-Closed.ensures.keeps
+returns-in-Ok-default-Closed-clause-stand c = given_back_stand c.args.service.now c.give_back.new.self c.args.hold.lease c.in-Ok-default-Closed.field-0-0 c.in-Ok-default-Closed.field-0-1 _ _ c.in-Ok-default-Closed.ensures.ok c.in-Ok-default-Closed.ensures.makes c.in-Ok-default-Closed.ensures.keeps
 
 pub returns-in_ok-forget-in-Err-clause-stand : goal.returns-in_ok-forget-in-Err-clause-stand
-returns-in_ok-forget-in-Err-clause-stand c = λ n r h. c.in_ok-forget-in-Err.ensures.stand n r (same_stand c.args.service.now c.give_back.new.self c.in-Err.ensures.err c.in-Err.ensures.keeps_all n r h)
+returns-in_ok-forget-in-Err-clause-stand c = λ n r h. c.in_ok-forget-in-Err.ensures.stand n r (same_stand c.args.service.now c.give_back.new.self c.in-Err.ensures.err c.in-Err.ensures.makes c.in-Err.ensures.keeps_all n r h)

@@ -1,6 +1,6 @@
 use Rattle.tds_relay.specs.Fronts.{house_in}
-use Rattle.tds_relay.specs.Ties.{Connection, desk_in}
-use Rattle.tds_relay.proofs.steps.Stepping.{no_steps, steps_moved, steps_on_ok}
+use Rattle.tds_relay.specs.Ties.{desk_in}
+use Rattle.tds_relay.proofs.steps.Stepping.{no_steps, steps_moved, steps_whoever}
 use Rattle.tds_relay.proofs.steps.Staying.{opens_served}
 use Rattle.tds_relay.proofs.bytes.Calls.{stand_on}
 use Rattle.tds_relay.proofs.spared.Resting.{go_on, reached_on_does, rest_go}
@@ -9,9 +9,8 @@ use Rattle.tds_relay.proofs.relay.Relay.lost.Goals as goal
 
 pub returns-clause-steps : goal.returns-clause-steps
 returns-clause-steps c =
-    steps_on_ok c.serve_line.result (Connection c.args.number) (house_in c.args.self.now) _ _ _ _
-    (steps_moved (Connection c.args.number) (house_in c.args.self.now) _ _ _ _ (c.in_ok-lose.ensures.moves (Connection c.args.number)) c.in_ok-lose.ensures.kept
-    (no_steps (Connection c.args.number) (house_in c.args.self.now)))
+    let old = house_in c.args.self.now in
+    steps_whoever c.serve_line.result old _ _ _ _ (λ by. steps_moved by old _ _ _ _ (c.in_ok-lose.ensures.moves by) c.in_ok-lose.ensures.kept (no_steps by old))
     c.serve_line.ensures.moves c.serve_line.ensures.kept
 
 pub returns-clause-opens : goal.returns-clause-opens

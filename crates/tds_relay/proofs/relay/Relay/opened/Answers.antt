@@ -1,7 +1,7 @@
 use Rattle.std.proofs.Common.{◌∙◌, ap, subst, sym}
 use Rattle.tds_relay.specs.Fronts.{house_in}
-use Rattle.tds_relay.specs.Ties.{Connection, desk_in, IsReached}
-use Rattle.tds_relay.proofs.steps.Stepping.{no_steps, steps_moved, steps_on_ok, steps_same}
+use Rattle.tds_relay.specs.Ties.{desk_in, IsReached}
+use Rattle.tds_relay.proofs.steps.Stepping.{no_steps, steps_moved, steps_same, steps_whoever}
 use Rattle.tds_relay.proofs.steps.Staying.{opens_one_served, stays_behind}
 use Rattle.tds_relay.proofs.bytes.Calls.{stand_back, stand_on}
 use Rattle.tds_relay.specs.declared.desk.Desk as code
@@ -12,10 +12,10 @@ use Rattle.tds_relay.proofs.relay.Relay.opened.Goals as goal
 
 pub returns-clause-steps : goal.returns-clause-steps
 returns-clause-steps c =
-    let by = Connection c.args.number in
     let old = house_in c.args.self.now in
-    steps_on_ok c.serve_line.result by old _ _ _ _
-    (steps_moved by old _ _ _ _ (c.in_ok-start_on.ensures.moves by) c.in_ok-start_on.ensures.kept
+    steps_whoever c.serve_line.result old _ _ _ _
+    (λ by.
+    steps_moved by old _ _ _ _ (c.in_ok-start_on.ensures.moves by) c.in_ok-start_on.ensures.kept
     (steps_same by old _ _ _ _ _ _ (ap desk_in (c.in_ok-order_write_on.ensures.desk ∙ c.set_open.ensures.desk))
     (c.in_ok-order_write_on.ensures.ends ∙ c.set_open.ensures.ends) (c.in_ok-order_write_on.ensures.kept ∙ c.set_open.ensures.kept)
     (no_steps by old)))
