@@ -173,12 +173,12 @@ pub fn request_goes_on(relay: &mut Relay, key: usize, said: &[u8]) -> Result<(),
     relay.said(key, said)
 }
 
-/// The body of a request goes on as it came. Of each piece of an application's bytes: where its request begins, nothing
-/// of a body is kept yet; the next bytes of the body are kept behind the others while the request waits, or put by the
-/// client of the connection that its application holds, and what goes out by that waits there, behind what waited; the
-/// end is put behind the last of them. Before each piece and behind the last one, a request that waits may be asked:
-/// then all that was kept of it is put so, once, by a client that begins a request of its kind. What is forgotten is
-/// nowhere then. Or the application is to be closed.
+/// The body of a request goes on as it came: of each piece of an application's bytes, what comes of a body is kept
+/// behind the others while its request waits, or put by the client of the connection that the application holds, and
+/// what goes out by that waits there, behind what waited; where the last of it has come, the end is put behind it.
+/// Before each piece and behind the last one a request that waits may be asked: then all that was kept of it is put
+/// so, once, by a client that begins a request of its kind. What is forgotten is nowhere then. Or the application is to
+/// be closed.
 pub fn body_goes_on(relay: &mut Relay, key: usize, said: &[u8]) -> Result<(), NoMemory>
     ensures { IsReached (desk_in relay.old.desk) → OnOk result (Carries key (house_in relay.old)
         said.now [] (body_of key relay.old) (body_of key relay.new) (house_in relay.new)) }
