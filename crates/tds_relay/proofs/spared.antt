@@ -1,3 +1,4 @@
+pub mod Aside
 pub mod Held
 pub mod Resting
 pub mod Starting

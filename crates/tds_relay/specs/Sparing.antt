@@ -1,10 +1,11 @@
 -- What one application does leaves the requests of all others as they are.
-use Rattle.std.specs.Prelude.{◌≡◌, ◌≢◌, ◌⊎◌, ◌++◌, ℕ, Bool, List, [], ◌∷◌, Option, Some, None, option_map}
+use Rattle.std.specs.Prelude.{◌≡◌, ◌≢◌, ◌≤◌, ◌⊎◌, true, ◌++◌, ℕ, Bool, List, [], ◌∷◌, Option, Some, None, option_map}
 use Rattle.tds_client.specs.declared.message.MessageKind.{MessageKind}
 use Rattle.tds_client.specs.Session.{ClientSession}
 use Rattle.tds_client.specs.Streams.{opened}
 use Rattle.tds_service.specs.declared.service.Service as services
-use Rattle.tds_service.specs.Table.{client_of}
+use Rattle.tds_service.specs.Service.{Seat, Service, has_lease}
+use Rattle.tds_service.specs.Table.{client_of, service_in}
 use Rattle.tds_relay.specs.declared.desk.Desk as desks
 use Rattle.tds_relay.specs.declared.desk.Hold.{Hold}
 use Rattle.tds_relay.specs.declared.relay.Relay as code
@@ -13,8 +14,10 @@ use Rattle.tds_relay.specs.Bodies.{ArePut, Astray, Body, Closed, Going, Kept, No
 use Rattle.tds_relay.specs.Desk.{find_key}
 use Rattle.tds_relay.specs.Fronts.{ends_in}
 use Rattle.tds_relay.specs.Hall.{end_at}
+use Rattle.tds_relay.specs.Promises.{Each}
 use Rattle.tds_relay.specs.Reads.{open_at, reader_at}
 use Rattle.tds_relay.specs.Ties.{IsReached, desk_in}
+use Rattle.tds_relay.specs.Walkers.{IsLed}
 
 -- ---- At a desk
 
@@ -49,6 +52,17 @@ IsOff number key d = (client : ClientSession) → held_at key d ≢ Some (number
 -- All who don't hold it hold what they held.
 pub record OffHold (number : ℕ) (old new : desks.Desk) : Type 0 where
   pub hold : IsReached (desk_in old) → (key : ℕ) → IsOff number key old → HoldsOn key old new
+
+-- No connection of this lease has this number.
+pub record IsAside (lease number : ℕ) (s : Service) : Type 0 where
+  pub led : IsLed s
+  pub given : lease ≤ s.given
+  pub apart : Each (λ (c : Seat). has_lease lease c ≡ true → c.number ≢ number) s.seats
+
+-- The client of each other lease than this one stays, of which no connection has this number.
+abbrev pub AsideStay : ℕ → ℕ → services.Service → services.Service → Type 0
+AsideStay but number old new =
+    (lease : ℕ) (client : ClientSession) → lease ≢ but → IsAside lease number (service_in old) → client_of lease old ≡ Some client → client_of lease new ≡ Some client
 
 -- ---- At a relay
 
