@@ -10,7 +10,7 @@ use Rattle.tds_relay.specs.declared.desk.Desk as desks
 use Rattle.tds_relay.specs.declared.desk.Hold.{Hold}
 use Rattle.tds_relay.specs.declared.relay.Relay as code
 use Rattle.tds_relay.specs.Asking.{IsTakenBack}
-use Rattle.tds_relay.specs.Bodies.{ArePut, Astray, Body, Closed, Going, Kept, Nowhere, Spared, Starts, body_of}
+use Rattle.tds_relay.specs.Bodies.{ArePut, Astray, Body, Closed, Going, Kept, Nowhere, Spared, Starts, body_of, waits_on}
 use Rattle.tds_relay.specs.Desk.{find_key}
 use Rattle.tds_relay.specs.Fronts.{ends_in}
 use Rattle.tds_relay.specs.Hall.{end_at}
@@ -77,6 +77,11 @@ pub record AllRest (old new : code.Relay) : Type 0 where
 -- or each but that of one application.
 pub record OthersRest (key : ℕ) (old new : code.Relay) : Type 0 where
   pub rest : (other : ℕ) → other ≢ key → Rests (body_of other old) (body_of other new)
+
+-- Something was put on the connection of this number, and the desk is as it was; or all stay.
+abbrev pub SendsOn : ℕ → code.Relay → code.Relay → Type 0
+SendsOn number old new =
+    ((new.desk ≡ old.desk) × ((other : ℕ) → other ≢ number → waits_on other new.links.items ≡ waits_on other old.links.items)) ⊎ AllRest old new
 
 -- Each stays or starts, where the desk was reached by events.
 pub record AllGo (old new : code.Relay) : Type 0 where

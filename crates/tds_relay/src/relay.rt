@@ -11,8 +11,9 @@ ghost use Rattle.tds_relay.specs.Hall.{IfOpen, IsAway, IsHere, change_end, end_a
 ghost use Rattle.tds_relay.specs.House.{Steps, new_house};
 ghost use Rattle.tds_relay.specs.Posts.{Enters, change, posts_in, unsent_of, without_first};
 ghost use Rattle.tds_relay.specs.Reads.{Stays};
-ghost use Rattle.tds_relay.specs.Sparing.{AllRest};
-ghost use Rattle.tds_relay.specs.Ties.{Cause, CausesRequest, Goes, GoesOn, Neither, desk_in};
+ghost use Rattle.tds_relay.specs.Sparing.{AllRest, SendsOn};
+ghost use Rattle.tds_relay.specs.Ties.{Cause, CausesRequest, Goes, GoesOn, IsReached, Neither};
+ghost use Rattle.tds_relay.specs.Ties.{desk_in};
 ghost use Rattle.tds_relay.specs.Walkers.{AllStand};
 ghost use Rattle.tds_relay.specs.declared.application.Application.{Application};
 ghost use Rattle.tds_relay.specs.declared.outgoing.TheConstants.{PIECE};
@@ -343,6 +344,8 @@ impl Relay {
         ensures stand { OnOk result (AllStand self.old.desk.service
             self.new.desk.service) }
         ensures asks { OnOk result (AskOn self.old.applications self.new.applications) }
+        ensures sends { IsReached (desk_in self.old.desk)
+            → OnOk result (SendsOn number self.old self.new) }
     {
         let fits = self.fits_on(number)?;
         if fits { Ok(()) } else { self.lose(number) }
