@@ -14,7 +14,7 @@ ghost use Rattle.tds_front.specs.declared.stage.Stage.TheVariants as stages;
 ghost use Rattle.tds_relay.specs.Asking.{Asks};
 ghost use Rattle.tds_relay.specs.Away.{IsAway, WaitsAway, done_before, done_since};
 ghost use Rattle.tds_relay.specs.Behind.{AllAnswerOnce, Stay, passed_in};
-ghost use Rattle.tds_relay.specs.Bodies.{body_of};
+ghost use Rattle.tds_relay.specs.Bodies.{Carries, body_of};
 ghost use Rattle.tds_relay.specs.Bounds.{waiting_in};
 ghost use Rattle.tds_relay.specs.declared.application.Application.{Application};
 ghost use Rattle.tds_relay.specs.declared.link.Link.{Link};
@@ -36,7 +36,7 @@ ghost use Rattle.tds_relay.specs.Walkers.{StandsAt};
 ghost use Rattle.tds_service.specs.declared.service.Service.{Service};
 ghost use Rattle.tds_wire.specs.Reading as walkers;
 ghost use Rattle.tds_relay.specs.Ties as causes;
-ghost use Rattle.tds_relay.specs.Ties.{Cause, Causes, Connection, Goes, IsReached, Owns};
+ghost use Rattle.tds_relay.specs.Ties.{Cause, Causes, Connection, Goes, IsReached, Owns, desk_in};
 
 use crate::reading::reads_packets;
 use crate::{NoMemory, Relay};
@@ -169,6 +169,19 @@ pub fn bytes_that_came(relay: &mut Relay, key: usize, said: &[u8]) -> Result<(),
 pub fn request_goes_on(relay: &mut Relay, key: usize, said: &[u8]) -> Result<(), NoMemory>
     ensures { OnOk result (Asks key (house_in relay.old) said.now []
         relay.new.links.items (house_in relay.new)) }
+{
+    relay.said(key, said)
+}
+
+/// The body of a request goes on as it came: of each piece of an application's bytes, what comes of a body is kept
+/// behind the others while its request waits, or put by the client of the connection that the application holds, and
+/// what goes out by that waits there, behind what waited; where the last of it has come, the end is put behind it.
+/// Before each piece and behind the last one a request that waits may be asked: then all that was kept of it is put
+/// so, once, by a client that begins a request of its kind. What is forgotten is nowhere then. Or the application is to
+/// be closed.
+pub fn body_goes_on(relay: &mut Relay, key: usize, said: &[u8]) -> Result<(), NoMemory>
+    ensures { IsReached (desk_in relay.old.desk) → OnOk result (Carries key (house_in relay.old)
+        said.now [] (body_of key relay.old) (body_of key relay.new) (house_in relay.new)) }
 {
     relay.said(key, said)
 }

@@ -121,7 +121,6 @@ returns-clause-carries c = λ first bytes at t.
     c.in_ok-obey.ensures.moves
     (is_fed c.args.key slab a c.feed.new.self c.args.piece.now c.in-Ok.fed.count c.in-Ok.fed.said c.in-Some.ensures.value here (c.feed.ensures.over ∙ here) c.feed.ensures.withdrawn c.in-Ok.ensures.asks
     c.feed.ensures.front (search rules))
-    (subst (λ (xs : List ℕ). Obeys c.in-Ok.fed.said xs (body_of c.args.key c.args.self.now) (body_of c.args.key c.obey.new.self)) (search rules)
-    (subst (λ (b : Body). Obeys c.in-Ok.fed.said _ b (body_of c.args.key c.obey.new.self)) same c.in_ok-obey.ensures.body)) refl
+    (subst (λ (b : Body). Obeys c.in-Ok.fed.said (take c.in-Ok.fed.count c.args.piece.now) b (body_of c.args.key c.obey.new.self)) same c.in_ok-obey.ensures.body) refl
     (c.in_ok-obey.ensures.given ∙ ap (λ (ps : Posts). given_by c.args.key c.in-Ok.fed.said ps) (posts_kept slab c.args.key a _ c.in-Some.ensures.value c.feed.ensures.post))
     (λ d. shut_starts c.obey.new.self.applications c.args.key (body_of c.args.key c.args.self.now) (going_of c.args.key c.obey.new.self) d) t
