@@ -28,7 +28,8 @@ use Rattle.tds_relay.proofs.promises.Holding.{found_by_lease, none_above}
 use Rattle.tds_relay.proofs.promises.Seats.{Fits, each_changed, each_found, each_weaker, found_meets}
 use Rattle.tds_relay.proofs.promises.Tidy.{Tidy, step_rises}
 use Rattle.tds_relay.proofs.spared.Held.{client_found, holds_on, is_held, kept_key, lease_apart, not_equal, off_others, sound_at}
-use Rattle.tds_relay.proofs.steps.Calling.{calls_along, service_along}
+use Rattle.tds_relay.specs.Fronting.{calls_along}
+use Rattle.tds_relay.proofs.steps.Calling.{service_along}
 
 -- ---- Behind a call that lends nothing to this lease
 
