@@ -62,7 +62,8 @@ pub record IsAside (lease number : ℕ) (s : Service) : Type 0 where
 -- The client of each other lease than this one stays, of which no connection has this number.
 abbrev pub AsideStay : ℕ → ℕ → services.Service → services.Service → Type 0
 AsideStay but number old new =
-    (lease : ℕ) (client : ClientSession) → lease ≢ but → IsAside lease number (service_in old) → client_of lease old ≡ Some client → client_of lease new ≡ Some client
+    (lease : ℕ) (client : ClientSession) → lease ≢ but → IsAside lease number (service_in old) → client_of lease old ≡ Some client
+    → client_of lease new ≡ Some client
 
 -- ---- At a relay
 

@@ -29,7 +29,7 @@ use crate::NoMemory;
 use crate::application::Application;
 use crate::desk::Desk;
 use crate::link::Link;
-use crate::links::{forget_sent, restart};
+use crate::links::forget_sent;
 use crate::order::Order;
 use crate::outgoing::{BESIDE, PIECE};
 pub use places::{Counts, Place, PlaceOn};
@@ -318,19 +318,6 @@ impl Relay {
             Some(_) => false,
             None => !self.desk.waits(key),
         }
-    }
-
-    /// What comes next on a connection is a message's first packet. Who held it before may have left in the
-    /// middle of one.
-    fn restart(&mut self, number: u64)
-        ensures desk { self.new.desk ≡ self.old.desk }
-        ensures same { self.new.applications ≡ self.old.applications }
-        ensures kept { posts_in self.new.applications ≡ posts_in self.old.applications }
-        ensures ends { ends_in self.new.applications ≡ ends_in self.old.applications }
-        ensures read { Stays self.old.links.items self.new.links.items }
-        ensures rests { AllRest self.old self.new }
-    {
-        restart(&mut self.links, number);
     }
 
     /// What the desk has to send on a connection waits there. One for which more would wait than may is

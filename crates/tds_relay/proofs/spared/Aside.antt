@@ -1,7 +1,6 @@
 -- Clients of connections that are held, while another one is given back and cleaned.
 use Rattle.std.proofs.Common.{◌≡◌, ◌≢◌, ◌⊎◌, ◌∙◌, ◌==◌, ◌<◌, ◌≤◌, ◌+◌, ◌++◌, ℕ, suc, Bool, true, false, not, List, [], ◌∷◌, Option, Some, None, inl, inr, refl, sym, ap, subst, arith, if◌then◌else◌}
-use Rattle.std.specs.Prelude.{Result, Ok, Err, OnOk}
-use Rattle.std.proofs.lemmas.Bool.{cases_lt, eqb-true, eq-eqb}
+use Rattle.std.proofs.lemmas.Bool.{cases_lt, eqb-true}
 use Rattle.tds_client.specs.Session.{ClientSession}
 use Rattle.tds_client.specs.declared.fault.ClientRefusal.{ClientRefusal}
 use Rattle.tds_packet.specs.declared.status.Reset.TheVariants.{Full}
@@ -11,11 +10,10 @@ use Rattle.tds_service.specs.Line as line
 use Rattle.tds_service.specs.Line.{Act, Line, Stage}
 use Rattle.tds_service.specs.Refusing.{packets, refusal_in}
 use Rattle.tds_service.specs.Service as calls
-use Rattle.tds_service.specs.Service.{Call, Cleaning, Draining, Free, Kept, Leased, Place, Reply, Seat, Service, Step, acts_unless, does, find_by, has_lease, has_number, is_lendable, nothing, rests, service_after, step}
+use Rattle.tds_service.specs.Service.{Call, Cleaning, Draining, Free, Kept, Leased, Place, Reply, Seat, Service, Step, acts_unless, does, find_by, has_lease, has_number, is_lendable, nothing, rests, step}
 use Rattle.tds_service.specs.Table.{KeepsClients, KeepsClientsOff, client_of, service_in}
 use Rattle.tds_service.specs.declared.service.Service as services
-use Rattle.tds_relay.specs.Desk as desk
-use Rattle.tds_relay.specs.Desk.{Desk, desk_after, find_key, find_lease, new_desk, without_lease}
+use Rattle.tds_relay.specs.Desk.{Desk, find_key, find_lease, new_desk, without_lease}
 use Rattle.tds_relay.specs.Promises.{Each, CaresFor, IsCaredFor}
 use Rattle.tds_relay.specs.Sparing.{AsideStay, Held, IsAside, OthersHold, held_by}
 use Rattle.tds_relay.specs.Ties.{IsReached, desk_in}
@@ -198,23 +196,27 @@ led_at d r = (r.0, calls_along (new_desk r.0) r.1, sym (service_along (new_desk 
 
 -- one that is given back leaves them
 pub left_others : (d e : desks.Desk) (key : ℕ) (g : Hold) → find_key key d.holds.items ≡ Some g → e.holds.items ≡ without_lease g.lease d.holds.items → AsideStay g.lease g.number d.service e.service → OthersHold key d e
-left_others d e key g its left stay = record { hold = λ reached other differs.
-    holds_on d e other (λ h client theirs there.
-    let sound : Sound (desk_in d) = sound_at (desk_in d) reached in
-    let apart : h.lease ≢ g.lease = lease_apart (desk_in d) key other g h sound its theirs differs in
-    let off : h.number ≢ g.number = λ same. off_others d key other g reached its differs client (is_held d other h client theirs there ∙ ap (λ (n : ℕ). let x : Held = (n, client) in Some x) same) in
-    let held : find_lease h.lease d.holds.items ≡ Some h = found_by_lease other 0 (desk_in d).service.given h d.holds.items sound.rising theirs in
-    let aside : IsAside h.lease g.number (desk_in d).service = record {
-      led = led_at (desk_in d) reached;
-      given = within_by (desk_in d) h (cases_lt (desk_in d).service.given h.lease) sound held;
-      apart = each_weaker (CaresFor d.holds.items) (λ (c : Seat). has_lease h.lease c ≡ true → c.number ≢ g.number) (λ c cared is. cared_apart d.holds.items h.lease g.number c.number h c.place c.line held off cared is)
-          (desk_in d).service.seats sound.cared;
-    } in (
-      ap (find_key other) left ∙ kept_key (λ (x : Hold). not (x.lease == g.lease)) other h d.holds.items theirs (not_equal (h.lease == g.lease) h.lease g.lease refl apart),
-      stay h.lease client apart aside there ∙ sym there,
-    )); }
+left_others d e key g its left stay = record {
+  hold = λ reached other differs.
+      holds_on d e other (λ h client theirs there.
+      let sound : Sound (desk_in d) = sound_at (desk_in d) reached in
+      let apart : h.lease ≢ g.lease = lease_apart (desk_in d) key other g h sound its theirs differs in
+      let off : h.number ≢ g.number = λ same. off_others d key other g reached its differs client (is_held d other h client theirs there ∙ ap (λ (n : ℕ). let x : Held = (n, client) in Some x) same) in
+      let held : find_lease h.lease d.holds.items ≡ Some h = found_by_lease other 0 (desk_in d).service.given h d.holds.items sound.rising theirs in
+      let aside : IsAside h.lease g.number (desk_in d).service = record {
+        led = led_at (desk_in d) reached;
+        given = within_by (desk_in d) h (cases_lt (desk_in d).service.given h.lease) sound held;
+        apart = each_weaker (CaresFor d.holds.items) (λ (c : Seat). has_lease h.lease c ≡ true → c.number ≢ g.number) (λ c cared is. cared_apart d.holds.items h.lease g.number c.number h c.place c.line held off cared is)
+            (desk_in d).service.seats sound.cared;
+      } in (
+        ap (find_key other) left ∙ kept_key (λ (x : Hold). not (x.lease == g.lease)) other h d.holds.items theirs (not_equal (h.lease == g.lease) h.lease g.lease refl apart),
+        stay h.lease client apart aside there ∙ sym there,
+      ));
+}
 
 -- where there is none
 pub none_others : (d e : desks.Desk) (key : ℕ) → e.holds.items ≡ d.holds.items → e.service ≡ d.service → OthersHold key d e
-none_others d e key holds service = record { hold = λ reached other differs.
-    inl (ap (λ (s : services.Service). held_by s (find_key other e.holds.items)) service ∙ ap (λ (hs : List Hold). held_by d.service (find_key other hs)) holds); }
+none_others d e key holds service = record {
+  hold = λ reached other differs.
+      inl (ap (λ (s : services.Service). held_by s (find_key other e.holds.items)) service ∙ ap (λ (hs : List Hold). held_by d.service (find_key other hs)) holds);
+}

@@ -1,15 +1,14 @@
 -- What each application holds at a desk, behind what another does.
-use Rattle.std.proofs.Common.{◌≡◌, ◌≢◌, ◌⊎◌, ◌∙◌, ◌==◌, ◌<◌, ◌+◌, ◌++◌, ℕ, suc, Bool, true, false, not, List, [], ◌∷◌, Option, Some, None, inl, inr, refl, sym, ap, subst, arith, option_map, if◌then◌else◌}
+use Rattle.std.proofs.Common.{◌≡◌, ◌≢◌, ◌∙◌, ◌==◌, ◌+◌, ◌++◌, ℕ, Bool, true, false, not, List, [], ◌∷◌, Option, Some, None, inl, inr, refl, sym, ap, subst, arith, option_map, if◌then◌else◌}
 use Rattle.std.specs.Prelude.{filter}
-use Rattle.std.proofs.lemmas.Bool.{eqb-true, eqb-false, eq-eqb}
+use Rattle.std.proofs.lemmas.Bool.{eqb-true, eq-eqb}
 use Rattle.tds_client.specs.Session.{ClientSession}
 use Rattle.tds_service.specs.declared.seat.Seat as seats
-use Rattle.tds_service.specs.declared.service.Service as services
-use Rattle.tds_service.specs.Service.{Place, Leased, Seat, find_by, has_lease, has_number, seat_numbered}
-use Rattle.tds_service.specs.Table.{KeepsClients, KeepsClientsOff, client_by, client_of, seat_in, seats_in, service_in}
+use Rattle.tds_service.specs.Service.{Leased, Seat, find_by, has_lease, has_number, seat_numbered}
+use Rattle.tds_service.specs.Table.{KeepsClients, KeepsClientsOff, client_by, client_of, seat_in, seats_in}
 use Rattle.tds_relay.specs.declared.desk.Desk as desks
 use Rattle.tds_relay.specs.declared.desk.Hold.{Hold}
-use Rattle.tds_relay.specs.Desk.{Desk, desk_after, find_key, find_lease, find_number, key_of, new_desk, without_number}
+use Rattle.tds_relay.specs.Desk.{Desk, find_key, find_lease, find_number, key_of, without_number}
 use Rattle.tds_relay.specs.Promises.{Each}
 use Rattle.tds_relay.specs.Sparing.{AllHold, Held, HoldsOn, IsOff, OffHold, OthersHold, held_at, held_by}
 use Rattle.tds_relay.specs.Ties.{IsReached, desk_in}

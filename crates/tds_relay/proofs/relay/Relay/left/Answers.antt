@@ -8,7 +8,8 @@ use Rattle.tds_relay.proofs.steps.Reaching.{ok_more, reached_on, reaches_left}
 use Rattle.tds_relay.proofs.steps.Stepping.{no_steps, steps_on_ok, steps_quits}
 use Rattle.tds_relay.proofs.steps.Staying.{opens_served}
 use Rattle.tds_relay.proofs.bytes.Calls.{stand_on}
-use Rattle.tds_relay.proofs.spared.Resting.{go_on, gone_go, reached_on_does, removed_rest}
+use Rattle.tds_relay.proofs.spared.Letting.{gone_go, removed_rest}
+use Rattle.tds_relay.proofs.spared.Resting.{go_on, reached_on_does}
 use Rattle.tds_relay.specs.Bodies.{body_in}
 use Rattle.tds_relay.specs.declared.application.Application.{Application as AnApplication}
 use Rattle.tds_relay.proofs.relay.Relay.left.Goals as goal
@@ -35,7 +36,7 @@ pub returns-clause-stand : goal.returns-clause-stand
 returns-clause-stand c = stand_on c.serve_line.result _ _ _ c.in_ok-release.ensures.stand c.serve_line.ensures.stand
 
 pub returns-clause-goes_on : goal.returns-clause-goes_on
-returns-clause-goes_on c = 
+returns-clause-goes_on c =
     let old = c.args.self.now in
     go_on c.serve_line.result old c.release.new.self c.serve_line.new.self
     (λ r. reached_on (Application c.args.key) (desk_in old.desk) (desk_in c.release.new.self.desk) (λ from h. reaches_left c.args.key from (desk_in old.desk) (desk_in c.release.new.self.desk) c.in_ok-release.ensures.leaving h) r)

@@ -4,7 +4,7 @@ use Rattle.tds_relay.proofs.steps.Fronts.{lets_go_first, moved_same, moves_same}
 use Rattle.tds_relay.proofs.steps.Reaching.{ok_more, ok_if, reaches_turned}
 use Rattle.tds_relay.proofs.steps.Staying.{stays_from, stays_refl, stays_then}
 use Rattle.tds_relay.proofs.bytes.Calls.{stand_at, stand_on}
-use Rattle.tds_relay.proofs.spared.Resting.{left_rest, shut_rest, unheld_rest, left_reached}
+use Rattle.tds_relay.proofs.spared.Letting.{left_rest, shut_rest, unheld_rest, left_reached}
 use Rattle.tds_relay.specs.Desk.{find_key}
 use Rattle.tds_relay.specs.declared.desk.Desk as code
 use Rattle.tds_relay.proofs.relay.Relay.release.Goals as goal

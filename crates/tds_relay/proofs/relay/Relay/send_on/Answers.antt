@@ -4,7 +4,7 @@ use Rattle.tds_relay.proofs.steps.Fronts.{moves_same}
 use Rattle.tds_relay.proofs.steps.Reaching.{ok_more}
 use Rattle.tds_relay.proofs.steps.Staying.{stays_on}
 use Rattle.tds_relay.proofs.bytes.Calls.{stand_from}
-use Rattle.tds_relay.proofs.spared.Resting.{sent_all}
+use Rattle.tds_relay.proofs.spared.Letting.{sent_all}
 use Rattle.tds_relay.specs.declared.desk.Desk as code
 use Rattle.tds_relay.proofs.relay.Relay.send_on.Goals as goal
 
