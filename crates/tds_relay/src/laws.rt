@@ -313,11 +313,11 @@ pub fn bodies_stay()
 {}
 
 /// Where a connection opens, the request goes on that was kept for it: unless what its application took back
-/// isn't acknowledged there yet, or there is no connection of this number. The requests of all others stay, or
-/// go on where they are lent a connection.
+/// isn't acknowledged there yet, or there is no connection of this number.
 pub fn starts_as_it_opens(relay: &mut Relay, number: u64) -> Result<(), NoMemory>
     ensures starts { IsReached (desk_in relay.old.desk)
         → OnOk result (StartsOn number relay.old relay.new) }
+    /// Each request stays where it is, or is put as it was kept, or its application is to be closed.
     ensures stays { OnOk result (AllGo relay.old relay.new) }
 {
     relay.opened(number)
