@@ -23,6 +23,7 @@ mod coming;
 mod leaving;
 mod lending;
 mod places;
+mod putting;
 mod stopping;
 
 use crate::NoMemory;
