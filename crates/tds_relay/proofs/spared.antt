@@ -1,4 +1,6 @@
+pub mod Aside
 pub mod Held
+pub mod Letting
 pub mod Resting
 pub mod Starting
 pub mod Waits

@@ -1,20 +1,23 @@
 -- What one application does leaves the requests of all others as they are.
-use Rattle.std.specs.Prelude.{◌≡◌, ◌≢◌, ◌⊎◌, ◌++◌, ℕ, Bool, List, [], ◌∷◌, Option, Some, None, option_map}
+use Rattle.std.specs.Prelude.{◌≡◌, ◌≢◌, ◌≤◌, ◌⊎◌, true, ◌++◌, ℕ, Bool, List, [], ◌∷◌, Option, Some, None, option_map}
 use Rattle.tds_client.specs.declared.message.MessageKind.{MessageKind}
 use Rattle.tds_client.specs.Session.{ClientSession}
 use Rattle.tds_client.specs.Streams.{opened}
 use Rattle.tds_service.specs.declared.service.Service as services
-use Rattle.tds_service.specs.Table.{client_of}
+use Rattle.tds_service.specs.Service.{Seat, Service, has_lease}
+use Rattle.tds_service.specs.Table.{client_of, service_in}
 use Rattle.tds_relay.specs.declared.desk.Desk as desks
 use Rattle.tds_relay.specs.declared.desk.Hold.{Hold}
 use Rattle.tds_relay.specs.declared.relay.Relay as code
 use Rattle.tds_relay.specs.Asking.{IsTakenBack}
-use Rattle.tds_relay.specs.Bodies.{ArePut, Astray, Body, Closed, Going, Kept, Nowhere, Spared, Starts, body_of}
+use Rattle.tds_relay.specs.Bodies.{ArePut, Astray, Body, Closed, Going, Kept, Nowhere, Spared, Starts, body_of, waits_on}
 use Rattle.tds_relay.specs.Desk.{find_key}
 use Rattle.tds_relay.specs.Fronts.{ends_in}
 use Rattle.tds_relay.specs.Hall.{end_at}
+use Rattle.tds_relay.specs.Promises.{Each}
 use Rattle.tds_relay.specs.Reads.{open_at, reader_at}
 use Rattle.tds_relay.specs.Ties.{IsReached, desk_in}
+use Rattle.tds_relay.specs.Walkers.{IsLed}
 
 -- ---- At a desk
 
@@ -50,6 +53,18 @@ IsOff number key d = (client : ClientSession) → held_at key d ≢ Some (number
 pub record OffHold (number : ℕ) (old new : desks.Desk) : Type 0 where
   pub hold : IsReached (desk_in old) → (key : ℕ) → IsOff number key old → HoldsOn key old new
 
+-- No connection of this lease has this number.
+pub record IsAside (lease number : ℕ) (s : Service) : Type 0 where
+  pub led : IsLed s
+  pub given : lease ≤ s.given
+  pub apart : Each (λ (c : Seat). has_lease lease c ≡ true → c.number ≢ number) s.seats
+
+-- The client of each other lease than this one stays, of which no connection has this number.
+abbrev pub AsideStay : ℕ → ℕ → services.Service → services.Service → Type 0
+AsideStay but number old new =
+    (lease : ℕ) (client : ClientSession) → lease ≢ but → IsAside lease number (service_in old) → client_of lease old ≡ Some client
+    → client_of lease new ≡ Some client
+
 -- ---- At a relay
 
 -- It stays, or its application is to be closed; of one that is astray nothing is said.
@@ -63,6 +78,11 @@ pub record AllRest (old new : code.Relay) : Type 0 where
 -- or each but that of one application.
 pub record OthersRest (key : ℕ) (old new : code.Relay) : Type 0 where
   pub rest : (other : ℕ) → other ≢ key → Rests (body_of other old) (body_of other new)
+
+-- Something was put on the connection of this number, and the desk is as it was; or all stay.
+abbrev pub SendsOn : ℕ → code.Relay → code.Relay → Type 0
+SendsOn number old new =
+    ((new.desk ≡ old.desk) × ((other : ℕ) → other ≢ number → waits_on other new.links.items ≡ waits_on other old.links.items)) ⊎ AllRest old new
 
 -- Each stays or starts, where the desk was reached by events.
 pub record AllGo (old new : code.Relay) : Type 0 where

@@ -34,7 +34,7 @@ ghost use Rattle.tds_relay.specs.Reads.{AreReadIn, Call, Comes, Follow, FollowAt
 ghost use Rattle.tds_relay.specs.Reads.{open_at, packets_in, stands_in};
 ghost use Rattle.tds_relay.specs.Taking.{Tells};
 ghost use Rattle.tds_relay.specs.Telling.{IsToldOnce, happens_to};
-ghost use Rattle.tds_relay.specs.Sparing.{AreCalls, IsLeft, behind_all};
+ghost use Rattle.tds_relay.specs.Sparing.{AllGo, AreCalls, IsLeft, StartsOn, behind_all};
 ghost use Rattle.tds_relay.specs.declared.relay.Relay.{Relay as Code};
 ghost use Rattle.tds_relay.specs.Walkers.{AllStand, IsReadTo, IsUnread, StandsAt};
 ghost use Rattle.tds_service.specs.declared.service.Service.{Service};
@@ -335,10 +335,21 @@ pub fn waits_once()
     bytes_are_packets();
 }
 
-/// Where connections open, come or are lost, and by whoever is lent one, each application's request stays
+/// Where connections come, open or are lost, and where applications leave, each application's request stays
 /// where it is, or its application is to be closed; or what was kept of it is put once, all of it as it was
 /// kept, by a client that begins a request of its kind. So it is over any such calls.
 pub fn bodies_stay()
     ensures { (relay : Code) (more : List Code) (key : ℕ) → AreCalls relay more
         → IsLeft (body_of key relay) (body_of key (behind_all relay more)) }
 {}
+
+/// Where a connection opens, the request goes on that was kept for it: unless what its application took back
+/// isn't acknowledged there yet, or there is no connection of this number.
+pub fn starts_as_it_opens(relay: &mut Relay, number: u64) -> Result<(), NoMemory>
+    ensures starts { IsReached (desk_in relay.old.desk)
+        → OnOk result (StartsOn number relay.old relay.new) }
+    /// Each request stays where it is, or is put as it was kept, or its application is to be closed.
+    ensures stays { OnOk result (AllGo relay.old relay.new) }
+{
+    relay.opened(number)
+}

@@ -11,8 +11,9 @@ ghost use Rattle.tds_relay.specs.Hall.{IfOpen, IsAway, IsHere, change_end, end_a
 ghost use Rattle.tds_relay.specs.House.{Steps, new_house};
 ghost use Rattle.tds_relay.specs.Posts.{Enters, change, posts_in, unsent_of, without_first};
 ghost use Rattle.tds_relay.specs.Reads.{Stays};
-ghost use Rattle.tds_relay.specs.Sparing.{AllRest};
-ghost use Rattle.tds_relay.specs.Ties.{Cause, CausesRequest, Goes, GoesOn, Neither, desk_in};
+ghost use Rattle.tds_relay.specs.Sparing.{AllRest, SendsOn};
+ghost use Rattle.tds_relay.specs.Ties.{Cause, CausesRequest, Goes, GoesOn, IsReached, Neither};
+ghost use Rattle.tds_relay.specs.Ties.{desk_in};
 ghost use Rattle.tds_relay.specs.Walkers.{AllStand, IsUnread};
 ghost use Rattle.tds_relay.specs.declared.application.Application.{Application};
 ghost use Rattle.tds_relay.specs.declared.link.TheConstants.{COLUMNS};
@@ -23,13 +24,14 @@ mod coming;
 mod leaving;
 mod lending;
 mod places;
+mod putting;
 mod stopping;
 
 use crate::NoMemory;
 use crate::application::Application;
 use crate::desk::Desk;
 use crate::link::Link;
-use crate::links::{forget_sent, restart};
+use crate::links::forget_sent;
 use crate::order::Order;
 use crate::outgoing::{BESIDE, PIECE};
 pub use places::{Counts, Place, PlaceOn};
@@ -322,19 +324,6 @@ impl Relay {
         }
     }
 
-    /// What comes next on a connection is a message's first packet. Who held it before may have left in the
-    /// middle of one.
-    fn restart(&mut self, number: u64)
-        ensures desk { self.new.desk ≡ self.old.desk }
-        ensures same { self.new.applications ≡ self.old.applications }
-        ensures kept { posts_in self.new.applications ≡ posts_in self.old.applications }
-        ensures ends { ends_in self.new.applications ≡ ends_in self.old.applications }
-        ensures read { Stays self.old.links.items self.new.links.items }
-        ensures rests { AllRest self.old self.new }
-    {
-        restart(&mut self.links, number);
-    }
-
     /// What the desk has to send on a connection waits there. One for which more would wait than may is
     /// closed.
     fn send_on(&mut self, number: u64) -> Result<(), NoMemory>
@@ -346,6 +335,8 @@ impl Relay {
         ensures stand { OnOk result (AllStand self.old.desk.service
             self.new.desk.service) }
         ensures asks { OnOk result (AskOn self.old.applications self.new.applications) }
+        ensures sends { IsReached (desk_in self.old.desk)
+            → OnOk result (SendsOn number self.old self.new) }
     {
         let fits = self.fits_on(number)?;
         if fits { Ok(()) } else { self.lose(number) }

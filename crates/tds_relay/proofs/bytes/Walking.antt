@@ -43,7 +43,7 @@ led_on s t call is led = (
   after_all (new_service led.0) led.1 (call ∷ []) ∙ ap (λ (x : Service). (step x call).service) led.2 ∙ sym is,
 )
 
-led_tidy : (s : Service) → IsLed s → Tidy s
+pub led_tidy : (s : Service) → IsLed s → Tidy s
 led_tidy s led = subst Tidy led.2 (all_rise (new_service led.0) led.1 (record { distinct = tt; upto = tt; within = tt })).tidy
 
 -- ---- What a call leaves of a service

@@ -1,15 +1,14 @@
 -- What each application holds at a desk, behind what another does.
-use Rattle.std.proofs.Common.{◌≡◌, ◌≢◌, ◌⊎◌, ◌∙◌, ◌==◌, ◌<◌, ◌+◌, ◌++◌, ℕ, suc, Bool, true, false, not, List, [], ◌∷◌, Option, Some, None, inl, inr, refl, sym, ap, subst, arith, option_map, if◌then◌else◌}
+use Rattle.std.proofs.Common.{◌≡◌, ◌≢◌, ◌∙◌, ◌==◌, ◌+◌, ◌++◌, ℕ, Bool, true, false, not, List, [], ◌∷◌, Option, Some, None, inl, inr, refl, sym, ap, subst, arith, option_map, if◌then◌else◌}
 use Rattle.std.specs.Prelude.{filter}
-use Rattle.std.proofs.lemmas.Bool.{eqb-true, eqb-false, eq-eqb}
+use Rattle.std.proofs.lemmas.Bool.{eqb-true, eq-eqb}
 use Rattle.tds_client.specs.Session.{ClientSession}
 use Rattle.tds_service.specs.declared.seat.Seat as seats
-use Rattle.tds_service.specs.declared.service.Service as services
-use Rattle.tds_service.specs.Service.{Place, Leased, Seat, find_by, has_lease, has_number, seat_numbered}
-use Rattle.tds_service.specs.Table.{KeepsClients, KeepsClientsOff, client_by, client_of, seat_in, seats_in, service_in}
+use Rattle.tds_service.specs.Service.{Leased, Seat, find_by, has_lease, has_number, seat_numbered}
+use Rattle.tds_service.specs.Table.{KeepsClients, KeepsClientsOff, client_by, client_of, seat_in, seats_in}
 use Rattle.tds_relay.specs.declared.desk.Desk as desks
 use Rattle.tds_relay.specs.declared.desk.Hold.{Hold}
-use Rattle.tds_relay.specs.Desk.{Desk, desk_after, find_key, find_lease, find_number, key_of, new_desk, without_number}
+use Rattle.tds_relay.specs.Desk.{Desk, find_key, find_lease, find_number, key_of, without_number}
 use Rattle.tds_relay.specs.Promises.{Each}
 use Rattle.tds_relay.specs.Sparing.{AllHold, Held, HoldsOn, IsOff, OffHold, OthersHold, held_at, held_by}
 use Rattle.tds_relay.specs.Ties.{IsReached, desk_in}
@@ -54,19 +53,19 @@ found_if : (b : Bool) (test : Seat → Bool) (c : seats.Seat) (cs : List seats.S
 found_if true test c cs client e later = (seat_in c, refl)
 found_if false test c cs client e later = later e
 
-client_found : (test : Seat → Bool) (cs : List seats.Seat) (client : ClientSession) → client_by test cs ≡ Some client → (x : Seat) × (find_by test (seats_in cs) ≡ Some x)
+pub client_found : (test : Seat → Bool) (cs : List seats.Seat) (client : ClientSession) → client_by test cs ≡ Some client → (x : Seat) × (find_by test (seats_in cs) ≡ Some x)
 client_found test [] client e = absurd (let u : ⊥ = cc in u)
 client_found test (c ∷ cs) client e = found_if (test (seat_in c)) test c cs client e (λ f. client_found test cs client f)
 
 -- the one that is held
-record Seated (d : Desk) (h : Hold) : Type 0 where
-  seat : Seat
-  found : find_by (has_lease h.lease) d.service.seats ≡ Some seat
-  place : seat.place ≡ Leased h.lease
-  number : h.number ≡ seat.number
-  numbered : seat_numbered h.number d.service.seats ≡ Some seat
+pub record Seated (d : Desk) (h : Hold) : Type 0 where
+  pub seat : Seat
+  pub found : find_by (has_lease h.lease) d.service.seats ≡ Some seat
+  pub place : seat.place ≡ Leased h.lease
+  pub number : h.number ≡ seat.number
+  pub numbered : seat_numbered h.number d.service.seats ≡ Some seat
 
-seated : (d : desks.Desk) (key : ℕ) (h : Hold) (client : ClientSession) → Sound (desk_in d) → find_key key d.holds.items ≡ Some h → client_of h.lease d.service ≡ Some client → Seated (desk_in d) h
+pub seated : (d : desks.Desk) (key : ℕ) (h : Hold) (client : ClientSession) → Sound (desk_in d) → find_key key d.holds.items ≡ Some h → client_of h.lease d.service ≡ Some client → Seated (desk_in d) h
 seated d key h client sound its there =
     let f = client_found (has_lease h.lease) d.service.seats.items client there in
     let held : find_lease h.lease d.holds.items ≡ Some h = found_by_lease key 0 (desk_in d).service.given h d.holds.items sound.rising its in
@@ -260,7 +259,7 @@ same_all d e same keeps = record {
       holds_on d e key (λ h client its there. (ap (find_key key) same ∙ its, keeps h.lease (lease_given (desk_in d) key h (sound_at (desk_in d) reached) its)));
 }
 
-not_equal : (b : Bool) (n m : ℕ) → (n == m) ≡ b → n ≢ m → not b ≡ true
+pub not_equal : (b : Bool) (n m : ℕ) → (n == m) ≡ b → n ≢ m → not b ≡ true
 not_equal true n m e differs = absurd (differs (eqb-true n m e))
 not_equal false n m e differs = refl
 

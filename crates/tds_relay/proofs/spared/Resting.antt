@@ -1,5 +1,5 @@
 -- Requests that stay where they are, behind what is done for another application.
-use Rattle.std.proofs.Common.{◌≡◌, ◌≢◌, ◌⊎◌, ◌∙◌, ◌==◌, ◌++◌, ℕ, Bool, true, false, List, [], ◌∷◌, Option, Some, None, inl, inr, refl, sym, ap, subst, option_map, slice_set, if◌then◌else◌}
+use Rattle.std.proofs.Common.{◌≡◌, ◌≢◌, ◌⊎◌, ◌∙◌, ◌==◌, ◌++◌, ℕ, Bool, true, false, List, [], ◌∷◌, Option, Some, None, inl, inr, refl, sym, ap, subst, option_map, if◌then◌else◌}
 use Rattle.std.specs.Prelude.{Result, Ok, Err, OnOk}
 use Rattle.std.proofs.lemmas.Bool.{cases_eq}
 use Rattle.std.proofs.lemmas.List.{get_or-set_other}
@@ -16,11 +16,11 @@ use Rattle.tds_relay.specs.declared.link.Link.{Link}
 use Rattle.tds_relay.specs.declared.relay.Relay as code
 use Rattle.tds_relay.specs.Bodies.{AskAsBefore, AskOn, Astray, Body, Closed, Closes, Goes, Spared, Starts, Stays, Strays, body_by, body_in, body_of, bytes_on, going, going_by, going_of, waits_on}
 use Rattle.tds_relay.specs.Desk as desk
-use Rattle.tds_relay.specs.Desk.{Desk, Event, find_key, find_number, key_of, turn}
+use Rattle.tds_relay.specs.Desk.{Desk, find_key, find_number, key_of}
 use Rattle.tds_relay.specs.Reads.{link_at}
 use Rattle.tds_relay.specs.Sparing.{AllGo, AllHold, AllRest, Held, HoldsOn, IsOff, OffHold, OthersHold, OthersRest, Rests, held_at, held_by}
 use Rattle.tds_relay.specs.Ties.{CausesDeed, GoesOn, IsReached, Neither, Turns, desk_in}
-use Rattle.tds_relay.proofs.spared.Held.{holder_is, off_others, on_refl}
+use Rattle.tds_relay.proofs.spared.Held.{holder_is, off_others}
 use Rattle.tds_relay.proofs.steps.Reaching.{reached_on, reaches_turn}
 
 -- ---- One after the other
@@ -92,7 +92,7 @@ going_by_held : (s : services.Service) (ls : List Link) (o : Option Hold) → go
 going_by_held s ls None = refl
 going_by_held s ls (Some h) = going_client h ls (client_of h.lease s)
 
-going_is : (key : ℕ) (r : code.Relay) (o : Option Held) → held_at key r.desk ≡ o → going_of key r ≡ going_held r.links.items o
+pub going_is : (key : ℕ) (r : code.Relay) (o : Option Held) → held_at key r.desk ≡ o → going_of key r ≡ going_held r.links.items o
 going_is key r o e = going_by_held r.desk.service r.links.items (find_key key r.desk.holds.items) ∙ ap (going_held r.links.items) e
 
 -- It goes on so; or it is astray.

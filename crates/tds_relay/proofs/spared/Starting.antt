@@ -1,6 +1,6 @@
 -- A request that has waited, where its connection opens.
 use Rattle.std.proofs.Common.{◌≡◌, ◌⊎◌, ◌∙◌, ◌==◌, ℕ, Bool, true, false, List, [], ◌∷◌, Option, Some, None, inl, inr, refl, sym, ap, subst, if◌then◌else◌}
-use Rattle.std.specs.Prelude.{Result, Ok, Err, OnOk, is_some}
+use Rattle.std.specs.Prelude.{Result, Ok, Err, OnOk}
 use Rattle.std.proofs.lemmas.Bool.{eq-eqb}
 use Rattle.slab.specs.Slab.{Slab, get, with_value}
 use Rattle.tds_client.specs.Session.{ClientSession}
@@ -14,10 +14,10 @@ use Rattle.tds_relay.specs.declared.desk.Hold.{Hold}
 use Rattle.tds_relay.specs.declared.link.Link.{Link}
 use Rattle.tds_relay.specs.declared.relay.Relay as code
 use Rattle.tds_relay.specs.Asking.{IsTakenBack, waits_in}
-use Rattle.tds_relay.specs.Bodies.{AskAsBefore, Astray, Body, Closed, Closes, Goes, Going, Kept, Nowhere, PutsOn, Starts, Stays, Strays, body_by, body_in, body_of, going, going_by, going_of, waits_on}
+use Rattle.tds_relay.specs.Bodies.{Astray, Body, Closed, Closes, Goes, Going, Kept, Nowhere, Starts, Stays, Strays, body_by, body_in, body_of, going, going_by, going_of, waits_on}
 use Rattle.tds_relay.specs.Desk.{find_key, find_number, key_of}
-use Rattle.tds_relay.specs.Fronts.{end_of, ends_in}
-use Rattle.tds_relay.specs.Hall.{End, Ends, Open, Over, end_at}
+use Rattle.tds_relay.specs.Fronts.{ends_in}
+use Rattle.tds_relay.specs.Hall.{Ends, Over, end_at}
 use Rattle.tds_relay.specs.Reads.{open_at, opened_at, reader_at}
 use Rattle.tds_relay.specs.Sparing.{AllGo, AreCalls, Drains, HasGone, Held, IsHeldBack, IsKept, IsLeft, IsUnkept, Opens, StartsOn, behind_all, held_at}
 use Rattle.tds_relay.specs.Ties.{IsReached, desk_in}

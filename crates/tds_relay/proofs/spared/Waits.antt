@@ -1,9 +1,9 @@
 -- What waits on each connection, where one of them is written back or taken out.
-use Rattle.std.proofs.Common.{◌≡◌, ◌≢◌, ◌∙◌, ◌==◌, ◌++◌, ℕ, zero, suc, not, Bool, true, false, List, [], ◌∷◌, Option, Some, None, drop, refl, sym, ap, slice_index_or, slice_set, option_map, if◌then◌else◌}
+use Rattle.std.proofs.Common.{◌≡◌, ◌≢◌, ◌∙◌, ◌==◌, ◌++◌, ℕ, zero, suc, not, Bool, true, false, List, [], ◌∷◌, Option, Some, None, refl, sym, ap, slice_index_or, slice_set, option_map, if◌then◌else◌}
 use Rattle.std.proofs.lemmas.Bool.{eqb-true}
 use Rattle.tds_relay.specs.declared.link.Link.{Link}
 use Rattle.tds_relay.specs.Bodies.{waits_on}
-use Rattle.tds_relay.specs.Posts.{Post, fits, post_in, put, without_first}
+use Rattle.tds_relay.specs.Posts.{Post, fits, post_in, put}
 use Rattle.tds_relay.specs.Reads.{link_at, place_of, without_link}
 use Rattle.tds_relay.proofs.steps.Staying.{IsAt, is_at, is_nowhere}
 use Rattle.tds_relay.proofs.visits.Waiting.{put_fills, put_fits}

@@ -203,3 +203,6 @@ starts_there whole held kind key old new ls hold its b one two same o there g =
     let alike : its ≡ hold = (let u : Some its ≡ Some hold = sym two ∙ one in cc) in
     let waits = some_of (waits_on hold.number ls) (subst (λ (h : Hold). IsSome (waits_on h.number ls)) alike there) in
     starts_on whole held kind key old new ls hold waits.0 b one same o waits.1 g
+
+pub grows_then : (whole : Bool) (more : List ℕ) (old mid new : Body) → Starts mid new → Grows whole more old mid → (b : Body) × Grows whole more old b × Starts b new
+grows_then whole more old mid new s g = (mid, g, s)

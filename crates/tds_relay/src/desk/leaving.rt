@@ -1,9 +1,9 @@
 //! Connections that are let go, and cleaned; that come without being asked for; and that are lost.
-ghost use Rattle.std.specs.Prelude.{◌≡◌, [], Bool, IfOk, None, OnOk};
+ghost use Rattle.std.specs.Prelude.{◌≡◌, [], ℕ, Bool, IfOk, None, OnOk};
 ghost use Rattle.tds_service.specs.Table.{KeepsClientsOff, reading_on, service_in};
 ghost use Rattle.tds_relay.specs.Desk.{Brings, Leaves, Loses, Renews, Way, cleaning, find_key, find_number};
 ghost use Rattle.tds_relay.specs.Desk.{key_of, releasing};
-ghost use Rattle.tds_relay.specs.Sparing.{OffHold};
+ghost use Rattle.tds_relay.specs.Sparing.{AsideStay, OffHold, OthersHold};
 ghost use Rattle.tds_relay.specs.Ties.{IsNumberOf, Makes, Turns, desk_in, is_sent, lost_by};
 ghost use Rattle.tds_relay.specs.Walkers.{AllStand, IsLed};
 
@@ -60,6 +60,7 @@ pub(super) fn clean(
         × Makes (cleaning (service_in service.old) number way) (service_in service.old)
         (service_in service.new) out.old.items out.new.items) }
     ensures stand { OnOk result (AllStand service.old service.new) }
+    ensures aside { OnOk result ((but : ℕ) → AsideStay but number service.old service.new) }
 {
     let Ok(lent) = service.clean(number) else {
         forget(service, number)?;
@@ -91,6 +92,7 @@ fn release(
         (releasing (service_in service.old) hold.lease hold.number gives way)
         (service_in service.old) (service_in service.new) out.old.items out.new.items) }
     ensures stand { OnOk result (AllStand service.old service.new) }
+    ensures aside { OnOk result (AsideStay hold.lease hold.number service.old service.new) }
 {
     match service.give_back(hold.lease, out) {
         Ok((_, Rest::Free)) => clean(service, hold.number, text, out),
@@ -113,6 +115,7 @@ impl Desk {
         ensures whose { IfOk result (λ left.
             IsNumberOf (find_key key (desk_in self.old).holds) left) }
         ensures stand { OnOk result (AllStand self.old.service self.new.service) }
+        ensures others { OnOk result (OthersHold key self.old self.new) }
     {
         remove_key(&mut self.line, key);
         let Some(hold) = find_key(&self.holds, key) else {

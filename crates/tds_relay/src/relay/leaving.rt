@@ -2,14 +2,14 @@
 ghost use Rattle.std.specs.Prelude.{◌≡◌, ◌≢◌, ℕ, None, OnOk, Some};
 ghost use Rattle.slab.specs.Slab.{get};
 ghost use Rattle.tds_relay.specs.Bodies.{AskAsBefore, AskOn, Body, Closed, body_in, waits_on};
-ghost use Rattle.tds_relay.specs.Desk.{Loses, turn};
+ghost use Rattle.tds_relay.specs.Desk.{Loses, find_number, key_of, turn};
 ghost use Rattle.tds_relay.specs.Fronts.{LetsGoFirst, Moved, MovedOn, ends_in, hall_in, hall_of_ends};
 ghost use Rattle.tds_relay.specs.Fronts.{house_in};
 ghost use Rattle.tds_relay.specs.Hall.{change_end, change_whose, closes, end_at};
 ghost use Rattle.tds_relay.specs.House.{Steps, StepsOn};
 ghost use Rattle.tds_relay.specs.Posts.{posts_in};
 ghost use Rattle.tds_relay.specs.Reads.{Opens, Stays, reader_at};
-ghost use Rattle.tds_relay.specs.Sparing.{AllGo, AllRest};
+ghost use Rattle.tds_relay.specs.Sparing.{AllGo, AllRest, OthersRest};
 ghost use Rattle.tds_relay.specs.Taking.{IsDeaf};
 ghost use Rattle.tds_relay.specs.Ties.{Application, Goes, GoesOn, IsReached, Leaving};
 ghost use Rattle.tds_relay.specs.Ties.{NobodyWaits, desk_in};
@@ -32,6 +32,7 @@ impl Relay {
         ensures opens { OnOk result (Opens self.old.links.items self.new.links.items) }
         ensures stand { OnOk result (AllStand self.old.desk.service
             self.new.desk.service) }
+        ensures goes_on { OnOk result (AllGo self.old self.new) }
     {
         let _ = self.applications.try_remove(key).is_some();
         self.release(key)?;
@@ -68,6 +69,8 @@ impl Relay {
         ensures stand { OnOk result (AllStand self.old.desk.service
             self.new.desk.service) }
         ensures asks { OnOk result (AskOn self.old.applications self.new.applications) }
+        ensures others { IsReached (desk_in self.old.desk)
+            → OnOk result (OthersRest key self.old self.new) }
     {
         self.end(key)?;
         self.release(key)
@@ -110,6 +113,8 @@ impl Relay {
         ensures stand { OnOk result (AllStand self.old.desk.service
             self.new.desk.service) }
         ensures asks { OnOk result (AskOn self.old.applications self.new.applications) }
+        ensures others { IsReached (desk_in self.old.desk)
+            → OnOk result (OthersRest key self.old self.new) }
     {
         self.outbox.clear();
         let left = self.desk.leave(key, &mut self.outbox)?;
@@ -142,6 +147,9 @@ impl Relay {
         ensures asks { OnOk result (AskOn self.old.applications self.new.applications) }
         ensures rests { IsReached (desk_in self.old.desk)
             → OnOk result (AllRest self.old self.new) }
+        ensures shuts { OnOk result ((key : ℕ)
+            → key_of (find_number number (desk_in self.old.desk).holds) ≡ Some key → (goes : Body)
+            → body_in (get self.new.applications key) goes ≡ Closed) }
     {
         let key = self.desk.lose(number)?;
         self.close(number, key)

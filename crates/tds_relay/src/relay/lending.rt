@@ -23,7 +23,7 @@ use crate::NoMemory;
 use crate::application::Asking;
 use crate::desk::Served;
 use crate::link::Link;
-use crate::links::{append_to, place_in, set_open, set_tag};
+use crate::links::{append_to, place_in, restart, set_open, set_tag};
 use crate::order::Order;
 use std::alloc::AllocError;
 
@@ -174,6 +174,19 @@ impl Relay {
         self.links.push(link)?;
         self.orders.push(Order::Open(number))?;
         Ok(())
+    }
+
+    /// What comes next on a connection is a message's first packet. Who held it before may have left in the
+    /// middle of one.
+    pub(super) fn restart(&mut self, number: u64)
+        ensures desk { self.new.desk ≡ self.old.desk }
+        ensures same { self.new.applications ≡ self.old.applications }
+        ensures kept { posts_in self.new.applications ≡ posts_in self.old.applications }
+        ensures ends { ends_in self.new.applications ≡ ends_in self.old.applications }
+        ensures read { Stays self.old.links.items self.new.links.items }
+        ensures rests { AllRest self.old self.new }
+    {
+        restart(&mut self.links, number);
     }
 
     /// Whether an application's request asks for a reset that keeps its transaction.

@@ -4,6 +4,9 @@ use Rattle.tds_service.specs.Table.{service_in}
 use Rattle.tds_relay.proofs.steps.Made.{released_free}
 use Rattle.tds_relay.proofs.bytes.Calls.{stand_on}
 use Rattle.tds_relay.proofs.bytes.Walking.{given_back_stand, same_stand}
+use Rattle.tds_service.specs.Service as calls
+use Rattle.tds_relay.proofs.steps.Reaching.{ok_more}
+use Rattle.tds_relay.proofs.spared.Aside.{called_for, forgot_for, refl_for, refused_for}
 use Rattle.tds_relay.proofs.desk.leaving.release.Goals as goal
 
 pub returns-in-Ok-default-Free-clause-makes : goal.returns-in-Ok-default-Free-clause-makes
@@ -29,3 +32,23 @@ returns-in-Ok-default-Closed-clause-stand c = given_back_stand c.args.service.no
 
 pub returns-in_ok-forget-in-Err-clause-stand : goal.returns-in_ok-forget-in-Err-clause-stand
 returns-in_ok-forget-in-Err-clause-stand c = λ n r h. c.in_ok-forget-in-Err.ensures.stand n r (same_stand c.args.service.now c.give_back.new.self c.in-Err.ensures.err c.in-Err.ensures.makes c.in-Err.ensures.keeps_all n r h)
+
+pub returns-in-Ok-default-Free-clause-aside : goal.returns-in-Ok-default-Free-clause-aside
+returns-in-Ok-default-Free-clause-aside c = ok_more c.clean.result _ _ (λ later lease client differs aside there.
+    (called_for lease c.args.hold.lease c.args.hold.number c.args.service.now c.give_back.new.self c.clean.new.service (calls.GiveBack c.args.hold.lease) tt c.in-Ok-default-Free.ensures.ok.service_is c.give_back.ensures.clients differs
+    (λ x a t. later c.args.hold.lease lease x differs a t)) client aside there) c.clean.ensures.aside
+
+pub returns-in-Ok-default-Draining-clause-aside : goal.returns-in-Ok-default-Draining-clause-aside
+returns-in-Ok-default-Draining-clause-aside c = λ lease client differs aside there.
+    (called_for lease c.args.hold.lease c.args.hold.number c.args.service.now c.give_back.new.self c.give_back.new.self (calls.GiveBack c.args.hold.lease) tt c.in-Ok-default-Draining.ensures.ok.service_is c.give_back.ensures.clients differs
+    (refl_for lease c.args.hold.number c.give_back.new.self)) client aside there
+
+pub returns-in-Ok-default-Closed-clause-aside : goal.returns-in-Ok-default-Closed-clause-aside
+returns-in-Ok-default-Closed-clause-aside c = λ lease client differs aside there.
+    (called_for lease c.args.hold.lease c.args.hold.number c.args.service.now c.give_back.new.self c.give_back.new.self (calls.GiveBack c.args.hold.lease) tt c.in-Ok-default-Closed.ensures.ok.service_is c.give_back.ensures.clients differs
+    (refl_for lease c.args.hold.number c.give_back.new.self)) client aside there
+
+pub returns-in_ok-forget-in-Err-clause-aside : goal.returns-in_ok-forget-in-Err-clause-aside
+returns-in_ok-forget-in-Err-clause-aside c = λ lease client differs aside there.
+    (refused_for lease c.args.hold.lease c.args.hold.number c.args.service.now c.give_back.new.self c.forget.new.service c.in-Err.ensures.err c.give_back.ensures.clients differs
+    (forgot_for lease c.args.hold.number c.give_back.new.self c.forget.new.service c.in_ok-forget-in-Err.ensures.clients)) client aside there

@@ -1,6 +1,6 @@
 use Rattle.std.proofs.Common.{ap, subst, sym}
 use Rattle.tds_relay.specs.declared.desk.Desk as code
-use Rattle.tds_relay.specs.Ties.{Application, Reaches, desk_in}
+use Rattle.tds_relay.specs.Ties.{Application, Reaches, desk_in, IsReached}
 use Rattle.tds_relay.specs.Fronts.{ends_in, hall_in}
 use Rattle.tds_relay.specs.Hall.{Ends, IfOpen, IsHere, end_at}
 use Rattle.tds_relay.proofs.steps.Fronts.{moves_lets_go, moves_same, open_closed}
@@ -9,6 +9,7 @@ use Rattle.tds_relay.proofs.steps.Staying.{stays_from}
 use Rattle.tds_relay.specs.Taking.{IsDeaf}
 use Rattle.tds_relay.proofs.steps.Told.{deaf_closed, lets_go_deaf}
 use Rattle.tds_relay.proofs.bytes.Calls.{stand_from}
+use Rattle.tds_relay.proofs.spared.Resting.{all_others, all_rest, others_on}
 use Rattle.tds_relay.proofs.relay.Relay.expel.Goals as goal
 
 pub returns-clause-goes : goal.returns-clause-goes
@@ -37,3 +38,8 @@ returns-clause-over c =
 
 pub returns-clause-stand : goal.returns-clause-stand
 returns-clause-stand c = stand_from c.release.result _ _ _ c.in_ok-end.ensures.desk c.release.ensures.stand
+
+pub returns-clause-others : goal.returns-clause-others
+returns-clause-others c = λ reached.
+    others_on c.release.result c.args.key c.args.self.now c.end.new.self c.release.new.self (c.release.ensures.others (subst (λ (d : code.Desk). IsReached (desk_in d)) (sym c.end.ensures.desk) reached))
+    (all_others c.args.key c.args.self.now c.end.new.self (all_rest c.args.self.now c.end.new.self c.end.ensures.desk c.in_ok-end.ensures.links c.in_ok-end.ensures.asks))

@@ -7,7 +7,7 @@ use Rattle.tds_relay.proofs.steps.Reaching.{ok_more}
 use Rattle.tds_relay.specs.Bodies.{Body, Closed, Grows, Shuts, Stays, Starts, body_of, going_of}
 use Rattle.slab.specs.Slab.{get, with_value}
 use Rattle.tds_relay.proofs.steps.Bodied.{none_closed, shut_starts}
-use Rattle.tds_relay.proofs.steps.Going.{grows_going, grows_kept}
+use Rattle.tds_relay.proofs.steps.Going.{grows_going, grows_kept, grows_then}
 use Rattle.tds_relay.proofs.steps.Underway.{written_there}
 use Rattle.tds_relay.proofs.relay.Relay.go_on.Goals as goal
 
@@ -38,10 +38,11 @@ pub returns-else-not-branch-clause-body : goal.returns-else-not-branch-clause-bo
 returns-else-not-branch-clause-body c =
     let s = c.args.self.now.applications in
     let a = c.in-Some.application.now in
-    let b = record c.keep.new.self { asking = asking.Waits c.in-Waits.kind c.args.whole; bounded = c.application-1.given.0 } in
+    let there = c.in-Some.ensures.value in
     let kept = c.in_ok-keep-in-Waits.ensures.body (search rules) in
     ok_more c.seek.result _ _
-    (λ t. (_, grows_kept c.args.whole c.args.bytes.now (get s c.args.key) (get (with_value s c.args.key b) c.args.key) (going_of c.args.key c.args.self.now) (going_of c.args.key c.args.self.now) a b c.in-Waits.kind _ c.in-Some.ensures.value (written_there s c.args.key a b c.in-Some.ensures.value) c.in-Waits.is refl kept.0 kept.1, t))
+    (λ t. grows_then c.args.whole c.args.bytes.now (body_of c.args.key c.args.self.now) _ (body_of c.args.key c.seek.new.self) t
+    (grows_kept c.args.whole c.args.bytes.now (get s c.args.key) _ (going_of c.args.key c.args.self.now) _ a _ c.in-Waits.kind _ there (written_there s c.args.key a _ there) c.in-Waits.is refl kept.0 kept.1))
     c.seek.ensures.body
 
 pub returns-in-Goes-clause-body : goal.returns-in-Goes-clause-body

@@ -1,13 +1,17 @@
-use Rattle.std.proofs.Common.{◌∙◌}
+use Rattle.std.proofs.Common.{◌∙◌, ap, refl, Option}
 use Rattle.tds_relay.specs.Fronts.{ends_in, house_in}
 use Rattle.tds_relay.specs.Posts.{posts_in}
 use Rattle.tds_relay.specs.Ties.{Application, desk_in}
 use Rattle.tds_relay.proofs.steps.Fronts.{ends_quit}
 use Rattle.tds_relay.proofs.steps.Posting.{quits_is}
-use Rattle.tds_relay.proofs.steps.Reaching.{ok_more}
+use Rattle.tds_relay.proofs.steps.Reaching.{ok_more, reached_on, reaches_left}
 use Rattle.tds_relay.proofs.steps.Stepping.{no_steps, steps_on_ok, steps_quits}
 use Rattle.tds_relay.proofs.steps.Staying.{opens_served}
 use Rattle.tds_relay.proofs.bytes.Calls.{stand_on}
+use Rattle.tds_relay.proofs.spared.Letting.{gone_go, removed_rest}
+use Rattle.tds_relay.proofs.spared.Resting.{go_on, reached_on_does}
+use Rattle.tds_relay.specs.Bodies.{body_in}
+use Rattle.tds_relay.specs.declared.application.Application.{Application as AnApplication}
 use Rattle.tds_relay.proofs.relay.Relay.left.Goals as goal
 
 pub returns-clause-left : goal.returns-clause-left
@@ -30,3 +34,12 @@ returns-clause-opens c = opens_served c.serve_line.result _ _ _ c.in_ok-release.
 
 pub returns-clause-stand : goal.returns-clause-stand
 returns-clause-stand c = stand_on c.serve_line.result _ _ _ c.in_ok-release.ensures.stand c.serve_line.ensures.stand
+
+pub returns-clause-goes_on : goal.returns-clause-goes_on
+returns-clause-goes_on c =
+    let old = c.args.self.now in
+    go_on c.serve_line.result old c.release.new.self c.serve_line.new.self
+    (λ r. reached_on (Application c.args.key) (desk_in old.desk) (desk_in c.release.new.self.desk) (λ from h. reaches_left c.args.key from (desk_in old.desk) (desk_in c.release.new.self.desk) c.in_ok-release.ensures.leaving h) r)
+    (gone_go c.args.key old _ c.release.new.self (λ goes. ap (λ (o : Option AnApplication). body_in o goes) c.try_remove.ensures.updates.changed) c.in_ok-release.ensures.asks
+    (λ reached. removed_rest c.args.key old _ refl refl c.try_remove.ensures.updates.others) c.in_ok-release.ensures.others)
+    c.serve_line.ensures.goes_on

@@ -1,4 +1,4 @@
-use Rattle.std.proofs.Common.{ap, refl, subst, sym}
+use Rattle.std.proofs.Common.{ap, refl, subst, sym, ◌∙◌}
 use Rattle.tds_relay.specs.declared.desk.Desk as code
 use Rattle.tds_relay.specs.Ties.{Reaches, desk_in}
 use Rattle.tds_relay.proofs.steps.Fronts.{moves_loses, moves_same}
@@ -30,3 +30,6 @@ returns-clause-stand c = ok_if c.close.result _ (stand_at _ _ _ c.in_ok-key.ensu
 pub returns-clause-rests : goal.returns-clause-rests
 returns-clause-rests c = λ reached.
     lost_on c.close.result c.args.number c.args.self.now c.close.new.self _ c.in_ok-key.key reached c.in_ok-key.ensures.whose c.in_ok-key.ensures.off c.close.ensures.desk c.close.ensures.shuts c.close.ensures.others c.close.ensures.asks
+
+pub returns-clause-shuts : goal.returns-clause-shuts
+returns-clause-shuts c = ok_more c.close.result _ _ (λ s key e. s key (c.in_ok-key.ensures.whose ∙ e)) c.close.ensures.shuts

@@ -1,9 +1,12 @@
-use Rattle.std.proofs.Common.{◌∙◌, ap, refl}
-use Rattle.tds_relay.specs.Ties.{desk_in}
+use Rattle.std.proofs.Common.{◌∙◌, ap, refl, rules, subst, sym}
+use Rattle.tds_relay.specs.Ties.{desk_in, Reaches}
 use Rattle.tds_relay.proofs.steps.Fronts.{lets_go_first, moved_same, moves_same}
-use Rattle.tds_relay.proofs.steps.Reaching.{ok_more, ok_if}
+use Rattle.tds_relay.proofs.steps.Reaching.{ok_more, ok_if, reaches_turned}
 use Rattle.tds_relay.proofs.steps.Staying.{stays_from, stays_refl, stays_then}
 use Rattle.tds_relay.proofs.bytes.Calls.{stand_at, stand_on}
+use Rattle.tds_relay.proofs.spared.Letting.{left_rest, shut_rest, unheld_rest, left_reached}
+use Rattle.tds_relay.specs.Desk.{find_key}
+use Rattle.tds_relay.specs.declared.desk.Desk as code
 use Rattle.tds_relay.proofs.relay.Relay.release.Goals as goal
 
 pub returns-in_default-clause-lets_go : goal.returns-in_default-clause-lets_go
@@ -34,3 +37,26 @@ returns-then-left-clause-stand c = stand_on c.send_on.result _ _ _ (stand_at _ _
 
 pub returns-else-left-clause-stand : goal.returns-else-left-clause-stand
 returns-else-left-clause-stand c = ok_if c.close.result _ (stand_at _ _ _ c.in_ok-left.ensures.stand (c.close.ensures.desk ∙ c.let_go.ensures.desk))
+
+pub returns-in_default-clause-others : goal.returns-in_default-clause-others
+returns-in_default-clause-others c = λ reached.
+    unheld_rest c.args.key c.args.self.now c.let_go.new.self c.leave.new.self reached c.in_ok-left.ensures.others c.let_go.ensures.desk c.let_go.ensures.links c.let_go.ensures.asks
+
+pub returns-then-left-clause-others : goal.returns-then-left-clause-others
+returns-then-left-clause-others c = λ reached.
+    left_rest c.send_on.result c.args.key c.in-Some.left (find_key c.args.key c.args.self.now.desk.holds.items) c.args.self.now _ c.send_on.new.self c.leave.new.self refl (search rules) reached c.in_ok-left.ensures.others c.let_go.ensures.desk c.let_go.ensures.links
+    c.let_go.ensures.asks c.send_on.ensures.asks
+    (c.send_on.ensures.sends (left_reached c.args.key c.args.self.now.desk c.leave.new.self c.let_go.new.self.desk _ _ _ _ c.in_ok-left.ensures.turns.2 c.let_go.ensures.desk reached))
+
+pub returns-else-left-clause-others : goal.returns-else-left-clause-others
+returns-else-left-clause-others c = λ reached.
+    shut_rest c.close.result c.args.key c.in-Some.left (find_key c.args.key c.args.self.now.desk.holds.items) c.args.self.now c.let_go.new.self c.close.new.self c.leave.new.self refl (search rules) reached c.in_ok-left.ensures.others c.let_go.ensures.desk c.let_go.ensures.links
+    c.let_go.ensures.asks c.close.ensures.desk c.close.ensures.asks c.close.ensures.others
+
+pub returns-then-left-clause-leaving : goal.returns-then-left-clause-leaving
+returns-then-left-clause-leaving c = ok_more c.send_on.result _ _
+    (λ g. (
+      c.in_ok-left.ensures.turns.0,
+      c.in_ok-left.ensures.turns.1,
+      λ by from h. g by from (subst (λ (d : code.Desk). Reaches by from (desk_in d)) (sym c.let_go.ensures.desk) (reaches_turned by from _ _ _ _ _ c.in_ok-left.ensures.turns.2 h)),
+    )) c.send_on.ensures.goes

@@ -1,9 +1,11 @@
-use Rattle.std.proofs.Common.{ap}
-use Rattle.tds_relay.specs.Ties.{desk_in}
+use Rattle.std.proofs.Common.{ap, inl, subst, sym}
+use Rattle.tds_relay.specs.Ties.{desk_in, IsReached}
 use Rattle.tds_relay.proofs.steps.Fronts.{moves_same}
 use Rattle.tds_relay.proofs.steps.Reaching.{ok_more}
 use Rattle.tds_relay.proofs.steps.Staying.{stays_on}
 use Rattle.tds_relay.proofs.bytes.Calls.{stand_from}
+use Rattle.tds_relay.proofs.spared.Letting.{sent_all}
+use Rattle.tds_relay.specs.declared.desk.Desk as code
 use Rattle.tds_relay.proofs.relay.Relay.send_on.Goals as goal
 
 pub returns-else-fits-clause-read : goal.returns-else-fits-clause-read
@@ -18,3 +20,11 @@ returns-else-fits-clause-moves c =
 
 pub returns-else-fits-clause-stand : goal.returns-else-fits-clause-stand
 returns-else-fits-clause-stand c = stand_from c.lose.result _ _ _ c.fits_on.ensures.desk c.lose.ensures.stand
+
+pub returns-then-fits-clause-sends : goal.returns-then-fits-clause-sends
+returns-then-fits-clause-sends c = λ reached. inl (c.fits_on.ensures.desk, c.in_ok-fits.ensures.others)
+
+pub returns-else-fits-clause-sends : goal.returns-else-fits-clause-sends
+returns-else-fits-clause-sends c = λ reached.
+    sent_all c.lose.result c.args.number c.args.self.now c.fits_on.new.self c.lose.new.self reached c.fits_on.ensures.desk c.in_ok-fits.ensures.asks c.in_ok-fits.ensures.others
+    (c.lose.ensures.rests (subst (λ (d : code.Desk). IsReached (desk_in d)) (sym c.fits_on.ensures.desk) reached)) c.lose.ensures.shuts

@@ -7,7 +7,7 @@ use Rattle.tds_relay.proofs.spared.Held.{deed_both}
 use Rattle.tds_relay.proofs.spared.Resting.{reached_does}
 use Rattle.tds_relay.specs.Bodies.{ClientPuts}
 use Rattle.tds_relay.proofs.steps.Going.{holds_stay, puts_last, puts_part}
-use Rattle.tds_relay.proofs.relay.asking.put_on.Goals as goal
+use Rattle.tds_relay.proofs.relay.putting.put_on.Goals as goal
 
 pub returns-then-not-whole-clause-goes : goal.returns-then-not-whole-clause-goes
 returns-then-not-whole-clause-goes c = λ by from h. reaches_turn by from _ _ _ _ _ c.in-Ok.ensures.ok.1 tt h

@@ -1,0 +1,105 @@
+//! What goes on of requests, to the connections that their applications hold.
+ghost use Rattle.std.specs.Prelude.{◌≡◌, OnOk, true};
+ghost use Rattle.tds_relay.specs.Asking.{IsUnderway, SendsOn};
+ghost use Rattle.tds_relay.specs.Bodies.{AskAsBefore, ClientPuts, PutsOn};
+ghost use Rattle.tds_relay.specs.Fronts.{MayPut, MovedOn, ends_in, goes_by, hall_in, puts};
+ghost use Rattle.tds_relay.specs.Hall.{IfOpen, change_end, end_at};
+ghost use Rattle.tds_relay.specs.Posts.{posts_in};
+ghost use Rattle.tds_relay.specs.Reads.{Stays};
+ghost use Rattle.tds_relay.specs.Sparing.{OthersHold, OthersRest};
+ghost use Rattle.tds_relay.specs.Ties.{GoesOn, IsReached, desk_in};
+ghost use Rattle.tds_relay.specs.Walkers.{AllStand};
+
+use super::Relay;
+use crate::NoMemory;
+use crate::desk::Desk;
+
+impl Relay {
+    /// Puts bytes of a request on its connection, and its end.
+    #[tactic(auto, using(crate::proofs::steps::Reaching::reaches_turn, crate::proofs::steps::Reaching::reaches_turned))]
+    pub(super) fn put(&mut self, key: usize, bytes: &[u8], whole: bool) -> Result<(), NoMemory>
+        ensures goes { OnOk result (GoesOn (desk_in self.old.desk) (desk_in self.new.desk)) }
+        ensures kept { OnOk result (posts_in self.new.applications
+            ≡ posts_in self.old.applications) }
+        ensures moves { OnOk result (MovedOn (hall_in self.old) (hall_in self.new)) }
+        ensures underway { OnOk result (IsUnderway whole self.new.links.items key
+            (hall_in self.new)) }
+        ensures read { OnOk result (Stays self.old.links.items self.new.links.items) }
+        ensures stand { OnOk result (AllStand self.old.desk.service
+            self.new.desk.service) }
+        ensures body { OnOk result (PutsOn whole bytes.now key self.old self.new) }
+        ensures others { IsReached (desk_in self.old.desk)
+            → OnOk result (OthersRest key self.old self.new) }
+    {
+        let Some(hold) = self.desk.hold_of(key) else {
+            return self.end(key);
+        };
+        if !self.may_put(key, whole) {
+            return self.fail(key, hold.number);
+        }
+        self.outbox.clear();
+        let is_put = put_on(&mut self.desk, key, bytes, whole, &mut self.outbox);
+        self.note_went_on(key);
+        if !is_put {
+            return self.fail(key, hold.number);
+        }
+        let fits = self.fits_on(hold.number)?;
+        if fits {
+            Ok(())
+        } else {
+            self.fail(key, hold.number)
+        }
+    }
+
+    /// Whether an application has begun a request, or all of one has come.
+    fn may_put(&self, key: usize, whole: bool) -> bool
+        ensures { result ≡ true → IfOpen (puts whole) (end_at (ends_in self.now.applications) key) }
+    {
+        match self.applications.get(key) {
+            Some(application) => application.may_put(whole),
+            None => false,
+        }
+    }
+
+    /// Something of a request goes on, where the desk has something to send.
+    fn note_went_on(&mut self, key: usize)
+        ensures desk { self.new.desk ≡ self.old.desk }
+        ensures kept { posts_in self.new.applications ≡ posts_in self.old.applications }
+        ensures ends { ends_in self.new.applications
+            ≡ change_end key (goes_by self.old.outbox.items) (ends_in self.old.applications) }
+        ensures links { self.new.links.items ≡ self.old.links.items }
+        ensures asks { AskAsBefore self.old.applications self.new.applications }
+        ensures outbox { self.new.outbox.items ≡ self.old.outbox.items }
+    {
+        if self.outbox.is_empty() {
+            return;
+        }
+        match self.applications.get_mut(key) {
+            Some(application) => application.went_on(),
+            None => {}
+        }
+    }
+}
+
+/// Puts bytes of a request, and its end. False where one was refused.
+fn put_on(desk: &mut Desk, key: usize, bytes: &[u8], whole: bool, out: &mut Vec<u8>) -> bool
+    ensures goes { GoesOn (desk_in desk.old) (desk_in desk.new) }
+    ensures puts { MayPut key whole (desk_in desk.old) (desk_in desk.new) out.old.items
+        out.new.items }
+    ensures sends { result ≡ true → SendsOn whole (desk_in desk.new) key }
+    ensures stand { AllStand desk.old.service desk.new.service }
+    ensures body { result ≡ true → ClientPuts whole bytes.now key desk.old desk.new
+        out.old.items out.new.items }
+    ensures others { OthersHold key desk.old desk.new }
+{
+    let Ok(_) = desk.put(key, bytes, out) else {
+        return false;
+    };
+    if !whole {
+        return true;
+    }
+    match desk.finish(key, out) {
+        Ok(_) => true,
+        Err(_) => false,
+    }
+}
