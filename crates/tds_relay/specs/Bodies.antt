@@ -87,8 +87,8 @@ ArePut true more from to out = Streams from (more ∷ []) out to
 pub data Starts : Body → Body → Type 0 where
   Stays : {b : Body} → Starts b b
   Closes : {b : Body} → Starts b Closed
-  Goes : {kind : MessageKind} {bytes : List ℕ} {whole : Bool} {number : ℕ} {to : ClientSession} {waits out : List ℕ}
-      → (from : ClientSession) → ArePut whole bytes (opened from kind) to out → Starts (Kept kind bytes whole) (Going number to (waits ++ out))
+  Goes : {kind : MessageKind} {bytes : List ℕ} {whole : Bool} {number : ℕ} {to : ClientSession} (waits out : List ℕ)
+      (from : ClientSession) → ArePut whole bytes (opened from kind) to out → Starts (Kept kind bytes whole) (Going number to (waits ++ out))
 
 -- So it is of all.
 abbrev pub AllStart : code.Relay → code.Relay → Type 0
@@ -105,8 +105,8 @@ SparesOthers key old new = (other : ℕ) → other ≢ key → Spared (body_of o
 -- These bytes of it have come, with which it is whole or not: they are kept behind the others, or put. Or its application is to be closed.
 pub data Grows (whole : Bool) (more : List ℕ) : Body → Body → Type 0 where
   Keeps : {kind : MessageKind} {bytes : List ℕ} {was : Bool} → Grows whole more (Kept kind bytes was) (Kept kind (bytes ++ more) whole)
-  Sends : {number : ℕ} {to : ClientSession} {waits out : List ℕ}
-      → (from : ClientSession) → ArePut whole more from to out → Grows whole more (Going number from waits) (Going number to (waits ++ out))
+  Sends : {number : ℕ} {to : ClientSession} (waits out : List ℕ)
+      (from : ClientSession) → ArePut whole more from to out → Grows whole more (Going number from waits) (Going number to (waits ++ out))
   IsNot : Grows whole more Nowhere Nowhere
   Shuts : {b : Body} → Grows whole more b Closed
 
