@@ -2,6 +2,8 @@ pub mod Anew
 pub mod Calls
 pub mod Cuts
 pub mod Following
+pub mod Heard
+pub mod Leaving
 pub mod Reader
 pub mod Rereading
 pub mod Streaming

@@ -1,16 +1,12 @@
 -- Walkers stand where they stood, behind any call of the service that reads nothing.
 use Rattle.std.proofs.Common.{◌≡◌, ◌≢◌, ◌∙◌, ◌==◌, ◌≤◌, ℕ, suc, Bool, true, false, List, [], ◌∷◌, ◌++◌, length, inl, inr, refl, sym, ap, subst, arith}
-use Rattle.std.specs.Prelude.{◌⊎◌, Option, Some, None, nat_lt, if◌then◌else◌}
-use Rattle.std.proofs.lemmas.Bool.{eqb-true}
+use Rattle.std.specs.Prelude.{◌⊎◌, Option, Some, None, nat_lt}
 use Rattle.std.proofs.lemmas.Bool.Decides.{nat_tests}
 use Rattle.tds_client.specs.declared.fault.ClientRefusal.{ClientRefusal}
 use Rattle.tds_wire.specs.declared.features.Features.{Features}
 use Rattle.tds_wire.specs.declared.told.Token.{Token}
 use Rattle.tds_wire.specs.Reading.{Reading}
-use Rattle.tds_listen.specs.Hearing.{Stop, tokens_in}
 use Rattle.tds_packet.specs.declared.status.Reset.TheVariants.{Full, KeepTransaction}
-use Rattle.tds_service.specs.declared.place.Rest.{Rest}
-use Rattle.tds_service.specs.declared.place.Rest.TheVariants as rests
 use Rattle.tds_service.specs.declared.seat.Seat as seats
 use Rattle.tds_service.specs.declared.service.Service as services
 use Rattle.tds_service.specs.Beginning.{Begins, BeginsAt, MakesAlike}
@@ -19,15 +15,13 @@ use Rattle.tds_service.specs.Line.{Line, Act, new_line}
 use Rattle.tds_service.specs.History.{line_after}
 use Rattle.tds_service.specs.Parts.{Part}
 use Rattle.tds_service.specs.Refusing.{packets, refusal_in}
-use Rattle.tds_service.specs.Packets.{ReadsTo}
 use Rattle.tds_service.specs.Service as calls
 use Rattle.tds_service.specs.Service.{Service, Call, Reply, Step, Place, Leased, Cleaning, Kept, Seat, find_by, change_by, has_lease, has_ticket, has_number, is_lendable, is_idle, may_keep, clean_place, drained, rests_cleaned, does, nothing, acts_unless, opens, seat_numbered, step, service_after, new_service}
-use Rattle.tds_service.specs.Table.{Keeps, KeepsOthers, KeepsBy, StepsIn, reading_by, reading_on, rest_of, seat_in, seats_in, service_in}
-use Rattle.tds_service.proofs.Numbered.{added_other, change_out, same_number}
+use Rattle.tds_service.specs.Table.{Keeps, KeepsOthers, StepsIn, reading_by, reading_on, seat_in, seats_in, service_in}
+use Rattle.tds_service.proofs.Numbered.{added_other, same_number}
 use Rattle.tds_service.proofs.Tests.{below}
-use Rattle.tds_relay.specs.Ties.{lost_by}
-use Rattle.tds_relay.specs.Walkers.{AllRead, AllStand, IsLed, IsUnread, StandsAt, There, Unread, read_at, read_to}
-use Rattle.tds_relay.proofs.promises.Seats.{Distinct, each_found, found_meets, none_changed}
+use Rattle.tds_relay.specs.Walkers.{AllStand, IsLed, IsUnread, StandsAt, There, Unread}
+use Rattle.tds_relay.proofs.promises.Seats.{each_found, found_meets, none_changed}
 use Rattle.tds_relay.proofs.promises.Tidy.{Tidy, UpTo, all_rise}
 
 -- ---- Services that calls led to
@@ -156,7 +150,7 @@ record Leaves (n : ℕ) (s t : Service) : Type 0 where
   pub rises : s.last ≤ t.last
   pub gone : seat_numbered n s.seats ≡ None → seat_numbered n t.seats ≡ None
 
-step_leaves : (n : ℕ) (s : Service) (call : Call Token) → n ≤ s.last → Leaves n s (step s call).service
+pub step_leaves : (n : ℕ) (s : Service) (call : Call Token) → n ≤ s.last → Leaves n s (step s call).service
 step_leaves n s call low =
     step_so s (Leaves n s) (record { rises = omega arith; gone = λ e. e })
     (λ given test place l. record { rises = omega arith; gone = λ e. none_changed n test place l s.seats e })
@@ -199,10 +193,10 @@ stays_by : (r now : Reading) (o p : Option Reading) → ((q : Reading) → o ≡
 stays_by r now None p keeps gone there is = absurd (let u : None ≡ Some now = sym (gone refl) ∙ is in let v : ⊥ = cc in v)
 stays_by r now (Some q) p keeps gone there is = (let u : Some now ≡ Some q = sym is ∙ keeps q refl in let v : now ≡ q = cc in v) ∙ there q refl
 
-nothing_there : (r now : Reading) (o : Option Reading) → o ≡ None → o ≡ Some now → now ≡ r
+pub nothing_there : (r now : Reading) (o : Option Reading) → o ≡ None → o ≡ Some now → now ≡ r
 nothing_there r now o none is = absurd (let u : None ≡ Some now = sym none ∙ is in let v : ⊥ = cc in v)
 
-differ : (n m : ℕ) → (n == m) ≡ false → n ≢ m
+pub differ : (n m : ℕ) → (n == m) ≡ false → n ≢ m
 differ n m e same = let u : ⊥ = grind arith in u
 
 -- whoever is there has a number that was given
@@ -228,7 +222,7 @@ none_low old new call n is low none =
     seat_unread n new (left.gone (unread_seat n old none))
 
 -- by a call that opens none
-none_begun : (old new : services.Service) (call : Call Token) (n : ℕ) → service_in new ≡ (step (service_in old) call).service → (Opens call → ⊥) → Begun old new n
+pub none_begun : (old new : services.Service) (call : Call Token) (n : ℕ) → service_in new ≡ (step (service_in old) call).service → (Opens call → ⊥) → Begun old new n
 none_begun old new call n is never now led none there =
     let last_is : new.last ≡ old.last = ap (λ (s : Service). s.last) is ∙ last_stays (service_in old) call never in
     let low : n ≤ new.last = low_there n new now (led_on (service_in old) (service_in new) call is led) there in
@@ -244,7 +238,7 @@ begins_by most features old new n now (Some q) e keeps begun h there =
     subst (Begins most features) same (h.begins q e)
 
 -- where it has read nothing
-unread_one : (most : ℕ) (features : Features) (old new : services.Service) (call : Call Token) (n : ℕ) → service_in new ≡ (step (service_in old) call).service → MakesAlike old new
+pub unread_one : (most : ℕ) (features : Features) (old new : services.Service) (call : Call Token) (n : ℕ) → service_in new ≡ (step (service_in old) call).service → MakesAlike old new
     → ((q : Reading) → reading_on n old ≡ Some q → reading_on n new ≡ Some q) → Begun old new n → IsUnread most features n old → IsUnread most features n new
 unread_one most features old new call n is alike keeps begun h = record {
   led = led_on (service_in old) (service_in new) call is h.led;
@@ -253,7 +247,7 @@ unread_one most features old new call n is alike keeps begun h = record {
 }
 
 -- where this one stays
-stand_one : (old new : services.Service) (call : Call Token) (n : ℕ) (r : Reading) → service_in new ≡ (step (service_in old) call).service
+pub stand_one : (old new : services.Service) (call : Call Token) (n : ℕ) (r : Reading) → service_in new ≡ (step (service_in old) call).service
     → ((q : Reading) → reading_on n old ≡ Some q → reading_on n new ≡ Some q) → StandsAt n r old → StandsAt n r new
 stand_one old new call n r is keeps h =
     let left = subst (Leaves n (service_in old)) (sym is) (step_leaves n (service_in old) call h.given) in
@@ -352,197 +346,7 @@ unread_by most features old new call number n false e is never alike keeps gone 
     unread_one most features old new call n is alike (λ q. keeps n q (differ n number e)) (none_begun old new call n is never) h
 
 -- or by one behind which this one is there no more
-gone_stand : (old new : services.Service) (call : Call Token) (number : ℕ) → service_in new ≡ (step (service_in old) call).service → (Opens call → ⊥) → MakesAlike old new → KeepsOthers number old new
+pub gone_stand : (old new : services.Service) (call : Call Token) (number : ℕ) → service_in new ≡ (step (service_in old) call).service → (Opens call → ⊥) → MakesAlike old new → KeepsOthers number old new
     → (IsLed (service_in old) → seat_numbered number (service_in new).seats ≡ None) → AllStand old new
 gone_stand old new call number is never alike keeps gone n (There r) h = gone_by old new call number n r (n == number) refl is keeps gone h
 gone_stand old new call number is never alike keeps gone n (Unread most features) h = unread_by most features old new call number n (n == number) refl is never alike keeps gone h
-
--- ---- One that is lost
-
-out_at : (s : Service) (number : ℕ) (o : Option Seat) → Distinct s.seats → seat_numbered number s.seats ≡ o → seat_numbered number (calls.loses {T = Token} s (has_number number) o).service.seats ≡ None
-out_at s number None distinct e = e
-out_at s number (Some c) distinct e =
-    let l = line_after {T = Token} c.line (line.Lose ∷ []) in
-    let same : c.number ≡ number = eqb-true c.number number (found_meets (has_number number) c s.seats e) in
-    subst (λ (k : ℕ). seat_numbered k (change_by (has_number number) None l s.seats) ≡ None) same (change_out (has_number number) c l s.seats distinct e)
-
-lost_out : (s : Service) (number : ℕ) → IsLed s → seat_numbered number (lost_by s number).seats ≡ None
-lost_out s number led = out_at s number (seat_numbered number s.seats) (led_tidy s led).distinct refl
-
-pub lost_gone : (old new : services.Service) (number : ℕ) → service_in new ≡ lost_by (service_in old) number → IsLed (service_in old) → reading_on number new ≡ None
-lost_gone old new number is led =
-    seat_unread number new (subst (λ (s : Service). seat_numbered number s.seats ≡ None) (sym is) (lost_out (service_in old) number led))
-
-pub lost_stand : (old new : services.Service) (number : ℕ) → service_in new ≡ lost_by (service_in old) number → MakesAlike old new → KeepsOthers number old new → AllStand old new
-lost_stand old new number is alike keeps =
-    gone_stand old new (calls.Lost number) number is (λ opened. opened) alike keeps
-    (λ led. subst (λ (s : Service). seat_numbered number s.seats ≡ None) (sym is) (lost_out (service_in old) number led))
-
--- ---- One that is let go
-
-back_out : (s : Service) (test : Seat → Bool) (c : Seat) (place : Option Place) (all : List (Act Token)) (number : ℕ) → Distinct s.seats → find_by test s.seats ≡ Some c
-    → place ≡ None → c.number ≡ number → seat_numbered number (does s s.given test c place all (calls.Back place)).service.seats ≡ None
-back_out s test c place all number distinct e none same =
-    let l = line_after c.line all in
-    let out : seat_numbered number (change_by test None l s.seats) ≡ None =
-    subst (λ (k : ℕ). seat_numbered k (change_by test None l s.seats) ≡ None) same (change_out test c l s.seats distinct e) in
-    subst (λ (o : Option Place). seat_numbered number (change_by test o l s.seats) ≡ None) (sym none) out
-
-given_out : (s : Service) (test : Seat → Bool) (o : Option Seat) (number : ℕ) → Distinct s.seats → find_by test s.seats ≡ o → (calls.gives_back {T = Token} s test o).reply ≡ calls.Back None
-    → (calls.gives_back {T = Token} s test o).number ≡ number → seat_numbered number (calls.gives_back {T = Token} s test o).service.seats ≡ None
-given_out s test None number distinct e reply is = absurd (let u : ⊥ = cc in u)
-given_out s test (Some c) number distinct e reply is =
-    let place = calls.rests (line_after {T = Token} c.line (line.Cancel ∷ [])).stage in
-    let none : place ≡ None = cc in
-    back_out s test c place (line.Cancel ∷ []) number distinct e none is
-
-cleaned_out_by : (s : Service) (test : Seat → Bool) (c : Seat) (o : Option (Option Place)) (number : ℕ) → Distinct s.seats → find_by test s.seats ≡ Some c
-    → (rests_cleaned {T = Token} s test c o).reply ≡ calls.Back None → (rests_cleaned {T = Token} s test c o).number ≡ number → seat_numbered number (rests_cleaned {T = Token} s test c o).service.seats ≡ None
-cleaned_out_by s test c None number distinct e reply is = absurd (let u : ⊥ = cc in u)
-cleaned_out_by s test c (Some place) number distinct e reply is =
-    let none : place ≡ None = cc in
-    back_out s test c place [] number distinct e none is
-
-cleaned_out : (s : Service) (test : Seat → Bool) (o : Option Seat) (number : ℕ) → Distinct s.seats → find_by test s.seats ≡ o → (calls.cleaned {T = Token} s test o).reply ≡ calls.Back None
-    → (calls.cleaned {T = Token} s test o).number ≡ number → seat_numbered number (calls.cleaned {T = Token} s test o).service.seats ≡ None
-cleaned_out s test None number distinct e reply is = absurd (let u : ⊥ = cc in u)
-cleaned_out s test (Some c) number distinct e reply is = cleaned_out_by s test c (clean_place c.place c.line) number distinct e reply is
-
--- By its call it is closed, or all are kept.
-back_stand : (old new : services.Service) (call : Call Token) (rest : Rest) (number : ℕ) → service_in new ≡ (step (service_in old) call).service
-    → (rest_of rest ≡ None → IsLed (service_in old) → seat_numbered number (service_in new).seats ≡ None) → (Opens call → ⊥) → MakesAlike old new → KeepsBy rest number old new → AllStand old new
-back_stand old new call rests.Free number is gone never alike keeps = keeps_stand old new call is never alike keeps
-back_stand old new call rests.Draining number is gone never alike keeps = keeps_stand old new call is never alike keeps
-back_stand old new call rests.Closed number is gone never alike keeps = gone_stand old new call number is never alike keeps (gone refl)
-
-pub given_back_stand : (old new : services.Service) (lease number : ℕ) (rest : Rest) (before after : List ℕ)
-    → StepsIn (step {T = Token} (service_in old) (calls.GiveBack lease)) (service_in new) (calls.Back (rest_of rest)) number before after → MakesAlike old new → KeepsBy rest number old new → AllStand old new
-given_back_stand old new lease number rest before after one alike keeps =
-    back_stand old new (calls.GiveBack lease) rest number one.service_is
-    (λ none led.
-    let s = service_in old in
-    subst (λ (t : Service). seat_numbered number t.seats ≡ None) (sym one.service_is)
-    (given_out s (has_lease lease) (find_by (has_lease lease) s.seats) number (led_tidy s led).distinct refl (one.reply_is ∙ ap calls.Back none) one.number_is)) (λ opened. opened) alike keeps
-
-pub cleaned_stand : (old new : services.Service) (lease number : ℕ) (rest : Rest) (before after : List ℕ)
-    → StepsIn (step {T = Token} (service_in old) (calls.Cleaned lease)) (service_in new) (calls.Back (rest_of rest)) number before after → MakesAlike old new → KeepsBy rest number old new → AllStand old new
-cleaned_stand old new lease number rest before after one alike keeps =
-    back_stand old new (calls.Cleaned lease) rest number one.service_is
-    (λ none led.
-    let s = service_in old in
-    subst (λ (t : Service). seat_numbered number t.seats ≡ None) (sym one.service_is)
-    (cleaned_out s (has_lease lease) (find_by (has_lease lease) s.seats) number (led_tidy s led).distinct refl (one.reply_is ∙ ap calls.Back none) one.number_is)) (λ opened. opened) alike keeps
-
--- ---- What is read
-
--- where its own walker stands
-own_stand : (old mid : services.Service) (call : Call Token) (n : ℕ) (r next : Reading) → service_in mid ≡ (step (service_in old) call).service → reading_on n mid ≡ Some next → StandsAt n r old → StandsAt n next mid
-own_stand old mid call n r next is at h =
-    let left = subst (Leaves n (service_in old)) (sym is) (step_leaves n (service_in old) call h.given) in
-    record {
-      led = led_on (service_in old) (service_in mid) call is h.led;
-      given = (let low : n ≤ old.last = h.given in let more : old.last ≤ mid.last = left.rises in omega (arith, low, more));
-      there = λ now e. let u : Some now ≡ Some next = sym e ∙ at in cc;
-    }
-
-read_other : (n number : ℕ) (o : Option Seat) (ends : Bool) (content : List ℕ) (r : Reading) → (number == n) ≡ false → read_at n number o ends content r ≡ r
-read_other n number None ends content r e = refl
-read_other n number (Some c) ends content r e = rw e refl
-
--- where it is there
-read_here : (n number : ℕ) (o : Option Seat) (ends : Bool) (content : List ℕ) (r : Reading) → (o ≡ None → ⊥) → (number == n) ≡ true → read_at n number o ends content r ≡ read_to ends r (tokens_in r content).stop
-read_here n number None ends content r there e = absurd (there refl)
-read_here n number (Some c) ends content r there e = rw e refl
-
-to_behind : (ends : Bool) (r next : Reading) (stop : Stop) → ReadsTo ends stop next → read_to ends r stop ≡ next
-to_behind ends r next stop h = ap (λ (s : Stop). read_to ends r s) h.1 ∙ sym h.2
-
-is_there : (number : ℕ) (s : services.Service) (at : Reading) → reading_on number s ≡ Some at → seat_numbered number (service_in s).seats ≡ None → ⊥
-is_there number s at is none = let u : None ≡ Some at = sym (seat_unread number s none) ∙ is in cc
-
--- what is known of the walker that has read
-abbrev Known : ℕ → Bool → List ℕ → services.Service → services.Service → Type 0
-Known number ends content old mid = (r : Reading) → reading_on number old ≡ Some r → (next : Reading) × (reading_on number mid ≡ Some next) × ReadsTo ends (tokens_in r content).stop next
-
--- where a connection's walker stands behind a packet on this one
-abbrev behind : ℕ → ℕ → Bool → List ℕ → services.Service → Reading → Reading
-behind n number ends content old r = read_at n number (seat_numbered number (service_in old).seats) ends content r
-
-here_stand : (old mid : services.Service) (part : Part Token) (number n : ℕ) (ends : Bool) (content : List ℕ) (r : Reading) (at : Reading) → reading_on number old ≡ Some at
-    → service_in mid ≡ (step (service_in old) (calls.Came number part)).service → Known number ends content old mid → (number == n) ≡ true → StandsAt n r old → StandsAt n (behind n number ends content old r) mid
-here_stand old mid part number n ends content r at is step_is known e h =
-    let same : number ≡ n = eqb-true number n e in
-    let its : at ≡ r = h.there at (subst (λ (k : ℕ). reading_on k old ≡ Some at) same is) in
-    let k = known at is in
-    let next_is : behind n number ends content old r ≡ k.0 =
-    read_here n number (seat_numbered number (service_in old).seats) ends content r (is_there number old at is) e
-    ∙ ap (λ (x : Reading). read_to ends x (tokens_in x content).stop) (sym its) ∙ to_behind ends at k.0 (tokens_in at content).stop k.2 in
-    subst (λ (x : Reading). StandsAt n x mid) (sym next_is)
-    (own_stand old mid (calls.Came number part) n r k.0 step_is (subst (λ (m : ℕ). reading_on m mid ≡ Some k.0) same k.1) h)
-
-other_stand : (old mid : services.Service) (call : Call Token) (number n : ℕ) (ends : Bool) (content : List ℕ) (r : Reading) → service_in mid ≡ (step (service_in old) call).service → KeepsOthers number old mid
-    → (number == n) ≡ false → StandsAt n r old → StandsAt n (behind n number ends content old r) mid
-other_stand old mid call number n ends content r is keeps e h =
-    subst (λ (x : Reading). StandsAt n x mid) (sym (read_other n number (seat_numbered number (service_in old).seats) ends content r e))
-    (stand_one old mid call n r is (λ q. keeps n q (λ same. differ number n e (sym same))) h)
-
-came_by : (old mid : services.Service) (part : Part Token) (number n : ℕ) (ends : Bool) (content : List ℕ) (r at : Reading) (b : Bool) → (number == n) ≡ b → reading_on number old ≡ Some at
-    → service_in mid ≡ (step (service_in old) (calls.Came number part)).service → Known number ends content old mid → KeepsOthers number old mid → StandsAt n r old → StandsAt n (behind n number ends content old r) mid
-came_by old mid part number n ends content r at true e is step_is known keeps h = here_stand old mid part number n ends content r at is step_is known e h
-came_by old mid part number n ends content r at false e is step_is known keeps h = other_stand old mid (calls.Came number part) number n ends content r step_is keeps e h
-
--- nothing of another one
-others_unread : (old mid new : services.Service) (part : Part Token) (number : ℕ) (at : Reading) (n most : ℕ) (features : Features) → reading_on number old ≡ Some at
-    → service_in mid ≡ (step (service_in old) (calls.Came number part)).service → MakesAlike old mid → KeepsOthers number old mid → AllStand mid new
-    → (n ≢ number) ⊎ (seat_numbered number (service_in old).seats ≡ None) → IsUnread most features n old → IsUnread most features n new
-others_unread old mid new part number at n most features is step_is alike keeps later (inl other) h =
-    later n (Unread most features)
-    (unread_one most features old mid (calls.Came number part) n step_is alike (λ q. keeps n q other) (none_begun old mid (calls.Came number part) n step_is (λ opened. opened)) h)
-others_unread old mid new part number at n most features is step_is alike keeps later (inr none) h = absurd (is_there number old at is none)
-
--- a packet has come, and then nothing is read
-pub came_read : (old mid new : services.Service) (part : Part Token) (number : ℕ) (ends : Bool) (content : List ℕ) (at : Reading) → reading_on number old ≡ Some at
-    → service_in mid ≡ (step (service_in old) (calls.Came number part)).service → Known number ends content old mid → MakesAlike old mid → KeepsOthers number old mid → AllStand mid new
-    → AllRead number ends content old new
-came_read old mid new part number ends content at is step_is known alike keeps later = record {
-  stand = λ n r h. later n (There (behind n number ends content old r)) (came_by old mid part number n ends content r at (number == n) refl is step_is known keeps h);
-  unread = λ n most features other h. others_unread old mid new part number at n most features is step_is alike keeps later other h;
-}
-
--- or it has a fault, and the connection is lost
-lost_by_test : (old mid new : services.Service) (part : Part Token) (number n : ℕ) (ends : Bool) (content : List ℕ) (r next : Reading) (b : Bool) → (number == n) ≡ b → reading_on number mid ≡ Some next
-    → service_in mid ≡ (step (service_in old) (calls.Came number part)).service → KeepsOthers number old mid → AllStand mid new → (IsLed (service_in mid) → reading_on number new ≡ None)
-    → StandsAt n r old → StandsAt n (behind n number ends content old r) new
-lost_by_test old mid new part number n ends content r next true e is step_is keeps later gone h =
-    let same : number ≡ n = eqb-true number n e in
-    let was = own_stand old mid (calls.Came number part) n r next step_is (subst (λ (m : ℕ). reading_on m mid ≡ Some next) same is) h in
-    let now = later n (There next) was in
-    let none : reading_on n new ≡ None = subst (λ (m : ℕ). reading_on m new ≡ None) same (gone was.led) in
-    record { led = now.led; given = now.given; there = λ x. nothing_there (behind n number ends content old r) x (reading_on n new) none }
-lost_by_test old mid new part number n ends content r next false e is step_is keeps later gone h =
-    later n (There (behind n number ends content old r)) (other_stand old mid (calls.Came number part) number n ends content r step_is keeps e h)
-
-pub lost_read : (old mid new : services.Service) (part : Part Token) (number : ℕ) (ends : Bool) (content : List ℕ) (at next : Reading) → reading_on number old ≡ Some at → reading_on number mid ≡ Some next
-    → service_in mid ≡ (step (service_in old) (calls.Came number part)).service → MakesAlike old mid → KeepsOthers number old mid → AllStand mid new → (IsLed (service_in mid) → reading_on number new ≡ None)
-    → AllRead number ends content old new
-lost_read old mid new part number ends content at next was is step_is alike keeps later gone = record {
-  stand = λ n r h. lost_by_test old mid new part number n ends content r next (number == n) refl is step_is keeps later gone h;
-  unread = λ n most features other h. others_unread old mid new part number at n most features was step_is alike keeps later other h;
-}
-
--- or the connection isn't there
-pub unknown_read : (s : services.Service) (number : ℕ) (ends : Bool) (content : List ℕ) → seat_numbered number (service_in s).seats ≡ None → AllRead number ends content s s
-unknown_read s number ends content none = record {
-  stand = λ n r h. subst (λ (o : Option Seat). StandsAt n (read_at n number o ends content r) s) (sym none) h;
-  unread = λ n most features other h. h;
-}
-
--- where a service is new
-pub unread_new : (max most : ℕ) (features : Features) (s : services.Service) → service_in s ≡ new_service max → (s.most ≡ most) × (s.features ≡ features) → (n : ℕ) → IsUnread most features n s
-unread_new max most features s is told n =
-    let none : reading_on n s ≡ None = seat_unread n s (subst (λ (x : Service). seat_numbered n x.seats ≡ None) (sym is) refl) in
-    record {
-      led = (max, [], sym is);
-      told = told;
-      begins = λ now there. absurd (let u : None ≡ Some now = sym none ∙ there in let v : ⊥ = cc in v);
-    }

@@ -14,7 +14,7 @@ use Rattle.tds_relay.specs.Fronts.{IsWhat}
 use Rattle.tds_relay.specs.Hall.{done_by}
 use Rattle.tds_relay.proofs.steps.Fronts.{is_what, nobodys_what, what_answers}
 use Rattle.tds_relay.proofs.steps.Made.{ok_both, came_settled, came_unknown, came_wrong, unread}
-use Rattle.tds_relay.proofs.bytes.Walking.{came_read, lost_read, unknown_read}
+use Rattle.tds_relay.proofs.bytes.Heard.{came_read, lost_read, unknown_read}
 use Rattle.tds_relay.specs.Walkers.{AllRead}
 use Rattle.tds_relay.proofs.steps.Reaching.{ok_if}
 use Rattle.tds_relay.proofs.desk.Desk.came.Goals as goal

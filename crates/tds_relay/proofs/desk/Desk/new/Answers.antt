@@ -1,5 +1,5 @@
 use Rattle.tds_relay.specs.declared.link.TheConstants.{COLUMNS}
-use Rattle.tds_relay.proofs.bytes.Walking.{unread_new}
+use Rattle.tds_relay.proofs.bytes.Heard.{unread_new}
 use Rattle.tds_relay.proofs.desk.Desk.new.Goals as goal
 
 pub returns-clause-unread : goal.returns-clause-unread

@@ -1,5 +1,6 @@
 use Rattle.std.proofs.Common.{[]}
-use Rattle.tds_relay.proofs.bytes.Walking.{cleaned_stand, same_stand}
+use Rattle.tds_relay.proofs.bytes.Leaving.{cleaned_stand}
+use Rattle.tds_relay.proofs.bytes.Walking.{same_stand}
 use Rattle.tds_relay.proofs.desk.coming.cleaned.Goals as goal
 
 pub returns-in-Ok-default-Free-clause-stand : goal.returns-in-Ok-default-Free-clause-stand

@@ -1,7 +1,7 @@
 use Rattle.std.proofs.Common.{◌≡◌, rules}
 use Rattle.tds_service.specs.Table.{service_in}
 use Rattle.tds_relay.specs.Ties.{lost_by}
-use Rattle.tds_relay.proofs.bytes.Walking.{lost_gone, lost_stand}
+use Rattle.tds_relay.proofs.bytes.Leaving.{lost_gone, lost_stand}
 use Rattle.tds_relay.proofs.desk.leaving.forget.Goals as goal
 
 pub returns-in-Ok-clause-stand : goal.returns-in-Ok-clause-stand

@@ -3,7 +3,8 @@ use Rattle.std.proofs.lemmas.Result.{IfOk-weaker}
 use Rattle.tds_service.specs.Table.{service_in}
 use Rattle.tds_relay.proofs.steps.Made.{released_free}
 use Rattle.tds_relay.proofs.bytes.Calls.{stand_on}
-use Rattle.tds_relay.proofs.bytes.Walking.{given_back_stand, same_stand}
+use Rattle.tds_relay.proofs.bytes.Leaving.{given_back_stand}
+use Rattle.tds_relay.proofs.bytes.Walking.{same_stand}
 use Rattle.tds_service.specs.Service as calls
 use Rattle.tds_relay.proofs.steps.Reaching.{ok_more}
 use Rattle.tds_relay.proofs.spared.Aside.{called_for, forgot_for, refl_for, refused_for}
