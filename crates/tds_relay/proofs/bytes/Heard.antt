@@ -14,7 +14,7 @@ use Rattle.tds_service.specs.Service as calls
 use Rattle.tds_service.specs.Service.{Service, Call, Seat, nothing, seat_numbered, step, new_service}
 use Rattle.tds_service.specs.Table.{KeepsOthers, reading_on, service_in}
 use Rattle.tds_relay.specs.Walkers.{AllRead, AllStand, IsLed, IsUnread, StandsAt, There, Unread, read_at, read_to}
-use Rattle.tds_relay.proofs.bytes.Walking.{differ, led_on, none_begun, nothing_there, seat_unread, stand_one, step_leaves, unread_one}
+use Rattle.tds_relay.proofs.bytes.Walking.{Leaves, differ, led_on, none_begun, nothing_there, seat_unread, stand_one, step_leaves, unread_one}
 
 -- ---- What is read
 

@@ -1,6 +1,6 @@
 -- Walkers stand where they stood, behind any call of the service that reads nothing.
 use Rattle.std.proofs.Common.{◌≡◌, ◌≢◌, ◌∙◌, ◌==◌, ◌≤◌, ℕ, suc, Bool, true, false, List, [], ◌∷◌, ◌++◌, length, inl, inr, refl, sym, ap, subst, arith}
-use Rattle.std.specs.Prelude.{◌⊎◌, Option, Some, None, nat_lt}
+use Rattle.std.specs.Prelude.{◌⊎◌, Option, Some, None, nat_lt, if◌then◌else◌}
 use Rattle.std.proofs.lemmas.Bool.Decides.{nat_tests}
 use Rattle.tds_client.specs.declared.fault.ClientRefusal.{ClientRefusal}
 use Rattle.tds_wire.specs.declared.features.Features.{Features}
@@ -146,7 +146,7 @@ module _ (s : Service) (P : Service → Type 0) (same : P s)
   step_so (calls.Without call) opened = same
 
 -- A number that was given, and of which there is no connection, is of none.
-record Leaves (n : ℕ) (s t : Service) : Type 0 where
+pub record Leaves (n : ℕ) (s t : Service) : Type 0 where
   pub rises : s.last ≤ t.last
   pub gone : seat_numbered n s.seats ≡ None → seat_numbered n t.seats ≡ None
 
