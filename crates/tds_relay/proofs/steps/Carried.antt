@@ -1,6 +1,6 @@
 -- The body of an application's request follows what is taken of it: so it does of pieces one behind the other.
 use Rattle.std.proofs.Common.{Bool, ◌≡◌, ◌∙◌, ◌⊎◌, ◌++◌, ℕ, List, [], ◌∷◌, Option, Some, refl, sym, ap, subst, inl, inr, drop, append_assoc}
-use Rattle.std.specs.Prelude.{Result, Ok, Err, IfOk, OnOk, take}
+use Rattle.std.specs.Prelude.{Result, Ok, Err, OnOk, take}
 use Rattle.tds_front.specs.declared.fault.FrontFault.{FrontFault}
 use Rattle.tds_front.specs.declared.front.Fed.{Fed}
 use Rattle.tds_front.specs.declared.front.Front.{Front}

@@ -1,4 +1,4 @@
-use Rattle.std.proofs.Common.{ap, false, refl, rules, ◌≡◌}
+use Rattle.std.proofs.Common.{ap, false, refl, rules}
 use Rattle.tds_relay.specs.Hall.{change_end, closes}
 use Rattle.tds_relay.specs.Ties.{Application}
 use Rattle.tds_relay.proofs.steps.Fronts.{ends_kept, moves_closes, moves_same}

@@ -1,10 +1,10 @@
-use Rattle.std.proofs.Common.{ap, refl, ◌≡◌, true, rules}
+use Rattle.std.proofs.Common.{ap, refl, ◌≡◌, rules}
 use Rattle.tds_relay.specs.declared.application.Asking.TheVariants as asking
 use Rattle.tds_relay.specs.Hall.{change_end, closes}
 use Rattle.tds_relay.specs.Ties.{Application}
 use Rattle.tds_relay.proofs.steps.Fronts.{ends_kept, moves_closes}
 use Rattle.tds_relay.proofs.steps.Reaching.{ok_more}
-use Rattle.tds_relay.specs.Bodies.{Body, Closed, Grows, Shuts, Stays, Starts, body_of, going_of}
+use Rattle.tds_relay.specs.Bodies.{Closed, Shuts, Stays, body_of, going_of}
 use Rattle.slab.specs.Slab.{get, with_value}
 use Rattle.tds_relay.proofs.steps.Bodied.{none_closed, shut_starts}
 use Rattle.tds_relay.proofs.steps.Going.{grows_going, grows_kept, grows_then}

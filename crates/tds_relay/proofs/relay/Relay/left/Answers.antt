@@ -9,7 +9,7 @@ use Rattle.tds_relay.proofs.steps.Stepping.{no_steps, steps_on_ok, steps_quits}
 use Rattle.tds_relay.proofs.steps.Staying.{opens_served}
 use Rattle.tds_relay.proofs.bytes.Calls.{stand_on}
 use Rattle.tds_relay.proofs.spared.Letting.{gone_go, removed_rest}
-use Rattle.tds_relay.proofs.spared.Resting.{go_on, reached_on_does}
+use Rattle.tds_relay.proofs.spared.Resting.{go_on}
 use Rattle.tds_relay.specs.Bodies.{body_in}
 use Rattle.tds_relay.specs.declared.application.Application.{Application as AnApplication}
 use Rattle.tds_relay.proofs.relay.Relay.left.Goals as goal

@@ -10,7 +10,6 @@ use Rattle.tds_relay.proofs.steps.Staying.{stays_refl, stays_same}
 use Rattle.tds_relay.specs.Asking.{IfAsks, IsUnderway}
 use Rattle.tds_relay.proofs.bytes.Calls.{stand_at}
 use Rattle.tds_relay.specs.Bodies.{Grows, Nowhere, Obeys, Stays, body_of, going_of}
-use Rattle.tds_front.specs.declared.front.Said.TheVariants as said
 use Rattle.tds_relay.proofs.steps.Bodied.{forgot_on}
 use Rattle.tds_relay.proofs.relay.Relay.obey.Goals as goal
 

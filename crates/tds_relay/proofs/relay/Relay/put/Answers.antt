@@ -14,7 +14,7 @@ use Rattle.tds_relay.proofs.bytes.Calls.{stand_at, stand_on}
 use Rattle.tds_relay.proofs.spared.Resting.{others_all, others_refl, put_reached, put_rest, same_on, sent_rest}
 use Rattle.tds_relay.proofs.steps.Bodied.{closed_body, shut}
 use Rattle.tds_relay.proofs.steps.Going.{grows_on, waits_behind}
-use Rattle.tds_relay.specs.Bodies.{ClientPuts, going_of, waits_on, Body, Grows, going}
+use Rattle.tds_relay.specs.Bodies.{ClientPuts, going_of, Grows, going}
 use Rattle.tds_relay.specs.Desk.{find_key}
 use Rattle.tds_relay.proofs.relay.Relay.put.Goals as goal
 

@@ -5,7 +5,7 @@ use Rattle.tds_relay.proofs.steps.Bodied.{none_grows}
 use Rattle.tds_relay.proofs.steps.Going.{grows_asked}
 use Rattle.tds_relay.proofs.steps.Reaching.{ok_more}
 use Rattle.tds_relay.proofs.steps.Underway.{written_there}
-use Rattle.tds_relay.proofs.spared.Resting.{others_on, others_refl, written_rest}
+use Rattle.tds_relay.proofs.spared.Resting.{others_on, written_rest}
 use Rattle.tds_relay.proofs.spared.Starting.{put_unkept_on, unkept_none}
 use Rattle.tds_relay.proofs.relay.Relay.put_held.Goals as goal
 

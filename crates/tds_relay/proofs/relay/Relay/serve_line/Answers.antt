@@ -2,7 +2,7 @@ use Rattle.std.proofs.Common.{refl, ◌∙◌}
 use Rattle.tds_relay.proofs.steps.Fronts.{moves_does}
 use Rattle.tds_relay.proofs.steps.Reaching.{reaches_turn}
 use Rattle.tds_relay.proofs.steps.Staying.{opens_both}
-use Rattle.tds_relay.proofs.spared.Resting.{go_both, go_refl, reached_on_does, reached_serves, served_go}
+use Rattle.tds_relay.proofs.spared.Resting.{go_both, reached_on_does, reached_serves, served_go}
 use Rattle.tds_relay.proofs.relay.Relay.serve_line.Goals as goal
 
 pub line-preserved : goal.line-preserved

@@ -1,4 +1,4 @@
-use Rattle.std.proofs.Common.{◌≡◌, ◌∙◌, Some, false, ap, refl, rules, sym, List, ℕ, subst}
+use Rattle.std.proofs.Common.{◌≡◌, ◌∙◌, Some, false, ap, refl, rules, sym, subst}
 use Rattle.std.specs.Prelude.{is_some, take}
 use Rattle.tds_relay.specs.Fronts.{end_of, ends_in, given_by, hall_in, house_in, hall_of_ends}
 use Rattle.tds_relay.specs.Posts.{Posts, posts_in}
@@ -11,7 +11,7 @@ use Rattle.slab.specs.Slab.{with_value, get}
 use Rattle.tds_relay.proofs.steps.Asked.{asks_deaf, asks_fed, asks_links, asks_moved, asks_refused}
 use Rattle.tds_relay.proofs.steps.Underway.{none_deaf, over_deaf}
 use Rattle.tds_relay.proofs.steps.Staying.{stays_opens}
-use Rattle.tds_relay.specs.Bodies.{Body, Obeys, Starts, body_in, body_of, going_of}
+use Rattle.tds_relay.specs.Bodies.{Body, Obeys, body_in, body_of, going_of}
 use Rattle.tds_relay.proofs.steps.Bodied.{asks_kept, same_starts, shut_starts}
 use Rattle.tds_relay.proofs.steps.Carried.{carries_deaf, carries_fed, carries_moved, carries_refused}
 use Rattle.tds_relay.proofs.relay.Relay.take.Goals as goal

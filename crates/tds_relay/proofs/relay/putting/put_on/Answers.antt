@@ -2,7 +2,7 @@ use Rattle.std.proofs.Common.{◌≡◌, Bool, false, inl, inr, refl, rules, sub
 use Rattle.tds_relay.specs.Asking.{SendsOn}
 use Rattle.tds_relay.specs.Ties.{Reaches, desk_in}
 use Rattle.tds_relay.proofs.steps.Reaching.{reaches_turn}
-use Rattle.tds_relay.specs.Desk.{Ends, Puts}
+use Rattle.tds_relay.specs.Desk.{Puts}
 use Rattle.tds_relay.proofs.spared.Held.{deed_both}
 use Rattle.tds_relay.proofs.spared.Resting.{reached_does}
 use Rattle.tds_relay.specs.Bodies.{ClientPuts}
