@@ -1,0 +1,116 @@
+//! The export that sends any request whole, where one packet has all of it.
+
+ghost use Rattle.std.specs.Prelude.{◌≡◌, ◌+◌, ◌≤◌, ◌++◌, [], ℕ, Result, length, take};
+ghost use Rattle.tds_client.specs.declared.message.MessageKind.{MessageKind};
+ghost use Rattle.tds_c.specs.declared.answers.Stop.{Stop};
+ghost use Rattle.tds_c.specs.Answers.{done_number, number_of};
+ghost use Rattle.tds_c.specs.Asking.{Asks, AsksIf, asks, is_longer};
+ghost use Rattle.tds_c.specs.Calls.{with_front};
+ghost use Rattle.tds_c.specs.Plain.{client_of};
+ghost use Rattle.tds_c.specs.Streams.{headers_by, message_from};
+
+use crate::answers::{Stop, done_code};
+use crate::buffer::put_at;
+use crate::client::TdsClient;
+use crate::streams::message;
+use tds_client::MessageKind;
+use tds_request::headers;
+
+/// How many bytes the client spells of such a message.
+#[inline(always)]
+fn before(kind: MessageKind) -> usize
+    ensures value { (descriptor : ℕ) → result ≡ length (headers_by kind descriptor) }
+    ensures most { result ≤ 22 }
+{
+    if kind.has_headers() { 22 } else { 0 }
+}
+
+/// Writes the message behind the 8 bytes of a packet's header.
+#[inline(always)]
+fn put_message(kind: MessageKind, descriptor: u64, body: &[u8], out: &mut [u8])
+    requires room { 8 + length (headers_by kind descriptor ++ body.now) ≤ length out.old }
+    ensures { out.new
+        ≡ with_front (take 8 out.old ++ (headers_by kind descriptor ++ body.now)) out.old }
+{
+    if kind.has_headers() {
+        put_at(out, 8, &headers(descriptor));
+        put_at(out, 30, body);
+    } else {
+        put_at(out, 8, body);
+    }
+}
+
+#[inline(always)]
+fn ask_for(
+    client: &mut TdsClient,
+    kind: MessageKind,
+    body: &[u8],
+    out: &mut [u8],
+    count: &mut usize,
+) -> Result<(), Stop>
+    ensures { AsksIf (is_longer kind body.now (client_of client.old []))
+        (asks client.old kind body.now) client.old client.new
+        (record { before = out.old; after = out.new; count = count.new }) result }
+{
+    *count = 0;
+    let Some(mut parts) = client.held(&[]) else {
+        return Err(Stop::NoClient);
+    };
+    let before = before(kind);
+    if body.len() > usize::from(parts.size.get()) - 8 - before {
+        return Err(Stop::OutOfRange);
+    }
+    let descriptor = match parts.start_message(kind) {
+        Ok(descriptor) => descriptor,
+        Err(refusal) => return Err(Stop::Refused(refusal)),
+    };
+    let end = 8 + before + body.len();
+    *count = end;
+    if end > out.len() {
+        return Err(Stop::NoRoom);
+    }
+    put_message(kind, descriptor, body, out);
+    let header = match parts.finish(&out[8..end]) {
+        Ok(header) => header,
+        Err(refusal) => return Err(Stop::Refused(refusal)),
+    };
+    put_at(out, 0, &header);
+    *client = TdsClient::of(&parts, 0);
+    Ok(())
+}
+
+#[inline(always)]
+fn ask(
+    client: &mut TdsClient,
+    number: u8,
+    body: &[u8],
+    out: &mut [u8],
+    count: &mut usize,
+) -> Result<(), Stop>
+    ensures { Asks (message_from number) body.now client.old client.new
+        (record { before = out.old; after = out.new; count = count.new }) result }
+{
+    *count = 0;
+    match message(number) {
+        Some(kind) => ask_for(client, kind, body, out, count),
+        None => Err(Stop::OutOfRange),
+    }
+}
+
+/// Sends a message of any kind (MS-TDS 2.2.1), by the type of its packets: `tds_client_start_message`,
+/// `tds_client_put` of this body and `tds_client_finish` in one call, where a packet has all of it. The
+/// packet is written to `out`. The client reads the answer then.
+#[unsafe(no_mangle)]
+pub extern "C" fn tds_client_ask(
+    client: &mut TdsClient,
+    kind: u8,
+    body: &[u8],
+    out: &mut [u8],
+    count: &mut usize,
+) -> u8
+    ensures { (answer : Result (Unit {0}) Stop) × (result ≡ number_of done_number answer)
+        × Asks (message_from kind) body.now client.old client.new
+        (record { before = out.old; after = out.new; count = count.new }) answer }
+{
+    done_code(ask(client, kind, body, out, count))
+}
