@@ -1,6 +1,6 @@
 -- Asking in one call: what is put waits, and then goes out.
-use Rattle.std.proofs.Common.{◌≡◌, ◌∙◌, ◌≤◌, ◌<◌, ℕ, ◌+◌, ◌*◌, ◌-◌, true, false, List, [], ◌∷◌, ◌++◌, length, take, drop, Option, Some, None, Ok, refl, sym, ap, arith, append_assoc}
-use Rattle.std.proofs.lemmas.Bool.{lt-ltb, le-ltb}
+use Rattle.std.proofs.Common.{◌≡◌, ◌∙◌, ◌≤◌, ◌<◌, ℕ, ◌+◌, ◌*◌, ◌-◌, nat_lt, Bool, inl, inr, true, false, List, [], ◌∷◌, ◌++◌, length, take, drop, Option, Some, None, Ok, refl, sym, ap, arith, append_assoc}
+use Rattle.std.proofs.lemmas.Bool.{cases_lt, lt-ltb, le-ltb}
 use Rattle.std.proofs.lemmas.List.{drop-append-le, length-append, length-take-le}
 use Rattle.std.proofs.Math.Seq.{drop-append-add, drop-append_seam, take-append_seam}
 use Rattle.tds_packet.specs.declared.kind.Kind.{Kind}
@@ -25,11 +25,15 @@ use Rattle.tds_c.specs.Plain.{client_of}
 
 -- ---- How long it is
 
-pub longer : (c : TdsClient) (kind : MessageKind) (body : List ℕ) (s : ClientSession) → client_of c [] ≡ Some s → room s < length (headers_of s.heard kind ++ body) → is_longer kind body (client_of c []) ≡ true
-longer c kind body s held over = ap (is_longer kind body) held ∙ lt-ltb (room s) (length (headers_of s.heard kind ++ body)) over
+pub how_long : (c : TdsClient) (kind : MessageKind) (body : List ℕ) (s : ClientSession) (b : Bool) → client_of c [] ≡ Some s → is_longer kind body (Some s) ≡ b → is_longer kind body (client_of c []) ≡ b
+how_long c kind body s b held is = ap (is_longer kind body) held ∙ is
 
-pub no_longer : (c : TdsClient) (kind : MessageKind) (body : List ℕ) (s : ClientSession) → client_of c [] ≡ Some s → length (headers_of s.heard kind ++ body) ≤ room s → is_longer kind body (client_of c []) ≡ false
-no_longer c kind body s held fits = ap (is_longer kind body) held ∙ le-ltb (room s) (length (headers_of s.heard kind ++ body)) fits
+-- the same as a test of its body's bytes alone
+pub longer_body : (size before body message : ℕ) → 512 ≤ size → before ≤ 22 → message ≡ before + body → nat_lt (size - 8 - before) body ≡ nat_lt (size - 8) message
+longer_body size before body message least most sum = elim (cases_lt (size - 8) message) [
+  | inl over ↦ lt-ltb (size - 8 - before) body (omega (arith, over, least, most, sum)) ∙ sym (lt-ltb (size - 8) message over)
+  | inr fits ↦ le-ltb (size - 8 - before) body (omega (arith, fits, least, most, sum)) ∙ sym (le-ltb (size - 8) message fits)
+]
 
 -- ---- A message that has begun
 
@@ -63,7 +67,10 @@ never_refused p s kind left refusal e refused =
 
 -- ---- What asking does
 
-done_is : (x y : Effect (Unit {0})) → (let r : Done = Ok x in r) ≡ Ok y → x ≡ y
+abbrev pub done_of : ClientSession → List ℕ → Done
+done_of session bytes = Ok (record { answer = tt; session = session; bytes = bytes })
+
+pub done_is : (x y : Effect (Unit {0})) → (let r : Done = Ok x in r) ≡ Ok y → x ≡ y
 done_is x y e = cc
 
 pub puts_all : (s : ClientSession) (kind : MessageKind) (body : List ℕ) → 0 < room s → length (headers_of s.heard kind ++ body) ≤ room s

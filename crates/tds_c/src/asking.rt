@@ -1,11 +1,14 @@
 //! The export that sends any request whole, where one packet has all of it.
 
-ghost use Rattle.std.specs.Prelude.{◌≡◌, ◌+◌, ◌≤◌, ◌++◌, [], ℕ, Result, length, take};
+ghost use Rattle.std.specs.Prelude.{◌≡◌, ◌+◌, ◌≤◌, ◌++◌, [], ℕ, Some, Err, Result, length, take};
 ghost use Rattle.tds_client.specs.declared.message.MessageKind.{MessageKind};
+ghost use Rattle.tds_client.specs.Filling.{room_of};
+ghost use Rattle.tds_client.specs.Parts.{session_from};
+ghost use Rattle.tds_client.specs.Session.{ClientSession, Reading, with_stage};
 ghost use Rattle.tds_c.specs.declared.answers.Stop.{Stop};
 ghost use Rattle.tds_c.specs.Answers.{done_number, number_of};
 ghost use Rattle.tds_c.specs.Asking.{Asks, AsksIf, asks, is_longer};
-ghost use Rattle.tds_c.specs.Calls.{with_front};
+ghost use Rattle.tds_c.specs.Calls.{Buffer, value_of, with_front};
 ghost use Rattle.tds_c.specs.Plain.{client_of};
 ghost use Rattle.tds_c.specs.Streams.{headers_by, message_from};
 
@@ -13,7 +16,7 @@ use crate::answers::{Stop, done_code};
 use crate::buffer::put_at;
 use crate::client::TdsClient;
 use crate::streams::message;
-use tds_client::MessageKind;
+use tds_client::{ClientParts, MessageKind};
 use tds_request::headers;
 
 /// How many bytes the client spells of such a message.
@@ -40,6 +43,50 @@ fn put_message(kind: MessageKind, descriptor: u64, body: &[u8], out: &mut [u8])
     }
 }
 
+/// Whether the message is longer than the data of a packet, which has some.
+#[inline(always)]
+fn is_longer(parts: &ClientParts, kind: MessageKind, body: &[u8]) -> bool
+    ensures value { result ≡ is_longer kind body.now (Some (session_from parts.now [])) }
+    ensures some { 1 ≤ room_of parts.now }
+{
+    body.len() > usize::from(parts.size.get()) - 8 - before(kind)
+}
+
+/// Why a client that isn't idle sends no message.
+#[cold]
+#[inline(never)]
+fn why_not(client: &TdsClient, kind: MessageKind, body: &[u8]) -> Stop
+    requires { ¬ (client.now.stage ≡ 0) }
+    ensures { (buffer : Buffer) → buffer.count ≡ 0 → buffer.after ≡ buffer.before
+        → AsksIf (is_longer kind body.now (client_of client.now []))
+        (asks client.now kind body.now) client.now client.now buffer (Err result) }
+{
+    let Some(mut parts) = client.held(&[]) else {
+        return Stop::NoClient;
+    };
+    if is_longer(&parts, kind, body) {
+        return Stop::OutOfRange;
+    }
+    match parts.start_message(kind) {
+        Err(refusal) => Stop::Refused(refusal),
+        Ok(_) => Stop::NoClient,
+    }
+}
+
+/// Lets a client read the answer. What else it knows stays.
+#[inline(always)]
+fn await_answer(client: &mut TdsClient)
+    ensures { (s : ClientSession) → client_of client.old [] ≡ Some s
+        → client.new ≡ value_of (with_stage s Reading) 0 }
+{
+    client.sent = 0;
+    client.packets = 0;
+    client.stage = 2;
+    client.kind = 0;
+    client.fault = 0;
+    client.token_fault = 0;
+}
+
 #[inline(always)]
 fn ask_for(
     client: &mut TdsClient,
@@ -53,18 +100,21 @@ fn ask_for(
         (record { before = out.old; after = out.new; count = count.new }) result }
 {
     *count = 0;
+    // Then what follows needn't look at the stage.
+    if client.stage != 0 {
+        return Err(why_not(client, kind, body));
+    }
     let Some(mut parts) = client.held(&[]) else {
         return Err(Stop::NoClient);
     };
-    let before = before(kind);
-    if body.len() > usize::from(parts.size.get()) - 8 - before {
+    if is_longer(&parts, kind, body) {
         return Err(Stop::OutOfRange);
     }
     let descriptor = match parts.start_message(kind) {
         Ok(descriptor) => descriptor,
         Err(refusal) => return Err(Stop::Refused(refusal)),
     };
-    let end = 8 + before + body.len();
+    let end = 8 + before(kind) + body.len();
     *count = end;
     if end > out.len() {
         return Err(Stop::NoRoom);
@@ -75,7 +125,7 @@ fn ask_for(
         Err(refusal) => return Err(Stop::Refused(refusal)),
     };
     put_at(out, 0, &header);
-    *client = TdsClient::of(&parts, 0);
+    await_answer(client);
     Ok(())
 }
 
@@ -92,6 +142,8 @@ fn ask(
 {
     *count = 0;
     match message(number) {
+        // By itself, so that where a body begins is a constant.
+        Some(MessageKind::BulkLoad) => ask_for(client, MessageKind::BulkLoad, body, out, count),
         Some(kind) => ask_for(client, kind, body, out, count),
         None => Err(Stop::OutOfRange),
     }
