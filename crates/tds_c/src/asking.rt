@@ -52,27 +52,6 @@ fn is_longer(parts: &ClientParts, kind: MessageKind, body: &[u8]) -> bool
     body.len() > usize::from(parts.size.get()) - 8 - before(kind)
 }
 
-/// Why a client that isn't idle sends no message.
-#[cold]
-#[inline(never)]
-fn why_not(client: &TdsClient, kind: MessageKind, body: &[u8]) -> Stop
-    requires { ¬ (client.now.stage ≡ 0) }
-    ensures { (buffer : Buffer) → buffer.count ≡ 0 → buffer.after ≡ buffer.before
-        → AsksIf (is_longer kind body.now (client_of client.now []))
-        (asks client.now kind body.now) client.now client.now buffer (Err result) }
-{
-    let Some(mut parts) = client.held(&[]) else {
-        return Stop::NoClient;
-    };
-    if is_longer(&parts, kind, body) {
-        return Stop::OutOfRange;
-    }
-    match parts.start_message(kind) {
-        Err(refusal) => Stop::Refused(refusal),
-        Ok(_) => Stop::NoClient,
-    }
-}
-
 /// Lets a client read the answer. What else it knows stays.
 #[inline(always)]
 fn await_answer(client: &mut TdsClient)
@@ -100,10 +79,6 @@ fn ask_for(
         (record { before = out.old; after = out.new; count = count.new }) result }
 {
     *count = 0;
-    // Then what follows needn't look at the stage.
-    if client.stage != 0 {
-        return Err(why_not(client, kind, body));
-    }
     let Some(mut parts) = client.held(&[]) else {
         return Err(Stop::NoClient);
     };
@@ -140,13 +115,49 @@ fn ask(
     ensures { Asks (message_from number) body.now client.old client.new
         (record { before = out.old; after = out.new; count = count.new }) result }
 {
-    *count = 0;
     match message(number) {
         // By itself, so that where a body begins is a constant.
         Some(MessageKind::BulkLoad) => ask_for(client, MessageKind::BulkLoad, body, out, count),
         Some(kind) => ask_for(client, kind, body, out, count),
-        None => Err(Stop::OutOfRange),
+        None => {
+            *count = 0;
+            Err(Stop::OutOfRange)
+        }
     }
+}
+
+/// Why a client that isn't idle sends no message.
+#[inline(always)]
+fn why_not(client: &TdsClient, number: u8, body: &[u8]) -> Stop
+    requires { ¬ (client.now.stage ≡ 0) }
+    ensures { (buffer : Buffer) → buffer.count ≡ 0 → buffer.after ≡ buffer.before
+        → Asks (message_from number) body.now client.now client.now buffer (Err result) }
+{
+    let Some(kind) = message(number) else {
+        return Stop::OutOfRange;
+    };
+    let Some(mut parts) = client.held(&[]) else {
+        return Stop::NoClient;
+    };
+    if is_longer(&parts, kind, body) {
+        return Stop::OutOfRange;
+    }
+    match parts.start_message(kind) {
+        Err(refusal) => Stop::Refused(refusal),
+        Ok(_) => Stop::NoClient,
+    }
+}
+
+/// The same as a number. A call of its own, since an idle client is what is met mostly.
+#[cold]
+#[inline(never)]
+fn refused(client: &TdsClient, number: u8, body: &[u8]) -> u8
+    requires { ¬ (client.now.stage ≡ 0) }
+    ensures { (buffer : Buffer) → buffer.count ≡ 0 → buffer.after ≡ buffer.before
+        → (answer : Result (Unit {0}) Stop) × (result ≡ number_of done_number answer)
+        × Asks (message_from number) body.now client.now client.now buffer answer }
+{
+    why_not(client, number, body).number()
 }
 
 /// Sends a message of any kind (MS-TDS 2.2.1), by the type of its packets: `tds_client_start_message`,
@@ -164,5 +175,10 @@ pub extern "C" fn tds_client_ask(
         × Asks (message_from kind) body.now client.old client.new
         (record { before = out.old; after = out.new; count = count.new }) answer }
 {
+    // What follows needn't look at the stage then.
+    if client.stage != 0 {
+        *count = 0;
+        return refused(client, kind, body);
+    }
     done_code(ask(client, kind, body, out, count))
 }
