@@ -74,11 +74,11 @@ fn ask_for(
     out: &mut [u8],
     count: &mut usize,
 ) -> Result<(), Stop>
+    requires count { count.old ≡ 0 }
     ensures { AsksIf (is_longer kind body.now (client_of client.old []))
         (asks client.old kind body.now) client.old client.new
         (record { before = out.old; after = out.new; count = count.new }) result }
 {
-    *count = 0;
     let Some(mut parts) = client.held(&[]) else {
         return Err(Stop::NoClient);
     };
@@ -112,6 +112,7 @@ fn ask(
     out: &mut [u8],
     count: &mut usize,
 ) -> Result<(), Stop>
+    requires count { count.old ≡ 0 }
     ensures { Asks (message_from number) body.now client.old client.new
         (record { before = out.old; after = out.new; count = count.new }) result }
 {
@@ -119,10 +120,7 @@ fn ask(
         // By itself, so that where a body begins is a constant.
         Some(MessageKind::BulkLoad) => ask_for(client, MessageKind::BulkLoad, body, out, count),
         Some(kind) => ask_for(client, kind, body, out, count),
-        None => {
-            *count = 0;
-            Err(Stop::OutOfRange)
-        }
+        None => Err(Stop::OutOfRange),
     }
 }
 
@@ -175,9 +173,9 @@ pub extern "C" fn tds_client_ask(
         × Asks (message_from kind) body.now client.old client.new
         (record { before = out.old; after = out.new; count = count.new }) answer }
 {
+    *count = 0;
     // What follows needn't look at the stage then.
     if client.stage != 0 {
-        *count = 0;
         return refused(client, kind, body);
     }
     done_code(ask(client, kind, body, out, count))
