@@ -1,5 +1,5 @@
 -- A client that awaits the answer: of its value only what says where the request is has changed.
-use Rattle.std.proofs.Common.{◌≡◌, ◌∙◌, ℕ, ◌==◌, nat_le, ◌&&◌, if◌then◌else◌, Bool, true, false, List, [], Option, Some, None, refl, sym, ap}
+use Rattle.std.proofs.Common.{◌≡◌, ◌∙◌, ℕ, ◌==◌, nat_le, ◌&&◌, if◌then◌else◌, Bool, true, false, [], Option, Some, None, refl, sym, ap}
 use Rattle.std.proofs.lemmas.Bool.{eqb-true}
 use Rattle.tds_packet.specs.declared.kind.Kind.{Kind}
 use Rattle.tds_packet.specs.declared.status.Reset.{Reset}
@@ -111,11 +111,11 @@ value_is c s held =
 
 idle_by : (packets : ℕ) (a b d e f : Bool) (kind : Option Kind) (fault : Option ClientFault)
     → (if a then Some stages.Idle
-      else if b then (kind >>= λ kind. Some (stages.Sending kind packets))
-      else if d then Some stages.Reading
-      else if e then Some stages.Cancelling
-      else if f then (fault >>= λ fault. Some (stages.Broken fault))
-      else None) ≡ Some stages.Idle → a ≡ true
+    else if b then (kind >>= λ kind. Some (stages.Sending kind packets))
+    else if d then Some stages.Reading
+    else if e then Some stages.Cancelling
+    else if f then (fault >>= λ fault. Some (stages.Broken fault))
+    else None) ≡ Some stages.Idle → a ≡ true
 idle_by packets true b d e f kind fault h = refl
 idle_by packets false true d e f None fault h = absurd cc
 idle_by packets false true d e f (Some kind) fault h = absurd cc

@@ -1,8 +1,8 @@
 -- Asking in one call: what is put waits, and then goes out.
-use Rattle.std.proofs.Common.{◌≡◌, ◌∙◌, ◌≤◌, ◌<◌, ℕ, ◌+◌, ◌*◌, ◌-◌, nat_lt, Bool, inl, inr, true, false, List, [], ◌∷◌, ◌++◌, length, take, drop, Option, Some, None, Ok, refl, sym, ap, arith, append_assoc}
+use Rattle.std.proofs.Common.{◌≡◌, ◌∙◌, ◌≤◌, ◌<◌, ℕ, ◌+◌, ◌*◌, ◌-◌, nat_lt, Bool, inl, inr, true, List, [], ◌∷◌, ◌++◌, length, take, drop, Option, Some, None, Ok, refl, sym, ap, arith, append_assoc}
 use Rattle.std.proofs.lemmas.Bool.{cases_lt, lt-ltb, le-ltb}
-use Rattle.std.proofs.lemmas.List.{drop-append-le, length-append, length-take-le}
-use Rattle.std.proofs.Math.Seq.{drop-append-add, drop-append_seam, take-append_seam}
+use Rattle.std.proofs.lemmas.List.{length-append}
+use Rattle.std.proofs.Math.Seq.{drop-append_seam, take-append_seam}
 use Rattle.tds_packet.specs.declared.kind.Kind.{Kind}
 use Rattle.tds_packet.specs.Resets.{mark_bit}
 use Rattle.tds_packet.specs.Sent.{end_bit}
@@ -59,11 +59,6 @@ begun p s kind left other e =
     let heard : p.heard ≡ s.heard = ap (λ (x : ClientSession). x.heard) e in
     let columns : p.columns ≡ s.columns = ap (λ (x : ClientSession). x.columns) e in
     rw (stage, size, heard, columns) refl
-
-pub never_refused : (p : ClientParts) (s : ClientSession) (kind : MessageKind) (left : List ℕ) (refusal : ClientRefusal) → session_from p left ≡ waiting s kind left → refusal_of (finished (session_from p left)) ≡ Some refusal → ⊥
-never_refused p s kind left refusal e refused =
-    let none : refusal_of (finished (waiting s kind left)) ≡ Some refusal = sym (ap (λ (x : ClientSession). refusal_of (finished x)) e) ∙ refused in
-    absurd cc
 
 -- ---- What asking does
 

@@ -1,7 +1,6 @@
-use Rattle.std.proofs.Common.{◌≡◌, ◌∙◌, ◌≤◌, ℕ, ◌+◌, Bool, List, [], ◌++◌, length, take, cond, sym, ap, rules, arith, append_assoc}
+use Rattle.std.proofs.Common.{◌≡◌, ◌∙◌, ◌≤◌, ℕ, Bool, List, [], ◌++◌, length, take, cond, sym, ap, rules, arith, append_assoc}
 use Rattle.std.proofs.lemmas.List.{length-append, length-take-le}
 use Rattle.tds_request.specs.Layout.{all_headers}
-use Rattle.tds_client.specs.Streams.{has_headers}
 use Rattle.tds_c.specs.Calls.{with_front}
 use Rattle.tds_c.specs.Streams.{headers_by}
 use Rattle.tds_c.proofs.Keeping.{with_own}
