@@ -158,9 +158,9 @@ fn refused(client: &TdsClient, number: u8, body: &[u8]) -> u8
     why_not(client, number, body).number()
 }
 
-/// Sends a message of any kind (MS-TDS 2.2.1), by the type of its packets: `tds_client_start_message`,
-/// `tds_client_put` of this body and `tds_client_finish` in one call, where a packet has all of it. The
-/// packet is written to `out`. The client reads the answer then.
+/// Sends a message of any kind (MS-TDS 2.2.1), by the type of its packets, where a packet has all of
+/// it: `tds_client_start_message`, `tds_client_put` of this body and `tds_client_finish` in one
+/// call. The packet is written to `out`. The client reads the answer then.
 #[unsafe(no_mangle)]
 pub extern "C" fn tds_client_ask(
     client: &mut TdsClient,
