@@ -142,6 +142,7 @@ fn why_not(client: &TdsClient, number: u8, body: &[u8]) -> Stop
     }
     match parts.start_message(kind) {
         Err(refusal) => Stop::Refused(refusal),
+        // Not met: the stage of an idle client is 0.
         Ok(_) => Stop::NoClient,
     }
 }
