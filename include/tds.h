@@ -233,6 +233,14 @@ uint8_t tds_client_put(struct tds_client *client, uint8_t *kept, size_t kept_roo
 uint8_t tds_client_finish(struct tds_client *client, const uint8_t *kept, size_t waiting, uint8_t *out,
                           size_t room, size_t *count);
 
+/* In idle: sends a message that one packet has whole. It is tds_client_start_message,
+ * tds_client_put of this body and tds_client_finish in one call: the packet is written to `out`,
+ * `count` bytes; send it. The client reads the answer then. TDS_OUT_OF_RANGE, in whatever stage:
+ * `kind` is none, or ALL_HEADERS and the body are longer than a packet's data, its size less 8
+ * bytes; then the three calls are for it. */
+uint8_t tds_client_ask(struct tds_client *client, uint8_t kind, const uint8_t *body, size_t length,
+                       uint8_t *out, size_t room, size_t *count);
+
 /* For a driver that reads the tokens of any server by itself: it tells the client of each one, in
  * their order, and of the end of each message (behind the packet whose status has bit 1), in place
  * of tds_client_take. TDS_TELL or TDS_DROP says whether the caller that asked is told of the token.

@@ -84,6 +84,11 @@ static void of_streams(void) {
     MISFIT(tds_client_finish(&client, NULL, 8, bytes, 64, &n));
     MISFIT(tds_client_finish(&client, bytes, 8, NULL, 64, &n));
     MISFIT(tds_client_finish(&client, bytes, 8, bytes + 8, 56, NULL));
+    MISFIT(tds_client_ask(NULL, 1, bytes, 8, bytes + 8, 56, &n));
+    MISFIT(tds_client_ask(&client, 1, NULL, 8, bytes, 64, &n));
+    MISFIT(tds_client_ask(&client, 1, bytes, LONG, bytes, 64, &n));
+    MISFIT(tds_client_ask(&client, 1, bytes, 8, NULL, 64, &n));
+    MISFIT(tds_client_ask(&client, 1, bytes, 8, bytes + 8, 56, NULL));
     MISFIT(tds_client_heard_change(NULL, 8, 1));
     MISFIT(tds_client_heard_done(NULL, 0xfd, 0));
     MISFIT(tds_client_heard_other(NULL));

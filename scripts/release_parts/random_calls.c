@@ -23,6 +23,7 @@ ALSO(tds_client_start_rollback, (struct tds_client *, uint8_t, uint8_t *, size_t
 ALSO(tds_client_send, (struct tds_client *, const uint8_t *, size_t, uint8_t *, size_t, size_t *));
 ALSO(tds_client_cancel, (struct tds_client *, uint8_t *, size_t, size_t *));
 ALSO(tds_client_take, (struct tds_client *, const uint8_t *, size_t));
+ALSO(tds_client_ask, (struct tds_client *, uint8_t, const uint8_t *, size_t, uint8_t *, size_t, size_t *));
 ALSO(tds_client_lost, (struct tds_client *));
 ALSO(tds_token_next, (const uint8_t *, size_t, struct tds_cursor *, struct tds_token *));
 ALSO(tds_tokens_next, (const uint8_t *, size_t, struct tds_cursor *, struct tds_token *, size_t, size_t *));
@@ -212,6 +213,14 @@ static void start(void) {
     }
 }
 
+/* Of bytes that are anyone's, mostly a message that a packet has whole. */
+static void ask(void) {
+    static const uint8_t kinds[] = {TDS_MESSAGE_BATCH, TDS_MESSAGE_RPC, TDS_MESSAGE_BULK, TDS_MESSAGE_TRANSACTION};
+    uint8_t kind = below(9) ? kinds[below(4)] : (uint8_t)below(20);
+    size_t bytes = below(4) ? below(480) : below(4100), room = below(5) ? sizeof a.out : below(600);
+    BOTH(tds_client_ask, (&a.client, kind, data, bytes, a.out, room, &a.count), (&b.client, kind, data, bytes, b.out, room, &b.count));
+}
+
 static void send_one(void) {
     static size_t last;
     size_t bytes = below(9) ? (a.count <= 4022 ? a.count : 0) : below(4022), room = below(6) ? sizeof a.out : below(700);
@@ -264,7 +273,10 @@ static void one(void) {
     switch (below(22)) {
     case 0: BOTH(tds_client_new, (size, &a.client), (size, &b.client)); break;
     case 1: BOTH(tds_client_mark_reset, (&a.client, reset), (&b.client, reset)); break;
-    case 2: case 3: case 4: start(); break;
+    case 2: case 3: case 4:
+        if (below(4)) start();
+        else ask();
+        break;
     case 5: case 6: case 7: case 8: send_one(); break;
     case 9: BOTH(tds_client_cancel, (&a.client, a.out, room, &a.count), (&b.client, b.out, room, &b.count)); break;
     case 10: case 11: case 12: case 13: case 14:

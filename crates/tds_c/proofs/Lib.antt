@@ -9,3 +9,5 @@ pub mod Starting
 pub mod Rows
 pub mod RowAt
 pub mod Keeping
+pub mod Awaiting
+pub mod WholeMessages

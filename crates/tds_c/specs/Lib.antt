@@ -6,6 +6,7 @@ pub mod Packets
 pub mod Tokens
 pub mod Heard
 pub mod Streams
+pub mod Asking
 pub mod WireFields
 pub mod Wire
 pub mod WireTokens

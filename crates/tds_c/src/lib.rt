@@ -5,6 +5,8 @@
 #![tactic(auto)]
 
 mod answers;
+mod asking;
+pub mod asking_laws;
 mod attentions;
 mod buffer;
 mod calls;

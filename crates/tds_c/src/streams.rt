@@ -17,7 +17,7 @@ use tds_request::headers;
 /// The message whose packets have this type.
 #[inline(always)]
 #[tactic(auto, unfolding(crate::specs::Streams::message_from))]
-fn message(number: u8) -> Option<MessageKind>
+pub(crate) fn message(number: u8) -> Option<MessageKind>
     ensures { result ≡ message_from number }
 {
     match number {
