@@ -1,15 +1,22 @@
 use Rattle.std.proofs.Common.{rules, Option, subst}
 use Rattle.tds_wire.specs.declared.told.Token.{Token}
 use Rattle.tds_wire.specs.Whole.{IsNext}
-use Rattle.tds_c.proofs.Walks.{fed_whole}
+use Rattle.tds_c.proofs.Walks.{IsReadyValue, fed_whole}
 use Rattle.tds_c.proofs.wire.walk.TdsWire.take_whole.Goals as goal
 
 pub returns-in-Some-clause-exact : goal.returns-in-Some-clause-exact
 returns-in-Some-clause-exact c = λ some.
     let p = c.args.self.now in
-    let n = c.whole_token-count.result in
-    let is = c.is_ready.ensures in
-    let next = subst (λ (o : Option Token). IsNext p.start n o c.args.piece.now) c.in-Some.is (c.whole_token-count.ensures.exact some) in
-    fed_whole p c.args.memory.now c.args.piece.now c.whole_token-count.new.start n c.in-Some.ended c.args.token.now c.shown.result c.whole_token-count.new.kind
-    (is.inside (search rules)) (is.due (search rules)) (is.whole (search rules)) (is.head (search rules)) (is.passed (search rules)) c.bounds.ensures.few c.bounds.ensures.nulls
-    next (c.whole_token-count.ensures.kind some) (c.whole_token-count.ensures.start some) c.whole_token-count.ensures.within c.shown.ensures
+    let piece = c.args.piece.now in
+    let found = c.whole_token-count in
+    let n = found.result in
+    let is : IsReadyValue p = record {
+      inside = c.is_ready.ensures.inside (search rules);
+      due = c.is_ready.ensures.due (search rules);
+      whole = c.is_ready.ensures.whole (search rules);
+      head = c.is_ready.ensures.head (search rules);
+      passed = c.is_ready.ensures.passed (search rules);
+    } in
+    let next = subst (λ (o : Option Token). IsNext p.start n o piece) c.in-Some.is (found.ensures.exact some) in
+    fed_whole p c.args.memory.now piece found.new.start n c.in-Some.ended c.args.token.now c.shown.result found.new.kind is
+    c.bounds.ensures.few c.bounds.ensures.nulls next (found.ensures.kind some) (found.ensures.start some) found.ensures.within c.shown.ensures
