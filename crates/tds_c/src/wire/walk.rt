@@ -109,7 +109,7 @@ fn inside_code(inside: Inside) -> TdsWireInside
 }
 
 #[tactic(auto, unfolding(crate::specs::Wire::inside_from))]
-pub(crate) fn inside_of(held: &TdsWireInside) -> Option<Inside>
+fn inside_of(held: &TdsWireInside) -> Option<Inside>
     ensures { result ≡ plain.inside_from held.now }
 {
     match held.inside {

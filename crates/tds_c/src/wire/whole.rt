@@ -4,13 +4,14 @@ ghost use Rattle.std.specs.Prelude.{◌≡◌, ◌<◌, IsSome, true};
 ghost use Rattle.tds_c.specs.Wire.{inside_from};
 ghost use Rattle.tds_c.specs.WireCalls.{Feeds};
 
-use crate::wire::token::{TdsWireToken, shown};
-use crate::wire::walk::{TdsWire, inside_of, placed};
+use crate::wire::token::{TdsWireToken, put_shown, shown};
+use crate::wire::walk::{TdsWire, placed};
 use tds_wire::{Memory, row_token, whole_row, whole_token};
 
 impl TdsWire {
     /// Whether it is a walk between two tokens, by the fields that say so.
     #[inline(always)]
+    #[tactic(auto, unfolding(crate::specs::Wire::inside_from))]
     pub(crate) fn is_ready(&self) -> bool
         ensures due { result ≡ true → self.now.due.due ≡ 0 }
         ensures whole { result ≡ true → self.now.refused.fault ≡ 0 }
@@ -24,9 +25,9 @@ impl TdsWire {
         if self.head_count != 0 || self.passed != 0 {
             return false;
         }
-        match inside_of(&self.inside) {
-            Some(_) => true,
-            None => false,
+        match self.inside.inside {
+            0 | 1 | 2 | 3 | 4 | 5 => true,
+            _ => false,
         }
     }
 
@@ -98,7 +99,7 @@ impl TdsWire {
         let count = whole_token(&mut self.start, &mut self.kind, piece, &mut found);
         match found {
             Some(ended) => {
-                *token = shown(&ended);
+                put_shown(&ended, token);
                 count
             }
             None => 0,

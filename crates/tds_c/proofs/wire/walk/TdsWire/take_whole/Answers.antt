@@ -18,5 +18,5 @@ returns-in-Some-clause-exact c = λ some.
       passed = c.is_ready.ensures.passed (search rules);
     } in
     let next = subst (λ (o : Option Token). IsNext p.start n o piece) c.in-Some.is (found.ensures.exact some) in
-    fed_whole p c.args.memory.now piece found.new.start n c.in-Some.ended c.args.token.now c.shown.result found.new.kind is
-    c.bounds.ensures.few c.bounds.ensures.nulls next (found.ensures.kind some) (found.ensures.start some) found.ensures.within c.shown.ensures
+    fed_whole p c.args.memory.now piece found.new.start n c.in-Some.ended c.args.token.now c.put_shown.new.value found.new.kind is
+    c.bounds.ensures.few c.bounds.ensures.nulls next (found.ensures.kind some) (found.ensures.start some) found.ensures.within c.put_shown.ensures
