@@ -11,3 +11,4 @@ pub mod RowAt
 pub mod Keeping
 pub mod Awaiting
 pub mod WholeMessages
+pub mod Walks

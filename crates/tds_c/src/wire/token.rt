@@ -2,8 +2,9 @@
 
 ghost use Rattle.std.specs.Prelude.{◌≡◌, pos};
 ghost use Rattle.tds_c.specs.WireTokens.{Shows, ShowsChange, bare};
+ghost use Rattle.tds_wire.specs.declared.told.Told.TheVariants as told;
 
-use tds_wire::{Change, ChangeValue, Place, Token, Told};
+use tds_wire::{Change, ChangeValue, Done, Place, Token, Told};
 
 /// Bytes of a message: `struct tds_wire_place`.
 #[repr(C)]
@@ -118,18 +119,33 @@ fn shown_change(token: &Token, change: Change) -> TdsWireToken
     }
 }
 
+fn shown_done(token: &Token, done: Done) -> TdsWireToken
+    ensures { Shows result token.now (told.Done done) }
+{
+    TdsWireToken {
+        value: done.count,
+        status: done.status,
+        command: done.command,
+        ..bare(token, 1)
+    }
+}
+
+fn shown_status(token: &Token, number: i32) -> TdsWireToken
+    ensures { Shows result token.now (told.ReturnStatus number) }
+{
+    TdsWireToken {
+        number,
+        ..bare(token, 8)
+    }
+}
+
 /// The token as a plain value.
 pub(crate) fn shown(token: &Token) -> TdsWireToken
     ensures { Shows result token.now token.now.told }
 {
     match token.told {
         Told::Other => bare(token, 0),
-        Told::Done(done) => TdsWireToken {
-            value: done.count,
-            status: done.status,
-            command: done.command,
-            ..bare(token, 1)
-        },
+        Told::Done(done) => shown_done(token, done),
         Told::Change(change) => shown_change(token, change),
         Told::Message(message) => TdsWireToken {
             text: placed(message.text),
@@ -139,10 +155,7 @@ pub(crate) fn shown(token: &Token) -> TdsWireToken
             severity: message.class,
             ..bare(token, 7)
         },
-        Told::ReturnStatus(number) => TdsWireToken {
-            number,
-            ..bare(token, 8)
-        },
+        Told::ReturnStatus(number) => shown_status(token, number),
         Told::SessionState(state) => TdsWireToken {
             text: placed(state.states),
             size: state.sequence,
@@ -150,5 +163,29 @@ pub(crate) fn shown(token: &Token) -> TdsWireToken
             ..bare(token, 9)
         },
         Told::Unclear => bare(token, 10),
+    }
+}
+
+/// Leaves it in a place of the caller's.
+#[inline(never)]
+fn put_other(token: &Token, value: &mut TdsWireToken)
+    ensures { Shows value.new token.now token.now.told }
+{
+    *value = shown(token);
+}
+
+/// The same. It is large, so what most answers have is written there at once.
+#[inline(always)]
+pub(crate) fn put_shown(token: &Token, value: &mut TdsWireToken)
+    ensures { Shows value.new token.now token.now.told }
+{
+    match token.told {
+        Told::Done(done) => {
+            *value = shown_done(token, done);
+        }
+        Told::ReturnStatus(number) => {
+            *value = shown_status(token, number);
+        }
+        _ => put_other(token, value),
     }
 }

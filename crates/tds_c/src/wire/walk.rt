@@ -81,7 +81,7 @@ fn shape_from(column: Column) -> Shape
     }
 }
 
-fn placed(inside: u8, column: u16) -> TdsWireInside
+pub(crate) fn placed(inside: u8, column: u16) -> TdsWireInside
     ensures { result ≡ record { column = column; inside = inside; base = record { form = 0; bytes = 0 } } }
 {
     TdsWireInside {
