@@ -9,3 +9,4 @@ pub mod Starting
 pub mod Rows
 pub mod RowAt
 pub mod Keeping
+pub mod Hearing
