@@ -1,16 +1,18 @@
 -- A call of `feed`, by what its cursor answers.
-use Rattle.std.proofs.Common.{◌≡◌, ◌∙◌, ◌≤◌, ℕ, ◌-◌, List, [], ◌++◌, length, take, drop, Option, Some, None, refl, sym, ap, arith}
-use Rattle.std.proofs.lemmas.List.{length-drop}
+use Rattle.std.proofs.Common.{◌≡◌, ◌∙◌, ◌≤◌, ℕ, ◌+◌, ◌-◌, List, [], ◌++◌, length, take, drop, get_or, Option, Some, None, refl, sym, ap, arith}
+use Rattle.std.specs.Prelude.{min}
+use Rattle.std.proofs.lemmas.List.{length-drop, length-take-le}
 use Rattle.tds_wire.specs.declared.fault.Refusal.{Refusal}
 use Rattle.tds_wire.specs.declared.fault.WireFault.{WireFault}
 use Rattle.tds_wire.specs.declared.told.Token.{Token}
 use Rattle.tds_wire.specs.declared.due.Due.{Due}
 use Rattle.tds_wire.specs.declared.due.Due.TheVariants as due
 use Rattle.tds_wire.specs.declared.due.Standing.TheVariants.{Between}
-use Rattle.tds_wire.specs.Walking.{Walk}
+use Rattle.tds_wire.specs.Walking.{Walk, with_kind}
 use Rattle.tds_wire.specs.Bytes.{Over, Within, Failed, onward, standing}
 use Rattle.tds_wire.specs.Reading.{IsReady, Reading, Sees, Inside, Refuses, behind, found_by, found_on, front_of, inside, next_token, refusal_at, token_with}
 use Rattle.tds_wire.specs.Told.{added, told_of}
+use Rattle.tds_wire.specs.Whole.{IsWhole, behind_whole}
 
 pub between_is : (d : Due) → standing d ≡ Between → d ≡ due.Token
 between_is due.Token e = refl
@@ -63,19 +65,18 @@ token_is kind start passed n head last first p h e f =
     let front : first ≡ take 24 (head ++ last) = f ∙ sym (ap (λ (xs : List ℕ). take 24 (xs ++ last)) h) in
     cc
 
-reading_is : (w : Walk) (head last : List ℕ) (start next passed n : ℕ) (refused : Option Refusal) → passed ≡ 0 → head ≡ [] → refused ≡ None → n ≡ added 0 (length last)
-    → next ≡ added start n
-    → (let r : Reading = record { walk = w; head = head; start = next; passed = passed; refused = refused } in r)
-    ≡ record { walk = w; head = []; start = added start (added passed (length last)); passed = 0; refused = None }
-reading_is w head last start next passed n refused p h none e further =
-    let size : next ≡ added start (added passed (length last)) = further ∙ ap (added start) (e ∙ sym (ap (λ (k : ℕ). added k (length last)) p)) in
-    cc
+behind_is : (r : Reading) (piece : List ℕ) (count : ℕ) → IsReady r → count ≤ length piece
+    → behind_whole r piece count ≡ behind r (with_kind r.walk (get_or piece 0 0)) (take count piece)
+behind_is r piece count ready few =
+    let l : length (take count piece) ≡ count = length-take-le count piece few in
+    let e : min 18446744073709551615 (r.start + count) ≡ min 18446744073709551615 (r.start + min 18446744073709551615 (r.passed + length (take count piece))) = omega (arith, l, ready.passed) in
+    ap (λ (n : ℕ). record { walk = with_kind r.walk (get_or piece 0 0); head = []; start = n; passed = 0; refused = None }) e
 
-pub takes_whole : (r : Reading) (piece : List ℕ) (w : Walk) (count n next : ℕ) (first : List ℕ) → IsReady r → count ≤ length piece → onward r.walk piece ≡ Over w (drop count piece)
-    → n ≡ added 0 (length (take count piece)) → next ≡ added r.start n → first ≡ take 24 (take count piece)
-    → Sees (record { kind = w.at.kind; start = r.start; length = n; told = told_of w.at.kind r.start n first }) (record { walk = w; head = r.head; start = next; passed = r.passed; refused = r.refused }) (drop count piece) ≡ next_token r piece
-takes_whole r piece w count n next first ready few does e further f =
-    let last = take count piece in
-    sees_same _ _ _ _ (drop count piece) (token_is w.at.kind r.start r.passed n r.head last first ready.passed ready.head e f)
-    (reading_is w r.head last r.start next r.passed n r.refused ready.passed ready.head ready.whole e further)
-    ∙ feeds_over r piece w count ready.whole few (sym does)
+pub takes_whole : (r : Reading) (piece : List ℕ) (count n : ℕ) (first : List ℕ) → IsReady r → count ≤ length piece → IsWhole count piece
+    → n ≡ added 0 (length (take count piece)) → first ≡ take 24 (take count piece)
+    → Sees (record { kind = get_or piece 0 0; start = r.start; length = n; told = told_of (get_or piece 0 0) r.start n first }) (behind_whole r piece count) (drop count piece) ≡ next_token r piece
+takes_whole r piece count n first ready few whole e f =
+    let w = with_kind r.walk (get_or piece 0 0) in
+    sees_same _ _ _ _ (drop count piece) (token_is w.at.kind r.start r.passed n r.head (take count piece) first ready.passed ready.head e f)
+    (behind_is r piece count ready few)
+    ∙ feeds_over r piece w count ready.whole few (sym (whole r.walk ready.walk.due))

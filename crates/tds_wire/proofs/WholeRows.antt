@@ -1,5 +1,5 @@
 -- Rows that are whole in a run of bytes.
-use Rattle.std.proofs.Common.{◌≡◌, ◌∙◌, ◌≤◌, ◌<◌, ℕ, zero, suc, ◌+◌, ◌-◌, ◌*◌, ◌/◌, ◌==◌, nat_lt, Bool, true, false, List, [], ◌∷◌, length, drop, get_or, if◌then◌else◌, refl, sym, ap, subst, arith, rules}
+use Rattle.std.proofs.Common.{◌≡◌, ◌∙◌, ◌≤◌, ◌<◌, ℕ, zero, suc, ◌+◌, ◌-◌, ◌*◌, ◌/◌, ◌==◌, nat_lt, Bool, true, false, List, [], ◌∷◌, length, drop, get_or, if◌then◌else◌, refl, sym, ap, arith, rules}
 use Rattle.std.specs.Prelude.{min}
 use Rattle.std.proofs.lemmas.Bool.{lt-ltb, le-ltb}
 use Rattle.std.proofs.lemmas.List.{length-drop, length-take-le}
@@ -17,7 +17,7 @@ use Rattle.tds_wire.specs.Bytes.{Over, onward, step, to_end}
 use Rattle.tds_wire.specs.Reading.{IsReady, Reading, Sees, front_of, next_token, token_with}
 use Rattle.tds_wire.specs.Told.{told_of}
 use Rattle.tds_wire.specs.Walking.{Walk, at_column, begun, ended, has_no_bytes, next_value, pass, row_from, shape_at, value_due, valued, with_due, with_inside, with_kind, with_run}
-use Rattle.tds_wire.specs.Rows.{IsPassed, Passes, behind_row, row_token}
+use Rattle.tds_wire.specs.Rows.{IsPassed, Passes, behind_row, past_row, row_token}
 
 -- ---- Values
 
@@ -173,10 +173,6 @@ front_length n piece h =
     let e : length piece - length (drop n piece) ≡ n = omega (arith, k, h) in
     rw e (length-take-le n piece h)
 
--- it knows what it knew, and begins the next token
-abbrev pub past_row : Reading → ℕ → Reading
-past_row r n = record r { walk = behind_row r.walk; start = min 18446744073709551615 (r.start + n) }
-
 sees_row : (r : Reading) (n : ℕ) (piece : List ℕ) → IsReady r → n ≤ length piece → onward r.walk piece ≡ Over (behind_row r.walk) (drop n piece)
     → next_token r piece ≡ Sees (token_with r 0xD1 (front_of piece (drop n piece))) (past_row r n) (drop n piece)
 unfolding next_token
@@ -203,16 +199,11 @@ row_passed r n piece ready few counted over =
 abbrev moved : Reading → ℕ → ℕ → Reading
 moved r i start = record r { walk = record r.walk { at = record r.walk.at { kind = 0xD1; inside = inside.Row i } }; start = start }
 
-moved_on : (r : Reading) (i n start : ℕ) → IsReady r → i ≡ length r.walk.columns - 1 → start ≡ min 18446744073709551615 (r.start + n) → past_row r n ≡ moved r i start
+pub moved_on : (r : Reading) (i n start : ℕ) → IsReady r → i ≡ length r.walk.columns - 1 → start ≡ min 18446744073709551615 (r.start + n) → past_row r n ≡ moved r i start
 moved_on r i n start ready e f =
     ap (λ (k : ℕ). record r { walk = record r.walk { at = record r.walk.at { due = Token; kind = 0xD1; inside = inside.Row (length r.walk.columns - 1) } }; start = k }) (sym f)
     ∙ (ap (λ (k : ℕ). record r { walk = record r.walk { at = record r.walk.at { due = Token; kind = 0xD1; inside = inside.Row k } }; start = start }) (sym e)
     ∙ ap (λ (d : Due). record r { walk = record r.walk { at = record r.walk.at { due = d; kind = 0xD1; inside = inside.Row i } }; start = start }) (sym ready.walk.due))
-
-pub row_moved : (r : Reading) (i n start : ℕ) (piece : List ℕ) → IsReady r → i ≡ length r.walk.columns - 1 → start ≡ min 18446744073709551615 (r.start + n)
-    → n ≤ length piece → n ≤ 18446744073709551615 → onward r.walk piece ≡ Over (behind_row r.walk) (drop n piece) → IsPassed n r (moved r i start) piece
-row_moved r i n start piece ready e f few counted over =
-    subst (λ (s : Reading). IsPassed n r s piece) (moved_on r i n start ready e f) (row_passed r n piece ready few counted over)
 
 pub ready_again : (r : Reading) (i start : ℕ) → IsReady r → IsReady (moved r i start)
 ready_again r i start ready = record {

@@ -7,6 +7,7 @@ use Rattle.tds_wire.specs.declared.told.Token.{Token as AnyToken}
 use Rattle.tds_wire.specs.declared.told.Told.TheVariants as told
 use Rattle.tds_wire.specs.Bytes.{to_end}
 use Rattle.tds_wire.specs.Reading.{Reading, Sees, next_token}
+use Rattle.tds_wire.specs.Told.{added}
 use Rattle.tds_wire.specs.Walking.{Walk, value_due, valued, with_due}
 
 -- a value of this shape is so many bytes
@@ -16,6 +17,10 @@ Passes s n bytes = (w : Walk) → to_end (with_due w (value_due s)) bytes ≡ to
 -- the walk behind a row
 abbrev pub behind_row : Walk → Walk
 behind_row w = record w { at = record w.at { due = Token; kind = 0xD1; inside = inside.Row (length w.columns - 1) } }
+
+-- the walker behind one of so many bytes
+abbrev pub past_row : Reading → ℕ → Reading
+past_row r n = record r { walk = behind_row r.walk; start = added r.start n }
 
 -- a row of so many bytes: it says nothing
 abbrev pub row_token : ℕ → Reading → AnyToken

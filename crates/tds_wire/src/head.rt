@@ -1,8 +1,20 @@
 //! The first bytes of a token, of which all is told.
 
-ghost use Rattle.std.specs.Prelude.{◌≡◌, ◌≤◌, ◌==◌, ◌∷◌, [], length};
+ghost use Rattle.std.specs.Prelude.{◌≡◌, ◌≤◌, ◌==◌, ◌∷◌, [], length, take};
 ghost use Rattle.tds_wire.specs.Lent.{head_of};
 ghost use Rattle.tds_wire.specs.Reading.{kept};
+
+/// The first of these bytes, as many as are kept of a token.
+#[inline(always)]
+pub(crate) fn first_of(bytes: &[u8]) -> &[u8]
+    ensures { result.now ≡ take 24 bytes.now }
+{
+    if bytes.len() > 24 {
+        &bytes[..24]
+    } else {
+        bytes
+    }
+}
 
 /// The first bytes of a token: at most 24, those of an ENVCHANGE up to two values of eight bytes.
 #[derive(Clone, Copy)]

@@ -1,23 +1,21 @@
 //! The walk over an answer's tokens, in memory that is lent to it.
 
-ghost use Rattle.std.specs.Prelude.{◌≡◌, ◌≤◌, ◌<◌, ◌-◌, IfOk, IfErr, IfSome, IsSome, None, Ok, Some, [], true, false, get_or, length, min, take};
+ghost use Rattle.std.specs.Prelude.{◌≡◌, ◌≤◌, ◌<◌, ◌-◌, IfOk, IfErr, IfSome, IsSome, None, Ok, Some, [], true, false, get_or, length, min};
 ghost use Rattle.tds_wire.specs.Told.{added, told_of};
 ghost use Rattle.tds_wire.specs.Memory.{shapes_of, walk_of};
 ghost use Rattle.tds_wire.specs.Reading.{IsReady, behind, found_of, found_with, is_between, kept, next_token, refusal_at, restarted, token_with};
 ghost use Rattle.tds_wire.specs.Lent.{head_of, reading_of};
-ghost use Rattle.tds_wire.specs.Whole.{IsWhole};
 ghost use Rattle.tds_wire.specs.declared.memory.Memory.{Memory as AnyMemory};
 
-use crate::cursor::{
-    Cursor, Step, change_length, counted_length, has_done, has_status, may_be_whole, reset_length,
-};
+use crate::cursor::{Cursor, Step, may_be_whole};
 use crate::due::Standing;
 use crate::fault::{Refusal, WireFault};
 use crate::features::Features;
-use crate::head::Head;
+use crate::head::{Head, first_of};
 use crate::memory::Memory;
 use crate::rows::row_token;
-use crate::told::{Token, Told, added, put_token, tells, told_of};
+use crate::told::{Token, Told, added, tells, told_of};
+use crate::whole::whole_token;
 
 /// What came of a piece.
 #[derive(Clone, Copy, Debug, PartialEq, Eq)]
@@ -48,18 +46,6 @@ fn last_of(bytes: &[u8]) -> u8
     match bytes.get(bytes.len().saturating_sub(1)) {
         Some(byte) => *byte,
         None => 0,
-    }
-}
-
-/// The first of these bytes, as many as are kept of a token.
-#[inline(always)]
-fn first_of(bytes: &[u8]) -> &[u8]
-    ensures { result.now ≡ take 24 bytes.now }
-{
-    if bytes.len() > 24 {
-        &bytes[..24]
-    } else {
-        bytes
     }
 }
 
@@ -184,100 +170,16 @@ impl LentWalk {
         ensures most { self.new.cursor.most ≡ self.old.cursor.most }
         ensures features { self.new.cursor.features ≡ self.old.cursor.features }
     {
-        if may_be_whole(piece) && self.is_between(memory) {
-            self.take_ready(memory, piece, token)
-        } else {
-            0
-        }
-    }
-
-    /// The same between two tokens. It isn't put into its callers, of whose tokens it holds the place. Each
-    /// kind that most answers have is written at once, as its length is known.
-    #[inline(never)]
-    fn take_ready(&mut self, memory: &Memory, piece: &[u8], token: &mut Option<Token>) -> usize
-        requires { IsReady (reading_of self.old memory.now) }
-        ensures within { result ≤ length piece.now }
-        ensures same { result ≡ 0 → self.new ≡ self.old }
-        ensures stays { result ≡ 0 → token.new ≡ token.old }
-        ensures some { 0 < result → IsSome token.new }
-        ensures ready { 0 < result → IsReady (reading_of self.new memory.now) }
-        ensures exact { 0 < result
-            → found_with (Ok result) token.new (reading_of self.new memory.now) piece.now
-            ≡ next_token (reading_of self.old memory.now) piece.now }
-        ensures start { 0 < result → IfSome token.new
-            (λ token. self.new.start ≡ added token.start token.length) }
-        ensures most { self.new.cursor.most ≡ self.old.cursor.most }
-        ensures features { self.new.cursor.features ≡ self.old.cursor.features }
-    {
-        if has_done(piece) {
-            self.take_of(memory, piece, 13, token);
-            return 13;
-        }
-        if has_status(piece) {
-            self.take_of(memory, piece, 5, token);
-            return 5;
-        }
-        let reset = reset_length(piece);
-        if reset > 0 {
-            self.take_of(memory, piece, reset, token);
-            return reset;
-        }
-        self.take_other(memory, piece, token)
-    }
-
-    /// The same of a token of any other kind.
-    #[inline(never)]
-    fn take_other(&mut self, memory: &Memory, piece: &[u8], token: &mut Option<Token>) -> usize
-        requires { IsReady (reading_of self.old memory.now) }
-        ensures within { result ≤ length piece.now }
-        ensures same { result ≡ 0 → self.new ≡ self.old }
-        ensures stays { result ≡ 0 → token.new ≡ token.old }
-        ensures some { 0 < result → IsSome token.new }
-        ensures ready { 0 < result → IsReady (reading_of self.new memory.now) }
-        ensures exact { 0 < result
-            → found_with (Ok result) token.new (reading_of self.new memory.now) piece.now
-            ≡ next_token (reading_of self.old memory.now) piece.now }
-        ensures start { 0 < result → IfSome token.new
-            (λ token. self.new.start ≡ added token.start token.length) }
-        ensures most { self.new.cursor.most ≡ self.old.cursor.most }
-        ensures features { self.new.cursor.features ≡ self.old.cursor.features }
-    {
-        let change = change_length(piece);
-        if change > 0 {
-            self.take_of(memory, piece, change, token);
-            return change;
-        }
-        let counted = counted_length(piece);
-        if counted == 0 {
+        if !may_be_whole(piece) || !self.is_between(memory) {
             return 0;
         }
-        self.take_of(memory, piece, counted, token);
-        counted
-    }
-
-    /// Takes the token of so many bytes that bytes begin with.
-    #[inline(always)]
-    fn take_of(&mut self, memory: &Memory, piece: &[u8], count: usize, token: &mut Option<Token>)
-        requires ready { IsReady (reading_of self.old memory.now) }
-        requires many { 0 < count }
-        requires within { count ≤ length piece.now }
-        requires whole { IsWhole count piece.now }
-        ensures some { IsSome token.new }
-        ensures ready { IsReady (reading_of self.new memory.now) }
-        ensures exact { found_with (Ok count) token.new (reading_of self.new memory.now) piece.now
-            ≡ next_token (reading_of self.old memory.now) piece.now }
-        ensures start { IfSome token.new
-            (λ token. self.new.start ≡ added token.start token.length) }
-        ensures most { self.new.cursor.most ≡ self.old.cursor.most }
-        ensures features { self.new.cursor.features ≡ self.old.cursor.features }
-    {
-        // Nothing of it was passed before.
-        let length = added(0, count as u64);
-        let start = self.start;
-        let next = added(start, length);
-        put_token(piece[0], start, length, first_of(&piece[..count]), token);
-        self.cursor.pass_of(memory, piece, count);
-        self.start = next;
+        let count = whole_token(self.start, piece, token);
+        if count == 0 {
+            return 0;
+        }
+        self.cursor.at.kind = piece[0];
+        self.start = added(self.start, count as u64);
+        count
     }
 
     /// A token has ended with these bytes.

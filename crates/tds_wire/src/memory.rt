@@ -71,7 +71,7 @@ impl Memory {
 
     /// How many columns are known.
     #[inline(always)]
-    pub(crate) fn count(&self) -> u16
+    pub fn count(&self) -> u16
         ensures count { result ≡ length (shapes_of self.now) }
         ensures few { result ≤ 4096 }
     {

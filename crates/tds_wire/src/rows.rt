@@ -6,7 +6,7 @@ ghost use Rattle.tds_wire.specs.Bytes.{Over, onward};
 ghost use Rattle.tds_wire.specs.Lent.{reading_of};
 ghost use Rattle.tds_wire.specs.Memory.{shape_of, shapes_of};
 ghost use Rattle.tds_wire.specs.Reading.{IsReady, Reading};
-ghost use Rattle.tds_wire.specs.Rows.{IsPassed, Passes, behind_row, row_token};
+ghost use Rattle.tds_wire.specs.Rows.{IsPassed, Passes, behind_row, past_row, row_token};
 ghost use Rattle.tds_wire.specs.Told.{added};
 ghost use Rattle.tds_wire.specs.Walking.{Walk, has_no_bytes};
 ghost use Rattle.tds_wire.specs.declared.due.Due.TheVariants as dues;
@@ -115,9 +115,22 @@ fn may_be_row(bytes: &[u8]) -> bool {
     bytes.len() > 1 && bytes[0] == ROW
 }
 
+/// The row that bytes begin with, where it is whole: how many bytes it has. Else the answer is 0, as it is
+/// for a row with a value behind a longer count than of two bytes, and for one with a null bitmap. Of a walk
+/// between two tokens that knows these columns it needs nothing.
+#[inline(always)]
+pub fn whole_row(memory: &Memory, piece: &[u8]) -> usize
+    ensures within { result ≤ length piece.now }
+    ensures row { 0 < result → (r : Reading) → IsReady r → r.walk.columns ≡ shapes_of memory.now
+        → IsPassed result r (past_row r result) piece.now }
+    ensures some { 0 < result → 0 < length (shapes_of memory.now) }
+{
+    row_length(memory, piece)
+}
+
 /// A row of so many bytes.
 #[inline(always)]
-pub(crate) fn row_token(start: u64, count: usize) -> Token
+pub fn row_token(start: u64, count: usize) -> Token
     ensures { (r : Reading) → r.start ≡ start → result ≡ row_token count r }
 {
     Token {
@@ -145,7 +158,7 @@ impl LentWalk {
         ensures most { self.new.cursor.most ≡ self.old.cursor.most }
         ensures features { self.new.cursor.features ≡ self.old.cursor.features }
     {
-        let length = row_length(memory, piece);
+        let length = whole_row(memory, piece);
         if length == 0 {
             return 0;
         }

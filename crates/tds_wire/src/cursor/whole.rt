@@ -1,5 +1,5 @@
 //! Tokens that stand whole in a run of bytes, and say in their first bytes how long they are.
-ghost use Rattle.std.specs.Prelude.{◌≡◌, ◌≤◌, ◌<◌, true, drop, get_or, length};
+ghost use Rattle.std.specs.Prelude.{◌≡◌, ◌≤◌, ◌<◌, true, drop, length};
 ghost use Rattle.tds_wire.specs.Bytes.{Over, onward};
 ghost use Rattle.tds_wire.specs.Inside.{IsBetween};
 ghost use Rattle.tds_wire.specs.Memory.{walk_of};
@@ -148,46 +148,8 @@ pub(crate) fn may_be_whole(bytes: &[u8]) -> bool {
 }
 
 impl Cursor {
-    /// Passes the token of so many bytes that bytes begin with.
-    #[inline(always)]
-    pub(crate) fn pass_of(&mut self, memory: &Memory, piece: &[u8], count: usize)
-        requires due { self.old.at.due ≡ dues.Token }
-        requires some { 0 < count }
-        requires within { count ≤ length piece.now }
-        requires whole { IsWhole count piece.now }
-        ensures between { IsBetween (walk_of self.new memory.now) }
-        ensures exact { onward (walk_of self.old memory.now) piece.now
-            ≡ Over (walk_of self.new memory.now) (drop count piece.now) }
-        ensures kind { self.new.at.kind ≡ get_or piece.now 0 0 }
-        ensures most { self.new.most ≡ self.old.most }
-        ensures features { self.new.features ≡ self.old.features }
-    {
-        memory.bounds();
-        self.at.kind = piece[0];
-    }
-
     /// Passes the token that bytes begin with, where it is whole and says in its first bytes how long it
     /// is: how many bytes it has. Else nothing is done, and the answer is 0.
-    #[inline(always)]
-    pub(crate) fn pass_ready(&mut self, memory: &Memory, piece: &[u8]) -> usize
-        requires { self.old.at.due ≡ dues.Token }
-        ensures within { result ≤ length piece.now }
-        ensures same { result ≡ 0 → self.new ≡ self.old }
-        ensures between { 0 < result → IsBetween (walk_of self.new memory.now) }
-        ensures exact { 0 < result → onward (walk_of self.old memory.now) piece.now
-            ≡ Over (walk_of self.new memory.now) (drop result piece.now) }
-        ensures most { self.new.most ≡ self.old.most }
-        ensures features { self.new.features ≡ self.old.features }
-    {
-        let length = whole_length(piece);
-        if length == 0 {
-            return 0;
-        }
-        self.pass_of(memory, piece, length);
-        length
-    }
-
-    /// The same, in a place of its own.
     #[inline(never)]
     fn pass_whole(&mut self, memory: &Memory, piece: &[u8]) -> usize
         requires { self.old.at.due ≡ dues.Token }
@@ -197,7 +159,13 @@ impl Cursor {
         ensures exact { 0 < result → onward (walk_of self.old memory.now) piece.now
             ≡ Over (walk_of self.new memory.now) (drop result piece.now) }
     {
-        self.pass_ready(memory, piece)
+        let length = whole_length(piece);
+        if length == 0 {
+            return 0;
+        }
+        memory.bounds();
+        self.at.kind = piece[0];
+        length
     }
 
     /// The same wherever the walk is: 0 too where it isn't between two tokens.
