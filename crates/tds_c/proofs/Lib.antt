@@ -10,3 +10,4 @@ pub mod Rows
 pub mod RowAt
 pub mod Keeping
 pub mod Hearing
+pub mod Ready

@@ -1,13 +1,16 @@
 -- What the export does by which a client hears the data of a packet in one call: token by token, as `tds_listen` has it.
 use Rattle.std.specs.Prelude.{◌≡◌, ◌≢◌, ◌≤◌, ◌<◌, ◌+◌, ℕ, List, [], ◌∷◌, Bool, true, false, length, drop, slice_set, Option, Some, None, Result, Ok, Err}
+use Rattle.tds_client.specs.declared.fault.ClientFault.{ClientFault}
 use Rattle.tds_client.specs.declared.state.Taken.{Taken}
 use Rattle.tds_client.specs.Faults as client
 use Rattle.tds_client.specs.Machine.{tells}
 use Rattle.tds_client.specs.Session.{ClientSession}
+use Rattle.tds_client.specs.Taking.{broken_by}
 use Rattle.tds_listen.specs.declared.fault.ListenFault.{ListenFault}
 use Rattle.tds_listen.specs.declared.fault.ListenFault.TheVariants as faults
 use Rattle.tds_listen.specs.Faults.{broken_at, broken_at_end}
-use Rattle.tds_listen.specs.Hearing.{Move, heard_end, next_heard}
+use Rattle.tds_listen.specs.Hearing.{Both, Move, heard_end, next_heard}
+use Rattle.tds_wire.specs.declared.due.Inside.{Inside}
 use Rattle.tds_wire.specs.declared.lent.LentWalk.{LentWalk}
 use Rattle.tds_wire.specs.declared.memory.Memory.{Memory}
 use Rattle.tds_wire.specs.declared.told.Token.{Token}
@@ -25,7 +28,7 @@ use Rattle.tds_c.specs.Answers.{taken_number}
 use Rattle.tds_c.specs.Calls.{on, value_of}
 use Rattle.tds_c.specs.Plain.{client_of}
 use Rattle.tds_c.specs.Rooms.{HasRead, Room}
-use Rattle.tds_c.specs.Wire.{truth, walk_from}
+use Rattle.tds_c.specs.Wire.{inside_from, truth, walk_from}
 use Rattle.tds_c.specs.WireTokens.{Shows}
 
 -- ---- The numbers
@@ -97,32 +100,36 @@ pub record State : Type 0 where
 abbrev pub reading_from : TdsWire → Memory → Option Reading
 reading_from walk memory = on (λ w. reading_of w memory) (walk_from walk)
 
-abbrev pub IsLeft : State → ClientSession → Reading → Type 0
-IsLeft left s r = (left.client ≡ value_of s 0) × (reading_from left.walk left.memory ≡ Some r)
+-- Behind bytes that were refused it says which one.
+abbrev pub TellsFault : ListenFault → Reading → Type 0
+TellsFault (faults.Client fault) r = Unit {0}
+TellsFault (faults.Wire refusal) r = r.refused ≡ Some refusal
+TellsFault faults.Cut r = Unit {0}
+TellsFault faults.ResetUnanswered r = Unit {0}
 
--- behind a fault the value still is a walk, and where bytes were refused it says which one
-abbrev pub TellsFault : ListenFault → LentWalk → Type 0
-TellsFault (faults.Client fault) walk = Unit {0}
-TellsFault (faults.Wire refusal) walk = walk.refused ≡ Some refusal
-TellsFault faults.Cut walk = Unit {0}
-TellsFault faults.ResetUnanswered walk = Unit {0}
-
--- Why it stops there: the room is full, and more could be told; the data are done with; they are, and with them the message is;
--- or the client is broken by what comes next, or by the message's end.
-abbrev pub StopsAt : Place → Bool → Room TdsWireToken → State → Came → Type 0
-StopsAt last ends room left came.NoClient = ⊥
-StopsAt last ends room left came.Full =
-    (last.rest ≢ []) × (tells last.session.stage ≡ true) × (room.count ≡ length room.before) × IsLeft left last.session last.reading
-StopsAt last ends room left came.Through = (last.rest ≡ []) × (ends ≡ false) × IsLeft left last.session last.reading
-StopsAt last ends room left (came.Ended answer) =
-    (last.rest ≡ []) × (ends ≡ true) × (next : ClientSession)
-    × (heard_end last.session last.reading ≡ Ok (record { answer = answer; session = next })) × IsLeft left next (restarted last.reading)
-StopsAt last ends room left (came.Broken fault) =
-    (next_heard last.session last.reading last.rest ≡ Err fault) × (left.client ≡ value_of (broken_at last.session fault) 0)
-    × (walk : LentWalk) × (walk_from left.walk ≡ Some walk) × TellsFault fault walk
-StopsAt last ends room left (came.BrokenAtEnd fault) =
+-- Why it stops there, and what it leaves: the room is full, and more could be told; the data are done with; they are, and with them the
+-- message is; or the client is broken by what comes next, or by the message's end.
+abbrev pub StopsAt : Place → Both → Bool → Room TdsWireToken → Came → Type 0
+StopsAt last now ends room came.NoClient = ⊥
+StopsAt last now ends room came.Full =
+    (last.rest ≢ []) × (tells last.session.stage ≡ true) × (room.count ≡ length room.before)
+    × (now ≡ record { session = last.session; reading = last.reading })
+StopsAt last now ends room came.Through =
+    (last.rest ≡ []) × (ends ≡ false) × (now ≡ record { session = last.session; reading = last.reading })
+StopsAt last now ends room (came.Ended answer) =
+    (last.rest ≡ []) × (ends ≡ true) × (heard_end last.session last.reading ≡ Ok (record { answer = answer; session = now.session }))
+    × (now.reading ≡ restarted last.reading)
+StopsAt last now ends room (came.Broken fault) =
+    (next_heard last.session last.reading last.rest ≡ Err fault) × (now.session ≡ broken_at last.session fault)
+    × TellsFault fault now.reading
+StopsAt last now ends room (came.BrokenAtEnd fault) =
     (last.rest ≡ []) × (ends ≡ true) × (heard_end last.session last.reading ≡ Err fault)
-    × IsLeft left (broken_at_end last.session fault) (restarted last.reading)
+    × (now.session ≡ broken_at_end last.session fault) × (now.reading ≡ restarted last.reading)
+
+-- Tokens are heard one after the other, and there it stops.
+abbrev pub StopsBehind : Place → List ℕ → Both → Bool → Room TdsWireToken → Came → Type 0
+StopsBehind first rest now ends room is =
+    (last : Place) × HasHeard first last room × (last.rest ≡ rest) × StopsAt last now ends room is
 
 -- ---- A call
 
@@ -137,11 +144,11 @@ pub record Hearing : Type 0 where
 abbrev pub NothingDone : Hearing → Came → Type 0
 NothingDone h is = (is ≡ came.NoClient) × (h.after ≡ h.before) × (h.taken ≡ 0) × (h.room.after ≡ h.room.before) × (h.room.count ≡ 0)
 
--- The bytes that are taken lead to a place, and there it stops.
+-- The bytes that are taken lead to where it stops. The client and the walk are what they are there.
 abbrev pub HearsFrom : Place → Hearing → Came → Type 0
 HearsFrom first h is =
-    (last : Place) × HasHeard first last h.room × (h.taken ≤ length h.bytes) × (last.rest ≡ drop h.taken h.bytes)
-    × StopsAt last (truth h.ends) h.room h.after is
+    (now : Both) × (h.after.client ≡ value_of now.session 0) × (reading_from h.after.walk h.after.memory ≡ Some now.reading)
+    × (h.taken ≤ length h.bytes) × StopsBehind first (drop h.taken h.bytes) now (truth h.ends) h.room is
 
 abbrev pub HearsBy : Option ClientSession → Option Reading → Hearing → Came → Type 0
 HearsBy None r h is = NothingDone h is
@@ -163,12 +170,29 @@ Puts (Some token) room count =
 -- ---- Where the walk is read out
 
 -- Why no more was heard: the client and the walker stand there now, or are broken by what comes next.
-abbrev pub HaltsAt : Place → Place → LentWalk → Room TdsWireToken → Result Halt ListenFault → Type 0
-HaltsAt last now walk room (Ok halts.Full) =
-    (now ≡ last) × (last.rest ≢ []) × (tells last.session.stage ≡ true) × (room.count ≡ length room.before)
-HaltsAt last now walk room (Ok halts.Through) = (now ≡ last) × (last.rest ≡ [])
-HaltsAt last now walk room (Err fault) =
-    (next_heard last.session last.reading last.rest ≡ Err fault) × (now.session ≡ broken_at last.session fault) × TellsFault fault walk
+abbrev pub HaltsAt : Place → Both → Room TdsWireToken → Result Halt ListenFault → Type 0
+HaltsAt last now room (Ok halts.Full) = StopsAt last now false room came.Full
+HaltsAt last now room (Ok halts.Through) = (last.rest ≡ []) × (now ≡ record { session = last.session; reading = last.reading })
+HaltsAt last now room (Err fault) = StopsAt last now false room (came.Broken fault)
 
-abbrev pub HearsTo : Place → Place → LentWalk → Room TdsWireToken → Result Halt ListenFault → Type 0
-HearsTo first now walk room result = (last : Place) × HasHeard first last room × HaltsAt last now walk room result
+abbrev pub HaltsBehind : Place → List ℕ → Both → Room TdsWireToken → Result Halt ListenFault → Type 0
+HaltsBehind first rest now room result = (last : Place) × HasHeard first last room × (last.rest ≡ rest) × HaltsAt last now room result
+
+-- ---- Between two tokens
+
+-- The value is a walk that has passed nothing of the next token.
+pub record Ready (walk : TdsWire) : Type 0 where
+  pub inside : Inside
+  pub inside_is : inside_from walk.inside ≡ Some inside
+  pub due : walk.due.due ≡ 0
+  pub refused : walk.refused.fault ≡ 0
+  pub head : walk.head_count ≡ 0
+  pub passed : walk.passed ≡ 0
+
+-- What was heard of tokens that stand whole: the client and the walk stand there now, or the client is broken by what comes next.
+abbrev pub HearsWhole : Place → List ℕ → ClientSession → Option Reading → Room TdsWireToken → Result (Unit {0}) ClientFault → Type 0
+HearsWhole first rest s r room (Ok done) =
+    (reading : Reading) × (r ≡ Some reading) × HasHeard first (record { session = s; reading = reading; rest = rest }) room
+HearsWhole first rest s r room (Err fault) =
+    (last : Place) × HasHeard first last room × (last.rest ≡ rest)
+    × (next_heard last.session last.reading last.rest ≡ Err (faults.Client fault)) × (s ≡ broken_by last.session fault)

@@ -1,7 +1,7 @@
 //! The data of a packet of any server's answer in one call: of each token that ends there the client
 //! hears what it says, and those that may be told are written.
 
-ghost use Rattle.std.specs.Prelude.{◌≡◌, ◌≤◌, ◌<◌, ℕ, List, [], Ok, Err, IfOk, IfErr, MatchResult, OnOk, true, drop, length};
+ghost use Rattle.std.specs.Prelude.{◌≡◌, ◌≤◌, ◌<◌, ℕ, List, None, [], Ok, Err, IfOk, IfErr, IsSome, MatchResult, OnOk, Some, true, drop, length};
 ghost use Rattle.tds_client.specs.declared.sign.Rules.TheVariants.{Any};
 ghost use Rattle.tds_client.specs.Machine.{signed, tells};
 ghost use Rattle.tds_client.specs.Parts.{session_from, stage_from};
@@ -11,17 +11,24 @@ ghost use Rattle.tds_listen.specs.Faults.{broken_at, broken_at_end};
 ghost use Rattle.tds_listen.specs.Hearing.{heard_end, next_heard, told_if};
 ghost use Rattle.tds_listen.specs.Signs.{sign_of};
 ghost use Rattle.tds_wire.specs.Lent.{reading_of};
+ghost use Rattle.tds_wire.specs.Memory.{shapes_of};
 ghost use Rattle.tds_wire.specs.Reading.{Reading, is_between, restarted};
 ghost use Rattle.tds_wire.specs.declared.told.Token.{Token as AnyToken};
-ghost use Rattle.std.specs.Prelude.{Option};
-ghost use Rattle.tds_c.specs.Hearing.{HasHeard, HearsTo, Place, Puts, TellsFault, came_number, fault_number};
+ghost use Rattle.std.specs.Prelude.{Option, Result};
+ghost use Rattle.tds_c.specs.declared.wire.hearing.Came.{Came as AnyCame};
+ghost use Rattle.tds_c.specs.declared.wire.token.TdsWireToken.{TdsWireToken as AnyShown};
+ghost use Rattle.tds_c.specs.Rooms.{Room};
+ghost use Rattle.tds_c.specs.Hearing.{HasHeard, HaltsBehind, HearsAll, HearsFrom, HearsWhole, NothingDone, Place, Puts, Ready, StopsBehind, TellsFault, came_number, fault_number, reading_from};
+ghost use Rattle.tds_c.specs.Wire.{inside_from, truth};
 
 use crate::answers::taken_code;
 use crate::buffer::behind;
+use crate::client::TdsClient;
 use crate::wire::token::{TdsWireToken, shown};
+use crate::wire::walk::{TdsWire, TdsWireInside};
 use tds_client::{ClientFault, ClientParts, Rules, StageParts, Taken};
 use tds_listen::{ListenFault, sign_of};
-use tds_wire::{LentWalk, Memory, Token};
+use tds_wire::{Cursor, Features, Head, LentWalk, Memory, Token, whole_token};
 
 /// What came of a packet's data.
 #[derive(Drop)]
@@ -146,7 +153,7 @@ fn hear_next(
         ≡ Err fault) }
     ensures broken { IfErr result (λ fault. session_from parts.new []
         ≡ broken_at (session_from parts.old []) fault) }
-    ensures refused { IfErr result (λ fault. TellsFault fault walk.new) }
+    ensures refused { IfErr result (λ fault. TellsFault fault (reading_of walk.new memory.new)) }
     ensures stays { IfErr result (λ _. tokens.new ≡ tokens.old) }
     ensures same { IfErr result (λ _. count.new ≡ count.old) }
     ensures room { length tokens.new ≡ length tokens.old }
@@ -186,11 +193,10 @@ fn hear_tokens(
           reading = reading_of walk.old memory.old;
           rest = drop taken.old bytes.now;
         }) (record { before = room; after = tokens.old; count = count.old })
-        → HearsTo first (record {
+        → HaltsBehind first (drop taken.new bytes.now) (record {
           session = session_from parts.new [];
           reading = reading_of walk.new memory.new;
-          rest = drop taken.new bytes.now;
-        }) walk.new (record { before = room; after = tokens.new; count = count.new }) result }
+        }) (record { before = room; after = tokens.new; count = count.new }) result }
     ensures within { taken.new ≤ length bytes.now }
 {
     'tokens: while *taken < bytes.len() {
@@ -230,4 +236,292 @@ fn end_message(parts: &mut ClientParts, between: bool) -> Result<Taken, ListenFa
         }
         _ => Ok(answer),
     }
+}
+
+/// Whether a walk's value says where a value or a type belongs.
+#[inline(always)]
+#[tactic(auto, unfolding(crate::specs::Wire::inside_from))]
+fn is_inside(held: &TdsWireInside) -> bool
+    ensures { result ≡ true → IsSome (inside_from held.now) }
+{
+    match held.inside {
+        0 | 1 | 2 | 3 | 4 | 5 => true,
+        _ => false,
+    }
+}
+
+/// Whether the value is a walk between two tokens.
+#[inline(always)]
+fn is_ready(walk: &TdsWire) -> bool
+    ensures { result ≡ true → Ready walk.now }
+{
+    walk.due.due == 0
+        && walk.refused.fault == 0
+        && is_inside(&walk.inside)
+        && walk.head_count == 0
+        && walk.passed == 0
+}
+
+/// What holds of any memory, as a walk between two tokens knows it.
+#[inline(always)]
+fn bounds(memory: &Memory)
+    ensures columns { length (shapes_of memory.now) ≤ 4096 }
+    ensures nulls { length memory.now.nulls ≡ 512 }
+{
+    let features = Features {
+        encryption: false,
+        ranks: false,
+    };
+    let walk = LentWalk {
+        cursor: Cursor::new(0, features),
+        head: Head::new(),
+        start: 0,
+        passed: 0,
+        refused: None,
+    };
+    let _between = walk.is_between(memory);
+}
+
+/// Hears the tokens that stand whole and say in their first bytes how long they are, from the first
+/// byte on and up to the room's end. Of the walk no more is needed than where it is in the message.
+#[inline(always)]
+fn hear_whole(
+    parts: &mut ClientParts,
+    walk: &mut TdsWire,
+    memory: &Memory,
+    bytes: &[u8],
+    taken: &mut usize,
+    tokens: &mut [TdsWireToken],
+    count: &mut usize,
+) -> Result<(), ClientFault>
+    requires ready { Ready walk.old }
+    ensures ready { Ready walk.new }
+    ensures within { taken.new ≤ length bytes.now }
+    ensures room { count.new ≤ length tokens.new }
+    ensures same { length tokens.new ≡ length tokens.old }
+    ensures run { (reading : Reading) → reading_from walk.old memory.now ≡ Some reading
+        → HearsWhole (record {
+          session = session_from parts.old [];
+          reading = reading;
+          rest = bytes.now;
+        }) (drop taken.new bytes.now) (session_from parts.new []) (reading_from walk.new memory.now)
+        (record { before = tokens.old; after = tokens.new; count = count.new }) result }
+{
+    bounds(memory);
+    let mut done = 0;
+    let mut read = 0;
+    'tokens: while read < tokens.len() {
+        let piece = behind(bytes, done);
+        let mut token = None;
+        let size = whole_token(walk.start, piece, &mut token);
+        if size == 0 {
+            break;
+        }
+        let Some(token) = &token else {
+            break;
+        };
+        if let Err(fault) = hear_token(parts, token, tokens, &mut read) {
+            *taken = done;
+            *count = read;
+            return Err(fault);
+        }
+        walk.kind = piece[0];
+        walk.start = walk.start.saturating_add(size as u64);
+        done += size;
+    }
+    *taken = done;
+    *count = read;
+    Ok(())
+}
+
+/// All bytes are done with, between two tokens: where the message ends with them, the client hears it,
+/// and the walk begins anew.
+#[inline(always)]
+fn end_ready(parts: &mut ClientParts, walk: &mut TdsWire, memory: &mut Memory, ends: u8) -> Came
+    requires ready { Ready walk.old }
+    ensures run { (first last : Place) (room : Room AnyShown)
+        → HasHeard first last room → last.rest ≡ [] → last.session ≡ session_from parts.old []
+        → reading_from walk.old memory.old ≡ Some last.reading
+        → (reading : Reading) × (reading_from walk.new memory.new ≡ Some reading)
+        × StopsBehind first [] (record {
+          session = session_from parts.new [];
+          reading = reading;
+        }) (truth ends) room result }
+{
+    if ends == 0 {
+        return Came::Through;
+    }
+    walk.start = 0;
+    memory.count = 0;
+    match end_message(parts, true) {
+        Ok(answer) => Came::Ended(answer),
+        Err(fault) => Came::BrokenAtEnd(fault),
+    }
+}
+
+/// Hears what ends in the bytes behind the first ones, and the message's end, by a walk.
+fn hear_on(
+    parts: &mut ClientParts,
+    walk: &mut LentWalk,
+    memory: &mut Memory,
+    bytes: &[u8],
+    ends: u8,
+    taken: &mut usize,
+    tokens: &mut [TdsWireToken],
+    count: &mut usize,
+) -> Came
+    requires within { taken.old ≤ length bytes.now }
+    requires room { count.old ≤ length tokens.old }
+    ensures run { (first : Place) (room : List TdsWireToken) → length room ≡ length tokens.old
+        → HasHeard first (record {
+          session = session_from parts.old [];
+          reading = reading_of walk.old memory.old;
+          rest = drop taken.old bytes.now;
+        }) (record { before = room; after = tokens.old; count = count.old })
+        → StopsBehind first (drop taken.new bytes.now) (record {
+          session = session_from parts.new [];
+          reading = reading_of walk.new memory.new;
+        }) (truth ends) (record { before = room; after = tokens.new; count = count.new }) result }
+    ensures within { taken.new ≤ length bytes.now }
+{
+    match hear_tokens(parts, walk, memory, bytes, taken, tokens, count) {
+        Err(fault) => return Came::Broken(fault),
+        Ok(Halt::Full) => return Came::Full,
+        Ok(Halt::Through) => {}
+    }
+    if ends == 0 {
+        return Came::Through;
+    }
+    let between = walk.is_between(memory);
+    walk.restart(memory);
+    match end_message(parts, between) {
+        Ok(answer) => Came::Ended(answer),
+        Err(fault) => Came::BrokenAtEnd(fault),
+    }
+}
+
+/// The same, with the walk read out of its value and the client and the walk written back.
+#[cold]
+#[inline(never)]
+fn hear_walked(
+    client: &mut TdsClient,
+    parts: ClientParts,
+    walk: &mut TdsWire,
+    memory: &mut Memory,
+    bytes: &[u8],
+    ends: u8,
+    taken: &mut usize,
+    tokens: &mut [TdsWireToken],
+    count: &mut usize,
+) -> Came
+    requires within { taken.old ≤ length bytes.now }
+    requires room { count.old ≤ length tokens.old }
+    ensures none { reading_from walk.old memory.old ≡ None → NothingDone (record {
+      before = record { client = client.old; walk = walk.old; memory = memory.old };
+      after = record { client = client.new; walk = walk.new; memory = memory.new };
+      bytes = bytes.now;
+      ends = ends;
+      taken = 0;
+      room = record { before = tokens.old; after = tokens.new; count = 0 };
+    }) result × (taken.new ≡ taken.old) × (count.new ≡ count.old) }
+    ensures some { (first : Place) (room : List TdsWireToken) (r : Reading)
+        → length room ≡ length tokens.old → reading_from walk.old memory.old ≡ Some r
+        → HasHeard first (record {
+          session = session_from parts [];
+          reading = r;
+          rest = drop taken.old bytes.now;
+        }) (record { before = room; after = tokens.old; count = count.old })
+        → HearsFrom first (record {
+          before = record { client = client.old; walk = walk.old; memory = memory.old };
+          after = record { client = client.new; walk = walk.new; memory = memory.new };
+          bytes = bytes.now;
+          ends = ends;
+          taken = taken.new;
+          room = record { before = room; after = tokens.new; count = count.new };
+        }) result }
+{
+    let Some(mut lent) = walk.walk() else {
+        return Came::NoClient;
+    };
+    let mut parts = parts;
+    let came = hear_on(&mut parts, &mut lent, memory, bytes, ends, taken, tokens, count);
+    *walk = TdsWire::of(&lent);
+    *client = TdsClient::of(&parts, 0);
+    came
+}
+
+/// Hears the data: between two tokens in the walk's value, as far as they stand whole, and else by a
+/// walk.
+#[inline(always)]
+fn hear(
+    client: &mut TdsClient,
+    walk: &mut TdsWire,
+    memory: &mut Memory,
+    bytes: &[u8],
+    ends: u8,
+    taken: &mut usize,
+    tokens: &mut [TdsWireToken],
+    count: &mut usize,
+) -> Came
+    ensures { HearsAll (record {
+      before = record { client = client.old; walk = walk.old; memory = memory.old };
+      after = record { client = client.new; walk = walk.new; memory = memory.new };
+      bytes = bytes.now;
+      ends = ends;
+      taken = taken.new;
+      room = record { before = tokens.old; after = tokens.new; count = count.new };
+    }) result }
+{
+    *taken = 0;
+    *count = 0;
+    let Some(mut parts) = client.held(&[]) else {
+        return Came::NoClient;
+    };
+    if !parts.may_tell() || !is_ready(walk) {
+        return hear_walked(client, parts, walk, memory, bytes, ends, taken, tokens, count);
+    }
+    match hear_whole(&mut parts, walk, memory, bytes, taken, tokens, count) {
+        Ok(()) => {}
+        Err(fault) => {
+            *client = TdsClient::of(&parts, 0);
+            return Came::Broken(ListenFault::Client(fault));
+        }
+    }
+    if *taken < bytes.len() {
+        if *count == tokens.len() && parts.may_tell() {
+            *client = TdsClient::of(&parts, 0);
+            return Came::Full;
+        }
+        return hear_walked(client, parts, walk, memory, bytes, ends, taken, tokens, count);
+    }
+    let came = end_ready(&mut parts, walk, memory, ends);
+    *client = TdsClient::of(&parts, 0);
+    came
+}
+
+/// Takes the data of a packet of any server's answer, or what is left of them, up to the room's end. Of
+/// each token that ends there the client hears what it says; those that the caller who asked is told of
+/// are written to the front of `tokens`. 10 where the room is full and bytes are left; 0 where all are
+/// done with; and where `ends` isn't 0, what the message's end says.
+#[unsafe(no_mangle)]
+pub extern "C" fn tds_client_hear(
+    client: &mut TdsClient,
+    walk: &mut TdsWire,
+    memory: &mut Memory,
+    bytes: &[u8],
+    ends: u8,
+    taken: &mut usize,
+    tokens: &mut [TdsWireToken],
+    count: &mut usize,
+) -> u8
+    ensures { (came : AnyCame) × (result ≡ came_number came) × HearsAll (record {
+      before = record { client = client.old; walk = walk.old; memory = memory.old };
+      after = record { client = client.new; walk = walk.new; memory = memory.new };
+      bytes = bytes.now;
+      ends = ends;
+      taken = taken.new;
+      room = record { before = tokens.old; after = tokens.new; count = count.new };
+    }) came }
+{
+    came_code(&hear(client, walk, memory, bytes, ends, taken, tokens, count))
 }
