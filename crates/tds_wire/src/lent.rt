@@ -170,16 +170,11 @@ impl LentWalk {
         ensures most { self.new.cursor.most ≡ self.old.cursor.most }
         ensures features { self.new.cursor.features ≡ self.old.cursor.features }
     {
-        if !may_be_whole(piece) || !self.is_between(memory) {
-            return 0;
+        if may_be_whole(piece) && self.is_between(memory) {
+            whole_token(&mut self.start, &mut self.cursor.at.kind, piece, token)
+        } else {
+            0
         }
-        let count = whole_token(self.start, piece, token);
-        if count == 0 {
-            return 0;
-        }
-        self.cursor.at.kind = piece[0];
-        self.start = added(self.start, count as u64);
-        count
     }
 
     /// A token has ended with these bytes.

@@ -79,7 +79,8 @@ impl Memory {
     }
 
     /// What holds of any memory.
-    pub(crate) fn bounds(&self)
+    #[inline(always)]
+    pub fn bounds(&self)
         ensures few { length (shapes_of self.now) ≤ 4096 }
         ensures nulls { length self.now.nulls ≡ 512 }
     {
