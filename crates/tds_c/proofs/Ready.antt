@@ -1,5 +1,5 @@
 -- A walk's value between two tokens.
-use Rattle.std.proofs.Common.{◌≡◌, ◌∙◌, ◌≤◌, ℕ, List, [], length, drop, take, map, min, get_or, ◌+◌, Option, Some, None, Ok, Err, refl, sym, ap, subst}
+use Rattle.std.proofs.Common.{◌≡◌, ◌∙◌, ◌≤◌, ℕ, List, [], length, drop, take, map, min, get_or, ◌+◌, Option, Some, None, Ok, Err, true, refl, sym, ap, subst}
 use Rattle.std.proofs.lemmas.List.{drop-drop}
 use Rattle.tds_client.specs.declared.fault.ClientFault.{ClientFault}
 use Rattle.tds_client.specs.declared.sign.Rules.TheVariants.{Any}
@@ -15,7 +15,7 @@ use Rattle.tds_wire.specs.declared.told.Token.{Token}
 use Rattle.tds_wire.specs.Inside.{IsBetween}
 use Rattle.tds_wire.specs.Lent.{head_of, reading_of}
 use Rattle.tds_wire.specs.Memory.{shape_of, shapes_of}
-use Rattle.tds_wire.specs.Reading.{IsReady, Reading, Sees, next_token}
+use Rattle.tds_wire.specs.Reading.{IsReady, Reading, Sees, is_between, next_token, restarted}
 use Rattle.tds_wire.specs.Told.{added}
 use Rattle.tds_wire.specs.Whole.{IsNext, behind_whole}
 use Rattle.tds_c.specs.declared.wire.walk.TdsWire.{TdsWire}
@@ -93,3 +93,16 @@ whole_on w m ready columns nulls s next token n done bytes piece first r before 
     let behind : so_far first next there (drop n piece) before new j =
     heard_on first _ _ before after new i j long (whole_heard w m ready columns nulls s token n piece is next heard) put here in
     (at_ready (record w { kind = kind; start = start }) m (moved w kind start ready), is_at_ready _ m (moved w kind start ready), rw (is_kind, is_start) (subst (λ (xs : List ℕ). so_far first next there xs before new j) (ap (drop n) is_piece ∙ drop-drop n done bytes) behind))
+
+-- ---- The end of a message
+
+pub stands_between : (w : TdsWire) (m : Memory) (ready : Ready w) (r : Reading) → reading_from w m ≡ Some r → is_between r ≡ true
+stands_between w m ready r at = rw (is_the w m ready r at) refl
+
+forgotten : (m : Memory) → shapes_of (record m { count = 0 }) ≡ []
+unfolding shapes_of
+forgotten m = refl
+
+pub anew : (w : TdsWire) (m : Memory) (ready : Ready w) (r : Reading) → reading_from w m ≡ Some r → reading_from (record w { start = 0 }) (record m { count = 0 }) ≡ Some (restarted r)
+anew w m ready r at =
+    is_at_ready (record w { start = 0 }) (record m { count = 0 }) (moved w w.kind 0 ready) ∙ rw (is_the w m ready r at, forgotten m) refl

@@ -313,7 +313,7 @@ fn hear_whole(
     'tokens: while read < tokens.len() {
         let piece = behind(bytes, done);
         let mut token = None;
-        let size = whole_token(walk.start, piece, &mut token);
+        let size = whole_token(&mut walk.start, &mut walk.kind, piece, &mut token);
         if size == 0 {
             break;
         }
@@ -325,8 +325,6 @@ fn hear_whole(
             *count = read;
             return Err(fault);
         }
-        walk.kind = piece[0];
-        walk.start = walk.start.saturating_add(size as u64);
         done += size;
     }
     *taken = done;

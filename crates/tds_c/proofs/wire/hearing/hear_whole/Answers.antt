@@ -33,7 +33,7 @@ tokens-preserved c =
       run = λ first is.
           let so = c.tokens.invariant.run first is in
           whole_on c.tokens.walk c.args.memory.now c.tokens.invariant.ready c.bounds.ensures.columns c.bounds.ensures.nulls (session_from c.tokens.parts []) (session_from c.hear_token.new.parts []) c.in-Some.token c.whole_token-size.result c.tokens.done c.args.bytes.now c.behind-piece.result.now (record { session = session_from c.args.parts.now []; reading = first; rest = c.args.bytes.now }) so.0 _ _ _ _ _ _ _
-              c.behind-piece.ensures next c.in_default-hear_token.ensures.heard (search rules) (search rules) c.tokens.invariant.same c.in_default-hear_token.ensures.put so.1 so.2;
+              c.behind-piece.ensures next c.in_default-hear_token.ensures.heard (c.whole_token-size.ensures.kind some) (c.whole_token-size.ensures.start some) c.tokens.invariant.same c.in_default-hear_token.ensures.put so.1 so.2;
       same = c.hear_token.ensures.room ∙ c.tokens.invariant.same;
       room = search rules;
       within = omega (arith, c.whole_token-size.ensures.within, ap length c.behind-piece.ensures, length-drop c.tokens.done c.args.bytes.now, c.tokens.invariant.within);
