@@ -11,3 +11,4 @@ pub mod RowAt
 pub mod Keeping
 pub mod Hearing
 pub mod Ready
+pub mod Whole
