@@ -1,5 +1,5 @@
 -- What waits for a packet, in the caller's memory.
-use Rattle.std.proofs.Common.{◌≡◌, ◌∙◌, ℕ, ◌+◌, ◌-◌, ◌≤◌, ◌<◌, List, [], ◌++◌, length, take, drop, Some, None, Ok, refl, sym, ap, subst, arith}
+use Rattle.std.proofs.Common.{◌≡◌, ◌∙◌, ℕ, ◌+◌, ◌≤◌, ◌<◌, List, [], ◌++◌, length, take, drop, Some, None, Ok, refl, sym, ap, subst, arith}
 use Rattle.std.proofs.lemmas.Bool.{le-leb}
 use Rattle.std.proofs.lemmas.List.{length-append, length-drop, length-take-le, take-append-drop}
 use Rattle.std.specs.Prelude.{Result}

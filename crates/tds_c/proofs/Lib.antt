@@ -12,3 +12,4 @@ pub mod Keeping
 pub mod Hearing
 pub mod Ready
 pub mod Whole
+pub mod Walks

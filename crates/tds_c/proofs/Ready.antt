@@ -1,6 +1,7 @@
 -- A walk's value between two tokens.
 use Rattle.std.proofs.Common.{◌≡◌, ◌∙◌, ◌≤◌, ℕ, List, [], length, drop, take, map, min, get_or, ◌+◌, Option, Some, None, Ok, Err, true, refl, sym, ap, subst}
 use Rattle.std.proofs.lemmas.List.{drop-drop}
+use Rattle.std.specs.Prelude.{IsSome}
 use Rattle.tds_client.specs.declared.fault.ClientFault.{ClientFault}
 use Rattle.tds_client.specs.declared.sign.Rules.TheVariants.{Any}
 use Rattle.tds_client.specs.Machine.{signed, tells}
@@ -21,14 +22,18 @@ use Rattle.tds_wire.specs.Whole.{IsNext, behind_whole}
 use Rattle.tds_c.specs.declared.wire.walk.TdsWire.{TdsWire}
 use Rattle.tds_c.specs.declared.wire.token.TdsWireToken.{TdsWireToken}
 use Rattle.tds_c.specs.Hearing.{HasHeard, Place, Puts, Ready, reading_from}
-use Rattle.tds_c.specs.Wire.{due_from, refusal_from, truth, walk_from}
+use Rattle.tds_c.specs.Wire.{due_from, inside_from, refusal_from, truth, walk_from}
 use Rattle.tds_c.proofs.Hearing.{heard_on}
+
+in_some : {A : Type 0} (o : Option A) → IsSome o → (x : A) × (o ≡ Some x)
+in_some (Some x) is = (x, refl)
+in_some None is = absurd cc
 
 -- the walker that it is
 abbrev pub at_ready : (w : TdsWire) → Memory → Ready w → Reading
 at_ready w m ready = record {
   walk = record {
-    at = record { due = IsDue; kind = w.kind; inside = ready.inside; shape = shape_of w.shape; ciphered = truth w.ciphered; left = w.entries; parts = w.parts };
+    at = record { due = IsDue; kind = w.kind; inside = (in_some (inside_from w.inside) ready.inside).0; shape = shape_of w.shape; ciphered = truth w.ciphered; left = w.entries; parts = w.parts };
     columns = shapes_of m;
     nulls = m.nulls;
     most = min 4096 w.most;
@@ -42,14 +47,14 @@ at_ready w m ready = record {
 
 pub is_at_ready : (w : TdsWire) (m : Memory) (ready : Ready w) → reading_from w m ≡ Some (at_ready w m ready)
 unfolding walk_from due_from refusal_from head_of
-is_at_ready w m ready = rw (ready.due, ready.refused, ready.inside_is, ready.head, ready.passed) refl
+is_at_ready w m ready = rw (ready.due, ready.refused, (in_some (inside_from w.inside) ready.inside).1, ready.head, ready.passed) refl
 
 pub at_between : (w : TdsWire) (m : Memory) (ready : Ready w) → length (shapes_of m) ≤ 4096 → length m.nulls ≡ 512 → IsReady (at_ready w m ready)
 at_between w m ready columns nulls = record { walk = record { due = refl; columns = columns; nulls = nulls }; head = refl; passed = refl; whole = refl }
 
 -- behind a token that stands whole
 abbrev pub moved : (w : TdsWire) (kind start : ℕ) → Ready w → Ready (record w { kind = kind; start = start })
-moved w kind start ready = record { inside = ready.inside; inside_is = ready.inside_is; due = ready.due; refused = ready.refused; head = ready.head; passed = ready.passed }
+moved w kind start ready = record { inside = ready.inside; due = ready.due; refused = ready.refused; head = ready.head; passed = ready.passed }
 
 module _ (w : TdsWire) (m : Memory) (ready : Ready w) (columns : length (shapes_of m) ≤ 4096) (nulls : length m.nulls ≡ 512) (s : ClientSession) (token : Token) (n : ℕ) (bytes : List ℕ) (is : IsNext w.start n (Some token) bytes) where
   sees : next_token (at_ready w m ready) bytes ≡ Sees token (behind_whole (at_ready w m ready) bytes n) (drop n bytes)

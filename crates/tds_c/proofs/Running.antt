@@ -1,5 +1,5 @@
 -- Tokens that were read one after the other.
-use Rattle.std.proofs.Common.{◌≡◌, ℕ, ◌+◌, ◌<◌, List, [], ◌∷◌, ◌++◌, length, slice_set, Some, Ok, refl}
+use Rattle.std.proofs.Common.{ℕ, ◌+◌, ◌<◌, List, [], ◌∷◌, ◌++◌, length, slice_set, Some, Ok, refl}
 use Rattle.tds_c.specs.declared.tokens.TdsCursor.{TdsCursor}
 use Rattle.tds_c.specs.declared.tokens.TdsToken.{TdsToken}
 use Rattle.tds_c.specs.Tokens.{GivesInTurn, HasRun, Reads}

@@ -1,5 +1,5 @@
 -- What the export does by which a client hears the data of a packet in one call: token by token, as `tds_listen` has it.
-use Rattle.std.specs.Prelude.{◌≡◌, ◌≢◌, ◌≤◌, ◌<◌, ◌+◌, ℕ, List, [], ◌∷◌, Bool, true, false, length, drop, slice_set, Option, Some, None, Result, Ok, Err}
+use Rattle.std.specs.Prelude.{◌≡◌, ◌≢◌, ◌≤◌, ◌<◌, ◌+◌, ℕ, List, [], ◌∷◌, Bool, true, false, length, drop, slice_set, Option, Some, None, IsSome, Result, Ok, Err}
 use Rattle.tds_client.specs.declared.fault.ClientFault.{ClientFault}
 use Rattle.tds_client.specs.declared.state.Taken.{Taken}
 use Rattle.tds_client.specs.Faults as client
@@ -10,7 +10,6 @@ use Rattle.tds_listen.specs.declared.fault.ListenFault.{ListenFault}
 use Rattle.tds_listen.specs.declared.fault.ListenFault.TheVariants as faults
 use Rattle.tds_listen.specs.Faults.{broken_at, broken_at_end}
 use Rattle.tds_listen.specs.Hearing.{Both, Move, heard_end, next_heard}
-use Rattle.tds_wire.specs.declared.due.Inside.{Inside}
 use Rattle.tds_wire.specs.declared.lent.LentWalk.{LentWalk}
 use Rattle.tds_wire.specs.declared.memory.Memory.{Memory}
 use Rattle.tds_wire.specs.declared.told.Token.{Token}
@@ -20,8 +19,8 @@ use Rattle.tds_wire.specs.Reading.{Reading, restarted}
 use Rattle.tds_c.specs.declared.client.TdsClient.{TdsClient}
 use Rattle.tds_c.specs.declared.wire.hearing.Came.{Came}
 use Rattle.tds_c.specs.declared.wire.hearing.Came.TheVariants as came
-use Rattle.tds_c.specs.declared.wire.hearing.Halt.{Halt}
-use Rattle.tds_c.specs.declared.wire.hearing.Halt.TheVariants as halts
+use Rattle.tds_c.specs.declared.wire.hearing.walked.Halt.{Halt}
+use Rattle.tds_c.specs.declared.wire.hearing.walked.Halt.TheVariants as halts
 use Rattle.tds_c.specs.declared.wire.token.TdsWireToken.{TdsWireToken}
 use Rattle.tds_c.specs.declared.wire.walk.TdsWire.{TdsWire}
 use Rattle.tds_c.specs.Answers.{taken_number}
@@ -182,8 +181,7 @@ HaltsBehind first rest now room result = (last : Place) × HasHeard first last r
 
 -- The value is a walk that has passed nothing of the next token.
 pub record Ready (walk : TdsWire) : Type 0 where
-  pub inside : Inside
-  pub inside_is : inside_from walk.inside ≡ Some inside
+  pub inside : IsSome (inside_from walk.inside)
   pub due : walk.due.due ≡ 0
   pub refused : walk.refused.fault ≡ 0
   pub head : walk.head_count ≡ 0

@@ -1,5 +1,5 @@
 -- What the exports do that send any request in parts. What waits for a packet lies in the caller's memory.
-use Rattle.std.specs.Prelude.{◌≡◌, ℕ, ◌+◌, ◌≤◌, ◌<◌, ◌⊎◌, ◌==◌, nat_le, List, [], ◌++◌, length, take, Option, Some, None, Result, Ok, Err, if◌then◌else◌}
+use Rattle.std.specs.Prelude.{◌≡◌, ℕ, ◌+◌, ◌≤◌, ◌<◌, ◌⊎◌, ◌==◌, nat_le, List, [], length, take, Option, Some, None, Result, Ok, Err, if◌then◌else◌}
 use Rattle.tds_request.specs.Layout.{all_headers}
 use Rattle.tds_client.specs.declared.fault.ClientRefusal.{ClientRefusal}
 use Rattle.tds_client.specs.declared.message.MessageKind.{MessageKind}

@@ -1,5 +1,5 @@
 -- What each export does to the walk and the memory that are handed to it.
-use Rattle.std.specs.Prelude.{◌≡◌, ◌≤◌, ◌+◌, ℕ, List, [], Bool, true, false, length, min, Option, Some, None, Result, Ok, Err, if◌then◌else◌}
+use Rattle.std.specs.Prelude.{◌≡◌, ◌≤◌, ◌+◌, ℕ, List, [], length, Option, Some, None, Result, Ok, Err, if◌then◌else◌}
 use Rattle.tds_wire.specs.declared.fault.Refusal.{Refusal}
 use Rattle.tds_wire.specs.declared.lent.Fed.{Fed}
 use Rattle.tds_wire.specs.declared.lent.LentWalk.{LentWalk}

@@ -1,5 +1,5 @@
 -- A token that ended, and what is told of it, as a plain value.
-use Rattle.std.specs.Prelude.{◌≡◌, ℕ, ℤ, pos, Bool, true, false, if◌then◌else◌}
+use Rattle.std.specs.Prelude.{◌≡◌, ℕ, pos, if◌then◌else◌}
 use Rattle.tds_wire.specs.declared.told.Place.{Place}
 use Rattle.tds_wire.specs.declared.told.ChangeValue.{ChangeValue}
 use Rattle.tds_wire.specs.declared.told.ChangeValue.TheVariants as changes

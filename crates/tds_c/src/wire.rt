@@ -8,6 +8,7 @@ mod fields;
 mod hearing;
 mod token;
 mod walk;
+mod whole;
 
 use crate::wire::token::{TdsWireToken, shown};
 use crate::wire::walk::TdsWire;
@@ -56,7 +57,36 @@ pub extern "C" fn tds_wire_next(
       answer = result;
     }) }
 {
-    *count = 0;
+    let taken = walk.take_whole(memory, piece, token);
+    *count = taken;
+    if taken > 0 {
+        return 0;
+    }
+    feed(walk, memory, piece, count, token)
+}
+
+/// The same of any walk, and of any bytes.
+#[inline(never)]
+fn feed(
+    walk: &mut TdsWire,
+    memory: &mut Memory,
+    piece: &[u8],
+    count: &mut usize,
+    token: &mut TdsWireToken,
+) -> u8
+    requires { count.old ≡ 0 }
+    ensures { Feeds (record {
+      before = walk.old;
+      after = walk.new;
+      memory_before = memory.old;
+      memory_after = memory.new;
+      piece = piece.now;
+      count = count.new;
+      token_before = token.old;
+      token_after = token.new;
+      answer = result;
+    }) }
+{
     let Some(mut lent) = walk.walk() else {
         return 20;
     };
@@ -91,6 +121,19 @@ fn tell(found: Result<Fed, Refusal>, count: &mut usize, token: &mut TdsWireToken
 pub extern "C" fn tds_wire_is_between(walk: &TdsWire, memory: &Memory) -> u8
     ensures { Stands walk.now memory.now result }
 {
+    memory.bounds();
+    if walk.is_ready() {
+        1
+    } else {
+        stands(walk, memory)
+    }
+}
+
+/// The same of any walk.
+#[inline(never)]
+fn stands(walk: &TdsWire, memory: &Memory) -> u8
+    ensures { Stands walk.now memory.now result }
+{
     match walk.walk() {
         Some(lent) => if lent.is_between(memory) { 1 } else { 0 },
         None => 20,
@@ -101,6 +144,19 @@ pub extern "C" fn tds_wire_is_between(walk: &TdsWire, memory: &Memory) -> u8
 /// walk's.
 #[unsafe(no_mangle)]
 pub extern "C" fn tds_wire_restart(walk: &mut TdsWire, memory: &mut Memory) -> u8
+    ensures { Restarts walk.old walk.new memory.old memory.new result }
+{
+    if walk.is_ready() {
+        walk.start = 0;
+        memory.count = 0;
+        return 0;
+    }
+    restart(walk, memory)
+}
+
+/// The same of any walk.
+#[inline(never)]
+fn restart(walk: &mut TdsWire, memory: &mut Memory) -> u8
     ensures { Restarts walk.old walk.new memory.old memory.new result }
 {
     let Some(mut lent) = walk.walk() else {

@@ -81,7 +81,7 @@ fn shape_from(column: Column) -> Shape
     }
 }
 
-fn placed(inside: u8, column: u16) -> TdsWireInside
+pub(crate) fn placed(inside: u8, column: u16) -> TdsWireInside
     ensures { result ≡ record { column = column; inside = inside; base = record { form = 0; bytes = 0 } } }
 {
     TdsWireInside {
@@ -109,7 +109,7 @@ fn inside_code(inside: Inside) -> TdsWireInside
 }
 
 #[tactic(auto, unfolding(crate::specs::Wire::inside_from))]
-fn inside_of(held: &TdsWireInside) -> Option<Inside>
+pub(crate) fn inside_of(held: &TdsWireInside) -> Option<Inside>
     ensures { result ≡ plain.inside_from held.now }
 {
     match held.inside {

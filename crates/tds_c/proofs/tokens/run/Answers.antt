@@ -1,4 +1,4 @@
-use Rattle.std.proofs.Common.{◌≡◌, ◌∙◌, ◌<◌, length, arith, refl, sym}
+use Rattle.std.proofs.Common.{◌∙◌, ◌<◌, length, arith, refl, sym}
 use Rattle.std.proofs.lemmas.List.{length-set}
 use Rattle.tds_c.proofs.Running.{none_yet, run_on}
 use Rattle.tds_c.proofs.tokens.run.Goals as goal

@@ -21,7 +21,7 @@ returns-in-Err-clause-run c first is =
     (record { session = session_from c.tokens.parts []; reading = at_ready c.tokens.walk c.args.memory.now c.tokens.invariant.ready; rest = drop c.tokens.done c.args.bytes.now },
     rw (c.in-Err.ensures.stays, c.in-Err.ensures.same) (subst (λ (x : Reading). so_far (record { session = session_from c.args.parts.now []; reading = first; rest = c.args.bytes.now }) (session_from c.tokens.parts []) x (drop c.tokens.done c.args.bytes.now) c.args.tokens.now c.tokens.tokens c.tokens.read) (is_the c.tokens.walk c.args.memory.now c.tokens.invariant.ready so.0 so.1) so.2),
     refl,
-    rw (sym c.behind-piece.ensures) (whole_fails c.tokens.walk c.args.memory.now c.tokens.invariant.ready c.bounds.ensures.columns c.bounds.ensures.nulls (session_from c.tokens.parts []) c.in-Some.token c.whole_token-size.result c.behind-piece.result.now next c.in-Err.fault c.in-Err.ensures.heard),
+    rw (sym c.behind-piece.ensures) (whole_fails c.tokens.walk c.args.memory.now c.tokens.invariant.ready c.bounds.ensures.few c.bounds.ensures.nulls (session_from c.tokens.parts []) c.in-Some.token c.whole_token-size.result c.behind-piece.result.now next c.in-Err.fault c.in-Err.ensures.heard),
     c.in-Err.ensures.broken)
 
 pub tokens-preserved : goal.tokens-preserved
@@ -32,7 +32,7 @@ tokens-preserved c =
       ready = moved c.tokens.walk _ _ c.tokens.invariant.ready;
       run = λ first is.
           let so = c.tokens.invariant.run first is in
-          whole_on c.tokens.walk c.args.memory.now c.tokens.invariant.ready c.bounds.ensures.columns c.bounds.ensures.nulls (session_from c.tokens.parts []) (session_from c.hear_token.new.parts []) c.in-Some.token c.whole_token-size.result c.tokens.done c.args.bytes.now c.behind-piece.result.now (record { session = session_from c.args.parts.now []; reading = first; rest = c.args.bytes.now }) so.0 _ _ _ _ _ _ _
+          whole_on c.tokens.walk c.args.memory.now c.tokens.invariant.ready c.bounds.ensures.few c.bounds.ensures.nulls (session_from c.tokens.parts []) (session_from c.hear_token.new.parts []) c.in-Some.token c.whole_token-size.result c.tokens.done c.args.bytes.now c.behind-piece.result.now (record { session = session_from c.args.parts.now []; reading = first; rest = c.args.bytes.now }) so.0 _ _ _ _ _ _ _
               c.behind-piece.ensures next c.in_default-hear_token.ensures.heard (c.whole_token-size.ensures.kind some) (c.whole_token-size.ensures.start some) c.tokens.invariant.same c.in_default-hear_token.ensures.put so.1 so.2;
       same = c.hear_token.ensures.room ∙ c.tokens.invariant.same;
       room = search rules;

@@ -4,7 +4,7 @@ use Rattle.tds_listen.specs.Faults.{broken_at_end}
 use Rattle.tds_listen.specs.Hearing.{Both, heard_end}
 use Rattle.tds_wire.specs.Lent.{reading_of}
 use Rattle.tds_wire.specs.Reading.{restarted}
-use Rattle.tds_c.proofs.wire.hearing.hear_on.Goals as goal
+use Rattle.tds_c.proofs.wire.hearing.walked.hear_on.Goals as goal
 
 pub returns-in-Ok-Full-clause-run : goal.returns-in-Ok-Full-clause-run
 returns-in-Ok-Full-clause-run c first room long run = rw c.in-Ok-Full.field-0-is at (c.in-Ok-Full.ensures.run first room long run)

@@ -3,7 +3,7 @@ use Rattle.tds_client.specs.Parts.{session_from}
 use Rattle.tds_wire.specs.Lent.{reading_of}
 use Rattle.tds_c.specs.declared.wire.token.TdsWireToken.{TdsWireToken}
 use Rattle.tds_c.specs.Hearing.{HasHeard, Place}
-use Rattle.tds_c.proofs.wire.hearing.hear_tokens.Given as goal
+use Rattle.tds_c.proofs.wire.hearing.walked.hear_tokens.Given as goal
 
 abbrev pub invariant-tokens : goal.invariant-tokens
 invariant-tokens l = record {

@@ -5,7 +5,7 @@ use Rattle.tds_wire.specs.Reading.{Reading}
 use Rattle.tds_c.specs.Hearing.{Place, reading_from}
 use Rattle.tds_c.proofs.Ready.{is_read, read_as, so_far}
 use Rattle.tds_c.proofs.Starting.{is_started}
-use Rattle.tds_c.proofs.wire.hearing.hear_walked.Goals as goal
+use Rattle.tds_c.proofs.wire.hearing.walked.hear_walked.Goals as goal
 
 pub returns-clause-some : goal.returns-clause-some
 returns-clause-some c first room r long at run =

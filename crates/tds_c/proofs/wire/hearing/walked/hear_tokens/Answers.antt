@@ -5,7 +5,7 @@ use Rattle.tds_wire.specs.Lent.{reading_of}
 use Rattle.tds_c.specs.declared.wire.token.TdsWireToken.{TdsWireToken}
 use Rattle.tds_c.specs.Hearing.{HasHeard, Place}
 use Rattle.tds_c.proofs.Hearing.{heard_on}
-use Rattle.tds_c.proofs.wire.hearing.hear_tokens.Goals as goal
+use Rattle.tds_c.proofs.wire.hearing.walked.hear_tokens.Goals as goal
 
 pub tokens-preserved : goal.tokens-preserved
 tokens-preserved c = record {
