@@ -1,5 +1,5 @@
 -- Tokens that a client hears one after the other.
-use Rattle.std.proofs.Common.{◌≡◌, ◌∙◌, ℕ, ◌+◌, ◌<◌, List, [], ◌∷◌, ◌++◌, length, drop, slice_set, Option, Some, None, Ok, refl, sym, ap, subst}
+use Rattle.std.proofs.Common.{◌≡◌, ◌∙◌, ℕ, List, [], ◌∷◌, ◌++◌, length, Option, Some, None, Ok, refl, sym, ap, subst}
 use Rattle.tds_listen.specs.Hearing.{Move, next_heard}
 use Rattle.tds_wire.specs.declared.told.Token.{Token}
 use Rattle.tds_c.specs.declared.wire.token.TdsWireToken.{TdsWireToken}

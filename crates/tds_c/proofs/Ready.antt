@@ -1,5 +1,5 @@
 -- A walk's value between two tokens.
-use Rattle.std.proofs.Common.{◌≡◌, ◌∙◌, ◌≤◌, ℕ, List, [], length, drop, take, map, min, get_or, ◌+◌, Option, Some, None, Ok, Err, true, refl, sym, ap, subst}
+use Rattle.std.proofs.Common.{◌≡◌, ◌∙◌, ◌≤◌, ℕ, List, [], length, drop, min, get_or, ◌+◌, Option, Some, None, Ok, Err, true, refl, sym, ap, subst}
 use Rattle.std.proofs.lemmas.List.{drop-drop}
 use Rattle.std.specs.Prelude.{IsSome}
 use Rattle.tds_client.specs.declared.fault.ClientFault.{ClientFault}
@@ -9,11 +9,11 @@ use Rattle.tds_client.specs.Session.{ClientSession}
 use Rattle.tds_listen.specs.declared.fault.ListenFault.TheVariants as faults
 use Rattle.tds_listen.specs.Hearing.{moved_by, next_heard, told_if}
 use Rattle.tds_listen.specs.Signs.{sign_of}
+use Rattle.tds_wire.specs.declared.due.Inside.{Inside}
 use Rattle.tds_wire.specs.declared.due.Due.TheVariants.{Token as IsDue}
 use Rattle.tds_wire.specs.declared.lent.LentWalk.{LentWalk}
 use Rattle.tds_wire.specs.declared.memory.Memory.{Memory}
 use Rattle.tds_wire.specs.declared.told.Token.{Token}
-use Rattle.tds_wire.specs.Inside.{IsBetween}
 use Rattle.tds_wire.specs.Lent.{head_of, reading_of}
 use Rattle.tds_wire.specs.Memory.{shape_of, shapes_of}
 use Rattle.tds_wire.specs.Reading.{IsReady, Reading, Sees, is_between, next_token, restarted}
@@ -25,15 +25,15 @@ use Rattle.tds_c.specs.Hearing.{HasHeard, Place, Puts, Ready, reading_from}
 use Rattle.tds_c.specs.Wire.{due_from, inside_from, refusal_from, truth, walk_from}
 use Rattle.tds_c.proofs.Hearing.{heard_on}
 
-in_some : {A : Type 0} (o : Option A) → IsSome o → (x : A) × (o ≡ Some x)
+pub in_some : {A : Type 0} (o : Option A) → IsSome o → (x : A) × (o ≡ Some x)
 in_some (Some x) is = (x, refl)
 in_some None is = absurd cc
 
 -- the walker that it is
-abbrev pub at_ready : (w : TdsWire) → Memory → Ready w → Reading
-at_ready w m ready = record {
+abbrev pub reading_in : TdsWire → Memory → Inside → Reading
+reading_in w m inside = record {
   walk = record {
-    at = record { due = IsDue; kind = w.kind; inside = (in_some (inside_from w.inside) ready.inside).0; shape = shape_of w.shape; ciphered = truth w.ciphered; left = w.entries; parts = w.parts };
+    at = record { due = IsDue; kind = w.kind; inside = inside; shape = shape_of w.shape; ciphered = truth w.ciphered; left = w.entries; parts = w.parts };
     columns = shapes_of m;
     nulls = m.nulls;
     most = min 4096 w.most;
@@ -45,9 +45,15 @@ at_ready w m ready = record {
   refused = None;
 }
 
-pub is_at_ready : (w : TdsWire) (m : Memory) (ready : Ready w) → reading_from w m ≡ Some (at_ready w m ready)
+abbrev pub at_ready : (w : TdsWire) → Memory → Ready w → Reading
+at_ready w m ready = reading_in w m (in_some (inside_from w.inside) ready.inside).0
+
+is_in : (w : TdsWire) (m : Memory) (inside : Inside) → Ready w → inside_from w.inside ≡ Some inside → reading_from w m ≡ Some (reading_in w m inside)
 unfolding walk_from due_from refusal_from head_of
-is_at_ready w m ready = rw (ready.due, ready.refused, (in_some (inside_from w.inside) ready.inside).1, ready.head, ready.passed) refl
+is_in w m inside ready is = rw (ready.due, ready.refused, is, ready.head, ready.passed) refl
+
+pub is_at_ready : (w : TdsWire) (m : Memory) (ready : Ready w) → reading_from w m ≡ Some (at_ready w m ready)
+is_at_ready w m ready = let found = in_some (inside_from w.inside) ready.inside in is_in w m found.0 ready found.1
 
 pub at_between : (w : TdsWire) (m : Memory) (ready : Ready w) → length (shapes_of m) ≤ 4096 → length m.nulls ≡ 512 → IsReady (at_ready w m ready)
 at_between w m ready columns nulls = record { walk = record { due = refl; columns = columns; nulls = nulls }; head = refl; passed = refl; whole = refl }

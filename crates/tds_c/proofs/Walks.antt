@@ -113,7 +113,7 @@ module _ (p : TdsWire) (m : Memory) (piece : List ℕ) (start n : ℕ) (t : AnyT
       let q : TdsWire = record p { kind = kind; start = start } in
       let r = reading_of (ready_walk p i) m in
       let behind : reading_of (ready_walk q i) m ≡ behind_whole r piece n =
-          behind_is r piece kind start n (no_head p is.head) is.passed refl k s in
+      behind_is r piece kind start n (no_head p is.head) is.passed refl k s in
       fed p q m piece n t old new (ready_walk p i) (ready_walk q i)
       (ready_from p i is.due is.whole inside) (ready_from q i is.due is.whole inside)
       (ap (λ (x : Reading). found_to (Some t) x (drop n piece)) behind ∙ next r (ready_is p i m is few nulls) refl) within shows

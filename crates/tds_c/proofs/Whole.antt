@@ -1,5 +1,5 @@
 -- What a call did that hears a packet's data, put together.
-use Rattle.std.proofs.Common.{◌≡◌, List, [], Option, None, Some, refl}
+use Rattle.std.proofs.Common.{◌≡◌, [], Option, None, Some, refl}
 use Rattle.tds_client.specs.Session.{ClientSession}
 use Rattle.tds_wire.specs.Reading.{Reading}
 use Rattle.tds_c.specs.declared.wire.hearing.Came.{Came}

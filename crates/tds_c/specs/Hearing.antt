@@ -1,7 +1,6 @@
 -- What the export does by which a client hears the data of a packet in one call: token by token, as `tds_listen` has it.
 use Rattle.std.specs.Prelude.{◌≡◌, ◌≢◌, ◌≤◌, ◌<◌, ◌+◌, ℕ, List, [], ◌∷◌, Bool, true, false, length, drop, slice_set, Option, Some, None, IsSome, Result, Ok, Err}
 use Rattle.tds_client.specs.declared.fault.ClientFault.{ClientFault}
-use Rattle.tds_client.specs.declared.state.Taken.{Taken}
 use Rattle.tds_client.specs.Faults as client
 use Rattle.tds_client.specs.Machine.{tells}
 use Rattle.tds_client.specs.Session.{ClientSession}
@@ -10,7 +9,6 @@ use Rattle.tds_listen.specs.declared.fault.ListenFault.{ListenFault}
 use Rattle.tds_listen.specs.declared.fault.ListenFault.TheVariants as faults
 use Rattle.tds_listen.specs.Faults.{broken_at, broken_at_end}
 use Rattle.tds_listen.specs.Hearing.{Both, Move, heard_end, next_heard}
-use Rattle.tds_wire.specs.declared.lent.LentWalk.{LentWalk}
 use Rattle.tds_wire.specs.declared.memory.Memory.{Memory}
 use Rattle.tds_wire.specs.declared.told.Token.{Token}
 use Rattle.tds_wire.specs.Faults as wire

@@ -170,7 +170,9 @@ fn hear(
         return Came::NoClient;
     };
     if !parts.may_tell() || !walk.is_ready() {
-        return hear_walked(client, parts, walk, memory, bytes, ends, taken, tokens, count);
+        return hear_walked(
+            client, parts, walk, memory, bytes, ends, taken, tokens, count,
+        );
     }
     match hear_whole(&mut parts, walk, memory, bytes, taken, tokens, count) {
         Ok(()) => {}
@@ -184,7 +186,9 @@ fn hear(
             *client = TdsClient::of(&parts, 0);
             return Came::Full;
         }
-        return hear_walked(client, parts, walk, memory, bytes, ends, taken, tokens, count);
+        return hear_walked(
+            client, parts, walk, memory, bytes, ends, taken, tokens, count,
+        );
     }
     let came = end_ready(&mut parts, walk, memory, ends);
     *client = TdsClient::of(&parts, 0);

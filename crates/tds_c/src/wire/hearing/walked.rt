@@ -200,7 +200,9 @@ pub(super) fn hear_walked(
         return Came::NoClient;
     };
     let mut parts = parts;
-    let came = hear_on(&mut parts, &mut lent, memory, bytes, ends, taken, tokens, count);
+    let came = hear_on(
+        &mut parts, &mut lent, memory, bytes, ends, taken, tokens, count,
+    );
     *walk = TdsWire::of(&lent);
     *client = TdsClient::of(&parts, 0);
     came

@@ -1,9 +1,9 @@
-use Rattle.std.proofs.Common.{◌≡◌, ◌∙◌, List, [], Some, Ok, Err, refl, sym, ap, subst, rules}
+use Rattle.std.proofs.Common.{◌≡◌, ◌∙◌, [], Ok, Err, refl, sym, ap, subst, rules}
 use Rattle.tds_client.specs.Session.{ClientSession}
 use Rattle.tds_client.specs.Parts.{session_from}
 use Rattle.tds_listen.specs.Faults.{broken_at_end}
-use Rattle.tds_listen.specs.Hearing.{Both, heard_end}
-use Rattle.tds_c.proofs.Ready.{anew, is_the, stands_between}
+use Rattle.tds_listen.specs.Hearing.{heard_end}
+use Rattle.tds_c.proofs.Ready.{anew, stands_between}
 use Rattle.tds_c.proofs.wire.hearing.end_ready.Goals as goal
 
 pub returns-in-Ok : goal.returns-in-Ok

@@ -1,4 +1,4 @@
-use Rattle.std.proofs.Common.{◌≡◌, ◌-◌, ◌≤◌, List, [], length, drop, Some}
+use Rattle.std.proofs.Common.{◌≡◌, ◌-◌, ◌≤◌, [], length, drop, Some}
 use Rattle.tds_client.specs.Parts.{session_from}
 use Rattle.tds_wire.specs.Reading.{Reading}
 use Rattle.tds_c.specs.Hearing.{HasHeard, Ready, reading_from}

@@ -1,9 +1,7 @@
-use Rattle.std.proofs.Common.{◌≡◌, ◌∙◌, ◌≤◌, ◌<◌, ◌+◌, ℕ, List, [], length, drop, refl, sym, ap, arith, rules}
+use Rattle.std.proofs.Common.{◌∙◌, [], length, drop, refl, sym, ap, arith, rules}
 use Rattle.std.proofs.lemmas.List.{drop-drop, drop_all, length-drop}
 use Rattle.tds_client.specs.Parts.{session_from}
 use Rattle.tds_wire.specs.Lent.{reading_of}
-use Rattle.tds_c.specs.declared.wire.token.TdsWireToken.{TdsWireToken}
-use Rattle.tds_c.specs.Hearing.{HasHeard, Place}
 use Rattle.tds_c.proofs.Hearing.{heard_on}
 use Rattle.tds_c.proofs.wire.hearing.walked.hear_tokens.Goals as goal
 
