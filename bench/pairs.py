@@ -86,6 +86,13 @@ def service(_room):
                "request", 100, 2)
 
 
+def client(_room):
+    # A time is 100 exchanges.
+    times = lambda n: [str(100 * n)]
+    yield Pair("a client from C, by `libtds_c.a` (`bench/client.c`)", "a reset and a batch asked for, an answer of a packet heard", "client",
+               times, "plain_client.c", times, "request", 100, 2)
+
+
 def all_of(room):
-    for group in (walks, wire, judge, servers, service):
+    for group in (walks, wire, judge, servers, service, client):
         yield from group(room)
