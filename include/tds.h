@@ -244,7 +244,7 @@ uint8_t tds_client_ask(struct tds_client *client, uint8_t kind, const uint8_t *b
 /* For a driver that reads the tokens of any server by itself: it tells the client of each one, in
  * their order, and of the end of each message (behind the packet whose status has bit 1), in place
  * of tds_client_take. TDS_TELL or TDS_DROP says whether the caller that asked is told of the token.
- * 61 to 69: the client is broken. */
+ * 61 to 69: the client is broken. tds_client_hear of tds_wire.h does it for a whole packet. */
 
 /* An ENVCHANGE of a transaction or a reset (MS-TDS 2.2.7.9): 8, 9, 10 or 18; 11 counts as a begin,
  * 12 and 17 as an end. `descriptor` is the new value of 8 and 11, and else the old one. */

@@ -19,6 +19,8 @@
  *     tds_wire_is_between(&walk, &memory)    // behind the message's last packet: it ended well
  *     tds_wire_restart(&walk, &memory)       // before the next message
  *
+ * tds_client_hear does all this for a client of tds.h, in one call for a packet's data.
+ *
  * WHAT A CALLER OWES is what tds.h says: no pointer is null, and so on. A walk and its memory belong
  * together. Any bytes in them are read within their bounds: a walk that no call made is answered by
  * TDS_WIRE_NO_WALK, or is some other walk.
@@ -47,6 +49,10 @@ extern "C" {
 #define TDS_WIRE_NO_COLUMNS 72   /* a row, and no columns are known */
 #define TDS_WIRE_UNKNOWN_TYPE 73
 #define TDS_WIRE_MANY_COLUMNS 74 /* more than there is room for */
+
+/* hear: the server broke the protocol at a message's end */
+#define TDS_WIRE_CUT 75      /* it ended inside a token, and no attention was out */
+#define TDS_WIRE_NO_RESET 76 /* the request asked for a reset, and its answer tells of none */
 
 /* ---- The walk */
 
@@ -127,6 +133,33 @@ uint8_t tds_wire_is_between(const struct tds_wire *walk, const struct tds_wire_m
 
 /* Begins anew, before the first token of a message, with no columns, whatever was before. 0. */
 uint8_t tds_wire_restart(struct tds_wire *walk, struct tds_wire_memory *memory);
+
+/* ---- A client and a walk in one call */
+
+struct tds_client; /* of tds.h, as are the names TDS_.. below */
+
+/* Takes the data of a packet of any server's answer (type 04, behind its header), or those of them that
+ * are left: of each token that ends there the client hears what it says, as by tds_client_heard_change,
+ * _done or _other, and those that the caller who asked is told of are written to the front of `tokens`,
+ * `count` of them. `taken` bytes are done with. Call it once for each packet, and again with the bytes
+ * behind them while it answers TDS_TELL. `ends` is not 0 where the packet's status has bit 1.
+ *
+ * TDS_TELL (10): the room is full, and bytes are left. Without room (0, and then any pointer that is not
+ * null) those tokens alone pass that nobody is told of. TDS_OK (0): all bytes are done with, and the
+ * message goes on. Where it ends with them: TDS_FINISHED (3), TDS_ACKNOWLEDGED (4), or in cancelling
+ * TDS_MORE (1), as by tds_client_message_ended; the walk begins anew, as by tds_wire_restart. Behind a
+ * cancel a message may end inside a token.
+ *
+ * TDS_NO_CLIENT (20): the client or the walk is none, and nothing was done. 61 to 69, 71 to 76: the client
+ * is broken, by 71 to 76 as one whose connection is lost. The client has heard the tokens before, and
+ * those that are told stand in `tokens`; `taken` are the bytes of all tokens before. At 71 to 74 `refused`
+ * of the walk says which byte.
+ *
+ * A client and its walk belong together, from the first byte of an answer to its end; between two answers
+ * the client may be cancelled, asked and sent as ever. */
+uint8_t tds_client_hear(struct tds_client *client, struct tds_wire *walk, struct tds_wire_memory *memory,
+                        const uint8_t *bytes, size_t length, uint8_t ends, size_t *taken,
+                        struct tds_wire_token *tokens, size_t room, size_t *count);
 
 #ifdef __cplusplus
 }

@@ -114,6 +114,7 @@ static void of_walks(void) {
     static struct tds_wire walk;
     static struct tds_wire_memory memory;
     static struct tds_wire_token found;
+    size_t taken = 0;
     MISFIT(tds_wire_new(16, 0, 0, NULL, &memory));
     MISFIT(tds_wire_new(16, 0, 0, &walk, NULL));
     is("a walk", tds_wire_new(16, 0, 0, &walk, &memory), TDS_OK);
@@ -126,6 +127,13 @@ static void of_walks(void) {
     MISFIT(tds_wire_is_between(&walk, NULL));
     MISFIT(tds_wire_restart(NULL, &memory));
     MISFIT(tds_wire_restart(&walk, NULL));
+    MISFIT(tds_client_hear(NULL, &walk, &memory, bytes, 8, 0, &taken, &found, 1, &n));
+    MISFIT(tds_client_hear(&client, NULL, &memory, bytes, 8, 0, &taken, &found, 1, &n));
+    MISFIT(tds_client_hear(&client, &walk, NULL, bytes, 8, 0, &taken, &found, 1, &n));
+    MISFIT(tds_client_hear(&client, &walk, &memory, NULL, 8, 0, &taken, &found, 1, &n));
+    MISFIT(tds_client_hear(&client, &walk, &memory, bytes, 8, 0, NULL, &found, 1, &n));
+    MISFIT(tds_client_hear(&client, &walk, &memory, bytes, 8, 0, &taken, NULL, 1, &n));
+    MISFIT(tds_client_hear(&client, &walk, &memory, bytes, 8, 0, &taken, &found, 1, NULL));
 }
 
 /* What another file or library has than the client and the walk: the table, and with all judge and player. */

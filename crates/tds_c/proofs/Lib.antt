@@ -11,4 +11,7 @@ pub mod RowAt
 pub mod Keeping
 pub mod Awaiting
 pub mod WholeMessages
+pub mod Hearing
+pub mod Ready
+pub mod Whole
 pub mod Walks

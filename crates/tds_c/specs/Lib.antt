@@ -11,3 +11,4 @@ pub mod WireFields
 pub mod Wire
 pub mod WireTokens
 pub mod WireCalls
+pub mod Hearing

@@ -178,6 +178,8 @@ extern "C" {
     pub fn tds_wire_next(walk: &mut Wire, memory: &mut WireMemory, bytes: *const u8, length: usize, count: &mut usize, token: &mut WireToken) -> u8;
     pub fn tds_wire_is_between(walk: &Wire, memory: &WireMemory) -> u8;
     pub fn tds_wire_restart(walk: &mut Wire, memory: &mut WireMemory) -> u8;
+    #[allow(clippy::too_many_arguments)]
+    pub fn tds_client_hear(client: &mut Client, walk: &mut Wire, memory: &mut WireMemory, bytes: *const u8, length: usize, ends: u8, taken: &mut usize, tokens: *mut WireToken, room: usize, count: &mut usize) -> u8;
     #[cfg(feature = "play")]
     pub fn tds_play(schedule: *const u8, length: usize, out: *mut u8, room: usize, count: &mut usize) -> u8;
 }

@@ -138,6 +138,7 @@ _CALLS = {
     "tds_wire_next": (_WALK, _MEMORY, _BYTES, c_size_t, _COUNT, POINTER(WireToken)),
     "tds_wire_is_between": (_WALK, _MEMORY),
     "tds_wire_restart": (_WALK, _MEMORY),
+    "tds_client_hear": (_CLIENT, _WALK, _MEMORY, _BYTES, c_size_t, c_uint8, _COUNT, POINTER(WireToken), c_size_t, _COUNT),
     "tds_tokens_next": (_BYTES, c_size_t, POINTER(Cursor), POINTER(TokenValue), c_size_t, _COUNT),
     "tds_service_lease": (*_TABLE, _LENT),
     "tds_service_find": (*_TABLE, c_uint64, _COUNT),

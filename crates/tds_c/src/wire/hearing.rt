@@ -1,0 +1,223 @@
+//! The data of a packet of any server's answer in one call: of each token that ends there the client
+//! hears what it says, and those that may be told are written.
+
+ghost use Rattle.std.specs.Prelude.{◌≡◌, ◌≤◌, [], Some, drop, length};
+ghost use Rattle.tds_client.specs.Parts.{session_from};
+ghost use Rattle.tds_wire.specs.Reading.{Reading};
+ghost use Rattle.tds_c.specs.declared.wire.hearing.Came.{Came as AnyCame};
+ghost use Rattle.tds_c.specs.declared.wire.token.TdsWireToken.{TdsWireToken as AnyShown};
+ghost use Rattle.tds_c.specs.Hearing.{HasHeard, HearsAll, HearsWhole, Place, Ready, StopsBehind, came_number, fault_number, reading_from};
+ghost use Rattle.tds_c.specs.Rooms.{Room};
+ghost use Rattle.tds_c.specs.Wire.{truth};
+
+mod listening;
+mod walked;
+
+use crate::answers::taken_code;
+use crate::buffer::behind;
+use crate::client::TdsClient;
+use crate::wire::hearing::listening::{end_message, hear_token};
+use crate::wire::hearing::walked::hear_walked;
+use crate::wire::token::TdsWireToken;
+use crate::wire::walk::TdsWire;
+use tds_client::{ClientFault, ClientParts, Taken};
+use tds_listen::ListenFault;
+use tds_wire::{Memory, whole_token};
+
+/// What came of a packet's data.
+#[derive(Drop)]
+pub(crate) enum Came {
+    /// 20: the value is no client's, or no walk's.
+    NoClient,
+    /// 10: the room for tokens is full, and bytes are left.
+    Full,
+    /// 0: all bytes are done with.
+    Through,
+    /// 1, 3, 4: and with them the message has ended.
+    Ended(Taken),
+    /// 61 to 69, 71 to 74: the client is broken by what came next.
+    Broken(ListenFault),
+    /// 61 to 69, 75, 76: it is broken by the message's end.
+    BrokenAtEnd(ListenFault),
+}
+
+/// The number of a fault.
+fn fault_code(fault: &ListenFault) -> u8
+    ensures { result ≡ fault_number fault.now }
+{
+    match fault {
+        ListenFault::Client(fault) => 60 + fault.number(),
+        ListenFault::Wire(refusal) => 70 + refusal.fault.number(),
+        ListenFault::Cut => 75,
+        ListenFault::ResetUnanswered => 76,
+    }
+}
+
+#[inline(always)]
+fn came_code(came: &Came) -> u8
+    ensures { result ≡ came_number came.now }
+{
+    match came {
+        Came::NoClient => 20,
+        Came::Full => 10,
+        Came::Through => 0,
+        Came::Ended(taken) => taken_code(*taken),
+        Came::Broken(fault) => fault_code(fault),
+        Came::BrokenAtEnd(fault) => fault_code(fault),
+    }
+}
+
+/// Hears the tokens that stand whole and say in their first bytes how long they are, from the first
+/// byte on and up to the room's end. Of the walk no more is needed than where it is in the message.
+#[inline(always)]
+fn hear_whole(
+    parts: &mut ClientParts,
+    walk: &mut TdsWire,
+    memory: &Memory,
+    bytes: &[u8],
+    taken: &mut usize,
+    tokens: &mut [TdsWireToken],
+    count: &mut usize,
+) -> Result<(), ClientFault>
+    requires ready { Ready walk.old }
+    ensures ready { Ready walk.new }
+    ensures within { taken.new ≤ length bytes.now }
+    ensures room { count.new ≤ length tokens.new }
+    ensures same { length tokens.new ≡ length tokens.old }
+    ensures run { (reading : Reading) → reading_from walk.old memory.now ≡ Some reading
+        → HearsWhole (record {
+          session = session_from parts.old [];
+          reading = reading;
+          rest = bytes.now;
+        }) (drop taken.new bytes.now) (session_from parts.new []) (reading_from walk.new memory.now)
+        (record { before = tokens.old; after = tokens.new; count = count.new }) result }
+{
+    memory.bounds();
+    let mut done = 0;
+    let mut read = 0;
+    'tokens: while read < tokens.len() {
+        let piece = behind(bytes, done);
+        let mut token = None;
+        let size = whole_token(&mut walk.start, &mut walk.kind, piece, &mut token);
+        if size == 0 {
+            break;
+        }
+        let Some(token) = &token else {
+            break;
+        };
+        if let Err(fault) = hear_token(parts, token, tokens, &mut read) {
+            *taken = done;
+            *count = read;
+            return Err(fault);
+        }
+        done += size;
+    }
+    *taken = done;
+    *count = read;
+    Ok(())
+}
+
+/// All bytes are done with, between two tokens: where the message ends with them, the client hears it,
+/// and the walk begins anew.
+#[inline(always)]
+fn end_ready(parts: &mut ClientParts, walk: &mut TdsWire, memory: &mut Memory, ends: u8) -> Came
+    requires ready { Ready walk.old }
+    ensures run { (first last : Place) (room : Room AnyShown)
+        → HasHeard first last room → last.rest ≡ [] → last.session ≡ session_from parts.old []
+        → reading_from walk.old memory.old ≡ Some last.reading
+        → (reading : Reading) × (reading_from walk.new memory.new ≡ Some reading)
+        × StopsBehind first [] (record {
+          session = session_from parts.new [];
+          reading = reading;
+        }) (truth ends) room result }
+{
+    if ends == 0 {
+        return Came::Through;
+    }
+    walk.start = 0;
+    memory.count = 0;
+    match end_message(parts, true) {
+        Ok(answer) => Came::Ended(answer),
+        Err(fault) => Came::BrokenAtEnd(fault),
+    }
+}
+
+/// Hears the data: between two tokens in the walk's value, as far as they stand whole, and else by a
+/// walk.
+#[inline(always)]
+fn hear(
+    client: &mut TdsClient,
+    walk: &mut TdsWire,
+    memory: &mut Memory,
+    bytes: &[u8],
+    ends: u8,
+    taken: &mut usize,
+    tokens: &mut [TdsWireToken],
+    count: &mut usize,
+) -> Came
+    ensures { HearsAll (record {
+      before = record { client = client.old; walk = walk.old; memory = memory.old };
+      after = record { client = client.new; walk = walk.new; memory = memory.new };
+      bytes = bytes.now;
+      ends = ends;
+      taken = taken.new;
+      room = record { before = tokens.old; after = tokens.new; count = count.new };
+    }) result }
+{
+    *taken = 0;
+    *count = 0;
+    let Some(mut parts) = client.held(&[]) else {
+        return Came::NoClient;
+    };
+    if !parts.may_tell() || !walk.is_ready() {
+        return hear_walked(
+            client, parts, walk, memory, bytes, ends, taken, tokens, count,
+        );
+    }
+    match hear_whole(&mut parts, walk, memory, bytes, taken, tokens, count) {
+        Ok(()) => {}
+        Err(fault) => {
+            *client = TdsClient::of(&parts, 0);
+            return Came::Broken(ListenFault::Client(fault));
+        }
+    }
+    if *taken < bytes.len() {
+        if *count == tokens.len() && parts.may_tell() {
+            *client = TdsClient::of(&parts, 0);
+            return Came::Full;
+        }
+        return hear_walked(
+            client, parts, walk, memory, bytes, ends, taken, tokens, count,
+        );
+    }
+    let came = end_ready(&mut parts, walk, memory, ends);
+    *client = TdsClient::of(&parts, 0);
+    came
+}
+
+/// Takes the data of a packet of any server's answer, or what is left of them, up to the room's end. Of
+/// each token that ends there the client hears what it says; those that the caller who asked is told of
+/// are written to the front of `tokens`. 10 where the room is full and bytes are left; 0 where all are
+/// done with; and where `ends` isn't 0, what the message's end says.
+#[unsafe(no_mangle)]
+pub extern "C" fn tds_client_hear(
+    client: &mut TdsClient,
+    walk: &mut TdsWire,
+    memory: &mut Memory,
+    bytes: &[u8],
+    ends: u8,
+    taken: &mut usize,
+    tokens: &mut [TdsWireToken],
+    count: &mut usize,
+) -> u8
+    ensures { (came : AnyCame) × (result ≡ came_number came) × HearsAll (record {
+      before = record { client = client.old; walk = walk.old; memory = memory.old };
+      after = record { client = client.new; walk = walk.new; memory = memory.new };
+      bytes = bytes.now;
+      ends = ends;
+      taken = taken.new;
+      room = record { before = tokens.old; after = tokens.new; count = count.new };
+    }) came }
+{
+    came_code(&hear(client, walk, memory, bytes, ends, taken, tokens, count))
+}
