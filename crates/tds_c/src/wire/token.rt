@@ -186,6 +186,24 @@ pub(crate) fn put_shown(token: &Token, value: &mut TdsWireToken)
         Told::ReturnStatus(number) => {
             *value = shown_status(token, number);
         }
+        Told::Change(change) => put_change(token, change, value),
+        _ => put_other(token, value),
+    }
+}
+
+/// The same of an ENVCHANGE. Each answer of a connection that was lent before has the end of a reset.
+#[inline(always)]
+fn put_change(token: &Token, change: Change, value: &mut TdsWireToken)
+    requires { token.now.told ≡ told.Change change }
+    ensures { Shows value.new token.now token.now.told }
+{
+    match change.value {
+        ChangeValue::ResetDone => {
+            *value = TdsWireToken {
+                change: change.kind,
+                ..bare(token, 3)
+            };
+        }
         _ => put_other(token, value),
     }
 }
