@@ -1,5 +1,5 @@
 -- Where the body of an application's request is: kept while that waits, or put by the client of the connection that its application holds.
-use Rattle.std.specs.Prelude.{◌≡◌, ◌≢◌, ◌⊎◌, ◌-◌, ℕ, Bool, true, false, List, [], ◌∷◌, ◌++◌, drop, length, take, Option, Some, None, Ok, option_map, if◌then◌else◌}
+use Rattle.std.specs.Prelude.{◌≡◌, ◌⊎◌, ◌-◌, ℕ, Bool, true, false, List, [], ◌∷◌, ◌++◌, drop, length, take, Option, Some, None, Ok, option_map, if◌then◌else◌}
 use Rattle.slab.specs.Slab.{Slab, get}
 use Rattle.tds_packet.specs.declared.kind.Kind.{Kind}
 use Rattle.tds_client.specs.declared.message.MessageKind.{MessageKind}
@@ -101,14 +101,6 @@ pub data Starts : Body → Body → Type 0 where
   Strays : {b : Body} → Starts Astray b
   Goes : {kind : MessageKind} {bytes : List ℕ} {whole : Bool} {number : ℕ} {to : ClientSession} (waits out : List ℕ)
       (from : ClientSession) → ArePut whole bytes (opened from kind) to out → Starts (Kept kind bytes whole) (Going number to (waits ++ out))
-
--- So it is of all.
-abbrev pub AllStart : code.Relay → code.Relay → Type 0
-AllStart old new = (key : ℕ) → Starts (body_of key old) (body_of key new)
-
--- So it is of all but that of one application.
-abbrev pub SparesOthers : ℕ → code.Relay → code.Relay → Type 0
-SparesOthers key old new = (other : ℕ) → other ≢ key → Spared (body_of other old) (body_of other new)
 
 -- These bytes of it have come, with which it is whole or not: they are kept behind the others, or put. Or its application is to be closed.
 pub data Grows (whole : Bool) (more : List ℕ) : Body → Body → Type 0 where

@@ -8,7 +8,7 @@ use Rattle.tds_front.specs.declared.front.Said.{Said}
 use Rattle.tds_front.specs.declared.front.Said.TheVariants as said
 use Rattle.tds_front.specs.Bytes.{fed}
 use Rattle.tds_relay.specs.Asking.{said_of}
-use Rattle.tds_relay.specs.Bodies.{AreFollowed, Body, Carries, Closes, Goes, Obeys, Starts, Stays, Strays, taken_of}
+use Rattle.tds_relay.specs.Bodies.{AreFollowed, Body, Carries, Obeys, Starts, Stays, taken_of}
 use Rattle.tds_relay.specs.Desk.{Desk}
 use Rattle.tds_relay.specs.Fronts.{ClosesInstead, FedOn, IsFed, Moved, MovedOn, TakesBetween, given_by, hall_of_ends, house_with}
 use Rattle.tds_relay.specs.Hall.{End, Ends, Feeds, Hall, Move, Moves, Open, change_end, closes, end_at, moved}
@@ -16,21 +16,12 @@ use Rattle.tds_relay.specs.House.{House, Step, Admits, Hands, Makes, Removes, Ta
 use Rattle.tds_relay.specs.Posts.{Posts, change}
 use Rattle.tds_relay.specs.Taking.{IsDeaf, count_by, left_by}
 use Rattle.tds_relay.specs.Ties.{Application}
+use Rattle.tds_relay.proofs.spared.Resting.{starts_both}
 use Rattle.tds_relay.proofs.steps.Asked.{said_is}
 use Rattle.tds_relay.proofs.steps.Fed.{left_fed, waits_fed}
 use Rattle.tds_relay.proofs.steps.Fronts.{moves_closes, no_moves}
 use Rattle.tds_relay.proofs.steps.Stepping.{makes_all}
 use Rattle.tds_relay.proofs.steps.Told.{deaf_closed, tells_begin, tells_deaf, tells_moves, tells_takes}
-
--- ---- It starts, and then again
-
-pub starts_both : (a b c : Body) → Starts a b → Starts b c → Starts a c
-starts_both a b c Stays t = t
-starts_both a b c Closes Stays = Closes
-starts_both a b c Closes Closes = Closes
-starts_both a b c Strays t = Strays
-starts_both a b c (Goes waits out from put) Stays = Goes waits out from put
-starts_both a b c (Goes waits out from put) Closes = Closes
 
 -- ---- Steps one behind the other
 
@@ -40,8 +31,8 @@ module _ (key : ℕ) where
   none_followed h (move ∷ moves) a b s = none_followed (after h (Makes move)) moves a b s
 
   starts_followed : (h : House) (xs : List Step) (a b c : Body) → Starts a b → AreFollowed key h xs b c → AreFollowed key h xs a c
-  starts_followed h [] a b c s f = starts_both a b c s f
-  starts_followed h (Takes other bytes ∷ xs) a b c s f = (f.0, f.1, starts_both a b f.0 s f.2, f.3, f.4)
+  starts_followed h [] a b c s f = starts_both s f
+  starts_followed h (Takes other bytes ∷ xs) a b c s f = (f.0, f.1, starts_both s f.2, f.3, f.4)
   starts_followed h (Makes move ∷ xs) a b c s f = starts_followed (after h (Makes move)) xs a b c s f
   starts_followed h (Hands number header content part way manner ∷ xs) a b c s f = starts_followed (after h (Hands number header content part way manner)) xs a b c s f
   starts_followed h (Writes other count ∷ xs) a b c s f = starts_followed (after h (Writes other count)) xs a b c s f
