@@ -38,6 +38,26 @@ BY_HAND = {
     one_from_tds_cursor(cursor, place);
     return answer;
 """,
+    # Token by token, while there is room.
+    "tds_client_hear": """    _Alignas(16) unsigned char of_client[40] = {0}, of_walk[104] = {0}, of_memory[8706] = {0};
+    _Alignas(16) unsigned char image[88] = {0}, done[8] = {0}, counted[8] = {0};
+    uint8_t answer;
+    *taken = *count = 0;
+    one_to_tds_client(of_client, client);
+    one_to_tds_wire(of_walk, walk);
+    one_to_tds_wire_memory(of_memory, memory);
+    do {
+        answer = core_tds_client_hear(ONE_BYTES(of_client), ONE_BYTES(of_walk), ONE_BYTES(of_memory), ONE_BYTES(bytes), length, ends,
+                                      ONE_BYTES(done), ONE_BYTES(image), *count < room, ONE_BYTES(counted));
+        *taken += (size_t)one_read64(ONE_BYTES(done));
+        bytes += (size_t)one_read64(ONE_BYTES(done)), length -= (size_t)one_read64(ONE_BYTES(done));
+        if (one_read64(ONE_BYTES(counted)) != 0) one_from_tds_wire_token(&tokens[(*count)++], image);
+    } while (answer == TDS_TELL && *count < room);
+    one_from_tds_client(client, of_client);
+    one_from_tds_wire(walk, of_walk);
+    one_from_tds_wire_memory(memory, of_memory);
+    return answer;
+""",
     # A longer text is refused unread.
     "tds_client_start_batch": """    _Alignas(16) unsigned char image[40] = {0}, counted[8] = {0}, low_first[4000];
     uint8_t answer;
