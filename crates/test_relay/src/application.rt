@@ -156,6 +156,7 @@ impl Application {
             session: self.session,
             number: self.asked,
             deed,
+            kind: any_kind(random),
             padding: any_padding(random),
         }
     }
@@ -168,7 +169,7 @@ impl Application {
             // Of some packets the server has something then.
             request.padding = random.below(3_000) as u16;
         }
-        let kind = any_kind(random);
+        let kind = request.kind;
         let bytes = message_data(alloc, kind, self.state.transaction, &request)?;
         let size = any_size(random, &request);
         let reset = random.once_in(4).then_some(Reset::Full);
@@ -205,7 +206,7 @@ impl Application {
         let deed = any_deed(random);
         let request = self.next(random, deed);
         let reset = any_reset(self.took_back, random);
-        let kind = any_kind(random);
+        let kind = request.kind;
         let bytes = message_data(alloc, kind, self.state.transaction, &request)?;
         let size = any_size(random, &request);
         put_data(

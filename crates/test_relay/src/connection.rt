@@ -278,7 +278,7 @@ impl Server {
             tally.note(Wrong::Transaction);
         }
         reset(&mut self.state, self.status, &mut self.answer)?;
-        match Request::read(body) {
+        match Request::read(self.kind, body) {
             Some(request) => self.state.answer(&request, &mut self.answer)?,
             None => {
                 tally.note(Wrong::Body);

@@ -56,6 +56,8 @@ pub(crate) struct Request {
     pub(crate) session: u32,
     pub(crate) number: u8,
     pub(crate) deed: Deed,
+    /// The type of its packets.
+    pub(crate) kind: u8,
     /// How many bytes stand behind that, by which it is seen that all of a body comes, in order.
     pub(crate) padding: u16,
 }
@@ -75,7 +77,7 @@ impl Request {
         let (code, value) = self.deed.bytes();
         out.extend_from_slice(&[code, value])?;
         out.extend_from_slice(&self.session.to_le_bytes())?;
-        out.extend_from_slice(&[self.number])?;
+        out.extend_from_slice(&[self.number, self.kind])?;
         out.extend_from_slice(&self.padding.to_le_bytes())?;
         for place in 0..self.padding {
             out.push(self.byte_at(place))?;
@@ -83,18 +85,32 @@ impl Request {
         Ok(())
     }
 
-    /// The request whose body these bytes are, all of them.
-    pub(crate) fn read(body: &[u8]) -> Option<Request> {
-        let [code, value, a, b, c, d, number, low, high, padding @ ..] = body else {
+    /// The request that came in packets of this type, and whose body these bytes are, all of them.
+    pub(crate) fn read(kind: u8, body: &[u8]) -> Option<Request> {
+        let [
+            code,
+            value,
+            a,
+            b,
+            c,
+            d,
+            number,
+            sent,
+            low,
+            high,
+            padding @ ..,
+        ] = body
+        else {
             return None;
         };
         let request = Request {
             session: u32::from_le_bytes([*a, *b, *c, *d]),
             number: *number,
             deed: Deed::read(*code, *value)?,
+            kind,
             padding: u16::from_le_bytes([*low, *high]),
         };
-        if request.has_padding(padding) {
+        if *sent == kind && request.has_padding(padding) {
             Some(request)
         } else {
             None

@@ -32,7 +32,7 @@ pub(crate) enum Wrong {
     Unserved,
     /// A request came to the server with another transaction than the session's.
     Transaction,
-    /// It came with another body than it was sent with.
+    /// It came with another body than it was sent with, or in packets of another type.
     Body,
     /// Nothing goes on.
     Stuck,
