@@ -1,4 +1,4 @@
-/* The walks of bench_calls (crates/bench_calls/src/walks.rt), by the calls of include/tds.h.
+/* The walks of bench_calls (tests/crates/bench_calls/src/walks.rs), by the calls of include/tds.h.
  *
  * usage: calls WALK FILE SIZE TIMES      does this walk so many times, and prints each time what it counts:
  *                                        packets, tokens, rows and a sum

@@ -37,10 +37,10 @@ def walks(room):
         for walk, (name, plain, is_same) in WALKS.items():
             of_plain = lambda n, plain=plain, file=file, size=size: [plain, file, size, str(n)]
             if walk in FROM_C:
-                yield Pair("from C, by `libtds_c.a` (`bench/calls.c`)", f"{name}: {told}", "calls",
+                yield Pair("C", f"{name}: {told}", "calls",
                            lambda n, walk=walk, file=file, size=size: [walk, file, size, str(n)], "plain.c", of_plain,
                            "byte", os.path.getsize(file), 4 if is_same else 0)
-            yield Pair("one pass over packets", f"{name}: {told}", "bench_calls",
+            yield Pair("Rattle", f"{name}: {told}", "bench_calls",
                        lambda n, walk=walk, file=file, size=size: ["walk", walk, file, size, str(n)], "plain.c", of_plain,
                        "byte", os.path.getsize(file), 4 if is_same else 0)
 

@@ -1,4 +1,4 @@
-/* The exchanges of client.c and of crates/test_listen/src/asking.rt in plain C: a client's end of one connection, which asks
+/* The exchanges of client.c and of tests/crates/test_listen/src/asking.rs in plain C: a client's end of one connection, which asks
  * for a reset and a batch, in one packet, and hears the answer's packet. The walk is the one of plain_wire.c; what the server's tokens change is followed: the transaction, a
  * reset that was asked for, an answer's end (MS-TDS 2.2.7).
  *

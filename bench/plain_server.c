@@ -1,4 +1,4 @@
-/* The walks `serve` and `served` of bench_calls (crates/bench_calls/src/serving.rt) in plain C, written
+/* The walks `serve` and `served` of bench_calls (tests/crates/bench_calls/src/serving.rs) in plain C, written
  * for this: it reads the requests that `streams` wrote, knows the statements that stand in them and
  * no others, and writes the bytes that the server of the batch language answers (docs/SCHEDULES.md).
  * It cancels nothing, keeps nothing between packets but a session, and takes no memory.

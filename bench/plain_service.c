@@ -1,4 +1,4 @@
-/* The exchanges of crates/test_listen/src/exchanging.rt in plain C: a table of connections, of which one is leased, asked,
+/* The exchanges of tests/crates/test_listen/src/exchanging.rs in plain C: a table of connections, of which one is leased, asked,
  * heard and given back. The walk is the one of plain_wire.c; a request is put together in the connection's own packet, and
  * what the server's tokens change is followed: the transaction, a reset that was asked for, an answer's end (MS-TDS 2.2.7).
  *

@@ -15,6 +15,10 @@
  *  - What a call may write overlaps nothing else that is handed to the same call.
  *  - No other thread touches what is handed to a call while it runs. Two calls on different values
  *    may run at the same time. A value may go from thread to thread.
+ *  - The bytes that calls on a client write go out in the order of the calls. An attention that
+ *    overtakes packets that were handed out before it is acknowledged, and the next request is told
+ *    what they brought: no call can see that. So one lock holds call and write, or one queue a
+ *    connection has what goes out.
  *  - There is stack for the call (64 KB will do), and it isn't made from a signal handler or from
  *    the child of a fork in a process with threads.
  *  - libtds_c.a takes no memory, and needs of the C library memcpy and memmove alone. The libraries
@@ -106,7 +110,7 @@ extern "C" {
 #define TDS_CLIENT_ANSWER_IN_SENDING 62
 #define TDS_CLIENT_UNASKED_ACKNOWLEDGEMENT 63
 #define TDS_CLIENT_WRONG_ENV_CHANGE 64
-#define TDS_CLIENT_UNASKED_RESET 65
+#define TDS_CLIENT_UNASKED_RESET 65 /* in the strict profile, as tds_client_take reads it */
 #define TDS_CLIENT_NO_FINAL_DONE 66
 #define TDS_CLIENT_BEHIND_FINAL_DONE 67
 #define TDS_CLIENT_TOKEN 68 /* token_fault of the client says which, as 1 to 7 */
@@ -247,7 +251,8 @@ uint8_t tds_client_ask(struct tds_client *client, uint8_t kind, const uint8_t *b
  * 61 to 69: the client is broken. tds_client_hear of tds_wire.h does it for a whole packet. */
 
 /* An ENVCHANGE of a transaction or a reset (MS-TDS 2.2.7.9): 8, 9, 10 or 18; 11 counts as a begin,
- * 12 and 17 as an end. `descriptor` is the new value of 8 and 11, and else the old one. */
+ * 12 and 17 as an end. An 18 that no request asked for is a full reset's. `descriptor` is the new value
+ * of 8 and 11, and else the old one. */
 uint8_t tds_client_heard_change(struct tds_client *client, uint8_t change, uint64_t descriptor);
 
 /* A DONE (0xFD), DONEPROC (0xFE) or DONEINPROC (0xFF) with this status. */

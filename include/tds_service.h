@@ -41,8 +41,8 @@ extern "C" {
 #define TDS_SERVICE_ALL_IN_USE 35 /* as many connections are there as may be, and none can be lent */
 #define TDS_SERVICE_NOT_NOW 36  /* the connection isn't idle, or isn't so that this can be done */
 
-/* TDS_CLIENT_ANSWER_IN_IDLE to TDS_CLIENT_LOST (61 to 69, not 67 and 68): the server broke the
- * protocol. So it did by these: */
+/* TDS_CLIENT_ANSWER_IN_IDLE to TDS_CLIENT_LOST (61 to 69, not 65, 67 and 68): the server broke
+ * the protocol. So it did by these: */
 #define TDS_SERVICE_CUT 75        /* its message ended inside a token */
 #define TDS_SERVICE_NO_RESET 76   /* a request asked for a reset, and its answer tells of none */
 

@@ -1,22 +1,26 @@
 #!/usr/bin/env python3
 """Writes the TCP payloads of captures as tdswatch reads them: capture_lines.py [--port N] FILE..
 
-A line `STREAM DIRECTION TIME HEX` for each piece, in the order in which they were seen. tshark reads the
-files (pcap, pcapng). Bytes that were sent again are left out, and those that came out of order wait for
+A line `STREAM DIRECTION TIME HEX` for each piece, in the order in which they were seen; TIME is microseconds since
+the file's first packet. tshark reads the files (pcap, pcapng). Bytes that were sent again are left out, and those that came out of order wait for
 what they follow. A stream of which a mebibyte waits is given up, and so is one that ends while bytes wait:
-a line on standard error says which, and the exit status is 1."""
+a line on standard error says which, and the exit status is 1. So it is where no packet of a file is of that port: the
+line says which ports were seen."""
 
 import argparse
+import collections
 import os
 import shutil
 import subprocess
 import sys
 
-FIELDS = ["tcp.stream", "tcp.dstport", "frame.time_epoch", "tcp.seq", "tcp.flags.syn", "tcp.flags.fin",
+FIELDS = ["tcp.stream", "tcp.dstport", "frame.time_relative", "tcp.seq", "tcp.flags.syn", "tcp.flags.fin",
           "tcp.flags.reset", "tcp.payload"]
 # What tshark need not look into.
 UNREAD = ["tds", "tls", "data"]
 MOST_WAITING = 1 << 20
+# So many of the ports that were seen are told.
+MOST_PORTS = 8
 
 
 class Side:
@@ -65,6 +69,12 @@ class Capture:
             print(f"capture_lines: tshark couldn't read {self.path} to its end", file=sys.stderr)
             self.is_whole = False
 
+    def ports(self):
+        """The ports of the file's packets that have bytes, those with most packets first."""
+        words = ["tshark", "-n", "-r", self.path, "-Y", "tcp.len > 0", "-T", "fields", "-e", "tcp.srcport", "-e", "tcp.dstport"]
+        ran = subprocess.run(words, capture_output=True, text=True, check=False)
+        return collections.Counter(ran.stdout.split()).most_common(MOST_PORTS)
+
     def close(self, number, time):
         """A stream ends."""
         self.closed.add(number)
@@ -90,7 +100,9 @@ class Capture:
 
     def write(self):
         """Writes the lines; streams are numbered from `first` on."""
+        is_empty = True
         for stream, target, time, seq, syn, fin, reset, payload in self.rows():
+            is_empty = False
             number = self.first + int(stream)
             self.last = max(self.last, number + 1)
             if number in self.closed:
@@ -105,6 +117,11 @@ class Capture:
                 self.close(number, microseconds(time))
         for number in sorted({number for (number, _), side in self.sides.items() if side.waiting} - self.closed):
             self.give_up(number)
+        if is_empty and self.is_whole:
+            seen = ", ".join(f"{port} ({count} packets)" for port, count in self.ports())
+            print(f"capture_lines: {self.path}: no packet of port {self.port}; "
+                  + (f"seen: {seen}; --port N takes another one" if seen else "no TCP with bytes in it"), file=sys.stderr)
+            self.is_whole = False
 
 
 def write_all(paths, port):

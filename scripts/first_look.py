@@ -1,11 +1,10 @@
 #!/usr/bin/env python3
 """What a wrapper answers by itself: first_look.py NAME before|after|help WORD..
 
-before: what needs no program is answered before one is compiled: help, words that are wrong, a file that
-can't be read or is no JSON. It ends with 0 where the program is to answer, with 100 where help was printed,
-else with the program's status.
+before: what needs no program is answered before one is compiled: words that are wrong, a file that can't be
+read or is no JSON. It ends with 0 where the program is to answer, else with the program's status.
 after: behind a run that ended with 1 or 2, a line says where and what is wrong.
-help: prints help or the version."""
+help: prints what is stored of the program's help, or the version."""
 
 import errno
 import os
@@ -147,16 +146,7 @@ def print_help(name, words):
         print(help_text(name), end="")
 
 
-def asks_for_help(name, words):
-    alone = words[:1] if name == "tdsplay" else words
-    is_alone = name != "tdsplay" or len(words) == 1
-    return is_alone and any(it in ("--help", "-h", "--version", "-V") for it in alone)
-
-
 def before(name, words):
-    if asks_for_help(name, words):
-        print_help(name, words)
-        return 100
     if name not in COMMANDS:
         if words or name not in WORDS:
             return 0

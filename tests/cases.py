@@ -8,7 +8,7 @@ import threading
 TESTS = os.path.dirname(os.path.abspath(__file__))
 ROOT = os.path.dirname(TESTS)
 DATA = f"{TESTS}/data"
-SCHEDULES = f"{ROOT}/crates/test_calls/data/schedules"
+SCHEDULES = f"{ROOT}/schedules"
 
 
 class Cases:

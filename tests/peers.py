@@ -4,8 +4,10 @@ It is written from MS-TDS alone, and calls nothing of this repository. Numbers o
 byte first, those of tokens and of headers behind them their low byte first.
 """
 
+import contextlib
 import os
 import select
+import signal
 import socket
 import struct
 import subprocess
@@ -13,6 +15,8 @@ import time
 
 # How long, in seconds, anything is waited for that must come.
 PATIENCE = 60
+# How long a wrapper may compile the sources before its program listens.
+COMPILES = 1800
 
 
 class Server:
@@ -22,18 +26,40 @@ class Server:
         self.start(program, "127.0.0.1:0", *words)
 
     def start(self, program, *words):
-        self.child = subprocess.Popen([program, *words], stderr=subprocess.DEVNULL)
-        until = time.monotonic() + PATIENCE
-        while not (port := self.listens_on()):
+        with open(program, "rb") as it:
+            is_wrapper = it.read(2) == b"#!"
+        self.child = subprocess.Popen([program, *words], stdin=subprocess.DEVNULL, stderr=None if is_wrapper else subprocess.DEVNULL,
+                                      start_new_session=True)
+        self.pid = self.child.pid
+        try:
+            self.wait(program, is_wrapper)
+        except BaseException:
+            self.end()
+            raise
+
+    def wait(self, program, is_wrapper):
+        """Waits until it listens: the child itself, or what a wrapper started."""
+        until = time.monotonic() + (COMPILES if is_wrapper else PATIENCE)
+        while True:
+            for self.pid in self.session() if is_wrapper else [self.child.pid]:
+                if port := self.listens_on():
+                    self.port = port
+                    return
             if self.child.poll() is not None or time.monotonic() > until:
                 raise OSError(f"{program} doesn't listen")
-            time.sleep(0.01)
-        self.port = port
+            time.sleep(0.1 if is_wrapper else 0.01)
+
+    def session(self):
+        """The processes that the child has started, and itself."""
+        for name in filter(str.isdigit, os.listdir("/proc")):
+            with contextlib.suppress(OSError):
+                if os.getsid(int(name)) == self.child.pid:
+                    yield int(name)
 
     def sockets(self):
         """The sockets that the server has, the listener among them, each by its number."""
         found = set()
-        folder = f"/proc/{self.child.pid}/fd"
+        folder = f"/proc/{self.pid}/fd"
         try:
             for name in os.listdir(folder):
                 link = os.readlink(f"{folder}/{name}")
@@ -73,12 +99,17 @@ class Server:
         return self
 
     def __exit__(self, *_):
-        self.child.terminate()
+        self.end()
+
+    def end(self):
+        """Ends it, and whatever it has started."""
+        with contextlib.suppress(OSError):
+            os.killpg(self.child.pid, signal.SIGTERM)
         self.child.wait()
 
     def memory(self):
         """The most memory that it had, in KB."""
-        with open(f"/proc/{self.child.pid}/status", encoding="ascii") as status:
+        with open(f"/proc/{self.pid}/status", encoding="ascii") as status:
             return next(int(line.split()[1]) for line in status if line.startswith("VmHWM"))
 
 

@@ -6,7 +6,7 @@ import (
 	"io"
 	"sync"
 
-	"mouktelf/tds"
+	tds "mouktelf"
 )
 
 // session is what a connection is in, asked of the proved client: whether a request is underway, which packets, headers and

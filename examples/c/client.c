@@ -1,6 +1,6 @@
 /* A request and its answer, a cancel that crosses the answer's end, a reset, and a peer's fault. */
 #include "bytes.h"
-#include "tds.h"
+#include "../../c/mouktelf.h"
 #include <stdio.h>
 #include <stdlib.h>
 #include <string.h>

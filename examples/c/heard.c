@@ -1,6 +1,6 @@
 /* A driver with a reader of its own: it streams its requests, reads the tokens of seven answers as a
  * SQL Server gives them (MS-TDS 2.2.7), and tells the client of each. */
-#include "tds.h"
+#include "../../c/mouktelf.h"
 #include <stdio.h>
 #include <stdlib.h>
 #include <string.h>

@@ -1,8 +1,8 @@
 /* Judges recorded connections, and compares what is found with what the file says. The file has a line
- * for each piece, as crates/test_judge/data/captures.txt says.
+ * for each piece, as tests/crates/test_judge/data/captures.txt says.
  *
  * usage: judge FILE */
-#include "tds_judge.h"
+#include "../../c/mouktelf.h"
 #include <inttypes.h>
 #include <stdio.h>
 #include <stdlib.h>

@@ -1,7 +1,7 @@
 /* Compares the header's structs with those of the library: where each field lies, by what the
  * library writes there, and that nothing is written behind a struct. */
 #include "bytes.h"
-#include "tds.h"
+#include "../../c/mouktelf.h"
 #include <stdio.h>
 #include <stdlib.h>
 #include <string.h>

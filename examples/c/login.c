@@ -2,7 +2,7 @@
  * batch in its middle, and commits.
  *
  *     cc login.c $(pkg-config --cflags --libs mouktelf) && tdsserve 127.0.0.1:1433 & ./a.out 1433 */
-#include "tds.h"
+#include "../../c/mouktelf.h"
 #include <arpa/inet.h>
 #include <netinet/in.h>
 #include <stdio.h>

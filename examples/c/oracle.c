@@ -1,5 +1,5 @@
 /* Plays each schedule that is named, and compares its report with the text beside it. */
-#include "tds_play.h"
+#include "../../c/mouktelf.h"
 #include <stdio.h>
 #include <stdlib.h>
 #include <string.h>

@@ -1,7 +1,7 @@
 /* Five callers and two connections, in front of a server in memory. Each asks by his lease, and what
  * comes on a connection is told with the lease that it belongs to (tds_service.h); where its tokens end
  * is tds_wire.h's. Ben goes while his answer is on its way, so his cancel crosses it. */
-#include "tds_service.h"
+#include "../../c/mouktelf.h"
 #include <stdio.h>
 #include <stdlib.h>
 #include <string.h>

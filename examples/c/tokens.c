@@ -2,7 +2,7 @@
  * what is told of it. The bytes are the data of its packets, as hexadecimal digits in a file.
  *
  * usage: tokens FILE [BYTES]      in pieces of so many bytes, 4,088 if not said otherwise */
-#include "tds_wire.h"
+#include "../../c/mouktelf.h"
 #include <ctype.h>
 #include <inttypes.h>
 #include <stdio.h>

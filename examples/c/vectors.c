@@ -2,7 +2,7 @@
  * its tokens.
  *
  * usage: vectors FILE */
-#include "tds_wire.h"
+#include "../../c/mouktelf.h"
 #include <inttypes.h>
 #include <stdio.h>
 #include <stdlib.h>

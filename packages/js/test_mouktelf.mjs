@@ -1,4 +1,5 @@
-// What the package does without a socket: an exchange by known bytes, what is refused, and each schedule that is named.
+// What the package does without a socket: an exchange by known bytes, what is refused, and each schedule that is
+// named, where the player's module is here, as in a release.
 //
 //     node test_mouktelf.mjs SCHEDULE.json ..
 //
@@ -6,8 +7,7 @@
 
 import assert from "node:assert/strict";
 import { readFileSync } from "node:fs";
-import { Answer, Client, Fault, MessageKind, Reset, Stage, Walk, login, packetsOf } from "mouktelf";
-import { NotPlayed, play } from "mouktelf/play";
+import { Answer, Client, Fault, MessageKind, Refused, Reset, Stage, Walk, login, packetsOf } from "mouktelf";
 
 const bytes = digits => new Uint8Array(Buffer.from(digits, "hex"));
 const hex = data => Buffer.from(data).toString("hex").toUpperCase();
@@ -73,6 +73,34 @@ function streamed() {
   assert.deepEqual([heard, client.messageEnded()], [[false], Answer.ACKNOWLEDGED]);
 }
 
+function asked() {
+  const client = new Client(512);
+  client.startBatch("say a");
+  client.sendAll();
+  return [client, new Walk()];
+}
+
+/** A packet's data in one call: what a walk finds and the client hears, also where that is more than goes into one. */
+function heardAtOnce() {
+  const begun = bytes("E30B0008080500000000000000" + "00" + ENDED.slice(16));
+  let [client, walk] = asked();
+  assert.deepEqual(client.hear(walk, begun.subarray(0, 5), false), { answer: Answer.MORE, tokens: [] });
+  assert.deepEqual(client.hear(walk, begun.subarray(5), true), { answer: Answer.FINISHED, tokens: [...new Walk().tokens(begun)] });
+  assert.equal(client.descriptor, 5n);
+  const many = bytes("7901000000".repeat(300) + ENDED.slice(16));
+  [client, walk] = asked();
+  assert.deepEqual(client.hear(walk, many, true), { answer: Answer.FINISHED, tokens: [...new Walk().tokens(many)] });
+  for (const [data, number, count] of [["790100000000", 71, 1], ["7901", 75, 0]]) {
+    [client, walk] = asked();
+    assert.throws(() => client.hear(walk, bytes(data), true), why => why instanceof Fault && why.number === number && why.isPeer
+      && why.tokens.length === count && (why instanceof Refused) === (number === 71) && (number !== 71 || why.at === 5));
+    assert.equal(client.stage, Stage.BROKEN);
+  }
+  [client] = asked();
+  assert.deepEqual([client.heardChange(8, 7n), client.heardOther(), client.heardDone(0xfd, 0)], [true, true, true]);
+  assert.deepEqual([client.messageEnded(), client.descriptor], [Answer.FINISHED, 7n]);
+}
+
 function refused() {
   for (const size of [0, 511, 32768, 65536, -1, 1.5, "512"]) refuses(23, () => new Client(size));
   const client = new Client(512);
@@ -93,7 +121,8 @@ function refused() {
   assert.equal(hex(login("sa")).slice(0, 24), "1001006A00000100" + "62000000");
 }
 
-function schedules(names) {
+async function schedules(names) {
+  const { NotPlayed, play } = await import("mouktelf/play");
   for (const name of names) assert.equal(play(readFileSync(name)), readFileSync(name.replace(/json$/, "txt"), "utf8"), name);
   const one = { version: 1, packet_size: 512, max: 1, events: [["lease"]] };
   assert.ok(play(one).startsWith("1 leased 1 on 1 new\n"));
@@ -103,6 +132,7 @@ function schedules(names) {
 exchange();
 cancelled();
 streamed();
+heardAtOnce();
 refused();
-schedules(process.argv.slice(2));
+if (process.argv.length > 2) await schedules(process.argv.slice(2));
 console.log(`${process.argv.length - 2} schedules, and all else is right`);

@@ -1,11 +1,13 @@
-"""What the package does without a socket: an exchange by known bytes, what is refused, and each schedule that is named.
+"""What the package does without a socket: an exchange by known bytes, what is refused; and each schedule that is named, where
+the library has the player, as a release's has.
 
 The bytes are those of examples/c/bytes.h, and stand in docs/PROTOCOL.md."""
 
 import sys
 
 from mouktelf import (
-    Answer, Change, Client, Columns, Done, Fault, Message, MessageKind, NotPlayed, Reset, Row, Stage, Walk, packets_of, play,
+    Answer, Change, Client, Columns, Done, Fault, Heard, Message, MessageKind, NotPlayed, Refused, Reset, Row, Stage, Walk, packets_of,
+    play,
 )
 
 BEGIN = bytes.fromhex("0E010022000001001600000012000000020000000000000000000100000005000000")
@@ -70,6 +72,40 @@ def streamed():
     refuses(32, client.put, b"a")
 
 
+def asked():
+    client = Client(512)
+    client.start_batch("say a")
+    client.send_all()
+    return client, Walk()
+
+
+def heard_at_once():
+    """A packet's data in one call: what a walk finds and the client hears, also where that is more than goes into one."""
+    begun = bytes.fromhex("E30B0008080500000000000000" + "00") + ENDED[8:]
+    client, walk = asked()
+    assert client.hear(walk, begun[:5], False) == Heard(Answer.MORE, [])
+    assert client.hear(walk, begun[5:], True) == Heard(Answer.FINISHED, list(Walk().tokens(begun)))
+    assert client.descriptor == 5
+    many = b"\x79\1\0\0\0" * 300 + ENDED[8:]
+    client, walk = asked()
+    assert client.hear(walk, many, True) == Heard(Answer.FINISHED, list(Walk().tokens(many)))
+    for data, number, tokens in ((b"\x79\1\0\0\0\0", 71, 1), (b"\x79\1", 75, 0)):
+        client, walk = asked()
+        try:
+            client.hear(walk, data, True)
+        except Fault as why:
+            assert (why.number, why.is_peer, len(why.tokens), client.stage) == (number, True, tokens, Stage.BROKEN)
+            assert isinstance(why, Refused) == (number == 71) and (number != 71 or (why.at, why.byte) == (5, 0))
+        else:
+            raise AssertionError(f"{number} is wanted")
+
+
+def by_a_reader_of_its_own():
+    client, _ = asked()
+    assert client.heard_change(8, 7) and client.heard_other() and client.heard_done(0xFD, 0)
+    assert client.message_ended() == Answer.FINISHED and client.descriptor == 7
+
+
 def refused():
     for size in (0, 511, 32768, 65536, -1):
         refuses(23, Client, size)
@@ -107,6 +143,9 @@ if __name__ == "__main__":
     exchange()
     cancelled()
     streamed()
+    heard_at_once()
+    by_a_reader_of_its_own()
     refused()
-    schedules(sys.argv[1:])
+    if sys.argv[1:]:
+        schedules(sys.argv[1:])
     print(f"{len(sys.argv) - 1} schedules, and all else is right")

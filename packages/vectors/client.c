@@ -1,5 +1,5 @@
-/* The client of include/tds.h as a program that run_vectors.py drives: a call a line, and its answer. */
-#include "tds.h"
+/* The client of mouktelf.h as a program that run_vectors.py drives: a call a line, and its answer. */
+#include "mouktelf.h"
 #include <inttypes.h>
 #include <stdio.h>
 #include <stdlib.h>

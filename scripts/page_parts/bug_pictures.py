@@ -1,4 +1,4 @@
-"""A picture of rows that were written by hand (page/bugs.txt): who sends what to whom, time going down."""
+"""A picture of rows that were written by hand (page/parts/bugs.txt): who sends what to whom, time going down."""
 
 import html
 import re
@@ -21,7 +21,7 @@ def row_of(line):
         return {"empty": True}
     found = ROW_FORM.fullmatch(line)
     if not found or found[2] not in LANES or (found[4] or "driver") not in LANES:
-        sys.exit(f"page/bugs.txt: this is no row: {line}")
+        sys.exit(f"page/parts/bugs.txt: this is no row: {line}")
     is_wrong, start, arrow, end, later, words = found.groups()
     return {"wrong": bool(is_wrong), "from": start, "arrow": arrow, "to": end, "later": int(later or 0), "words": words}
 

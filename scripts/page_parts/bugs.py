@@ -1,6 +1,6 @@
 """What others get wrong, as a page: each bug of docs/PEERS.md and of docs/SERVING.md.
 
-The pictures of what goes wrong, and what a driver printed, are told by page/bugs.txt; the words are those of
+The pictures of what goes wrong, and what a driver printed, are told by page/parts/bugs.txt; the words are those of
 docs/PEERS.md, so each section and each item of its list must have a picture. What happens here the page's player
 draws, or a test says it."""
 
@@ -13,10 +13,10 @@ import urllib.parse
 from bug_pictures import picture
 
 TOP = os.path.dirname(os.path.dirname(os.path.dirname(os.path.abspath(__file__))))
-FOLDER = f"{TOP}/crates/test_calls/data/schedules"
-TESTS = "crates/test_layers/data"
+FOLDER = f"{TOP}/schedules"
+TESTS = "tests/crates/test_layers/data"
 KEYS = ("title", "elsewhere", "here", "item", "recorded", "packets", "schedule", "test")
-PLAYER = "index.html"
+PLAYER = "mouktelf.html"
 
 
 def text_of(path):
@@ -25,9 +25,9 @@ def text_of(path):
 
 
 def entries():
-    """The bugs of page/bugs.txt, each with its name, its keys and the rows of its picture."""
+    """The bugs of page/parts/bugs.txt, each with its name, its keys and the rows of its picture."""
     found = []
-    for line in text_of(f"{TOP}/page/bugs.txt").splitlines():
+    for line in text_of(f"{TOP}/page/parts/bugs.txt").splitlines():
         key, _, value = line.partition(": ")
         if not line or line.startswith("#"):
             continue
@@ -95,10 +95,10 @@ def with_words(entry, named, items):
     if "item" in entry:
         mistake, here = next((it for it in items if is_about(entry, it)), (None, None))
         if mistake is None:
-            sys.exit(f"page/bugs.txt: docs/PEERS.md has no item {entry['item']}")
+            sys.exit(f"page/parts/bugs.txt: docs/PEERS.md has no item {entry['item']}")
         return {"title": entry["item"], "elsewhere": mistake, "here": "Here " + here} | entry
     if entry["name"] not in named and "title" not in entry:
-        sys.exit(f"page/bugs.txt: docs/PEERS.md has no section of {entry['name']}")
+        sys.exit(f"page/parts/bugs.txt: docs/PEERS.md has no section of {entry['name']}")
     return named.get(entry["name"], {}) | entry
 
 
@@ -111,7 +111,7 @@ def bugs():
     schedules_there = {it.removesuffix(".json") for it in os.listdir(f"{FOLDER}/peers") if it.endswith(".json")}
     missing |= schedules_there - {it["name"] for it in found}
     if missing:
-        sys.exit(f"page/bugs.txt: these have no picture: {sorted(missing)}")
+        sys.exit(f"page/parts/bugs.txt: these have no picture: {sorted(missing)}")
     return [with_words(it, named, items) for it in found]
 
 
@@ -146,7 +146,7 @@ def part_of(found, form):
     path, _, name = found.partition(" ")
     parts = re.findall(form.format(re.escape(name)), text_of(f"{TOP}/{path}"))
     if not parts:
-        sys.exit(f"page/bugs.txt: {path} has no {name}")
+        sys.exit(f"page/parts/bugs.txt: {path} has no {name}")
     return path, "".join(parts)
 
 
@@ -155,7 +155,7 @@ def case_of(bug):
     path, _, case = bug["test"].partition(" ")
     found = re.search(rf"(?m)^= \w+: {re.escape(case)}\n((?:.+\n)+)", text_of(f"{TOP}/{TESTS}/{path}"))
     if not found:
-        sys.exit(f"page/bugs.txt: {path} has no case {case}")
+        sys.exit(f"page/parts/bugs.txt: {path} has no case {case}")
     return f"{TESTS}/{path}, case “{case}”", found[1]
 
 

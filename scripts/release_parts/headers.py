@@ -47,7 +47,7 @@ ELSEWHERE = {"tds_view"}
 FIRST = """/* Mouktelf {version}: the client's end of a connection that speaks the Tabular Data Stream (MS-TDS), a table of
  * connections that callers share, a judge of recorded ones, and the player of schedules. C99 and C++. It is these headers, one behind the other:
  * {names}.
- * https://learn.microsoft.com/openspecs/windows_protocols/ms-tds has the protocol. */
+ * https://learn.microsoft.com/openspecs/windows_protocols/ms-tds has the protocol. No licence is chosen for it yet. */
 #ifndef MOUKTELF_H
 #define MOUKTELF_H
 

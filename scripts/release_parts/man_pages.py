@@ -1,5 +1,6 @@
-"""Man pages: man_pages.py OUT [TDSTLS]. Section 3 out of the headers' comments and prototypes, a page a header; section 1 out of
-the programs' help (scripts/help), and out of what the built tdstls says. Nothing is written by hand here but the frame."""
+"""Man pages: man_pages.py OUT PROGRAMS. Section 3 out of the headers' comments and prototypes, a page a header; section 1 out of
+what each program of the folder PROGRAMS says to --help; tdsplay has no such word, and what is stored of it is taken. Nothing is
+written by hand here but the frame."""
 
 import os
 import re
@@ -46,12 +47,13 @@ def of_header(name):
     return page + as_it_is(text.strip())
 
 
-def of_program(name):
-    with open(f"{headers.TOP}/scripts/help/{name}", encoding="utf-8") as it:
-        text = it.read()
-    # The last paragraph of some is about this repository's scripts.
-    text = text.split("\nTo prove and to build the program")[0].strip()
-    return frame(name, 1, PROGRAMS[name]) + [".SH DESCRIPTION"] + as_it_is(text)
+def of_program(name, program):
+    if name == "tdsplay":
+        with open(f"{headers.TOP}/scripts/help/{name}", encoding="utf-8") as it:
+            text = it.read()
+    else:
+        text = subprocess.run([program, "--help"], stdin=subprocess.DEVNULL, capture_output=True, text=True, check=True).stdout
+    return frame(name, 1, PROGRAMS[name]) + [".SH DESCRIPTION"] + as_it_is(text.strip())
 
 
 def of_tdstls(program):
@@ -66,8 +68,9 @@ def page_name(page):
     return re.match(r"(\S+)", page[2])[1]
 
 
-def main(out, *tdstls):
-    programs = [of_program(it) for it in PROGRAMS] + [of_tdstls(it) for it in tdstls]
+def main(out, folder):
+    programs = [of_program(it, f"{folder}/{it}") for it in PROGRAMS if os.path.exists(f"{folder}/{it}")]
+    programs += [of_tdstls(it) for it in (f"{folder}/tdstls",) if os.path.exists(it)]
     for section, pages in ((3, [of_header(it) for it in headers.here()]), (1, programs)):
         os.makedirs(f"{out}/man{section}", exist_ok=True)
         for page in pages:

@@ -1,27 +1,22 @@
-"""One C file: print_part.py CRATE MODULE.bc LIBRARY.log MODULE.ll. What it is stands in its first lines."""
+"""One C file: print_part.py CRATE MODULE.ll. What it is, and what it was made of, stands in its first lines."""
 
-import hashlib
-import os
 import re
-import subprocess
 import sys
 
 import headers
+import origin
 from layer import layer
 from one_file import Printer
 
 FIRST = """/* Mouktelf {version}: {what}.
- * Build it by `cc -c {file}` beside mouktelf.h, with any compiler of C11.
+ * Build it by `cc -c {file}` beside mouktelf.h, with any compiler of C11. No licence is chosen for it yet (LICENCE).
  *
  * This is C made from proved source, and no C that is proved. The source is Rattle, each function of it with a
  * contract that was proved; the kit's backend made an LLVM module of it, LLVM made that smaller, and this file was
  * printed from what came out. So besides what libmouktelf.a trusts (the checker, the kit's backend, the middle of
  * LLVM) it trusts the printer and the layer at its end (scripts/release_parts), and your C compiler. Never edit it.
  *
- * {proved}
- * module {module}
- * commit {commit}
- * kit {kit}
+ * {origin}
  *
  * {wants} There is no state here: two calls on different values may run at the same time. */
 #include "mouktelf.h"
@@ -48,15 +43,7 @@ NARROW = """#if UINTPTR_MAX != UINT64_MAX || !defined(__SIZEOF_INT128__) || __BY
 """
 
 
-def said(*words):
-    return subprocess.run(words, capture_output=True, text=True, check=True, cwd=headers.TOP).stdout.strip()
-
-
-def main(crate, module, log, text):
-    with open(log, encoding="utf-8") as it:
-        proved = re.findall(r"(?m)^logic=.*", it.read())[-1]
-    with open(module, "rb") as it:
-        digest = hashlib.sha256(it.read()).hexdigest()
+def main(crate, text):
     with open(text, encoding="utf-8") as it:
         printer = Printer(it.read())
     calls = headers.calls_of(crate)
@@ -69,9 +56,8 @@ def main(crate, module, log, text):
     whole = printer.whole()
     machines = NARROW if printer.is_narrow(whole) else FEW if left_out else ""
     wants = TAKES_MEMORY if re.search(r"\brattle_(?:re)?alloc\(", whole) else TAKES_NONE
-    # A release is made of a commit; what isn't committed is said in MADE_OF.
-    print(FIRST.format(version=headers.version(), what=PARTS[crate], file=headers.FILES[crate], proved=proved, module=digest, wants=wants,
-                       machines=machines, commit=said("git", "rev-parse", "HEAD"), kit=said("rt", "version").split("\n")[0]))
+    print(FIRST.format(version=headers.version(), what=PARTS[crate], file=headers.FILES[crate], origin="\n * ".join(origin.lines(crate)),
+                       wants=wants, machines=machines))
     print(whole)
     print(layer_text, end="")
 

@@ -1,9 +1,9 @@
-"""The answers that the tests of all languages walk: vectors.py OUT. Out of crates/test_wire/data, which were written by
+"""The answers that the tests of all languages walk: vectors.py OUT. Out of tests/crates/test_wire/data, which were written by
 hand from MS-TDS, one file that is easy to read: of each answer
 
     = NAME FORM AGREED      FORM is short or full; AGREED is nothing, encryption or ranks
     :DIGITS                 its bytes
-    AT KIND LENGTH ..       a line a token, as crates/test_wire/data says; where FORM is short, of a DONE the status, the
+    AT KIND LENGTH ..       a line a token, as tests/crates/test_wire/data says; where FORM is short, of a DONE the status, the
                             command and the count too, of an ENVCHANGE the type, and of others no more
     end                     or `cut`, or `fault NUMBER at AT`, as mouktelf.h numbers it
     (an empty line)"""
@@ -19,7 +19,7 @@ AGREED = {"": "nothing", "encryption": "encryption", "classification 2": "ranks"
 def answers(name):
     """The name, what was agreed on, the bytes and the wanted lines of each answer of a file."""
     found, is_wanted = [], False
-    with open(f"{headers.TOP}/crates/test_wire/data/{name}.txt", encoding="utf-8") as it:
+    with open(f"{headers.TOP}/tests/crates/test_wire/data/{name}.txt", encoding="utf-8") as it:
         for line in it.read().splitlines():
             if line.startswith("= "):
                 title, _, agreed = line[2:].partition(" with ")

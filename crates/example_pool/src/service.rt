@@ -33,7 +33,7 @@ impl Service {
         Ok(Service {
             alloc,
             size,
-            pool: Pool::new(alloc, max, size).context("1 to 1,024 connections")?,
+            pool: Pool::wide(alloc, max, size).context("1 to 1,024 connections")?,
             callers: Slab::new(alloc),
             lines: Vec::new(alloc),
         })

@@ -1,11 +1,12 @@
 //! A connection's turn: it reads, does some steps, and sends.
 ghost use Rattle.std.specs.Prelude.{◌≡◌, ◌-◌, ◌<◌, ◌≤◌, ◌↔◌, length, vec_len, IsTrue};
 ghost use Rattle.serve_drivers.specs.declared.connection.TheConstants.{MOST_READ};
-ghost use Rattle.serve_drivers.specs.declared.peer.TheConstants.{MOST_WAITING};
+ghost use Rattle.serve_sessions.specs.declared.peer.TheConstants.{MOST_WAITING};
 
-use crate::peer::{CROWDED, FULL, MOST_WAITING, Next, Note, Peer};
 use crate::place::Link;
-use crate::script::Script;
+use serve_scripts::Script;
+use serve_sessions::{CROWDED, FULL, MOST_WAITING, Next, Note, Peer};
+use serve_values::Moment;
 use std::alloc::{AllocError, Global};
 use std::io::{self, ErrorKind, Read, Write};
 use tds_session::OnAttention;
@@ -104,6 +105,11 @@ impl Connection {
         })
     }
 
+    /// The time of what comes now.
+    pub fn set_now(&mut self, now: Moment) {
+        self.peer.set_now(now);
+    }
+
     /// How many milliseconds ago its newest request came.
     pub fn elapsed(&self, now: u64) -> u64 {
         now.saturating_sub(self.asked)
@@ -150,24 +156,42 @@ impl Connection {
         }
         if self.peer.is_busy() && !is_late {
             let steps = if paced { 1 } else { TURN };
-            let next = self.peer.work(script, steps, &mut self.out, notes)?;
-            self.closing = self.closing || next == Next::Close;
+            self.work(script, steps, notes)?;
         }
         let is_stuck = self.send(script, now)?;
-        if self.left == Some(0) {
-            return Ok(Then::Cut);
+        Ok(self.then(is_late, is_stuck))
+    }
+
+    /// Does some steps of its answer.
+    fn work(
+        &mut self,
+        script: &Script,
+        steps: u32,
+        notes: &mut Vec<Note>,
+    ) -> Result<(), AllocError> {
+        let from = self.out.len();
+        let next = self.peer.work(script, steps, &mut self.out, notes)?;
+        self.peer.stamp(&mut self.out, from);
+        self.closing = self.closing || matches!(next, Next::Close);
+        Ok(())
+    }
+
+    /// What it is to do behind a turn.
+    fn then(&self, is_late: bool, is_stuck: bool) -> Then {
+        if let Some(0) = self.left {
+            return Then::Cut;
         }
         if self.closing && self.out.is_empty() {
-            return Ok(Then::Close);
+            return Then::Close;
         }
         let can_send = !self.out.is_empty() && !is_stuck;
         let can_work = self.peer.is_busy() && self.out.len() < FULL;
         if self.can_go_on() || (can_work && !is_late) || can_send {
-            Ok(Then::Again)
+            Then::Again
         } else if can_work {
-            Ok(Then::Later)
+            Then::Later
         } else {
-            Ok(Then::Wait)
+            Then::Wait
         }
     }
 
@@ -218,8 +242,10 @@ impl Connection {
     {
         let before = self.peer.request();
         let was_in_login = self.peer.is_in_login();
+        let from = self.out.len();
         let (count, next) = self.peer.take(script, piece, &mut self.out, notes)?;
-        self.closing = next == Next::Close;
+        self.peer.stamp(&mut self.out, from);
+        self.closing = matches!(next, Next::Close);
         self.rest.clear();
         self.rest.extend_from_slice(&piece[count..])?;
         if self.peer.request() != before {
@@ -259,7 +285,9 @@ impl Connection {
                 Ok(0) => return Ok(true),
                 Ok(count) => {
                     self.sent = self.sent.saturating_add(count);
-                    self.left = self.left.map(|left| left.saturating_sub(count));
+                    if let Some(left) = self.left {
+                        self.left = Some(left.saturating_sub(count));
+                    }
                     self.since = now;
                 }
                 Err(error) if error.kind() == ErrorKind::WouldBlock => return Ok(true),

@@ -1,7 +1,6 @@
 //! The lines on standard error, where they are asked for: for a reader, or each a JSON object.
 
-use crate::front::Took;
-use crate::peer::{Asked, Note};
+use serve_sessions::{Asked, Note, Took};
 use std::io::{self, Write};
 use std::net::SocketAddr;
 
@@ -29,21 +28,16 @@ impl<W: Write + Drop> Log<W> {
 
     /// A connection has come, from this address; without one by a Unix socket.
     pub fn opened(&mut self, number: u64, from: Option<SocketAddr>) {
-        let _ = match (self.style, from) {
-            (Style::Off, _) => Ok(()),
-            (Style::Words, Some(from)) => {
-                writeln!(self.writer, "connection {number} from {from}")
-            }
-            (Style::Words, None) => writeln!(self.writer, "connection {number} from unix"),
-            (Style::Json, Some(from)) => writeln!(
-                self.writer,
-                "{{\"connection\":{number},\"event\":\"opened\",\"from\":\"{from}\"}}"
-            ),
-            (Style::Json, None) => writeln!(
-                self.writer,
-                "{{\"connection\":{number},\"event\":\"opened\",\"from\":\"unix\"}}"
-            ),
+        let words = match self.style {
+            Style::Off => return,
+            Style::Words => ["connection ", " from ", "\n"],
+            Style::Json => [
+                "{\"connection\":",
+                ",\"event\":\"opened\",\"from\":\"",
+                "\"}\n",
+            ],
         };
+        let _ = put_opened(&mut self.writer, number, from, words);
     }
 
     /// This happened on a connection, so many milliseconds behind its newest request.
@@ -57,80 +51,129 @@ impl<W: Write + Drop> Log<W> {
 
     /// A connection has ended.
     pub fn closed(&mut self, number: u64, why: &str) {
-        let _ = match self.style {
-            Style::Off => Ok(()),
-            Style::Words => writeln!(self.writer, "connection {number} closed: {why}"),
-            Style::Json => writeln!(
-                self.writer,
-                "{{\"connection\":{number},\"event\":\"closed\",\"why\":\"{why}\"}}"
-            ),
+        let words = match self.style {
+            Style::Off => return,
+            Style::Words => ["connection ", " closed: ", "\n"],
+            Style::Json => [
+                "{\"connection\":",
+                ",\"event\":\"closed\",\"why\":\"",
+                "\"}\n",
+            ],
         };
+        let _ = put_closed(&mut self.writer, number, why, words);
     }
+}
+
+/// Writes a text.
+fn put<W: Write>(writer: &mut W, text: &str) -> io::Result<()> {
+    writer.write_all(text.as_bytes())
+}
+
+/// Writes a number between two texts.
+fn put_number<W: Write>(writer: &mut W, front: &str, number: u64, back: &str) -> io::Result<()> {
+    put(writer, front)?;
+    write!(writer, "{number}")?;
+    put(writer, back)
+}
+
+/// Writes that a connection has come, with these words around its number and its address.
+fn put_opened<W: Write>(
+    writer: &mut W,
+    number: u64,
+    from: Option<SocketAddr>,
+    words: [&str; 3],
+) -> io::Result<()> {
+    let [front, middle, back] = words;
+    put_number(writer, front, number, middle)?;
+    match from {
+        Some(from) => write!(writer, "{from}")?,
+        None => put(writer, "unix")?,
+    }
+    put(writer, back)
+}
+
+/// Writes that a connection has ended, with these words around its number and why.
+fn put_closed<W: Write>(
+    writer: &mut W,
+    number: u64,
+    why: &str,
+    words: [&str; 3],
+) -> io::Result<()> {
+    let [front, middle, back] = words;
+    put_number(writer, front, number, middle)?;
+    put(writer, why)?;
+    put(writer, back)
 }
 
 /// Writes a line of what happened.
 fn put_words<W: Write>(writer: &mut W, number: u64, note: &Note, elapsed: u64) -> io::Result<()> {
-    write!(writer, "connection {number} ")?;
+    put_number(writer, "connection ", number, " ")?;
     match note {
         Note::Request(asked) => put_asked(writer, asked),
         Note::Answered {
             request,
             has_failed,
         } => {
-            let outcome = if *has_failed { "failed" } else { "done" };
-            writeln!(writer, "request {request} {outcome}, {elapsed} ms")
+            let outcome = if *has_failed { " failed, " } else { " done, " };
+            put_number(writer, "request ", u64::from(*request), outcome)?;
+            put_number(writer, "", elapsed, " ms\n")
         }
-        Note::LoggedIn(size) => writeln!(writer, "logged in, packets of {size}"),
-        Note::Holds(steps) => writeln!(writer, "is held behind {steps} steps"),
+        Note::LoggedIn(size) => {
+            put_number(writer, "logged in, packets of ", u64::from(*size), "\n")
+        }
+        Note::Holds(steps) => {
+            put_number(writer, "is held behind ", u64::from(*steps), " steps\n")
+        }
         other => {
-            let name = name_of(other);
-            writeln!(writer, "{name}")
+            put(writer, name_of(other))?;
+            put(writer, "\n")
         }
     }
 }
 
 /// Ends a line with a request that has come.
 fn put_asked<W: Write>(writer: &mut W, asked: &Asked) -> io::Result<()> {
-    let request = asked.request;
-    let kind = kind_name(asked.kind);
-    let descriptor = asked.descriptor;
-    write!(writer, "request {request} {kind} \"")?;
+    put_number(writer, "request ", u64::from(asked.request), " ")?;
+    put(writer, kind_name(asked.kind))?;
+    put(writer, " \"")?;
     put_text(writer, asked.text.as_slice())?;
-    writeln!(writer, "\" tx {descriptor}")
+    put_number(writer, "\" tx ", asked.descriptor, "\n")
 }
 
 /// Writes an object of what happened.
 fn put_json<W: Write>(writer: &mut W, number: u64, note: &Note, elapsed: u64) -> io::Result<()> {
-    write!(writer, "{{\"connection\":{number},\"event\":")?;
+    put_number(writer, "{\"connection\":", number, ",\"event\":\"")?;
     match note {
         Note::Request(asked) => put_asked_json(writer, asked),
         Note::Answered {
             request,
             has_failed,
-        } => writeln!(
-            writer,
-            "\"answered\",\"request\":{request},\"failed\":{has_failed},\"milliseconds\":{elapsed}}}"
-        ),
-        Note::LoggedIn(size) => writeln!(writer, "\"logged in\",\"packets\":{size}}}"),
-        Note::Holds(steps) => writeln!(writer, "\"held\",\"steps\":{steps}}}"),
+        } => {
+            let request = u64::from(*request);
+            let failed = if *has_failed { "true" } else { "false" };
+            put_number(writer, "answered\",\"request\":", request, ",\"failed\":")?;
+            put(writer, failed)?;
+            put_number(writer, ",\"milliseconds\":", elapsed, "}\n")
+        }
+        Note::LoggedIn(size) => {
+            put_number(writer, "logged in\",\"packets\":", u64::from(*size), "}\n")
+        }
+        Note::Holds(steps) => { put_number(writer, "held\",\"steps\":", u64::from(*steps), "}\n") }
         other => {
-            let name = name_of(other);
-            writeln!(writer, "\"{name}\"}}")
+            put(writer, name_of(other))?;
+            put(writer, "\"}\n")
         }
     }
 }
 
 /// Ends an object with a request that has come.
 fn put_asked_json<W: Write>(writer: &mut W, asked: &Asked) -> io::Result<()> {
-    let request = asked.request;
-    let kind = kind_name(asked.kind);
-    let descriptor = asked.descriptor;
-    write!(
-        writer,
-        "\"request\",\"request\":{request},\"kind\":\"{kind}\",\"text\":\""
-    )?;
+    let request = u64::from(asked.request);
+    put_number(writer, "request\",\"request\":", request, ",\"kind\":\"")?;
+    put(writer, kind_name(asked.kind))?;
+    put(writer, "\",\"text\":\"")?;
     put_text(writer, asked.text.as_slice())?;
-    writeln!(writer, "\",\"transaction\":{descriptor}}}")
+    put_number(writer, "\",\"transaction\":", asked.descriptor, "}\n")
 }
 
 /// Writes a text as JSON has it between quotes.
@@ -167,7 +210,7 @@ fn kind_name<'a>(took: Took) -> &'a str {
     match took {
         Took::Part => "part",
         Took::Batch => "batch",
-        Took::Call => "call",
+        Took::Call => "RPC",
         Took::Rows => "bulk load",
         Took::Transaction => "transaction request",
         Took::Attention => "attention",

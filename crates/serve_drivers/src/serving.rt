@@ -3,9 +3,10 @@
 use crate::connection::{Connection, Late, Then};
 use crate::log::Log;
 use crate::place::{Link, Listener, Place};
-use crate::script::Script;
 use mio::unix::SourceFd;
 use mio::{Events, Interest, Poll, Token};
+use serve_scripts::Script;
+use serve_values::Moment;
 use slab::Slab;
 use std::alloc::Global;
 use std::fs::Files;
@@ -50,6 +51,8 @@ pub struct House<W: Write + Drop> {
     manner: Manner,
     script: Script,
     start: Instant,
+    /// The millisecond in which it started, since 1970.
+    began: u64,
     poll: Poll,
     listener: Listener,
     connections: Slab<Connection>,
@@ -77,12 +80,14 @@ impl<W: Write + Drop> House<W> {
         log: Log<W>,
     ) -> io::Result<House<W>> {
         let start = Instant::now(rt)?;
+        let began = milliseconds(rt.since_1970()?);
         let (poll, listener) = listen(rt, place)?;
         Ok(House {
             alloc,
             manner,
             script,
             start,
+            began,
             poll,
             listener,
             connections: Slab::new(alloc),
@@ -146,8 +151,7 @@ impl<W: Write + Drop> House<W> {
     ) -> io::Result<()> {
         let timeout = Duration::from_millis(self.timeout(longest));
         self.poll.poll(events, Some(timeout))?;
-        let now = self.start.elapsed(rt)?.as_millis();
-        let now = u64::try_from(now).unwrap_or(u64::MAX);
+        let now = milliseconds(self.start.elapsed(rt)?);
         self.hear(events, now)?;
         self.give_turns(now)?;
         if now >= self.swept.saturating_add(self.sweep_time()) {
@@ -240,6 +244,7 @@ impl<W: Write + Drop> House<W> {
             return Ok(Then::Wait);
         };
         connection.listed = false;
+        connection.set_now(Moment::since_1970(self.began.saturating_add(now)));
         let number = connection.number;
         let mut notes = Vec::new(self.alloc);
         let paced = self.manner.pace > 0;
@@ -312,6 +317,11 @@ impl<W: Write + Drop> House<W> {
         }
         is_in
     }
+}
+
+/// A duration in milliseconds.
+fn milliseconds(duration: Duration) -> u64 {
+    u64::try_from(duration.as_millis()).unwrap_or(u64::MAX)
 }
 
 /// A listener there, and what the system reports it to.

@@ -1,8 +1,7 @@
 //! Calls of procedures (MS-TDS 2.2.6.6), read with their parameters.
 
-use crate::parameters::{Reading, TypedBytes};
-use crate::text::{Piece, is_word, next_piece, own, units_of};
-use serve_answers::Value;
+use serve_values::text::{Piece, is_word, next_piece, own, units_of};
+use serve_values::{MOST_VALUE, Parameter, Reading};
 use std::alloc::{AllocError, Global};
 
 /// A procedure that is known here.
@@ -23,20 +22,6 @@ pub enum Procedure {
     Other,
 }
 
-/// A parameter of a call.
-#[derive(Debug, Drop)]
-pub struct Parameter<'a> {
-    pub name: Vec<u16>,
-    pub bytes: TypedBytes<'a>,
-}
-
-impl Parameter<'_> {
-    /// Its value as a column has it.
-    pub fn value(&self, alloc: Global) -> Result<Value, AllocError> {
-        self.bytes.own(alloc)
-    }
-}
-
 /// A call.
 #[derive(Debug, Drop)]
 pub struct Call<'a> {
@@ -54,6 +39,8 @@ pub enum CallFault {
     UnknownType,
     /// It has more than 256 parameters.
     ManyParameters,
+    /// It is longer than what is kept of one, or a parameter is.
+    Long,
 }
 
 /// The most parameters of a call.
@@ -169,6 +156,9 @@ fn read_parameters<'a>(
         let Some((bytes, after)) = reading.typed(after) else {
             return Ok(Err(CallFault::UnknownType));
         };
+        if bytes.count() > MOST_VALUE {
+            return Ok(Err(CallFault::Long));
+        }
         parameters.push(Parameter { name, bytes })?;
         rest = after;
     }

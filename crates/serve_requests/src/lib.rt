@@ -6,19 +6,15 @@
 
 mod call;
 mod headers;
-mod items;
 mod message;
-mod parameters;
 mod plan;
 mod rows;
 mod session;
 mod statements;
 mod substituting;
-pub mod text;
 
-pub use call::{Call, CallFault, Parameter, Procedure, read_call};
+pub use call::{Call, CallFault, Procedure, read_call};
 pub use headers::behind_headers;
-pub use message::{MessageKind, MessageReader, Stop, Whole};
-pub use parameters::TypedBytes;
+pub use message::{KEPT_OF_CALL, MessageKind, MessageReader, Stop, Whole};
 pub use plan::{Deed, End, LONGEST, Plan};
 pub use session::Habits;

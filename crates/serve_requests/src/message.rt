@@ -9,6 +9,9 @@ use tds_packet::{Direction, Header, PacketSize, Status};
 /// The most bytes that are kept of a message. What stands behind them is counted and forgotten.
 const KEPT: usize = 16_384;
 
+/// The same of a call, whose parameters may be long.
+pub const KEPT_OF_CALL: usize = 1_114_112;
+
 /// What a message is, as the type of its packets says.
 #[derive(Clone, Copy, Debug, PartialEq, Eq)]
 pub enum MessageKind {
@@ -124,6 +127,11 @@ impl MessageReader {
         self.count
     }
 
+    /// Whether all of them are kept.
+    pub fn is_kept(&self) -> bool {
+        self.count == self.data.len() as u64
+    }
+
     /// The rows of a bulk load, or none where its bytes are no rows.
     pub fn rows(&self) -> Option<u64> {
         match &self.rows {
@@ -136,8 +144,12 @@ impl MessageReader {
     pub fn done(&mut self) {
         self.whole = None;
         self.rows = None;
-        self.data.clear();
         self.count = 0;
+        if self.data.len() > KEPT {
+            self.data = Vec::new(self.alloc);
+        } else {
+            self.data.clear();
+        }
     }
 
     /// Takes bytes up to the end of one packet, and answers how many; none while a whole message waits.
@@ -230,7 +242,12 @@ impl MessageReader {
             rows.take(bytes);
             return Ok(());
         }
-        let room = KEPT.saturating_sub(self.data.len());
+        let packet = self.packet;
+        let most = match packet {
+            Some(part) if part.kind == MessageKind::Procedure => KEPT_OF_CALL,
+            _ => KEPT,
+        };
+        let room = most.saturating_sub(self.data.len());
         self.data
             .extend_from_slice(&bytes[..room.min(bytes.len())])?;
         Ok(())

@@ -3,8 +3,8 @@
 ghost use Rattle.std.specs.Prelude.{◌≡◌, ◌+◌, ◌≤◌, length, vec_len, IfOk};
 ghost use Rattle.serve_requests.specs.declared.plan.TheConstants.{LONGEST};
 
-use crate::text::{front, units_in};
 use serve_answers::{Done, put_done};
+use serve_values::text::{front, units_in};
 use std::alloc::{AllocError, Global};
 
 /// The most units of a text (the batch language's limit).
@@ -30,7 +30,7 @@ pub enum Deed {
 }
 
 /// How an answer ends.
-#[derive(Clone, Copy, Debug, PartialEq, Eq)]
+#[derive(Clone, Copy, Debug)]
 pub enum End {
     /// As that of a batch: DONE.
     Batch,
@@ -44,6 +44,8 @@ pub enum End {
 pub struct Plan {
     pub text: Vec<u16>,
     pub deeds: Vec<Deed>,
+    /// How many transactions are begun within one another behind each statement, where that is known.
+    pub levels: Vec<u32>,
     pub end: End,
 }
 
@@ -55,6 +57,7 @@ impl Plan {
         Plan {
             text: Vec::new(alloc),
             deeds: Vec::new(alloc),
+            levels: Vec::new(alloc),
             end,
         }
     }

@@ -1,19 +1,18 @@
 //! What a session keeps beside the server's own: its database, savepoints, prepared texts.
 
 mod calls;
+mod levels;
 
 ghost use Rattle.std.specs.Prelude.{◌≤◌, length, vec_len, IfOk};
 ghost use Rattle.serve_requests.specs.declared.plan.TheConstants.{LONGEST};
 
-use crate::call::Parameter;
-use crate::items::{Own, columns_of};
 use crate::plan::{Deed, End, LONGEST, Plan};
 use crate::statements::{Known, statements_of, what_is};
-use crate::substituting::substituted;
-use crate::text::{front, is_same, is_word, own, trimmed, units_in};
 use serve_answers::{
     Column, Done, put_collation_change, put_columns, put_done, put_info, put_row, put_text_change,
 };
+use serve_values::text::{front, is_word, own, trimmed, units_in};
+use serve_values::{Found, Moment, Own, Parameter, Query, columns_of};
 use std::alloc::{AllocError, Global};
 
 /// The most savepoints and prepared texts of a session. Of more, the oldest are forgotten.
@@ -23,16 +22,13 @@ const MOST: usize = 32;
 const ROOM: usize = 16_384;
 
 /// The most bytes that are told of a text in the place of what the language tells.
-const MOST_TOLD: usize = 32_768;
+const MOST_TOLD: usize = 1_114_112;
 
 /// The language of a session that chose none.
 const LANGUAGE: &[u8] = b"us_english";
 
 /// The most units of a database's name, and of a language's.
 const LONGEST_NAME: usize = 128;
-
-/// How many units of a savepoint's name count.
-const NAME: usize = 32;
 
 /// A text that was prepared.
 #[derive(Drop)]
@@ -53,11 +49,17 @@ pub struct Habits {
     saved: Vec<Vec<u16>>,
     prepared: Vec<Prepared>,
     handles: u32,
+    /// The session's number.
+    spid: u16,
+    now: Moment,
+    /// How many transactions are begun within one another, and the descriptor of the outermost one, 0 for none.
+    level: u32,
+    transaction: u64,
 }
 
 impl Habits {
-    /// Those of a session in this database.
-    pub fn new(alloc: Global, database: &[u16]) -> Result<Habits, AllocError> {
+    /// Those of the session of this number, in this database.
+    pub fn new(alloc: Global, database: &[u16], spid: u16) -> Result<Habits, AllocError> {
         Ok(Habits {
             alloc,
             first_database: own(alloc, database)?,
@@ -66,6 +68,10 @@ impl Habits {
             saved: Vec::new(alloc),
             prepared: Vec::new(alloc),
             handles: 0,
+            spid,
+            now: Moment::since_1970(0),
+            level: 0,
+            transaction: 0,
         })
     }
 
@@ -103,10 +109,10 @@ impl Habits {
     }
 
     /// The plan of a batch.
-    pub fn plan_batch(&mut self, text: &[u16], is_open: bool) -> Result<Plan, AllocError>
+    pub fn plan_batch(&mut self, text: &[u16]) -> Result<Plan, AllocError>
         ensures fits { IfOk result (λ plan. vec_len plan.text ≤ LONGEST) }
     {
-        self.plan_text(text, &[], is_open, End::Batch)
+        self.plan_text(text, &[], End::Batch)
     }
 
     /// The plan of a text with these parameters.
@@ -114,7 +120,6 @@ impl Habits {
         &mut self,
         text: &[u16],
         parameters: &[Parameter<'_>],
-        is_open: bool,
         end: End,
     ) -> Result<Plan, AllocError>
         ensures fits { IfOk result (λ plan. vec_len plan.text ≤ LONGEST) }
@@ -123,26 +128,27 @@ impl Habits {
             return self.too_long(text.len(), end);
         }
         let mut plan = Plan::new(self.alloc, end);
-        let mut is_open = is_open;
+        let mut level = self.level;
         let mut is_known = !parameters.is_empty();
         let mut told: usize = 0;
         let statements = statements_of(self.alloc, text)?;
         for statement in &statements {
-            let is_of_drivers = self.add(&mut plan, statement, parameters, &mut is_open)?;
+            let is_of_drivers = self.add(&mut plan, statement, parameters, &mut level)?;
+            plan.levels.push(level)?;
             is_known = is_known || is_of_drivers;
             told = told.saturating_add(last_told(plan.deeds.as_slice()));
             if told > MOST_TOLD {
                 return self.too_much(end);
             }
             if plan.text.len() > LONGEST {
-                return self.too_long(plan.text.len(), end);
+                return self.too_long_to_run(end);
             }
         }
         if statements.is_empty() {
             return self.silent(end);
         }
         if !is_known {
-            return self.as_it_is(text, end);
+            return self.as_it_is(text, plan.levels, end);
         }
         Ok(plan)
     }
@@ -157,12 +163,13 @@ impl Habits {
     }
 
     /// The plan of a text that is of the language alone.
-    fn as_it_is(&self, text: &[u16], end: End) -> Result<Plan, AllocError>
+    fn as_it_is(&self, text: &[u16], levels: Vec<u32>, end: End) -> Result<Plan, AllocError>
         requires { length text.now ≤ LONGEST }
         ensures fits { IfOk result (λ plan. vec_len plan.text ≤ LONGEST) }
     {
         let mut plan = Plan::new(self.alloc, end);
         plan.text = own(self.alloc, trimmed(text))?;
+        plan.levels = levels;
         Ok(plan)
     }
 
@@ -176,14 +183,21 @@ impl Habits {
         Plan::failed(alloc, end, 50_005, text)
     }
 
+    /// The plan of a text for which too much would be run, with its parameters.
+    fn too_long_to_run(&self, end: End) -> Result<Plan, AllocError>
+        ensures fits { IfOk result (λ plan. vec_len plan.text ≤ LONGEST) }
+    {
+        let alloc = self.alloc;
+        let text = format!(in alloc; "What is run for this text has more than {LONGEST} units.")?;
+        let text = units_in(alloc, text.as_bytes())?;
+        Plan::failed(alloc, end, 50_005, text)
+    }
+
     /// The plan of a text that too much would be told of.
     fn too_much(&self, end: End) -> Result<Plan, AllocError>
         ensures fits { IfOk result (λ plan. vec_len plan.text ≤ LONGEST) }
     {
-        let alloc = self.alloc;
-        let text = format!(in alloc; "The answer has more than {MOST_TOLD} bytes.")?;
-        let text = units_in(alloc, text.as_bytes())?;
-        Plan::failed(alloc, end, 50_005, text)
+        Plan::failed(self.alloc, end, 50_005, too_much(self.alloc)?)
     }
 
     /// Adds a statement, and answers whether it is one that drivers send.
@@ -192,18 +206,22 @@ impl Habits {
         plan: &mut Plan,
         statement: &[u16],
         parameters: &[Parameter<'_>],
-        is_open: &mut bool,
+        level: &mut u32,
     ) -> Result<bool, AllocError> {
         match what_is(statement) {
-            Some(Known::IfOpen(then)) if *is_open => {
-                let _ = self.add_known(plan, then, what_is(then), parameters, is_open)?;
+            Some(Known::IfOpen(then)) if *level > 0 => {
+                let _ = self.add_known(plan, then, what_is(then), parameters, level)?;
                 Ok(true)
             }
             Some(Known::IfOpen(_)) => {
                 self.add_done(plan)?;
                 Ok(true)
             }
-            found => self.add_known(plan, statement, found, parameters, is_open),
+            None if *level > 1 && is_word(statement, b"commit") => {
+                self.add_commit(plan, level)?;
+                Ok(true)
+            }
+            found => self.add_known(plan, statement, found, parameters, level),
         }
     }
 
@@ -214,44 +232,25 @@ impl Habits {
         statement: &[u16],
         found: Option<Known<'_>>,
         parameters: &[Parameter<'_>],
-        is_open: &mut bool,
+        level: &mut u32,
     ) -> Result<bool, AllocError> {
         match found {
             Some(Known::Silent) => self.add_done(plan)?,
             Some(Known::Language(name)) => self.add_language(plan, name)?,
             Some(Known::Use(name)) => self.add_use(plan, name)?,
-            Some(Known::Begin) => self.add_word(plan, b"begin", is_open, true)?,
-            Some(Known::Commit) => self.add_word(plan, b"commit", is_open, false)?,
-            Some(Known::Rollback(name)) if self.is_saved(name) => self.add_done(plan)?,
-            Some(Known::Rollback(_)) => self.add_word(plan, b"rollback", is_open, false)?,
-            Some(Known::Save(name)) => self.add_save(plan, name, *is_open)?,
+            Some(Known::Begin) => self.add_begin(plan, level)?,
+            Some(Known::Commit) => self.add_commit(plan, level)?,
+            Some(Known::Rollback(name)) => self.add_rollback(plan, name, level)?,
+            Some(Known::Save(name)) => self.add_save(plan, name, *level)?,
             Some(Known::Select(items)) => {
-                return self.add_select(plan, statement, items, parameters, *is_open);
+                return self.add_select(plan, statement, items, parameters, *level);
             }
             Some(Known::IfOpen(_)) | None => {
-                self.add_same(plan, statement, parameters, is_open)?;
+                self.add_same(plan, statement, parameters, level)?;
                 return Ok(false);
             }
         }
         Ok(true)
-    }
-
-    /// Adds a statement of the language, or of no language at all.
-    fn add_same(
-        &mut self,
-        plan: &mut Plan,
-        statement: &[u16],
-        parameters: &[Parameter<'_>],
-        is_open: &mut bool,
-    ) -> Result<(), AllocError> {
-        if is_word(statement, b"begin") {
-            *is_open = true;
-        } else if is_word(statement, b"commit") || is_word(statement, b"rollback") {
-            *is_open = false;
-            self.saved.clear();
-        }
-        let statement = substituted(self.alloc, statement, parameters)?;
-        plan.add(statement.as_slice(), Deed::Same)
     }
 
     /// Adds a statement of which nothing but its end is told.
@@ -259,20 +258,6 @@ impl Habits {
         let mut tokens = Vec::new(self.alloc);
         put_done(&mut tokens, Done::Statement, 1, 0)?;
         plan.add_silent(self.alloc, Deed::Tokens(tokens))
-    }
-
-    /// Adds a statement of the language that begins or ends the transaction.
-    fn add_word(
-        &mut self,
-        plan: &mut Plan,
-        word: &[u8],
-        is_open: &mut bool,
-        opens: bool,
-    ) -> Result<(), AllocError> {
-        *is_open = opens;
-        self.saved.clear();
-        let statement = units_in(self.alloc, word)?;
-        plan.add(statement.as_slice(), Deed::Same)
     }
 
     /// Adds the choice of a language: ENVCHANGE 2 and INFO 5703.
@@ -298,29 +283,6 @@ impl Habits {
         plan.add_silent(alloc, Deed::Tokens(tokens))
     }
 
-    /// Whether a savepoint has this name.
-    fn is_saved(&self, name: &[u16]) -> bool {
-        for saved in &self.saved {
-            if is_same(saved.as_slice(), short_name(name)) {
-                return true;
-            }
-        }
-        false
-    }
-
-    /// Adds a savepoint, which only a transaction has.
-    fn add_save(&mut self, plan: &mut Plan, name: &[u16], is_open: bool) -> Result<(), AllocError> {
-        if !is_open {
-            let text = units_in(self.alloc, b"There is no active transaction to save.")?;
-            return plan.add_failed(self.alloc, 628, text);
-        }
-        if self.saved.len() >= MOST {
-            let _ = self.saved.remove(0);
-        }
-        self.saved.push(own(self.alloc, short_name(name))?)?;
-        self.add_done(plan)
-    }
-
     /// Adds a query, whose items may be known.
     fn add_select(
         &mut self,
@@ -328,18 +290,54 @@ impl Habits {
         statement: &[u16],
         items: &[u16],
         parameters: &[Parameter<'_>],
-        is_open: bool,
+        level: u32,
     ) -> Result<bool, AllocError> {
+        let found = columns_of(&self.query(parameters, level), items)?;
+        self.add_found(plan, statement, &found)
+    }
+
+    /// What the items of a query with these parameters are read with.
+    fn query<'a, 'b>(&'a self, parameters: &'a [Parameter<'b>], level: u32) -> Query<'a, 'b> {
         let own_values = Own {
             database: self.database.as_slice(),
-            is_open,
+            level,
+            spid: self.spid,
+            now: self.now,
         };
-        let Some(columns) = columns_of(self.alloc, items, own_values, parameters)? else {
-            plan.add(statement, Deed::Same)?;
-            return Ok(false);
-        };
-        let tokens = tokens_of(self.alloc, columns.as_slice())?;
-        plan.add_silent(self.alloc, Deed::Tokens(tokens))?;
+        Query {
+            alloc: self.alloc,
+            own_values,
+            parameters,
+            most: MOST_TOLD,
+        }
+    }
+
+    /// Adds what a query gives.
+    fn add_found(
+        &self,
+        plan: &mut Plan,
+        statement: &[u16],
+        found: &Found,
+    ) -> Result<bool, AllocError> {
+        let alloc = self.alloc;
+        match found {
+            Found::Columns(columns) => {
+                let tokens = tokens_of(alloc, columns.as_slice())?;
+                plan.add_silent(alloc, Deed::Tokens(tokens))?;
+            }
+            Found::Refused(refusal) => {
+                let text = units_in(alloc, refusal.text())?;
+                plan.add_failed(alloc, refusal.number(), text)?;
+            }
+            Found::TooMuch => {
+                let text = too_much(alloc)?;
+                plan.add_failed(alloc, 50_005, text)?;
+            }
+            Found::Unknown => {
+                plan.add(statement, Deed::Same)?;
+                return Ok(false);
+            }
+        }
         Ok(true)
     }
 }
@@ -352,9 +350,10 @@ fn last_told(deeds: &[Deed]) -> usize {
     }
 }
 
-/// What counts of a savepoint's name.
-fn short_name(name: &[u16]) -> &[u16] {
-    name.get(..NAME).unwrap_or(name)
+/// Says that too much would be told.
+fn too_much(alloc: Global) -> Result<Vec<u16>, AllocError> {
+    let text = format!(in alloc; "The answer has more than {MOST_TOLD} bytes.")?;
+    units_in(alloc, text.as_bytes())
 }
 
 /// The tokens of one row with these columns.

@@ -1,6 +1,6 @@
 //! The statements of a batch, and those that drivers send first.
 
-use crate::text::{Piece, is_among, is_word, next_piece, trimmed};
+use serve_values::text::{Piece, is_among, is_word, next_piece, trimmed};
 use std::alloc::{AllocError, Global};
 
 /// The words behind which a new statement of its own begins, where the one before is a setting, a choice of

@@ -1,10 +1,12 @@
 //! Parameters in a text of the batch language: each stands for its value.
 
-use crate::call::Parameter;
-use crate::text::{Piece, is_same, next_piece, own, units_in};
+use crate::plan::LONGEST;
+use serve_values::Parameter;
+use serve_values::text::{Piece, front, is_same, next_piece, own, units_in};
 use std::alloc::{AllocError, Global};
 
-/// The text in which each name of a parameter is its value, a number or a text.
+/// The text in which each name of a parameter is its value, a number or a text; where it is longer than a text
+/// may be, a part that is too.
 pub(crate) fn substituted(
     alloc: Global,
     text: &[u16],
@@ -19,6 +21,9 @@ pub(crate) fn substituted(
         let [first, behind @ ..] = rest else {
             break;
         };
+        if units.len() > LONGEST {
+            break;
+        }
         // an at sign
         rest = if *first == 64 {
             put_value(alloc, &mut units, rest, parameters)?
@@ -44,7 +49,7 @@ fn put_value<'a>(
     for parameter in parameters {
         if is_same(parameter.name.as_slice(), name) {
             let value = spelled(alloc, parameter)?;
-            units.extend_from_slice(value.as_slice())?;
+            units.extend_from_slice(front(value.as_slice(), LONGEST + 1))?;
             return Ok(rest);
         }
     }

@@ -2,6 +2,7 @@
 use Rattle.std.proofs.Common.{◌≡◌, ◌≢◌, ◌∙◌, ℕ, ◌==◌, ◌||◌, Bool, true, false, cond, Option, Some, None, refl, sym, ap}
 use Rattle.std.specs.Prelude.{Result, Ok, Err}
 use Rattle.tds_packet.specs.Layout.{has_bit}
+use Rattle.tds_packet.specs.Resets.{reset_effect}
 use Rattle.tds_packet.specs.declared.status.Reset.{Reset}
 use Rattle.tds_packet.specs.declared.status.Reset.TheVariants.{Full, KeepTransaction}
 use Rattle.tds_token.specs.declared.env_change.EnvChange.{EnvChange}
@@ -16,7 +17,7 @@ use Rattle.tds_client.specs.declared.sign.Rules.TheVariants.{Strict, Any}
 use Rattle.tds_client.specs.declared.sign.Sign.{Sign}
 use Rattle.tds_client.specs.declared.sign.Sign.TheVariants as signs
 use Rattle.tds_client.specs.Acts.{IsPlaced}
-use Rattle.tds_client.specs.Hearing.{◌>>=◌, hear_sign, strict_sign, strict_before, any_sign, hear_change, hear_done, place_change, place_done, is_full, changed, with_done, done_behind}
+use Rattle.tds_client.specs.Hearing.{◌>>=◌, hear_sign, strict_sign, strict_before, any_sign, hear_change, hear_done, place_change, place_done, reset_told, is_full, changed, with_done, done_behind}
 use Rattle.tds_client.specs.Machine.{signed, signed_in, with_heard}
 use Rattle.tds_client.specs.Session.{ClientSession, Stage, Idle, Sending, Reading, Cancelling, Broken}
 use Rattle.tds_client.proofs.Placed.{different}
@@ -43,12 +44,18 @@ not_full None n = refl
 not_full (Some Full) n = absurd (n refl)
 not_full (Some KeepTransaction) n = refl
 
+reset_alike : (heard next : Heard) (mark : Option Reset) → changed heard ResetDone (reset_effect mark heard.descriptor) ≡ Ok next
+    → changed heard ResetDone (Some (reset_told mark heard.descriptor)) ≡ Ok next
+reset_alike heard next None e = absurd cc
+reset_alike heard next (Some Full) e = e
+reset_alike heard next (Some KeepTransaction) e = e
+
 change_alike : (heard next : Heard) (change : EnvChange) → IsPlaced heard.mark (signs.Change change) → hear_change heard change ≡ Ok next → place_change heard change ≡ Ok next
 unfolding hear_change place_change
 change_alike heard next (Begin d) placed e = begin_alike heard next d (d == 0) (is_full heard.mark) (heard.descriptor == 0) (different d 0 placed.0) (not_full heard.mark placed.1) e
 change_alike heard next (Commit d) placed e = end_alike heard next (Commit d) (heard.descriptor == 0) (heard.descriptor == d) e
 change_alike heard next (Rollback d) placed e = end_alike heard next (Rollback d) (heard.descriptor == 0) (heard.descriptor == d) e
-change_alike heard next ResetDone placed e = e
+change_alike heard next ResetDone placed e = reset_alike heard next heard.mark e
 
 -- ---- DONE
 

@@ -11,6 +11,7 @@ pub mod HeardAttentions
 pub mod Leaving
 pub mod Acknowledged
 pub mod Placed
+pub mod Unasked
 pub mod TakenHeard
 pub mod Ending
 pub mod Alike

@@ -2,7 +2,7 @@
 use Rattle.std.proofs.Common.{◌≡◌, ◌≢◌, ◌∙◌, ℕ, ◌==◌, Bool, true, false, cond, ◌||◌, List, [], ◌∷◌, Option, Some, None, refl, sym, ap, subst, eqb-true}
 use Rattle.std.specs.Prelude.{Result, Ok, Err, if◌then◌else◌}
 use Rattle.tds_packet.specs.Layout.{has_bit}
-use Rattle.tds_packet.specs.Resets.{header_descriptor, reset_effect}
+use Rattle.tds_packet.specs.Resets.{reset_effect}
 use Rattle.tds_packet.specs.declared.status.Reset.{Reset}
 use Rattle.tds_packet.specs.declared.status.Reset.TheVariants.{Full, KeepTransaction}
 use Rattle.tds_token.specs.Told.{change_applied}
@@ -19,7 +19,7 @@ use Rattle.tds_client.specs.declared.sign.Rules.TheVariants.{Strict, Any}
 use Rattle.tds_client.specs.declared.sign.Sign.{Sign}
 use Rattle.tds_client.specs.declared.sign.Sign.TheVariants as signs
 use Rattle.tds_client.specs.Acts.{changes_in, server_says, has_reset, begins_first}
-use Rattle.tds_client.specs.Hearing.{◌>>=◌, hear_sign, strict_sign, strict_before, any_sign, hear_change, hear_done, place_change, place_done, change_placed, is_full, changed, with_done, done_behind, acknowledges_by, mark_after}
+use Rattle.tds_client.specs.Hearing.{◌>>=◌, hear_sign, strict_sign, strict_before, any_sign, hear_change, hear_done, place_change, place_done, change_placed, reset_told, is_full, changed, with_done, done_behind, acknowledges_by, mark_after}
 use Rattle.tds_client.specs.Machine.{signed_in, signed, with_heard, all_signed, Listens}
 use Rattle.tds_client.specs.Marks.{mark_behind}
 use Rattle.tds_client.specs.Session.{ClientSession, Stage, Idle, Sending, Reading, Cancelling, Broken}
@@ -40,7 +40,7 @@ abbrev pub said : Option Reset → ℕ → EnvChange → ℕ
 said mark descriptor (Begin d) = d
 said mark descriptor (Commit d) = 0
 said mark descriptor (Rollback d) = 0
-said mark descriptor ResetDone = header_descriptor mark descriptor
+said mark descriptor ResetDone = reset_told mark descriptor
 
 some_is : (x y : ℕ) → Some x ≡ Some y → x ≡ y
 some_is x y e = cc
@@ -54,7 +54,7 @@ picked_last : (a b : Bool) (x y : ℕ) → cond a None (cond b (Some x) None) �
 picked_last true b x y e = absurd cc
 picked_last false b x y e = picked b x y e
 
-reset_said : (mark : Option Reset) (descriptor y : ℕ) → reset_effect mark descriptor ≡ Some y → y ≡ header_descriptor mark descriptor
+reset_said : (mark : Option Reset) (descriptor y : ℕ) → reset_effect mark descriptor ≡ Some y → y ≡ reset_told mark descriptor
 reset_said None descriptor y e = absurd cc
 reset_said (Some Full) descriptor y e = sym (some_is 0 y e)
 reset_said (Some KeepTransaction) descriptor y e = sym (some_is descriptor y e)
@@ -63,7 +63,7 @@ placed_said : (mark : Option Reset) (descriptor y : ℕ) (change : EnvChange) �
 placed_said mark descriptor y (Begin d) e = picked_last ((d == 0) || is_full mark) ((descriptor == 0) || (descriptor == d)) d y e
 placed_said mark descriptor y (Commit d) e = picked ((descriptor == 0) || (descriptor == d)) 0 y e
 placed_said mark descriptor y (Rollback d) e = picked ((descriptor == 0) || (descriptor == d)) 0 y e
-placed_said mark descriptor y ResetDone e = reset_said mark descriptor y e
+placed_said mark descriptor y ResetDone e = sym (some_is (reset_told mark descriptor) y e)
 
 applied_said : (mark : Option Reset) (descriptor y : ℕ) (change : EnvChange) → change_applied (reset_effect mark) descriptor change ≡ Some y → y ≡ said mark descriptor change
 applied_said mark descriptor y (Begin d) e = picked (descriptor == 0) d y e

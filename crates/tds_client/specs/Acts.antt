@@ -3,7 +3,6 @@ use Rattle.std.specs.Prelude.{ℕ, ◌≢◌, ◌||◌, Bool, true, false, List,
 use Rattle.tds_packet.specs.declared.status.Reset.{Reset}
 use Rattle.tds_packet.specs.declared.status.Reset.TheVariants.{Full}
 use Rattle.tds_packet.specs.Layout.{has_bit}
-use Rattle.tds_packet.specs.Resets.{header_descriptor}
 use Rattle.tds_request.specs.declared.request.Request.{Request}
 use Rattle.tds_token.specs.declared.env_change.EnvChange.{EnvChange}
 use Rattle.tds_token.specs.declared.env_change.EnvChange.TheVariants.{Begin, Commit, Rollback, ResetDone}
@@ -14,6 +13,7 @@ use Rattle.tds_client.specs.declared.sign.Sign.{Sign}
 use Rattle.tds_client.specs.declared.sign.Sign.TheVariants as signs
 use Rattle.tds_client.specs.Calls as calls
 use Rattle.tds_client.specs.Calls.{Turn, silent, turn, is_acknowledged}
+use Rattle.tds_client.specs.Hearing.{reset_told}
 use Rattle.tds_client.specs.Machine.{Item, ItemMove, Token, MessageEnd, heard_after, tells}
 use Rattle.tds_client.specs.Session.{ClientSession}
 use Rattle.tds_client.specs.Streams.{Step}
@@ -109,13 +109,17 @@ changes_in (signs.Change change ∷ others) = change ∷ changes_in others
 changes_in (signs.Done kind status ∷ others) = changes_in others
 
 -- What a server says of its transaction by these changes, each by itself: it is in the one that has begun, in none where one has
--- ended, and where a reset is done in the one that this reset leaves.
+-- ended, and where a reset is done in the one that this reset leaves: a reset that nobody asked for leaves none.
 abbrev pub server_says : Option Reset → ℕ → List EnvChange → ℕ
 server_says mark descriptor [] = descriptor
 server_says mark descriptor (Begin d ∷ others) = server_says mark d others
 server_says mark descriptor (Commit d ∷ others) = server_says mark 0 others
 server_says mark descriptor (Rollback d ∷ others) = server_says mark 0 others
-server_says mark descriptor (ResetDone ∷ others) = server_says None (header_descriptor mark descriptor) others
+server_says mark descriptor (ResetDone ∷ others) = server_says None (reset_told mark descriptor) others
+
+-- The client behind the news of a full reset that nobody asked for: in no transaction, and otherwise as it was.
+abbrev pub in_none : ClientSession → ClientSession
+in_none s = record s { heard = record s.heard { descriptor = 0 } }
 
 -- Whether they tell that a reset is done.
 abbrev pub has_reset : List EnvChange → Bool

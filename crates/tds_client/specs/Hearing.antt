@@ -75,12 +75,19 @@ begun_at mark descriptor d =
 abbrev pub ended_at : ℕ → ℕ → Option ℕ
 ended_at descriptor d = if (descriptor == 0) || (descriptor == d) then Some 0 else None
 
+-- The descriptor behind the news of a reset: the one that was asked for is done. Where none was, a procedure of the server's did a
+-- full one (`sp_reset_connection`).
+abbrev pub reset_told : Option Reset → ℕ → ℕ
+reset_told None descriptor = 0
+reset_told (Some Full) descriptor = 0
+reset_told (Some KeepTransaction) descriptor = descriptor
+
 -- The descriptor behind a change that any server tells, or none where it can't be placed.
 abbrev pub change_placed : Option Reset → ℕ → EnvChange → Option ℕ
 change_placed mark descriptor (Begin d) = begun_at mark descriptor d
 change_placed mark descriptor (Commit d) = ended_at descriptor d
 change_placed mark descriptor (Rollback d) = ended_at descriptor d
-change_placed mark descriptor ResetDone = reset_effect mark descriptor
+change_placed mark descriptor ResetDone = Some (reset_told mark descriptor)
 
 unfoldable pub place_change : Heard → EnvChange → Result Heard ClientFault
 place_change heard change = changed heard change (change_placed heard.mark heard.descriptor change)

@@ -18,7 +18,7 @@ pub enum ClientFault {
     UnaskedAcknowledgement,
     /// 4: an ENVCHANGE that does not apply to the descriptor (MS-TDS 2.2.7.9).
     WrongEnvChange,
-    /// 5: the end of a reset, and none was asked for (MS-TDS 2.2.7.9, type 18).
+    /// 5: by the strict rules, the end of a reset, and none was asked for (MS-TDS 2.2.7.9, type 18).
     UnaskedReset,
     /// 6: the message ended without a final DONE.
     NoFinalDone,

@@ -3,7 +3,7 @@ ghost use Rattle.std.specs.Prelude.{◌≡◌};
 ghost use Rattle.tds_packet.specs.declared.status.Reset.{Reset};
 ghost use Rattle.tds_client.specs.Hearing.{Gives, hear, hear_change, hear_done};
 ghost use Rattle.tds_client.specs.Hearing.{acknowledges_by, any_sign, begun_at, done_behind, ended_at};
-ghost use Rattle.tds_client.specs.Hearing.{hear_sign, is_full, may_end, place_change, place_done};
+ghost use Rattle.tds_client.specs.Hearing.{hear_sign, is_full, may_end, place_change, place_done, reset_told};
 ghost use Rattle.tds_client.specs.Hearing.{strict_before, strict_sign};
 
 use crate::fault::ClientFault;
@@ -223,8 +223,20 @@ impl Heard {
         None
     }
 
+    /// The descriptor behind the news of a reset. Where none was asked for, a procedure of the
+    /// server's did a full one (`sp_reset_connection`).
+    fn reset_told(self) -> u64
+        ensures { result ≡ reset_told self.mark self.descriptor }
+    {
+        match self.mark {
+            None => 0,
+            Some(Reset::Full) => 0,
+            Some(Reset::KeepTransaction) => self.descriptor,
+        }
+    }
+
     /// Applies a change that any server tells: one of a transaction that can't be placed is a fault.
-    #[tactic(auto, unfolding(crate::specs::Hearing::place_change, crate::specs::Hearing::hear_change))]
+    #[tactic(auto, unfolding(crate::specs::Hearing::place_change))]
     #[inline(always)]
     fn place_change(self, change: EnvChange) -> Result<Heard, ClientFault>
         ensures { Gives result (place_change self change) }
@@ -233,7 +245,13 @@ impl Heard {
             EnvChange::Begin(begun) => self.begun_at(begun),
             EnvChange::Commit(ended) => self.ended_at(ended),
             EnvChange::Rollback(ended) => self.ended_at(ended),
-            EnvChange::ResetDone => return self.hear_reset(),
+            EnvChange::ResetDone => {
+                return Ok(Heard {
+                    descriptor: self.reset_told(),
+                    mark: None,
+                    done: self.done,
+                });
+            }
         };
         match placed {
             None => Err(ClientFault::WrongEnvChange),

@@ -9,15 +9,15 @@ ghost use Rattle.tds_packet.specs.declared.status.Reset.TheVariants.{Full};
 ghost use Rattle.tds_token.specs.Contents.{contents_of};
 ghost use Rattle.tds_client.specs.declared.sign.Rules.{Rules};
 ghost use Rattle.tds_client.specs.declared.sign.Rules.TheVariants.{Any, Strict};
-ghost use Rattle.tds_client.specs.declared.fault.ClientFault.TheVariants.{BehindFinalDone, WrongEnvChange};
+ghost use Rattle.tds_client.specs.declared.fault.ClientFault.TheVariants.{BehindFinalDone, UnaskedReset, WrongEnvChange};
 ghost use Rattle.tds_client.specs.declared.heard.FinalDone.TheVariants.{Awaited};
 ghost use Rattle.tds_client.specs.declared.sign.Sign.{Sign};
 ghost use Rattle.tds_client.specs.declared.sign.Sign.TheVariants as signs;
-ghost use Rattle.tds_token.specs.declared.env_change.EnvChange.TheVariants.{Begin, Commit, Rollback};
+ghost use Rattle.tds_token.specs.declared.env_change.EnvChange.TheVariants.{Begin, Commit, ResetDone, Rollback};
 ghost use Rattle.tds_client.specs.declared.state.Taken.TheVariants as takes;
 ghost use Rattle.tds_client.specs.Acts.{Act, IsPlaced, act, acted, behind, begins_first, changes_in};
-ghost use Rattle.tds_client.specs.Acts.{has_acknowledgement, has_reset, message_of, put_out, server_says};
-ghost use Rattle.tds_client.specs.Acts.{told_by};
+ghost use Rattle.tds_client.specs.Acts.{has_acknowledgement, has_reset, in_none, message_of, put_out};
+ghost use Rattle.tds_client.specs.Acts.{server_says, told_by};
 ghost use Rattle.tds_client.specs.Machine.{ItemMove, Listens, all_signed, message_ended, signed};
 ghost use Rattle.tds_client.specs.Machine.{taken_by_signs, without_tokens};
 ghost use Rattle.tds_client.specs.Promises.{acknowledgements, AtMostAttentions, LeavesBy};
@@ -96,6 +96,16 @@ pub fn changes_are_placed()
         → signed Any s (signs.Change (Begin d)) ≡ Err WrongEnvChange }
     ensures first { (s next : ClientSession) (signs : List Sign) → s.heard.mark ≡ Some Full
         → all_signed Any s signs ≡ Ok next → begins_first (changes_in signs) ≡ false }
+{}
+
+/// By the rules of any server the news of a reset that nobody asked for is a full reset's: the
+/// client is in no transaction behind it, and otherwise as it was. By the strict rules it is
+/// fault 5.
+pub fn unasked_resets_are_heard()
+    ensures any { (s : ClientSession) → Listens s.stage → s.heard.mark ≡ None
+        → signed Any s (signs.Change ResetDone) ≡ Ok (in_none s) }
+    ensures strict { (s : ClientSession) → Listens s.stage → s.heard.mark ≡ None
+        → s.heard.done ≡ Awaited → signed Strict s (signs.Change ResetDone) ≡ Err UnaskedReset }
 {}
 
 /// A message that is read ends behind a final DONE, and each begins without one. In the strict

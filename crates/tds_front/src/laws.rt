@@ -45,7 +45,8 @@ pub fn exchanges()
         → (place_after Ready happenings ≡ Broken → ⊥) → IsFront happenings }
     ensures no_fault { (happenings : List Happening) → IsFront happenings
         → place_after Ready happenings ≡ Broken → ⊥ }
-    ensures silent { (happenings : List Happening) → IsLawful Broken happenings → IsSilent happenings }
+    ensures silent { (happenings : List Happening)
+        → IsLawful Broken happenings → IsSilent happenings }
 {}
 
 /// Each attention that is taken has one acknowledgement: the relay's, or the server's, which is handed

@@ -11,9 +11,9 @@ use Rattle.tds_wire.specs.declared.told.ChangeValue.{ChangeValue}
 use Rattle.tds_wire.specs.declared.told.ChangeValue.TheVariants as changes
 use Rattle.tds_wire.specs.declared.told.Told.{Told}
 use Rattle.tds_wire.specs.declared.told.Told.TheVariants as told
-use Rattle.tds_judge.specs.Breaches.{asked_last, gone_last, has_asked_since, has_begun, has_ended, idle_since, is_cleared, is_lent, is_over, is_twice, is_unheard, size_told}
-use Rattle.tds_judge.specs.History.{Said, asks_of, further, is_acknowledged, is_out, is_underway, last_told, talk_behind}
-use Rattle.tds_judge.specs.Talking.{descriptor_of, has_begun as begun_at, has_ended as ended_at, is_full, talk_by}
+use Rattle.tds_judge.specs.Breaches.{asked_last, gone_last, has_asked_since, has_begun, has_ended, idle_since, is_lent, is_over, is_twice, is_unheard, size_told}
+use Rattle.tds_judge.specs.History.{Said, asks_of, further, is_acknowledged, is_cleared, is_out, is_underway, last_told, talk_behind}
+use Rattle.tds_judge.specs.Talking.{descriptor_of, has_begun as begun_at, has_ended as ended_at, keeps, owed, talk_by}
 
 -- the talk that a history makes
 abbrev pub talk_as : List Said → Talk
@@ -57,8 +57,8 @@ changed true t time new = refl
 changed false t time new = refl
 
 cleared : (b : Bool) (t : Talk)
-    → (if b then record t { reset_done = true; transaction = transactions.Told 0; begun_unheard = false } else record t { reset_done = true })
-    ≡ record t { reset_done = true; transaction = if b then transactions.Told 0 else t.transaction; begun_unheard = if b then false else t.begun_unheard }
+    → (if b then record t { reset_done = true } else record t { reset_done = true; transaction = transactions.Told 0; begun_unheard = false })
+    ≡ record t { reset_done = true; transaction = if b then t.transaction else transactions.Told 0; begun_unheard = if b then t.begun_unheard else false }
 cleared true t = refl
 cleared false t = refl
 
@@ -89,11 +89,11 @@ by_change past spot kind start length type (changes.Transaction new old) =
       since = spot.time;
     })
 by_change past spot kind start length type changes.ResetDone =
-    cleared (is_full (asks_of past)) (talk_as past)
+    cleared (keeps (owed (is_cleared past) (asks_of past))) (talk_as past)
     ∙ plainly (record (talk_as past) {
       reset_done = true;
-      transaction = if is_full (asks_of past) then transactions.Told 0 else last_told past;
-      begun_unheard = if is_full (asks_of past) then false else is_unheard past;
+      transaction = if keeps (owed (is_cleared past) (asks_of past)) then last_told past else transactions.Told 0;
+      begun_unheard = if keeps (owed (is_cleared past) (asks_of past)) then is_unheard past else false;
     })
 by_change past spot kind start length type (changes.PacketSize size) = plainly (record (talk_as past) { most = size })
 by_change past spot kind start length type (changes.Values new old) = plainly (talk_as past)

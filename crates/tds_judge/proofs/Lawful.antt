@@ -16,10 +16,10 @@ use Rattle.tds_wire.specs.declared.told.ChangeValue.TheVariants as changes
 use Rattle.tds_wire.specs.declared.told.Told.{Told}
 use Rattle.tds_wire.specs.declared.told.Told.TheVariants as told
 use Rattle.tds_wire.specs.declared.told.Token.{Token}
-use Rattle.tds_judge.specs.Breaches.{asked_last, cleared_by_change, cleared_by_token, final_by_token, gone_last, has_asked_since, has_ended, is_cleared, is_over, is_twice, is_unheard, size_told}
+use Rattle.tds_judge.specs.Breaches.{asked_last, final_by_token, gone_last, has_asked_since, has_ended, is_over, is_twice, is_unheard, size_told}
 use Rattle.tds_judge.specs.Conversation.{IsLawful, MayAnswer, MayAsk, MayAt, MayEnd, MayGreet, MayName, MaySay, MayStop, Names, Piece, Bytes, Lends, Closes, Place, Quiet, Greeting, Asking, Answering, Stopping, Skipping, begun_at, ended_at, forgotten_at, heard_at, left_by, left_by_change, place_by, place_of, piece_seen, seen, stopped_at}
 use Rattle.tds_judge.specs.Framing.{Run, closed, closed_by, closing, event_by, event_said, run_of, spot_of}
-use Rattle.tds_judge.specs.History.{Said, Tells, further, asks_of, is_acknowledged, is_another, is_out, is_underway, last_told}
+use Rattle.tds_judge.specs.History.{Said, Tells, cleared_by_change, cleared_by_token, further, asks_of, is_acknowledged, is_another, is_cleared, is_out, is_underway, last_told}
 use Rattle.tds_judge.specs.Talking.{acknowledges, is_asked, is_both, is_full, is_request, new_talk, reset_of}
 use Rattle.tds_judge.specs.Told.{has_breach, is_breach, is_broken}
 use Rattle.tds_wire.specs.Reading.{Reading}

@@ -10,8 +10,8 @@ use Rattle.tds_wire.specs.declared.told.ChangeValue.{ChangeValue}
 use Rattle.tds_wire.specs.declared.told.ChangeValue.TheVariants as changes
 use Rattle.tds_wire.specs.declared.told.Told.{Told}
 use Rattle.tds_wire.specs.declared.told.Told.TheVariants as told
-use Rattle.tds_judge.specs.History.{Said, asks_of, is_acknowledged, is_out, is_underway, last_told}
-use Rattle.tds_judge.specs.Talking.{descriptor_of, is_full}
+use Rattle.tds_judge.specs.History.{Said, is_acknowledged, is_out, is_underway, last_told, owed_of}
+use Rattle.tds_judge.specs.Talking.{descriptor_of, keeps}
 
 -- ---- The answer that comes, and its request
 
@@ -38,25 +38,6 @@ final_by _ before = before
 unfoldable pub is_over : List Said → Bool
 is_over [] = false
 is_over (x ∷ past) = final_by x.event (is_over past)
-
--- ENVCHANGE 18 has come since the newest request (2.2.7.9)
-abbrev pub cleared_by_change : ChangeValue → Bool → Bool
-cleared_by_change changes.ResetDone before = true
-cleared_by_change _ before = before
-
-abbrev pub cleared_by_token : Told → Bool → Bool
-cleared_by_token (told.Change change) before = cleared_by_change change.value before
-cleared_by_token _ before = before
-
-abbrev pub cleared_by : Event → Bool → Bool
-cleared_by (events.Request status) before = false
-cleared_by events.Login before = false
-cleared_by (events.Says token) before = cleared_by_token token.told before
-cleared_by _ before = before
-
-unfoldable pub is_cleared : List Said → Bool
-is_cleared [] = false
-is_cleared (x ∷ past) = cleared_by x.event (is_cleared past)
 
 -- the packet size that was agreed on; 0 where it isn't known
 abbrev pub size_by_change : ChangeValue → ℕ → ℕ
@@ -145,23 +126,23 @@ has_begun (x ∷ past) = begun_by x.event (has_begun past)
 
 -- that transaction was begun by an answer that was cancelled, and no request has named one since
 abbrev pub unheard_by_change : ℕ → ChangeValue → Bool → Reset → Bool → Bool
-unheard_by_change type (changes.Transaction new old) out asks before = begins type && out
-unheard_by_change type changes.ResetDone out asks before = if is_full asks then false else before
-unheard_by_change type _ out asks before = before
+unheard_by_change type (changes.Transaction new old) out owes before = begins type && out
+unheard_by_change type changes.ResetDone out owes before = if keeps owes then before else false
+unheard_by_change type _ out owes before = before
 
 abbrev pub unheard_by_token : Told → Bool → Reset → Bool → Bool
-unheard_by_token (told.Change change) out asks before = unheard_by_change change.kind change.value out asks before
-unheard_by_token _ out asks before = before
+unheard_by_token (told.Change change) out owes before = unheard_by_change change.kind change.value out owes before
+unheard_by_token _ out owes before = before
 
 abbrev pub unheard_by : Event → Bool → Bool → Bool → Reset → Bool → Bool
-unheard_by (events.Attention size status) out underway begun asks before = before || (begun && underway)
-unheard_by (events.Names descriptor) out underway begun asks before = false
-unheard_by (events.Says token) out underway begun asks before = unheard_by_token token.told out asks before
-unheard_by _ out underway begun asks before = before
+unheard_by (events.Attention size status) out underway begun owes before = before || (begun && underway)
+unheard_by (events.Names descriptor) out underway begun owes before = false
+unheard_by (events.Says token) out underway begun owes before = unheard_by_token token.told out owes before
+unheard_by _ out underway begun owes before = before
 
 unfoldable pub is_unheard : List Said → Bool
 is_unheard [] = false
-is_unheard (x ∷ past) = unheard_by x.event (is_out past) (is_underway past) (has_begun past) (asks_of past) (is_unheard past)
+is_unheard (x ∷ past) = unheard_by x.event (is_out past) (is_underway past) (has_begun past) (owed_of past) (is_unheard past)
 
 -- the transaction that ended last, while no request has named one since; 0 where none did
 abbrev pub gone_by_change : ℕ → ChangeValue → Transaction → ℕ → ℕ

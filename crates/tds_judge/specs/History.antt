@@ -16,7 +16,7 @@ use Rattle.tds_wire.specs.declared.told.Told.{Told}
 use Rattle.tds_wire.specs.declared.told.Told.TheVariants as told
 use Rattle.tds_judge.specs.Findings.{number_of}
 use Rattle.tds_judge.specs.Framing.{Run}
-use Rattle.tds_judge.specs.Talking.{acknowledges, descriptor_of, is_both, is_full, is_told, new_talk, reset_of, talk_by, told_by}
+use Rattle.tds_judge.specs.Talking.{acknowledges, descriptor_of, is_both, is_full, is_told, keeps, new_talk, owed, reset_of, talk_by, told_by}
 
 -- where and when something was said, and what
 pub record Said : Type 0 where
@@ -143,6 +143,29 @@ unfoldable pub asks_of : List Said → Reset
 asks_of [] = resets.None
 asks_of (x ∷ past) = asks_by x.event (asks_of past)
 
+-- ENVCHANGE 18 has come since the newest request (2.2.7.9)
+abbrev pub cleared_by_change : ChangeValue → Bool → Bool
+cleared_by_change changes.ResetDone before = true
+cleared_by_change _ before = before
+
+abbrev pub cleared_by_token : Told → Bool → Bool
+cleared_by_token (told.Change change) before = cleared_by_change change.value before
+cleared_by_token _ before = before
+
+abbrev pub cleared_by : Event → Bool → Bool
+cleared_by (events.Request status) before = false
+cleared_by events.Login before = false
+cleared_by (events.Says token) before = cleared_by_token token.told before
+cleared_by _ before = before
+
+unfoldable pub is_cleared : List Said → Bool
+is_cleared [] = false
+is_cleared (x ∷ past) = cleared_by x.event (is_cleared past)
+
+-- the reset that the newest request asks for, unless it has come
+abbrev pub owed_of : List Said → Reset
+owed_of past = owed (is_cleared past) (asks_of past)
+
 -- ---- The transaction that was told last (MS-TDS 2.2.7.9)
 
 -- 8 has begun, 11 is enlisted; all others end it
@@ -150,41 +173,41 @@ abbrev pub last_by_type : ℕ → ℕ → Transaction
 last_by_type type new = if (type == 8) || (type == 11) then transactions.Told new else transactions.Told 0
 
 abbrev pub last_by_change : ℕ → ChangeValue → Reset → Transaction → Transaction
-last_by_change type (changes.Transaction new old) asks before = last_by_type type new
-last_by_change type changes.ResetDone asks before = if is_full asks then transactions.Told 0 else before
-last_by_change type (changes.PacketSize size) asks before = before
-last_by_change type (changes.Values new old) asks before = before
-last_by_change type changes.Other asks before = before
+last_by_change type (changes.Transaction new old) owes before = last_by_type type new
+last_by_change type changes.ResetDone owes before = if keeps owes then before else transactions.Told 0
+last_by_change type (changes.PacketSize size) owes before = before
+last_by_change type (changes.Values new old) owes before = before
+last_by_change type changes.Other owes before = before
 
 abbrev pub last_by_token : ℕ → Told → Reset → Transaction → Transaction
-last_by_token kind (told.Change change) asks before = last_by_change change.kind change.value asks before
-last_by_token kind told.Unclear asks before = if kind == 0xE3 then transactions.Unknown else before
-last_by_token kind (told.Done done) asks before = before
-last_by_token kind (told.Message message) asks before = before
-last_by_token kind (told.ReturnStatus value) asks before = before
-last_by_token kind (told.SessionState state) asks before = before
-last_by_token kind told.Other asks before = before
+last_by_token kind (told.Change change) owes before = last_by_change change.kind change.value owes before
+last_by_token kind told.Unclear owes before = if kind == 0xE3 then transactions.Unknown else before
+last_by_token kind (told.Done done) owes before = before
+last_by_token kind (told.Message message) owes before = before
+last_by_token kind (told.ReturnStatus value) owes before = before
+last_by_token kind (told.SessionState state) owes before = before
+last_by_token kind told.Other owes before = before
 
 abbrev pub last_by : Event → Reset → Transaction → Transaction
-last_by (events.Says token) asks before = last_by_token token.kind token.told asks before
-last_by events.Login asks before = transactions.Told 0
-last_by (events.Request status) asks before = before
-last_by (events.Answered whole) asks before = before
-last_by events.Ignored asks before = before
-last_by (events.Attention size status) asks before = before
-last_by events.Answer asks before = before
-last_by (events.Packet size) asks before = before
-last_by events.Unfinished asks before = before
-last_by (events.Later status) asks before = before
-last_by (events.Names descriptor) asks before = before
-last_by events.TakenUp asks before = before
-last_by (events.Stops ending value) asks before = before
-last_by events.Borrowed asks before = before
-last_by events.Closed asks before = before
+last_by (events.Says token) owes before = last_by_token token.kind token.told owes before
+last_by events.Login owes before = transactions.Told 0
+last_by (events.Request status) owes before = before
+last_by (events.Answered whole) owes before = before
+last_by events.Ignored owes before = before
+last_by (events.Attention size status) owes before = before
+last_by events.Answer owes before = before
+last_by (events.Packet size) owes before = before
+last_by events.Unfinished owes before = before
+last_by (events.Later status) owes before = before
+last_by (events.Names descriptor) owes before = before
+last_by events.TakenUp owes before = before
+last_by (events.Stops ending value) owes before = before
+last_by events.Borrowed owes before = before
+last_by events.Closed owes before = before
 
 unfoldable pub last_told : List Said → Transaction
 last_told [] = transactions.Unknown
-last_told (x ∷ past) = last_by x.event (asks_of past) (last_told past)
+last_told (x ∷ past) = last_by x.event (owed_of past) (last_told past)
 
 -- ---- Breaches
 

@@ -44,6 +44,16 @@ is_full resets.Full = true
 is_full resets.Keep = false
 is_full resets.Both = true
 
+abbrev pub keeps : Reset → Bool
+keeps resets.None = false
+keeps resets.Full = false
+keeps resets.Keep = true
+keeps resets.Both = false
+
+-- what is still to be told done of what was asked for
+abbrev pub owed : Bool → Reset → Reset
+owed done asked = if done then resets.None else asked
+
 abbrev pub is_both : Reset → Bool
 is_both resets.None = false
 is_both resets.Full = false
@@ -182,9 +192,11 @@ has_ended t time =
 abbrev pub transaction_changed : Talk → ℕ → ℕ → ℕ → Talk
 transaction_changed t time type new = if (type == 8) || (type == 11) then has_begun t time new else has_ended t time
 
--- 18: a full reset has ended the transaction
+-- 18: the reset has ended the transaction, but for one that keeps it. One that no bit asked for is a full one (`sp_reset_connection`).
 abbrev pub is_reset : Talk → Talk
-is_reset t = if is_full t.reset then record t { reset_done = true; transaction = transactions.Told 0; begun_unheard = false } else record t { reset_done = true }
+is_reset t =
+    if keeps (owed t.reset_done t.reset) then record t { reset_done = true }
+    else record t { reset_done = true; transaction = transactions.Told 0; begun_unheard = false }
 
 abbrev pub change_heard : Talk → ℕ → ℕ → ChangeValue → Talk
 change_heard t time type (changes.Transaction new old) = transaction_changed t time type new

@@ -8,10 +8,10 @@ use Rattle.tds_judge.specs.declared.talk.Event.{Event}
 use Rattle.tds_judge.specs.declared.talk.Event.TheVariants as events
 use Rattle.tds_judge.specs.declared.talk.Limits.{Limits}
 use Rattle.tds_wire.specs.declared.told.Token.{Token}
-use Rattle.tds_judge.specs.Breaches.{asked_last, gone_last, has_asked_since, has_ended, idle_since, is_cleared, is_lent, is_over, is_twice, is_unheard, size_told}
+use Rattle.tds_judge.specs.Breaches.{asked_last, gone_last, has_asked_since, has_ended, idle_since, is_lent, is_over, is_twice, is_unheard, size_told}
 use Rattle.tds_judge.specs.Framing.{Run}
 use Rattle.tds_judge.specs.Findings.{is_note, is_risk, number_of}
-use Rattle.tds_judge.specs.History.{Said, Tells, asks_of, is_acknowledged, is_another, is_attention_unanswered, is_both_resets, is_out, is_request_while_answering, is_second_attention, is_underway, is_wrong_descriptor, last_told, of_names, of_request}
+use Rattle.tds_judge.specs.History.{Said, Tells, asks_of, is_acknowledged, is_another, is_attention_unanswered, is_both_resets, is_cleared, is_out, is_request_while_answering, is_second_attention, is_underway, is_wrong_descriptor, last_told, of_names, of_request}
 use Rattle.tds_judge.specs.Talking.{acknowledges, descriptor_of, is_asked, is_full, is_request, is_unclear, reset_of}
 
 -- ---- What is so of one kind of event, and of nothing else

@@ -83,11 +83,23 @@ impl Talk {
         self.since = time;
     }
 
+    /// What is still to be told done of what was asked for.
+    fn owed(&self) -> Reset
+        ensures { result ≡ talking.owed self.now.reset_done self.now.reset }
+    {
+        if self.reset_done {
+            Reset::None
+        } else {
+            self.reset
+        }
+    }
+
     fn end_reset(&mut self)
         ensures { self.new ≡ talking.is_reset self.old }
     {
+        let keeps = self.owed().keeps();
         self.reset_done = true;
-        if self.reset.is_full() {
+        if !keeps {
             self.transaction = Transaction::Told(0);
             self.begun_unheard = false;
         }

@@ -156,6 +156,16 @@ impl Reset {
         }
     }
 
+    /// Whether the transaction is kept.
+    pub fn keeps(self) -> bool
+        ensures { result ≡ talking.keeps self }
+    {
+        match self {
+            Reset::Keep => true,
+            _ => false,
+        }
+    }
+
     pub fn is_both(self) -> bool
         ensures { result ≡ talking.is_both self }
     {

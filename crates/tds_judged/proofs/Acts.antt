@@ -19,13 +19,13 @@ use Rattle.tds_judge.specs.declared.talk.Transaction.{Transaction}
 use Rattle.tds_judge.specs.declared.talk.Transaction.TheVariants as transactions
 use Rattle.tds_judge.specs.Breaches.{size_told}
 use Rattle.tds_judge.specs.Conversation.{IsLawful, MayAsk, MayName, MayStop, Names, Place, Asking, forgotten_at, place_of, stopped_at, Skipping}
-use Rattle.tds_judge.specs.History.{Said, asks_of, last_told}
+use Rattle.tds_judge.specs.History.{Said, asks_of, is_cleared, last_told}
 use Rattle.tds_judge.specs.Talking.{is_both, reset_of}
 use Rattle.tds_judge.specs.Told.{is_broken}
 use Rattle.tds_judged.specs.Seen.{named_by, sees_outs, AllBehindLogin, AreBehindLogin, ComesBehindLogin, Eye, Watch, conversation, seen, sees, sees_begin, sees_come, sees_done, sees_names, sees_packet, status, unless_lost, watch_by}
 use Rattle.tds_lawful.specs.Answering.{IsNoFault, NoFault, UnlessLost}
 use Rattle.tds_judged.proofs.Hears.{IsLast, NotAcknowledged, as_reset, is_acknowledged, or_true}
-use Rattle.tds_judged.proofs.Steps.{Answers, Asked, At, Knows, Rests, Skips, Stands, Stops, owes_same, packet_seen, part_reads, part_skips, reading_begins, reads_stand, skipping_begins, skips_stand}
+use Rattle.tds_judged.proofs.Steps.{Answers, Asked, At, Knows, Rests, Skips, Stands, Stops, packet_seen, part_reads, part_skips, reading_begins, reads_stand, skipping_begins, skips_stand}
 
 abbrev pub line_at : ℕ → Stage → Heard → Line
 line_at n stage h = record { asked = n; stage = stage; heard = h }
@@ -84,7 +84,7 @@ names_last (Some KeepTransaction) (transactions.Told last) descriptor is = same_
 -- the descriptor is seen or not
 names_by : (b : Bool) (eye : Eye) (h : Heard) (named : ℕ) (past : List Said) → named ≡ header_descriptor h.mark h.descriptor → Knows h past → Asked h past
     → Knows h (if b then sees eye past (events.Names named) else past) × Asked h (if b then sees eye past (events.Names named) else past)
-unfolding IsLawful size_told last_told place_of asks_of
+unfolding IsLawful size_told last_told place_of asks_of is_cleared
 names_by false eye h named past is k a = (k, a)
 names_by true eye h named past is k a = (
   record {
@@ -92,12 +92,12 @@ names_by true eye h named past is k a = (
     size = k.size;
     last = k.last;
   },
-  record { place = a.place; asks = a.asks; done = a.done },
+  record { place = a.place; owes = a.owes; done = a.done },
 )
 
 begins_sent : (eye : Eye) (h : Heard) (named : ℕ) (past : List Said) (last : Bool) → named ≡ header_descriptor h.mark h.descriptor → Knows h past → Rests h past
     → Knows h (sees_names eye named (sees eye past (events.Request (status h.mark last)))) × Asked h (sees_names eye named (sees eye past (events.Request (status h.mark last))))
-unfolding IsLawful size_told last_told place_of asks_of
+unfolding IsLawful size_told last_told place_of asks_of is_cleared
 begins_sent eye h named past last is k a =
     names_by (eye.headers (sees eye past (events.Request (status h.mark last)))) eye h named (sees eye past (events.Request (status h.mark last))) is
     (record {
@@ -105,14 +105,14 @@ begins_sent eye h named past last is k a =
       size = k.size;
       last = k.last;
     })
-    (record { place = ap Asking (reset_read h.mark last); asks = reset_read h.mark last; done = a.done })
+    (record { place = ap Asking (reset_read h.mark last); owes = reset_read h.mark last; done = a.done })
 
 later_sent : (eye : Eye) (h : Heard) (past : List Said) (last : Bool) → Knows h past → Asked h past
     → Knows h (sees eye past (events.Later (status None last))) × Asked h (sees eye past (events.Later (status None last)))
-unfolding IsLawful size_told last_told place_of asks_of
+unfolding IsLawful size_told last_told place_of asks_of is_cleared
 later_sent eye h past last k a = (
   record { lawful = (k.lawful, reset_read None last); size = k.size; last = k.last },
-  record { place = a.place; asks = a.asks; done = a.done },
+  record { place = a.place; owes = a.owes; done = a.done },
 )
 
 rests_packet : (eye : Eye) (h : Heard) (past : List Said) → Rests h past → Rests h (sees_packet eye past)
@@ -120,8 +120,8 @@ unfolding place_of
 rests_packet eye h past a = record { place = a.place; done = a.done }
 
 asked_packet : (eye : Eye) (h : Heard) (past : List Said) → Asked h past → Asked h (sees_packet eye past)
-unfolding place_of asks_of
-asked_packet eye h past a = record { place = a.place; asks = a.asks; done = a.done }
+unfolding place_of asks_of is_cleared
+asked_packet eye h past a = record { place = a.place; owes = a.owes; done = a.done }
 
 -- what was sent was the last packet or not
 sent_stands : (n : ℕ) (h : Heard) (begun : Bool) (named : ℕ) (past : List Said) (last : Bool) → begun ≡ false → Knows h past → Asked h past
@@ -167,18 +167,18 @@ ignored_known eye h past k =
 
 -- an attention behind a request whose answer hasn't begun, behind one that is ignored, and inside an answer
 stop_asked : (eye : Eye) (h : Heard) (past : List Said) → Knows h past → Asked h past → Knows h (attends eye past) × Stops h (attends eye past)
-unfolding place_of asks_of
+unfolding place_of asks_of is_cleared
 stop_asked eye h past k a = (
   attention_known eye h past (subst MayStop (sym a.place) tt) k,
-  record { place = ap stopped_at a.place; owes = owes_same h.mark (asks_of past) a.asks; done = a.done },
+  record { place = ap stopped_at a.place; owes = a.owes; done = a.done },
 )
 
 stop_ignored : (eye : Eye) (h : Heard) (past : List Said) → Knows h past → Asked h past
     → Knows h (attends eye (ignores eye past)) × Stops h (attends eye (ignores eye past))
-unfolding place_of asks_of
+unfolding place_of asks_of is_cleared
 stop_ignored eye h past k a = (
   attention_known eye h (ignores eye past) (subst (λ (p : Place). MayStop (forgotten_at p)) (sym a.place) tt) (ignored_known eye h past k),
-  record { place = ap (λ (p : Place). stopped_at (forgotten_at p)) a.place; owes = owes_same h.mark (asks_of past) a.asks; done = a.done },
+  record { place = ap (λ (p : Place). stopped_at (forgotten_at p)) a.place; owes = a.owes; done = a.done },
 )
 
 not_acknowledged : (done : FinalDone) → NotAcknowledged done → false ≡ is_acknowledged done
@@ -187,7 +187,7 @@ not_acknowledged Answered none = refl
 not_acknowledged Acknowledged none = absurd none
 
 stop_answer : (eye : Eye) (h : Heard) (past : List Said) → Knows h past → Answers h past → Knows h (attends eye past) × Skips h (attends eye past)
-unfolding place_of asks_of
+unfolding place_of asks_of is_cleared
 stop_answer eye h past k a = (
   attention_known eye h past (subst MayStop (sym a.place) tt) k,
   record { place = ap stopped_at a.place ∙ ap Skipping (not_acknowledged h.done a.done); owes = a.owes },
@@ -212,12 +212,12 @@ cancel_moves eye n (Broken fault) h w past k a well = record { knows = k; at = a
 -- ---- What comes, and a loss
 
 reading_packet : (eye : Eye) (begun : Bool) (named : ℕ) (h : Heard) (past : List Said) → At Reading begun named h past → At Reading begun named h (sees_packet eye past)
-unfolding place_of asks_of
-reading_packet eye false named h past a = record { place = a.place; asks = a.asks; done = a.done }
+unfolding place_of asks_of is_cleared
+reading_packet eye false named h past a = record { place = a.place; owes = a.owes; done = a.done }
 reading_packet eye true named h past a = record { place = a.place; owes = a.owes; done = a.done }
 
 cancelling_packet : (eye : Eye) (begun : Bool) (named : ℕ) (h : Heard) (past : List Said) → At Cancelling begun named h past → At Cancelling begun named h (sees_packet eye past)
-unfolding place_of asks_of
+unfolding place_of asks_of is_cleared
 cancelling_packet eye false named h past a = record { place = a.place; owes = a.owes; done = a.done }
 cancelling_packet eye true named h past a = record { place = a.place; owes = a.owes }
 

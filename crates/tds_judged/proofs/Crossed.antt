@@ -1,5 +1,5 @@
 -- An attention that is seen later leaves a conversation where it was, as long as the server goes on with the answer.
-use Rattle.std.proofs.Common.{◌≡◌, ◌∙◌, ℕ, true, List, [], ◌∷◌, ◌++◌, refl, ap, subst}
+use Rattle.std.proofs.Common.{◌≡◌, ◌∙◌, ℕ, Bool, true, List, [], ◌∷◌, ◌++◌, refl, ap, subst}
 use Rattle.tds_judge.specs.declared.finding.Spot.{Spot}
 use Rattle.tds_judge.specs.declared.talk.Event.{Event}
 use Rattle.tds_judge.specs.declared.talk.Event.TheVariants as events
@@ -8,7 +8,8 @@ use Rattle.tds_judge.specs.declared.talk.Reset.TheVariants as resets
 use Rattle.tds_judge.specs.declared.talk.Transaction.{Transaction}
 use Rattle.tds_judge.specs.Breaches.{size_by, size_told}
 use Rattle.tds_judge.specs.Conversation.{IsLawful, May, MayAt, MayStop, Place, Quiet, Greeting, Asking, Answering, Stopping, Skipping, place_by, place_of, stopped_at}
-use Rattle.tds_judge.specs.History.{Said, asks_by, asks_of, last_by, last_told}
+use Rattle.tds_judge.specs.History.{Said, asks_by, asks_of, cleared_by, is_cleared, last_by, last_told}
+use Rattle.tds_judge.specs.Talking.{owed}
 use Rattle.tds_judged.specs.Crossing.{IsOfServer}
 
 abbrev said : Spot → Event → Said
@@ -19,14 +20,18 @@ record Same (xs ys : List Said) : Type 0 where
   place : place_of xs ≡ place_of ys
   last : last_told xs ≡ last_told ys
   asks : asks_of xs ≡ asks_of ys
+  cleared : is_cleared xs ≡ is_cleared ys
   size : size_told xs ≡ size_told ys
 
 same_more : (x : Said) (xs ys : List Said) → Same xs ys → Same (x ∷ xs) (x ∷ ys)
-unfolding place_of last_told asks_of size_told
+unfolding place_of last_told asks_of is_cleared size_told
 same_more x xs ys s = record {
   place = ap (place_by x.event) s.place;
-  last = ap (λ (r : Reset). last_by x.event r (last_told xs)) s.asks ∙ ap (last_by x.event (asks_of ys)) s.last;
+  last =
+      ap (λ (r : Reset). last_by x.event (owed (is_cleared xs) r) (last_told xs)) s.asks
+      ∙ (ap (λ (b : Bool). last_by x.event (owed b (asks_of ys)) (last_told xs)) s.cleared ∙ ap (last_by x.event (owed (is_cleared ys) (asks_of ys))) s.last);
   asks = ap (asks_by x.event) s.asks;
+  cleared = ap (cleared_by x.event) s.cleared;
   size = ap (size_by x.event) s.size;
 }
 
@@ -71,19 +76,16 @@ place_crossed Stopping last most _ is stop may = absurd stop
 place_crossed (Skipping done) last most _ is stop may = absurd stop
 place_crossed place last most _ is stop may = absurd is
 
-last_crossed : (event : Event) → IsOfServer event → (asks : Reset) (before : Transaction) → last_by event asks before ≡ last_by event asks before
-last_crossed event is asks before = refl
-
 pub crossed : (past rest : List Said) (here there : Spot) (size status : ℕ) (event : Event)
     → IsOfServer event → May past event
     → IsLawful (rest ++ said there event ∷ said here (events.Attention size status) ∷ past)
     → IsLawful (rest ++ said here (events.Attention size status) ∷ said there event ∷ past)
-unfolding IsLawful place_of last_told asks_of size_told
+unfolding IsLawful place_of last_told asks_of is_cleared size_told
 crossed past rest here there size status event is may lawful =
     let xs = said there event ∷ said here (events.Attention size status) ∷ past in
     let ys = said here (events.Attention size status) ∷ said there event ∷ past in
     let before = lawful_before rest xs lawful in
     let attends = before.0.1 in
     let both = place_crossed (place_of past) (last_told past) (size_told past) event is attends.0 may in
-    lawful_rest rest xs ys (record { place = both.0; last = refl; asks = refl; size = refl }) lawful
+    lawful_rest rest xs ys (record { place = both.0; last = refl; asks = refl; cleared = refl; size = refl }) lawful
     ((before.0.0, may), (both.1, attends.1, attends.2))

@@ -6,7 +6,6 @@ use Rattle.std.proofs.lemmas.Nat.{and_mask}
 use Rattle.tds_packet.specs.declared.status.Reset.{Reset}
 use Rattle.tds_packet.specs.declared.status.Reset.TheVariants.{Full, KeepTransaction}
 use Rattle.tds_packet.specs.Layout.{has_bit}
-use Rattle.tds_packet.specs.Resets.{reset_effect}
 use Rattle.tds_token.specs.declared.env_change.EnvChange.TheVariants.{Begin, Commit, Rollback, ResetDone}
 use Rattle.tds_token.specs.DoneStatus.{attention, more}
 use Rattle.tds_client.specs.declared.fault.ClientFault.{ClientFault}
@@ -16,7 +15,7 @@ use Rattle.tds_client.specs.declared.heard.FinalDone.{FinalDone}
 use Rattle.tds_client.specs.declared.heard.FinalDone.TheVariants.{Awaited, Answered, Acknowledged}
 use Rattle.tds_client.specs.declared.sign.DoneKind.TheVariants.{Statement, Procedure, InProcedure}
 use Rattle.tds_client.specs.declared.sign.Sign.TheVariants as signs
-use Rattle.tds_client.specs.Hearing.{acknowledges_by, any_sign, changed, done_behind, is_full as is_full_mark, place_change, place_done, with_done}
+use Rattle.tds_client.specs.Hearing.{acknowledges_by, any_sign, changed, done_behind, is_full as is_full_mark, reset_told, place_change, place_done, with_done}
 use Rattle.tds_listen.specs.Signs.{change_sign, done_kind, sign_by, transaction_change, unclear_sign}
 use Rattle.tds_wire.specs.declared.told.ChangeValue.{ChangeValue}
 use Rattle.tds_wire.specs.declared.told.ChangeValue.TheVariants as changes
@@ -29,8 +28,8 @@ use Rattle.tds_judge.specs.declared.talk.Transaction.{Transaction}
 use Rattle.tds_judge.specs.declared.talk.Transaction.TheVariants as transactions
 use Rattle.tds_judge.specs.Breaches.{final_by_token, size_by_token}
 use Rattle.tds_judge.specs.Conversation.{left_by}
-use Rattle.tds_judge.specs.History.{last_by_token}
-use Rattle.tds_judge.specs.Talking.{is_full, told_acknowledges}
+use Rattle.tds_judge.specs.History.{cleared_by_token, last_by_token}
+use Rattle.tds_judge.specs.Talking.{keeps, owed as still_owed, told_acknowledges}
 use Rattle.tds_judged.specs.Tokens.{TellsNoSize}
 
 -- ---- In the judge's words
@@ -55,21 +54,15 @@ NotAcknowledged Awaited = Unit {0}
 NotAcknowledged Answered = Unit {0}
 NotAcknowledged Acknowledged = ⊥
 
--- a mark that stands was asked for
-abbrev pub Owes : Option Reset → Asks → Type 0
-Owes None asks = Unit {0}
-Owes (Some reset) asks = asks ≡ as_reset (Some reset)
-
 -- the descriptor that is known is the one that was told last, where one was
 abbrev pub IsLast : Transaction → ℕ → Type 0
 IsLast transactions.Unknown descriptor = Unit {0}
 IsLast (transactions.Told last) descriptor = last ≡ descriptor
 
 -- what a token leaves
-pub record Follows (cancelling : Bool) (h : Heard) (kind : ℕ) (x : Told) (asks : Asks) (before : Transaction) (next : Heard) : Type 0 where
+pub record Follows (cancelling : Bool) (h : Heard) (kind : ℕ) (x : Told) (owed : Asks) (before : Transaction) (next : Heard) : Type 0 where
   pub left : left_by x (as_reset h.mark) ≡ as_reset next.mark
-  pub owes : Owes next.mark asks
-  pub last : IsLast (last_by_token kind x asks before) next.descriptor
+  pub last : IsLast (last_by_token kind x owed before) next.descriptor
   pub acknowledged : is_acknowledged h.done || told_acknowledges x ≡ is_acknowledged next.done
   pub reads : cancelling ≡ false → NotAcknowledged h.done
       → (told_acknowledges x ≡ false) × (final_by_token x (is_final h.done) ≡ is_final next.done) × NotAcknowledged next.done
@@ -157,22 +150,20 @@ stays Awaited status = stays_by (has_bit status more)
 stays Answered status = stays_by (has_bit status more)
 stays Acknowledged status = refl
 
-done_follows : (a cancelling : Bool) (h : Heard) (kind : ℕ) (d : Done) (asks : Asks) (last : Transaction)
-    → Owes h.mark asks → IsLast last h.descriptor → (d.status / 32 % 2 == 1) ≡ a
-    → IfOk (done_heard a cancelling h d.status) (λ next. Follows cancelling h kind (told.Done d) asks last next)
-done_follows true true h kind d asks last owes is a = record {
+done_follows : (a cancelling : Bool) (h : Heard) (kind : ℕ) (d : Done) (owed : Asks) (last : Transaction)
+    → IsLast last h.descriptor → (d.status / 32 % 2 == 1) ≡ a
+    → IfOk (done_heard a cancelling h d.status) (λ next. Follows cancelling h kind (told.Done d) owed last next)
+done_follows true true h kind d owed last is a = record {
   left = refl;
-  owes = owes;
   last = is;
   acknowledged = ap (λ (b : Bool). is_acknowledged h.done || b) a ∙ or_true (is_acknowledged h.done);
   reads = λ no none. absurd (true_not no);
 }
-done_follows true false h kind d asks last owes is a = tt
-done_follows false cancelling h kind d asks last owes is a =
+done_follows true false h kind d owed last is a = tt
+done_follows false cancelling h kind d owed last is a =
     let behind = λ (none : NotAcknowledged h.done). behind_is h.done (d.status % 2 == 1) d.status (bit_1 d.status) none in
     record {
       left = refl;
-      owes = owes;
       last = is;
       acknowledged = ap (λ (b : Bool). is_acknowledged h.done || b) a ∙ (or_false (is_acknowledged h.done) ∙ stays h.done d.status);
       reads = λ no none. (a, (behind none).0, (behind none).1);
@@ -180,13 +171,12 @@ done_follows false cancelling h kind d asks last owes is a =
 
 -- ---- A change
 
-unchanged : (cancelling : Bool) (h : Heard) (kind : ℕ) (x : Told) (asks : Asks) (last : Transaction)
-    → left_by x (as_reset h.mark) ≡ as_reset h.mark → IsLast (last_by_token kind x asks last) h.descriptor
+unchanged : (cancelling : Bool) (h : Heard) (kind : ℕ) (x : Told) (owed : Asks) (last : Transaction)
+    → left_by x (as_reset h.mark) ≡ as_reset h.mark → IsLast (last_by_token kind x owed last) h.descriptor
     → told_acknowledges x ≡ false → final_by_token x (is_final h.done) ≡ is_final h.done
-    → Owes h.mark asks → Follows cancelling h kind x asks last h
-unchanged cancelling h kind x asks last left is a final owes = record {
+    → Follows cancelling h kind x owed last h
+unchanged cancelling h kind x owed last left is a final = record {
   left = left;
-  owes = owes;
   last = is;
   acknowledged = ap (λ (b : Bool). is_acknowledged h.done || b) a ∙ or_false (is_acknowledged h.done);
   reads = λ no none. (a, final, none);
@@ -223,82 +213,84 @@ pub if_ok : {A E : Type 0} {P Q : A → Type 0} (r : Result A E) → ((x : A) �
 if_ok (Ok x) so is = so x is
 if_ok (Err e) so is = tt
 
-moves_follow : (cancelling : Bool) (h : Heard) (kind : ℕ) (type new old : ℕ) (asks : Asks) (last : Transaction) → Owes h.mark asks → (next : Heard)
+moves_follow : (cancelling : Bool) (h : Heard) (kind : ℕ) (type new old : ℕ) (owed : Asks) (last : Transaction) (next : Heard)
     → Moves h (if (type == 8) || (type == 11) then new else 0) next
-    → Follows cancelling h kind (told.Change (record { kind = type; value = changes.Transaction new old })) asks last next
-moves_follow cancelling h kind type new old asks last owes next is =
-    subst (λ (x : Heard). Follows cancelling h kind (told.Change (record { kind = type; value = changes.Transaction new old })) asks last x) (sym is)
+    → Follows cancelling h kind (told.Change (record { kind = type; value = changes.Transaction new old })) owed last next
+moves_follow cancelling h kind type new old owed last next is =
+    subst (λ (x : Heard). Follows cancelling h kind (told.Change (record { kind = type; value = changes.Transaction new old })) owed last x) (sym is)
     (record {
       left = refl;
-      owes = owes;
       last = last_moved ((type == 8) || (type == 11)) new;
       acknowledged = or_false (is_acknowledged h.done);
       reads = λ no none. (refl, refl, none);
     })
 
-reset_follows : (cancelling : Bool) (mark : Option Reset) (descriptor : ℕ) (done : FinalDone) (kind type : ℕ) (asks : Asks) (last : Transaction)
-    → Owes mark asks → IsLast last descriptor
-    → IfOk (changed (record { descriptor = descriptor; mark = mark; done = done }) ResetDone (reset_effect mark descriptor))
-    (λ next. Follows cancelling (record { descriptor = descriptor; mark = mark; done = done }) kind (told.Change (record { kind = type; value = changes.ResetDone })) asks last next)
-reset_follows cancelling None descriptor done kind type asks last owes is = tt
-reset_follows cancelling (Some Full) descriptor done kind type asks last owes is = record {
+reset_follows : (cancelling : Bool) (mark : Option Reset) (descriptor : ℕ) (done : FinalDone) (kind type : ℕ) (owed : Asks) (last : Transaction)
+    → owed ≡ as_reset mark → IsLast last descriptor
+    → IfOk (changed (record { descriptor = descriptor; mark = mark; done = done }) ResetDone (Some (reset_told mark descriptor)))
+    (λ next. Follows cancelling (record { descriptor = descriptor; mark = mark; done = done }) kind (told.Change (record { kind = type; value = changes.ResetDone })) owed last next)
+reset_follows cancelling None descriptor done kind type owed last owes is = record {
   left = refl;
-  owes = tt;
-  last = subst (λ (r : Asks). IsLast (if is_full r then transactions.Told 0 else last) 0) (sym owes) refl;
+  last = subst (λ (r : Asks). IsLast (if keeps r then last else transactions.Told 0) 0) (sym owes) refl;
   acknowledged = or_false (is_acknowledged done);
   reads = λ no none. (refl, refl, none);
 }
-reset_follows cancelling (Some KeepTransaction) descriptor done kind type asks last owes is = record {
+reset_follows cancelling (Some Full) descriptor done kind type owed last owes is = record {
   left = refl;
-  owes = tt;
-  last = subst (λ (r : Asks). IsLast (if is_full r then transactions.Told 0 else last) descriptor) (sym owes) is;
+  last = subst (λ (r : Asks). IsLast (if keeps r then last else transactions.Told 0) 0) (sym owes) refl;
+  acknowledged = or_false (is_acknowledged done);
+  reads = λ no none. (refl, refl, none);
+}
+reset_follows cancelling (Some KeepTransaction) descriptor done kind type owed last owes is = record {
+  left = refl;
+  last = subst (λ (r : Asks). IsLast (if keeps r then last else transactions.Told 0) descriptor) (sym owes) is;
   acknowledged = or_false (is_acknowledged done);
   reads = λ no none. (refl, refl, none);
 }
 
-change_follows : (cancelling : Bool) (h : Heard) (kind type : ℕ) (value : ChangeValue) (asks : Asks) (last : Transaction)
-    → TellsNoSize (told.Change (record { kind = type; value = value })) → Owes h.mark asks → IsLast last h.descriptor
-    → IfOk (any_sign cancelling h (change_sign type value)) (λ next. Follows cancelling h kind (told.Change (record { kind = type; value = value })) asks last next)
+change_follows : (cancelling : Bool) (h : Heard) (kind type : ℕ) (value : ChangeValue) (owed : Asks) (last : Transaction)
+    → TellsNoSize (told.Change (record { kind = type; value = value })) → owed ≡ as_reset h.mark → IsLast last h.descriptor
+    → IfOk (any_sign cancelling h (change_sign type value)) (λ next. Follows cancelling h kind (told.Change (record { kind = type; value = value })) owed last next)
 unfolding transaction_change place_change
-change_follows cancelling h kind type (changes.Transaction new old) asks last size owes is =
-    if_ok (place_change h (transaction_change type new old)) (moves_follow cancelling h kind type new old asks last owes)
+change_follows cancelling h kind type (changes.Transaction new old) owed last size owes is =
+    if_ok (place_change h (transaction_change type new old)) (moves_follow cancelling h kind type new old owed last)
     (placed_so h new old ((type == 8) || (type == 11)) (type == 9))
-change_follows cancelling h kind type changes.ResetDone asks last size owes is =
-    reset_follows cancelling h.mark h.descriptor h.done kind type asks last owes is
-change_follows cancelling h kind type (changes.PacketSize n) asks last size owes is = absurd (size tt)
-change_follows cancelling h kind type (changes.Values new old) asks last size owes is =
-    unchanged cancelling h kind (told.Change (record { kind = type; value = changes.Values new old })) asks last refl is refl refl owes
-change_follows cancelling h kind type changes.Other asks last size owes is =
-    unchanged cancelling h kind (told.Change (record { kind = type; value = changes.Other })) asks last refl is refl refl owes
+change_follows cancelling h kind type changes.ResetDone owed last size owes is =
+    reset_follows cancelling h.mark h.descriptor h.done kind type owed last owes is
+change_follows cancelling h kind type (changes.PacketSize n) owed last size owes is = absurd (size tt)
+change_follows cancelling h kind type (changes.Values new old) owed last size owes is =
+    unchanged cancelling h kind (told.Change (record { kind = type; value = changes.Values new old })) owed last refl is refl refl
+change_follows cancelling h kind type changes.Other owed last size owes is =
+    unchanged cancelling h kind (told.Change (record { kind = type; value = changes.Other })) owed last refl is refl refl
 
 -- an ENVCHANGE that can't be read is a fault
-unclear_follows : (b cancelling : Bool) (h : Heard) (kind : ℕ) (asks : Asks) (last : Transaction) → (kind == 0xE3) ≡ b
-    → Owes h.mark asks → IsLast last h.descriptor
-    → IfOk (any_sign cancelling h (if b then signs.Change (Begin 0) else signs.Nothing)) (λ next. Follows cancelling h kind told.Unclear asks last next)
+unclear_follows : (b cancelling : Bool) (h : Heard) (kind : ℕ) (owed : Asks) (last : Transaction) → (kind == 0xE3) ≡ b
+    → IsLast last h.descriptor
+    → IfOk (any_sign cancelling h (if b then signs.Change (Begin 0) else signs.Nothing)) (λ next. Follows cancelling h kind told.Unclear owed last next)
 unfolding place_change
-unclear_follows true cancelling h kind asks last is owes at = tt
-unclear_follows false cancelling h kind asks last is owes at =
-    unchanged cancelling h kind told.Unclear asks last refl
-    (subst (λ (b : Bool). IsLast (if b then transactions.Unknown else last) h.descriptor) (sym is) at) refl refl owes
+unclear_follows true cancelling h kind owed last is at = tt
+unclear_follows false cancelling h kind owed last is at =
+    unchanged cancelling h kind told.Unclear owed last refl
+    (subst (λ (b : Bool). IsLast (if b then transactions.Unknown else last) h.descriptor) (sym is) at) refl refl
 
 -- ---- Any token
 
-pub follows : (cancelling : Bool) (h : Heard) (kind : ℕ) (x : Told) (asks : Asks) (last : Transaction)
-    → TellsNoSize x → (told_acknowledges x ≡ true → kind ≡ 0xFD) → Owes h.mark asks → IsLast last h.descriptor
-    → IfOk (any_sign cancelling h (sign_by kind x)) (λ next. Follows cancelling h kind x asks last next)
+pub follows : (cancelling : Bool) (h : Heard) (kind : ℕ) (x : Told) (owed : Asks) (last : Transaction)
+    → TellsNoSize x → (told_acknowledges x ≡ true → kind ≡ 0xFD) → owed ≡ as_reset h.mark → IsLast last h.descriptor
+    → IfOk (any_sign cancelling h (sign_by kind x)) (λ next. Follows cancelling h kind x owed last next)
 unfolding unclear_sign place_done
-follows cancelling h kind (told.Done d) asks last size plain owes is =
-    subst (λ (r : Result Heard ClientFault). IfOk r (λ next. Follows cancelling h kind (told.Done d) asks last next))
+follows cancelling h kind (told.Done d) owed last size plain owes is =
+    subst (λ (r : Result Heard ClientFault). IfOk r (λ next. Follows cancelling h kind (told.Done d) owed last next))
     (done_by (d.status / 32 % 2 == 1) cancelling h d.status
     ∙ ap (λ (b : Bool). if b then (if cancelling then Ok (with_done h Acknowledged) else Err faults.UnaskedAcknowledgement) else Ok (with_done h (done_behind h.done d.status)))
     (sym (same_done kind d.status plain)))
-    (done_follows (d.status / 32 % 2 == 1) cancelling h kind d asks last owes is refl)
-follows cancelling h kind (told.Change change) asks last size plain owes is = change_follows cancelling h kind change.kind change.value asks last size owes is
-follows cancelling h kind (told.Message m) asks last size plain owes is = unchanged cancelling h kind (told.Message m) asks last refl is refl refl owes
-follows cancelling h kind (told.ReturnStatus n) asks last size plain owes is = unchanged cancelling h kind (told.ReturnStatus n) asks last refl is refl refl owes
-follows cancelling h kind (told.SessionState s) asks last size plain owes is = unchanged cancelling h kind (told.SessionState s) asks last refl is refl refl owes
-follows cancelling h kind told.Unclear asks last size plain owes is = unclear_follows (kind == 0xE3) cancelling h kind asks last refl owes is
-follows cancelling h kind told.Other asks last size plain owes is = unchanged cancelling h kind told.Other asks last refl is refl refl owes
+    (done_follows (d.status / 32 % 2 == 1) cancelling h kind d owed last is refl)
+follows cancelling h kind (told.Change change) owed last size plain owes is = change_follows cancelling h kind change.kind change.value owed last size owes is
+follows cancelling h kind (told.Message m) owed last size plain owes is = unchanged cancelling h kind (told.Message m) owed last refl is refl refl
+follows cancelling h kind (told.ReturnStatus n) owed last size plain owes is = unchanged cancelling h kind (told.ReturnStatus n) owed last refl is refl refl
+follows cancelling h kind (told.SessionState s) owed last size plain owes is = unchanged cancelling h kind (told.SessionState s) owed last refl is refl refl
+follows cancelling h kind told.Unclear owed last size plain owes is = unclear_follows (kind == 0xE3) cancelling h kind owed last refl is
+follows cancelling h kind told.Other owed last size plain owes is = unchanged cancelling h kind told.Other owed last refl is refl refl
 
 no_size_change : (value : ChangeValue) (type : ℕ) → TellsNoSize (told.Change (record { kind = type; value = value })) → size_by_token (told.Change (record { kind = type; value = value })) 0 ≡ 0
 no_size_change (changes.PacketSize n) type size = absurd (size tt)
@@ -315,3 +307,23 @@ no_size (told.ReturnStatus n) size = refl
 no_size (told.SessionState s) size = refl
 no_size told.Unclear size = refl
 no_size told.Other size = refl
+
+-- ---- What is owed behind a token
+
+change_owed : (value : ChangeValue) (type : ℕ) (cleared : Bool) (asks : Asks)
+    → still_owed (cleared_by_token (told.Change (record { kind = type; value = value })) cleared) asks
+    ≡ left_by (told.Change (record { kind = type; value = value })) (still_owed cleared asks)
+change_owed (changes.PacketSize n) type cleared asks = refl
+change_owed (changes.Transaction new old) type cleared asks = refl
+change_owed changes.ResetDone type cleared asks = refl
+change_owed (changes.Values new old) type cleared asks = refl
+change_owed changes.Other type cleared asks = refl
+
+pub owed_behind : (x : Told) (cleared : Bool) (asks : Asks) → still_owed (cleared_by_token x cleared) asks ≡ left_by x (still_owed cleared asks)
+owed_behind (told.Done d) cleared asks = refl
+owed_behind (told.Change change) cleared asks = change_owed change.value change.kind cleared asks
+owed_behind (told.Message m) cleared asks = refl
+owed_behind (told.ReturnStatus n) cleared asks = refl
+owed_behind (told.SessionState s) cleared asks = refl
+owed_behind told.Unclear cleared asks = refl
+owed_behind told.Other cleared asks = refl

@@ -20,11 +20,11 @@ use Rattle.tds_service.specs.Line.{Act, Answer, Line, Stage, Idle, Sending, Read
 use Rattle.tds_judge.specs.declared.talk.Event.TheVariants as events
 use Rattle.tds_judge.specs.declared.talk.Reset.{Reset as Asks}
 use Rattle.tds_judge.specs.Breaches.{final_by_token, size_by_token, size_told}
-use Rattle.tds_judge.specs.Conversation.{IsLawful, MayAnswer, MayEnd, MaySay, Place, Quiet, Asking, Answering, Stopping, Skipping, begun_at, ended_at, heard_at, place_of}
-use Rattle.tds_judge.specs.History.{Said, asks_of, last_told}
+use Rattle.tds_judge.specs.Conversation.{IsLawful, MayAnswer, MayEnd, MaySay, Place, Quiet, Asking, Answering, Stopping, Skipping, begun_at, ended_at, heard_at, left_by, place_of}
+use Rattle.tds_judge.specs.History.{Said, asks_of, is_cleared, last_told, owed_of}
 use Rattle.tds_judged.specs.Seen.{AreBehindLogin, Eye, IsBehindLogin, Watch, sees, sees_begin, sees_close, sees_items, sees_packet}
 use Rattle.tds_lawful.specs.Answering.{IsNoFault}
-use Rattle.tds_judged.proofs.Hears.{IsLast, NotAcknowledged, Owes, as_reset, follows, if_ok, is_acknowledged, is_final, no_size}
+use Rattle.tds_judged.proofs.Hears.{IsLast, NotAcknowledged, as_reset, follows, if_ok, is_acknowledged, is_final, no_size, owed_behind}
 
 -- ---- The invariant
 
@@ -37,24 +37,24 @@ pub record Knows (h : Heard) (past : List Said) : Type 0 where
 -- a request was begun, and its answer wasn't
 pub record Asked (h : Heard) (past : List Said) : Type 0 where
   pub place : place_of past ≡ Asking (as_reset h.mark)
-  pub asks : asks_of past ≡ as_reset h.mark
+  pub owes : owed_of past ≡ as_reset h.mark
   pub done : h.done ≡ Awaited
 
 -- its answer comes
 pub record Answers (h : Heard) (past : List Said) : Type 0 where
   pub place : place_of past ≡ Answering (as_reset h.mark) (is_final h.done)
-  pub owes : Owes h.mark (asks_of past)
+  pub owes : owed_of past ≡ as_reset h.mark
   pub done : NotAcknowledged h.done
 
 -- a message comes behind an attention
 pub record Skips (h : Heard) (past : List Said) : Type 0 where
   pub place : place_of past ≡ Skipping (is_acknowledged h.done)
-  pub owes : Owes h.mark (asks_of past)
+  pub owes : owed_of past ≡ as_reset h.mark
 
 -- an attention is out, and none comes
 pub record Stops (h : Heard) (past : List Said) : Type 0 where
   pub place : place_of past ≡ Stopping
-  pub owes : Owes h.mark (asks_of past)
+  pub owes : owed_of past ≡ as_reset h.mark
   pub done : h.done ≡ Awaited
 
 pub record Rests (h : Heard) (past : List Said) : Type 0 where
@@ -88,13 +88,9 @@ packet_seen eye h past k = record {
 
 -- ---- Items
 
-pub owes_same : (mark : Option Reset) (asks : Asks) → asks ≡ as_reset mark → Owes mark asks
-owes_same None asks is = tt
-owes_same (Some reset) asks is = is
-
 item_reads : (eye : Eye) (h : Heard) (past : List Said) (item : Item Token) → IsBehindLogin item → Knows h past → Answers h past
     → IfOk (any_sign false h item.sign) (λ next. Knows next (sees eye past (events.Says item.token)) × Answers next (sees eye past (events.Says item.token)))
-unfolding IsLawful size_told last_told place_of asks_of
+unfolding IsLawful size_told last_told place_of asks_of is_cleared
 item_reads eye h past item plain k a =
     subst (λ (s : Sign). IfOk (any_sign false h s) (λ next. Knows next (sees eye past (events.Says item.token)) × Answers next (sees eye past (events.Says item.token)))) (sym plain.sign)
     (if_ok (any_sign false h (sign_of item.token)) (λ next f.
@@ -106,15 +102,15 @@ item_reads eye h past item plain k a =
       },
       record {
         place = ap (heard_at item.token) a.place ∙ (ap (λ (r : Asks). Answering r (final_by_token item.token.told (is_final h.done))) f.left ∙ ap (Answering (as_reset next.mark)) done.1);
-        owes = f.owes;
+        owes = owed_behind item.token.told (is_cleared past) (asks_of past) ∙ (ap (left_by item.token.told) a.owes ∙ f.left);
         done = done.2;
       },
     ))
-    (follows false h item.token.kind item.token.told (asks_of past) (last_told past) plain.size plain.done a.owes k.last))
+    (follows false h item.token.kind item.token.told (owed_of past) (last_told past) plain.size plain.done a.owes k.last))
 
 item_skips : (eye : Eye) (h : Heard) (past : List Said) (item : Item Token) → IsBehindLogin item → Knows h past → Skips h past
     → IfOk (any_sign true h item.sign) (λ next. Knows next (sees eye past (events.Says item.token)) × Skips next (sees eye past (events.Says item.token)))
-unfolding IsLawful size_told last_told place_of asks_of
+unfolding IsLawful size_told last_told place_of asks_of is_cleared
 item_skips eye h past item plain k a =
     subst (λ (s : Sign). IfOk (any_sign true h s) (λ next. Knows next (sees eye past (events.Says item.token)) × Skips next (sees eye past (events.Says item.token)))) (sym plain.sign)
     (if_ok (any_sign true h (sign_of item.token)) (λ next f. (
@@ -123,9 +119,9 @@ item_skips eye h past item plain k a =
         size = ap (size_by_token item.token.told) k.size ∙ no_size item.token.told plain.size;
         last = f.last;
       },
-      record { place = ap (heard_at item.token) a.place ∙ ap Skipping f.acknowledged; owes = f.owes },
+      record { place = ap (heard_at item.token) a.place ∙ ap Skipping f.acknowledged; owes = owed_behind item.token.told (is_cleared past) (asks_of past) ∙ (ap (left_by item.token.told) a.owes ∙ f.left) },
     ))
-    (follows true h item.token.kind item.token.told (asks_of past) (last_told past) plain.size plain.done a.owes k.last))
+    (follows true h item.token.kind item.token.told (owed_of past) (last_told past) plain.size plain.done a.owes k.last))
 
 -- from a fact of what was heard first
 if_next : (P Q : Heard → Type 0) (r : Result Heard ClientFault) (f : Heard → Result Heard ClientFault) → IfOk r P → ((x : Heard) → P x → IfOk (f x) Q) → IfOk (r >>= f) Q
@@ -150,20 +146,20 @@ items_skip eye h past (item ∷ items) plain k a =
 
 pub reading_begins : (eye : Eye) (begun : Bool) (named : ℕ) (h : Heard) (past : List Said) → Knows h past → At Reading begun named h past
     → Knows h (sees_begin eye begun past) × Answers h (sees_begin eye begun past)
-unfolding IsLawful size_told last_told place_of asks_of
+unfolding IsLawful size_told last_told place_of asks_of is_cleared
 reading_begins eye true named h past k a = (k, a)
 reading_begins eye false named h past k a = (
   record { lawful = (k.lawful, subst MayAnswer (sym a.place) tt); size = k.size; last = k.last },
   record {
     place = ap begun_at a.place ∙ ap (λ (d : FinalDone). Answering (as_reset h.mark) (is_final d)) (sym a.done);
-    owes = owes_same h.mark (asks_of past) a.asks;
+    owes = a.owes;
     done = subst NotAcknowledged (sym a.done) tt;
   },
 )
 
 pub skipping_begins : (eye : Eye) (begun : Bool) (named : ℕ) (h : Heard) (past : List Said) → Knows h past → At Cancelling begun named h past
     → Knows h (sees_begin eye begun past) × Skips h (sees_begin eye begun past)
-unfolding IsLawful size_told last_told place_of asks_of
+unfolding IsLawful size_told last_told place_of asks_of is_cleared
 skipping_begins eye true named h past k a = (k, a)
 skipping_begins eye false named h past k a = (
   record { lawful = (k.lawful, subst MayAnswer (sym a.place) tt); size = k.size; last = k.last },
@@ -195,11 +191,11 @@ read_closes eye h past (Fails refusal) k a = tt
 
 abbrev AfterSkip : Bool → Heard → List Said → Type 0
 AfterSkip false h past = Knows h past × Skips h past
-AfterSkip true h past = Knows h past × (place_of past ≡ ended_at (Skipping (is_acknowledged h.done))) × Owes h.mark (asks_of past)
+AfterSkip true h past = Knows h past × (place_of past ≡ ended_at (Skipping (is_acknowledged h.done))) × (owed_of past ≡ as_reset h.mark)
 
 skip_ends : (eye : Eye) (whole : Bool) (h : Heard) (past : List Said) → Knows h past → Skips h past
     → AfterSkip true h (sees eye past (events.Answered whole))
-unfolding IsLawful size_told last_told place_of asks_of
+unfolding IsLawful size_told last_told place_of asks_of is_cleared
 skip_ends eye whole h past k a =
     (record { lawful = (k.lawful, subst (λ (p : Place). MayEnd p whole) (sym a.place) tt); size = k.size; last = k.last }, ap ended_at a.place, a.owes)
 

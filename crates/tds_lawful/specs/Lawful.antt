@@ -39,6 +39,7 @@ reset_by settings reset s = record { transaction = header_descriptor (Some reset
 
 -- The session behind a token. A transaction begins and ends with its change alone (MS-TDS 2.2.7.9, types 8, 9, 10). Where a reset is
 -- asked for and isn't done yet, it is done first, which is told (type 18); the transaction that it ends may be told to be rolled back.
+-- A request that resets its session by itself (`sp_reset_connection`) may be told alike: the transaction has ended then.
 abbrev pub Leads : {V : Type 0} → V → Option Reset → Session V → Sign → Session V → Type 0
 Leads settings None s signs.Nothing after = after.transaction ≡ s.transaction
 Leads settings None s (signs.Change change) after = change_placed None s.transaction change ≡ Some after.transaction

@@ -77,7 +77,8 @@ impl Header {
 /// counts both. At want of memory nothing is appended.
 pub fn put_packet(out: &mut Vec<u8>, header: Header, data: &[u8]) -> Result<(), NoMemory>
     requires { header.length ≡ 8 + length «data».now }
-    ensures ok { OnOk result (out.new.items ≡ out.old.items ++ (header_bytes header ++ «data».now)) }
+    ensures ok { OnOk result
+        (out.new.items ≡ out.old.items ++ (header_bytes header ++ «data».now)) }
     ensures err { OnErr result (out.new.items ≡ out.old.items) }
 {
     let bytes = bytes_of(header);

@@ -67,7 +67,7 @@ impl<E: Engine + Copy> Player<E> {
         ensures told { result.on_attention ≡ on_attention }
         ensures pooled { AreHeld result }
     {
-        let Some(pool) = Pool::new(alloc, u16::from(max), size) else {
+        let Some(pool) = Pool::new(alloc, max, size) else {
             unreachable!()
         };
         Player {

@@ -47,7 +47,8 @@ fn put(text: &[u8], status: u8, out: &mut [u8], count: &mut usize) -> u8
 /// memory was refused.
 fn report_or_line(alloc: Global, schedule: &[u8]) -> Result<Vec<u8>, Option<String>>
     ensures report { IfOk result (λ text. IsReportText schedule.now text.items) }
-    ensures line { IfErr result (λ line. IfSome line (λ l. IsLineOf schedule.now (string_bytes l))) }
+    ensures line { IfErr result
+        (λ line. IfSome line (λ l. IsLineOf schedule.now (string_bytes l))) }
 {
     let mut carrier = MemoryCarrier::new(alloc);
     let text = play_text(alloc, schedule, &mut carrier);

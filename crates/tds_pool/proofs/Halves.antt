@@ -1,7 +1,7 @@
 -- A search by halves.
-use Rattle.std.proofs.Common.{◌≡◌, ℕ, zero, suc, ◌+◌, ◌-◌, ◌*◌, ◌/◌, ◌^◌, ◌<◌, List, length, refl, sym, lt_trans, eq-or-lt_of_le, ⊎_elim, pow-suc, arith}
+use Rattle.std.proofs.Common.{◌≡◌, ℕ, zero, suc, ◌+◌, ◌-◌, ◌*◌, ◌/◌, ◌^◌, ◌<◌, ◌≤◌, List, length, refl, sym, lt_trans, eq-or-lt_of_le, ⊎_elim, pow-suc, arith}
 use Rattle.tds_pool.specs.declared.numbers.Entry.{Entry}
-use Rattle.tds_pool.specs.Halving.{Halves}
+use Rattle.tds_pool.specs.Halving.{Halves, Lasts}
 use Rattle.tds_pool.specs.Table.{number_at, IsTable}
 use Rattle.tds_pool.proofs.Tables.{rises}
 
@@ -12,9 +12,40 @@ half : (d p : ℕ) → d < p * 2 → (d / 2 < p) × (d < d / 2 + 1 + p)
 half d p h = (omega (arith, h), omega (arith, h))
 
 -- where there is a number to look at, there is a step left
-pub step_left : (low high left : ℕ) → low < high → high < low + 2 ^ left → (less : ℕ) × (left ≡ suc less)
+step_left : (low high left : ℕ) → low < high → high < low + 2 ^ left → (less : ℕ) × (left ≡ suc less)
 step_left low high zero lt few = absurd (omega (arith, lt, few))
 step_left low high (suc less) lt few = (less, refl)
+
+-- the two halves, with one step less
+less_behind : (low high less : ℕ) → low < high → high < low + 2 ^ suc less → high < low + (high - low) / 2 + 1 + 2 ^ less
+less_behind low high less lt few =
+    let twice : high - low < 2 ^ less * 2 = omega (arith, lt, few, pow-suc 2 less) in
+    omega (arith, lt, (half (high - low) (2 ^ less) twice).1)
+
+less_in_front : (low high less : ℕ) → low < high → high < low + 2 ^ suc less → low + (high - low) / 2 < low + 2 ^ less
+less_in_front low high less lt few =
+    let twice : high - low < 2 ^ less * 2 = omega (arith, lt, few, pow-suc 2 less) in
+    omega (arith, lt, (half (high - low) (2 ^ less) twice).0)
+
+one_less : (most first steps more less : ℕ) → steps ≤ first + most → first + most - steps ≡ suc less → more ≡ steps + 1 → (more ≤ first + most) × (less ≡ first + most - more)
+one_less most first steps more less h e is = (omega (arith, h, e, is), omega (arith, h, e, is))
+
+-- so a search lasts
+pub lasts_behind : (most first steps more low high : ℕ) → low < high → Lasts most first steps low high → more ≡ steps + 1
+    → Lasts most first more (low + (high - low) / 2 + 1) high
+lasts_behind most first steps more low high lt l is =
+    let left = step_left low high (first + most - steps) lt l.few in
+    let one = one_less most first steps more left.0 l.within left.1 is in
+    let few : high < low + 2 ^ suc left.0 = rw left.1 at l.few in
+    record { within = one.0; few = rw (sym one.1) (less_behind low high left.0 lt few) }
+
+pub lasts_in_front : (most first steps more low high : ℕ) → low < high → Lasts most first steps low high → more ≡ steps + 1
+    → Lasts most first more low (low + (high - low) / 2)
+lasts_in_front most first steps more low high lt l is =
+    let left = step_left low high (first + most - steps) lt l.few in
+    let one = one_less most first steps more left.0 l.within left.1 is in
+    let few : high < low + 2 ^ suc left.0 = rw left.1 at l.few in
+    record { within = one.0; few = rw (sym one.1) (less_in_front low high left.0 lt few) }
 
 module _ (entries : List Entry) (number : ℕ) (table : IsTable entries) where
   -- the numbers rise from place to place
@@ -22,14 +53,11 @@ module _ (entries : List Entry) (number : ℕ) (table : IsTable entries) where
   up i j lt h = rises entries table.rising i j lt h
 
   -- the number is behind the middle
-  pub behind : (low high less : ℕ) → low < high → Halves entries number low high (suc less) → number_at entries (low + (high - low) / 2) < number
-      → Halves entries number (low + (high - low) / 2 + 1) high less
-  behind low high less lt h told =
-      let few : high - low < 2 ^ less * 2 = omega (arith, lt, h.few, pow-suc 2 less) in
-      let halves = half (high - low) (2 ^ less) few in
+  pub behind : (low high : ℕ) → low < high → Halves entries number low high → number_at entries (low + (high - low) / 2) < number
+      → Halves entries number (low + (high - low) / 2 + 1) high
+  behind low high lt h told =
       let inside : low + (high - low) / 2 < length entries = omega (arith, lt, h.within) in record {
         within = h.within;
-        few = omega (arith, lt, halves.1);
         below = λ place le. ⊎_elim
             (λ (e : place ≡ low + (high - low) / 2). rw e told)
             (λ (before : place < low + (high - low) / 2). lt_trans (up place (low + (high - low) / 2) before inside) told)
@@ -38,16 +66,13 @@ module _ (entries : List Entry) (number : ℕ) (table : IsTable entries) where
       }
 
   -- the number is in front of the middle
-  pub in_front : (low high less : ℕ) → low < high → Halves entries number low high (suc less) → number < number_at entries (low + (high - low) / 2)
-      → Halves entries number low (low + (high - low) / 2) less
-  in_front low high less lt h told =
-      let few : high - low < 2 ^ less * 2 = omega (arith, lt, h.few, pow-suc 2 less) in
-      let halves = half (high - low) (2 ^ less) few in record {
-        within = omega (arith, lt, h.within);
-        few = omega (arith, lt, halves.0);
-        below = h.below;
-        above = λ place le inside. ⊎_elim
-            (λ (e : low + (high - low) / 2 ≡ place). rw (sym e) told)
-            (λ (after : low + (high - low) / 2 < place). lt_trans told (up (low + (high - low) / 2) place after inside))
-            (eq-or-lt_of_le le);
-      }
+  pub in_front : (low high : ℕ) → low < high → Halves entries number low high → number < number_at entries (low + (high - low) / 2)
+      → Halves entries number low (low + (high - low) / 2)
+  in_front low high lt h told = record {
+    within = omega (arith, lt, h.within);
+    below = h.below;
+    above = λ place le inside. ⊎_elim
+        (λ (e : low + (high - low) / 2 ≡ place). rw (sym e) told)
+        (λ (after : low + (high - low) / 2 < place). lt_trans told (up (low + (high - low) / 2) place after inside))
+        (eq-or-lt_of_le le);
+  }

@@ -9,12 +9,14 @@ use std::marker::Brand;
 use std::sync::ledger::{Blank, Ledger};
 
 impl Numbers {
-    /// The place of this number, counted from 0, in at most 11 steps.
+    /// The place of this number, counted from 0: in at most 7 steps among up to 64 numbers, and in at
+    /// most 11 among up to 1,024, as many as there may be.
     pub fn find<L: Ledger>(&self, number: u32, steps: &mut Steps<L>) -> Option<usize>
         ensures found { IfSome result (λ place.
             (place < length self.now) × (number_at self.now place ≡ number)) }
         ensures absent { IfNone result
             ((place : ℕ) → place < length self.now → number_at self.now place ≢ number) }
+        ensures few { length self.now ≤ 64 → steps.new ≤ steps.old + 7 }
         ensures cost { steps.new ≤ steps.old + 11 }
         ensures table { IsTable self.now }
     {

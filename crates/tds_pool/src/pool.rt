@@ -23,6 +23,9 @@ use std::marker::Model;
 use tds_client::Client;
 use tds_packet::PacketSize;
 
+/// The most connections that `Pool::new` makes a pool for.
+const FEW: u8 = 64;
+
 /// The connections that a program shares: at most `max`, each with a number from 1 upward that is
 /// never used again.
 #[derive(Drop)]
@@ -48,8 +51,22 @@ impl Model for Pool {
 }
 
 impl Pool {
-    /// A pool for at most `max` connections, from 1 to 1,024. It takes no memory. Its name is 0.
-    pub fn new(alloc: Global, max: u16, size: PacketSize) -> Option<Pool>
+    /// A pool for at most `max` connections, from 1 to 64. It takes no memory. Its name is 0.
+    pub fn new(alloc: Global, max: u8, size: PacketSize) -> Option<Pool>
+        ensures given { 1 ≤ max → max ≤ 64 → IsSome result }
+        ensures lawful { IsSome result → (1 ≤ max) × (max ≤ 64) }
+        ensures value { IfSome result (λ pool. (connections pool ≡ []) × (pool.max ≡ max)
+            × (pool.size ≡ size) × (pool.last ≡ 0)) }
+        ensures name { IfSome result (λ pool. pool.name ≡ 0) }
+    {
+        if max > FEW {
+            return None;
+        }
+        Pool::wide(alloc, u16::from(max), size)
+    }
+
+    /// A pool as `new` makes it, for at most `max` connections, from 1 to 1,024.
+    pub fn wide(alloc: Global, max: u16, size: PacketSize) -> Option<Pool>
         ensures given { 1 ≤ max → max ≤ 1024 → IsSome result }
         ensures lawful { IsSome result → (1 ≤ max) × (max ≤ 1024) }
         ensures value { IfSome result (λ pool. (connections pool ≡ []) × (pool.max ≡ max)
@@ -59,7 +76,7 @@ impl Pool {
         Pool::named(alloc, 0, max, size)
     }
 
-    /// A pool as `new` makes it, with a name. A lease of a pool of another name is unknown to it, so
+    /// A pool as `wide` makes it, with a name. A lease of a pool of another name is unknown to it, so
     /// a program with several pools gives each one a name of its own.
     pub fn named(alloc: Global, name: u32, max: u16, size: PacketSize) -> Option<Pool>
         ensures given { 1 ≤ max → max ≤ 1024 → IsSome result }

@@ -9,3 +9,4 @@ pub mod Rereading
 pub mod Streaming
 pub mod Taking
 pub mod Walking
+pub mod Wires

@@ -3,7 +3,9 @@ pub mod Ending
 pub mod Feeding
 pub mod Folding
 pub mod Fronting
+pub mod Keeping
 pub mod Leading
+pub mod Modes
 pub mod Moving
 pub mod Outs
 pub mod Standing

@@ -2,6 +2,7 @@ pub mod Absent
 pub mod Closing
 pub mod Handing
 pub mod Owing
+pub mod Owned
 pub mod Reached
 pub mod Replies
 pub mod Said

@@ -22,8 +22,7 @@ use Rattle.tds_relay.specs.Asking.{said_of}
 use Rattle.tds_relay.specs.Desk.{find_key}
 use Rattle.tds_relay.specs.Hall.{End, Open, Over, end_at}
 use Rattle.tds_relay.specs.House.{House, Step, Takes, after}
-use Rattle.tds_relay.specs.Posts.{post_in}
-use Rattle.tds_relay.specs.Reads.{link_at}
+use Rattle.tds_relay.specs.Reads.{waits_on}
 use Rattle.tds_relay.specs.Taking.{Tells, count_by}
 
 pub data Body : Type 0 where
@@ -39,13 +38,6 @@ pub data Body : Type 0 where
   Going : (number : ℕ) (client : ClientSession) (waits : List ℕ) → Body
 
 -- ---- In a relay
-
--- what waits to be sent on the connection of this number, if that is there
-abbrev pub bytes_on : Link → List ℕ
-bytes_on l = (post_in l.out).bytes
-
-abbrev pub waits_on : ℕ → List Link → Option (List ℕ)
-waits_on number ls = option_map bytes_on (link_at number ls)
 
 abbrev pub going_by : ℕ → Option ClientSession → Option (List ℕ) → Body
 going_by number None waits = Astray

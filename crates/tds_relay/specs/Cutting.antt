@@ -9,8 +9,7 @@ use Rattle.tds_packet.specs.Sent.{end_bit, sent_bytes}
 use Rattle.tds_wire.specs.Reading.{Reading, Found, Sees, Inside, Refuses, front_of, next_token}
 use Rattle.tds_relay.specs.declared.link.Answer as code
 use Rattle.tds_relay.specs.declared.news.Known.{Known}
-use Rattle.tds_relay.specs.declared.news.Known.TheVariants as knowns
-use Rattle.tds_relay.specs.News.{goes_on, goes_on_to_end, held, known_after}
+use Rattle.tds_relay.specs.News.{awaiting, goes_on, goes_on_to_end, held, known_after, known_next}
 use Rattle.tds_relay.specs.Promises.{Each}
 
 -- What is left of bytes, and what is known of the token that they end in.
@@ -26,11 +25,12 @@ abbrev pub passed_on : Bool → Known → List ℕ → List ℕ
 passed_on ends known bytes = if ends then goes_on_to_end known bytes else goes_on known bytes
 
 abbrev pub known_behind : Bool → Known → List ℕ → Known
-known_behind ends known bytes = if ends then knowns.None else known_after known bytes
+known_behind ends known bytes = if ends then known_next (known_after known bytes) else known_after known bytes
 
--- Of a token that ends the news alone is left out. Behind one that no answer has nothing goes on.
-abbrev pub left_by : Known → List ℕ → Found → (Reading → List ℕ → Left) → Left
-left_by known bytes (Sees token next rest) others = led (goes_on_to_end known (front_of bytes rest)) (others next rest)
+-- Of a token that ends the news alone is left out, where it is awaited. Behind one that no answer has nothing goes on.
+abbrev pub left_by : Known → List ℕ → Found → (Known → Reading → List ℕ → Left) → Left
+left_by known bytes (Sees token next rest) others =
+    led (goes_on_to_end known (front_of bytes rest)) (others (known_next (known_after known (front_of bytes rest))) next rest)
 left_by known bytes (Inside next) others = record { bytes = goes_on known bytes; known = known_after known bytes }
 left_by known bytes (Refuses refusal) others = record { bytes = []; known = known }
 
@@ -38,7 +38,7 @@ unfoldable pub left_within : ℕ → Known → Reading → List ℕ → Left
 left_within most known r [] = record { bytes = []; known = known }
 left_within zero known r (byte ∷ bytes) = record { bytes = []; known = known }
 left_within (suc most) known r (byte ∷ bytes) =
-    left_by known (byte ∷ bytes) (next_token r (byte ∷ bytes)) (λ next rest. left_within most knowns.None next rest)
+    left_by known (byte ∷ bytes) (next_token r (byte ∷ bytes)) (left_within most)
 
 abbrev pub left_of : Known → Reading → List ℕ → Left
 left_of known r bytes = left_within (length bytes) known r bytes
@@ -69,6 +69,10 @@ pub record IsAnew (size id : ℕ) (ends : Bool) (content bytes : List ℕ) : Typ
 
 abbrev pub ends_in : Header → Bool
 ends_in header = has_bit (bits_of header.status) 1
+
+-- as it is where the server owes the news, or doesn't
+abbrev pub awaited : Bool → code.Answer → code.Answer
+awaited owed a = record a { known = awaiting owed a.known }
 
 -- The bytes are a packet of an answer without the news.
 abbrev pub IsCut : code.Answer → Header → List ℕ → List ℕ → Type 0

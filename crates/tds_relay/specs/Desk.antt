@@ -3,19 +3,23 @@ use Rattle.std.specs.Prelude.{ℕ, suc, ◌==◌, not, Bool, true, false, List, 
 use Rattle.tds_wire.specs.declared.told.Token.{Token}
 use Rattle.tds_service.specs.Parts.{Part}
 use Rattle.tds_relay.specs.declared.desk.Hold.{Hold}
+use Rattle.tds_relay.specs.declared.desk.Mode.{Mode}
+use Rattle.tds_relay.specs.declared.desk.Mode.TheVariants.{Sessions}
 use Rattle.tds_service.specs.Line as line
 use Rattle.tds_service.specs.History.{Done}
 use Rattle.tds_service.specs.Service as calls
 use Rattle.tds_service.specs.Service.{Seat, Service, Call, Reply, Step, Unknown, AllInUse, NotNow, No, NoMemory, Lent, Ticket, Did, Back, Place, Leased, Cleaning, Kept, Free, Draining, step, service_after, new_service, lease_at, seat_numbered}
 
--- Which application holds which connection, by which lease; and whose requests wait for one, the first one first.
+-- For how long an application keeps what it is lent; which one holds which connection, by which lease; and whose requests wait for one, the
+-- first one first.
 pub record Desk : Type 0 where
+  pub mode : Mode
   pub service : Service
   pub holds : List Hold
   pub line : List ℕ
 
 abbrev pub new_desk : ℕ → Desk
-new_desk max = record { service = calls.new_service max; holds = []; line = [] }
+new_desk max = record { mode = Sessions; service = calls.new_service max; holds = []; line = [] }
 
 -- How far a cleaning came: it was sent, in so many packets; or memory was refused to its first, second, third or fourth call.
 pub data Way : Type 0 where
@@ -80,7 +84,7 @@ abbrev pub holding : ℕ → ℕ → ℕ → Hold
 holding key lease number = record { key = key; lease = lease; number = number }
 
 abbrev pub moves : Desk → List Hold → List ℕ → List (Call Token) → Turn
-moves d holds line calls = record { desk = record { service = service_after d.service calls; holds = holds; line = line }; calls = calls }
+moves d holds line calls = record { desk = record { mode = d.mode; service = service_after d.service calls; holds = holds; line = line }; calls = calls }
 
 abbrev pub rests : Desk → Turn
 rests d = moves d d.holds d.line []

@@ -1,6 +1,7 @@
 -- The ends of applications, as the code has them beside its desk; what it hears of a packet, and how its calls lead from hall to hall.
-use Rattle.std.specs.Prelude.{◌≡◌, ◌⊎◌, ℕ, Bool, true, false, List, [], ◌∷◌, Option, Some, None, Ok, if◌then◌else◌, map, option_map, slice_set, is_some}
+use Rattle.std.specs.Prelude.{◌≡◌, ◌⊎◌, ℕ, Bool, true, false, List, [], ◌∷◌, Option, Some, None, Ok, if◌then◌else◌, map, option_map, slice_set}
 use Rattle.slab.specs.Slab.{Slab}
+use Rattle.tds_packet.specs.declared.status.Reset.{Reset}
 use Rattle.tds_front.specs.declared.front.Front.{Front}
 use Rattle.tds_front.specs.declared.front.Said.{Said}
 use Rattle.tds_front.specs.declared.front.Said.TheVariants as said
@@ -23,7 +24,7 @@ use Rattle.tds_relay.specs.Taking.{IsDeaf}
 use Rattle.tds_relay.specs.Ties.{Application as ByApplication, Cause, Turns, desk_in}
 
 abbrev pub end_of : Application → End
-end_of a = if a.is_over then Over else Open a.front a.is_withdrawn (is_some a.reset)
+end_of a = if a.is_over then Over else Open a.front a.is_withdrawn a.reset
 
 abbrev pub ends_in : Slab Application → Ends
 ends_in s = map (option_map end_of) s.slots
@@ -94,7 +95,7 @@ withdraws Over = Over
 pub record IsFed (key : ℕ) (before now : Ends) (bytes : List ℕ) (answer : Said) : Type 0 where
   pub front : Front
   pub withdrawn : Bool
-  pub asks : Bool
+  pub asks : Option Reset
   pub count : ℕ
   pub was : end_at before key ≡ Some (Open front withdrawn asks)
   pub says : (fed front bytes).brings ≡ Ok (record { count = count; said = answer })

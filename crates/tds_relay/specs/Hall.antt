@@ -1,5 +1,7 @@
 -- Who holds which connection, and the ends of applications: how they move together, move by move. One total function.
-use Rattle.std.specs.Prelude.{◌≡◌, ◌≢◌, ℕ, ◌==◌, ◌&&◌, ◌||◌, Bool, true, false, List, [], ◌∷◌, Option, Some, None, is_some, Result, Ok, Err, if◌then◌else◌, option_map, slice_index_or, slice_set}
+use Rattle.std.specs.Prelude.{◌≡◌, ◌≢◌, ◌⊎◌, ℕ, ◌==◌, ◌&&◌, ◌||◌, Bool, true, false, List, [], ◌∷◌, Option, Some, None, Result, Ok, Err, if◌then◌else◌, option_map, slice_index_or, slice_set}
+use Rattle.tds_packet.specs.declared.status.Reset.{Reset}
+use Rattle.tds_packet.specs.declared.status.Reset.TheVariants.{Full, KeepTransaction}
 use Rattle.tds_front.specs.declared.fault.FrontFault.{FrontFault}
 use Rattle.tds_front.specs.declared.front.Fed.{Fed}
 use Rattle.tds_front.specs.declared.front.Front.{Front}
@@ -18,8 +20,10 @@ use Rattle.tds_service.specs.Service as calls
 use Rattle.tds_service.specs.Service.{step}
 use Rattle.tds_relay.specs.declared.desk.coming.What.{What}
 use Rattle.tds_relay.specs.declared.desk.coming.What.TheVariants as whats
+use Rattle.tds_relay.specs.declared.desk.Hold.{Hold}
 use Rattle.tds_relay.specs.Desk as desk
 use Rattle.tds_relay.specs.Desk.{Desk, Deed, Event, Way, desk_after, find_key, find_number, key_of, new_desk, turn, whose}
+use Rattle.tds_relay.specs.Places.{open_on}
 use Rattle.tds_relay.specs.Promises.{Each}
 use Rattle.tds_relay.specs.Ties as causes
 use Rattle.tds_relay.specs.Ties.{Cause, Causes, sent_along}
@@ -28,8 +32,9 @@ use Rattle.tds_relay.specs.Ties.{Cause, Causes, sent_along}
 
 pub data End : Type 0 where
   -- its application is taken from, and told. It may have taken back its request, of which something had gone on: then it has nothing to do
-  -- with its connection until the server's acknowledgement of that. And its request may ask for a reset, of which it hasn't been told yet
-  Open : (front : Front) (withdrawn asks : Bool) → End
+  -- with its connection until the server's acknowledgement of that. And its request may ask for a reset, full or not, of which it hasn't been
+  -- told yet
+  Open : (front : Front) (withdrawn : Bool) (asks : Option Reset) → End
   -- nothing more is taken of it, and it is to be closed
   Over : End
 
@@ -82,7 +87,7 @@ acknowledged Over = Over
 
 -- A packet of its answer has come: it is told of the reset by now that its request asked for. Of what it took back it hears nothing.
 abbrev pub hears : End → End
-hears (Open front withdrawn asks) = Open front withdrawn (withdrawn && asks)
+hears (Open front withdrawn asks) = Open front withdrawn (if withdrawn then asks else None)
 hears Over = Over
 
 -- this came of a packet on its connection
@@ -119,17 +124,17 @@ abbrev pub hands_on : Said → Bool
 hands_on said.HandOn = true
 hands_on answer = false
 
--- A request that begins asks for a reset itself or doesn't; of one that is taken back, none is told.
-abbrev pub asks_by : Said → Bool → Bool
+-- A request that begins asks for this reset itself, or for none; of one that is taken back, none is told.
+abbrev pub asks_by : Said → Option Reset → Option Reset
 asks_by said.Nothing asks = asks
-asks_by (said.Begin kind reset) asks = is_some reset
+asks_by (said.Begin kind reset) asks = reset
 asks_by (said.Body count) asks = asks
 asks_by (said.End count) asks = asks
-asks_by (said.Forget gone) asks = false
-asks_by said.Acknowledge asks = false
+asks_by (said.Forget gone) asks = None
+asks_by said.Acknowledge asks = None
 asks_by said.HandOn asks = asks
 
-abbrev pub end_behind : Front → Bool → Bool → Result Fed FrontFault → End
+abbrev pub end_behind : Front → Bool → Option Reset → Result Fed FrontFault → End
 end_behind front withdrawn asks (Ok fed) = Open front (takes_back fed.said || withdrawn) (asks_by fed.said asks)
 end_behind front withdrawn asks (Err fault) = Over
 
@@ -242,6 +247,33 @@ IfOpen P None = Unit {0}
 IfOpen P (Some (Open front withdrawn asks)) = P front.stage
 IfOpen P (Some Over) = Unit {0}
 
+-- Its request asks for this reset, of which it hasn't been told; where its end is open.
+abbrev pub AsksFor : Reset → Option End → Type 0
+AsksFor reset None = Unit {0}
+AsksFor reset (Some (Open front withdrawn asks)) = asks ≡ Some reset
+AsksFor reset (Some Over) = Unit {0}
+
+-- where it asks for one
+abbrev pub IfAsked : Option Reset → Option End → Type 0
+IfAsked None end = Unit {0}
+IfAsked (Some reset) end = AsksFor reset end
+
+-- No transaction is open on the connection that it holds.
+abbrev pub IsClosedOn : Option Hold → Desk → Type 0
+IsClosedOn None d = Unit {0}
+IsClosedOn (Some hold) d = open_on d hold.number ≢ Some true
+
+abbrev pub HasNoTransaction : Desk → ℕ → Type 0
+HasNoTransaction d key = IsClosedOn (find_key key d.holds) d
+
+-- Its request asks for a full reset; or for one that keeps its transaction, and it has none open.
+abbrev pub AsksToPart : Hall → ℕ → Type 0
+AsksToPart h key = AsksFor Full (end_at h.ends key) ⊎ (AsksFor KeepTransaction (end_at h.ends key) × HasNoTransaction h.desk key)
+
+-- It may be parted from its connection, and stay: its request asks for that, and nothing of it has gone on; or it is to be closed.
+abbrev pub MayPart : Hall → ℕ → Type 0
+MayPart h key = IfOpen IsHere (end_at h.ends key) × AsksToPart h key
+
 abbrev pub is_in : ℕ → List ℕ → Bool
 is_in key [] = false
 is_in key (k ∷ ks) = (k == key) || is_in key ks
@@ -276,8 +308,8 @@ IsNotPut (desk.Puts count) = ⊥
 IsNotPut (desk.Ends count) = ⊥
 IsNotPut desk.Stops = Unit {0}
 
--- Nobody waits who holds a connection, or waits already. What is put moves an end, and so does a connection that is let go or lost, and a
--- packet that comes.
+-- Nobody waits who holds a connection, or waits already. Who keeps a transaction by another lease asks for the reset that does so. What is
+-- put moves an end, and so does a connection that is let go or lost, and a packet that comes.
 abbrev pub MayDoAlone : Hall → Event → Type 0
 MayDoAlone h (desk.Waits key) = IsAway h key
 MayDoAlone h (desk.Unwaits key) = Unit {0}
@@ -285,7 +317,7 @@ MayDoAlone h desk.Serves = Unit {0}
 MayDoAlone h (desk.Brings gives way) = Unit {0}
 MayDoAlone h (desk.Does key deed) = IsNotPut deed × MayDo deed (end_at h.ends key)
 MayDoAlone h (desk.Leaves key gives way) = ⊥
-MayDoAlone h (desk.Renews key resumes) = Unit {0}
+MayDoAlone h (desk.Renews key resumes) = AsksFor KeepTransaction (end_at h.ends key)
 MayDoAlone h (desk.Comes number part way) = ⊥
 MayDoAlone h (desk.Loses number) = ⊥
 
@@ -298,16 +330,16 @@ IfWhose P (Some key) = P key
 pub record HasEntered (key : ℕ) (old new : Ends) : Type 0 where
   pub was_free : end_at old key ≡ None
   pub size : ℕ
-  pub begins : end_at new key ≡ Some (Open (new_front size) false false)
+  pub begins : end_at new key ≡ Some (Open (new_front size) false None)
   pub others_stay : (other : ℕ) → other ≢ key → end_at new other ≡ end_at old other
 
--- Who lets a connection go and stays has nothing there.
+-- Who lets a connection go and stays, or has it replaced, may be parted from it.
 abbrev pub MayMove : Hall → Move → Type 0
 MayMove h (Does event) = MayDoAlone h event
 MayMove h (Sends key deed) = IsPut deed × MayDo deed (end_at h.ends key)
-MayMove h (LetsGo key gives way) = IfOpen IsHere (end_at h.ends key)
+MayMove h (LetsGo key gives way) = MayPart h key
 MayMove h (Loses number) = Unit {0}
-MayMove h (Replaces number) = IfWhose (λ key. IfOpen IsHere (end_at h.ends key)) (holder h.desk number)
+MayMove h (Replaces number) = IfWhose (MayPart h) (holder h.desk number)
 MayMove h (Comes number part way) = Unit {0}
 MayMove h (Feeds key bytes) = Unit {0}
 MayMove h (Closes key) = Unit {0}

@@ -1,5 +1,5 @@
 -- Which packet the bytes of a connection complete, and how it is handed on.
-use Rattle.std.specs.Prelude.{◌≡◌, ◌⊎◌, ◌&&◌, ℕ, not, Bool, true, false, List, [], ◌++◌, take, Option, None, Some, IsSome}
+use Rattle.std.specs.Prelude.{◌≡◌, ◌⊎◌, ◌&&◌, ◌||◌, ℕ, not, Bool, true, false, List, [], ◌++◌, take, Option, None, Some, IsSome}
 use Rattle.tds_packet.specs.declared.header.Header.{Header}
 use Rattle.tds_packet.specs.Layout.{IsPacket}
 use Rattle.tds_packet.specs.Reading as packets
@@ -10,8 +10,8 @@ use Rattle.tds_relay.specs.declared.desk.coming.Heard.{Heard}
 use Rattle.tds_relay.specs.declared.link.Answer.{Answer}
 use Rattle.tds_relay.specs.declared.link.Link.{Link}
 use Rattle.tds_relay.specs.declared.link.News.{News}
-use Rattle.tds_relay.specs.Cutting.{IsCut, ends_in}
-use Rattle.tds_relay.specs.Desk.{Way, whose}
+use Rattle.tds_relay.specs.Cutting.{IsCut, awaited, ends_in}
+use Rattle.tds_relay.specs.Desk.{Way, owes_reset, whose}
 use Rattle.tds_relay.specs.Fronts.{IsWhat}
 use Rattle.tds_relay.specs.Hall.{done_by}
 use Rattle.tds_relay.specs.House.{House, Hands, IsTold, Manner, Whole, Without, Withheld, after, end_whose, handed, hears_of_reset, is_said, put_some}
@@ -26,7 +26,7 @@ IsOf tells false a header content manner = manner ≡ Whole tells
 IsOf tells true a header content manner = (bytes : List ℕ) × (manner ≡ Without tells bytes) × IsCut a header content bytes
 
 abbrev pub IsBy : News → Answer → Header → List ℕ → Manner → Type 0
-IsBy goes a header content manner = IsOf goes.is_told goes.is_cut a header content manner
+IsBy goes a header content manner = IsOf goes.is_told goes.is_cut (awaited goes.is_owed a) header content manner
 
 pub record Passes (goes : News) (a : Answer) (header : Header) (content : List ℕ) (old new : Post) : Type 0 where
   pub manner : Manner
@@ -39,8 +39,9 @@ IsFor false goes a header content manner = manner ≡ Withheld
 IsFor true goes a header content manner = IsBy goes a header content manner
 
 -- Who is told of a reset with a packet is told by the relay, unless the server tells it there. To others it isn't told, nor is it twice.
-abbrev pub news_for : Bool → Bool → Bool → News
-news_for asks is_in is_owed = record { is_told = asks && not is_in; is_cut = is_owed && not (asks && is_in) }
+-- What the server owes before it and tells in it is cut out, once.
+abbrev pub news_for : Bool → Bool → Bool → Bool → News
+news_for asks is_in owed held = record { is_told = asks && not is_in; is_cut = (owed || held) && not (asks && is_in); is_owed = owed }
 
 -- ---- Which packet is handed on
 
@@ -56,7 +57,7 @@ pub record Passing (number : ℕ) (walker : Option Reading) (a : Answer) (r : pa
   pub has_walker : (key : ℕ) → whose old.hall.desk number ≡ Some key → IsSome walker
   pub goes : News
   pub by : IsFor (is_said heard.what (end_whose heard.key old.hall.ends)) goes a header content manner
-  pub told : IsTold (hears_of_reset heard.what (end_whose heard.key old.hall.ends)) manner (part_on walker content (ends_in header))
+  pub told : IsTold (owes_reset number old.hall.desk) (hears_of_reset heard.what (end_whose heard.key old.hall.ends)) manner (part_on walker content (ends_in header))
   pub is : new ≡ after old (Hands number header content (part_on walker content (ends_in header)) way manner)
 
 -- That one, once, and no other. Where the reader has none, nothing is done.

@@ -1,6 +1,6 @@
 -- What happens at a relay, one thing after the other: how the ends of applications move with the desk, and what each application is given
 -- by that. One total function.
-use Rattle.std.specs.Prelude.{◌≡◌, ◌&&◌, ℕ, ◌+◌, suc, not, Bool, true, false, List, [], ◌∷◌, ◌++◌, length, Option, Some, None, IsSome, Result, Ok, Err, slice_set}
+use Rattle.std.specs.Prelude.{◌≡◌, ◌&&◌, ℕ, ◌+◌, not, Bool, true, false, List, [], ◌∷◌, ◌++◌, length, Option, Some, None, IsSome, is_some, Result, Ok, Err, slice_set}
 use Rattle.tds_packet.specs.declared.header.Header.{Header}
 use Rattle.tds_packet.specs.Layout.{header_bytes}
 use Rattle.tds_front.specs.declared.fault.FrontFault.{FrontFault}
@@ -18,7 +18,7 @@ use Rattle.tds_relay.specs.declared.desk.coming.What.{What}
 use Rattle.tds_relay.specs.declared.desk.coming.What.TheVariants as whats
 use Rattle.tds_relay.specs.declared.link.Answer.{Answer}
 use Rattle.tds_relay.specs.Cutting.{IsCut, ends_in}
-use Rattle.tds_relay.specs.Desk.{Way, whose}
+use Rattle.tds_relay.specs.Desk.{Way, owes_reset, whose}
 use Rattle.tds_relay.specs.Hall as hall
 use Rattle.tds_relay.specs.Hall.{End, Open, Over, Ends, Hall, Move, CausesMove, HasEntered, IsQuiet, MayMove, done_by, end_at, moved_all, new_hall, what_in}
 use Rattle.tds_relay.specs.Posts as waiting
@@ -147,24 +147,34 @@ IsRight header content (Whole tells) = Unit {0}
 IsRight header content (Without tells bytes) = (a : Answer) × IsCut a header content bytes
 IsRight header content Withheld = Unit {0}
 
--- how often this sign tells that a reset is done, and the ones behind it so often
-abbrev pub counted : Sign → ℕ → ℕ
-counted signs.Nothing others = others
-counted (signs.Change (changes.Begin descriptor)) others = others
-counted (signs.Change (changes.Commit descriptor)) others = others
-counted (signs.Change (changes.Rollback descriptor)) others = others
-counted (signs.Change changes.ResetDone) others = suc others
-counted (signs.Done kind status) others = others
+-- whether a reset is owed that was asked for, and hasn't been told: it has been behind the first news. Those that nobody asked for are an
+-- application's own (`sp_reset_connection`)
+abbrev pub owed_behind : Bool → Sign → Bool
+owed_behind owed signs.Nothing = owed
+owed_behind owed (signs.Change (changes.Begin descriptor)) = owed
+owed_behind owed (signs.Change (changes.Commit descriptor)) = owed
+owed_behind owed (signs.Change (changes.Rollback descriptor)) = owed
+owed_behind owed (signs.Change changes.ResetDone) = false
+owed_behind owed (signs.Done kind status) = owed
 
-abbrev pub news_in : List (Item Token) → ℕ
-news_in [] = 0
-news_in (item ∷ items) = counted item.sign (news_in items)
+-- how often these tell that it is done, from where it is owed or isn't
+abbrev pub news_of : Bool → Sign → ℕ
+news_of owed signs.Nothing = 0
+news_of owed (signs.Change (changes.Begin descriptor)) = 0
+news_of owed (signs.Change (changes.Commit descriptor)) = 0
+news_of owed (signs.Change (changes.Rollback descriptor)) = 0
+news_of owed (signs.Change changes.ResetDone) = one_if owed
+news_of owed (signs.Done kind status) = 0
+
+abbrev pub news_in : Bool → List (Item Token) → ℕ
+news_in owed [] = 0
+news_in owed (item ∷ items) = news_of owed item.sign + news_in (owed_behind owed item.sign) items
 
 -- how often its application is told so by it: what is cut out isn't
-abbrev pub tellings : Manner → Part Token → ℕ
-tellings (Whole tells) part = one_if tells + news_in part.items
-tellings (Without tells bytes) part = one_if tells
-tellings Withheld part = 0
+abbrev pub tellings : Bool → Manner → Part Token → ℕ
+tellings owed (Whole tells) part = one_if tells + news_in owed part.items
+tellings owed (Without tells bytes) part = one_if tells
+tellings owed Withheld part = 0
 
 -- it only acknowledges an attention
 abbrev pub acknowledges : What → Bool
@@ -176,13 +186,13 @@ acknowledges whats.Closed = false
 -- Whether it is told with a packet by which this came: where its request asks for a reset, of which it hasn't been told.
 abbrev pub hears_of_reset : What → Option End → Bool
 hears_of_reset what None = false
-hears_of_reset what (Some (Open front withdrawn asks)) = asks && not (acknowledges what)
+hears_of_reset what (Some (Open front withdrawn asks)) = is_some asks && not (acknowledges what)
 hears_of_reset what (Some Over) = false
 
-abbrev pub IsTold : Bool → Manner → Part Token → Type 0
-IsTold hears (Whole tells) part = tellings (Whole tells) part ≡ one_if hears
-IsTold hears (Without tells bytes) part = tellings (Without tells bytes) part ≡ one_if hears
-IsTold hears Withheld part = Unit {0}
+abbrev pub IsTold : Bool → Bool → Manner → Part Token → Type 0
+IsTold owed hears (Whole tells) part = tellings owed (Whole tells) part ≡ one_if hears
+IsTold owed hears (Without tells bytes) part = tellings owed (Without tells bytes) part ≡ one_if hears
+IsTold owed hears Withheld part = Unit {0}
 
 -- A packet has come, whose data are this part to the walker over what its connection answers; and it is handed on exactly where its
 -- application's end says it. With it its application is told of a reset once, where its request asks for one and hasn't been told, and
@@ -194,7 +204,7 @@ pub record MayHand (h : House) (number : ℕ) (header : Header) (content : List 
   pub has_walker : (key : ℕ) → whose h.hall.desk number ≡ Some key → IsSome walker
   pub right : IsRight header content manner
   pub handed_on : IsHanded (is_said (what_in (done_by h.hall.desk number part)) (end_whose (whose h.hall.desk number) h.hall.ends)) manner
-  pub told : IsTold (hears_of_reset (what_in (done_by h.hall.desk number part)) (end_whose (whose h.hall.desk number) h.hall.ends)) manner part
+  pub told : IsTold (owes_reset number h.hall.desk) (hears_of_reset (what_in (done_by h.hall.desk number part)) (end_whose (whose h.hall.desk number) h.hall.ends)) manner part
 
 abbrev pub MayStep : House → Step → Type 0
 MayStep h (Makes move) = MayMove h.hall move × IsQuiet move

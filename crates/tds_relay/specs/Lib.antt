@@ -13,6 +13,7 @@ pub mod Handing
 pub mod House
 pub mod News
 pub mod Places
+pub mod Law
 pub mod Posts
 pub mod Promises
 pub mod Reads

@@ -1,12 +1,13 @@
 -- The news of a reset that no application asked for, cut out of an answer: ENVCHANGE (227) of type 18, which stands behind its length
--- in two bytes (MS-TDS 2.2.7.9).
-use Rattle.std.specs.Prelude.{ℕ, ◌==◌, List, [], ◌∷◌, ◌++◌, if◌then◌else◌}
+-- in two bytes (MS-TDS 2.2.7.9). That is the first one where the server owes it; any other is the application's own, and goes on.
+use Rattle.std.specs.Prelude.{ℕ, ◌==◌, Bool, true, List, [], ◌∷◌, ◌++◌, if◌then◌else◌}
 use Rattle.tds_relay.specs.declared.news.Known.{Known}
 use Rattle.tds_relay.specs.declared.news.Known.TheVariants as known
 
 -- what is known of a token behind one more byte of it
 abbrev pub known_by : Known → ℕ → Known
-known_by known.None byte = if byte == 227 then known.One else known.Other
+known_by known.None byte = known.None
+known_by known.Awaited byte = if byte == 227 then known.One else known.Other
 known_by known.One byte = known.Two byte
 known_by (known.Two low) byte = known.Three low byte
 known_by (known.Three low high) byte = if byte == 18 then known.News else known.Other
@@ -16,6 +17,7 @@ known_by known.News byte = known.News
 -- the bytes of it that are held back until it is known
 abbrev pub held : Known → List ℕ
 held known.None = []
+held known.Awaited = []
 held known.One = 227 ∷ []
 held (known.Two low) = 227 ∷ low ∷ []
 held (known.Three low high) = 227 ∷ low ∷ high ∷ []
@@ -24,12 +26,28 @@ held known.News = []
 
 -- the bytes that go on with this one, where this is known behind it
 abbrev pub let_on : Known → ℕ → Known → List ℕ
-let_on before byte known.None = []
+let_on before byte known.None = byte ∷ []
+let_on before byte known.Awaited = []
 let_on before byte known.One = []
 let_on before byte (known.Two low) = []
 let_on before byte (known.Three low high) = []
 let_on before byte known.Other = held before ++ byte ∷ []
 let_on before byte known.News = []
+
+-- and of the next one behind its end: the news are awaited no more once they were there
+abbrev pub known_next : Known → Known
+known_next known.None = known.None
+known_next known.Awaited = known.Awaited
+known_next known.One = known.Awaited
+known_next (known.Two low) = known.Awaited
+known_next (known.Three low high) = known.Awaited
+known_next known.Other = known.Awaited
+known_next known.News = known.None
+
+-- what is known where the server owes the news, or doesn't
+abbrev pub awaiting : Bool → Known → Known
+awaiting true known.None = known.Awaited
+awaiting owed known = known
 
 abbrev pub known_after : Known → List ℕ → Known
 known_after before [] = before

@@ -9,6 +9,7 @@ use Rattle.tds_service.specs.declared.service.Service as services
 use Rattle.tds_relay.specs.declared.desk.coming.Heard.{Heard}
 use Rattle.tds_relay.specs.declared.link.Link.{Link}
 use Rattle.tds_relay.specs.Hall.{Moves}
+use Rattle.tds_relay.specs.Posts.{post_in}
 use Rattle.tds_relay.specs.House.{House, Step, Hands, CausesStep, MayAll, after_all}
 use Rattle.tds_relay.specs.Promises.{Each}
 use Rattle.tds_relay.specs.Ties.{Cause, Connection}
@@ -57,30 +58,60 @@ open_of (Some seen) = if seen.1 then Some seen.0 else None
 abbrev pub open_at : ℕ → List Link → Option Reading
 open_at number ls = open_of (seen_at number ls)
 
+-- what waits to be sent on the connection of this number, if that is there
+abbrev pub bytes_on : Link → List ℕ
+bytes_on l = (post_in l.out).bytes
+
+abbrev pub waits_on : ℕ → List Link → Option (List ℕ)
+waits_on number ls = option_map bytes_on (link_at number ls)
+
+-- if that is open
+abbrev pub if_open : Option Reading → Option (List ℕ) → Option (List ℕ)
+if_open None waits = None
+if_open (Some r) waits = waits
+
+abbrev pub open_waits : ℕ → List Link → Option (List ℕ)
+open_waits number ls = if_open (open_at number ls) (waits_on number ls)
+
+-- It waits there still, in order, and more may have been put behind it; or the connection is there no more.
+abbrev pub FillsAt : Option (List ℕ) → Option (List ℕ) → Type 0
+FillsAt old None = Unit {0}
+FillsAt None (Some new) = ⊥
+FillsAt (Some old) (Some new) = (out : List ℕ) × (new ≡ old ++ out)
+
 -- It is the same, or the connection is there no more.
 abbrev pub StaysAt : {A : Type 0} → Option A → Option A → Type 0
 StaysAt old None = Unit {0}
 StaysAt old (Some new) = old ≡ Some new
 
 -- Wherever it was so on one, it is.
-abbrev pub Stays : List Link → List Link → Type 0
-Stays old new = (number : ℕ) (had : Option Seen) → StaysAt had (seen_at number old) → StaysAt had (seen_at number new)
+abbrev pub Sees : List Link → List Link → Type 0
+Sees old new = (number : ℕ) (had : Option Seen) → StaysAt had (seen_at number old) → StaysAt had (seen_at number new)
 
--- Each connection that is open was so, with the same of a packet. Others may be there that are yet to be opened.
-abbrev pub Opens : List Link → List Link → Type 0
-Opens old new = (number : ℕ) → StaysAt (open_at number old) (open_at number new)
+-- And what waited on one waits there still.
+pub record Stays (old new : List Link) : Type 0 where
+  pub seen : Sees old new
+  pub fills : (number : ℕ) → FillsAt (waits_on number old) (waits_on number new)
 
--- But for the one of this number.
-abbrev pub OpensOthers : ℕ → List Link → List Link → Type 0
-OpensOthers number old new = (other : ℕ) → other ≢ number → StaysAt (open_at other old) (open_at other new)
+-- Each connection that is open was so, with the same of a packet, and what waited there waits still. Others may be there that are yet to be
+-- opened.
+pub record Opens (old new : List Link) : Type 0 where
+  pub opens : (number : ℕ) → StaysAt (open_at number old) (open_at number new)
+  pub fills : (number : ℕ) → FillsAt (open_waits number old) (open_waits number new)
+
+-- Of the one of this number that it was open, and what waited there, alone.
+pub record OpensOthers (number : ℕ) (old new : List Link) : Type 0 where
+  pub opens : (other : ℕ) → other ≢ number → StaysAt (open_at other old) (open_at other new)
+  pub fills : (other : ℕ) → FillsAt (open_waits other old) (open_waits other new)
 
 -- what has come of a packet on each that is open when the one of this number is opened
 abbrev pub opened_at : ℕ → ℕ → List Link → Option Reading
 opened_at number other ls = if other == number then reader_at other ls else open_at other ls
 
--- The one of this number is opened, with what its reader had.
-abbrev pub OpensOne : ℕ → List Link → List Link → Type 0
-OpensOne number old new = (other : ℕ) → StaysAt (opened_at number other old) (open_at other new)
+-- The one of this number is opened, with what its reader had, and what waited there.
+pub record OpensOne (number : ℕ) (old new : List Link) : Type 0 where
+  pub opens : (other : ℕ) → StaysAt (opened_at number other old) (open_at other new)
+  pub fills : (other : ℕ) → FillsAt (if_open (opened_at number other old) (waits_on other old)) (open_waits other new)
 
 -- One has come that is open, with nothing of a packet, and no other is open; or none has.
 abbrev pub OpensFirst : Option ℕ → List Link → List Link → Type 0

@@ -1,5 +1,7 @@
--- When an application is told of a reset (ENVCHANGE 18), and how often: by the relay, before a packet, or in that itself.
+-- When an application is told of a reset (ENVCHANGE 18) that was asked for, and how often: by the relay, before a packet, or in that itself.
+-- One that nobody asked for is its server's answer to its own request (`sp_reset_connection`), and isn't counted here.
 use Rattle.std.specs.Prelude.{◌≡◌, ℕ, ◌==◌, ◌&&◌, not, Bool, false, List, [], ◌∷◌, ◌++◌, Option, Some, None, is_some, Result, Ok, Err, if◌then◌else◌}
+use Rattle.tds_packet.specs.declared.status.Reset.{Reset}
 use Rattle.tds_front.specs.declared.fault.FrontFault.{FrontFault}
 use Rattle.tds_front.specs.declared.front.Fed.{Fed}
 use Rattle.tds_front.specs.declared.front.Said.{Said}
@@ -8,7 +10,7 @@ use Rattle.tds_front.specs.Bytes.{fed}
 use Rattle.tds_wire.specs.declared.told.Token.{Token}
 use Rattle.tds_service.specs.Parts.{Part}
 use Rattle.tds_relay.specs.declared.desk.coming.What.{What}
-use Rattle.tds_relay.specs.Desk.{whose}
+use Rattle.tds_relay.specs.Desk.{owes_reset, whose}
 use Rattle.tds_relay.specs.Giving.{Visit, house_in}
 use Rattle.tds_relay.specs.Hall.{End, Open, Over, done_by, end_at, what_in}
 use Rattle.tds_relay.specs.House as house
@@ -16,8 +18,8 @@ use Rattle.tds_relay.specs.House.{House, Manner, Step, Whole, Without, Withheld,
 use Rattle.tds_relay.specs.Promises.{one_if}
 
 pub data Event : Type 0 where
-  -- a request of the application begins, which asks for a reset itself or doesn't
-  Asks : (reset : Bool) → Event
+  -- a request of the application begins, which asks for this reset itself, or for none
+  Asks : (reset : Option Reset) → Event
   -- what has come of it is taken back
   TakesBack : Event
   -- a packet is handed on to it, which only acknowledges an attention or doesn't, and with it it is told of a reset so often
@@ -27,7 +29,7 @@ pub data Event : Type 0 where
 
 abbrev pub asked_by : Said → List Event
 asked_by said.Nothing = []
-asked_by (said.Begin kind reset) = Asks (is_some reset) ∷ []
+asked_by (said.Begin kind reset) = Asks reset ∷ []
 asked_by (said.Body count) = []
 asked_by (said.End count) = []
 asked_by (said.Forget gone) = TakesBack ∷ []
@@ -43,10 +45,10 @@ asked_in bytes None = []
 asked_in bytes (Some (Open front withdrawn asks)) = asked (fed front bytes).brings
 asked_in bytes (Some Over) = []
 
-abbrev pub heard_in : What → Manner → Part Token → List Event
-heard_in what (Whole tells) part = Hears (house.acknowledges what) (tellings (Whole tells) part) ∷ []
-heard_in what (Without tells bytes) part = Hears (house.acknowledges what) (tellings (Without tells bytes) part) ∷ []
-heard_in what Withheld part = []
+abbrev pub heard_in : Bool → What → Manner → Part Token → List Event
+heard_in owed what (Whole tells) part = Hears (house.acknowledges what) (tellings owed (Whole tells) part) ∷ []
+heard_in owed what (Without tells bytes) part = Hears (house.acknowledges what) (tellings owed (Without tells bytes) part) ∷ []
+heard_in owed what Withheld part = []
 
 abbrev pub if_its : ℕ → Option ℕ → List Event → List Event
 if_its key None events = []
@@ -54,7 +56,7 @@ if_its key (Some other) events = if other == key then events else []
 
 abbrev pub happens : ℕ → House → Step → List Event
 happens key h (house.Makes move) = []
-happens key h (house.Hands number header content part way manner) = if_its key (whose h.hall.desk number) (heard_in (what_in (done_by h.hall.desk number part)) manner part)
+happens key h (house.Hands number header content part way manner) = if_its key (whose h.hall.desk number) (heard_in (owes_reset number h.hall.desk) (what_in (done_by h.hall.desk number part)) manner part)
 happens key h (house.Takes other bytes) = if_its key (Some other) (asked_in bytes (end_at h.hall.ends key))
 happens key h (house.Writes other count) = []
 happens key h (house.Admits other ends posts) = []
@@ -70,9 +72,22 @@ happen key h (step ∷ steps) = happens key h step ++ happen key (after h step) 
 -- an attention, or it takes the request back before. Else it is told of none.
 abbrev pub IsToldOnce : Bool → List Event → Type 0
 IsToldOnce asks [] = Unit {0}
-IsToldOnce asks (Asks reset ∷ later) = IsToldOnce reset later
+IsToldOnce asks (Asks reset ∷ later) = IsToldOnce (is_some reset) later
 IsToldOnce asks (TakesBack ∷ later) = IsToldOnce false later
 IsToldOnce asks (Hears acknowledges times ∷ later) = (times ≡ one_if (asks && not acknowledges)) × IsToldOnce false later
+
+-- The reset that its request asks for behind these, and of which it hasn't been told; from such a one.
+abbrev pub wants : Option Reset → List Event → Option Reset
+wants asks [] = asks
+wants asks (Asks reset ∷ later) = wants reset later
+wants asks (TakesBack ∷ later) = wants None later
+wants asks (Hears acknowledges times ∷ later) = wants None later
+
+-- Its end has it so that its request asks for this reset, or for none, and it hasn't been told of it; or it is to be closed.
+abbrev pub AsksJust : Option Reset → Option End → Type 0
+AsksJust asks None = Unit {0}
+AsksJust asks (Some (Open front withdrawn is)) = is ≡ asks
+AsksJust asks (Some Over) = Unit {0}
 
 -- from where an application has come
 abbrev pub happens_to : {max key : ℕ} → Visit max key → List Event

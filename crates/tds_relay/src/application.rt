@@ -1,5 +1,5 @@
 //! An application, as the relay knows it.
-ghost use Rattle.std.specs.Prelude.{◌≡◌, ◌≤◌, ◌-◌, ◌++◌, [], IfOk, Some, false, is_some, length, true, vec_len};
+ghost use Rattle.std.specs.Prelude.{◌≡◌, ◌≤◌, ◌-◌, ◌++◌, [], IfOk, None, Some, false, length, true, vec_len};
 ghost use Rattle.tds_relay.specs.declared.application.TheConstants.{MOST_HELD};
 ghost use Rattle.tds_relay.specs.declared.outgoing.TheConstants.{PIECE};
 
@@ -50,10 +50,11 @@ pub(crate) struct Application {
 
 impl Application {
     ghost use Rattle.tds_front.specs.Rules as rules;
+    ghost use Rattle.tds_packet.specs.declared.status.Reset.TheVariants.{Full, KeepTransaction};
     ghost use Rattle.tds_relay.specs.Bodies.{Body, body_in};
     ghost use Rattle.tds_relay.specs.Fronts.{end_of, puts, withdraws};
     ghost use Rattle.tds_front.specs.Bytes.{fed, new_front};
-    ghost use Rattle.tds_relay.specs.Hall.{IfOpen, IsHere, Open, acknowledged, asks_by, closes, hears};
+    ghost use Rattle.tds_relay.specs.Hall.{AsksFor, IfOpen, IsHere, Open, acknowledged, asks_by, closes, hears};
     ghost use Rattle.tds_relay.specs.Hall.{lets_go, move_stage};
     ghost use Rattle.tds_relay.specs.House.{hears_of_reset, is_said};
     ghost use Rattle.tds_relay.specs.Posts.{nothing, post_of};
@@ -62,7 +63,7 @@ impl Application {
     pub(crate) fn new(alloc: Global, tag: usize, size: PacketSize) -> Application
         ensures size { result.out.size ≡ size }
         ensures post { post_of result ≡ nothing size }
-        ensures end { end_of result ≡ Open (new_front size) false false }
+        ensures end { end_of result ≡ Open (new_front size) false None }
     {
         Application {
             alloc,
@@ -85,8 +86,8 @@ impl Application {
         ensures front { self.new.front ≡ (fed self.old.front piece.now).front }
         ensures brings { result ≡ (fed self.old.front piece.now).brings }
         ensures within { IfOk result (λ taken. taken.count ≤ length piece.now) }
-        ensures asks { IfOk result (λ taken. is_some self.new.reset
-            ≡ asks_by taken.said (is_some self.old.reset)) }
+        ensures asks { IfOk result (λ taken. self.new.reset
+            ≡ asks_by taken.said self.old.reset) }
         ensures withdrawn { self.new.is_withdrawn ≡ self.old.is_withdrawn }
         ensures over { self.new.is_over ≡ self.old.is_over }
         ensures body { (goes : Body)
@@ -102,7 +103,9 @@ impl Application {
     }
 
     /// Whether it waits with a request that asks for a reset but for the transaction.
-    pub(crate) fn asks_to_keep(&self) -> bool {
+    pub(crate) fn asks_to_keep(&self) -> bool
+        ensures { result ≡ true → AsksFor KeepTransaction (Some (end_of self.now)) }
+    {
         matches!(self.asking, Asking::Waits { .. })
             && matches!(self.reset, Some(Reset::KeepTransaction))
     }
@@ -220,6 +223,7 @@ impl Application {
     pub(crate) fn close(&mut self)
         ensures post { post_of self.new ≡ post_of self.old }
         ensures end { end_of self.new ≡ closes (end_of self.old) }
+        ensures tag { self.new.tag ≡ self.old.tag }
     {
         self.is_over = true;
     }
@@ -235,6 +239,20 @@ impl Application {
             Stage::Stopping => false,
             Stage::Broken(_) => false,
         }
+    }
+
+    /// Whether its request asks for a full reset, of which it hasn't been told.
+    pub(crate) fn asks_full(&self) -> bool
+        ensures { result ≡ true → AsksFor Full (Some (end_of self.now)) }
+    {
+        matches!(self.reset, Some(Reset::Full))
+    }
+
+    /// Whether it asks for one that keeps its transaction.
+    pub(crate) fn asks_kept(&self) -> bool
+        ensures { result ≡ true → AsksFor KeepTransaction (Some (end_of self.now)) }
+    {
+        matches!(self.reset, Some(Reset::KeepTransaction))
     }
 
     /// Whether nothing of its request has gone on, and no attention.

@@ -43,10 +43,18 @@ pub struct Served {
     pub had: bool,
 }
 
+/// For how long an application keeps the connection that it is lent.
+#[derive(Clone, Copy, Debug, PartialEq, Eq)]
+pub enum Mode {
+    /// Until it leaves, or asks for a reset itself.
+    Sessions,
+}
+
 /// The connections of a service, the applications that hold them, and those that wait. A connection that
 /// nobody holds is drained and cleaned by itself.
 #[derive(Drop)]
 pub struct Desk {
+    mode: Mode,
     service: Service,
     holds: Vec<Hold>,
     /// The first one has waited longest.
@@ -72,11 +80,19 @@ impl Desk {
             return Err(AllocError);
         };
         Ok(Desk {
+            mode: Mode::Sessions,
             service,
             holds: Vec::new(alloc),
             line: Vec::new(alloc),
             text: cleaning_text(alloc)?,
         })
+    }
+
+    /// For how long an application keeps what it is lent.
+    pub fn mode(&self) -> Mode
+        ensures { result ≡ (desk_in self.now).mode }
+    {
+        self.mode
     }
 
     /// An application's request waits for a connection.

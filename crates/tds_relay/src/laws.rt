@@ -27,7 +27,10 @@ ghost use Rattle.tds_relay.specs.Giving.{ReadVisit, Visit, given_in, happens_in,
 ghost use Rattle.tds_relay.specs.Giving.{waits_in};
 ghost use Rattle.tds_relay.specs.House.{Admits, House, IsLedTo, MayAll, Step, Steps};
 ghost use Rattle.tds_relay.specs.House.{new_house};
-ghost use Rattle.tds_relay.specs.Hall.{Ends};
+ghost use Rattle.tds_relay.specs.Hall.{Ends, Hall, MayMove, MayMoveAll, Move, moved_all, new_hall};
+ghost use Rattle.tds_relay.specs.declared.desk.Mode.TheVariants.{Sessions};
+ghost use Rattle.tds_relay.specs.Law.{FollowOn, KeepsOwn, KeepsSession, Wire, hall_behind, put_in};
+ghost use Rattle.tds_relay.specs.Law.{went_out};
 ghost use Rattle.tds_relay.specs.Posts.{Posts};
 ghost use Rattle.tds_packet.specs.Reading.{Reading, joined};
 ghost use Rattle.tds_relay.specs.Reads.{AreReadIn, Call, Comes, Follow, FollowAt, Reads, bytes_in};
@@ -318,6 +321,35 @@ pub fn given_by_server()
 /// before the packet, or the server in it; of no other reset is it told, whoever shares with it.
 pub fn told_once()
     ensures { (max key : ℕ) (v : Visit max key) → IsToldOnce false (happens_to v) }
+{}
+
+/// An application keeps its session, which is the connection that it holds, by the lease by which it holds it: behind any
+/// moves. It may hold that no more only where its request asks for a full reset, or for one that keeps its transaction; it
+/// was to be closed before, or has left; or its connection is lost, or says what no server may. One that asks to keep its
+/// transaction keeps the connection where a transaction is open there. Whoever else does whatever parts it from nothing. So it
+/// is of a relay whose mode is by sessions.
+pub fn keeps_session()
+    ensures moves { (max key : ℕ) (moves : List Move) (move : Move)
+        → MayMoveAll (new_hall max) moves → MayMove (moved_all (new_hall max) moves) move
+        → (moved_all (new_hall max) moves).desk.mode ≡ Sessions
+        → KeepsSession key (moved_all (new_hall max) moves) move }
+    /// What its request asks for is what its own bytes have said, from where it enters: the last request that has begun asks
+    /// for that reset, and it has neither been told of it nor taken the request back.
+    ensures own { (max key : ℕ) (v : Visit max key) (move : Move) → MayMove (hall_behind v) move
+        → (hall_behind v).desk.mode ≡ Sessions → KeepsOwn v move }
+{}
+
+/// A relay's mode is what it was as it was made: no move changes it.
+pub fn keeps_mode()
+    ensures { (h : Hall) (moves : List Move) → (moved_all h moves).desk.mode ≡ h.desk.mode }
+{}
+
+/// What goes out on a connection while it is open, and then what waits there, are what waited and what was put there, in
+/// order: over any calls, of which each leaves there what waits, with more behind it or not (`Opens`, `OpensOthers` and
+/// `OpensOne` say so of each), and any sending in between (`sent_on`).
+pub fn goes_out_over_calls()
+    ensures { (waits last : List ℕ) (wires : List Wire) → FollowOn waits wires last
+        → went_out waits wires ++ last ≡ waits ++ put_in wires }
 {}
 
 /// An application comes to wait only where it neither waits nor holds a connection: from where it enters, behind

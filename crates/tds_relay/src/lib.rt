@@ -17,7 +17,7 @@ mod outgoing;
 mod reading;
 mod relay;
 
-pub use desk::{Desk, Heard, Hold, Left, Renewed, Served, What};
+pub use desk::{Desk, Heard, Hold, Left, Mode, Renewed, Served, What};
 pub use order::Order;
 pub use relay::{Counts, Place, PlaceOn, Relay};
 

@@ -20,6 +20,8 @@ pub(crate) struct News {
     pub(crate) is_told: bool,
     /// Whether what the server tells of it is cut out of the packet.
     pub(crate) is_cut: bool,
+    /// Whether the server owed it before the packet.
+    pub(crate) is_owed: bool,
 }
 
 #[derive(Drop)]
@@ -74,7 +76,7 @@ impl Link {
 }
 
 impl Answer {
-    ghost use Rattle.tds_relay.specs.Cutting.{IsCut, known_behind, left_of, passed_on};
+    ghost use Rattle.tds_relay.specs.Cutting.{IsCut, awaited, known_behind, left_of, passed_on};
     ghost use Rattle.tds_relay.specs.News.{held};
     ghost use Rattle.tds_relay.specs.Posts.{post_in, put};
 
@@ -87,21 +89,23 @@ impl Answer {
     /// Whether bytes of a token were held back: what comes next isn't handed on without them.
     pub(crate) fn holds(&self) -> bool {
         match self.known {
-            Known::None | Known::Other => false,
+            Known::None | Known::Awaited | Known::Other => false,
             Known::One | Known::Two(_) | Known::Three(..) | Known::News => true,
         }
     }
 
-    /// Appends a packet of an answer without the news of a reset.
+    /// Appends a packet of an answer without the news of a reset, where the server owes that.
     pub(crate) fn put_without_news(
         &mut self,
+        owed: bool,
         header: Header,
         bytes: &[u8],
         on: &mut Outgoing,
     ) -> Result<(), NoMemory>
-        ensures { OnOk result ((sent : List ℕ) × IsCut self.old header bytes.now sent
+        ensures { OnOk result ((sent : List ℕ) × IsCut (awaited owed self.old) header bytes.now sent
             × (post_in on.new ≡ put sent (post_in on.old))) }
     {
+        self.known.awaits(owed);
         let ends = header.status.ends();
         let mut kept = Vec::new(self.alloc);
         self.cut(bytes, &mut kept)?;

@@ -1,7 +1,6 @@
 //! The connections by their numbers.
 ghost use Rattle.std.specs.Prelude.{◌≡◌, ◌≢◌, ◌<◌, ◌++◌, ℕ, List, IfOk, IfSome, drop, length, option_map, true};
-ghost use Rattle.tds_relay.specs.Bodies.{waits_on};
-ghost use Rattle.tds_relay.specs.Reads.{Stays, open_at, opened_at, place_of, without_link};
+ghost use Rattle.tds_relay.specs.Reads.{Sees, Stays, open_at, opened_at, place_of, without_link, waits_on};
 
 use crate::NoMemory;
 use crate::link::Link;
@@ -73,9 +72,9 @@ pub(crate) fn set_tag(links: &mut Vec<Link>, number: u64, tag: usize)
 }
 
 /// So many bytes wait on a connection no more. False where it isn't there.
-#[tactic(auto, using(crate::proofs::steps::Staying::stays_written, crate::proofs::steps::Staying::stays_refl))]
+#[tactic(auto, using(crate::proofs::steps::Staying::sees_written))]
 pub(crate) fn forget_sent(links: &mut Vec<Link>, number: u64, count: usize) -> bool
-    ensures read { Stays links.old.items links.new.items }
+    ensures read { Sees links.old.items links.new.items }
     ensures others { (other : ℕ) → other ≢ number
         → waits_on other links.new.items ≡ waits_on other links.old.items }
     ensures fewer { waits_on number links.new.items

@@ -1,6 +1,7 @@
-//! The news of a reset that no application asked for, cut out of an answer.
+//! The news of a reset that no application asked for, cut out of an answer: the first one where the server owes
+//! it. Any other is the application's own (`sp_reset_connection`).
 ghost use Rattle.std.specs.Prelude.{◌≡◌, ◌++◌, OnOk};
-ghost use Rattle.tds_relay.specs.News.{goes_on, held, known_after, known_by, let_on};
+ghost use Rattle.tds_relay.specs.News.{awaiting, goes_on, held, known_after, known_by, known_next, let_on};
 
 use crate::NoMemory;
 
@@ -12,8 +13,10 @@ const RESET_DONE: u8 = 18;
 /// What is known of the token that comes.
 #[derive(Clone, Copy, Debug)]
 pub(crate) enum Known {
-    /// None of its bytes.
+    /// Whatever it is, it goes on: no news is awaited.
     None,
+    /// None of its bytes.
+    Awaited,
     /// It is an ENVCHANGE.
     One,
     Two(u8),
@@ -29,7 +32,8 @@ fn known_by(known: Known, byte: u8) -> Known
     ensures { result ≡ known_by known byte }
 {
     match known {
-        Known::None => {
+        Known::None => Known::None,
+        Known::Awaited => {
             if byte == CHANGE {
                 Known::One
             } else {
@@ -50,12 +54,28 @@ fn known_by(known: Known, byte: u8) -> Known
     }
 }
 
+/// What is known of the next token.
+fn known_next(known: Known) -> Known
+    ensures { result ≡ known_next known }
+{
+    match known {
+        Known::None => Known::None,
+        Known::Awaited => Known::Awaited,
+        Known::One => Known::Awaited,
+        Known::Two(_) => Known::Awaited,
+        Known::Three(..) => Known::Awaited,
+        Known::Other => Known::Awaited,
+        Known::News => Known::None,
+    }
+}
+
 /// Appends the bytes of a token that were held back.
 fn put_held(known: Known, kept: &mut Vec<u8>) -> Result<(), NoMemory>
     ensures { OnOk result (kept.new.items ≡ kept.old.items ++ held known) }
 {
     match known {
         Known::None => Ok(()),
+        Known::Awaited => Ok(()),
         Known::One => kept.extend_from_slice(&[CHANGE]),
         Known::Two(low) => kept.extend_from_slice(&[CHANGE, low]),
         Known::Three(low, high) => kept.extend_from_slice(&[CHANGE, low, high]),
@@ -69,7 +89,8 @@ fn put_on(before: Known, byte: u8, behind: Known, kept: &mut Vec<u8>) -> Result<
     ensures { OnOk result (kept.new.items ≡ kept.old.items ++ let_on before byte behind) }
 {
     match behind {
-        Known::None => Ok(()),
+        Known::None => kept.extend_from_slice(&[byte]),
+        Known::Awaited => Ok(()),
         Known::One => Ok(()),
         Known::Two(_) => Ok(()),
         Known::Three(..) => Ok(()),
@@ -99,10 +120,19 @@ impl Known {
     /// The token has ended: appends what was held back of it.
     pub(crate) fn end(&mut self, kept: &mut Vec<u8>) -> Result<(), NoMemory>
         ensures held { OnOk result (kept.new.items ≡ kept.old.items ++ held self.old) }
-        ensures anew { OnOk result (self.new ≡ Known.None) }
+        ensures next { OnOk result (self.new ≡ known_next self.old) }
     {
         put_held(*self, kept)?;
-        *self = Known::None;
+        *self = known_next(*self);
         Ok(())
+    }
+
+    /// The server owes the news, or doesn't.
+    pub(crate) fn awaits(&mut self, owed: bool)
+        ensures { self.new ≡ awaiting owed self.old }
+    {
+        if owed && matches!(*self, Known::None) {
+            *self = Known::Awaited;
+        }
     }
 }

@@ -112,6 +112,7 @@ impl Outgoing {
         ensures more { OnOk result (self.new.is_full ≡ false
             → waiting_in self.new ≡ waiting_in self.old + length bytes.now) }
         ensures post { OnOk result (post_in self.new ≡ put bytes.now (post_in self.old)) }
+        ensures kept { OnErr result (post_in self.new ≡ post_in self.old) }
     {
         if self.is_full || bytes.len() > self.room() {
             self.is_full = true;

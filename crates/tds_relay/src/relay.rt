@@ -1,17 +1,18 @@
 //! The relay: who is there, and what whoever carries its bytes asks of it.
-ghost use Rattle.std.specs.Prelude.{◌≡◌, ◌+◌, ◌-◌, ◌≤◌, ℕ, Bool, IfOk, IfSome, None, OnOk, Some};
-ghost use Rattle.std.specs.Prelude.{false, length, true, vec_len};
+ghost use Rattle.std.specs.Prelude.{◌≡◌, ◌≢◌, ◌+◌, ◌-◌, ◌≤◌, [], ℕ, Bool, IfOk, IfSome, None, OnOk, Some};
+ghost use Rattle.std.specs.Prelude.{drop, false, length, option_copied, option_map, true, vec_len};
 ghost use Rattle.slab.specs.Slab.{get, slab_len};
 ghost use Rattle.tds_relay.specs.Asking.{IsUnderway};
 ghost use Rattle.tds_relay.specs.Bodies.{AskAsBefore, AskOn, body_of};
 ghost use Rattle.tds_relay.specs.Bounds.{most_for, waiting_for};
 ghost use Rattle.tds_relay.specs.Desk.{find_key, find_number, key_of, new_desk};
 ghost use Rattle.tds_relay.specs.Fronts.{Moved, MovedOn, ends_in, hall_in, house_in};
-ghost use Rattle.tds_relay.specs.Hall.{IfOpen, IsAway, IsHere, change_end, end_at, lets_go};
+ghost use Rattle.tds_relay.specs.Hall.{HasNoTransaction, IfOpen, IsAway, IsHere, MayPart, change_end, end_at, lets_go};
 ghost use Rattle.tds_relay.specs.House.{Steps, new_house};
 ghost use Rattle.tds_relay.specs.Posts.{Enters, change, posts_in, unsent_of, without_first};
-ghost use Rattle.tds_relay.specs.Reads.{Stays};
-ghost use Rattle.tds_relay.specs.Sparing.{AllRest, SendsOn};
+ghost use Rattle.tds_relay.specs.Law.{waiting_on};
+ghost use Rattle.tds_relay.specs.Reads.{Sees, Stays, link_at, waits_on};
+ghost use Rattle.tds_relay.specs.Sparing.{AllRest, OthersRest, SendsOn};
 ghost use Rattle.tds_relay.specs.Ties.{Cause, CausesRequest, Goes, GoesOn, IsReached, Neither};
 ghost use Rattle.tds_relay.specs.Ties.{desk_in};
 ghost use Rattle.tds_relay.specs.Walkers.{AllStand, IsUnread};
@@ -29,9 +30,9 @@ mod stopping;
 
 use crate::NoMemory;
 use crate::application::Application;
-use crate::desk::Desk;
+use crate::desk::{Desk, Mode};
 use crate::link::Link;
-use crate::links::forget_sent;
+use crate::links::{forget_sent, place_in};
 use crate::order::Order;
 use crate::outgoing::{BESIDE, PIECE};
 pub use places::{Counts, Place, PlaceOn};
@@ -89,6 +90,13 @@ impl Relay {
         })
     }
 
+    /// For how long an application keeps the connection that it is lent: no call changes that.
+    pub fn mode(&self) -> Mode
+        ensures { result ≡ (desk_in self.now.desk).mode }
+    {
+        self.desk.mode()
+    }
+
     /// An application has come that is logged in, which is called so. Answers its key.
     pub fn enter(&mut self, tag: usize) -> Result<usize, NoMemory>
         ensures desk { self.new.desk ≡ self.old.desk }
@@ -98,6 +106,7 @@ impl Relay {
             (posts_in self.old.applications) (posts_in self.new.applications)) }
         ensures steps { OnOk result (Steps Neither (house_in self.old) (house_in self.new)) }
         ensures links { self.new.links.items ≡ self.old.links.items }
+        ensures others { IfOk result (λ key. OthersRest key self.old self.new) }
     {
         let application = Application::new(self.alloc, tag, self.size);
         let Ok(key) = self.applications.insert(application) else {
@@ -112,6 +121,9 @@ impl Relay {
         ensures kept { posts_in self.new.applications ≡ posts_in self.old.applications }
         ensures ends { ends_in self.new.applications ≡ ends_in self.old.applications }
         ensures links { self.new.links.items ≡ self.old.links.items }
+        ensures same { self.new.applications ≡ self.old.applications }
+        ensures body { (key : ℕ) → body_of key self.new ≡ body_of key self.old }
+        ensures are { (result.items ≡ self.old.orders.items) × (self.new.orders.items ≡ []) }
     {
         mem::replace(&mut self.orders, Vec::new(self.alloc))
     }
@@ -183,7 +195,8 @@ impl Relay {
 
     /// What is to be sent on a connection.
     pub fn unsent_on(&self, number: u64) -> &[u8]
-        ensures { length result.now ≤ 32767 + PIECE }
+        ensures bounded { length result.now ≤ 32767 + PIECE }
+        ensures is { result.now ≡ waiting_on number self.now.links.items }
     {
         match self.link(number) {
             Some(link) => link.out.unsent(),
@@ -200,6 +213,7 @@ impl Relay {
         ensures ends { ends_in self.new.applications ≡ ends_in self.old.applications }
         ensures steps { Steps Neither (house_in self.old) (house_in self.new) }
         ensures links { self.new.links.items ≡ self.old.links.items }
+        ensures rest { AllRest self.old self.new }
     {
         self.forget_sent(key, count);
         let hold = self.desk.hold_of(key)?;
@@ -214,6 +228,7 @@ impl Relay {
             ≡ change key (without_first count) (posts_in self.old.applications) }
         ensures ends { ends_in self.new.applications ≡ ends_in self.old.applications }
         ensures links { self.new.links.items ≡ self.old.links.items }
+        ensures asks { AskAsBefore self.old.applications self.new.applications }
     {
         match self.applications.get_mut(key) {
             Some(application) => application.out.sent(count),
@@ -227,7 +242,12 @@ impl Relay {
         ensures desk { self.new.desk ≡ self.old.desk }
         ensures kept { posts_in self.new.applications ≡ posts_in self.old.applications }
         ensures ends { ends_in self.new.applications ≡ ends_in self.old.applications }
-        ensures read { Stays self.old.links.items self.new.links.items }
+        ensures read { Sees self.old.links.items self.new.links.items }
+        ensures sent { waits_on number self.new.links.items
+            ≡ option_map (drop count) (waits_on number self.old.links.items) }
+        ensures others { (other : ℕ) → other ≢ number
+            → waits_on other self.new.links.items ≡ waits_on other self.old.links.items }
+        ensures same { self.new.applications ≡ self.old.applications }
     {
         if !forget_sent(&mut self.links, number, count) {
             return None;
@@ -278,6 +298,30 @@ impl Relay {
     {
         match self.applications.get(key) {
             Some(application) => application.has_nothing_out(),
+            None => false,
+        }
+    }
+
+    /// Whether an application may be parted from its connection: nothing of its request has gone on, and this
+    /// asks for a full reset, or for one that keeps its transaction where none is open.
+    fn may_part(&self, key: usize) -> bool
+        ensures { result ≡ true → MayPart (hall_in self.now) key }
+    {
+        let Some(application) = self.applications.get(key) else {
+            return false;
+        };
+        if !application.has_nothing_out() {
+            return false;
+        }
+        application.asks_full() || (application.asks_kept() && !self.has_transaction(key))
+    }
+
+    /// Whether a transaction is open on the connection that an application holds.
+    fn has_transaction(&self, key: usize) -> bool
+        ensures { result ≡ false → HasNoTransaction (desk_in self.now.desk) key }
+    {
+        match self.desk.hold_of(key) {
+            Some(hold) => self.desk.is_open_on(hold.number) == Some(true),
             None => false,
         }
     }
@@ -383,12 +427,10 @@ impl Relay {
         }
     }
 
-    fn link(&self, number: u64) -> Option<&Link> {
-        for link in self.links.iter() {
-            if link.number == number {
-                return Some(link);
-            }
-        }
-        None
+    fn link(&self, number: u64) -> Option<&Link>
+        ensures { option_copied result ≡ link_at number self.now.links.items }
+    {
+        let place = place_in(&self.links, number)?;
+        Some(&self.links[place])
     }
 }

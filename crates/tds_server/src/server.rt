@@ -123,7 +123,8 @@ impl<E: Engine + Drop> Server<E> {
             → self.new.session ≡ self.old.session }
         ensures state { result ≢ Ok NoMemory
             → self.new ≡ (taken (answer_of (E.statements_of self.old.engine)
-            (E.step_of self.old.engine)) self.old packet.entry.header packet.entry.«data».now).state }
+            (E.step_of self.old.engine)) self.old
+            packet.entry.header packet.entry.«data».now).state }
         ensures answer { result ≢ Ok NoMemory
             → result ≡ (taken (answer_of (E.statements_of self.old.engine)
             (E.step_of self.old.engine)) self.old
@@ -131,7 +132,8 @@ impl<E: Engine + Drop> Server<E> {
         ensures reply { result ≢ Ok NoMemory
             → reply.new.items ≡ reply.old.items
             ++ (taken (answer_of (E.statements_of self.old.engine)
-            (E.step_of self.old.engine)) self.old packet.entry.header packet.entry.«data».now).reply }
+            (E.step_of self.old.engine)) self.old
+            packet.entry.header packet.entry.«data».now).reply }
         // An acknowledgement, and what it tells of the transaction that it rolled back.
         ensures short { length reply.new.items ≤ length reply.old.items + 35 }
         // At want of memory nothing changes. It comes only where a growth is needed, so not in

@@ -16,7 +16,7 @@ use Rattle.tds_service.specs.declared.seat.Seat as code
 use Rattle.tds_service.specs.declared.service.Service as services
 use Rattle.tds_service.specs.Line.{Stage}
 use Rattle.tds_service.specs.Service.{Place, Leased, Cleaning, Kept, Free, Draining, Seat, drained, find_by, has_lease, has_number, holds, is_free, is_idle, is_lendable, keeps, lease_in}
-use Rattle.tds_service.specs.Table.{client_by, met, place_of, rest_of, seat_in, seats_in, without_closed, DoesAt, IsAt, Moves, Opens}
+use Rattle.tds_service.specs.Table.{client_by, client_of, met, place_of, rest_of, seat_in, seats_in, without_closed, DoesAt, IsAt, Moves, Opens}
 use Rattle.tds_service.specs.Ties.{line_in}
 use Rattle.tds_service.proofs.Numbered.{same_number}
 use Rattle.tds_service.proofs.Tables.{Here, meets_here, taken_set}
@@ -172,6 +172,11 @@ other_held_here l lease items lent i here other = other_holder l lease (place_of
 numbered_at : (number : ℕ) (items lent : List code.Seat) (i : ℕ) (here : Here (has_number number) items lent i) → (get_or items i here.seat).number ≡ number
 numbered_at number items lent i here = ap (λ (x : code.Seat). x.number) (sym here.at) ∙ same_number here.seat.number number (meets_here (has_number number) items lent i here)
 
+-- the client of a lease
+pub held_here : (lease : ℕ) (old : services.Service) (lent : List code.Seat) (i : ℕ) (here : Here (has_lease lease) old.seats.items lent i) → client_of lease old ≡ Some here.seat.connection.client
+held_here lease old lent i here =
+    client_first (has_lease lease) here.seat old.seats.items i here.first.within here.first.here here.first.before ∙ ap (λ (x : code.Seat). Some x.connection.client) (sym here.at)
+
 -- the seat of a lease has another client
 pub moves_here : (lease : ℕ) (old new : services.Service) (lent news : List code.Seat) (i : ℕ) (here : Here (has_lease lease) old.seats.items lent i) (y : code.Seat)
     → lent ≡ old.seats.items → news ≡ set lent i y → new.seats.items ≡ news → y.place ≡ here.seat.place
@@ -180,7 +185,7 @@ moves_here lease old new lent news i here y same changed is place =
     let items = old.seats.items in
     let test = has_lease lease in
     record {
-      was = client_first test here.seat items i here.first.within here.first.here here.first.before ∙ ap (λ (x : code.Seat). Some x.connection.client) (sym here.at);
+      was = held_here lease old lent i here;
       is =
           ap (client_by test) (is ∙ (changed ∙ ap (λ (cs : List code.Seat). set cs i y) same))
           ∙ client_set test y items i here.first.within here.first.before (ap (λ (p : code_place.Place). holds lease (place_of p)) place ∙ meets_here test items lent i here);

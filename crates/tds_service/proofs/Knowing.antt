@@ -3,7 +3,6 @@ use Rattle.std.proofs.Common.{◌≡◌, ◌∙◌, ◌||◌, ℕ, Bool, true, f
 use Rattle.std.specs.Prelude.{Option, Some, None, Result, Ok, Err, ◌==◌, if◌then◌else◌}
 use Rattle.tds_packet.specs.declared.status.Reset.{Reset}
 use Rattle.tds_packet.specs.declared.status.Reset.TheVariants.{Full, KeepTransaction}
-use Rattle.tds_packet.specs.Resets.{reset_effect}
 use Rattle.tds_token.specs.declared.env_change.EnvChange.{EnvChange}
 use Rattle.tds_token.specs.declared.env_change.EnvChange.TheVariants as changes
 use Rattle.tds_client.specs.declared.fault.ClientFault.{ClientFault}
@@ -13,7 +12,7 @@ use Rattle.tds_client.specs.declared.heard.FinalDone.TheVariants.{Acknowledged}
 use Rattle.tds_client.specs.declared.sign.Rules.TheVariants.{Any}
 use Rattle.tds_client.specs.declared.sign.Sign.{Sign}
 use Rattle.tds_client.specs.declared.sign.Sign.TheVariants as signs
-use Rattle.tds_client.specs.Hearing.{◌>>=◌, with_done, hear_sign, place_change, place_done, acknowledges_by, done_behind, is_full, changed, may_end}
+use Rattle.tds_client.specs.Hearing.{◌>>=◌, with_done, hear_sign, place_change, place_done, acknowledges_by, done_behind, reset_told, is_full, changed, may_end}
 use Rattle.tds_listen.specs.declared.fault.ListenFault.{ListenFault}
 use Rattle.tds_listen.specs.declared.fault.ListenFault.TheVariants as listens
 use Rattle.tds_listen.specs.Hearing.{heard_by}
@@ -54,9 +53,9 @@ by_rollback : (h next : Heard) (d : ℕ) (b : Bool) → changed h (changes.Rollb
 by_rollback h next d true e = ap known_of (ok_is _ next e)
 by_rollback h next d false e = not_ok _ next e
 
-by_reset : (h next : Heard) (m : Option Reset) → h.mark ≡ m → changed h changes.ResetDone (reset_effect m h.descriptor) ≡ Ok next
+by_reset : (h next : Heard) (m : Option Reset) → h.mark ≡ m → changed h changes.ResetDone (Some (reset_told m h.descriptor)) ≡ Ok next
     → known_of next ≡ record { owed = None; transaction = reset_done m h.descriptor }
-by_reset h next None e x = not_ok _ next x
+by_reset h next None e x = ap known_of (ok_is _ next x)
 by_reset h next (Some Full) e x = ap known_of (ok_is _ next x)
 by_reset h next (Some KeepTransaction) e x = ap known_of (ok_is _ next x)
 

@@ -1,5 +1,6 @@
 pub mod Tests
 pub mod Tables
+pub mod Stopping
 pub mod Numbered
 pub mod Joining
 pub mod Packeting

@@ -207,9 +207,9 @@ pub record Known : Type 0 where
   pub owed : Option Reset
   pub transaction : ℕ
 
--- The end of a reset: a full one ends the transaction.
+-- The end of a reset: a full one ends the transaction, and so does one that nobody asked for.
 abbrev pub reset_done : Option Reset → ℕ → ℕ
-reset_done None t = t
+reset_done None t = 0
 reset_done (Some Full) t = 0
 reset_done (Some KeepTransaction) t = t
 

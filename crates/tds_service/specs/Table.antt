@@ -26,7 +26,7 @@ use Rattle.tds_service.specs.Line.{Line, Answer}
 use Rattle.tds_service.specs.History.{Done}
 use Rattle.tds_service.specs.Service as calls
 use Rattle.tds_service.specs.Service.{find_by, Place, Leased, Cleaning, Kept, Free, Draining, Seat, Service, Call, Step, Reply, Unknown, AllInUse, NotNow, No, NoMemory, Lent, Ticket, Did, Back, lease_in, lease_at, has_lease, has_ticket, has_number, is_lendable, nothing, opens, step}
-use Rattle.tds_service.specs.Ties.{line_in, full_in, sent_in, tokens_in, IsTo, Appends}
+use Rattle.tds_service.specs.Ties.{line_in, full_in, sent_in, cancel_out, tokens_in, IsTo, Appends}
 
 abbrev pub place_of : code.Place → Place
 place_of (places.Leased lease) = Leased lease
@@ -223,6 +223,10 @@ pub record DoesAt (act : ClientSession → Result (Effect (Unit {0})) ClientRefu
   pub next : ClientSession
   pub moves : Moves lease old new session next
   pub does : sending.Does (act session) tt next before after
+
+-- What goes out by a cancel is appended.
+abbrev pub CancelsOut : ℕ → services.Service → List ℕ → List ℕ → Type 0
+CancelsOut lease old before after = (s : ClientSession) × (client_of lease old ≡ Some s) × (after ≡ before ++ cancel_out s.stage)
 
 -- The clients stay of all connections that other leases hold.
 abbrev pub KeepsClients : ℕ → services.Service → services.Service → Type 0

@@ -82,6 +82,15 @@ cancel_answer n how.Already = line.Already
 cancel_answer n how.Unsent = line.Unsent n
 cancel_answer n how.Asked = line.Stopped n
 
+-- What goes out by a cancel (MS-TDS 2.2.1.7): an attention where a request is out. Of one that is out in part an end goes before it, of
+-- the request's type and with the next number, that tells the server to ignore it (2.2.3.1.2).
+abbrev pub cancel_out : session.Stage → List ℕ
+cancel_out session.Idle = []
+cancel_out (session.Sending kind left packets) = if packets == 0 then [] else wire.ignore kind packets ++ wire.attention
+cancel_out session.Reading = wire.attention
+cancel_out session.Cancelling = []
+cancel_out (session.Broken fault) = []
+
 -- ---- Packets that go out, one behind the other
 
 abbrev pub sent_in : List (Done Token) → List Packet

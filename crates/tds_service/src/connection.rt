@@ -1,5 +1,5 @@
 ghost use Rattle.std.specs.Prelude.{◌≡◌, ◌≤◌, ◌<◌, ◌+◌, ℕ, List, [], Ok, Err, IfOk, IfErr, OnOk, OnErr};
-ghost use Rattle.std.specs.Prelude.{drop, is_some, length, Bool, true, false, None, Some};
+ghost use Rattle.std.specs.Prelude.{◌++◌, drop, is_some, length, Bool, true, false, None, Some};
 ghost use Rattle.tds_client.specs.Sending.{Does as ClientDoes, IsRefusal};
 ghost use Rattle.tds_client.specs.Session.{new_session, state_of, unless_idle};
 ghost use Rattle.tds_client.specs.Streams.{finished, opened, put};
@@ -14,7 +14,7 @@ ghost use Rattle.tds_service.specs.Refusing.{refusal_in};
 ghost use Rattle.tds_service.specs.Service.{is_clean, is_open};
 ghost use Rattle.tds_service.specs.Beginning.{Begins};
 ghost use Rattle.tds_service.specs.Sizes.{Sized};
-ghost use Rattle.tds_service.specs.Ties.{items_of, putting, taken_answer};
+ghost use Rattle.tds_service.specs.Ties.{items_of, putting, cancel_out, taken_answer};
 
 mod whole;
 
@@ -204,6 +204,8 @@ impl Connection {
     pub fn cancel(&mut self, out: &mut Vec<u8>) -> Result<Cancelled, ClientRefusal>
         ensures ok { IfOk result (λ how. Does line.Cancel (line_in self.old) (line_in self.new)
             (cancel_answer self.old.asked how) out.old.items out.new.items) }
+        ensures stops { OnOk result (out.new.items
+            ≡ out.old.items ++ cancel_out self.old.client.stage) }
         ensures refused { IfErr result (IsRefusal
             (refusal_in (answer_to (line_in self.old) line.Cancel))) }
         ensures err { OnErr result (self.new ≡ self.old) }

@@ -25,7 +25,8 @@ pub(crate) fn find(seats: &[TdsSeat], wanted: Wanted) -> Option<usize>
 pub(crate) fn take_out(used: &mut [TdsSeat], index: usize)
     requires { index < length used.old }
     ensures len { length used.new ≡ length used.old }
-    ensures front { take (length used.old - 1) used.new ≡ take index used.old ++ drop (index + 1) used.old }
+    ensures front { take (length used.old - 1) used.new
+        ≡ take index used.old ++ drop (index + 1) used.old }
 {
     used[index..].rotate_left(1);
 }

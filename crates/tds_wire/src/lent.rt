@@ -221,7 +221,8 @@ impl LentWalk {
     /// Refuses the last of these bytes.
     #[inline(never)]
     fn refuse(&mut self, fault: WireFault, bytes: &[u8]) -> Refusal
-        ensures refusal { (m : AnyMemory) → result ≡ refusal_at (reading_of self.old m) fault bytes.now }
+        ensures refusal { (m : AnyMemory)
+            → result ≡ refusal_at (reading_of self.old m) fault bytes.now }
         ensures state { self.new ≡ record self.old { refused = Some result } }
     {
         let passed = added(self.passed, bytes.len() as u64);

@@ -1,17 +1,10 @@
 //! Applications whose logins are equal, and their relay.
 
-use crate::dial::FEATURES;
+use relay_logins::FEATURES;
+use relay_status::{Done, NOTHING};
 use std::alloc::{AllocError, Global};
-use tds_packet::{Kind, PacketSize, Status, put_sent};
-use tds_relay::{Counts, Relay};
-
-/// What has done nothing yet.
-pub const NOTHING: Counts = Counts {
-    requests: 0,
-    cancels: 0,
-    cleanings: 0,
-    failed: 0,
-};
+use tds_packet::PacketSize;
+use tds_relay::Relay;
 
 /// How far the first login of a group is.
 #[derive(Drop)]
@@ -23,7 +16,7 @@ pub enum Stage {
 }
 
 /// The two ends of a group that isn't shared, by their sockets: each ends with the other one.
-#[derive(Clone, Copy, Debug)]
+#[derive(Clone, Copy)]
 pub struct Pair {
     pub application: usize,
     pub connection: usize,
@@ -32,10 +25,6 @@ pub struct Pair {
 /// A group.
 #[derive(Drop)]
 pub struct Group {
-    /// What of LOGIN7 makes the session. Nothing where no other application may join.
-    pub key: Vec<u8>,
-    /// The LOGIN7 of its connections.
-    pub login: Vec<u8>,
     pub stage: Stage,
     pub size: PacketSize,
     /// The user that its login names.
@@ -66,21 +55,13 @@ impl Pair {
 
 impl Group {
     /// A group whose first login the server judges, which these wait for.
-    pub fn new(
-        key: Vec<u8>,
-        login: Vec<u8>,
-        user: String,
-        waiting: Vec<usize>,
-        size: PacketSize,
-    ) -> Group {
+    pub fn new(user: String, waiting: Vec<usize>, size: PacketSize, pair: Option<Pair>) -> Group {
         Group {
-            key,
-            login,
             stage: Stage::Judged(waiting),
             size,
             user,
             most: 1,
-            pair: None,
+            pair,
             paused: None,
             goes_on: false,
             checked: 0,
@@ -102,20 +83,23 @@ impl Group {
     }
 
     /// What it has done.
-    pub fn counts(&self) -> Counts {
+    pub fn done(&self) -> Done {
         match &self.stage {
             Stage::Judged(_) => NOTHING,
             Stage::Open(relay, _) => {
-                let mut counts = relay.counts();
-                counts.requests = counts.requests.saturating_sub(self.checks);
-                counts
+                let counts = relay.counts();
+                Done {
+                    requests: counts.requests.saturating_sub(self.checks),
+                    cancels: counts.cancels,
+                    cleanings: counts.cleanings,
+                    failed: counts.failed,
+                }
             }
         }
     }
 
-    /// What it logged in by is forgotten: nobody logs in by it again.
-    pub fn forget_login(&mut self) {
-        self.login.clear();
+    /// What the server answered is forgotten: nobody else gets it.
+    pub fn forget_answer(&mut self) {
         if let Stage::Open(_, answer) = &mut self.stage {
             answer.clear();
         }
@@ -168,22 +152,4 @@ impl Group {
         self.stage = Stage::Open(Relay::new(alloc, most, size, FEATURES)?, answer);
         Ok(())
     }
-}
-
-/// Appends an answer with these data in packets of 4,096 bytes at most.
-pub fn put_saved(out: &mut Vec<u8>, answer: &[u8]) -> Result<(), AllocError> {
-    let mut left = answer.len();
-    let mut packet_id: u8 = 1;
-    for chunk in answer.chunks(4_088) {
-        left = left.saturating_sub(chunk.len());
-        put_sent(
-            out,
-            Kind::Answer,
-            Status::of_answer(left == 0),
-            packet_id,
-            chunk,
-        )?;
-        packet_id = packet_id.wrapping_add(1);
-    }
-    Ok(())
 }

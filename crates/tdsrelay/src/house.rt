@@ -5,7 +5,6 @@ mod dialing;
 mod judging;
 mod lines;
 mod logins;
-mod objects;
 mod orders;
 mod pairs;
 mod reaching;
@@ -13,19 +12,15 @@ mod telling;
 mod turns;
 mod watching;
 
-use crate::counts::{Counts, raise};
-use crate::gate::Gate;
 use crate::group::Group;
-use crate::latency::Latency;
 use crate::link::{Link, News};
-use crate::servers::MOST as MOST_SERVERS;
 use crate::socket::{Role, Socket, Whose};
-use crate::stats::Asker;
-use crate::words::Asked;
 use mio::net::{TcpListener, TcpStream};
 use mio::unix::SourceFd;
 use mio::{Events, Interest, Poll, Token};
-use slab::Slab;
+use relay_logins::{Gate, Groups, Table};
+use relay_settings::{Asked, MOST_SERVERS};
+use relay_status::{Asker, Counts, Latency, raise};
 use std::alloc::Global;
 use std::fs::Files;
 use std::io::{self, Write};
@@ -64,8 +59,8 @@ pub struct House<W: Write + Drop> {
     asked: Asked,
     poll: Poll,
     listener: TcpListener,
-    sockets: Slab<Socket>,
-    groups: Slab<Group>,
+    sockets: Table<Socket>,
+    groups: Groups<Group>,
     /// The keys of the sockets that are to have a turn.
     waiting: Vec<usize>,
     /// How many sockets there were.
@@ -107,18 +102,15 @@ impl<W: Write + Drop> House<W> {
         log: W,
     ) -> io::Result<House<W>> {
         let start = Instant::now(rt)?;
-        let poll = Poll::new(rt)?;
-        let mut listener = TcpListener::bind(rt, asked.listen)?;
-        poll.registry()
-            .register(&mut listener, LISTENER, Interest::READABLE)?;
+        let (poll, listener) = listening(rt, asked.listen)?;
         Ok(House {
             alloc,
             words,
             asked,
             poll,
             listener,
-            sockets: Slab::new(alloc),
-            groups: Slab::new(alloc),
+            sockets: Table::new(alloc),
+            groups: Groups::new(alloc),
             waiting: Vec::new(alloc),
             opened: 0,
             counts: Counts::none(),
@@ -287,7 +279,8 @@ impl<W: Write + Drop> House<W> {
                 continue;
             }
             let gate = Role::Gate(Gate::new(self.alloc));
-            if let Some(key) = self.take_in(stream, gate)? {
+            let out = Vec::new(self.alloc);
+            if let Some(key) = self.take_in(stream, gate, out)? {
                 self.has_come(key, from);
             }
         }
@@ -315,32 +308,45 @@ impl<W: Write + Drop> House<W> {
                 return Ok(());
             };
             let asker = Asker::new(self.alloc, from.ip().is_loopback());
-            let _ = self.take_in(stream, Role::Asker(asker))?;
+            let out = Vec::new(self.alloc);
+            let _ = self.take_in(stream, Role::Asker(asker), out)?;
         }
         Ok(())
     }
 
-    /// Takes a socket in. One too many is closed at once, and one that the system doesn't report.
-    fn take_in(&mut self, mut stream: TcpStream, role: Role) -> io::Result<Option<usize>> {
-        if self.sockets.len() >= MOST || stream.set_nodelay(true).is_err() {
+    /// Takes a socket in, to which these bytes are to be sent. One too many is closed at once, and one that
+    /// the system doesn't report.
+    fn take_in(
+        &mut self,
+        mut stream: TcpStream,
+        role: Role,
+        out: Vec<u8>,
+    ) -> io::Result<Option<usize>> {
+        let Some(key) = self.sockets.next_key() else {
             return Ok(None);
-        }
-        let key = self.sockets.vacant_key();
-        let both = Interest::READABLE | Interest::WRITABLE;
-        if self
-            .poll
-            .registry()
-            .register(&mut stream, Token(key), both)
-            .is_err()
-        {
+        };
+        if !self.is_reported(&mut stream, key) {
             return Ok(None);
         }
         self.opened = self.opened.saturating_add(1);
-        let out = Vec::new(self.alloc);
         let socket = Socket::new(self.opened, Link::new(stream), role, out, self.now);
-        let _ = self.sockets.insert(socket).is_ok();
+        if self.sockets.insert(socket).is_none() {
+            return Ok(None);
+        }
         self.begin_judging(key)?;
         Ok(Some(key))
+    }
+
+    /// Whether there is room for a socket, and the system reports it from now on.
+    fn is_reported(&self, stream: &mut TcpStream, key: usize) -> bool {
+        if self.sockets.len() >= MOST || stream.set_nodelay(true).is_err() {
+            return false;
+        }
+        let both = Interest::READABLE | Interest::WRITABLE;
+        self.poll
+            .registry()
+            .register(stream, Token(key), both)
+            .is_ok()
     }
 
     /// A line of the log about a socket.
@@ -358,7 +364,16 @@ impl<W: Write + Drop> House<W> {
     }
 }
 
+/// A listener at this address, which the system reports.
+fn listening<R: Net>(rt: &R, address: SocketAddr) -> io::Result<(Poll, TcpListener)> {
+    let poll = Poll::new(rt)?;
+    let mut listener = TcpListener::bind(rt, address)?;
+    poll.registry()
+        .register(&mut listener, LISTENER, Interest::READABLE)?;
+    Ok((poll, listener))
+}
+
 /// The relay of a group, once there is one.
-fn relay_of(groups: &mut Slab<Group>, group: usize) -> Option<&mut tds_relay::Relay> {
+fn relay_of(groups: &mut Groups<Group>, group: usize) -> Option<&mut tds_relay::Relay> {
     groups.get_mut(group)?.relay()
 }

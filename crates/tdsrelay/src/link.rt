@@ -4,7 +4,7 @@ use mio::net::TcpStream;
 use std::io::{self, ErrorKind, Read, Write};
 
 /// What a read brought.
-#[derive(Clone, Copy, Debug)]
+#[derive(Clone, Copy)]
 pub enum Came {
     Nothing,
     Bytes(usize),
@@ -12,7 +12,7 @@ pub enum Came {
 }
 
 /// What is new of a socket.
-#[derive(Clone, Copy, Debug)]
+#[derive(Clone, Copy)]
 pub enum News {
     /// It has more to do, and nothing is said of what came.
     Turn,

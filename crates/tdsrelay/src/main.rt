@@ -2,33 +2,16 @@
 //! have. One thread.
 #![tactic(auto)]
 
-mod config;
-mod counts;
-mod dial;
-mod fault;
-mod features;
-mod figures;
-mod gate;
 mod group;
 mod house;
-mod judged;
-mod latency;
-mod leg;
-mod limits;
 mod link;
-mod login7;
-mod notice;
-mod servers;
 mod socket;
-mod stats;
-mod words;
 
-use fault::RelayFault;
 use house::House;
+use relay_settings::{Asked, RelayFault, read_words};
 use std::env;
 use std::io::{self, Stderr};
 use std::process::ExitCode;
-use words::{Asked, read_words};
 
 fn main(rt: HostRuntime) -> ExitCode {
     match run(&rt) {
@@ -59,6 +42,12 @@ fn run(rt: &HostRuntime) -> Result<(), RelayFault> {
         Ok(house) => house,
         Err(error) => return Err(RelayFault::Listen(asked.listen, error)),
     };
+    prepare(rt, &mut house, asked)?;
+    serve(rt, &mut house, asked)
+}
+
+/// What it ends with, and where it tells what it does.
+fn prepare(rt: &HostRuntime, house: &mut House<Stderr>, asked: Asked) -> Result<(), RelayFault> {
     if asked.ends_with_input {
         house.end_with_input().map_err(RelayFault::Input)?;
     }
@@ -69,11 +58,11 @@ fn run(rt: &HostRuntime) -> Result<(), RelayFault> {
         };
         let _ = eprintln!(rt; "telling at {at}");
     }
-    serve(rt, house, asked)
+    Ok(())
 }
 
 /// Says where it serves, serves, and says how many applications it closed in the middle once it ends.
-fn serve(rt: &HostRuntime, mut house: House<Stderr>, asked: Asked) -> Result<(), RelayFault> {
+fn serve(rt: &HostRuntime, house: &mut House<Stderr>, asked: Asked) -> Result<(), RelayFault> {
     let address = house.address().map_err(RelayFault::Refused)?;
     if let Some(server) = asked.servers.at(0) {
         let _ = eprintln!(rt; "relaying {address} to {server}");

@@ -1,13 +1,8 @@
 //! A socket, and what it is.
 
-use crate::dial::Dial;
-use crate::gate::Gate;
-use crate::judged::Judged;
-use crate::leg::Leg;
 use crate::link::Link;
-use crate::login7::Who;
-use crate::servers::Way;
-use crate::stats::Asker;
+use relay_logins::{Dial, Gate, Leg, Way, Who};
+use relay_status::{Asker, At, Judged, Names, Role as Told};
 use std::io;
 use std::net::SocketAddr;
 use tds_judge::Finding;
@@ -59,41 +54,13 @@ pub struct Gone {
 }
 
 /// What a socket was seen to be at, and since when.
-#[derive(Clone, Copy, Debug)]
+#[derive(Clone, Copy)]
 pub struct Seen {
     pub at: At,
     /// What tells two of that apart: a request's number, or who holds a connection.
     pub mark: u64,
     /// The millisecond in which it was first seen there.
     pub since: u64,
-}
-
-/// What a socket is at.
-#[derive(Clone, Copy, Debug, PartialEq, Eq)]
-pub enum At {
-    /// A login, of an application or a connection.
-    Login,
-    /// An application with nothing underway, which holds a connection or not.
-    Quiet,
-    /// It holds none, and something of it has come that isn't read, since its group is paused.
-    Kept,
-    Holding,
-    /// It holds one on which a transaction is open.
-    InTransaction,
-    /// An application's request: it waits for a connection, until that is open, or until the server has
-    /// acknowledged on it what the application took back before.
-    Waiting,
-    Opening,
-    TakenBack,
-    Asking,
-    Cancelling,
-    /// A connection.
-    Free,
-    Held,
-    Draining,
-    Cleaning,
-    /// Anything else.
-    Other,
 }
 
 /// A socket.
@@ -249,6 +216,41 @@ impl Socket {
             is_late: self.is_late,
             has_legs,
         }
+    }
+
+    /// What is told that it is.
+    pub fn told(&self) -> Told {
+        match &self.role {
+            Role::Gate(_) | Role::Judged(_) | Role::Leg(..) => Told::Coming,
+            Role::Application(..) => Told::Application,
+            Role::First(..) | Role::Opening(..) => Told::Dialed,
+            Role::Connection(..) => Told::Connection,
+            Role::Asker(_) | Role::Closing => Told::Other,
+        }
+    }
+
+    /// The group that it belongs to.
+    pub fn group(&self) -> Option<usize> {
+        match &self.role {
+            Role::Gate(_) | Role::Asker(_) | Role::Closing => None,
+            Role::Judged(group) | Role::Application(group, _) => Some(*group),
+            Role::Leg(group, _) => Some(*group),
+            Role::First(group, _) => Some(*group),
+            Role::Opening(group, _, _) => Some(*group),
+            Role::Connection(group, _) => Some(*group),
+        }
+    }
+
+    /// Who an application says that it is.
+    pub fn names(&self) -> Option<Names<'_>> {
+        let Some(who) = &self.who else {
+            return None;
+        };
+        Some(Names {
+            host: who.host.as_str(),
+            user: who.user.as_str(),
+            program: who.program.as_str(),
+        })
     }
 
     pub fn whose(&self) -> Whose {

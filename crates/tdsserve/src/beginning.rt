@@ -3,8 +3,9 @@
 use crate::address::find_place;
 use crate::fault::ServeFault;
 use crate::words::Asked;
-use serve_drivers::{House, Log, Manner, Place, Script, read_script};
+use serve_drivers::{House, Log, Manner, Place};
 use serve_recordings::read_recording;
+use serve_scripts::{Script, read_script};
 use std::fs;
 use std::io::{ErrorKind, Read, Stderr};
 

@@ -48,8 +48,6 @@ const TOLD_EACH: u64 = 100_000_000;
 /// How many bytes are read at once.
 const AT_ONCE: usize = 65_536;
 
-const USAGE: &str = "error: usage (tdswatch --help lists the words)";
-
 fn main(rt: HostRuntime) -> ExitCode {
     match run(&rt) {
         Ok(status) => ExitCode::from(status),
@@ -65,8 +63,10 @@ fn run(rt: &HostRuntime) -> io::Result<u8> {
     match read_words(words.as_slice()) {
         Asked::Help => print(rt, HELP),
         Asked::Version => print(rt, VERSION),
-        Asked::Wrong => {
-            eprintln!(rt; "{USAGE}")?;
+        Asked::Wrong(place, fault) => {
+            let word = words.get(place).map_or("", |word| word.as_str());
+            let told = fault.text();
+            eprintln!(rt; "error: {word}: {told} (tdswatch --help lists the words)")?;
             Ok(2)
         }
         Asked::Judge { form, idle } => judge(rt, form, idle),

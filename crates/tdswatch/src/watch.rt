@@ -104,11 +104,11 @@ impl Watch {
         count
     }
 
-    /// The exit status: 1 with a breach, 2 where something couldn't be judged, else 0.
+    /// The exit status: 1 with a breach, 2 where something couldn't be judged or nothing came, else 0.
     pub fn status(&self) -> u8 {
         if self.count_of(Level::Breach) > 0 {
             1
-        } else if self.wrong > 0 || self.unjudged() > 0 {
+        } else if self.wrong > 0 || self.unjudged() > 0 || self.bytes == 0 {
             2
         } else {
             0

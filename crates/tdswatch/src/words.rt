@@ -8,10 +8,34 @@ const MOST_SECONDS: u64 = 86_400;
 pub enum Asked {
     Help,
     Version,
-    Wrong,
+    /// The word of this place is wrong.
+    Wrong(usize, Fault),
     /// How the findings are shown; how long a transaction may be idle, in microseconds, 0 for as long as
     /// it likes.
     Judge { form: Form, idle: u64 },
+}
+
+/// What is wrong of a word.
+#[derive(Clone, Copy)]
+pub enum Fault {
+    Unknown,
+    /// It is no limit.
+    Limit,
+    /// It is no connection's number.
+    Connection,
+    /// Another one is to stand behind it.
+    Alone,
+}
+
+impl Fault {
+    pub fn text(self) -> &'static str {
+        match self {
+            Fault::Unknown => "no word of tdswatch, and ./tdswatch found no such file",
+            Fault::Limit => "a limit is idle-in-transaction=5s, of 1 to 86400 seconds",
+            Fault::Connection => "a connection is a number, as the table has it",
+            Fault::Alone => "a word is missing behind it",
+        }
+    }
 }
 
 /// How findings are shown.
@@ -36,16 +60,16 @@ pub fn read_words(words: &[String]) -> Asked {
     let mut form = Form::Table;
     let mut idle = 0u64;
     let mut next = Next::Word;
-    for word in words {
+    for (place, word) in words.iter().enumerate() {
         let word = word.as_str();
         match (next, word) {
             (Next::Limit, _) => match read_limit(word) {
                 Some(limit) => idle = limit,
-                None => return Asked::Wrong,
+                None => return Asked::Wrong(place, Fault::Limit),
             },
             (Next::Connection, _) => match word.parse::<u64>() {
                 Ok(stream) => form = Form::Picture(stream),
-                Err(_) => return Asked::Wrong,
+                Err(_) => return Asked::Wrong(place, Fault::Connection),
             },
             (Next::Word, "--help") => return Asked::Help,
             (Next::Word, "--version") => return Asked::Version,
@@ -58,13 +82,15 @@ pub fn read_words(words: &[String]) -> Asked {
                 next = Next::Connection;
                 continue;
             }
-            (Next::Word, _) => return Asked::Wrong,
+            (Next::Word, _) => return Asked::Wrong(place, Fault::Unknown),
         }
         next = Next::Word;
     }
     match next {
         Next::Word => Asked::Judge { form, idle },
-        Next::Limit | Next::Connection => Asked::Wrong,
+        Next::Limit | Next::Connection => {
+            Asked::Wrong(words.len().saturating_sub(1), Fault::Alone)
+        }
     }
 }
 

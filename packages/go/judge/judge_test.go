@@ -11,14 +11,18 @@ import (
 
 var kinds = map[string]What{">": ToServer, "<": ToClient, "borrow": Borrowed, "close": Shut}
 
-// The recorded connections of a release's examples/captures.txt, whose first lines say its form. CAPTURES names the file.
+// The recorded connections of a release's examples/captures.txt, or of a clone's tests, whose first lines say its form. CAPTURES
+// names the file; where the package lies elsewhere, alone, there is none.
 func TestCaptures(t *testing.T) {
-	name := os.Getenv("CAPTURES")
-	if name == "" {
-		name = "../../../examples/captures.txt"
+	text, err := os.ReadFile(os.Getenv("CAPTURES"))
+	for _, name := range []string{"examples/captures.txt", "tests/crates/test_judge/data/captures.txt"} {
+		if err != nil && os.Getenv("CAPTURES") == "" {
+			text, err = os.ReadFile("../../../" + name)
+		}
 	}
-	text, err := os.ReadFile(name)
-	if err != nil {
+	if os.IsNotExist(err) && os.Getenv("CAPTURES") == "" {
+		t.Skip("no captures are here")
+	} else if err != nil {
 		t.Fatal(err)
 	}
 	limits, count, title := Limits{Idle: 5_000_000, Columns: 16}, 0, ""

@@ -1,9 +1,8 @@
-// The client's end of one connection, and a walk over the tokens of an answer.
+// The client's end of one connection.
 
-import { Memory, library } from "./library.mjs";
-
-export const calls = await library("mouktelf.wasm", "mouktelf_version");
-export const memory = new Memory(calls);
+import { calls, memory } from "./calls.mjs";
+import { FIRST_FAULT, done, within } from "./fault.mjs";
+import { BOTH, Tells, WALKED, walkedAt } from "./wire.mjs";
 
 /** Who makes a client of a table's seat: `new Client(HELD, () => ADDRESS)`. */
 export const HELD = Symbol("held");
@@ -22,7 +21,7 @@ export const Reset = Object.freeze({ FULL: 1, KEEP_TRANSACTION: 2 });
 /** Which message a request is (MS-TDS 2.2.1). */
 export const MessageKind = Object.freeze({ BATCH: 1, PROCEDURE: 3, BULK_LOAD: 7, TRANSACTION: 14 });
 
-const OK = 0, FULL = 1, END = 9, TELL = 10, WANTS_BYTES = 24, OUT_OF_RANGE = 23, FIRST_FAULT = 20;
+const OK = 0, FULL = 1, END = 9, TELL = 10, WANTS_BYTES = 24;
 const MESSAGE_MOST = 4022, TO_CLIENT = 1, NO_NEXT = 255;
 export const ATTENTION_MOST = 16, COUNT = 8, HEADER = 8;
 // The sizes of the header's structs, and where their fields lie.
@@ -31,31 +30,7 @@ export const CLIENT = { size: 40, descriptor: 0, packetSize: 24, stage: 26, colu
 const TOKEN = {
   size: 32, value: 0, start: 8, number: 16, line: 20, status: 24, command: 26, kind: 28, state: 29, severity: 30, change: 31,
 };
-const PACKETS = 16, TOKENS = 32;
-
-/** Why a call was not done, or what the peer did wrong: a number of mouktelf.h, from 20 on. */
-export class Fault extends Error {
-  constructor(number) {
-    super(`fault ${number}`);
-    this.number = number;
-  }
-
-  /** Whether the peer broke the protocol, and the client is broken: close the connection. */
-  get isPeer() {
-    return this.number >= 61 && this.number <= 69;
-  }
-}
-
-export function done(number) {
-  if (number >= FIRST_FAULT) throw new Fault(number);
-  return number;
-}
-
-/** A number that a call takes: of another one nothing is called. */
-export function within(number, most) {
-  if (!Number.isInteger(number) || number < 0 || number > most) throw new Fault(OUT_OF_RANGE);
-  return number;
-}
+const PACKETS = 16, TOKENS = 32, AT_ONCE = 256;
 
 /** The client's end of one connection, for packets of 512 to 32,767 bytes. */
 export class Client {
@@ -217,21 +192,52 @@ export class Client {
    * behind a cancel nobody is.
    */
   heard(token) {
-    return done(this.#hear(token)) === TELL;
-  }
-
-  #hear(token) {
     switch (token.tells) {
       case Tells.DONE:
-        return calls.tds_client_heard_done(this.#value, token.kind, token.status);
+        return this.heardDone(token.kind, token.status);
       case Tells.TRANSACTION:
         // A begin tells the new descriptor, an end the old one.
-        return calls.tds_client_heard_change(
-          this.#value, token.change, token.change === 8 || token.change === 11 ? token.value : token.oldValue);
+        return this.heardChange(token.change, token.change === 8 || token.change === 11 ? token.value : token.oldValue);
       case Tells.RESET:
-        return calls.tds_client_heard_change(this.#value, 18, 0n);
+        return this.heardChange(18);
       default:
-        return calls.tds_client_heard_other(this.#value);
+        return this.heardOther();
+    }
+  }
+
+  /** Hears a DONE (FD), DONEPROC (FE) or DONEINPROC (FF) that a reader of your own has found. */
+  heardDone(kind, status) {
+    return done(calls.tds_client_heard_done(this.#value, kind, status)) === TELL;
+  }
+
+  /** Hears an ENVCHANGE of type 8 to 12, 17 or 18, with the transaction's descriptor: the new one of a begin, else the old. */
+  heardChange(kind, descriptor = 0n) {
+    return done(calls.tds_client_heard_change(this.#value, kind, descriptor)) === TELL;
+  }
+
+  /** Hears any other token. */
+  heardOther() {
+    return done(calls.tds_client_heard_other(this.#value)) === TELL;
+  }
+
+  /**
+   * Hears all tokens that end in the data of a packet of any server's answer (type 04, behind its header), in one call for 256 of
+   * them: {answer, tokens}, MORE, FINISHED or ACKNOWLEDGED, and those that are told. `ends` is bit 1 of the packet's status. It is
+   * `walk.tokens`, `heard` and `messageEnded` in one, and a Fault of it has in `tokens` what was told before.
+   */
+  hear(walk, data, ends) {
+    const room = AT_ONCE * WALKED.size, at = memory.lend(2 * COUNT + room + data.length);
+    const found = at + 2 * COUNT, bytes = found + room, tokens = [];
+    memory.bytes(bytes, data.length).set(data);
+    for (let passed = 0, answer = TELL; ; passed += memory.count(at)) {
+      if (answer !== TELL) {
+        if (answer < FIRST_FAULT) return { answer: answer || Answer.MORE, tokens };
+        throw Object.assign(walk.fault(answer), { tokens });
+      }
+      answer = calls.tds_client_hear(this.#value, ...walk[BOTH], BigInt(bytes + passed), BigInt(data.length - passed), Number(ends),
+        BigInt(at), BigInt(found), BigInt(AT_ONCE), BigInt(at + COUNT));
+      const count = memory.count(at + COUNT);
+      for (let place = 0; place < count; place++) tokens.push(walkedAt(found + place * WALKED.size));
     }
   }
 
@@ -255,19 +261,19 @@ export function joined(parts) {
 /** The packets from a server at the front of these bytes, and the rest, behind which the next bytes go: [packets, rest]. */
 export function packetsOf(data, size) {
   within(size, 0xffff);
-  const packets = [];
-  for (;;) {
-    const at = memory.lend(COUNT + PACKETS * PACKET.size + data.length), found = at + COUNT, bytes = found + PACKETS * PACKET.size;
-    memory.bytes(bytes, data.length).set(data);
+  const packets = [], at = memory.lend(COUNT + PACKETS * PACKET.size + data.length);
+  const found = at + COUNT, bytes = found + PACKETS * PACKET.size;
+  memory.bytes(bytes, data.length).set(data);
+  for (let passed = 0; ;) {
     const answer = calls.tds_packets_read(
-      BigInt(bytes), BigInt(data.length), size, TO_CLIENT, BigInt(found), BigInt(PACKETS), BigInt(at));
+      BigInt(bytes + passed), BigInt(data.length - passed), size, TO_CLIENT, BigInt(found), BigInt(PACKETS), BigInt(at));
     const count = memory.count(at);
     for (let place = 0; place < count; place++) {
       const length = memory.count(found + place * PACKET.size);
-      packets.push(data.subarray(0, length));
-      data = data.subarray(length);
+      packets.push(data.subarray(passed, passed + length));
+      passed += length;
     }
-    if (answer === WANTS_BYTES) return [packets, data];
+    if (answer === WANTS_BYTES) return [packets, data.subarray(passed)];
     done(answer);
   }
 }
@@ -311,87 +317,4 @@ function tokenAt(at, data) {
     default:
       return { type: "done", status: view.getUint16(at + TOKEN.status, true), rows: value };
   }
-}
-
-/** What is told of a token that a walk finds: which fields of it count. */
-export const Tells = Object.freeze({
-  NOTHING: 0, DONE: 1, TRANSACTION: 2, RESET: 3, PACKET_SIZE: 4, VALUES: 5, OTHER_CHANGE: 6, MESSAGE: 7, RETURN_STATUS: 8,
-  SESSION_STATE: 9, UNCLEAR: 10,
-});
-
-const ENDED = 0, GOES_ON = 1, WIRE_MEMORY = 8706, WIRE = { size: 104, refused: 24 };
-export const WALKED = {
-  size: 88, start: 0, length: 8, value: 16, oldValue: 24, text: 32, others: 48, number: 64, size32: 68, status: 72,
-  command: 74, kind: 76, told: 77, change: 78, state: 79, severity: 80, recoverable: 81,
-};
-
-/** A byte that no answer has: `number` as mouktelf.h numbers it (71 to 74), and its place in the message. */
-export class Refused extends Error {
-  constructor(number, at, byte) {
-    super(`fault ${number} at ${at}, the byte ${byte}`);
-    Object.assign(this, { number, at, byte });
-  }
-}
-
-/**
- * Finds where each token of an answer ends, for every type of column of TDS 7.2 to 7.4 (MS-TDS 2.2.7). The bytes come in
- * pieces of any size: the data of packets of type 04.
- */
-export class Walk {
-  #at = memory.keep(this, WIRE.size + WIRE_MEMORY);
-
-  /** Room for so many columns, 4,096 at most; what the login's FEATUREEXTACK acknowledged. */
-  constructor(most = 4096, { encryption = false, ranks = false } = {}) {
-    calls.tds_wire_new(within(most, 0xffff), Number(encryption), Number(ranks), ...this.#both);
-  }
-
-  get #both() {
-    return [BigInt(this.#at), BigInt(this.#at + WIRE.size)];
-  }
-
-  /** Takes bytes up to the end of one token: [count, token], where the token is null if none has ended. */
-  next(data) {
-    const at = memory.lend(COUNT + WALKED.size + data.length), token = at + COUNT, bytes = token + WALKED.size;
-    memory.bytes(token, WALKED.size).fill(0);
-    memory.bytes(bytes, data.length).set(data);
-    const answer = calls.tds_wire_next(...this.#both, BigInt(bytes), BigInt(data.length), BigInt(at), BigInt(token));
-    if (answer > GOES_ON) {
-      const refused = this.#at + WIRE.refused;
-      throw new Refused(answer, memory.count(refused), memory.view().getUint8(refused + 9));
-    }
-    return [memory.count(at), answer === ENDED ? walkedAt(token) : null];
-  }
-
-  /** The tokens that end in this piece. */
-  *tokens(data) {
-    while (data.length > 0) {
-      const [count, token] = this.next(data);
-      data = data.subarray(count);
-      if (token) yield token;
-    }
-  }
-
-  /** Whether a message may end here. */
-  get isBetween() {
-    return calls.tds_wire_is_between(...this.#both) === 1;
-  }
-
-  /** Begins anew, before the first token of the next message. */
-  restart() {
-    calls.tds_wire_restart(...this.#both);
-  }
-}
-
-function walkedAt(at) {
-  const view = memory.view(), long = field => view.getBigUint64(at + field, true);
-  const place = field => ({ start: Number(long(field)), length: Number(long(field + 8)) });
-  return {
-    start: Number(long(WALKED.start)), length: Number(long(WALKED.length)), kind: view.getUint8(at + WALKED.kind),
-    tells: view.getUint8(at + WALKED.told), value: long(WALKED.value), oldValue: long(WALKED.oldValue),
-    text: place(WALKED.text), others: place(WALKED.others), number: view.getInt32(at + WALKED.number, true),
-    size: view.getUint32(at + WALKED.size32, true), status: view.getUint16(at + WALKED.status, true),
-    command: view.getUint16(at + WALKED.command, true), change: view.getUint8(at + WALKED.change),
-    state: view.getUint8(at + WALKED.state), severity: view.getUint8(at + WALKED.severity),
-    isRecoverable: view.getUint8(at + WALKED.recoverable) === 1,
-  };
 }

@@ -1,6 +1,6 @@
 // The modules of WebAssembly that lie beside this file, and their memory.
 
-export const VERSION = "@VERSION@";
+export const VERSION = "0.1.0";
 
 /**
  * The calls of a module of this folder. It imports nothing, so it can reach nothing. `version` is the call that says of which

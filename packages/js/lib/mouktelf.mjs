@@ -2,7 +2,9 @@
 // over a module that is compiled from proved source. It does no input or output: bytes go in, bytes and tokens come out, and the
 // socket is yours.
 
-export { Answer, Client, Fault, MessageKind, Refused, Reset, Stage, Tells, Walk, packetsOf } from "./client.mjs";
+export { Answer, Client, MessageKind, Reset, Stage, packetsOf } from "./client.mjs";
+export { Fault } from "./fault.mjs";
 export { VERSION } from "./library.mjs";
 export { isLetIn, login } from "./login.mjs";
 export { Rest, Service } from "./service.mjs";
+export { Refused, Tells, Walk } from "./wire.mjs";

@@ -2,7 +2,10 @@
 
 import { Memory, library } from "./library.mjs";
 
-const calls = await library("mouktelf_play.wasm", "mouktelf_play_version");
+const calls = await library("mouktelf_play.wasm", "mouktelf_play_version").catch(why => {
+  if (why.code !== "ENOENT") throw why;
+  throw new Error("mouktelf_play.wasm, the player's module, isn't in a clone: a release's packages/js has it, and the program tdsplay plays");
+});
 const memory = new Memory(calls);
 const PLAYED = 0, NO_ROOM = 2, COUNT = 8;
 

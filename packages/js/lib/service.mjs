@@ -1,8 +1,9 @@
 // A table of connections that callers share, in front of any server: who holds each one, and what becomes of it.
 
-import {
-  ATTENTION_MOST, COUNT, Client, Fault, HEADER, HELD, MessageKind, WALKED, calls, done, joined, memory, within,
-} from "./client.mjs";
+import { calls, memory } from "./calls.mjs";
+import { ATTENTION_MOST, COUNT, Client, HEADER, HELD, MessageKind, joined } from "./client.mjs";
+import { Fault, done, within } from "./fault.mjs";
+import { WALKED } from "./wire.mjs";
 
 // The sizes of the header's structs, and where their fields lie.
 const TABLE = { size: 32, last: 0, given: 8, count: 16, packetSize: 24 };

@@ -5,7 +5,7 @@ use std::process::Command;
 use std::{env, fs};
 
 fn run(command: &mut Command) {
-    let status = command.status().unwrap_or_else(|error| panic!("{command:?}: {error}"));
+    let status = command.status().unwrap_or_else(|error| panic!("{command:?}: {error}: a C compiler and ar are wanted; CC names another than cc"));
     assert!(status.success(), "{command:?}: {status}");
 }
 
@@ -14,9 +14,12 @@ fn main() {
     let compiler = env::var("CC").unwrap_or("cc".into());
     let mut files = vec!["mouktelf", "mouktelf_service", "mouktelf_judge"];
     if env::var_os("CARGO_FEATURE_PLAY").is_some() {
+        let is_there = Path::new("c/mouktelf_play.c").exists();
+        assert!(is_there, "mouktelf-sys/c/mouktelf_play.c, the player, isn't in a clone: a release's packages/rust has it");
         files.push("mouktelf_play");
     }
     println!("cargo:rerun-if-changed=c");
+    println!("cargo:rerun-if-env-changed=CC");
     let library = Path::new(&out).join("libmouktelf.a");
     let _ = fs::remove_file(&library);
     for name in files {

@@ -3,11 +3,16 @@
 ghost use Rattle.std.specs.Prelude.{◌≤◌, vec_len, IfOk};
 ghost use Rattle.serve_requests.specs.declared.plan.TheConstants.{LONGEST};
 
-use crate::call::{Call, Parameter, Procedure, declared};
+use crate::call::{Call, Procedure, declared};
 use crate::plan::{Deed, End, LONGEST, Plan};
 use crate::session::{Habits, MOST, Prepared, ROOM};
-use crate::text::{own, units_in};
+use serve_values::Parameter;
+use serve_values::text::{own, units_in};
 use std::alloc::AllocError;
+
+/// What is told with the name of a procedure that isn't known.
+const HINT: &[u8] =
+    b" tdsserve is a test server; docs/SERVING.md has the procedures that it knows.";
 
 impl Habits {
     /// The text that a call runs or prepares; the procedure's name where it has none.
@@ -47,25 +52,20 @@ impl Habits {
     }
 
     /// The plan of a call that runs or prepares this text.
-    pub fn plan_call(
-        &mut self,
-        mut call: Call<'_>,
-        text: &[u16],
-        is_open: bool,
-    ) -> Result<Plan, AllocError>
+    pub fn plan_call(&mut self, mut call: Call<'_>, text: &[u16]) -> Result<Plan, AllocError>
         ensures fits { IfOk result (λ plan. vec_len plan.text ≤ LONGEST) }
     {
         match call.procedure {
-            Procedure::ExecuteText => self.plan_run(&mut call, text, is_open, None),
+            Procedure::ExecuteText => self.plan_run(&mut call, text, None),
             Procedure::Prepare => {
                 let handle = self.prepare(&call, text)?;
                 self.plan_silent(Some(handle))
             }
             Procedure::PrepareAndExecute => {
                 let handle = self.prepare(&call, text)?;
-                self.plan_run(&mut call, text, is_open, Some(handle))
+                self.plan_run(&mut call, text, Some(handle))
             }
-            Procedure::Execute => self.plan_execute(&mut call, text, is_open),
+            Procedure::Execute => self.plan_execute(&mut call, text),
             Procedure::Unprepare => {
                 self.unprepare(&call);
                 self.plan_silent(None)
@@ -90,7 +90,6 @@ impl Habits {
         &mut self,
         call: &mut Call<'_>,
         text: &[u16],
-        is_open: bool,
         handle: Option<u32>,
     ) -> Result<Plan, AllocError>
         ensures fits { IfOk result (λ plan. vec_len plan.text ≤ LONGEST) }
@@ -99,16 +98,11 @@ impl Habits {
         let declarations = self.text_at(call, 1)?;
         self.name_parameters(call, from, declarations.as_slice())?;
         let end = End::Procedure { handle };
-        self.plan_text(text, behind(call, from), is_open, end)
+        self.plan_text(text, behind(call, from), end)
     }
 
     /// The plan of a prepared text that is run.
-    fn plan_execute(
-        &mut self,
-        call: &mut Call<'_>,
-        text: &[u16],
-        is_open: bool,
-    ) -> Result<Plan, AllocError>
+    fn plan_execute(&mut self, call: &mut Call<'_>, text: &[u16]) -> Result<Plan, AllocError>
         ensures fits { IfOk result (λ plan. vec_len plan.text ≤ LONGEST) }
     {
         let end = End::Procedure { handle: None };
@@ -120,7 +114,7 @@ impl Habits {
             }
         };
         self.name_parameters(call, 1, declarations.as_slice())?;
-        self.plan_text(text, behind(call, 1), is_open, end)
+        self.plan_text(text, behind(call, 1), end)
     }
 
     /// Names parameters from this place on that have no name, as they are declared.
@@ -199,6 +193,8 @@ impl Habits {
         let name = call.name.as_slice();
         text.extend_from_slice(name.get(..100).unwrap_or(name))?;
         text.extend_from_slice(&[39, 46])?;
+        let hint = units_in(self.alloc, HINT)?;
+        text.extend_from_slice(hint.as_slice())?;
         Plan::failed(self.alloc, End::Procedure { handle: None }, 2812, text)
     }
 }

@@ -82,7 +82,11 @@ fn shape_from(column: Column) -> Shape
 }
 
 pub(crate) fn placed(inside: u8, column: u16) -> TdsWireInside
-    ensures { result ≡ record { column = column; inside = inside; base = record { form = 0; bytes = 0 } } }
+    ensures { result ≡ record {
+      column = column;
+      inside = inside;
+      base = record { form = 0; bytes = 0 };
+    } }
 {
     TdsWireInside {
         column,

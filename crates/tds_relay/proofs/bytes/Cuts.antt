@@ -7,15 +7,14 @@ use Rattle.tds_wire.specs.declared.told.Token.{Token}
 use Rattle.tds_wire.specs.Reading.{Reading, Found, Sees, Inside, Refuses, found_to, front_of, next_token}
 use Rattle.tds_listen.proofs.Fewer.{TakesSome, takes_some}
 use Rattle.tds_relay.specs.declared.news.Known.{Known}
-use Rattle.tds_relay.specs.declared.news.Known.TheVariants as knowns
 use Rattle.tds_packet.specs.declared.header.Header.{Header}
 use Rattle.tds_relay.specs.declared.link.Answer.{Answer}
 use Rattle.tds_relay.specs.Cutting.{IsAnew, IsCut, Left, ends_in, known_behind, led, left_by, left_in, left_of, left_within, passed_on}
-use Rattle.tds_relay.specs.News.{goes_on, goes_on_to_end, held, known_after}
+use Rattle.tds_relay.specs.News.{goes_on, goes_on_to_end, held, known_after, known_next}
 
-by_same : (known : Known) (bytes : List ℕ) (found : Found) (n : ℕ) (f g : Reading → List ℕ → Left) → TakesSome (suc n) found → ((r : Reading) (rest : List ℕ) → length rest ≤ n → f r rest ≡ g r rest)
+by_same : (known : Known) (bytes : List ℕ) (found : Found) (n : ℕ) (f g : Known → Reading → List ℕ → Left) → TakesSome (suc n) found → ((k : Known) (r : Reading) (rest : List ℕ) → length rest ≤ n → f k r rest ≡ g k r rest)
     → left_by known bytes found f ≡ left_by known bytes found g
-by_same known bytes (Sees token r rest) n f g h same = ap (led (goes_on_to_end known (front_of bytes rest))) (same r rest (omega (arith, h)))
+by_same known bytes (Sees token r rest) n f g h same = ap (led (goes_on_to_end known (front_of bytes rest))) (same (known_next (known_after known (front_of bytes rest))) r rest (omega (arith, h)))
 by_same known bytes (Inside r) n f g h same = refl
 by_same known bytes (Refuses refusal) n f g h same = refl
 
@@ -30,19 +29,19 @@ same a b known r [] ha hb = none_left a known r ∙ sym (none_left b known r)
 same zero b known r (x ∷ xs) ha hb = absurd (omega (arith, ha))
 same (suc a) zero known r (x ∷ xs) ha hb = absurd (omega (arith, hb))
 same (suc a) (suc b) known r (x ∷ xs) ha hb =
-    by_same known (x ∷ xs) (next_token r (x ∷ xs)) (length xs) (λ r rest. left_within a knowns.None r rest) (λ r rest. left_within b knowns.None r rest) (takes_some r x xs)
-    (λ r rest few. same a b knowns.None r rest (omega (arith, few, ha)) (omega (arith, few, hb)))
+    by_same known (x ∷ xs) (next_token r (x ∷ xs)) (length xs) (left_within a) (left_within b) (takes_some r x xs)
+    (λ k r rest few. same a b k r rest (omega (arith, few, ha)) (omega (arith, few, hb)))
 
-step_is : (known : Known) (r : Reading) (x : ℕ) (xs : List ℕ) → left_of known r (x ∷ xs) ≡ left_by known (x ∷ xs) (next_token r (x ∷ xs)) (λ next rest. left_of knowns.None next rest)
+step_is : (known : Known) (r : Reading) (x : ℕ) (xs : List ℕ) → left_of known r (x ∷ xs) ≡ left_by known (x ∷ xs) (next_token r (x ∷ xs)) left_of
 unfolding left_within
 step_is known r x xs =
-    by_same known (x ∷ xs) (next_token r (x ∷ xs)) (length xs) (λ next rest. left_within (length xs) knowns.None next rest) (λ next rest. left_of knowns.None next rest) (takes_some r x xs)
-    (λ next rest few. same (length xs) (length rest) knowns.None next rest few (omega arith))
+    by_same known (x ∷ xs) (next_token r (x ∷ xs)) (length xs) (left_within (length xs)) left_of (takes_some r x xs)
+    (λ k next rest few. same (length xs) (length rest) k next rest few (omega arith))
 
 -- bytes that no answer has there
 pub refused_is : (known : Known) (r : Reading) (bytes : List ℕ) (refusal : Refusal) → 0 < length bytes → next_token r bytes ≡ Refuses refusal → left_of known r bytes ≡ record { bytes = []; known = known }
 refused_is known r [] refusal some is = absurd (omega (arith, some))
-refused_is known r (x ∷ xs) refusal some is = step_is known r x xs ∙ ap (λ (f : Found). left_by known (x ∷ xs) f (λ next rest. left_of knowns.None next rest)) is
+refused_is known r (x ∷ xs) refusal some is = step_is known r x xs ∙ ap (λ (f : Found). left_by known (x ∷ xs) f left_of) is
 
 front_is : (bytes : List ℕ) (count : ℕ) → count ≤ length bytes → front_of bytes (drop count bytes) ≡ take count bytes
 front_is bytes count within =
@@ -64,12 +63,12 @@ pub token_is : (known : Known) (r r2 : Reading) (bytes : List ℕ) (count : ℕ)
 token_is known r r2 [] count token some within all found = absurd (omega (arith, some))
 token_is known r r2 (x ∷ xs) count None some within all found =
     let whole : count ≡ length (x ∷ xs) = all refl in
-    step_is known r x xs ∙ ap (λ (f : Found). left_by known (x ∷ xs) f (λ next rest. left_of knowns.None next rest)) (sym found)
+    step_is known r x xs ∙ ap (λ (f : Found). left_by known (x ∷ xs) f left_of) (sym found)
     ∙ inside_is known r2 (x ∷ xs) (take count (x ∷ xs)) (drop count (x ∷ xs))
     (ap (λ (n : ℕ). take n (x ∷ xs)) whole ∙ take-length (x ∷ xs)) (ap (λ (n : ℕ). drop n (x ∷ xs)) whole ∙ drop-length (x ∷ xs))
 token_is known r r2 (x ∷ xs) count (Some token) some within all found =
-    step_is known r x xs ∙ ap (λ (f : Found). left_by known (x ∷ xs) f (λ next rest. left_of knowns.None next rest)) (sym found)
-    ∙ ap (λ (front : List ℕ). led (goes_on_to_end known front) (left_of knowns.None r2 (drop count (x ∷ xs)))) (front_is (x ∷ xs) count within)
+    step_is known r x xs ∙ ap (λ (f : Found). left_by known (x ∷ xs) f left_of) (sym found)
+    ∙ ap (λ (front : List ℕ). led (goes_on_to_end known front) (left_of (known_next (known_after known front)) r2 (drop count (x ∷ xs)))) (front_is (x ∷ xs) count within)
 
 abbrev KeepsOn : List ℕ → List ℕ → Left → Left → Type 0
 KeepsOn more kept later earlier = (more ++ later.bytes ≡ kept ++ earlier.bytes) × (later.known ≡ earlier.known)

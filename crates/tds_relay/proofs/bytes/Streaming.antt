@@ -202,7 +202,7 @@ unheard number piece count ls f at is =
 
 heard_stays : (number : ℕ) (heard : Option Heard) (ls ms : List Link) → Stays ls ms → (IsNone heard → reader_at number ms ≡ None) → StaysAt (if_heard heard (open_at number ls)) (open_at number ms)
 heard_stays number None ls ms stays gone = subst (λ (o : Option packets.Reading). StaysAt None o) (sym (gone_open number ms (gone refl))) tt
-heard_stays number (Some heard) ls ms stays gone = stays_opens ls ms stays number
+heard_stays number (Some heard) ls ms stays gone = (stays_opens ls ms stays).opens number
 
 -- bytes are heard, and what came of them is done
 pub streams_on : (number : ℕ) (had : Option packets.Reading) (old f : House) (from at between to : Service) (h h1 : Hall) (ps ps1 : Posts) (bytes left rest : List ℕ) (heard : Option Heard) (now : Option packets.Reading) (ls ms : List Link)
@@ -233,7 +233,7 @@ comes (Ok x) number had old from at to h h1 ps ps1 bytes ls ms s on kept opens s
   streams = s;
   goes_on = λ by. on by h (no_moves by h);
   kept = kept;
-  has = opens number;
+  has = opens.opens number;
   stand = stand;
 }
 comes (Err e) number had old from at to h h1 ps ps1 bytes ls ms s on kept opens stand = tt

@@ -1,6 +1,7 @@
 -- An application's end behind bytes of its own.
 use Rattle.std.proofs.Common.{◌≡◌, ◌∙◌, ◌||◌, ℕ, Bool, true, false, List, [], ◌∷◌, refl, sym, ap, subst, inl, inr}
 use Rattle.std.specs.Prelude.{Option, Some, None, Result, Ok, Err}
+use Rattle.tds_packet.specs.declared.status.Reset.{Reset}
 use Rattle.tds_front.specs.declared.fault.FrontFault.{FrontFault}
 use Rattle.tds_front.specs.declared.front.Fed.{Fed}
 use Rattle.tds_front.specs.declared.front.Front.{Front}
@@ -263,7 +264,7 @@ module _ (d : Desk) (key : ℕ) (outs outs2 : ℕ → Bool) (sound : Sound d) (s
       hands_next b stage next head w (takes_back answer || w) p (sym e ∙ or_second (takes_back answer) (hands_on answer) takes hands) (or_right (takes_back answer) w takes) is does known leaves s
 
   -- any bytes
-  pub fed_next : (b : Bool) (stage : Stage) (front : Front) (w asks : Bool) (p : Place) (packet : Option Head) (brings : Result Fed FrontFault) → stops_by brings ≡ b → front.stage ≡ stage_fed stage packet brings
+  pub fed_next : (b : Bool) (stage : Stage) (front : Front) (w : Bool) (asks : Option Reset) (p : Place) (packet : Option Head) (brings : Result Fed FrontFault) → stops_by brings ≡ b → front.stage ≡ stage_fed stage packet brings
       → SaysOf stage packet brings → Known d key outs outs2 sound sit → LeavesIf b → Standing outs d key stage w p
       → Told outs2 (DeskIf b) key stage p (brought_by stage packet brings) (end_behind front w asks brings)
   fed_next b stage front w asks p None (Ok fed) e is says known leaves s =

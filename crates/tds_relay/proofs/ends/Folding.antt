@@ -2,6 +2,7 @@
 use Rattle.std.proofs.Common.{◌≡◌, ◌≢◌, ◌∙◌, ◌==◌, ℕ, Bool, true, false, List, [], ◌∷◌, ◌++◌, refl, sym, ap, subst}
 use Rattle.std.specs.Prelude.{Option, Some, None, if◌then◌else◌, option_map}
 use Rattle.std.proofs.lemmas.Bool.{eqb-true}
+use Rattle.tds_packet.specs.declared.status.Reset.{Reset}
 use Rattle.tds_wire.specs.declared.told.Token.{Token}
 use Rattle.tds_front.specs.declared.front.Front.{Front}
 use Rattle.tds_front.specs.declared.stage.Stage.{Stage}
@@ -305,10 +306,10 @@ module _ (h : Hall) (key : ℕ) (outs outs2 : ℕ → Bool) (sound : Sound h.des
   abbrev d : Desk
   d = h.desk
 
-  abbrev LawfulBy : Move → Place → Front → Bool → Bool → Type 0
+  abbrev LawfulBy : Move → Place → Front → Bool → Option Reset → Type 0
   LawfulBy move p front w asks = Lawful p front.stage (passes_by key h move (Some (Open front w asks)))
 
-  sent_lawful : (deed : Deed) (p : Place) (front : Front) (w asks : Bool) → IsPut deed → MayDo deed (Some (Open front w asks)) → Standing outs d key front.stage w p → LeavesBy h key outs outs2 sound sit judges known (hall.Sends key deed)
+  sent_lawful : (deed : Deed) (p : Place) (front : Front) (w : Bool) (asks : Option Reset) → IsPut deed → MayDo deed (Some (Open front w asks)) → Standing outs d key front.stage w p → LeavesBy h key outs outs2 sound sit judges known (hall.Sends key deed)
       → Lawful p front.stage (gone_on (sent_by d (desk.Does key deed)))
   sent_lawful (desk.Puts count) p front w asks put may s leaves =
       let sent = puts_stand d key outs outs2 sound sit count front.stage w p s may known (left_of d key outs outs2 sound sit (desk.Does key (desk.Puts count)) leaves) in
@@ -319,7 +320,7 @@ module _ (h : Hall) (key : ℕ) (outs outs2 : ℕ → Bool) (sound : Sound h.des
   sent_lawful desk.Asks p front w asks put may s leaves = absurd put
   sent_lawful desk.Stops p front w asks put may s leaves = absurd put
 
-  sent_if : (k : ℕ) (deed : Deed) (b : Bool) (p : Place) (front : Front) (w asks : Bool) → (k == key) ≡ b → IsPut deed → (k ≡ key → MayDo deed (Some (Open front w asks))) → Standing outs d key front.stage w p
+  sent_if : (k : ℕ) (deed : Deed) (b : Bool) (p : Place) (front : Front) (w : Bool) (asks : Option Reset) → (k == key) ≡ b → IsPut deed → (k ≡ key → MayDo deed (Some (Open front w asks))) → Standing outs d key front.stage w p
       → LeavesBy h key outs outs2 sound sit judges known (hall.Sends k deed) → Lawful p front.stage (if b then gone_on (sent_by d (desk.Does k deed)) else [])
   sent_if k deed true p front w asks e put may s leaves =
       let is = eqb-true k key e in
@@ -344,7 +345,7 @@ module _ (h : Hall) (key : ℕ) (outs outs2 : ℕ → Bool) (sound : Sound h.des
   fed_if bytes true p front = fed_lawful front.stage p (judged front.due bytes) (fed front bytes).brings
   fed_if bytes false p front = (tt, tt)
 
-  pub lawful_by : (move : Move) (p : Place) (front : Front) (w asks : Bool) → end_at h.ends key ≡ Some (Open front w asks) → MayMove h move → Standing outs d key front.stage w p
+  pub lawful_by : (move : Move) (p : Place) (front : Front) (w : Bool) (asks : Option Reset) → end_at h.ends key ≡ Some (Open front w asks) → MayMove h move → Standing outs d key front.stage w p
       → LeavesBy h key outs outs2 sound sit judges known move → ((n : ℕ) → AnswersOnce (outs n) (done_from n d (events_of h move))) → LawfulBy move p front w asks
   lawful_by (hall.Does event) p front w asks e may s leaves once = (tt, tt)
   lawful_by (hall.Sends k deed) p front w asks e may s leaves once =

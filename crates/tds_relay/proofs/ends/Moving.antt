@@ -13,7 +13,7 @@ use Rattle.tds_relay.specs.Desk as desk
 use Rattle.tds_relay.specs.Desk.{Desk, Event, desk_after, find_key, turn, whose}
 use Rattle.tds_relay.specs.Behind.{brought, if_open}
 use Rattle.tds_relay.specs.Fronting.{calls_along}
-use Rattle.tds_relay.specs.Hall.{End, Open, Over, Ends, Hall, HasEntered, IfOpen, IfWhose, IsAway, IsHere, IsThere, MayDo, MayDoAlone, MayMove, Move, closes, end_at, event_if, events_of, feeds, holder, stops_by, stops_of}
+use Rattle.tds_relay.specs.Hall.{End, Open, Over, Ends, Hall, HasEntered, IfOpen, IfWhose, IsAway, IsHere, IsThere, MayDo, MayDoAlone, MayMove, MayPart, Move, closes, end_at, event_if, events_of, feeds, holder, stops_by, stops_of}
 use Rattle.tds_relay.specs.Hall as hall
 use Rattle.tds_relay.proofs.promises.Caring.{Sound}
 use Rattle.tds_relay.proofs.held.Lists.{places}
@@ -52,7 +52,7 @@ module _ (d : Desk) (key : ℕ) (outs outs2 : ℕ → Bool) (sound : Sound d) (s
   closes_if k true p o e s still = closes_step p o s
   closes_if k false p o e s still = still_step p o s still
 
-  enters_step : (size : ℕ) (p : Place) (o : Option End) → StoryOf outs d key p o → o ≡ None → StepOf outs2 d key p [] o (Some (Open (new_front size) false false))
+  enters_step : (size : ℕ) (p : Place) (o : Option End) → StoryOf outs d key p o → o ≡ None → StepOf outs2 d key p [] o (Some (Open (new_front size) false None))
   enters_step size p None s e =
       (inr (record { absent = gone_absent key d s; rests = record { here = tt; its = refl; ready = refl } }), refl)
   enters_step size p (Some end) s e = absurd (let u : ⊥ = cc in u)
@@ -61,7 +61,7 @@ module _ (d : Desk) (key : ℕ) (outs outs2 : ℕ → Bool) (sound : Sound d) (s
   enters_if k ends old true p e s entered still =
       let is = eqb-true k key e in
       let free : end_at old key ≡ None = subst (λ (x : ℕ). end_at old x ≡ None) is entered.was_free in
-      let begins : end_at ends key ≡ Some (Open (new_front entered.size) false false) = subst (λ (x : ℕ). end_at ends x ≡ Some (Open (new_front entered.size) false false)) is entered.begins in
+      let begins : end_at ends key ≡ Some (Open (new_front entered.size) false None) = subst (λ (x : ℕ). end_at ends x ≡ Some (Open (new_front entered.size) false None)) is entered.begins in
       subst (λ (x : Option End). StepOf outs2 d key p [] (end_at old key) x) (sym begins) (enters_step entered.size p (end_at old key) s free)
   enters_if k ends old false p e s entered still =
       let same : end_at ends key ≡ end_at old key = entered.others_stay key (λ is. never d key outs outs2 sound sit k e (sym is)) in
@@ -158,9 +158,9 @@ module _ (h : Hall) (key : ℕ) (outs outs2 : ℕ → Bool) (sound : Sound h.des
   alone_steps (desk.Comes number part way) p may s leaves = absurd may
   alone_steps (desk.Loses number) p may s leaves = absurd may
 
-  may_replace : (n : ℕ) (who : Option ℕ) → holder d n ≡ who → IfWhose (λ k. IfOpen IsHere (end_at h.ends k)) who → who ≡ Some key → IfOpen IsHere o
+  may_replace : (n : ℕ) (who : Option ℕ) → holder d n ≡ who → IfWhose (MayPart h) who → who ≡ Some key → IfOpen IsHere o
   may_replace n None e may is = absurd (let u : ⊥ = cc in u)
-  may_replace n (Some k) e may is = let same : k ≡ key = cc in subst (λ (x : ℕ). IfOpen IsHere (end_at h.ends x)) same may
+  may_replace n (Some k) e may is = let same : k ≡ key = cc in subst (λ (x : ℕ). IfOpen IsHere (end_at h.ends x)) same may.0
 
   pub step : (move : Move) (p : Place) → MayMove h move → StoryOf outs d key p o → LeavesBy move → Steps move p
   step (hall.Does event) p may s leaves = alone_steps event p may s leaves
@@ -168,7 +168,7 @@ module _ (h : Hall) (key : ℕ) (outs outs2 : ℕ → Bool) (sound : Sound h.des
       sends_if d key outs outs2 sound sit k deed (k == key) p o refl s may.0 (λ is. subst (λ (x : ℕ). MayDo deed (end_at h.ends x)) is may.1) known
       (left_of d key outs outs2 sound sit (desk.Does k deed) leaves)
   step (hall.LetsGo k gives way) p may s leaves =
-      lets_if d key outs outs2 sound sit k gives way (k == key) p o refl s (λ is. subst (λ (x : ℕ). IfOpen IsHere (end_at h.ends x)) is may)
+      lets_if d key outs outs2 sound sit k gives way (k == key) p o refl s (λ is. subst (λ (x : ℕ). IfOpen IsHere (end_at h.ends x)) is may.0)
       (left_of d key outs outs2 sound sit (desk.Leaves k gives way) leaves)
   step (hall.Loses n) p may s leaves =
       loses_whose d key outs outs2 sound sit n (holder d n) p o refl s (left_of d key outs outs2 sound sit (desk.Loses n) leaves)

@@ -1,6 +1,7 @@
 -- An application's end behind a packet that comes on its connection, and behind a stop of what has gone on.
 use Rattle.std.proofs.Common.{◌≡◌, ◌∙◌, ◌==◌, ℕ, Bool, true, false, List, [], ◌∷◌, refl, sym, ap, subst, inl, inr}
 use Rattle.std.specs.Prelude.{Some, None, Option, filter, not, if◌then◌else◌}
+use Rattle.tds_packet.specs.declared.status.Reset.{Reset}
 use Rattle.tds_relay.proofs.held.Lists.{Once, comm, none_filtered, places, theirs_none}
 use Rattle.std.proofs.lemmas.Bool.{eqb-true, eq-eqb}
 use Rattle.tds_relay.specs.declared.desk.Hold.{Hold}
@@ -163,7 +164,7 @@ module _ (d : Desk) (key : ℕ) (outs outs2 : ℕ → Bool) (sound : Sound d) (s
   }
   told_right k part way stage p es Over ours leaves t = inl (record { hold = k.hold; seat = with_came k.seat part; its = ours.its })
 
-  told_as : (k : HoldsOne key d) (part : Part Token) (way : Way) (front : Front) (w asks : Bool) (p : Place) → Tied front.stage w p k.seat.line.stage (outs k.hold.number)
+  told_as : (k : HoldsOne key d) (part : Part Token) (way : Way) (front : Front) (w : Bool) (asks : Option Reset) (p : Place) → Tied front.stage w p k.seat.line.stage (outs k.hold.number)
       → Leaves d key outs outs2 sound sit (desk.Comes k.hold.number part way) → HeardAs k.seat.line.stage (is_end part.close) (turning k.seat.line (line.Come part))
       → (heard_of k.seat.line part ≡ desk.Wrong → ⊥)
       → Told outs2 (turn d (desk.Comes k.hold.number part way)).desk key front.stage p (unless_withdrawn w (said_by (is_end part.close) (turning k.seat.line (line.Come part)).answer))
@@ -174,7 +175,7 @@ module _ (d : Desk) (key : ℕ) (outs outs2 : ℕ → Bool) (sound : Sound d) (s
       (hears_right d key k.hold k.seat part way sound k.its right) leaves
       (heard_tied front w asks p (outs k.hold.number) (is_end part.close) k.seat.line.stage t tied heard)
 
-  abbrev Result : (k : HoldsOne key d) → Part Token → Way → Front → Bool → Bool → Place → Type 0
+  abbrev Result : (k : HoldsOne key d) → Part Token → Way → Front → Bool → Option Reset → Place → Type 0
   Result k part way front w asks p =
       Told outs2 (turn d (desk.Comes k.hold.number part way)).desk key front.stage p (unless_withdrawn w (said_by (is_end part.close) (turning k.seat.line (line.Come part)).answer))
       (told (what_of (turning k.seat.line (line.Come part)).answer) (Open front w asks))
@@ -182,7 +183,7 @@ module _ (d : Desk) (key : ℕ) (outs outs2 : ℕ → Bool) (sound : Sound d) (s
   not_wrong : (k : HoldsOne key d) (part : Part Token) (answer : line.Answer) → (turning k.seat.line (line.Come part)).answer ≡ answer → (hearing_of answer ≡ desk.Wrong → ⊥) → heard_of k.seat.line part ≡ desk.Wrong → ⊥
   not_wrong k part answer a never wrong = never (ap hearing_of (sym a) ∙ wrong)
 
-  told_by : (k : HoldsOne key d) (part : Part Token) (way : Way) (front : Front) (w asks : Bool) (p : Place) → Tied front.stage w p k.seat.line.stage (outs k.hold.number)
+  told_by : (k : HoldsOne key d) (part : Part Token) (way : Way) (front : Front) (w : Bool) (asks : Option Reset) (p : Place) → Tied front.stage w p k.seat.line.stage (outs k.hold.number)
       → Leaves d key outs outs2 sound sit (desk.Comes k.hold.number part way) → HeardAs k.seat.line.stage (is_end part.close) (turning k.seat.line (line.Come part)) → Result k part way front w asks p
   told_by k part way front w asks p tied leaves (Breaks fault a) =
       let wrong : heard_of k.seat.line part ≡ desk.Wrong = ap hearing_of a in
@@ -199,14 +200,14 @@ module _ (d : Desk) (key : ℕ) (outs outs2 : ℕ → Bool) (sound : Sound d) (s
   told_by k part way front w asks p tied leaves (SkipsEnd request is a sent l) =
       told_as k part way front w asks p tied leaves (SkipsEnd request is a sent l) (not_wrong k part (line.Acked request) a (λ e. let u : ⊥ = cc in u))
 
-  told_here : (k : HoldsOne key d) (part : Part Token) (way : Way) (front : Front) (w asks : Bool) (p : Place) → Tied front.stage w p k.seat.line.stage (outs k.hold.number)
+  told_here : (k : HoldsOne key d) (part : Part Token) (way : Way) (front : Front) (w : Bool) (asks : Option Reset) (p : Place) → Tied front.stage w p k.seat.line.stage (outs k.hold.number)
       → Leaves d key outs outs2 sound sit (desk.Comes k.hold.number part way)
       → Told outs2 (turn d (desk.Comes k.hold.number part way)).desk key front.stage p (unless_withdrawn w (said_in (done_by d k.hold.number part))) (told (what_in (done_by d k.hold.number part)) (Open front w asks))
   told_here k part way front w asks p tied leaves =
       subst (λ (ds : List (Done Token)). Told outs2 (turn d (desk.Comes k.hold.number part way)).desk key front.stage p (unless_withdrawn w (said_in ds)) (told (what_in ds) (Open front w asks)))
       (sym (came_done d key k.hold k.seat part k.its)) (told_by k part way front w asks p tied leaves (heard_as k.seat.line part))
 
-  pub hears_stand : (n : ℕ) (part : Part Token) (way : Way) (front : Front) (w asks : Bool) (p : Place) → Standing outs d key front.stage w p → whose d n ≡ Some key
+  pub hears_stand : (n : ℕ) (part : Part Token) (way : Way) (front : Front) (w : Bool) (asks : Option Reset) (p : Place) → Standing outs d key front.stage w p → whose d n ≡ Some key
       → Leaves d key outs outs2 sound sit (desk.Comes n part way)
       → Told outs2 (turn d (desk.Comes n part way)).desk key front.stage p (unless_withdrawn w (said_in (done_by d n part))) (told (what_in (done_by d n part)) (Open front w asks))
   hears_stand n part way front w asks p (inl k) mine leaves =

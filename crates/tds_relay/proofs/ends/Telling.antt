@@ -1,5 +1,7 @@
 -- Where an application's end is behind a packet that comes, and that what is said to it is lawful.
 use Rattle.std.proofs.Common.{◌≡◌, ◌∙◌, ℕ, Bool, true, false, List, [], ◌∷◌, refl, sym, ap, subst}
+use Rattle.std.specs.Prelude.{Option}
+use Rattle.tds_packet.specs.declared.status.Reset.{Reset}
 use Rattle.tds_wire.specs.declared.told.Token.{Token}
 use Rattle.tds_front.specs.declared.front.Front.{Front}
 use Rattle.tds_front.specs.declared.stage.Stage.{Stage}
@@ -24,7 +26,7 @@ EndTied (Open front w asks) stage p es l out = (q : Place) × Tied front.stage w
 EndTied Over stage p es l out = Unit {0}
 
 -- an end hears what its service answers
-abbrev EndHeard : Front → Bool → Bool → Place → Bool → Answer → line.Stage → Bool → Type 0
+abbrev EndHeard : Front → Bool → Option Reset → Place → Bool → Answer → line.Stage → Bool → Type 0
 EndHeard front w asks p ends answer l out = EndTied (told (what_of answer) (Open front w asks)) front.stage p (unless_withdrawn w (said_by ends answer)) l out
 
 abbrev LeftBy : Bool → Bool → Turn Token → Bool
@@ -36,36 +38,36 @@ answered_here stage e = subst (λ (s : Stage). IsHere (rules.answered s)) (sym e
 acknowledged_here : (stage : Stage) → stage ≡ stages.Stopping → IsHere (rules.acknowledged stage)
 acknowledged_here stage e = subst (λ (s : Stage). IsHere (rules.acknowledged s)) (sym e) tt
 
-reads_on_tied : (front : Front) (w asks : Bool) (p : Place) (out : Bool) → Tied front.stage w p line.Reading out → (o : Bool) → EndHeard front w asks p false line.More line.Reading o
+reads_on_tied : (front : Front) (w : Bool) (asks : Option Reset) (p : Place) (out : Bool) → Tied front.stage w p line.Reading out → (o : Bool) → EndHeard front w asks p false line.More line.Reading o
 reads_on_tied front true asks p out t o = let e : line.Reading ≡ line.Cancelling = t.0 in absurd (let u : ⊥ = cc in u)
 reads_on_tied front false asks p out t o = (p, (t.0, t.1), record { stage_is = refl; place_is = refl })
 
-reads_end_tied : (front : Front) (w asks : Bool) (p : Place) (out ends : Bool) (request : ℕ) → Tied front.stage w p line.Reading out → (o : Bool) → EndHeard front w asks p ends (line.Finished request) line.Idle o
+reads_end_tied : (front : Front) (w : Bool) (asks : Option Reset) (p : Place) (out ends : Bool) (request : ℕ) → Tied front.stage w p line.Reading out → (o : Bool) → EndHeard front w asks p ends (line.Finished request) line.Idle o
 reads_end_tied front true asks p out ends request t o = let e : line.Reading ≡ line.Cancelling = t.0 in absurd (let u : ⊥ = cc in u)
 reads_end_tied front false asks p out ends request t o =
     (Ready, (answered_here front.stage t.0, refl), record { stage_is = refl; place_is = ap (λ (x : Place). behind_reply x serving.Ends) t.1 })
 
-skips_on_tied : (front : Front) (w asks : Bool) (p : Place) (out ends : Bool) → Tied front.stage w p line.Cancelling out → EndHeard front w asks p ends line.More line.Cancelling (is_left_out out ends line.More)
+skips_on_tied : (front : Front) (w : Bool) (asks : Option Reset) (p : Place) (out ends : Bool) → Tied front.stage w p line.Cancelling out → EndHeard front w asks p ends line.More line.Cancelling (is_left_out out ends line.More)
 skips_on_tied front true asks p out ends t = (p, (refl, t.1, t.2), leads_nothing front.stage p)
 skips_on_tied front false asks p out false t = (p, (t.0, t.1), record { stage_is = refl; place_is = refl })
 skips_on_tied front false asks p out true t =
     let same : rules.answered front.stage ≡ front.stage = ap rules.answered t.0 ∙ sym t.0 in
     (Stopping false, (t.0, refl), record { stage_is = same; place_is = ap (λ (x : Place). behind_reply x serving.Ends) t.1 })
 
-skips_end_tied : (front : Front) (w asks : Bool) (p : Place) (out ends : Bool) (request : ℕ) → Tied front.stage w p line.Cancelling out → (o : Bool) → EndHeard front w asks p ends (line.Acked request) line.Idle o
+skips_end_tied : (front : Front) (w : Bool) (asks : Option Reset) (p : Place) (out ends : Bool) (request : ℕ) → Tied front.stage w p line.Cancelling out → (o : Bool) → EndHeard front w asks p ends (line.Acked request) line.Idle o
 skips_end_tied front true asks p out ends request t o = (p, (t.1, t.2), leads_nothing front.stage p)
 skips_end_tied front false asks p out ends request t o =
     (Ready, (acknowledged_here front.stage t.0, refl), record { stage_is = refl; place_is = ap (λ (x : Place). behind_reply x serving.Acknowledges) t.1 })
 
 -- by the answer and the stage that the line has then
-by_turn : (front : Front) (w asks : Bool) (p : Place) (out ends : Bool) (t : Turn Token) (answer : Answer) (stage : line.Stage) → t.answer ≡ answer → t.sent ≡ [] → t.line.stage ≡ stage
+by_turn : (front : Front) (w : Bool) (asks : Option Reset) (p : Place) (out ends : Bool) (t : Turn Token) (answer : Answer) (stage : line.Stage) → t.answer ≡ answer → t.sent ≡ [] → t.line.stage ≡ stage
     → EndHeard front w asks p ends answer stage (is_left_out out ends answer) → EndHeard front w asks p ends t.answer t.line.stage (LeftBy out ends t)
 by_turn front w asks p out ends t answer stage a s l h =
     let one : EndHeard front w asks p ends t.answer stage (is_left_out out ends t.answer) = subst (λ (x : Answer). EndHeard front w asks p ends x stage (is_left_out out ends x)) (sym a) h in
     let two : EndHeard front w asks p ends t.answer t.line.stage (is_left_out out ends t.answer) = subst (λ (x : line.Stage). EndHeard front w asks p ends t.answer x (is_left_out out ends t.answer)) (sym l) one in
     subst (λ (x : List Packet). EndHeard front w asks p ends t.answer t.line.stage (is_left_out (is_out_behind out x) ends t.answer)) (sym s) two
 
-pub heard_tied : (front : Front) (w asks : Bool) (p : Place) (out ends : Bool) (s : line.Stage) (t : Turn Token) → Tied front.stage w p s out → HeardAs s ends t
+pub heard_tied : (front : Front) (w : Bool) (asks : Option Reset) (p : Place) (out ends : Bool) (s : line.Stage) (t : Turn Token) → Tied front.stage w p s out → HeardAs s ends t
     → EndHeard front w asks p ends t.answer t.line.stage (LeftBy out ends t)
 heard_tied front w asks p out ends s t tied (Breaks fault a) = subst (λ (x : Answer). EndHeard front w asks p ends x t.line.stage (is_left_out (is_out_behind out t.sent) ends x)) (sym a) tt
 heard_tied front w asks p out ends s t tied (ReadsOn is goes a sent l) =

@@ -2,6 +2,7 @@
 use Rattle.std.proofs.Common.{◌≡◌, ◌∙◌, ◌==◌, ℕ, Bool, true, false, List, [], ◌∷◌, refl, sym, ap, subst, inl, inr}
 use Rattle.std.specs.Prelude.{Option, Some, None, not, if◌then◌else◌, option_map}
 use Rattle.std.proofs.lemmas.Bool.{eqb-true, eq-eqb}
+use Rattle.tds_packet.specs.declared.status.Reset.{Reset}
 use Rattle.tds_wire.specs.declared.told.Token.{Token}
 use Rattle.tds_front.specs.declared.front.Front.{Front}
 use Rattle.tds_front.specs.declared.stage.Stage.TheVariants as stages
@@ -117,11 +118,11 @@ module _ (d : Desk) (key : ℕ) (outs outs2 : ℕ → Bool) (sound : Sound d) (s
   goes_over [] = refl
   goes_over (p ∷ ps) = refl
 
-  goes_open : (ps : List Packet) (front : Front) (w asks : Bool) → Open (record front { stage = went_by ps front.stage }) w asks ≡ goes_on ps (Open front w asks)
+  goes_open : (ps : List Packet) (front : Front) (w : Bool) (asks : Option Reset) → Open (record front { stage = went_by ps front.stage }) w asks ≡ goes_on ps (Open front w asks)
   goes_open [] front w asks = refl
   goes_open (p ∷ ps) front w asks = refl
 
-  sent_step : (deed : Deed) (front : Front) (w asks : Bool) (p : Place) → Sent d key outs outs2 sound sit deed front.stage w p
+  sent_step : (deed : Deed) (front : Front) (w : Bool) (asks : Option Reset) (p : Place) → Sent d key outs outs2 sound sit deed front.stage w p
       → Behind (desk.Does key deed) p (gone_on (sent_by d (desk.Does key deed))) (Some (Open front w asks)) (Some (goes_on (sent_by d (desk.Does key deed)) (Open front w asks)))
   sent_step deed front w asks p s =
       let ps = sent_by d (desk.Does key deed) in

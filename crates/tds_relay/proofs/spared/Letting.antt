@@ -3,12 +3,13 @@ use Rattle.std.proofs.Common.{◌≡◌, ◌≢◌, ◌⊎◌, ◌∙◌, ℕ, B
 use Rattle.std.specs.Prelude.{Result, Ok, Err, OnOk}
 use Rattle.std.proofs.lemmas.Bool.{cases_eq}
 use Rattle.slab.specs.Slab.{get}
+use Rattle.tds_relay.specs.Reads.{waits_on}
 use Rattle.tds_relay.specs.declared.application.Application.{Application}
 use Rattle.tds_relay.specs.declared.desk.Desk as desks
 use Rattle.tds_relay.specs.declared.desk.Hold.{Hold}
 use Rattle.tds_relay.specs.declared.desk.leaving.Left.{Left}
 use Rattle.tds_relay.specs.declared.relay.Relay as code
-use Rattle.tds_relay.specs.Bodies.{AskAsBefore, AskOn, Body, Closed, Spared, Starts, body_in, body_of, going_of, waits_on}
+use Rattle.tds_relay.specs.Bodies.{AskAsBefore, AskOn, Body, Closed, Spared, Starts, body_in, body_of, going_of}
 use Rattle.tds_relay.specs.Desk as desk
 use Rattle.tds_relay.specs.Desk.{Desk, find_key, find_number, key_of}
 use Rattle.tds_relay.specs.Sparing.{AllGo, AllRest, Held, HoldsOn, IsOff, OthersHold, OthersRest, Rests, SendsOn, held_at}

@@ -14,10 +14,10 @@ use Rattle.tds_relay.specs.declared.desk.Desk as desks
 use Rattle.tds_relay.specs.declared.desk.Hold.{Hold}
 use Rattle.tds_relay.specs.declared.link.Link.{Link}
 use Rattle.tds_relay.specs.declared.relay.Relay as code
-use Rattle.tds_relay.specs.Bodies.{AskAsBefore, AskOn, Astray, Body, Closed, Closes, Goes, Spared, Starts, Stays, Strays, body_by, body_in, body_of, bytes_on, going, going_by, going_of, waits_on}
+use Rattle.tds_relay.specs.Bodies.{AskAsBefore, AskOn, Astray, Body, Closed, Closes, Goes, Spared, Starts, Stays, Strays, body_by, body_in, body_of, going, going_by, going_of}
 use Rattle.tds_relay.specs.Desk as desk
 use Rattle.tds_relay.specs.Desk.{Desk, find_key, find_number, key_of}
-use Rattle.tds_relay.specs.Reads.{link_at}
+use Rattle.tds_relay.specs.Reads.{link_at, bytes_on, waits_on}
 use Rattle.tds_relay.specs.Sparing.{AllGo, AllHold, AllRest, Held, HoldsOn, IsOff, OffHold, OthersHold, OthersRest, Rests, held_at, held_by}
 use Rattle.tds_relay.specs.Ties.{CausesDeed, GoesOn, IsReached, Neither, Turns, desk_in}
 use Rattle.tds_relay.proofs.spared.Held.{holder_is, off_others}

@@ -14,11 +14,11 @@ use Rattle.tds_relay.specs.declared.desk.Hold.{Hold}
 use Rattle.tds_relay.specs.declared.link.Link.{Link}
 use Rattle.tds_relay.specs.declared.relay.Relay as code
 use Rattle.tds_relay.specs.Asking.{IsTakenBack, waits_in}
-use Rattle.tds_relay.specs.Bodies.{Astray, Body, Closed, Closes, Goes, Going, Kept, Nowhere, Starts, Stays, Strays, body_by, body_in, body_of, going, going_by, going_of, waits_on}
+use Rattle.tds_relay.specs.Bodies.{Astray, Body, Closed, Closes, Goes, Going, Kept, Nowhere, Starts, Stays, Strays, body_by, body_in, body_of, going, going_by, going_of}
 use Rattle.tds_relay.specs.Desk.{find_key, find_number, key_of}
 use Rattle.tds_relay.specs.Fronts.{ends_in}
 use Rattle.tds_relay.specs.Hall.{Ends, end_at}
-use Rattle.tds_relay.specs.Reads.{open_at, opened_at, reader_at}
+use Rattle.tds_relay.specs.Reads.{open_at, opened_at, reader_at, waits_on}
 use Rattle.tds_relay.specs.Sparing.{AllGo, AreCalls, Drains, HasGone, Held, IsHeldBack, IsKept, IsLeft, IsUnkept, Opens, StartsOn, behind_all, held_at}
 use Rattle.tds_relay.specs.Ties.{IsReached, desk_in}
 use Rattle.tds_relay.proofs.spared.Held.{holder_is, holds}

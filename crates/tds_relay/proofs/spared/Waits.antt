@@ -1,11 +1,10 @@
 -- What waits on each connection, where one of them is written back or taken out.
-use Rattle.std.proofs.Common.{◌≡◌, ◌≢◌, ◌∙◌, ◌==◌, ◌++◌, ℕ, zero, suc, not, Bool, true, false, List, [], ◌∷◌, Option, Some, None, refl, sym, ap, slice_index_or, slice_set, option_map, if◌then◌else◌}
+use Rattle.std.proofs.Common.{◌≡◌, ◌≢◌, ◌∙◌, ◌==◌, ◌++◌, ℕ, zero, suc, not, Bool, true, false, List, [], ◌∷◌, Option, Some, None, refl, sym, ap, subst, slice_index_or, slice_set, option_map, if◌then◌else◌}
 use Rattle.std.proofs.lemmas.Bool.{eqb-true}
 use Rattle.tds_relay.specs.declared.link.Link.{Link}
-use Rattle.tds_relay.specs.Bodies.{waits_on}
 use Rattle.tds_relay.specs.Posts.{Post, fits, post_in, put}
-use Rattle.tds_relay.specs.Reads.{link_at, place_of, without_link}
-use Rattle.tds_relay.proofs.steps.Staying.{IsAt, is_at, is_nowhere}
+use Rattle.tds_relay.specs.Reads.{FillsAt, link_at, place_of, waits_on, without_link}
+use Rattle.tds_relay.proofs.steps.Staying.{IsAt, fills_refl, is_at, is_nowhere}
 use Rattle.tds_relay.proofs.visits.Waiting.{put_fills, put_fits}
 
 abbrev waits_of : Link → List ℕ
@@ -72,6 +71,16 @@ put_by false bytes p e all = absurd (let u : true ≡ false = sym (ap (λ (q : P
 -- where it isn't full behind it, all of it waits
 pub put_waits : (bytes : List ℕ) (p q : Post) → q ≡ put bytes p → q.is_full ≡ false → q.bytes ≡ p.bytes ++ bytes
 put_waits bytes p q is all = ap (λ (r : Post). r.bytes) is ∙ put_by (fits p bytes) bytes p refl (sym (ap (λ (r : Post). r.is_full) is) ∙ all)
+
+either_put : (b : Bool) (bytes : List ℕ) (p : Post) → fits p bytes ≡ b → FillsAt (Some p.bytes) (Some (put bytes p).bytes)
+either_put true bytes p e = subst (λ (q : Post). FillsAt (Some p.bytes) (Some q.bytes)) (sym (put_fits bytes p e)) (bytes, refl)
+either_put false bytes p e = subst (λ (q : Post). FillsAt (Some p.bytes) (Some q.bytes)) (sym (put_fills bytes p e)) (fills_refl (Some p.bytes))
+
+-- what is put stands behind what waited, or isn't there
+pub fills_put : (bytes waits : List ℕ) (p q : Post) → q ≡ put bytes p → p.bytes ≡ waits → FillsAt (Some waits) (Some q.bytes)
+fills_put bytes waits p q is same =
+    subst (λ (xs : List ℕ). FillsAt (Some xs) (Some q.bytes)) same
+    (subst (λ (r : Post). FillsAt (Some p.bytes) (Some r.bytes)) (sym is) (either_put (fits p bytes) bytes p refl))
 
 -- ---- One is taken out
 

@@ -2,6 +2,7 @@
 use Rattle.std.proofs.Common.{◌≡◌, ◌∙◌, ◌⊎◌, ◌==◌, ◌++◌, length, ℕ, Bool, true, false, List, [], ◌∷◌, Option, Some, None, refl, sym, ap, subst, inl, inr, drop, append_assoc}
 use Rattle.std.proofs.lemmas.Bool.{eqb-true}
 use Rattle.std.specs.Prelude.{Result, Ok, Err, OnOk}
+use Rattle.tds_packet.specs.declared.status.Reset.{Reset}
 use Rattle.tds_front.specs.declared.fault.FrontFault.{FrontFault}
 use Rattle.tds_front.specs.declared.front.Fed.{Fed}
 use Rattle.tds_front.specs.declared.front.Front.{Front}
@@ -110,7 +111,7 @@ stays_shut old (Some r) stays e = absurd (let u : ⊥ = cc in u)
 
 underway_on : (whole : Bool) (links next : List Link) (key : ℕ) (h : Hall) → reads.Opens links next → IsUnderway whole links key h → IsUnderway whole next key h
 underway_on whole links next key h opens (Waits is) = Waits is
-underway_on whole links next key h opens (Opens hold its shut) = Opens hold its (stays_shut (open_at hold.number links) (open_at hold.number next) (opens hold.number) shut)
+underway_on whole links next key h opens (Opens hold its shut) = Opens hold its (stays_shut (open_at hold.number links) (open_at hold.number next) (opens.opens hold.number) shut)
 underway_on whole links next key h opens (Drains hold its back) = Drains hold its back
 underway_on whole links next key h opens (Sends sends) = Sends sends
 underway_on whole links next key h opens (Closes deaf) = Closes deaf
@@ -153,7 +154,7 @@ asks_moved key old bytes left links h h1 ps ps1 m kept a = asks_moves key old by
 
 -- ---- Bytes are taken, and then it goes on
 
-pub said_is : (bytes : List ℕ) (o : Option End) (front : Front) (withdrawn asks : Bool) (brings : Result Fed FrontFault) → o ≡ Some (Open front withdrawn asks) → (fed front bytes).brings ≡ brings → said_of bytes o ≡ said_in brings
+pub said_is : (bytes : List ℕ) (o : Option End) (front : Front) (withdrawn : Bool) (asks : Option Reset) (brings : Result Fed FrontFault) → o ≡ Some (Open front withdrawn asks) → (fed front bytes).brings ≡ brings → said_of bytes o ≡ said_in brings
 said_is bytes o front withdrawn asks brings was says = ap (said_of bytes) was ∙ ap said_in says
 
 module _ (P : Bool → Hall → Type 0) (key : ℕ) (left : List ℕ) where
@@ -171,7 +172,7 @@ module _ (P : Bool → Hall → Type 0) (key : ℕ) (left : List ℕ) where
       subst (AreObeyed P key old) (sym (append_assoc xs (Takes key left ∷ []) (makes_all moves)))
       (obeyed_both P key old xs (Takes key left ∷ makes_all moves) o (subst (λ (x : House). AreObeyed P key x (Takes key left ∷ makes_all moves)) (sym e) (one_obeyed h moves h1 are p)))
 
-asks_taken : (key : ℕ) (old : House) (bytes left rest : List ℕ) (links : List Link) (h : House) (h1 : Hall) (ps1 : Posts) (front : Front) (withdrawn asks : Bool) → end_at h.hall.ends key ≡ Some (Open front withdrawn asks)
+asks_taken : (key : ℕ) (old : House) (bytes left rest : List ℕ) (links : List Link) (h : House) (h1 : Hall) (ps1 : Posts) (front : Front) (withdrawn : Bool) (asks : Option Reset) → end_at h.hall.ends key ≡ Some (Open front withdrawn asks)
     → left_by left (end_at h.hall.ends key) ≡ rest → change key (put_some (owed left (end_at h.hall.ends key))) h.posts ≡ ps1 → Moves (Application key) (moved h.hall (Feeds key left)) h1
     → IfAsks (λ whole. IsUnderway whole links key h1) (said_of left (end_at h.hall.ends key)) → Asks key old bytes left links h → Asks key old bytes rest links (record { hall = h1; posts = ps1 })
 asks_taken key old bytes left rest links h h1 ps1 front withdrawn asks opened left_is waits m p a = record {
@@ -181,7 +182,7 @@ asks_taken key old bytes left rest links h h1 ps1 front withdrawn asks opened le
 
 -- ---- As it is done
 
-pub asks_refused : (key : ℕ) (old : House) (bytes left rest : List ℕ) (links : List Link) (h : House) (h1 : Hall) (ps1 : Posts) (front : Front) (withdrawn asks : Bool) (fault : FrontFault) → end_at h.hall.ends key ≡ Some (Open front withdrawn asks)
+pub asks_refused : (key : ℕ) (old : House) (bytes left rest : List ℕ) (links : List Link) (h : House) (h1 : Hall) (ps1 : Posts) (front : Front) (withdrawn : Bool) (asks : Option Reset) (fault : FrontFault) → end_at h.hall.ends key ≡ Some (Open front withdrawn asks)
     → change key (put_some (owed left (end_at h.hall.ends key))) h.posts ≡ h.posts → moved h.hall (Feeds key left) ≡ hall_of_ends h.hall.desk (change_end key closes h.hall.ends) → (fed front left).brings ≡ Err fault
     → Moved (Application key) (hall_of_ends h.hall.desk (change_end key closes h.hall.ends)) h1 → ps1 ≡ h.posts → Asks key old bytes left links h → Asks key old bytes rest links (record { hall = h1; posts = ps1 })
 asks_refused key old bytes left rest links h h1 ps1 front withdrawn asks fault opened waits is says m kept a =

@@ -1,6 +1,7 @@
 -- The body of an application's request follows what is taken of it: so it does of pieces one behind the other.
 use Rattle.std.proofs.Common.{Bool, ◌≡◌, ◌∙◌, ◌⊎◌, ◌++◌, ℕ, List, [], ◌∷◌, Option, Some, refl, sym, ap, subst, inl, inr, drop, append_assoc}
 use Rattle.std.specs.Prelude.{Result, Ok, Err, OnOk, take}
+use Rattle.tds_packet.specs.declared.status.Reset.{Reset}
 use Rattle.tds_front.specs.declared.fault.FrontFault.{FrontFault}
 use Rattle.tds_front.specs.declared.front.Fed.{Fed}
 use Rattle.tds_front.specs.declared.front.Front.{Front}
@@ -84,11 +85,11 @@ carries_moved key old bytes left a b c h h1 ps ps1 m kept s t = carries_moves ke
 
 -- ---- Bytes are taken, and then it goes on
 
-taken_is : (bytes : List ℕ) (o : Option End) (front : Front) (withdrawn asks : Bool) (brings : Result Fed FrontFault) → o ≡ Some (Open front withdrawn asks) → (fed front bytes).brings ≡ brings
+taken_is : (bytes : List ℕ) (o : Option End) (front : Front) (withdrawn : Bool) (asks : Option Reset) (brings : Result Fed FrontFault) → o ≡ Some (Open front withdrawn asks) → (fed front bytes).brings ≡ brings
     → taken_of bytes o ≡ take (count_by brings bytes) bytes
 taken_is bytes o front withdrawn asks brings was says = ap (taken_of bytes) was ∙ ap (λ (r : Result Fed FrontFault). take (count_by r bytes) bytes) says
 
-carries_taken : (key : ℕ) (old : House) (bytes left rest : List ℕ) (a b c : Body) (h : House) (h1 : Hall) (ps1 : Posts) (front : Front) (withdrawn asks : Bool) → end_at h.hall.ends key ≡ Some (Open front withdrawn asks)
+carries_taken : (key : ℕ) (old : House) (bytes left rest : List ℕ) (a b c : Body) (h : House) (h1 : Hall) (ps1 : Posts) (front : Front) (withdrawn : Bool) (asks : Option Reset) → end_at h.hall.ends key ≡ Some (Open front withdrawn asks)
     → left_by left (end_at h.hall.ends key) ≡ rest → change key (put_some (owed left (end_at h.hall.ends key))) h.posts ≡ ps1 → Moves (Application key) (moved h.hall (Feeds key left)) h1
     → Obeys (said_of left (end_at h.hall.ends key)) (taken_of left (end_at h.hall.ends key)) b c → Carries key old bytes left a b h → Carries key old bytes rest a c (record { hall = h1; posts = ps1 })
 carries_taken key old bytes left rest a b c h h1 ps1 front withdrawn asks opened left_is waits m o t = record {
@@ -98,7 +99,7 @@ carries_taken key old bytes left rest a b c h h1 ps1 front withdrawn asks opened
 
 -- ---- As it is done
 
-pub carries_refused : (key : ℕ) (old : House) (bytes left rest : List ℕ) (a b c : Body) (h : House) (h1 : Hall) (ps1 : Posts) (front : Front) (withdrawn asks : Bool) (fault : FrontFault) → end_at h.hall.ends key ≡ Some (Open front withdrawn asks)
+pub carries_refused : (key : ℕ) (old : House) (bytes left rest : List ℕ) (a b c : Body) (h : House) (h1 : Hall) (ps1 : Posts) (front : Front) (withdrawn : Bool) (asks : Option Reset) (fault : FrontFault) → end_at h.hall.ends key ≡ Some (Open front withdrawn asks)
     → change key (put_some (owed left (end_at h.hall.ends key))) h.posts ≡ h.posts → moved h.hall (Feeds key left) ≡ hall_of_ends h.hall.desk (change_end key closes h.hall.ends) → (fed front left).brings ≡ Err fault
     → Moved (Application key) (hall_of_ends h.hall.desk (change_end key closes h.hall.ends)) h1 → ps1 ≡ h.posts → Starts b c → Carries key old bytes left a b h → Carries key old bytes rest a c (record { hall = h1; posts = ps1 })
 carries_refused key old bytes left rest a b c h h1 ps1 front withdrawn asks fault opened waits is says m kept s t =

@@ -1,8 +1,9 @@
 -- Bytes of an application, and what is taken back by them.
-use Rattle.std.proofs.Common.{◌≡◌, ◌∙◌, ◌||◌, ℕ, Bool, true, false, List, Option, Some, drop, refl, sym, ap, subst, slice_set, option_map, if◌then◌else◌}
+use Rattle.std.proofs.Common.{◌≡◌, ◌∙◌, ◌||◌, ℕ, Bool, true, false, List, Option, Some, None, drop, refl, sym, ap, subst, slice_set, option_map, if◌then◌else◌}
 use Rattle.std.proofs.lemmas.List.{map-set}
-use Rattle.std.specs.Prelude.{Result, Ok, Err, is_some}
+use Rattle.std.specs.Prelude.{Result, Ok, Err}
 use Rattle.slab.specs.Slab.{Slab, get, with_value}
+use Rattle.tds_packet.specs.declared.status.Reset.{Reset}
 use Rattle.tds_front.specs.declared.fault.FrontFault.{FrontFault}
 use Rattle.tds_front.specs.declared.front.Fed.{Fed}
 use Rattle.tds_front.specs.declared.front.Front.{Front}
@@ -25,12 +26,12 @@ use Rattle.tds_relay.proofs.steps.Handed.{nothing_put}
 -- ---- The move
 
 -- what bytes lead to, of which this was said
-end_fed : (bytes : List ℕ) (front : Front) (withdrawn asks : Bool) (o : Option End) (count : ℕ) (answer : Said) → o ≡ Some (Open front withdrawn asks)
+end_fed : (bytes : List ℕ) (front : Front) (withdrawn : Bool) (asks : Option Reset) (o : Option End) (count : ℕ) (answer : Said) → o ≡ Some (Open front withdrawn asks)
     → (fed front bytes).brings ≡ Ok (record { count = count; said = answer }) → option_map (feeds bytes) o ≡ Some (Open (fed front bytes).front (takes_back answer || withdrawn) (asks_by answer asks))
 end_fed bytes front withdrawn asks o count answer was says =
     ap (option_map (feeds bytes)) was ∙ ap (λ (r : Result Fed FrontFault). Some (end_behind (fed front bytes).front withdrawn asks r)) says
 
-stops_fed : (bytes : List ℕ) (front : Front) (withdrawn asks : Bool) (o : Option End) (count : ℕ) (answer : Said) → o ≡ Some (Open front withdrawn asks)
+stops_fed : (bytes : List ℕ) (front : Front) (withdrawn : Bool) (asks : Option Reset) (o : Option End) (count : ℕ) (answer : Said) → o ≡ Some (Open front withdrawn asks)
     → (fed front bytes).brings ≡ Ok (record { count = count; said = answer }) → stops_of bytes o ≡ (takes_back answer || hands_on answer)
 stops_fed bytes front withdrawn asks o count answer was says = ap (stops_of bytes) was ∙ ap stops_by says
 
@@ -44,7 +45,7 @@ given_is key count (said.Forget gone) posts = nothing_put posts key
 given_is key count said.Acknowledge posts = refl
 given_is key count said.HandOn posts = nothing_put posts key
 
-given_fed : (key : ℕ) (bytes : List ℕ) (front : Front) (withdrawn asks : Bool) (o : Option End) (count : ℕ) (answer : Said) (posts : Posts) → o ≡ Some (Open front withdrawn asks)
+given_fed : (key : ℕ) (bytes : List ℕ) (front : Front) (withdrawn : Bool) (asks : Option Reset) (o : Option End) (count : ℕ) (answer : Said) (posts : Posts) → o ≡ Some (Open front withdrawn asks)
     → (fed front bytes).brings ≡ Ok (record { count = count; said = answer }) → change key (put_some (owed bytes o)) posts ≡ given_by key answer posts
 given_fed key bytes front withdrawn asks o count answer posts was says =
     ap (λ (x : Option End). change key (put_some (owed bytes x)) posts) was
@@ -96,11 +97,11 @@ pub taken_back_is : (key : ℕ) (d d1 : Desk) (before now behind : Ends) (bytes 
     → behind ≡ change_end key withdraws now → moved (hall_of_ends d before) (Feeds key bytes) ≡ hall_of_ends d1 behind
 taken_back_is key d d1 before now behind bytes out out1 f t is =
     hall_fed key d before now bytes (said.Forget true) true refl f
-    ∙ same_hall (turn d (desk.Does key desk.Stops)).desk d1 (slice_set before key (Some (Open (fed f.front bytes).front true false))) behind t.desk_is
-    (is ∙ set_twice before now key (Open (fed f.front bytes).front f.withdrawn false) (Open f.front f.withdrawn f.asks) withdraws f.was f.is)
+    ∙ same_hall (turn d (desk.Does key desk.Stops)).desk d1 (slice_set before key (Some (Open (fed f.front bytes).front true None))) behind t.desk_is
+    (is ∙ set_twice before now key (Open (fed f.front bytes).front f.withdrawn None) (Open f.front f.withdrawn f.asks) withdraws f.was f.is)
 
 -- they are none of a client's, and it is closed by them
-pub refused_is : (key : ℕ) (d : Desk) (es : Ends) (bytes : List ℕ) (front : Front) (withdrawn asks : Bool) (fault : FrontFault) → end_at es key ≡ Some (Open front withdrawn asks) → (fed front bytes).brings ≡ Err fault
+pub refused_is : (key : ℕ) (d : Desk) (es : Ends) (bytes : List ℕ) (front : Front) (withdrawn : Bool) (asks : Option Reset) (fault : FrontFault) → end_at es key ≡ Some (Open front withdrawn asks) → (fed front bytes).brings ≡ Err fault
     → moved (hall_of_ends d es) (Feeds key bytes) ≡ hall_of_ends d (change_end key closes es)
 refused_is key d es bytes front withdrawn asks fault was says =
     same_hall (desk_after d (event_if (stops_of bytes (end_at es key)) (desk.Does key desk.Stops))) d (change_end key (feeds bytes) es) (change_end key closes es)
@@ -109,7 +110,7 @@ refused_is key d es bytes front withdrawn asks fault was says =
     (ap (option_map closes) was
     ∙ sym (ap (option_map (feeds bytes)) was ∙ ap (λ (r : Result Fed FrontFault). Some (end_behind (fed front bytes).front withdrawn asks r)) says)))
 
-pub waits_refused : (key : ℕ) (es : Ends) (bytes : List ℕ) (front : Front) (withdrawn asks : Bool) (fault : FrontFault) (posts : Posts) → end_at es key ≡ Some (Open front withdrawn asks) → (fed front bytes).brings ≡ Err fault
+pub waits_refused : (key : ℕ) (es : Ends) (bytes : List ℕ) (front : Front) (withdrawn : Bool) (asks : Option Reset) (fault : FrontFault) (posts : Posts) → end_at es key ≡ Some (Open front withdrawn asks) → (fed front bytes).brings ≡ Err fault
     → change key (put_some (owed bytes (end_at es key))) posts ≡ posts
 waits_refused key es bytes front withdrawn asks fault posts was says =
     ap (λ (x : Option End). change key (put_some (owed bytes x)) posts) was
@@ -131,35 +132,35 @@ end_there s key a is = end_is s key ∙ ap (option_map end_of) (sym is)
 pub ends_written : (s : Slab Application) (key : ℕ) (a : Application) → ends_in (with_value s key a) ≡ slice_set (ends_in s) key (Some (end_of a))
 ends_written s key a = map-set (option_map end_of) s.slots key (Some a)
 
-pub end_open : (a : Application) → a.is_over ≡ false → end_of a ≡ Open a.front a.is_withdrawn (is_some a.reset)
-end_open a over = ap (λ (b : Bool). if b then Over else Open a.front a.is_withdrawn (is_some a.reset)) over
+pub end_open : (a : Application) → a.is_over ≡ false → end_of a ≡ Open a.front a.is_withdrawn a.reset
+end_open a over = ap (λ (b : Bool). if b then Over else Open a.front a.is_withdrawn a.reset) over
 
 abbrev pub is_fed : (key : ℕ) (s : Slab Application) (a b : Application) (bytes : List ℕ) (count : ℕ) (answer : Said) → Some a ≡ get s key → a.is_over ≡ false → b.is_over ≡ false
-    → b.is_withdrawn ≡ a.is_withdrawn → is_some b.reset ≡ asks_by answer (is_some a.reset) → b.front ≡ (fed a.front bytes).front → Ok (record { count = count; said = answer }) ≡ (fed a.front bytes).brings → IsFed key (ends_in s) (ends_in (with_value s key b)) bytes answer
+    → b.is_withdrawn ≡ a.is_withdrawn → b.reset ≡ asks_by answer a.reset → b.front ≡ (fed a.front bytes).front → Ok (record { count = count; said = answer }) ≡ (fed a.front bytes).brings → IsFed key (ends_in s) (ends_in (with_value s key b)) bytes answer
 is_fed key s a b bytes count answer is begins still withdrawn asks front says = record {
   front = a.front;
   withdrawn = a.is_withdrawn;
-  asks = is_some a.reset;
+  asks = a.reset;
   count = count;
   was = end_there s key a is ∙ ap Some (end_open a begins);
   says = sym says;
   is =
       ends_written s key b
-      ∙ ap (λ (e : End). slice_set (ends_in s) key (Some e)) (end_open b still ∙ ap (λ (f : Front). Open f b.is_withdrawn (is_some b.reset)) front
-      ∙ ap (λ (w : Bool). Open (fed a.front bytes).front w (is_some b.reset)) withdrawn ∙ ap (λ (x : Bool). Open (fed a.front bytes).front a.is_withdrawn x) asks);
+      ∙ ap (λ (e : End). slice_set (ends_in s) key (Some e)) (end_open b still ∙ ap (λ (f : Front). Open f b.is_withdrawn b.reset) front
+      ∙ ap (λ (w : Bool). Open (fed a.front bytes).front w b.reset) withdrawn ∙ ap (λ (x : Option Reset). Open (fed a.front bytes).front a.is_withdrawn x) asks);
 }
 
 pub is_there : (s : Slab Application) (key : ℕ) (a : Application) → Some a ≡ get s key → IsThere (end_at (ends_in s) key)
 is_there s key a is = subst IsThere (sym (end_there s key a is)) tt
 
 -- its attention has the acknowledgement; or what it took back has
-pub acked_if : (over : Bool) (front : Front) (withdrawn asks : Bool) → withdrawn ≡ false
-    → (if over then Over else Open (record front { stage = rules.acknowledged front.stage }) withdrawn false) ≡ acknowledged (hears (if over then Over else Open front withdrawn asks))
+pub acked_if : (over : Bool) (front : Front) (withdrawn : Bool) (asks : Option Reset) → withdrawn ≡ false
+    → (if over then Over else Open (record front { stage = rules.acknowledged front.stage }) withdrawn None) ≡ acknowledged (hears (if over then Over else Open front withdrawn asks))
 acked_if true front withdrawn asks e = refl
 acked_if false front true asks e = absurd (let u : ⊥ = cc in u)
 acked_if false front false asks e = refl
 
-pub resumed_if : (over : Bool) (front : Front) (withdrawn asks : Bool) → withdrawn ≡ true
+pub resumed_if : (over : Bool) (front : Front) (withdrawn : Bool) (asks : Option Reset) → withdrawn ≡ true
     → (if over then Over else Open front false asks) ≡ acknowledged (hears (if over then Over else Open front withdrawn asks))
 resumed_if true front withdrawn asks e = refl
 resumed_if false front true asks e = refl

@@ -1,8 +1,11 @@
 -- How the ends of applications move.
-use Rattle.std.proofs.Common.{◌≡◌, ◌∙◌, ◌++◌, ℕ, zero, suc, Bool, false, List, [], ◌∷◌, Option, Some, None, refl, sym, ap, subst, slice_set, option_map}
+use Rattle.std.proofs.Common.{◌≡◌, ◌∙◌, ◌++◌, ℕ, zero, suc, Bool, true, false, List, [], ◌∷◌, Option, Some, None, inl, refl, sym, ap, subst, slice_set, option_map}
 use Rattle.std.proofs.lemmas.List.{set-get_or}
 use Rattle.slab.specs.Slab.{Slab, Updates, get, with_value}
 use Rattle.std.specs.Prelude.{Result, Ok, Err, OnOk, OnSome, IfNone}
+use Rattle.tds_packet.specs.declared.status.Reset.{Reset}
+use Rattle.tds_packet.specs.declared.status.Reset.TheVariants.{Full}
+use Rattle.tds_front.specs.declared.front.Front.{Front}
 use Rattle.tds_front.specs.declared.stage.Stage.{Stage}
 use Rattle.tds_front.specs.Bytes.{new_front}
 use Rattle.tds_wire.specs.declared.told.Token.{Token}
@@ -15,7 +18,7 @@ use Rattle.tds_relay.specs.declared.desk.coming.What.{What}
 use Rattle.tds_relay.specs.Desk as desk
 use Rattle.tds_relay.specs.Desk.{Desk, Event, Way, turn}
 use Rattle.tds_relay.specs.Fronts.{IsWhat, LetsGoFirst, Moved, MovedOn, end_of, ends_in, hall_of_ends, told_by}
-use Rattle.tds_relay.specs.Hall.{CausesMove, Closes, Does, End, Ends, Hall, HasEntered, IfOpen, IfWhose, IsHere, IsQuiet, LetsGo, Loses, MayDoAlone, MayMove, MayMoveAll, Move, Moves, Open, Replaces, change_end, change_whose, closes, end_at, holder, lets_go, moved, moved_all, told, what_in, what_of}
+use Rattle.tds_relay.specs.Hall.{CausesMove, Closes, Does, End, Ends, Hall, HasEntered, AsksFor, AsksToPart, IfAsked, IfOpen, IfWhose, IsHere, IsQuiet, LetsGo, MayPart, Loses, MayDoAlone, MayMove, MayMoveAll, Move, Moves, Open, Replaces, change_end, change_whose, closes, end_at, holder, lets_go, moved, moved_all, told, what_in, what_of}
 use Rattle.tds_relay.specs.Promises.{Each}
 use Rattle.tds_relay.specs.Ties as causes
 use Rattle.tds_relay.specs.Ties.{Cause, Causes, Turns}
@@ -50,7 +53,7 @@ pub ends_quit : (s s1 : Slab Application) (key : ℕ) (r : Option Application) �
 ends_quit s s1 key r is slots absent = seen_quit end_of s s1 key r is slots absent
 
 -- an application has come
-pub ends_entered : (s s1 : Slab Application) (size key : ℕ) (a : Application) → get s key ≡ None → Updates s s1 key (Some a) → end_of a ≡ Open (new_front size) false false → HasEntered key (ends_in s) (ends_in s1)
+pub ends_entered : (s s1 : Slab Application) (size key : ℕ) (a : Application) → get s key ≡ None → Updates s s1 key (Some a) → end_of a ≡ Open (new_front size) false None → HasEntered key (ends_in s) (ends_in s1)
 ends_entered s s1 size key a none updates is = record {
   was_free = end_is s key ∙ ap (option_map end_of) none;
   size = size;
@@ -100,6 +103,27 @@ open_over P (Some e) = tt
 
 pub open_closed : (P : Stage → Type 0) (es : Ends) (key : ℕ) → IfOpen P (end_at (change_end key closes es) key)
 open_closed P es key = subst (IfOpen P) (sym (changed_at es key closes)) (open_over P (end_at es key))
+
+asks_over : (reset : Reset) (o : Option End) → AsksFor reset (option_map closes o)
+asks_over reset None = tt
+asks_over reset (Some e) = tt
+
+asks_closed : (reset : Reset) (es : Ends) (key : ℕ) → AsksFor reset (end_at (change_end key closes es) key)
+asks_closed reset es key = subst (AsksFor reset) (sym (changed_at es key closes)) (asks_over reset (end_at es key))
+
+-- who is to be closed may be parted
+pub closed_parts : (d : Desk) (es : Ends) (key : ℕ) → MayPart (hall_of_ends d (change_end key closes es)) key
+closed_parts d es key = (open_closed IsHere es key, inl (asks_closed Full es key))
+
+-- one that asks for this as its request has begun
+asks_at : (reset : Reset) (es : Ends) (key : ℕ) (front : Front) (withdrawn : Bool) → AsksFor reset (end_at (slice_set es key (Some (Open front withdrawn (Some reset)))) key)
+asks_at reset [] key front withdrawn = tt
+asks_at reset (x ∷ xs) zero front withdrawn = refl
+asks_at reset (x ∷ xs) (suc key) front withdrawn = asks_at reset xs key front withdrawn
+
+pub asks_begun : (asked : Option Reset) (es : Ends) (key : ℕ) (front : Front) (withdrawn : Bool) → IfAsked asked (end_at (slice_set es key (Some (Open front withdrawn asked))) key)
+asks_begun None es key front withdrawn = tt
+asks_begun (Some reset) es key front withdrawn = asks_at reset es key front withdrawn
 
 -- ---- Moves, one behind the other
 
@@ -173,18 +197,18 @@ lets_go_first key d d1 es es1 new gives way before after t ends on = (
   λ by. moved_same by (turn d (desk.Leaves key gives way)).desk d1 (change_end key lets_go es) es1 new t.desk_is ends (on by),
 )
 
-pub moves_lets_go : (key : ℕ) (from : Hall) (d : Desk) (es : Ends) (new : Hall) → IfOpen IsHere (end_at es key) → LetsGoFirst key (hall_of_ends d es) new
+pub moves_lets_go : (key : ℕ) (from : Hall) (d : Desk) (es : Ends) (new : Hall) → MayPart (hall_of_ends d es) key → LetsGoFirst key (hall_of_ends d es) new
     → Moves (causes.Application key) from (hall_of_ends d es) → Moves (causes.Application key) from new
 moves_lets_go key from d es new here l m =
     l.2 (causes.Application key) from (moves_one (causes.Application key) from (hall_of_ends d es) (LetsGo key l.0 l.1) here refl tt m)
 
 pub moves_replaces : (number key : ℕ) (from : Hall) (d d1 : Desk) (es es1 : Ends) (before after : List ℕ)
-    → Turns (desk.Loses number) d d1 before after → Some key ≡ holder d number → IfOpen IsHere (end_at es key) → es1 ≡ change_end key lets_go es
+    → Turns (desk.Loses number) d d1 before after → Some key ≡ holder d number → IfWhose (MayPart (hall_of_ends d es)) (holder d number) → es1 ≡ change_end key lets_go es
     → Moves (causes.Connection number) from (hall_of_ends d es) → Moves (causes.Connection number) from (hall_of_ends d1 es1)
 moves_replaces number key from d d1 es es1 before after t its here ends m =
     subst (Moves (causes.Connection number) from)
     (same_hall (turn d (desk.Loses number)).desk d1 (change_whose (holder d number) lets_go es) es1 t.desk_is (ends ∙ ap (λ (o : Option ℕ). change_whose o lets_go es) its))
-    (moves_one (causes.Connection number) from (hall_of_ends d es) (Replaces number) (subst (IfWhose (λ (k : ℕ). IfOpen IsHere (end_at es k))) its here) refl tt m)
+    (moves_one (causes.Connection number) from (hall_of_ends d es) (Replaces number) here refl tt m)
 
 pub gone_stays : (es : Ends) (key : ℕ) (by : End → End) → change_end key by (slice_set es key None) ≡ slice_set es key None
 gone_stays [] key by = refl

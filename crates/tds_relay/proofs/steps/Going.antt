@@ -6,6 +6,7 @@ use Rattle.tds_client.specs.declared.message.MessageKind.{MessageKind}
 use Rattle.tds_client.specs.Session.{ClientSession}
 use Rattle.tds_client.specs.Streams.{finished, opened, packets_are, put}
 use Rattle.tds_service.specs.Table.{DoesAt, Opens}
+use Rattle.tds_relay.specs.Reads.{waits_on}
 use Rattle.tds_relay.specs.declared.application.Application.{Application}
 use Rattle.tds_relay.specs.declared.application.Asking.{Asking}
 use Rattle.tds_relay.specs.declared.application.Asking.TheVariants as asking
@@ -13,7 +14,7 @@ use Rattle.tds_relay.specs.declared.desk.Desk as desks
 use Rattle.tds_relay.specs.declared.desk.Hold.{Hold}
 use Rattle.tds_relay.specs.declared.link.Link.{Link}
 use Rattle.tds_relay.specs.Asking.{waits_in, waits_of}
-use Rattle.tds_relay.specs.Bodies.{ArePut, Asks, Begins, Body, ClientPuts, Closed, Closes, Drifts, Going, Goes, Grows, Keeps, Kept, Refuses, Sends, Shuts, Spared, Starts, body_by, body_in, going, going_by, held_of, waits_on}
+use Rattle.tds_relay.specs.Bodies.{ArePut, Asks, Begins, Body, ClientPuts, Closed, Closes, Drifts, Going, Goes, Grows, Keeps, Kept, Refuses, Sends, Shuts, Spared, Starts, body_by, body_in, going, going_by, held_of}
 use Rattle.tds_relay.specs.Desk as desk
 use Rattle.tds_relay.specs.Desk.{Desk, Deed, does, find_key}
 use Rattle.tds_relay.specs.Ties.{Turns}

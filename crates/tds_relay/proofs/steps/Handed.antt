@@ -20,7 +20,8 @@ use Rattle.tds_relay.specs.declared.link.Answer.{Answer}
 use Rattle.tds_relay.specs.declared.link.Link.{Link}
 use Rattle.tds_relay.specs.declared.link.News.{News}
 use Rattle.tds_relay.specs.Cutting.{ends_in}
-use Rattle.tds_relay.specs.Desk.{Desk, Comes, Way, turn, whose}
+use Rattle.tds_relay.specs.Cutting.{awaited}
+use Rattle.tds_relay.specs.Desk.{owes_reset, Desk, Comes, Way, turn, whose}
 use Rattle.tds_relay.specs.Fronts.{IsWhat, end_of, ends_in as ends_of, house_with, told_by}
 use Rattle.tds_relay.specs.Hall as hall
 use Rattle.tds_relay.specs.Hall.{End, Ends, Open, Over, done_by, end_at, told, what_in}
@@ -38,7 +39,7 @@ right_of tells false a h content manner by = subst (λ (m : Manner). IsRight h c
 right_of tells true a h content manner by = subst (λ (m : Manner). IsRight h content m) (sym by.1) (a, by.2)
 
 right_by : (goes : News) (a : Answer) (h : Header) (content : List ℕ) (manner : Manner) → IsBy goes a h content manner → IsRight h content manner
-right_by goes a h content manner by = right_of goes.is_told goes.is_cut a h content manner by
+right_by goes a h content manner by = right_of goes.is_told goes.is_cut (awaited goes.is_owed a) h content manner by
 
 right_for : (said : Bool) (goes : News) (a : Answer) (h : Header) (content : List ℕ) (manner : Manner) → IsFor said goes a h content manner → IsRight h content manner
 right_for false goes a h content manner by = subst (λ (m : Manner). IsRight h content m) (sym by) tt
@@ -49,7 +50,7 @@ on_of tells false a h content manner by = subst (IsHanded true) (sym by) tt
 on_of tells true a h content manner by = subst (IsHanded true) (sym by.1) tt
 
 on_by : (goes : News) (a : Answer) (h : Header) (content : List ℕ) (manner : Manner) → IsBy goes a h content manner → IsHanded true manner
-on_by goes a h content manner by = on_of goes.is_told goes.is_cut a h content manner by
+on_by goes a h content manner by = on_of goes.is_told goes.is_cut (awaited goes.is_owed a) h content manner by
 
 on_for : (said : Bool) (goes : News) (a : Answer) (h : Header) (content : List ℕ) (manner : Manner) → IsFor said goes a h content manner → IsHanded said manner
 on_for false goes a h content manner by = by
@@ -83,7 +84,7 @@ may_hand number walker a r heard old new p =
       has_walker = p.has_walker;
       right = right_for (is_said heard.what (end_whose heard.key old.hall.ends)) p.goes a p.header p.content p.manner p.by;
       handed_on = subst (λ (b : Bool). IsHanded b p.manner) (sym same) (on_for (is_said heard.what (end_whose heard.key old.hall.ends)) p.goes a p.header p.content p.manner p.by);
-      told = subst (λ (b : Bool). IsTold b p.manner part) (sym alike) p.told;
+      told = subst (λ (b : Bool). IsTold (owes_reset number old.hall.desk) b p.manner part) (sym alike) p.told;
     }
 
 -- ---- What waits by it
@@ -188,11 +189,11 @@ has_walker d number key cs is h =
 pub passing : (number : ℕ) (walker : Option Reading) (goes : News) (a : Answer) (r : packets.Reading) (heard : Heard) (d d1 : Desk) (es : Ends) (p p1 : Posts) (h : Header) (content : List ℕ) (ends : Bool) (way : Way) (manner : Manner) (before after : List ℕ)
     → IsPacket r.direction r.size r.taken h content → ends ≡ ends_in h → Turns (Comes number (part_on walker content ends) way) d d1 before after
     → heard.key ≡ whose d number → IsWhat heard.key heard.what (done_by d number (part_on walker content ends)) → ((key : ℕ) → whose d number ≡ Some key → IsSome walker)
-    → IsFor (is_said heard.what (end_whose heard.key es)) goes a h content manner → IsTold (hears_of_reset heard.what (end_whose heard.key es)) manner (part_on walker content ends) → p1 ≡ change_whose (whose d number) (put_some (handed manner h content)) p
+    → IsFor (is_said heard.what (end_whose heard.key es)) goes a h content manner → IsTold (owes_reset number d) (hears_of_reset heard.what (end_whose heard.key es)) manner (part_on walker content ends) → p1 ≡ change_whose (whose d number) (put_some (handed manner h content)) p
     → Brings number walker a r heard (house_with d es p) (house_with d1 (told_by (Some heard) es) p1)
 passing number walker goes a r heard d d1 es p p1 h content ends way manner before behind packet last turned its what there by tells is =
     let turns = subst (λ (b : Bool). Turns (Comes number (part_on walker content b) way) d d1 before behind) last turned in
-    let hears = subst (λ (b : Bool). IsTold (hears_of_reset heard.what (end_whose heard.key es)) manner (part_on walker content b)) last tells in
+    let hears = subst (λ (b : Bool). IsTold (owes_reset number d) (hears_of_reset heard.what (end_whose heard.key es)) manner (part_on walker content b)) last tells in
     let said = subst (λ (b : Bool). IsWhat heard.key heard.what (done_by d number (part_on walker content b))) last what in
     let dones = done_by d number (part_on walker content (ends_in h)) in
     inr (record {

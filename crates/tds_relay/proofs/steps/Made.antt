@@ -142,15 +142,15 @@ released_free s s1 new lease number n way before between after one others =
 -- ---- Turns
 
 pub turns_by : (d : Desk) (event : Event) (s : Service) (held : List Hold) (waiting : List ℕ) (all : List (Call Token)) (before after : List ℕ) → turn d event ≡ moves d held waiting all
-    → Makes all d.service s before after → Turns event d (record { service = s; holds = held; line = waiting }) before after
+    → Makes all d.service s before after → Turns event d (record { mode = d.mode; service = s; holds = held; line = waiting }) before after
 turns_by d event s held waiting all before after is made = record {
-  desk_is = ap (λ (x : Service). let y : Desk = record { service = x; holds = held; line = waiting } in y) made.service_is ∙ ap (λ (t : Turn). t.desk) (sym is);
+  desk_is = ap (λ (x : Service). let y : Desk = record { mode = d.mode; service = x; holds = held; line = waiting } in y) made.service_is ∙ ap (λ (t : Turn). t.desk) (sym is);
   bytes = subst (λ (t : Turn). Appends (sent_along d.service t.calls) before after) (sym is) made.bytes;
 }
 
 pub renewed : (d : Desk) (key : ℕ) (h : Hold) (s1 s2 : Service) (ticket lease number n1 n2 : ℕ) (had : Bool) (held : List Hold) → find_key key d.holds ≡ Some h
     → StepsIn (step {T = Token} d.service (calls.Keep h.lease)) s1 (calls.Ticket ticket) n1 [] [] → StepsIn (step {T = Token} s1 (calls.Resume ticket)) s2 (Lent lease number had) n2 [] []
-    → held ≡ without_lease h.lease d.holds ++ holding h.key lease number ∷ [] → Turns (desk.Renews key true) d (record { service = s2; holds = held; line = d.line }) [] []
+    → held ≡ without_lease h.lease d.holds ++ holding h.key lease number ∷ [] → Turns (desk.Renews key true) d (record { mode = d.mode; service = s2; holds = held; line = d.line }) [] []
 renewed d key h s1 s2 ticket lease number n1 n2 had held found one two is =
     let kept = step {T = Token} d.service (calls.Keep h.lease) in
     let lent : (step {T = Token} kept.service (calls.Resume ticket)).reply ≡ Lent lease number had = subst (λ (x : Service). (step {T = Token} x (calls.Resume ticket)).reply ≡ Lent lease number had) one.service_is two.reply_is in
@@ -160,7 +160,7 @@ renewed d key h s1 s2 ticket lease number n1 n2 had held found one two is =
     ap (λ (o : Option Hold). desk.renews d true o) found
     ∙ (ap (λ (r : Reply). desk.keeps_by d h true kept.service (desk.ticket_in r)) one.reply_is
     ∙ ap (λ (r : Reply). desk.renews_by d h ticket (desk.lent_in r) true) lent) in
-    subst (λ (hs : List Hold). Turns (desk.Renews key true) d (record { service = s2; holds = hs; line = d.line }) [] []) (sym is)
+    subst (λ (hs : List Hold). Turns (desk.Renews key true) d (record { mode = d.mode; service = s2; holds = hs; line = d.line }) [] []) (sym is)
     (turns_by d (desk.Renews key true) s2 more d.line all [] [] goes
     (makes_more (calls.Keep h.lease) (calls.Resume ticket ∷ []) d.service s1 s2 (calls.Ticket ticket) n1 [] [] [] one (makes_one (calls.Resume ticket) s1 s2 (Lent lease number had) n2 [] [] two)))
 
@@ -172,7 +172,7 @@ hearing_answers a (x ∷ xs) e = let same : x.answer ≡ a = cc in ap desk.heari
 
 pub came_settled : (d new : Desk) (n : ℕ) (part : Part Token) (way : Way) (s1 : Service) (lease : Option ℕ) (a : Answer) (out after : List ℕ)
     → StepsIn (step d.service (calls.Came n part)) s1 calls.Did n [] [] → Answers (calls.Came n part) d.service a → desk.hearing_of a ≡ desk.Settled
-    → lease_at (seat_numbered n d.service.seats) ≡ lease → Settles (desk.settles d.holds s1 n way lease) (record { service = s1; holds = d.holds; line = d.line }) new out after
+    → lease_at (seat_numbered n d.service.seats) ≡ lease → Settles (desk.settles d.holds s1 n way lease) (record { mode = d.mode; service = s1; holds = d.holds; line = d.line }) new out after
     → Turns (desk.Comes n part way) d new out after
 came_settled d new n part way s1 lease a out after one answers is holder settled =
     let heard = step {T = Token} d.service (calls.Came n part) in
@@ -190,7 +190,7 @@ came_settled d new n part way s1 lease a out after one answers is holder settled
 -- it has a fault, and the connection is lost
 pub came_wrong : (d new : Desk) (n : ℕ) (part : Part Token) (way : Way) (s1 : Service) (a : Answer) (out : List ℕ)
     → StepsIn (step d.service (calls.Came n part)) s1 calls.Did n [] [] → Answers (calls.Came n part) d.service a → desk.hearing_of a ≡ desk.Wrong
-    → Turns (desk.Loses n) (record { service = s1; holds = d.holds; line = d.line }) new [] [] → Turns (desk.Comes n part way) d new out out
+    → Turns (desk.Loses n) (record { mode = d.mode; service = s1; holds = d.holds; line = d.line }) new [] [] → Turns (desk.Comes n part way) d new out out
 came_wrong d new n part way s1 a out one answers is lost =
     let heard = step {T = Token} d.service (calls.Came n part) in
     let call : Call Token = calls.Came n part in
@@ -245,9 +245,9 @@ pub unread : (s : services.Service) (n : ℕ) (bytes : List ℕ) (ends : Bool) (
 unread s n bytes ends refusal refused never = unread_by s.seats.items (service_in s) n bytes ends refusal refl (read_there (has_number n) s.seats.items) refused never
 
 pub settles_by : (d : Desk) (s : Service) (made all : List (Call Token)) (before after : List ℕ) → all ≡ made → Makes made d.service s before after
-    → Settles all d (record { service = s; holds = d.holds; line = d.line }) before after
+    → Settles all d (record { mode = d.mode; service = s; holds = d.holds; line = d.line }) before after
 settles_by d s made all before after is h = record {
-  desk_is = ap (λ (x : Service). let y : Desk = record { service = x; holds = d.holds; line = d.line } in y) (h.service_is ∙ ap (service_after d.service) (sym is));
+  desk_is = ap (λ (x : Service). let y : Desk = record { mode = d.mode; service = x; holds = d.holds; line = d.line } in y) (h.service_is ∙ ap (service_after d.service) (sym is));
   bytes = subst (λ (cs : List (Call Token)). Appends (sent_along d.service cs) before after) (sym is) h.bytes;
 }
 

@@ -32,64 +32,70 @@ use Rattle.tds_relay.specs.Desk.{Desk, Hearing, Way, find_lease, hearing_of, key
 use Rattle.tds_relay.specs.Hall.{done_by, what_in, what_of}
 use Rattle.tds_relay.specs.Fronts.{IsWhat}
 use Rattle.tds_relay.specs.Ties.{Turns}
-use Rattle.tds_relay.specs.Handing.{IsBy, news_for}
-use Rattle.tds_relay.specs.House.{IsTold, Manner, Whole, Without, closes, counted, news_in}
+use Rattle.tds_relay.specs.Cutting.{awaited}
+use Rattle.tds_relay.specs.Handing.{IsBy, IsOf, news_for}
+use Rattle.tds_relay.specs.House.{IsTold, Manner, Whole, Without, closes, news_in, news_of, owed_behind}
 use Rattle.tds_relay.specs.Promises.{one_if}
 
 -- ---- Of signs
 
+abbrev is_owed : Heard → Bool
+is_owed heard = is_some heard.mark
+
 abbrev Owed : Heard → ℕ
-Owed heard = one_if (is_some heard.mark)
+Owed heard = one_if (is_owed heard)
 
--- A sign that is no fault: what is owed behind it, and how often it's told by it, is what was owed.
-abbrev Adds : Heard → Sign → Result Heard ClientFault → Type 0
-Adds heard sign (Ok next) = counted sign (Owed next) ≡ Owed heard
-Adds heard sign (Err fault) = Unit {0}
+-- Behind a sign that is no fault a reset is owed still, or isn't.
+abbrev Leaves : Heard → Sign → Result Heard ClientFault → Type 0
+Leaves heard sign (Ok next) = is_owed next ≡ owed_behind (is_owed heard) sign
+Leaves heard sign (Err fault) = Unit {0}
 
-changed_adds : (heard : Heard) (change : EnvChange) (sign : Sign) (o : Option ℕ) → counted sign (one_if (is_some (mark_after change heard.mark))) ≡ Owed heard → Adds heard sign (changed heard change o)
-changed_adds heard change sign None e = tt
-changed_adds heard change sign (Some descriptor) e = e
-
-reset_adds : (heard : Heard) (mark : Option Reset) → heard.mark ≡ mark → Adds heard (signs.Change changes.ResetDone) (changed heard changes.ResetDone (change_placed mark heard.descriptor changes.ResetDone))
-reset_adds heard None e = tt
-reset_adds heard (Some resets.Full) e = sym (ap (λ (m : Option Reset). one_if (is_some m)) e)
-reset_adds heard (Some resets.KeepTransaction) e = sym (ap (λ (m : Option Reset). one_if (is_some m)) e)
+changed_leaves : (heard : Heard) (change : EnvChange) (sign : Sign) (o : Option ℕ) → is_some (mark_after change heard.mark) ≡ owed_behind (is_owed heard) sign → Leaves heard sign (changed heard change o)
+changed_leaves heard change sign None e = tt
+changed_leaves heard change sign (Some descriptor) e = e
 
 done_if : (heard : Heard) (kind : DoneKind) (status : ℕ) (acknowledges cancelling : Bool)
-    → Adds heard (signs.Done kind status) (if acknowledges then (if cancelling then Ok (with_done heard finals.Acknowledged) else Err Rattle.tds_client.specs.declared.fault.ClientFault.TheVariants.UnaskedAcknowledgement) else Ok (with_done heard (done_behind heard.done status)))
+    → Leaves heard (signs.Done kind status) (if acknowledges then (if cancelling then Ok (with_done heard finals.Acknowledged) else Err Rattle.tds_client.specs.declared.fault.ClientFault.TheVariants.UnaskedAcknowledgement) else Ok (with_done heard (done_behind heard.done status)))
 done_if heard kind status true true = refl
 done_if heard kind status true false = tt
 done_if heard kind status false cancelling = refl
 
-sign_adds : (cancelling : Bool) (heard : Heard) (sign : Sign) → Adds heard sign (hear_sign Any cancelling heard sign)
+sign_leaves : (cancelling : Bool) (heard : Heard) (sign : Sign) → Leaves heard sign (hear_sign Any cancelling heard sign)
 unfolding place_change place_done
-sign_adds cancelling heard signs.Nothing = refl
-sign_adds cancelling heard (signs.Change (changes.Begin d)) = changed_adds heard (changes.Begin d) (signs.Change (changes.Begin d)) (change_placed heard.mark heard.descriptor (changes.Begin d)) refl
-sign_adds cancelling heard (signs.Change (changes.Commit d)) = changed_adds heard (changes.Commit d) (signs.Change (changes.Commit d)) (change_placed heard.mark heard.descriptor (changes.Commit d)) refl
-sign_adds cancelling heard (signs.Change (changes.Rollback d)) = changed_adds heard (changes.Rollback d) (signs.Change (changes.Rollback d)) (change_placed heard.mark heard.descriptor (changes.Rollback d)) refl
-sign_adds cancelling heard (signs.Change changes.ResetDone) = reset_adds heard heard.mark refl
-sign_adds cancelling heard (signs.Done kind status) = done_if heard kind status (acknowledges_by kind status) cancelling
+sign_leaves cancelling heard signs.Nothing = refl
+sign_leaves cancelling heard (signs.Change (changes.Begin d)) = changed_leaves heard (changes.Begin d) (signs.Change (changes.Begin d)) (change_placed heard.mark heard.descriptor (changes.Begin d)) refl
+sign_leaves cancelling heard (signs.Change (changes.Commit d)) = changed_leaves heard (changes.Commit d) (signs.Change (changes.Commit d)) (change_placed heard.mark heard.descriptor (changes.Commit d)) refl
+sign_leaves cancelling heard (signs.Change (changes.Rollback d)) = changed_leaves heard (changes.Rollback d) (signs.Change (changes.Rollback d)) (change_placed heard.mark heard.descriptor (changes.Rollback d)) refl
+sign_leaves cancelling heard (signs.Change changes.ResetDone) = changed_leaves heard changes.ResetDone (signs.Change changes.ResetDone) (change_placed heard.mark heard.descriptor changes.ResetDone) refl
+sign_leaves cancelling heard (signs.Done kind status) = done_if heard kind status (acknowledges_by kind status) cancelling
+
+-- how often it is told by one, and what is owed behind it, is what was owed
+one_adds : (owed : Bool) (sign : Sign) → news_of owed sign + one_if (owed_behind owed sign) ≡ one_if owed
+one_adds owed signs.Nothing = let e : 0 + one_if owed ≡ one_if owed = omega arith in e
+one_adds owed (signs.Change (changes.Begin d)) = let e : 0 + one_if owed ≡ one_if owed = omega arith in e
+one_adds owed (signs.Change (changes.Commit d)) = let e : 0 + one_if owed ≡ one_if owed = omega arith in e
+one_adds owed (signs.Change (changes.Rollback d)) = let e : 0 + one_if owed ≡ one_if owed = omega arith in e
+one_adds owed (signs.Change changes.ResetDone) = let e : one_if owed + 0 ≡ one_if owed = omega arith in e
+one_adds owed (signs.Done kind status) = let e : 0 + one_if owed ≡ one_if owed = omega arith in e
 
 -- ---- Of a packet's
 
 abbrev AddsAll : Heard → List (Item Token) → Result Heard ClientFault → Type 0
-AddsAll heard items (Ok next) = news_in items + Owed next ≡ Owed heard
+AddsAll heard items (Ok next) = news_in (is_owed heard) items + Owed next ≡ Owed heard
 AddsAll heard items (Err fault) = Unit {0}
 
-counted_more : (sign : Sign) (more owed : ℕ) → counted sign more + owed ≡ counted sign (more + owed)
-counted_more signs.Nothing more owed = refl
-counted_more (signs.Change (changes.Begin d)) more owed = refl
-counted_more (signs.Change (changes.Commit d)) more owed = refl
-counted_more (signs.Change (changes.Rollback d)) more owed = refl
-counted_more (signs.Change changes.ResetDone) more owed = let e : suc more + owed ≡ suc (more + owed) = omega arith in e
-counted_more (signs.Done kind status) more owed = refl
-
-items_by : (heard : Heard) (item : Item Token) (items : List (Item Token)) (next : Heard) (all : Result Heard ClientFault) → counted item.sign (Owed next) ≡ Owed heard → AddsAll next items all
+items_by : (heard : Heard) (item : Item Token) (items : List (Item Token)) (next : Heard) (all : Result Heard ClientFault) → is_owed next ≡ owed_behind (is_owed heard) item.sign → AddsAll next items all
     → AddsAll heard (item ∷ items) all
-items_by heard item items next (Ok last) one later = counted_more item.sign (news_in items) (Owed last) ∙ ap (λ (n : ℕ). counted item.sign n) later ∙ one
-items_by heard item items next (Err fault) one later = tt
+items_by heard item items next (Ok last) leaves later =
+    let n = news_of (is_owed heard) item.sign in
+    let rest = news_in (owed_behind (is_owed heard) item.sign) items in
+    let more : rest + Owed last ≡ one_if (owed_behind (is_owed heard) item.sign) = subst (λ (b : Bool). news_in b items + Owed last ≡ one_if b) leaves later in
+    let one = one_adds (is_owed heard) item.sign in
+    let all : (n + rest) + Owed last ≡ Owed heard = omega (arith, more, one) in
+    all
+items_by heard item items next (Err fault) leaves later = tt
 
-items_then : (heard : Heard) (item : Item Token) (items : List (Item Token)) (one : Result Heard ClientFault) (all : Heard → Result Heard ClientFault) → Adds heard item.sign one
+items_then : (heard : Heard) (item : Item Token) (items : List (Item Token)) (one : Result Heard ClientFault) (all : Heard → Result Heard ClientFault) → Leaves heard item.sign one
     → ((next : Heard) → AddsAll next items (all next)) → AddsAll heard (item ∷ items) (one >>= all)
 items_then heard item items (Err fault) all one later = tt
 items_then heard item items (Ok next) all one later = items_by heard item items next (all next) one (later next)
@@ -97,7 +103,7 @@ items_then heard item items (Ok next) all one later = items_by heard item items 
 items_add : (cancelling : Bool) (heard : Heard) (items : List (Item Token)) → AddsAll heard items (hear_items cancelling heard items)
 items_add cancelling heard [] = let e : 0 + Owed heard ≡ Owed heard = omega arith in e
 items_add cancelling heard (item ∷ items) =
-    items_then heard item items (hear_sign Any cancelling heard item.sign) (λ next. hear_items cancelling next items) (sign_adds cancelling heard item.sign) (λ next. items_add cancelling next items)
+    items_then heard item items (hear_sign Any cancelling heard item.sign) (λ next. hear_items cancelling next items) (sign_leaves cancelling heard item.sign) (λ next. items_add cancelling next items)
 
 -- its end leaves that as it is
 abbrev Same : Heard → Result Heard ListenFault → Type 0
@@ -121,11 +127,11 @@ close_same true parts.Cut heard = by_same true (may_end Any true heard.done) hea
 close_same cancelling (parts.Fails refusal) heard = tt
 
 abbrev AddsIn : Heard → List (Item Token) → Result Heard ListenFault → Type 0
-AddsIn heard items (Ok next) = news_in items + Owed next ≡ Owed heard
+AddsIn heard items (Ok next) = news_in (is_owed heard) items + Owed next ≡ Owed heard
 AddsIn heard items (Err fault) = Unit {0}
 
-closed_adds : (heard : Heard) (items : List (Item Token)) (next : Heard) (last : Result Heard ListenFault) → news_in items + Owed next ≡ Owed heard → Same next last → AddsIn heard items last
-closed_adds heard items next (Ok end) e same = subst (λ (h : Heard). news_in items + Owed h ≡ Owed heard) (sym same) e
+closed_adds : (heard : Heard) (items : List (Item Token)) (next : Heard) (last : Result Heard ListenFault) → news_in (is_owed heard) items + Owed next ≡ Owed heard → Same next last → AddsIn heard items last
+closed_adds heard items next (Ok end) e same = subst (λ (h : Heard). news_in (is_owed heard) items + Owed h ≡ Owed heard) (sym same) e
 closed_adds heard items next (Err fault) e same = tt
 
 heard_adds : (heard : Heard) (items : List (Item Token)) (all : Result Heard ClientFault) (close : Heard → Result Heard ListenFault) → AddsAll heard items all → ((next : Heard) → Same next (close next))
@@ -141,14 +147,14 @@ part_adds cancelling heard part =
 
 -- where the connection isn't to be closed
 abbrev Counts : Line → Part Token → line.Turn Token → Type 0
-Counts l part t = closes (what_of t.answer) ≡ false → news_in part.items + Owed t.line.heard ≡ Owed l.heard
+Counts l part t = closes (what_of t.answer) ≡ false → news_in (is_owed l.heard) part.items + Owed t.line.heard ≡ Owed l.heard
 
 reads_count : (l : Line) (part : Part Token) (ends : Bool) (until : Heard) (all : Result Heard ListenFault) → AddsIn l.heard part.items all → Counts l part (line.reads l part ends until all)
 reads_count l part ends until (Err fault) adds right = absurd (let u : ⊥ = cc in u)
 reads_count l part false until (Ok heard) adds right = adds
 reads_count l part true until (Ok heard) adds right = adds
 
-skips_end_count : (l : Line) (part : Part Token) (heard : Heard) (done : FinalDone) → news_in part.items + Owed heard ≡ Owed l.heard → Counts l part (line.skips_to_end l heard done)
+skips_end_count : (l : Line) (part : Part Token) (heard : Heard) (done : FinalDone) → news_in (is_owed l.heard) part.items + Owed heard ≡ Owed l.heard → Counts l part (line.skips_to_end l heard done)
 skips_end_count l part heard finals.Awaited adds right = adds
 skips_end_count l part heard finals.Answered adds right = adds
 skips_end_count l part heard finals.Acknowledged adds right = adds
@@ -190,7 +196,7 @@ abbrev Behind : Desk → ℕ → Part Token → Service
 Behind d number part = (step d.service (calls.Came number part)).service
 
 came_counts : (s : Service) (number : ℕ) (part : Part Token) (c : Seat) → seat_numbered number s.seats ≡ Some c → closes (what_in (step s (calls.Came number part)).dones) ≡ false
-    → news_in part.items + Owes (seat_numbered number (step s (calls.Came number part)).service.seats) ≡ Owes (seat_numbered number s.seats)
+    → news_in (owes_of (seat_numbered number s.seats)) part.items + Owes (seat_numbered number (step s (calls.Came number part)).service.seats) ≡ Owes (seat_numbered number s.seats)
 came_counts s number part c there right =
     let l = c.line in
     let t = turn l (line.Come part) in
@@ -199,7 +205,8 @@ came_counts s number part c there right =
     let one : closes (what_of t.answer) ≡ false = subst (λ (x : calls.Step Token). closes (what_in x.dones) ≡ false) did right in
     let now : seat_numbered number (step s (calls.Came number part)).service.seats ≡ Some (record { number = c.number; place = place; line = t.line }) =
     ap (λ (x : calls.Step Token). seat_numbered number x.service.seats) did ∙ changed_first number place t.line s.seats c there in
-    ap (λ (o : Option Seat). news_in part.items + Owes o) now ∙ comes_count l part l.stage one ∙ sym (ap Owes there)
+    ap (λ (o : Option Seat). news_in (owes_of (seat_numbered number s.seats)) part.items + Owes o) now
+    ∙ ap (λ (b : Bool). news_in b part.items + Owed t.line.heard) (ap owes_of there) ∙ comes_count l part l.stage one ∙ sym (ap Owes there)
 
 -- ---- Of a desk
 
@@ -251,7 +258,7 @@ seat_of d number key None e h =
 
 -- So often a packet tells it that somebody hears: as often as it was owed, and isn't behind it.
 pub news_counted : (d : Desk) (number key : ℕ) (part : Part Token) (way : Way) → whose d number ≡ Some key → closes (what_in (done_by d number part)) ≡ false
-    → news_in part.items + one_if (owes_reset number (desk.turn d (desk.Comes number part way)).desk) ≡ one_if (owes_reset number d)
+    → news_in (owes_reset number d) part.items + one_if (owes_reset number (desk.turn d (desk.Comes number part way)).desk) ≡ one_if (owes_reset number d)
 news_counted d number key part way its right =
     let c = seat_of d number key (seat_numbered number d.service.seats) refl its in
     let did = ap (λ (o : Option Seat). calls.hears d.service (has_number number) part o) c.1 in
@@ -260,7 +267,7 @@ news_counted d number key part way its right =
     let no : desk.hearing heard.dones ≡ desk.Wrong → ⊥ = λ wrong. right_of c.0.line part c.0.line.stage one (sym (ap (λ (x : calls.Step Token). desk.hearing x.dones) did) ∙ wrong) in
     let same : (desk.turn d (desk.Comes number part way)).desk.service ≡ Behind d number part =
     service_by d number key part way (lease_at (seat_numbered number d.service.seats)) (desk.hearing heard.dones) its no in
-    ap (λ (s : Service). news_in part.items + Owes (seat_numbered number s.seats)) same ∙ came_counts d.service number part c.0 c.1 right
+    ap (λ (s : Service). news_in (owes_reset number d) part.items + Owes (seat_numbered number s.seats)) same ∙ came_counts d.service number part c.0 c.1 right
 
 -- ---- How it is told
 
@@ -271,22 +278,30 @@ in_packet count true false e = let n : count ≡ 1 = omega (arith, e) in n
 in_packet count false true e = let n : count ≡ 0 = omega (arith, e) in n
 in_packet count false false e = let n : count ≡ 0 = omega (arith, e) in n
 
-whole_told : (tells is_in asks : Bool) (manner : Manner) (part : Part Token) → manner ≡ Whole tells → news_in part.items ≡ one_if is_in → one_if tells + one_if is_in ≡ one_if asks → IsTold asks manner part
-whole_told tells is_in asks manner part is count e = subst (λ (m : Manner). IsTold asks m part) (sym is) (ap (λ (n : ℕ). one_if tells + n) count ∙ e)
+whole_told : (owes tells is_in asks : Bool) (manner : Manner) (part : Part Token) → manner ≡ Whole tells → news_in owes part.items ≡ one_if is_in → one_if tells + one_if is_in ≡ one_if asks → IsTold owes asks manner part
+whole_told owes tells is_in asks manner part is count e = subst (λ (m : Manner). IsTold owes asks m part) (sym is) (ap (λ (n : ℕ). one_if tells + n) count ∙ e)
 
-cut_told : (tells asks : Bool) (manner : Manner) (part : Part Token) (bytes : List ℕ) → manner ≡ Without tells bytes → one_if tells ≡ one_if asks → IsTold asks manner part
-cut_told tells asks manner part bytes is e = subst (λ (m : Manner). IsTold asks m part) (sym is) e
+cut_told : (owes tells asks : Bool) (manner : Manner) (part : Part Token) (bytes : List ℕ) → manner ≡ Without tells bytes → one_if tells ≡ one_if asks → IsTold owes asks manner part
+cut_told owes tells asks manner part bytes is e = subst (λ (m : Manner). IsTold owes asks m part) (sym is) e
 
-pub told_for : (asks is_in owed : Bool) (a : Answer) (h : Header) (content : List ℕ) (manner : Manner) (part : Part Token) → news_in part.items ≡ one_if is_in → (owed ≡ false → is_in ≡ false)
-    → IsBy (news_for asks is_in owed) a h content manner → IsTold asks manner part
-told_for true true true a h content manner part count was by = whole_told false true true manner part by count refl
-told_for true true false a h content manner part count was by = whole_told false true true manner part by count refl
-told_for true false true a h content manner part count was by = cut_told true true manner part by.0 by.1 refl
-told_for true false false a h content manner part count was by = whole_told true false true manner part by count refl
-told_for false true true a h content manner part count was by = cut_told false false manner part by.0 by.1 refl
-told_for false true false a h content manner part count was by = absurd (let e = was refl in let u : ⊥ = cc in u)
-told_for false false true a h content manner part count was by = cut_told false false manner part by.0 by.1 refl
-told_for false false false a h content manner part count was by = whole_told false false false manner part by count refl
+told_one : (owes asks is_in owed : Bool) (a : Answer) (h : Header) (content : List ℕ) (manner : Manner) (part : Part Token) → news_in owes part.items ≡ one_if is_in → (owed ≡ false → is_in ≡ false)
+    → IsOf (asks && not is_in) (owed && not (asks && is_in)) a h content manner → IsTold owes asks manner part
+told_one owes true true true a h content manner part count was by = whole_told owes false true true manner part by count refl
+told_one owes true true false a h content manner part count was by = whole_told owes false true true manner part by count refl
+told_one owes true false true a h content manner part count was by = cut_told owes true true manner part by.0 by.1 refl
+told_one owes true false false a h content manner part count was by = whole_told owes true false true manner part by count refl
+told_one owes false true true a h content manner part count was by = cut_told owes false false manner part by.0 by.1 refl
+told_one owes false true false a h content manner part count was by = absurd (let e = was refl in let u : ⊥ = cc in u)
+told_one owes false false true a h content manner part count was by = cut_told owes false false manner part by.0 by.1 refl
+told_one owes false false false a h content manner part count was by = whole_told owes false false false manner part by count refl
+
+told_by : (owes asks is_in owed held : Bool) (a : Answer) (h : Header) (content : List ℕ) (manner : Manner) (part : Part Token) → news_in owes part.items ≡ one_if is_in → ((owed || held) ≡ false → is_in ≡ false)
+    → IsOf (asks && not is_in) ((owed || held) && not (asks && is_in)) a h content manner → IsTold owes asks manner part
+told_by owes asks is_in owed held a h content manner part count was by = told_one owes asks is_in (owed || held) a h content manner part count was by
+
+pub told_for : (owes asks is_in owed held : Bool) (a : Answer) (h : Header) (content : List ℕ) (manner : Manner) (part : Part Token) → news_in owes part.items ≡ one_if is_in → ((owed || held) ≡ false → is_in ≡ false)
+    → IsBy (news_for asks is_in owed held) a h content manner → IsTold owes asks manner part
+told_for owes asks is_in owed held a h content manner part count was by = told_by owes asks is_in owed held (awaited owed a) h content manner part count was by
 
 -- what isn't owed isn't in it
 pub unowed : (owed owes holds : Bool) → (owed || holds) ≡ false → (owed && not owes) ≡ false
@@ -296,11 +311,11 @@ unowed false owes holds e = refl
 -- As it is heard: how often a packet has the news, by what its connection owed before it and owes behind it.
 pub heard_so : (d : Desk) (number key : ℕ) (part : Part Token) (heard : code.Heard) (way : Way) (d1 : Desk) (before behind : List ℕ) → Turns (desk.Comes number part way) d d1 before behind
     → whose d number ≡ Some key → heard.key ≡ Some key → IsWhat heard.key heard.what (done_by d number part) → closes heard.what ≡ false
-    → (owed owes : Bool) → owed ≡ owes_reset number d → owes ≡ owes_reset number d1 → news_in part.items ≡ one_if (owed && not owes)
+    → (owed owes : Bool) → owed ≡ owes_reset number d → owes ≡ owes_reset number d1 → news_in (owes_reset number d) part.items ≡ one_if (owed && not owes)
 heard_so d number key part heard way d1 before behind turned mine its what right owed owes was is =
     let same : heard.what ≡ what_in (done_by d number part) = subst (λ (o : Option ℕ). IsWhat o heard.what (done_by d number part)) its what in
     let one : closes (what_in (done_by d number part)) ≡ false = ap closes (sym same) ∙ right in
     let count = news_counted d number key part way mine one in
-    let now : news_in part.items + one_if owes ≡ one_if owed =
-    ap (λ (b : Bool). news_in part.items + one_if b) (is ∙ ap (λ (x : Desk). owes_reset number x) turned.desk_is) ∙ count ∙ ap one_if (sym was) in
-    in_packet (news_in part.items) owed owes now
+    let now : news_in (owes_reset number d) part.items + one_if owes ≡ one_if owed =
+    ap (λ (b : Bool). news_in (owes_reset number d) part.items + one_if b) (is ∙ ap (λ (x : Desk). owes_reset number x) turned.desk_is) ∙ count ∙ ap one_if (sym was) in
+    in_packet (news_in (owes_reset number d) part.items) owed owes now

@@ -1,10 +1,10 @@
 -- Connections by their numbers.
-use Rattle.std.proofs.Common.{◌+◌, ◌<◌, arith, length, ◌≡◌, ◌≢◌, ◌∙◌, ◌==◌, ℕ, zero, suc, not, Bool, true, false, List, [], ◌∷◌, ◌++◌, Option, Some, None, refl, sym, ap, subst, slice_index_or, slice_set, option_map, if◌then◌else◌}
+use Rattle.std.proofs.Common.{◌+◌, ◌<◌, arith, length, ◌≡◌, ◌≢◌, ◌∙◌, ◌==◌, ℕ, zero, suc, not, Bool, true, false, List, [], ◌∷◌, ◌++◌, Option, Some, None, refl, sym, ap, subst, slice_index_or, slice_set, option_map, if◌then◌else◌, append_assoc, append-nil}
 use Rattle.std.specs.Prelude.{Result, Ok, Err, IfSome, OnOk}
 use Rattle.std.proofs.lemmas.Bool.{eqb-false, eqb-true}
 use Rattle.tds_packet.specs.Reading.{Reading}
 use Rattle.tds_relay.specs.declared.link.Link.{Link}
-use Rattle.tds_relay.specs.Reads.{Opens, OpensFirst, OpensOne, OpensOthers, Seen, StaysAt, Stays, link_at, open_at, open_of, opened_at, place_from, place_of, reader_at, reader_of, seen_at, seen_of, without_link}
+use Rattle.tds_relay.specs.Reads.{FillsAt, Opens, OpensFirst, OpensOne, OpensOthers, Seen, Sees, StaysAt, Stays, bytes_on, if_open, link_at, open_at, open_of, open_waits, opened_at, place_from, place_of, reader_at, reader_of, seen_at, seen_of, waits_on, without_link}
 
 pub at_refl : {A : Type 0} (o : Option A) → StaysAt o o
 at_refl None = tt
@@ -14,11 +14,24 @@ at_both : {A : Type 0} (o p q : Option A) → StaysAt o p → StaysAt p q → St
 at_both o p None h k = tt
 at_both {A} o p (Some r) h k = subst (λ (x : Option A). StaysAt o x) k h
 
+pub fills_refl : (o : Option (List ℕ)) → FillsAt o o
+fills_refl None = tt
+fills_refl (Some waits) = ([], sym (append-nil waits))
+
+pub fills_both : (o p q : Option (List ℕ)) → FillsAt o p → FillsAt p q → FillsAt o q
+fills_both o p None h k = tt
+fills_both o None (Some c) h k = absurd k
+fills_both None (Some b) (Some c) h k = absurd h
+fills_both (Some a) (Some b) (Some c) h k = (h.0 ++ k.0, k.1 ∙ ap (λ (xs : List ℕ). xs ++ k.0) h.1 ∙ append_assoc a h.0 k.0)
+
 pub stays_refl : (ls : List Link) → Stays ls ls
-stays_refl ls number had h = h
+stays_refl ls = record { seen = λ number had h. h; fills = λ number. fills_refl (waits_on number ls) }
 
 pub stays_both : (ls ms ns : List Link) → Stays ls ms → Stays ms ns → Stays ls ns
-stays_both ls ms ns h k number had s = k number had (h number had s)
+stays_both ls ms ns h k = record {
+  seen = λ number had s. k.seen number had (h.seen number had s);
+  fills = λ number. fills_both (waits_on number ls) (waits_on number ms) (waits_on number ns) (h.fills number) (k.fills number);
+}
 
 pub stays_then : (ls ms ns : List Link) → Stays ls ms → ns ≡ ms → Stays ls ns
 stays_then ls ms ns h e = subst (λ (xs : List Link). Stays ls xs) (sym e) h
@@ -73,8 +86,31 @@ same_readers (x ∷ xs) (suc i) d m number reader n =
     either_reader (x.number == n) x x (link_at n (slice_set xs i m)) (link_at n xs) refl (same_readers xs i d m number reader n)
 
 -- a link is written back that has the same of a packet
-pub stays_written : (ls : List Link) (i : ℕ) (d m : Link) → m.number ≡ (slice_index_or ls i d).number → seen_of m ≡ seen_of (slice_index_or ls i d) → Stays ls (slice_set ls i m)
-stays_written ls i d m number reader n had h = subst (λ (o : Option Seen). StaysAt had o) (sym (same_readers ls i d m number reader n)) h
+pub sees_written : (ls : List Link) (i : ℕ) (d m : Link) → m.number ≡ (slice_index_or ls i d).number → seen_of m ≡ seen_of (slice_index_or ls i d) → Sees ls (slice_set ls i m)
+sees_written ls i d m number reader n had h = subst (λ (o : Option Seen). StaysAt had o) (sym (same_readers ls i d m number reader n)) h
+
+either_fills : (b : Bool) (l m : Link) (o p : Option Link) → FillsAt (Some (bytes_on l)) (Some (bytes_on m)) → FillsAt (option_map bytes_on o) (option_map bytes_on p)
+    → FillsAt (option_map bytes_on (if b then Some l else o)) (option_map bytes_on (if b then Some m else p))
+either_fills true l m o p fills rest = fills
+either_fills false l m o p fills rest = rest
+
+fills_written : (ls : List Link) (i : ℕ) (d m : Link) → m.number ≡ (slice_index_or ls i d).number → FillsAt (Some (bytes_on (slice_index_or ls i d))) (Some (bytes_on m))
+    → (n : ℕ) → FillsAt (waits_on n ls) (waits_on n (slice_set ls i m))
+fills_written [] i d m number fills n = tt
+fills_written (x ∷ xs) zero d m number fills n =
+    subst (λ (k : ℕ). FillsAt (waits_on n (x ∷ xs)) (option_map bytes_on (if k == n then Some m else link_at n xs))) (sym number)
+    (either_fills (x.number == n) x m (link_at n xs) (link_at n xs) fills (fills_refl (waits_on n xs)))
+fills_written (x ∷ xs) (suc i) d m number fills n =
+    either_fills (x.number == n) x x (link_at n xs) (link_at n (slice_set xs i m)) (fills_refl (Some (bytes_on x))) (fills_written xs i d m number fills n)
+
+-- and what waited there, with more behind it or not
+pub stays_written : (ls : List Link) (i : ℕ) (d m : Link) → m.number ≡ (slice_index_or ls i d).number → seen_of m ≡ seen_of (slice_index_or ls i d)
+    → FillsAt (Some (bytes_on (slice_index_or ls i d))) (Some (bytes_on m)) → Stays ls (slice_set ls i m)
+stays_written ls i d m number reader fills = record { seen = sees_written ls i d m number reader; fills = fills_written ls i d m number fills }
+
+-- it has just what waited
+pub fills_same : (old new : List ℕ) → new ≡ old → FillsAt (Some old) (Some new)
+fills_same old new same = ([], same ∙ sym (append-nil old))
 
 -- ---- One is taken out
 
@@ -108,8 +144,26 @@ without_at number (x ∷ xs) n =
     (stays_choose (x.number == number) (x.number == n) x (link_at n xs) (link_at n (without_link number xs)) (without_at number xs n)
     (λ e f. subst (λ (k : ℕ). seen_at k (without_link number xs) ≡ None) (sym (its_own n number x.number e f)) (not_seen number xs)))
 
+fills_choose : (b c : Bool) (x : Link) (o p : Option Link) → FillsAt (option_map bytes_on o) (option_map bytes_on p) → (b ≡ true → c ≡ true → option_map seen_of p ≡ None)
+    → FillsAt (option_map bytes_on (if c then Some x else o)) (option_map bytes_on (if not b then (if c then Some x else p) else p))
+fills_choose true true x o None rest gone = tt
+fills_choose true true x o (Some l) rest gone = let none : option_map seen_of (Some l) ≡ None = gone refl refl in absurd (let u : ⊥ = cc in u)
+fills_choose true false x o p rest gone = rest
+fills_choose false true x o p rest gone = fills_refl (Some (bytes_on x))
+fills_choose false false x o p rest gone = rest
+
+without_fills : (number : ℕ) (ls : List Link) (n : ℕ) → FillsAt (waits_on n ls) (waits_on n (without_link number ls))
+without_fills number [] n = tt
+without_fills number (x ∷ xs) n =
+    subst (λ (o : Option Link). FillsAt (waits_on n (x ∷ xs)) (option_map bytes_on o)) (sym (link_choose (not (x.number == number)) n x (without_link number xs)))
+    (fills_choose (x.number == number) (x.number == n) x (link_at n xs) (link_at n (without_link number xs)) (without_fills number xs n)
+    (λ e f. subst (λ (k : ℕ). seen_at k (without_link number xs) ≡ None) (sym (its_own n number x.number e f)) (not_seen number xs)))
+
 pub stays_without : (number : ℕ) (ls : List Link) → Stays ls (without_link number ls)
-stays_without number ls n had h = at_both had (seen_at n ls) (seen_at n (without_link number ls)) h (without_at number ls n)
+stays_without number ls = record {
+  seen = λ n had h. at_both had (seen_at n ls) (seen_at n (without_link number ls)) h (without_at number ls n);
+  fills = without_fills number ls;
+}
 
 unread : (o : Option Link) → option_map seen_of o ≡ None → option_map reader_of o ≡ None
 unread None e = refl
@@ -129,18 +183,49 @@ taken_out number ls = unread (link_at number (without_link number ls)) (not_seen
 -- ---- One is to be opened
 
 pub opens_refl : (ls : List Link) → Opens ls ls
-opens_refl ls number = at_refl (open_at number ls)
+opens_refl ls = record { opens = λ number. at_refl (open_at number ls); fills = λ number. fills_refl (open_waits number ls) }
 
 pub opens_both : (ls ms ns : List Link) → Opens ls ms → Opens ms ns → Opens ls ns
-opens_both ls ms ns h k number = at_both (open_at number ls) (open_at number ms) (open_at number ns) (h number) (k number)
+opens_both ls ms ns h k = record {
+  opens = λ number. at_both (open_at number ls) (open_at number ms) (open_at number ns) (h.opens number) (k.opens number);
+  fills = λ number. fills_both (open_waits number ls) (open_waits number ms) (open_waits number ns) (h.fills number) (k.fills number);
+}
+
+-- of what stays open
+open_fills : (o p : Option Reading) (w v : Option (List ℕ)) → StaysAt o p → FillsAt w v → FillsAt (if_open o w) (if_open p v)
+open_fills o None w v stays fills = tt
+open_fills o (Some r) w v stays fills = subst (λ (x : Option Reading). FillsAt (if_open x w) v) (sym stays) fills
 
 pub stays_opens : (ls ms : List Link) → Stays ls ms → Opens ls ms
-stays_opens ls ms stays number = open_stays (seen_at number ls) (seen_at number ms) (stays number (seen_at number ls) (at_refl (seen_at number ls)))
+stays_opens ls ms stays =
+    let same : (number : ℕ) → StaysAt (open_at number ls) (open_at number ms) = λ number. open_stays (seen_at number ls) (seen_at number ms) (stays.seen number (seen_at number ls) (at_refl (seen_at number ls))) in
+    record {
+      opens = same;
+      fills = λ number. open_fills (open_at number ls) (open_at number ms) (waits_on number ls) (waits_on number ms) (same number) (stays.fills number);
+    }
 
 -- one more
+pushed_open : (ls : List Link) (l : Link) → l.is_open ≡ false → (number : ℕ) → StaysAt (open_at number ls) (open_at number (ls ++ l ∷ []))
+pushed_open [] l closed number = opens_one (l.number == number) l closed
+pushed_open (x ∷ xs) l closed number = opens_behind (x.number == number) x (link_at number xs) (link_at number (xs ++ l ∷ [])) (pushed_open xs l closed number)
+
+abbrev waits_of : Option Link → Option (List ℕ)
+waits_of o = if_open (open_of (option_map seen_of o)) (option_map bytes_on o)
+
+fills_one : (b : Bool) (l : Link) → l.is_open ≡ false → FillsAt None (waits_of (if b then Some l else None))
+fills_one true l closed = subst (λ (o : Option Reading). FillsAt None (if_open o (Some (bytes_on l)))) (sym (shut l closed)) tt
+fills_one false l closed = tt
+
+fills_behind : (b : Bool) (x : Link) (o p : Option Link) → FillsAt (waits_of o) (waits_of p) → FillsAt (waits_of (if b then Some x else o)) (waits_of (if b then Some x else p))
+fills_behind true x o p h = fills_refl (waits_of (Some x))
+fills_behind false x o p h = h
+
+pushed_fills : (ls : List Link) (l : Link) → l.is_open ≡ false → (number : ℕ) → FillsAt (open_waits number ls) (open_waits number (ls ++ l ∷ []))
+pushed_fills [] l closed number = fills_one (l.number == number) l closed
+pushed_fills (x ∷ xs) l closed number = fills_behind (x.number == number) x (link_at number xs) (link_at number (xs ++ l ∷ [])) (pushed_fills xs l closed number)
+
 pub opens_pushed : (ls : List Link) (l : Link) → l.is_open ≡ false → Opens ls (ls ++ l ∷ [])
-opens_pushed [] l closed number = opens_one (l.number == number) l closed
-opens_pushed (x ∷ xs) l closed number = opens_behind (x.number == number) x (link_at number xs) (link_at number (xs ++ l ∷ [])) (opens_pushed xs l closed number)
+opens_pushed ls l closed = record { opens = pushed_open ls l closed; fills = pushed_fills ls l closed }
 
 pub opens_by_push : (ls ms ns : List Link) (l : Link) → ms ≡ ls → ns ≡ ms ++ l ∷ [] → l.is_open ≡ false → Opens ls ns
 opens_by_push ls ms ns l same pushed closed =
@@ -156,18 +241,27 @@ opens_served (Ok x) ls ms ns h k = opens_both ls ms ns (stays_opens ls ms h) k
 opens_served (Err e) ls ms ns h k = tt
 
 -- one is opened
-pub opens_one_served : {A E : Type 0} (r : Result A E) (number : ℕ) (ls ks ms ns : List Link) → ((other : ℕ) → open_at other ks ≡ opened_at number other ls) → Stays ks ms → OnOk r (Opens ms ns)
-    → OnOk r (OpensOne number ls ns)
-opens_one_served (Ok x) number ls ks ms ns opened h k = λ other.
-    subst (λ (o : Option Reading). StaysAt o (open_at other ns)) (opened other) (opens_both ks ms ns (stays_opens ks ms h) k other)
-opens_one_served (Err e) number ls ks ms ns opened h k = tt
+pub opens_one_served : {A E : Type 0} (r : Result A E) (number : ℕ) (ls ks ms ns : List Link) → ((other : ℕ) → open_at other ks ≡ opened_at number other ls)
+    → ((other : ℕ) → waits_on other ks ≡ waits_on other ls) → Stays ks ms → OnOk r (Opens ms ns) → OnOk r (OpensOne number ls ns)
+opens_one_served (Ok x) number ls ks ms ns opened waits h k =
+    let both = opens_both ks ms ns (stays_opens ks ms h) k in
+    record {
+      opens = λ other. subst (λ (o : Option Reading). StaysAt o (open_at other ns)) (opened other) (both.opens other);
+      fills = λ other.
+          subst (λ (o : Option Reading). FillsAt (if_open o (waits_on other ls)) (open_waits other ns)) (opened other)
+          (subst (λ (w : Option (List ℕ)). FillsAt (if_open (open_at other ks) w) (open_waits other ns)) (waits other) (both.fills other));
+    }
+opens_one_served (Err e) number ls ks ms ns opened waits h k = tt
 
 -- all but one
 pub others_open : (number : ℕ) (ls ms : List Link) → Opens ls ms → OpensOthers number ls ms
-others_open number ls ms opens other differs = opens other
+others_open number ls ms opens = record { opens = λ other differs. opens.opens other; fills = opens.fills }
 
 pub others_both : (number : ℕ) (ls ms ns : List Link) → OpensOthers number ls ms → OpensOthers number ms ns → OpensOthers number ls ns
-others_both number ls ms ns h k other differs = at_both (open_at other ls) (open_at other ms) (open_at other ns) (h other differs) (k other differs)
+others_both number ls ms ns h k = record {
+  opens = λ other differs. at_both (open_at other ls) (open_at other ms) (open_at other ns) (h.opens other differs) (k.opens other differs);
+  fills = λ other. fills_both (open_waits other ls) (open_waits other ms) (open_waits other ns) (h.fills other) (k.fills other);
+}
 
 pub others_stay : (number : ℕ) (ls ms ns : List Link) → OpensOthers number ls ms → Stays ms ns → OpensOthers number ls ns
 others_stay number ls ms ns h k = others_both number ls ms ns h (others_open number ms ns (stays_opens ms ns k))
@@ -271,10 +365,39 @@ other_open : (number other : ℕ) (ls : List Link) (place : ℕ) (d m : Link) �
 other_open number other ls place d m at same differs =
     ap open_of (other_seen ls place d m other same (ap (λ (k : ℕ). k == other) (at.named d) ∙ differs_by (number == other) number other refl differs))
 
+-- It is open or not as one is that has what waits here.
+opened_waits : (b : Bool) (r : Reading) (w : Option (List ℕ)) → if_open (let o : Option Reading = if b then Some r else None in o) w ≡ (if b then w else None)
+opened_waits true r w = refl
+opened_waits false r w = refl
+
+same_waits : (l m : Link) → m.is_open ≡ l.is_open → bytes_on m ≡ bytes_on l → waits_of (Some m) ≡ waits_of (Some l)
+same_waits l m is_open bytes =
+    opened_waits m.is_open m.reader (Some (bytes_on m))
+    ∙ ap (λ (b : Bool). let o : Option (List ℕ) = if b then Some (bytes_on m) else None in o) is_open
+    ∙ ap (λ (w : List ℕ). let o : Option (List ℕ) = if l.is_open then Some w else None in o) bytes
+    ∙ sym (opened_waits l.is_open l.reader (Some (bytes_on l)))
+
+either_same : (b : Bool) (l m : Link) (o p : Option Link) → waits_of (Some m) ≡ waits_of (Some l) → FillsAt (waits_of o) (waits_of p) → FillsAt (waits_of (if b then Some l else o)) (waits_of (if b then Some m else p))
+either_same true l m o p same rest = subst (λ (w : Option (List ℕ)). FillsAt (waits_of (Some l)) w) (sym same) (fills_refl (waits_of (Some l)))
+either_same false l m o p same rest = rest
+
+written_fills : (ls : List Link) (i : ℕ) (d m : Link) → m.number ≡ (slice_index_or ls i d).number → m.is_open ≡ (slice_index_or ls i d).is_open → bytes_on m ≡ bytes_on (slice_index_or ls i d)
+    → (n : ℕ) → FillsAt (open_waits n ls) (open_waits n (slice_set ls i m))
+written_fills [] i d m number is_open bytes n = tt
+written_fills (x ∷ xs) zero d m number is_open bytes n =
+    subst (λ (k : ℕ). FillsAt (open_waits n (x ∷ xs)) (waits_of (if k == n then Some m else link_at n xs))) (sym number)
+    (either_same (x.number == n) x m (link_at n xs) (link_at n xs) (same_waits x m is_open bytes) (fills_refl (open_waits n xs)))
+written_fills (x ∷ xs) (suc i) d m number is_open bytes n =
+    either_same (x.number == n) x x (link_at n xs) (link_at n (slice_set xs i m)) refl (written_fills xs i d m number is_open bytes n)
+
 -- bytes come on it
-pub others_written : (number : ℕ) (ls : List Link) (place : ℕ) (d m : Link) → place_of number ls ≡ Some place → m.number ≡ (slice_index_or ls place d).number → OpensOthers number ls (slice_set ls place m)
-others_written number ls place d m is same other differs =
-    subst (λ (o : Option Reading). StaysAt (open_at other ls) o) (sym (other_open number other ls place d m (is_at number ls place is) same (λ e. differs (sym e)))) (at_refl (open_at other ls))
+pub others_written : (number : ℕ) (ls : List Link) (place : ℕ) (d m : Link) → place_of number ls ≡ Some place → m.number ≡ (slice_index_or ls place d).number
+    → m.is_open ≡ (slice_index_or ls place d).is_open → bytes_on m ≡ bytes_on (slice_index_or ls place d) → OpensOthers number ls (slice_set ls place m)
+others_written number ls place d m is same is_open bytes = record {
+  opens = λ other differs.
+      subst (λ (o : Option Reading). StaysAt (open_at other ls) o) (sym (other_open number other ls place d m (is_at number ls place is) same (λ e. differs (sym e)))) (at_refl (open_at other ls));
+  fills = λ other. written_fills ls place d m same is_open bytes other;
+}
 
 opened_by : (b : Bool) (number other : ℕ) (ls : List Link) (place : ℕ) (d m : Link) → (other == number) ≡ b → IsAt number ls place → m.number ≡ (slice_index_or ls place d).number
     → m.reader ≡ (slice_index_or ls place d).reader → m.is_open ≡ true → open_at other (slice_set ls place m) ≡ (if b then reader_at other ls else open_at other ls)
@@ -322,6 +445,6 @@ pub first_opens : (number : ℕ) (l : Link) (ls ms ks ns : List Link) → (lengt
     → OpensFirst (Some number) ls ns
 first_opens number l ls ms ks ns none pushed same nothing is_open stays opens = λ other.
     let are : ms ≡ l ∷ [] = pushed ∙ ap (λ (xs : List Link). xs ++ l ∷ []) (none_there ls none) in
-    some_stays (λ r. (other ≡ number) × (r.taken ≡ [])) (open_at other ms) (open_at other ns) (opens_both ms ks ns (stays_opens ms ks stays) opens other)
+    some_stays (λ r. (other ≡ number) × (r.taken ≡ [])) (open_at other ms) (open_at other ns) ((opens_both ms ks ns (stays_opens ms ks stays) opens).opens other)
     (subst (λ (xs : List Link). IfSome (open_at other xs) (λ r. (other ≡ number) × (r.taken ≡ []))) (sym are)
     (alone_by (l.number == other) number other l refl same nothing is_open))

@@ -2,6 +2,7 @@
 use Rattle.std.proofs.Common.{◌≡◌, ◌∙◌, ◌==◌, ◌++◌, ℕ, Bool, true, false, List, [], ◌∷◌, Option, Some, None, ◌⊎◌, inl, inr, refl, sym, ap, subst, option_map, if◌then◌else◌}
 use Rattle.std.proofs.lemmas.Bool.{eq-eqb}
 use Rattle.std.specs.Prelude.{Result, Ok, Err, OnOk, drop}
+use Rattle.tds_packet.specs.declared.status.Reset.{Reset}
 use Rattle.tds_front.specs.declared.front.Front.{Front}
 use Rattle.tds_front.specs.declared.front.Said.{Said}
 use Rattle.tds_service.specs.Line.{Packet}
@@ -145,7 +146,7 @@ tells_ok (Ok x) key old bytes left h h1 ps ps1 t m kept = tells_moved key old by
 tells_ok (Err e) key old bytes left h h1 ps ps1 t m kept = tt
 
 -- bytes are taken where its end is open
-abbrev pub tells_takes : (key : ℕ) (old : House) (bytes left rest : List ℕ) (h : House) (posts1 : Posts) (front : Front) (withdrawn asks : Bool) → end_at h.hall.ends key ≡ Some (Open front withdrawn asks)
+abbrev pub tells_takes : (key : ℕ) (old : House) (bytes left rest : List ℕ) (h : House) (posts1 : Posts) (front : Front) (withdrawn : Bool) (asks : Option Reset) → end_at h.hall.ends key ≡ Some (Open front withdrawn asks)
     → left_by left (end_at h.hall.ends key) ≡ rest → change key (put_some (owed left (end_at h.hall.ends key))) h.posts ≡ posts1 → Tells key old bytes left h
     → Tells key old bytes rest (record { hall = moved h.hall (Feeds key left); posts = posts1 })
 tells_takes key old bytes left rest h posts1 front withdrawn asks open_at left_is waits t =
@@ -167,7 +168,7 @@ tells_takes key old bytes left rest h posts1 front withdrawn asks open_at left_i
 
 -- ---- As it is done
 
-pub tells_refused : (key : ℕ) (old : House) (bytes left rest : List ℕ) (h : House) (h1 : Hall) (ps1 : Posts) (front : Front) (withdrawn asks : Bool) → end_at h.hall.ends key ≡ Some (Open front withdrawn asks)
+pub tells_refused : (key : ℕ) (old : House) (bytes left rest : List ℕ) (h : House) (h1 : Hall) (ps1 : Posts) (front : Front) (withdrawn : Bool) (asks : Option Reset) → end_at h.hall.ends key ≡ Some (Open front withdrawn asks)
     → change key (put_some (owed left (end_at h.hall.ends key))) h.posts ≡ h.posts → moved h.hall (Feeds key left) ≡ hall_of_ends h.hall.desk (change_end key closes h.hall.ends)
     → Moved (Application key) (hall_of_ends h.hall.desk (change_end key closes h.hall.ends)) h1 → ps1 ≡ h.posts → Tells key old bytes left h → Tells key old bytes rest (record { hall = h1; posts = ps1 })
 tells_refused key old bytes left rest h h1 ps1 front withdrawn asks open_at waits is m kept t =

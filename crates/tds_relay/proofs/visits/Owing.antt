@@ -2,6 +2,7 @@
 use Rattle.std.proofs.Common.{◌≡◌, ◌∙◌, ◌-◌, ◌==◌, ◌&&◌, ℕ, Bool, true, false, List, [], ◌∷◌, refl, sym, ap, subst, inr}
 use Rattle.std.specs.Prelude.{Option, Some, None, Result, Ok, Err, nat_lt, if◌then◌else◌}
 use Rattle.std.proofs.lemmas.Bool.{eqb-true}
+use Rattle.tds_packet.specs.declared.status.Reset.{Reset}
 use Rattle.tds_packet.specs.declared.kind.Kind.{Kind}
 use Rattle.tds_packet.specs.declared.kind.Kind.TheVariants as kinds
 use Rattle.tds_packet.specs.Layout.{bits_of}
@@ -153,12 +154,12 @@ brought_said : (front : Front) (bytes : List ℕ) → SaysOf front.stage (judged
 brought_said front bytes s =
     brought_so front.stage (judged front.due bytes) (fed front bytes).brings s (never_refused front.most front.stage front.due front.part bytes)
 
-own_owes : (bytes : List ℕ) (front : Front) (w asks : Bool) (o : Option End) → o ≡ Some (Open front w asks) → SaysOf front.stage (judged front.due bytes) (fed front bytes).brings
+own_owes : (bytes : List ℕ) (front : Front) (w : Bool) (asks : Option Reset) (o : Option End) → o ≡ Some (Open front w asks) → SaysOf front.stage (judged front.due bytes) (fed front bytes).brings
     → Said front.stage (if_open o (λ front withdrawn. brought front bytes)) (gives (owed bytes o))
 own_owes bytes front w asks o e s =
     subst (λ (x : Option End). Said front.stage (if_open x (λ front withdrawn. brought front bytes)) (gives (owed bytes x))) (sym e) (brought_said front bytes s)
 
-owes_if : (key : ℕ) (ends : Ends) (other : ℕ) (bytes : List ℕ) (front : Front) (w asks : Bool) (b : Bool) → (other == key) ≡ b → end_at ends key ≡ Some (Open front w asks)
+owes_if : (key : ℕ) (ends : Ends) (other : ℕ) (bytes : List ℕ) (front : Front) (w : Bool) (asks : Option Reset) (b : Bool) → (other == key) ≡ b → end_at ends key ≡ Some (Open front w asks)
     → SaysOf front.stage (judged front.due bytes) (fed front bytes).brings
     → Said front.stage (if b then if_open (end_at ends key) (λ front withdrawn. brought front bytes) else []) (if_its key (Some other) (owed bytes (end_at ends other)))
 owes_if key ends other bytes front w asks true e is s =
@@ -169,7 +170,7 @@ owes_if key ends other bytes front w asks true e is s =
 owes_if key ends other bytes front w asks false e is s =
     subst (λ (all : List Given). Said front.stage [] all) (sym (not_its key other (owed bytes (end_at ends other)) e)) (λ begun. refl)
 
-pub taken_said : (key : ℕ) (h : Hall) (other : ℕ) (bytes : List ℕ) (front : Front) (w asks : Bool) → end_at h.ends key ≡ Some (Open front w asks)
+pub taken_said : (key : ℕ) (h : Hall) (other : ℕ) (bytes : List ℕ) (front : Front) (w : Bool) (asks : Option Reset) → end_at h.ends key ≡ Some (Open front w asks)
     → SaysOf front.stage (judged front.due bytes) (fed front bytes).brings
     → Said front.stage (passes key h (hall.Feeds other bytes)) (if_its key (Some other) (owed bytes (end_at h.ends other)))
 taken_said key h other bytes front w asks is s = owes_if key h.ends other bytes front w asks (other == key) refl is s

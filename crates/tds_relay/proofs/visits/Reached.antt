@@ -2,6 +2,7 @@
 use Rattle.std.proofs.Common.{◌≡◌, ◌∙◌, ℕ, Bool, List, [], ◌∷◌, ◌++◌, refl, sym, ap, subst}
 use Rattle.std.specs.Prelude.{Option, Some, None}
 use Rattle.std.proofs.lemmas.List.{append-nil}
+use Rattle.tds_packet.specs.declared.status.Reset.{Reset}
 use Rattle.tds_front.specs.declared.front.Front.{Front}
 use Rattle.tds_front.specs.declared.stage.Stage.{Stage}
 use Rattle.tds_front.specs.declared.stage.Stage.TheVariants as stages
@@ -29,7 +30,7 @@ Judging = (front : Front) (bytes : List ℕ) → ((fed front bytes).front.stage 
 -- Its end is open, and tied to what it holds at the desk.
 pub record Stands (max key : ℕ) (events : List Event) (h : Hall) (front : Front) (w : Bool) : Type 0 where
   pub is : IsAt max events h
-  pub asks : Bool
+  pub asks : Option Reset
   pub end_is : end_at h.ends key ≡ Some (Open front w asks)
   pub place : Place
   pub standing : Standing (outs_of max events) h.desk key front.stage w place
@@ -122,7 +123,7 @@ module _ (max key : ℕ) (alone : Alone) (by : ByHistory) (judges : Judging) whe
 
   -- ---- Behind one more
 
-  then_by : (events : List Event) (h : Hall) (p : Place) (es : List Passed) (front : Front) (w asks : Bool) (o2 : Option End) → IsAt max events h → end_at h.ends key ≡ o2 → IsThere o2
+  then_by : (events : List Event) (h : Hall) (p : Place) (es : List Passed) (front : Front) (w : Bool) (asks : Option Reset) (o2 : Option End) → IsAt max events h → end_at h.ends key ≡ o2 → IsThere o2
       → StepOf (outs_of max events) h.desk key p es (Some (Open front w asks)) o2 → Then max key events h front.stage p es
   then_by events h p es front w asks None is same there s = absurd there
   then_by events h p es front w asks (Some (Open next v then)) is same there s = Goes next v (record { is = is; asks = then; end_is = same; place = s.place; standing = s.standing }) s.leads

@@ -3,9 +3,11 @@ ghost use Rattle.std.specs.Prelude.{◌≡◌, [], Bool, IfOk, IfSome, OnOk, Som
 ghost use Rattle.slab.specs.Slab.{get};
 ghost use Rattle.tds_relay.specs.Asking.{Asks, AsksOn, IfAsks, IsUnderway, waits_of};
 ghost use Rattle.tds_client.specs.Streams.{packets_are};
+ghost use Rattle.tds_packet.specs.declared.status.Reset.TheVariants.{KeepTransaction};
 ghost use Rattle.tds_relay.specs.Bodies.{Begins, Body, Carries, CarriesOn, Grows, Obeys, Starts};
 ghost use Rattle.tds_relay.specs.Bodies.{body_of, last_of};
 ghost use Rattle.tds_relay.specs.Fronts.{FedOn, Moved, ends_in, given_by, hall_in, house_in};
+ghost use Rattle.tds_relay.specs.Hall.{AsksFor, AsksToPart, IfAsked, end_at};
 ghost use Rattle.tds_relay.specs.House.{Steps};
 ghost use Rattle.tds_relay.specs.Posts.{posts_in};
 ghost use Rattle.tds_relay.specs.Reads.{Opens, Stays};
@@ -140,8 +142,8 @@ impl Relay {
             (desk_in self.old.desk) (desk_in self.new.desk)) }
         ensures kept { OnOk result (posts_in self.new.applications
             ≡ posts_in self.old.applications) }
-        ensures moves { OnOk result (Moved (Application key) (hall_in self.old)
-            (hall_in self.new)) }
+        ensures moves { OnOk result (IfAsked reset (end_at (ends_in self.old.applications) key)
+            → Moved (Application key) (hall_in self.old) (hall_in self.new)) }
         ensures underway { OnOk result (IsUnderway false self.new.links.items key
             (hall_in self.new)) }
         ensures read { OnOk result (Stays self.old.links.items self.new.links.items) }
@@ -222,8 +224,8 @@ impl Relay {
             (desk_in self.old.desk) (desk_in self.new.desk)) }
         ensures kept { OnOk result (posts_in self.new.applications
             ≡ posts_in self.old.applications) }
-        ensures moves { OnOk result (Moved (Application key) (hall_in self.old)
-            (hall_in self.new)) }
+        ensures moves { OnOk result (AsksToPart (hall_in self.old) key
+            → Moved (Application key) (hall_in self.old) (hall_in self.new)) }
         ensures underway { OnOk result ((whole : Bool)
             → IsUnderway whole self.new.links.items key (hall_in self.new)) }
         ensures read { OnOk result (Stays self.old.links.items self.new.links.items) }
@@ -249,8 +251,9 @@ impl Relay {
             (desk_in self.old.desk) (desk_in self.new.desk)) }
         ensures kept { OnOk result (posts_in self.new.applications
             ≡ posts_in self.old.applications) }
-        ensures moves { OnOk result (Moved (Application key) (hall_in self.old)
-            (hall_in self.new)) }
+        ensures moves { OnOk result (AsksFor KeepTransaction
+            (end_at (ends_in self.old.applications) key)
+            → Moved (Application key) (hall_in self.old) (hall_in self.new)) }
         ensures underway { (whole : Bool) → waits_of (get self.old.applications key) ≡ Some whole
             → OnOk result (IsUnderway whole self.new.links.items key (hall_in self.new)) }
         ensures read { OnOk result (Stays self.old.links.items self.new.links.items) }
@@ -264,7 +267,13 @@ impl Relay {
                 self.restart(hold.number);
                 self.start(key)
             }
-            Renewed::NotKept => self.change(key),
+            Renewed::NotKept => {
+                if self.has_transaction(key) {
+                    self.expel(key)
+                } else {
+                    self.change(key)
+                }
+            }
             Renewed::Closed(number) => self.close(number, Some(key)),
         }
     }

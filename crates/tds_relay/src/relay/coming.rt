@@ -1,10 +1,11 @@
 //! What comes on connections.
 ghost use Rattle.std.specs.Prelude.{◌≡◌, ◌+◌, ◌≤◌, ◌&&◌, ◌||◌, not, Bool, None, Some, drop, false, length, true};
 ghost use Rattle.std.specs.Prelude.{IfOk, IsNone, OnOk};
+ghost use Rattle.tds_packet.specs.declared.status.Reset.TheVariants.{KeepTransaction};
 ghost use Rattle.tds_service.specs.Table.{reading_on};
 ghost use Rattle.tds_relay.specs.Fronts.{Moved, end_of, ends_in, hall_in, hall_of_ends, told_by};
 ghost use Rattle.tds_relay.specs.Fronts.{house_in, house_of, house_with};
-ghost use Rattle.tds_relay.specs.Hall.{change_end, change_whose, told};
+ghost use Rattle.tds_relay.specs.Hall.{AsksFor, IfWhose, MayPart, change_end, change_whose, end_at, holder, told};
 ghost use Rattle.tds_relay.specs.declared.desk.coming.What.TheVariants as whats;
 ghost use Rattle.tds_relay.specs.Handing.{Brings, HearsBy, Passes, news_for, fed};
 ghost use Rattle.tds_relay.specs.House.{Steps};
@@ -239,8 +240,9 @@ impl Relay {
             (desk_in self.old.desk) (desk_in self.new.desk)) }
         ensures kept { OnOk result (posts_in self.new.applications
             ≡ posts_in self.old.applications) }
-        ensures moves { OnOk result (Moved (Connection number) (hall_in self.old)
-            (hall_in self.new)) }
+        ensures moves { OnOk result (AsksFor KeepTransaction
+            (end_at (ends_in self.old.applications) key)
+            → Moved (Connection number) (hall_in self.old) (hall_in self.new)) }
         ensures read { OnOk result (Stays self.old.links.items self.new.links.items) }
         ensures stand { OnOk result (AllStand self.old.desk.service
             self.new.desk.service) }
@@ -256,7 +258,7 @@ impl Relay {
     }
 
     /// The transaction that was to be kept has ended: the connection is closed, and its application waits
-    /// for another, if it has nothing out.
+    /// for another, if it may be parted from it.
     #[tactic(auto, using(crate::proofs::steps::Reaching::reaches_turn))]
     fn replace(&mut self, number: u64) -> Result<(), NoMemory>
         ensures goes { OnOk result (Goes (Connection number)
@@ -269,16 +271,27 @@ impl Relay {
         ensures stand { OnOk result (AllStand self.old.desk.service
             self.new.desk.service) }
     {
+        if !self.may_replace(number) {
+            return self.lose(number);
+        }
         let holder = self.desk.lose(number)?;
         let Some(key) = holder else {
             return self.close_link(number);
         };
-        if !self.has_nothing_out(key) {
-            return self.close(number, Some(key));
-        }
         self.let_go(key);
         self.close_link(number)?;
         self.wait(key)
+    }
+
+    /// Whether who holds the connection of this number may be parted from it.
+    fn may_replace(&self, number: u64) -> bool
+        ensures { result ≡ true → IfWhose (MayPart (hall_in self.now))
+            (holder (desk_in self.now.desk) number) }
+    {
+        match self.desk.key_on(number) {
+            Some(key) => self.may_part(key),
+            None => true,
+        }
     }
 }
 
@@ -307,6 +320,7 @@ fn hear_on(
         desk.old.service desk.new.service) }
     ensures number { link.new.number ≡ link.old.number }
     ensures is_open { link.new.is_open ≡ link.old.is_open }
+    ensures out { link.new.out ≡ link.old.out }
     ensures ends { OnOk result (ends_in applications.new ≡ ends_in applications.old) }
 {
     let Ok(count) = link.reader.feed(piece) else {
@@ -337,6 +351,7 @@ fn hear_packet(
     ensures reader { link.new.reader ≡ link.old.reader }
     ensures number { link.new.number ≡ link.old.number }
     ensures is_open { link.new.is_open ≡ link.old.is_open }
+    ensures out { link.new.out ≡ link.old.out }
     ensures ends { OnOk result (ends_in applications.new ≡ ends_in applications.old) }
 {
     let Some(packet) = link.reader.packet() else {
@@ -366,12 +381,13 @@ fn hear_packet(
 /// How the news of a reset goes with a packet, where its application is to be told of one with it or not; where
 /// the server owed that before the packet and owes it behind, and bytes before it were held back.
 fn news_for(asks: bool, owed: bool, owes: bool, holds: bool) -> News
-    ensures { result ≡ news_for asks (owed && not owes) (owed || holds) }
+    ensures { result ≡ news_for asks (owed && not owes) owed holds }
 {
     let is_in = owed && !owes;
     News {
         is_told: asks && !is_in,
         is_cut: (owed || holds) && !(asks && is_in),
+        is_owed: owed,
     }
 }
 
@@ -393,7 +409,7 @@ fn hand_on(
     let out = &mut application.out;
     out.put_news(news.is_told)?;
     if news.is_cut {
-        answer.put_without_news(packet.header, packet.data, out)
+        answer.put_without_news(news.is_owed, packet.header, packet.data, out)
     } else {
         out.put_packet(packet.header, packet.data)
     }

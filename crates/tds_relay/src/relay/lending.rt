@@ -2,15 +2,15 @@
 ghost use Rattle.std.specs.Prelude.{◌≡◌, ◌≢◌, ◌⊎◌, ◌++◌, [], ℕ, Bool, IfOk, IsSome, List, None, OnOk, Some};
 ghost use Rattle.std.specs.Prelude.{false, option_map, true};
 ghost use Rattle.slab.specs.Slab.{get};
+ghost use Rattle.tds_packet.specs.declared.status.Reset.TheVariants.{KeepTransaction};
 ghost use Rattle.tds_relay.specs.Asking.{IsUnderway, waits_of};
 ghost use Rattle.tds_relay.specs.Bodies.{AskAsBefore, Grows, Starts, body_of, going_of, held_of};
-ghost use Rattle.tds_relay.specs.Bodies.{waits_on};
 ghost use Rattle.tds_relay.specs.Desk.{find_number, key_of};
 ghost use Rattle.tds_relay.specs.Fronts.{MovedOn, ends_in, hall_in, house_in};
-ghost use Rattle.tds_relay.specs.Hall.{end_at};
+ghost use Rattle.tds_relay.specs.Hall.{AsksFor, end_at};
 ghost use Rattle.tds_relay.specs.House.{Steps, StepsOn};
 ghost use Rattle.tds_relay.specs.Posts.{posts_in};
-ghost use Rattle.tds_relay.specs.Reads.{Opens, OpensFirst, OpensOne, Stays, open_at, opened_at};
+ghost use Rattle.tds_relay.specs.Reads.{Opens, OpensFirst, OpensOne, Stays, open_at, opened_at, waits_on};
 ghost use Rattle.tds_relay.specs.Sparing.{AllGo, AllRest, IsHeldBack, IsUnkept, OthersRest};
 ghost use Rattle.tds_relay.specs.Sparing.{StartsOn};
 ghost use Rattle.tds_relay.specs.Taking.{IsDeaf};
@@ -73,6 +73,7 @@ impl Relay {
         ensures kept { posts_in self.new.applications ≡ posts_in self.old.applications }
         ensures ends { ends_in self.new.applications ≡ ends_in self.old.applications }
         ensures read { Stays self.old.links.items self.new.links.items }
+        ensures rest { AllRest self.old self.new }
     {
         set_tag(&mut self.links, number, tag);
     }
@@ -101,6 +102,8 @@ impl Relay {
         ensures ends { ends_in self.new.applications ≡ ends_in self.old.applications }
         ensures opens { (other : ℕ) → open_at other self.new.links.items
             ≡ opened_at number other self.old.links.items }
+        ensures waits { (other : ℕ) → waits_on other self.new.links.items
+            ≡ waits_on other self.old.links.items }
         ensures same { AllRest self.old self.new }
     {
         set_open(&mut self.links, number);
@@ -128,7 +131,7 @@ impl Relay {
     }
 
     /// Lends connections to those who wait, in order, while there are any.
-    #[tactic(auto, using(crate::proofs::steps::Reaching::reaches_turn, crate::proofs::steps::Reaching::reaches_turned, crate::proofs::spared::Resting::go_refl))]
+    #[tactic(auto, using(crate::proofs::steps::Staying::opens_refl, crate::proofs::steps::Reaching::reaches_turn, crate::proofs::steps::Reaching::reaches_turned, crate::proofs::spared::Resting::go_refl))]
     pub(super) fn serve_line(&mut self) -> Result<(), NoMemory>
         ensures goes { OnOk result (GoesOn (desk_in self.old.desk) (desk_in self.new.desk)) }
         ensures kept { OnOk result (posts_in self.new.applications
@@ -190,7 +193,10 @@ impl Relay {
     }
 
     /// Whether an application's request asks for a reset that keeps its transaction.
-    pub(super) fn asks_to_keep(&self, key: usize) -> bool {
+    pub(super) fn asks_to_keep(&self, key: usize) -> bool
+        ensures { result ≡ true → AsksFor KeepTransaction
+            (end_at (ends_in self.now.applications) key) }
+    {
         match self.applications.get(key) {
             Some(application) => application.asks_to_keep(),
             None => false,

@@ -1,5 +1,5 @@
 //! Requests: asked, sent in parts, and cancelled.
-ghost use Rattle.std.specs.Prelude.{◌≡◌, ◌<◌, [], ℕ, true, false, length, slice_index_or, slice_set, IfOk, IfErr, OnErr, OnOk};
+ghost use Rattle.std.specs.Prelude.{◌≡◌, ◌<◌, ◌++◌, [], ℕ, true, false, length, slice_index_or, slice_set, IfOk, IfErr, OnErr, OnOk};
 ghost use Rattle.tds_client.specs.Sending.{Does as ClientDoes};
 ghost use Rattle.tds_client.specs.Session.{ClientSession};
 ghost use Rattle.tds_client.specs.Streams.{finished, opened, put};
@@ -11,9 +11,10 @@ ghost use Rattle.tds_service.specs.Service.{has_number};
 ghost use Rattle.tds_service.specs.Beginning.{MakesAlike};
 ghost use Rattle.tds_service.specs.Sizes.{KeepsSize, sizes_in};
 ghost use Rattle.tds_service.specs.Table.{Answers, DoesAt, Keeps, KeepsClients, Opens, Refuses};
-ghost use Rattle.tds_service.specs.Table.{RefusedBy, Steps};
+ghost use Rattle.tds_service.specs.Table.{RefusedBy, Steps, CancelsOut};
 ghost use Rattle.tds_service.specs.Table.{puts_on, reading_by, service_in};
-ghost use Rattle.tds_service.specs.Ties.{Does, DoesAll, answer_to, asked_answer, cancel_answer, finishing, line_in, putting};
+ghost use Rattle.tds_service.specs.Ties.{Does, DoesAll, answer_to, asked_answer, cancel_answer, finishing};
+ghost use Rattle.tds_service.specs.Ties.{line_in, putting, cancel_out};
 
 use crate::place::Wanted;
 use crate::refusal::{Refusal, refused};
@@ -115,6 +116,8 @@ fn cancel_at(
         × (d.number ≡ c.number) × (d.place ≡ c.place) × (done.0 ≡ c.number)
         × Does line.Cancel (line_in c.connection) (line_in d.connection)
         (cancel_answer c.connection.asked done.1) out.old.items out.new.items) }
+    ensures stops { OnOk result ((c : CodeSeat) → c ≡ slice_index_or seats.old index c
+        → out.new.items ≡ out.old.items ++ cancel_out c.connection.client.stage) }
     ensures refused { IfErr result (λ refusal. (c : CodeSeat) → c ≡ slice_index_or seats.old index c
         → RefusedBy (refusal_in (answer_to (line_in c.connection) line.Cancel)) refusal) }
     ensures err { OnErr result (seats.new ≡ seats.old) }
@@ -204,6 +207,8 @@ impl Service {
             (service_in self.new) calls.Did done.0 out.old.items out.new.items) }
         ensures how { IfOk result (λ done. (request : ℕ) × Answers (calls.Cancel lease)
             (service_in self.old) (cancel_answer request done.1)) }
+        // Of a request that is out in part an end of its type, with the next number, goes before.
+        ensures stops { OnOk result (CancelsOut lease self.old out.old.items out.new.items) }
         ensures clients { OnOk result (KeepsClients lease self.old self.new) }
         ensures refused { IfErr result (Refuses (calls.Cancel lease) (service_in self.old)) }
         ensures err { OnErr result (self.new ≡ self.old) }

@@ -1,5 +1,5 @@
 //! Connections that are given back, cleaned, kept, given up and lost.
-ghost use Rattle.std.specs.Prelude.{◌≡◌, ◌<◌, ◌&&◌, [], ◌∷◌, ℕ, true, false, Some, None, length, slice_index_or, slice_set, IfOk, IfErr, OnErr, OnOk};
+ghost use Rattle.std.specs.Prelude.{◌≡◌, ◌<◌, ◌++◌, ◌&&◌, [], ◌∷◌, ℕ, true, false, Some, None, length, slice_index_or, slice_set, IfOk, IfErr, OnErr, OnOk};
 ghost use Rattle.tds_service.specs.declared.seat.Seat.{Seat as CodeSeat};
 ghost use Rattle.tds_service.specs.Line as line;
 ghost use Rattle.tds_service.specs.Refusing.{refusal_in};
@@ -8,9 +8,9 @@ ghost use Rattle.tds_service.specs.Service.{clean_place, has_number, may_keep, r
 ghost use Rattle.tds_service.specs.Beginning.{MakesAlike};
 ghost use Rattle.tds_service.specs.Sizes.{KeepsSize, sizes_in};
 ghost use Rattle.tds_service.specs.Table.{IsAt, Keeps, KeepsBy, KeepsClients, KeepsClientsOff};
-ghost use Rattle.tds_service.specs.Table.{KeepsOthers, Refuses, Steps, client_of};
+ghost use Rattle.tds_service.specs.Table.{KeepsOthers, Refuses, Steps, CancelsOut, client_of};
 ghost use Rattle.tds_service.specs.Table.{reading_by, rest_of, seat_in, service_in, without_closed};
-ghost use Rattle.tds_service.specs.Ties.{DoesAll, answer_to, line_in};
+ghost use Rattle.tds_service.specs.Ties.{DoesAll, answer_to, line_in, cancel_out};
 
 use crate::connection::Connection;
 use crate::place::{Place, Rest, Wanted};
@@ -24,6 +24,8 @@ use tds_client::ClientRefusal;
 fn cancel_any(connection: &mut Connection, out: &mut Vec<u8>) -> Result<(), Refusal>
     ensures ok { OnOk result (DoesAll (line.Cancel ∷ []) (line_in connection.old)
         (line_in connection.new) out.old.items out.new.items) }
+    ensures stops { OnOk result (out.new.items
+        ≡ out.old.items ++ cancel_out connection.old.client.stage) }
     ensures refused { IfErr result (λ refusal. refusal ≡ Refusal.Memory) }
     ensures walker { connection.new.walker ≡ connection.old.walker }
     ensures err { OnErr result (connection.new ≡ connection.old) }
@@ -79,6 +81,8 @@ fn give_back_at(seats: &mut [Seat], index: usize, out: &mut Vec<u8>) -> Result<(
         out.old.items out.new.items
         × (rest_of done.1 ≡ rests (line_in d.connection).stage)
         × IsAt (rest_of done.1) d.place) }
+    ensures stops { OnOk result ((c : CodeSeat) → c ≡ slice_index_or seats.old index c
+        → out.new.items ≡ out.old.items ++ cancel_out c.connection.client.stage) }
     ensures refused { IfErr result (λ refusal. refusal ≡ Refusal.Memory) }
     ensures err { OnErr result (seats.new ≡ seats.old) }
     ensures nothing { OnErr result (out.new.items ≡ out.old.items) }
@@ -170,6 +174,7 @@ impl Service {
         ensures ok { IfOk result (λ done. Steps (calls.GiveBack lease) (service_in self.old)
             (service_in self.new) (calls.Back (rest_of done.1)) done.0
             out.old.items out.new.items) }
+        ensures stops { OnOk result (CancelsOut lease self.old out.old.items out.new.items) }
         ensures refused { IfErr result (Refuses (calls.GiveBack lease) (service_in self.old)) }
         ensures err { OnErr result (service_in self.new ≡ service_in self.old) }
         ensures nothing { OnErr result (out.new.items ≡ out.old.items) }

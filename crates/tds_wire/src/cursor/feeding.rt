@@ -86,8 +86,8 @@ impl Cursor {
     /// Passes a piece that ends inside a run of bytes. Whether it does.
     #[inline(always)]
     fn pass_middle(&mut self, memory: &mut Memory, piece: &[u8]) -> bool
-        ensures inside { result ≡
-            true → onward (walk_of self.old memory.old) piece.now ≡ Within (walk_of self.new memory.new) }
+        ensures inside { result ≡ true → onward (walk_of self.old memory.old) piece.now
+            ≡ Within (walk_of self.new memory.new) }
         ensures other { result ≡
             false → walk_of self.new memory.new ≡ (walk_of self.old memory.old) }
     {

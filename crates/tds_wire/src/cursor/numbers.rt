@@ -300,7 +300,8 @@ impl Cursor {
     /// Passes a value of so many bytes, unless it is null.
     fn pass_unless(&mut self, memory: &mut Memory, is_null: bool, count: u64)
         ensures { walk_of self.new memory.new ≡
-            (if is_null then go (walk_of self.old memory.old) Valued else pass (walk_of self.old memory.old) count Valued) }
+            (if is_null then go (walk_of self.old memory.old) Valued
+            else pass (walk_of self.old memory.old) count Valued) }
     {
         if is_null {
             self.end_value(memory);

@@ -2,8 +2,8 @@
 use super::House;
 use crate::group::Group;
 use crate::socket::{Role, Whose};
-use crate::stats::put_answer;
-use crate::words::{Asked, read_words};
+use relay_settings::{Asked, read_words};
+use relay_status::put_answer;
 use std::fs::Files;
 use std::io::{self, Write};
 use std::mem;
@@ -37,9 +37,7 @@ impl<W: Write + Drop> House<W> {
     }
 
     fn group_of_number(&mut self, number: u64) -> Option<(usize, &mut Group)> {
-        let Ok(key) = usize::try_from(number) else {
-            return None;
-        };
+        let key = self.groups.key_of(number)?;
         let group = self.groups.get_mut(key)?;
         Some((key, group))
     }
@@ -75,10 +73,10 @@ impl<W: Write + Drop> House<W> {
     /// The applications of a group are read on, those first of which something has come first.
     fn read_all_of(&mut self, key: usize) -> io::Result<()> {
         let mut kept = Vec::new(self.alloc);
-        for (socket, found) in self.sockets.iter() {
-            if let Whose::Application(group, _) = found.whose() {
+        for (_, entry) in self.sockets.iter() {
+            if let Whose::Application(group, _) = entry.value.whose() {
                 if group == key {
-                    kept.push((found.order, socket))?;
+                    kept.push((entry.value.order, entry.key))?;
                 }
             }
         }
@@ -97,21 +95,39 @@ impl<W: Write + Drop> House<W> {
         }
         let asking = mem::replace(&mut self.reloads, Vec::new(self.alloc));
         for key in asking.iter() {
-            let (status, told) = match read_words(rt, self.alloc, self.words.as_slice()) {
-                Ok(asked) => {
-                    self.take_over(asked);
-                    ("200 OK", format!(in self.alloc; "read again\n")?)
-                }
-                Err(fault) => ("409 Conflict", format!(in self.alloc; "{fault}\n")?),
-            };
-            if let Some(socket) = self.sockets.get_mut(*key) {
-                if matches!(socket.role, Role::Asker(_)) {
-                    put_answer(&mut socket.out, status, "text/plain", told.as_bytes())?;
-                    self.dismiss(rt, *key)?;
-                }
-            }
+            self.reload_for(rt, *key)?;
         }
         Ok(())
+    }
+
+    fn reload_for<R: Net + Files>(&mut self, rt: &R, key: usize) -> io::Result<()> {
+        match read_words(rt, self.alloc, self.words.as_slice()) {
+            Ok(asked) => {
+                self.take_over(asked);
+                self.answer_reload(rt, key, "200 OK", "read again\n")
+            }
+            Err(fault) => {
+                let told = format!(in self.alloc; "{fault}\n")?;
+                self.answer_reload(rt, key, "409 Conflict", told.as_str())
+            }
+        }
+    }
+
+    fn answer_reload<R: Net>(
+        &mut self,
+        rt: &R,
+        key: usize,
+        status: &str,
+        told: &str,
+    ) -> io::Result<()> {
+        let Some(socket) = self.sockets.get_mut(key) else {
+            return Ok(());
+        };
+        if !matches!(socket.role, Role::Asker(_)) {
+            return Ok(());
+        }
+        put_answer(&mut socket.out, status, "text/plain", told.as_bytes())?;
+        self.dismiss(rt, key)
     }
 
     /// These settings are the ones from now on. Where it listens and tells stays as it was.

@@ -19,8 +19,8 @@ impl<W: Write + Drop> House<W> {
             return Ok(());
         }
         let mut keys = Vec::new(self.alloc);
-        for (key, _) in self.groups.iter() {
-            keys.push(key)?;
+        for (_, entry) in self.groups.iter() {
+            keys.push(entry.key)?;
         }
         for key in keys.iter() {
             if self.is_due(*key, seconds.saturating_mul(1000)) {
@@ -67,8 +67,8 @@ impl<W: Write + Drop> House<W> {
     /// How many connections of a group are free. Each is noted to be checked.
     fn free_in(&mut self, group: usize) -> io::Result<usize> {
         let mut keys = Vec::new(self.alloc);
-        for (key, _) in self.sockets.iter() {
-            keys.push(key)?;
+        for (_, entry) in self.sockets.iter() {
+            keys.push(entry.key)?;
         }
         let House {
             sockets,

@@ -1,10 +1,9 @@
 //! Logins of connections: what the server answers.
 use super::{House, relay_of};
-use crate::counts::raise;
-use crate::dial::Dialed;
-use crate::group::{Stage, put_saved};
-use crate::notice::NOWHERE;
+use crate::group::Stage;
 use crate::socket::{Role, Whose};
+use relay_logins::{Dialed, NOWHERE, put_saved};
+use relay_status::raise;
 use std::io::{self, Write};
 use std::mem;
 use std::net::Net;
@@ -90,17 +89,39 @@ impl<W: Write + Drop> House<W> {
             let _ = self.take_out(key)?;
             return self.not_judged(group, NOWHERE);
         };
+        self.join_all(rt, &waiting, group)?;
+        self.begin_sharing(rt, key, group, number, rest)
+    }
+
+    /// All who still wait for a group's judgement join it.
+    fn join_all<R: Net>(&mut self, rt: &R, waiting: &[usize], group: usize) -> io::Result<()> {
         for application in waiting.iter() {
             if self.is_judged(*application, group) {
                 self.join(rt, *application, group)?;
             }
         }
-        let (mut is_alone, mut is_left) = (false, false);
+        Ok(())
+    }
+
+    /// Those who waited for a group's first connection are let in. Where it isn't shared, its login is forgotten,
+    /// and where nobody is left of it then, it ends.
+    fn begin_sharing<R: Net>(
+        &mut self,
+        rt: &R,
+        key: usize,
+        group: usize,
+        number: u64,
+        rest: &[u8],
+    ) -> io::Result<()> {
+        let is_alone = !self.groups.is_joined(group);
+        if is_alone {
+            self.groups.forget_login(group);
+        }
+        let mut is_left = false;
         if let Some(group) = self.groups.get_mut(group) {
-            is_alone = group.key.is_empty();
             is_left = group.applications() == 0;
             if is_alone {
-                group.forget_login();
+                group.forget_answer();
             }
         }
         if is_alone && is_left {
@@ -184,13 +205,17 @@ impl<W: Write + Drop> House<W> {
         let waiting = self.judged_by(group);
         for key in waiting.iter() {
             if self.is_judged(*key, group) {
-                if let Some(socket) = self.sockets.get_mut(*key) {
-                    put_saved(&mut socket.out, answer)?;
-                }
-                self.dismiss(rt, *key)?;
+                self.dismiss_with(rt, *key, answer)?;
             }
         }
         Ok(())
+    }
+
+    fn dismiss_with<R: Net>(&mut self, rt: &R, key: usize, answer: &[u8]) -> io::Result<()> {
+        if let Some(socket) = self.sockets.get_mut(key) {
+            put_saved(&mut socket.out, answer)?;
+        }
+        self.dismiss(rt, key)
     }
 
     /// The server didn't judge the first login of a group: those who wait for that are told why.
@@ -225,9 +250,7 @@ impl<W: Write + Drop> House<W> {
             Dialed::In(..) | Dialed::Leg(_) | Dialed::Refused(_) => {
                 // The server doesn't let these logins in any more: who comes later is judged anew.
                 self.say("connection", key, "is refused");
-                if let Some(group) = self.groups.get_mut(group) {
-                    group.key.clear();
-                }
+                self.groups.close(group);
                 return self.ended(rt, key, false);
             }
         }

@@ -1,10 +1,10 @@
 //! What comes and goes is judged, where that is asked for.
 use super::House;
-use crate::judged::{Blamed, Judged};
 use crate::socket::{Role, Socket};
+use relay_logins::FEATURES;
+use relay_status::{Judged, tell};
 use std::io::{self, Write};
 use std::mem;
-use tds_judge::{Finding, Level};
 
 impl<W: Write + Drop> House<W> {
     /// Judges a new socket from now on, if it is an application's or a server's.
@@ -15,8 +15,8 @@ impl<W: Write + Drop> House<W> {
         let alloc = self.alloc;
         if let Some(socket) = self.sockets.get_mut(key) {
             socket.judged = match &socket.role {
-                Role::Gate(_) => Some(Judged::new(alloc, true)?),
-                Role::First(..) | Role::Opening(..) => Some(Judged::new(alloc, false)?),
+                Role::Gate(_) => Some(Judged::new(alloc, FEATURES, true)?),
+                Role::First(..) | Role::Opening(..) => Some(Judged::new(alloc, FEATURES, false)?),
                 _ => None,
             };
         }
@@ -91,19 +91,4 @@ impl<W: Write + Drop> House<W> {
         findings.clear();
         Ok(())
     }
-}
-
-/// A line of the log about a finding: whose it is, the socket, its number and its weight, and where it stands.
-fn tell<W: Write + Drop>(log: &mut W, blamed: Blamed, number: u64, finding: &Finding) {
-    let (whose, found) = (blamed.words(), finding.name.number());
-    let weight = match finding.name.level() {
-        Level::Breach => "breach",
-        Level::Risk => "risk",
-        Level::Note => "note",
-    };
-    let (offset, value) = (finding.spot.offset, finding.value);
-    let _ = writeln!(
-        log,
-        "found {found} ({weight}) of {whose}, socket {number}, byte {offset}, value {value}"
-    );
 }

@@ -1,105 +1,84 @@
-//! What is told of each group and each socket, as lines for a reader.
+//! What is told of each group and each socket.
 use super::House;
 use crate::group::Group;
-use crate::limits::{Limits, lesser};
-use crate::socket::{At, Socket, Whose};
+use crate::socket::{Socket, Whose};
+use relay_logins::number_of;
+use relay_settings::{Limits, lesser};
+use relay_status::{
+    At, GroupLine, SocketLine, put_group, put_json_group, put_json_socket, put_socket,
+};
 use std::io::{self, Write};
 
 /// The most of a line that are told.
 const MOST_TOLD: usize = 100;
 
 impl<W: Write + Drop> House<W> {
-    /// A group: its figures, and a line for each socket of it.
-    pub(super) fn put_group(&self, body: &mut Vec<u8>, group: usize) -> io::Result<()> {
-        if let Some(found) = self.groups.get(group) {
-            write!(body, "\ngroup {group}, ")?;
-            self.put_kind(body, found)?;
-            put_user(body, found)?;
-            writeln!(body, ", at most {} connections", found.most)?;
-            if found.is_paused() {
-                writeln!(
-                    body,
-                    "  who holds a connection may go on asking, who holds none isn't read"
-                )?;
+    /// A group: its figures, a line for each socket of it, and the applications that wait, the first one first.
+    pub(super) fn put_group(&self, body: &mut Vec<u8>, key: usize) -> io::Result<()> {
+        let Some(group) = self.groups.get(key) else {
+            return Ok(());
+        };
+        put_group(body, &self.line_of_group(key, group))?;
+        for (_, entry) in self.sockets.iter() {
+            if entry.value.group() == Some(key) {
+                put_socket(body, &self.line_of(entry.key, &entry.value))?;
             }
         }
-        for (key, socket) in self.sockets.iter() {
-            if group_of(socket) == Some(group as u64) {
-                self.put_socket(body, key, socket)?;
-            }
+        if group.line().is_empty() {
+            return Ok(());
         }
-        self.put_line(body, group)
+        write!(body, "  the line: ")?;
+        self.put_numbers(body, key, group)?;
+        writeln!(body, "")
     }
 
     /// The applications whose login hasn't come yet, so that they are in no group.
     pub(super) fn put_coming(&self, body: &mut Vec<u8>) -> io::Result<()> {
         let mut is_first = true;
-        for (key, socket) in self.sockets.iter() {
-            if let Whose::Gate = socket.whose() {
+        for (_, entry) in self.sockets.iter() {
+            if let Whose::Gate = entry.value.whose() {
                 if is_first {
                     write!(body, "\nin no group yet\n")?;
                 }
                 is_first = false;
-                self.put_socket(body, key, socket)?;
+                put_socket(body, &self.line_of(entry.key, &entry.value))?;
             }
         }
         Ok(())
     }
 
-    /// Whether a group is shared, and for how long it has been paused.
-    fn put_kind(&self, body: &mut Vec<u8>, group: &Group) -> io::Result<()> {
-        let kind = if group.pair.is_some() {
-            "not shared"
-        } else {
-            "shared"
-        };
-        write!(body, "{kind}")?;
-        if let Some(since) = group.paused {
-            let seconds = self.now.saturating_sub(since) / 1000;
-            write!(body, ", paused for {seconds} s")?;
+    pub(super) fn put_json_sockets(&self, body: &mut Vec<u8>) -> io::Result<()> {
+        let mut is_first = true;
+        for (_, entry) in self.sockets.iter() {
+            if !is_first {
+                write!(body, ",")?;
+            }
+            is_first = false;
+            put_json_socket(body, &self.line_of(entry.key, &entry.value))?;
         }
         Ok(())
     }
 
-    fn put_socket(&self, body: &mut Vec<u8>, key: usize, socket: &Socket) -> io::Result<()> {
-        write!(body, "  {} {} ", kind_of(socket), socket.number)?;
-        write!(body, "{}", words_of(socket.seen.at))?;
-        put_partner(body, socket)?;
-        let seconds = self.now.saturating_sub(socket.seen.since) / 1000;
-        write!(body, ", {seconds} s")?;
-        let limit = limit_of(socket.seen.at, &self.limits_of(key));
-        if limit > 0 {
-            write!(body, " of {limit} s")?;
+    pub(super) fn put_json_groups(&self, body: &mut Vec<u8>) -> io::Result<()> {
+        let mut is_first = true;
+        for (_, entry) in self.groups.iter() {
+            let (key, group) = (entry.key, &entry.value.inner);
+            if !is_first {
+                write!(body, ",")?;
+            }
+            is_first = false;
+            put_json_group(body, &self.line_of_group(key, group))?;
+            self.put_numbers(body, key, group)?;
+            write!(body, "]}}")?;
         }
-        put_names(body, socket)?;
-        if let Whose::Connection(..) = socket.whose() {
-            write!(body, " (SPID {}, server {})", socket.spid, socket.server)?;
-        }
-        writeln!(body, "")
-    }
-
-    /// The applications that wait, the first one first.
-    fn put_line(&self, body: &mut Vec<u8>, group: usize) -> io::Result<()> {
-        let is_empty = match self.groups.get(group) {
-            Some(found) => found.line().is_empty(),
-            None => true,
-        };
-        if is_empty {
-            return Ok(());
-        }
-        write!(body, "  the line: ")?;
-        self.put_numbers(body, group)?;
-        writeln!(body, "")
+        Ok(())
     }
 
     /// The numbers of those who wait in a group, the first one first.
-    pub(super) fn put_numbers(&self, body: &mut Vec<u8>, group: usize) -> io::Result<()> {
-        let Some(found) = self.groups.get(group) else {
-            return Ok(());
-        };
+    fn put_numbers(&self, body: &mut Vec<u8>, key: usize, group: &Group) -> io::Result<()> {
         let mut is_first = true;
-        for (key, _) in found.line().iter().zip(0..MOST_TOLD) {
-            if let Some(number) = self.number_in(group, *key) {
+        for (application, _) in group.line().iter().zip(0..MOST_TOLD) {
+            if let Some(number) = self.number_in(key, *application) {
                 if !is_first {
                     write!(body, ", ")?;
                 }
@@ -112,104 +91,55 @@ impl<W: Write + Drop> House<W> {
 
     /// The number of an application of a group.
     fn number_in(&self, group: usize, key: usize) -> Option<u64> {
-        for (_, socket) in self.sockets.iter() {
-            if let Whose::Application(of, application) = socket.whose() {
+        for (_, entry) in self.sockets.iter() {
+            if let Whose::Application(of, application) = entry.value.whose() {
                 if of == group && application == key {
-                    return Some(socket.number);
+                    return Some(entry.value.number);
                 }
             }
         }
         None
     }
-}
 
-/// The user of a group, where its login names one.
-fn put_user(body: &mut Vec<u8>, group: &Group) -> io::Result<()> {
-    if group.user.is_empty() {
-        write!(body, ", no user")
-    } else {
-        write!(body, ", user {}", group.user)
+    fn line_of_group<'a>(&self, key: usize, group: &'a Group) -> GroupLine<'a> {
+        GroupLine {
+            number: number_of(key),
+            is_shared: group.pair.is_none(),
+            paused: match group.paused {
+                Some(since) => Some(self.seconds_since(since)),
+                None => None,
+            },
+            user: group.user.as_str(),
+            most: group.most,
+        }
     }
-}
 
-/// Who is at the other end.
-fn put_partner(body: &mut Vec<u8>, socket: &Socket) -> io::Result<()> {
-    let Some(number) = socket.partner else {
-        return Ok(());
-    };
-    let words = match socket.whose() {
-        Whose::Connection(..) => " by application ",
-        Whose::Opening(..) => " for application ",
-        _ => " and holds connection ",
-    };
-    write!(body, "{words}{number}")
-}
-
-/// What an application says that it is, as far as it does, and where it is.
-fn put_names(body: &mut Vec<u8>, socket: &Socket) -> io::Result<()> {
-    let Some(peer) = socket.peer else {
-        return Ok(());
-    };
-    write!(body, " (")?;
-    if let Some(who) = &socket.who {
-        put_name(body, &who.host)?;
-        put_name(body, &who.program)?;
+    fn line_of<'a>(&self, key: usize, socket: &'a Socket) -> SocketLine<'a> {
+        SocketLine {
+            role: socket.told(),
+            number: socket.number,
+            group: match socket.group() {
+                Some(key) => Some(number_of(key)),
+                None => None,
+            },
+            at: socket.seen.at,
+            seconds: self.seconds_since(socket.seen.since),
+            limit: limit_of(socket.seen.at, &self.limits_of(key)),
+            partner: socket.partner,
+            names: socket.names(),
+            peer: socket.peer,
+            spid: socket.spid,
+            server: socket.server,
+        }
     }
-    write!(body, "from {peer})")
-}
 
-/// A name, and what stands before the next one. Nothing where it is empty.
-fn put_name(body: &mut Vec<u8>, name: &String) -> io::Result<()> {
-    if name.is_empty() {
-        Ok(())
-    } else {
-        write!(body, "{name}, ")
-    }
-}
-
-/// The group that a socket belongs to.
-pub(super) fn group_of(socket: &Socket) -> Option<u64> {
-    match socket.whose() {
-        Whose::Gate | Whose::Asker | Whose::Closing => None,
-        Whose::Judged(group) | Whose::Leg(group) => Some(group as u64),
-        Whose::Application(group, _) => Some(group as u64),
-        Whose::First(group) => Some(group as u64),
-        Whose::Opening(group, _) => Some(group as u64),
-        Whose::Connection(group, _) => Some(group as u64),
-    }
-}
-
-pub(super) fn kind_of(socket: &Socket) -> &'static str {
-    match socket.whose() {
-        Whose::Gate | Whose::Judged(_) | Whose::Leg(_) | Whose::Application(..) => "application",
-        Whose::First(_) | Whose::Opening(..) | Whose::Connection(..) => "connection",
-        Whose::Asker | Whose::Closing => "other",
-    }
-}
-
-/// What a socket is at. What it waits for stands in it.
-pub(super) fn words_of(at: At) -> &'static str {
-    match at {
-        At::Login => "logs in",
-        At::Quiet => "is quiet",
-        At::Kept => "waits for its group to go on",
-        At::Holding => "is quiet",
-        At::InTransaction => "is quiet with a transaction open",
-        At::Waiting => "waits for a connection to be free",
-        At::Opening => "waits for its connection to open",
-        At::TakenBack => "waits for the acknowledgement of what it took back",
-        At::Asking => "has a request underway",
-        At::Cancelling => "waits for the acknowledgement of its cancel",
-        At::Free => "is free",
-        At::Held => "is held",
-        At::Draining => "waits for the acknowledgement of a cancel",
-        At::Cleaning => "is being cleaned",
-        At::Other => "is to be closed",
+    fn seconds_since(&self, since: u64) -> u64 {
+        self.now.saturating_sub(since) / 1000
     }
 }
 
 /// The seconds behind which what is at this is closed, 0 for none.
-pub(super) fn limit_of(at: At, limits: &Limits) -> u64 {
+fn limit_of(at: At, limits: &Limits) -> u64 {
     match at {
         At::Login | At::Other => limits.login,
         At::Waiting | At::Opening | At::TakenBack => limits.wait,

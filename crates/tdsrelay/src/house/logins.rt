@@ -1,13 +1,13 @@
 //! What comes on sockets, and logins of applications.
 use super::{House, relay_of};
-use crate::counts::raise;
-use crate::features::leave_out_features;
-use crate::gate::Passed;
-use crate::group::{Group, Pair, Stage, put_saved};
+use crate::group::{Group, Pair, Stage};
 use crate::link::News;
-use crate::login7::{Kind, kind_of, who_of};
-use crate::notice::{NOWHERE, REFUSED, put_error};
 use crate::socket::{Role, Whose};
+use relay_logins::{
+    Kind, NOWHERE, Passed, REFUSED, SharedLogin, kind_of, leave_out_features, put_error, put_saved,
+    who_of,
+};
+use relay_status::raise;
 use std::io::{self, Write};
 use std::net::Net;
 use tds_packet::PacketSize;
@@ -82,27 +82,24 @@ impl<W: Write + Drop> House<W> {
     /// Its LOGIN7 has come.
     fn log_in<R: Net>(&mut self, rt: &R, key: usize, mut message: Vec<u8>) -> io::Result<()> {
         leave_out_features(self.alloc, &mut message)?;
-        let who = who_of(self.alloc, &message)?;
-        if let Some(socket) = self.sockets.get_mut(key) {
-            socket.who = Some(who);
-        }
-        match kind_of(self.alloc, &message)? {
+        self.name(key, &message)?;
+        match kind_of(message) {
             Kind::Wrong(why) => self.refuse(rt, key, why),
-            Kind::Alone => self.begin_group(rt, key, None, message),
-            Kind::Shared(login) => match self.group_of(&login) {
+            Kind::Alone(login) => self.begin_alone(rt, key, login),
+            Kind::Shared(login) => match self.groups.join(&login) {
                 Some(group) => self.join(rt, key, group),
-                None => self.begin_group(rt, key, Some(login), message),
+                None => self.begin_group(rt, key, login),
             },
         }
     }
 
-    fn group_of(&self, login: &[u8]) -> Option<usize> {
-        for (key, group) in self.groups.iter() {
-            if group.key.as_slice() == login {
-                return Some(key);
-            }
+    /// An application is who its login says.
+    fn name(&mut self, key: usize, login: &[u8]) -> io::Result<()> {
+        let who = who_of(self.alloc, login)?;
+        if let Some(socket) = self.sockets.get_mut(key) {
+            socket.who = Some(who);
         }
-        None
+        Ok(())
     }
 
     /// It joins a group: it waits for the judgement, or gets what the server answered the first one.
@@ -131,33 +128,51 @@ impl<W: Write + Drop> House<W> {
         }
     }
 
-    /// It is the first one of its kind, or can't share: the server judges it, on a connection of its own.
-    fn begin_group<R: Net>(
-        &mut self,
-        rt: &R,
-        key: usize,
-        login: Option<Vec<u8>>,
-        message: Vec<u8>,
-    ) -> io::Result<()> {
-        let Some(size) = PacketSize::new(4_096) else {
-            return Ok(());
-        };
-        if let Some(why) = self.too_many(login.is_some()) {
+    /// It is the first one of its kind: the server judges it, on a connection of its own.
+    fn begin_group<R: Net>(&mut self, rt: &R, key: usize, login: SharedLogin) -> io::Result<()> {
+        if let Some(why) = self.too_many(true) {
             return self.refuse(rt, key, why);
         }
+        let Some(begun) = self.group_with(key, login.message(), None)? else {
+            return Ok(());
+        };
+        let group = self.groups.begin(login, begun);
+        self.judge_first(rt, key, group)
+    }
+
+    /// It can't share.
+    fn begin_alone<R: Net>(&mut self, rt: &R, key: usize, login: Vec<u8>) -> io::Result<()> {
+        if let Some(why) = self.too_many(false) {
+            return self.refuse(rt, key, why);
+        }
+        let Some(begun) = self.group_with(key, &login, Some(Pair::of(key)))? else {
+            return Ok(());
+        };
+        let group = self.groups.begin_alone(login, begun);
+        self.judge_first(rt, key, group)
+    }
+
+    /// A group whose first application waits for the server's judgement of its login.
+    fn group_with(
+        &self,
+        key: usize,
+        login: &[u8],
+        pair: Option<Pair>,
+    ) -> io::Result<Option<Group>> {
+        let Some(size) = PacketSize::new(4_096) else {
+            return Ok(None);
+        };
         let mut waiting = Vec::new(self.alloc);
         waiting.push(key)?;
-        let group = self.groups.vacant_key();
-        let (login, pair) = match login {
-            Some(login) => (login, None),
-            None => (Vec::new(self.alloc), Some(Pair::of(key))),
-        };
-        let user = who_of(self.alloc, &message)?.user;
-        let mut begun = Group::new(login, message, user, waiting, size);
-        begun.pair = pair;
-        if self.groups.insert(begun).is_err() {
+        let user = who_of(self.alloc, login)?.user;
+        Ok(Some(Group::new(user, waiting, size, pair)))
+    }
+
+    /// A server is dialed for the first login of a group, if that found room.
+    fn judge_first<R: Net>(&mut self, rt: &R, key: usize, group: Option<usize>) -> io::Result<()> {
+        let Some(group) = group else {
             return self.refuse(rt, key, "The relay has no memory.");
-        }
+        };
         if let Some(socket) = self.sockets.get_mut(key) {
             socket.role = Role::Judged(group);
         }
@@ -170,8 +185,8 @@ impl<W: Write + Drop> House<W> {
     /// Why no more groups may be, if so.
     fn too_many(&self, is_shared: bool) -> Option<&'static str> {
         let (mut shared, mut alone): (usize, usize) = (0, 0);
-        for (_, group) in self.groups.iter() {
-            if group.pair.is_some() {
+        for (_, entry) in self.groups.iter() {
+            if entry.value.inner.pair.is_some() {
                 alone = alone.saturating_add(1);
             } else {
                 shared = shared.saturating_add(1);

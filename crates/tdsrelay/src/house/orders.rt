@@ -1,11 +1,10 @@
 //! What the relay says is to be done: sockets are written to, opened and closed.
 use super::{House, relay_of};
-use crate::counts::{raise, sum};
 use crate::group::Group;
 use crate::link::News;
-use crate::notice::{NOWHERE, SILENT};
 use crate::socket::{Gone, Socket, Whose};
-use slab::Slab;
+use relay_logins::{Groups, NOWHERE, SILENT};
+use relay_status::{raise, sum};
 use std::io::{self, Write};
 use std::net::Net;
 use tds_judge::Finding;
@@ -23,20 +22,26 @@ impl<W: Write + Drop> House<W> {
                 break;
             }
             for order in orders.iter() {
-                match *order {
-                    Order::Open(number) => self.open(rt, group, number)?,
-                    Order::Write(key) => {
-                        self.note_answer(key);
-                        if !self.send(key)? {
-                            self.report(key, News::End)?;
-                        }
-                    }
-                    Order::Close(key) => self.close(key)?,
-                }
+                self.follow_order(rt, group, *order)?;
             }
         }
         self.forget_deserted(group);
         Ok(())
+    }
+
+    fn follow_order<R: Net>(&mut self, rt: &R, group: usize, order: Order) -> io::Result<()> {
+        match order {
+            Order::Open(number) => self.open(rt, group, number),
+            Order::Write(key) => {
+                self.note_answer(key);
+                if self.send(key)? {
+                    Ok(())
+                } else {
+                    self.report(key, News::End)
+                }
+            }
+            Order::Close(key) => self.close(key),
+        }
     }
 
     /// Opens a connection, which logs in.
@@ -89,7 +94,7 @@ impl<W: Write + Drop> House<W> {
     /// A group is no longer one. What it has done is counted.
     pub(super) fn forget(&mut self, group: usize) {
         if let Some(gone) = self.groups.try_remove(group) {
-            self.counts.gone = sum(self.counts.gone, gone.counts());
+            self.counts.gone = sum(self.counts.gone, gone.done());
         }
     }
 
@@ -248,7 +253,7 @@ impl<W: Write + Drop> House<W> {
 /// Sends it. Answers the socket that may be read again behind that.
 fn send_to(
     socket: &mut Socket,
-    groups: &mut Slab<Group>,
+    groups: &mut Groups<Group>,
     time: u64,
     findings: &mut Vec<Finding>,
 ) -> io::Result<Option<usize>> {

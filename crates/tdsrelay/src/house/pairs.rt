@@ -1,8 +1,8 @@
 //! Logins that can't be shared: an application and a connection of its own, which end together.
 use super::House;
-use crate::group::{Pair, put_saved};
-use crate::leg::{Leg, Taken};
+use crate::group::Pair;
 use crate::socket::{Role, Whose};
+use relay_logins::{Leg, Taken, put_saved};
 use std::io::{self, Write};
 use std::net::Net;
 

@@ -1,13 +1,11 @@
 //! Which server is dialed for a login.
 use super::{House, relay_of};
-use crate::counts::raise;
-use crate::dial::{Dial, Target};
 use crate::group::Group;
-use crate::notice::{NOT_OPENED, NOWHERE, put_error};
-use crate::servers::{MOST as MOST_SERVERS, Way, bit};
 use crate::socket::{Role, Whose};
 use mio::net::TcpStream;
-use slab::Slab;
+use relay_logins::{Groups, NOT_OPENED, NOWHERE, Target, Way, put_error};
+use relay_settings::{MOST_SERVERS, bit};
+use relay_status::raise;
 use std::io::{self, Write};
 use std::net::{IpAddr, Ipv4Addr, Net, SocketAddr};
 
@@ -51,11 +49,8 @@ impl<W: Write + Drop> House<W> {
             Whose::First(group) | Whose::Opening(group, _) => group,
             _ => return Ok(false),
         };
-        let Some(dialing) = self.groups.get(group) else {
-            return Ok(false);
-        };
         let mut out = Vec::new(self.alloc);
-        let Some(dial) = Dial::new(self.alloc, &dialing.login, way, &mut out)? else {
+        let Some(dial) = self.groups.dial(self.alloc, group, way, &mut out)? else {
             return Ok(false);
         };
         let Ok(stream) = TcpStream::connect(rt, address) else {
@@ -66,12 +61,9 @@ impl<W: Write + Drop> House<W> {
             Whose::Opening(group, number) => Role::Opening(group, number, dial),
             _ => Role::First(group, dial),
         };
-        let Some(key) = self.take_in(stream, role)? else {
+        let Some(key) = self.take_in(stream, role, out)? else {
             return Ok(false);
         };
-        if let Some(socket) = self.sockets.get_mut(key) {
-            socket.out.extend_from_slice(&out)?;
-        }
         self.is_dialed(whose, key);
         raise(&mut self.counts.dialed);
         self.say("connection", key, "is dialed");
@@ -194,7 +186,7 @@ impl<W: Write + Drop> House<W> {
 }
 
 /// Whether nothing waits for an application of a group.
-fn is_all_sent(groups: &mut Slab<Group>, group: usize, application: usize) -> bool {
+fn is_all_sent(groups: &mut Groups<Group>, group: usize, application: usize) -> bool {
     match relay_of(groups, group) {
         Some(relay) => relay.unsent(application).is_empty(),
         None => true,

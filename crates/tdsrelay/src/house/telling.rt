@@ -1,17 +1,14 @@
 //! What the relay tells whoever asks what it does: for a reader, as JSON, and for Prometheus.
-use super::lines::group_of;
 use super::{House, relay_of};
-use crate::counts::sum;
-use crate::figures::{Figures, put_json_figures, put_metrics, put_text_figures};
 use crate::group::Group;
-use crate::socket::{At, Role, Whose};
-use crate::stats::{Page, put_answer};
+use crate::socket::{Role, Whose};
+use relay_logins::number_of;
+use relay_status::{
+    At, Figures, PAGES, Page, put_answer, put_json_figures, put_metrics, put_server,
+    put_text_figures, put_user, put_users, sum,
+};
 use std::io::{self, Write};
 use std::net::Net;
-
-/// What may be asked for.
-const PAGES: &[u8] =
-    b"GET /, /json, /metrics; POST /kill/GROUP, /pause/GROUP, /resume/GROUP, /reload, /drain\n";
 
 impl<W: Write + Drop> House<W> {
     /// Bytes of somebody who asks came.
@@ -26,53 +23,55 @@ impl<W: Write + Drop> House<W> {
         let Some(page) = page else {
             return Ok(());
         };
-        if page == Page::Reload {
+        if matches!(page, Page::Reload) {
             // It is answered behind this round's turns.
             self.reloads.push(key)?;
             return Ok(());
         }
-        let mut out = Vec::new(self.alloc);
-        self.answer(rt, page, &mut out)?;
+        let mut body = Vec::new(self.alloc);
+        let (status, kind) = self.put_page(rt, page, &mut body)?;
         if let Some(socket) = self.sockets.get_mut(key) {
-            socket.out = out;
+            put_answer(&mut socket.out, status, kind, &body)?;
         }
         self.dismiss(rt, key)
     }
 
-    fn answer<R: Net>(&mut self, rt: &R, page: Page, out: &mut Vec<u8>) -> io::Result<()> {
-        let mut body = Vec::new(self.alloc);
-        let (status, kind) = match page {
+    /// Appends what was asked for. Answers the status and the kind of that.
+    fn put_page<R: Net>(
+        &mut self,
+        rt: &R,
+        page: Page,
+        body: &mut Vec<u8>,
+    ) -> io::Result<(&'static str, &'static str)> {
+        match page {
             Page::Text => {
-                self.put_text(&mut body)?;
-                ("200 OK", "text/plain")
+                self.put_text(body)?;
+                Ok(("200 OK", "text/plain"))
             }
             Page::Json => {
-                self.put_json(&mut body)?;
-                ("200 OK", "application/json")
+                self.put_json(body)?;
+                Ok(("200 OK", "application/json"))
             }
             Page::Metrics => {
-                self.put_metrics(&mut body)?;
-                ("200 OK", "text/plain; version=0.0.4")
+                self.put_metrics(body)?;
+                Ok(("200 OK", "text/plain; version=0.0.4"))
             }
             Page::Kill(group) => {
                 self.kill(rt, group)?;
-                body.extend_from_slice(b"closed\n")?;
-                ("200 OK", "text/plain")
+                put_line(body, b"closed\n")
             }
             Page::Drain => {
                 self.end_soon();
-                body.extend_from_slice(b"ends\n")?;
-                ("200 OK", "text/plain")
+                put_line(body, b"ends\n")
             }
-            Page::Pause(group) => self.answer_pause(group, true, &mut body)?,
-            Page::Resume(group) => self.answer_pause(group, false, &mut body)?,
+            Page::Pause(group) => self.answer_pause(group, true, body),
+            Page::Resume(group) => self.answer_pause(group, false, body),
             Page::Unknown | Page::Reload => {
                 body.extend_from_slice(PAGES)?;
-                ("404 Not Found", "text/plain")
+                Ok(("404 Not Found", "text/plain"))
             }
-            Page::Wrong => ("400 Bad Request", "text/plain"),
-        };
-        put_answer(out, status, kind, &body)
+            Page::Wrong => Ok(("400 Bad Request", "text/plain")),
+        }
     }
 
     /// Pauses a group or lets it go on, and says so.
@@ -92,8 +91,7 @@ impl<W: Write + Drop> House<W> {
             return Ok(("404 Not Found", "text/plain"));
         }
         let told: &[u8] = if is_paused { b"paused\n" } else { b"goes on\n" };
-        body.extend_from_slice(told)?;
-        Ok(("200 OK", "text/plain"))
+        put_line(body, told)
     }
 
     /// The figures in the form that Prometheus reads.
@@ -108,12 +106,12 @@ impl<W: Write + Drop> House<W> {
     /// The applications and the connections of each user, for Prometheus.
     fn put_users(&self, body: &mut Vec<u8>) -> io::Result<()> {
         for (what, kind) in [("applications", true), ("connections", false)].iter() {
-            write!(body, "# TYPE tdsrelay_user_{what} gauge\n")?;
-            for (place, group) in self.groups.iter() {
-                if self.is_first_of_user(place, group) {
+            put_users(body, what)?;
+            for (_, entry) in self.groups.iter() {
+                let group = &entry.value.inner;
+                if self.is_first_of_user(entry.key, group) {
                     let count = self.count_of(&group.user, *kind);
-                    let user = group.user.as_str();
-                    write!(body, "tdsrelay_user_{what}{{user=\"{user}\"}} {count}\n")?;
+                    put_user(body, what, group.user.as_str(), count)?;
                 }
             }
         }
@@ -121,9 +119,9 @@ impl<W: Write + Drop> House<W> {
     }
 
     /// Whether no group before this one is of the same user.
-    fn is_first_of_user(&self, place: usize, group: &Group) -> bool {
-        for (before, other) in self.groups.iter() {
-            if before < place && other.user == group.user {
+    fn is_first_of_user(&self, key: usize, group: &Group) -> bool {
+        for (_, entry) in self.groups.iter() {
+            if entry.key < key && entry.value.inner.user == group.user {
                 return false;
             }
         }
@@ -133,7 +131,8 @@ impl<W: Write + Drop> House<W> {
     /// How many applications or connections there are of a user.
     fn count_of(&self, user: &String, of_applications: bool) -> u64 {
         let mut count: u64 = 0;
-        for (_, group) in self.groups.iter() {
+        for (_, entry) in self.groups.iter() {
+            let group = &entry.value.inner;
             if group.user == *user {
                 let more = if of_applications {
                     group.applications()
@@ -149,9 +148,11 @@ impl<W: Write + Drop> House<W> {
     /// Closes all applications and connections of a group.
     fn kill<R: Net>(&mut self, rt: &R, number: u64) -> io::Result<()> {
         let mut keys = Vec::new(self.alloc);
-        for (key, socket) in self.sockets.iter() {
-            if group_of(socket) == Some(number) {
-                keys.push(key)?;
+        for (_, entry) in self.sockets.iter() {
+            if let Some(group) = entry.value.group() {
+                if number_of(group) == number {
+                    keys.push(entry.key)?;
+                }
             }
         }
         for key in keys.iter() {
@@ -169,14 +170,16 @@ impl<W: Write + Drop> House<W> {
             now,
             ..
         } = self;
-        for (_, socket) in sockets.iter() {
-            figures.add(socket.whose(), socket.seen.at);
+        for (_, entry) in sockets.iter() {
+            let socket = &entry.value;
+            figures.add(socket.told(), socket.seen.at);
             if matches!(socket.seen.at, At::Waiting | At::Opening | At::TakenBack) {
                 figures.waited(now.saturating_sub(socket.seen.since) / 1000);
             }
         }
-        for (_, group) in groups.iter() {
-            figures.done = sum(figures.done, group.counts());
+        for (_, entry) in groups.iter() {
+            let group = &entry.value.inner;
+            figures.done = sum(figures.done, group.done());
             figures.add_group(group.pair.is_some(), group.is_paused());
         }
         figures
@@ -185,8 +188,8 @@ impl<W: Write + Drop> House<W> {
     /// Notes of each socket what it is at now, and who is at its other end.
     fn see_all(&mut self) -> io::Result<()> {
         let mut keys = Vec::new(self.alloc);
-        for (key, _) in self.sockets.iter() {
-            keys.push(key)?;
+        for (_, entry) in self.sockets.iter() {
+            keys.push(entry.key)?;
         }
         for key in keys.iter() {
             let (at, mark) = self.at(*key);
@@ -227,8 +230,8 @@ impl<W: Write + Drop> House<W> {
         put_text_figures(body, &self.figures())?;
         self.requests.put_text(body, "requests")?;
         self.logins.put_text(body, "logins of connections")?;
-        for (group, _) in self.groups.iter() {
-            self.put_group(body, group)?;
+        for (_, entry) in self.groups.iter() {
+            self.put_group(body, entry.key)?;
         }
         self.put_coming(body)
     }
@@ -237,11 +240,7 @@ impl<W: Write + Drop> House<W> {
     fn put_servers(&self, body: &mut Vec<u8>) -> io::Result<()> {
         for (place, until) in self.away.iter().enumerate() {
             if let Some(server) = self.asked.servers.at(place) {
-                write!(body, "server {place} {server}")?;
-                if *until > self.now {
-                    write!(body, " has failed")?;
-                }
-                write!(body, "\n")?;
+                put_server(body, place, server, *until > self.now)?;
             }
         }
         Ok(())
@@ -260,4 +259,10 @@ impl<W: Write + Drop> House<W> {
         self.put_json_groups(body)?;
         writeln!(body, "]}}")
     }
+}
+
+/// Appends a line that says that something is done.
+fn put_line(body: &mut Vec<u8>, line: &[u8]) -> io::Result<(&'static str, &'static str)> {
+    body.extend_from_slice(line)?;
+    Ok(("200 OK", "text/plain"))
 }

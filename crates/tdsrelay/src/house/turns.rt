@@ -3,7 +3,7 @@ use super::{House, PIECE, relay_of};
 use crate::group::Group;
 use crate::link::Came;
 use crate::socket::Whose;
-use slab::Slab;
+use relay_logins::Groups;
 use std::io::{self, Write};
 use std::mem;
 use std::net::Net;
@@ -85,7 +85,7 @@ impl<W: Write + Drop> House<W> {
 }
 
 /// How many bytes of an application may be read: none where its group is paused and it holds nothing.
-fn room_of(groups: &mut Slab<Group>, group: usize, key: usize) -> usize {
+fn room_of(groups: &mut Groups<Group>, group: usize, key: usize) -> usize {
     let Some(group) = groups.get_mut(group) else {
         return PIECE;
     };

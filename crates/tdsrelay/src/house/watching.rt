@@ -1,17 +1,16 @@
 //! Time limits, and the end: what has lasted too long is closed.
 use super::{House, relay_of};
-use crate::counts::raise;
 use crate::group::Group;
-use crate::limits::{Limits, is_beyond};
-use crate::notice::{SILENT, UNANSWERED, put_error};
-use crate::socket::{At, Role, Whose};
-use slab::Slab;
+use crate::socket::{Role, Whose};
+use relay_logins::{Groups, SILENT, UNANSWERED, put_error};
+use relay_settings::{Limits, is_beyond};
+use relay_status::{At, raise};
 use std::io::{self, Write};
 use std::net::Net;
 use tds_relay::{Place, PlaceOn, Relay};
 
 /// Why something is closed.
-#[derive(Clone, Copy, Debug)]
+#[derive(Clone, Copy)]
 enum Why {
     Login,
     Wait,
@@ -64,17 +63,21 @@ impl<W: Write + Drop> House<W> {
     /// Closes what has lasted longer than its limit.
     pub(super) fn sweep<R: Net>(&mut self, rt: &R) -> io::Result<()> {
         let mut keys = Vec::new(self.alloc);
-        for (key, _) in self.sockets.iter() {
-            keys.push(key)?;
+        for (_, entry) in self.sockets.iter() {
+            keys.push(entry.key)?;
         }
         for key in keys.iter() {
-            if let Some(why) = self.look_at(*key) {
-                self.end(rt, *key, why)?;
-            }
-            // What made room for it may have been said of another one alone.
-            self.read_on(*key)?;
+            self.sweep_one(rt, *key)?;
         }
         self.check_all(rt)
+    }
+
+    fn sweep_one<R: Net>(&mut self, rt: &R, key: usize) -> io::Result<()> {
+        if let Some(why) = self.look_at(key) {
+            self.end(rt, key, why)?;
+        }
+        // What made room for it may have been said of another one alone.
+        self.read_on(key)
     }
 
     /// Whether it is to end, and has no application left or has waited long enough for that.
@@ -91,8 +94,8 @@ impl<W: Write + Drop> House<W> {
     /// How many applications are logged in.
     pub(super) fn applications(&self) -> usize {
         let mut count: usize = 0;
-        for (_, socket) in self.sockets.iter() {
-            if matches!(socket.role, Role::Application(..)) {
+        for (_, entry) in self.sockets.iter() {
+            if matches!(entry.value.role, Role::Application(..)) {
                 count = count.saturating_add(1);
             }
         }
@@ -280,7 +283,12 @@ fn ends_at_once(at: At) -> bool {
 }
 
 /// What an application of a group is at, of which more may be there to read, and what tells two of that apart.
-fn at_of(groups: &mut Slab<Group>, group: usize, application: usize, has_more: bool) -> (At, u64) {
+fn at_of(
+    groups: &mut Groups<Group>,
+    group: usize,
+    application: usize,
+    has_more: bool,
+) -> (At, u64) {
     let Some(group) = groups.get_mut(group) else {
         return (At::Other, 0);
     };

@@ -204,7 +204,7 @@ fn asks() {
     assert_eq!(service.ask_batch(lease, "get a", &mut out), Ok(Asked { number: 1, request: 3 }));
     assert_eq!(out[1], 9);
     // A message that ends inside a token breaks the connection.
-    assert_eq!(service.message_ended(1, true), Err(Fault::Unknown(75)));
+    assert_eq!(service.message_ended(1, true), Err(Fault::Peer(15)));
     assert!(matches!(service.client(lease).unwrap().state(), State::Broken(_)));
 }
 

@@ -52,7 +52,8 @@ fn hear_next(
           reading = reading_of walk.new memory.new;
           rest = drop taken piece.now;
         }))
-        × Puts told (record { before = tokens.old; after = tokens.new; count = count.new }) count.old)
+        × Puts told (record { before = tokens.old; after = tokens.new; count = count.new })
+        count.old)
         (λ fault. next_heard (session_from parts.old []) (reading_of walk.old memory.old) piece.now
         ≡ Err fault) }
     ensures broken { IfErr result (λ fault. session_from parts.new []

@@ -1,20 +1,22 @@
 use Rattle.std.proofs.Common.{List, ap, rules, sym, ◌++◌, ◌∙◌, ℕ}
 use Rattle.tds_relay.specs.declared.link.Link.{Link}
-use Rattle.tds_relay.specs.Reads.{place_of, seen_of}
-use Rattle.tds_relay.specs.Posts.{post_in}
-use Rattle.tds_relay.proofs.spared.Waits.{none_waits, one_waits, others_wait, put_waits}
-use Rattle.tds_relay.proofs.steps.Staying.{stays_written}
+use Rattle.tds_relay.specs.Reads.{bytes_on, place_of, seen_of}
+use Rattle.tds_relay.specs.Posts.{Post, post_in}
+use Rattle.tds_relay.proofs.spared.Waits.{fills_put, none_waits, one_waits, others_wait, put_waits}
+use Rattle.tds_relay.proofs.steps.Staying.{fills_same, stays_written}
 use Rattle.tds_relay.proofs.links.append_to.Goals as goal
 
 pub returns-clause-read : goal.returns-clause-read
 returns-clause-read c =
     stays_written c.args.links.now.items c.in-Some.place c.index_mut-link.result.now _
     (ap (λ (l : Link). l.number) c.index_mut-link.ensures.value) (ap seen_of c.index_mut-link.ensures.value)
+    (fills_put c.args.bytes.now _ _ _ c.in_ok-append.ensures.post (ap bytes_on c.index_mut-link.ensures.value))
 
 pub returns-in_err-append-clause-read : goal.returns-in_err-append-clause-read
 returns-in_err-append-clause-read c =
     stays_written c.args.links.now.items c.in-Some.place c.index_mut-link.result.now _
     (ap (λ (l : Link). l.number) c.index_mut-link.ensures.value) (ap seen_of c.index_mut-link.ensures.value)
+    (fills_same _ _ (ap (λ (p : Post). p.bytes) c.in_err-append.ensures.kept ∙ ap bytes_on c.index_mut-link.ensures.value))
 
 pub returns-clause-others : goal.returns-clause-others
 returns-clause-others c =

@@ -3,12 +3,12 @@ use Rattle.tds_relay.specs.declared.link.Link.{Link}
 use Rattle.tds_relay.specs.Posts.{Post, post_in}
 use Rattle.tds_relay.specs.Reads.{place_of, seen_of}
 use Rattle.tds_relay.proofs.spared.Waits.{none_waits, one_waits, others_wait}
-use Rattle.tds_relay.proofs.steps.Staying.{stays_written}
+use Rattle.tds_relay.proofs.steps.Staying.{sees_written}
 use Rattle.tds_relay.proofs.links.forget_sent.Goals as goal
 
 pub returns-clause-read : goal.returns-clause-read
 returns-clause-read c =
-    stays_written c.args.links.now.items c.in-Some.place c.index_mut-link.result.now _
+    sees_written c.args.links.now.items c.in-Some.place c.index_mut-link.result.now _
     (ap (λ (l : Link). l.number) c.index_mut-link.ensures.value) (ap seen_of c.index_mut-link.ensures.value)
 
 pub returns-clause-others : goal.returns-clause-others

@@ -1,5 +1,4 @@
-use Rattle.std.proofs.Common.{◌≡◌, ◌∙◌, ap, false, if◌then◌else◌, rules}
-use Rattle.std.specs.Prelude.{is_some}
+use Rattle.std.proofs.Common.{◌≡◌, ◌∙◌, None, ap, false, if◌then◌else◌, rules}
 use Rattle.tds_front.specs.declared.front.Front.{Front}
 use Rattle.tds_relay.specs.Hall.{End, Open, Over}
 use Rattle.tds_relay.proofs.steps.Fed.{acked_if}
@@ -9,4 +8,4 @@ pub returns-clause-end : goal.returns-clause-end
 returns-clause-end c =
     let a = c.args.self.now in
     let stays : a.is_withdrawn ≡ false = search rules in
-    ap (λ (f : Front). let e : End = if a.is_over then Over else Open f a.is_withdrawn false in e) c.acknowledged.ensures ∙ acked_if a.is_over a.front a.is_withdrawn (is_some a.reset) stays
+    ap (λ (f : Front). let e : End = if a.is_over then Over else Open f a.is_withdrawn None in e) c.acknowledged.ensures ∙ acked_if a.is_over a.front a.is_withdrawn a.reset stays

@@ -52,7 +52,7 @@ returns-in-Err-clause-ok c =
     let d = desk_in c.args.self.now in
     let part = part_on (reading_on c.args.number c.args.self.now.service) c.args.bytes.now c.args.ends in
     let same : c.heard.new.self ≡ c.args.self.now.service = search rules in
-    let P : services.Service → Type 0 = λ s. Turns (Comes c.args.number part NotLent) d (record { service = service_in s; holds = d.holds; line = d.line }) c.args.out.now.items c.args.out.now.items in
+    let P : services.Service → Type 0 = λ s. Turns (Comes c.args.number part NotLent) d (record { mode = d.mode; service = service_in s; holds = d.holds; line = d.line }) c.args.out.now.items c.args.out.now.items in
     ok_both c.unheard.result (c.in-Err.refusal ≢ refusals.Memory) (λ heard. heard.key ≡ None) _
     (λ never heard nobody. (
       NotLent,

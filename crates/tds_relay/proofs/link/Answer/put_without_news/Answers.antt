@@ -1,5 +1,7 @@
 use Rattle.std.proofs.Common.{◌≡◌, ◌∙◌, ◌++◌, List, ℕ, ap, subst}
-use Rattle.tds_relay.specs.Cutting.{IsAnew, IsCut, left_of}
+use Rattle.tds_relay.specs.Cutting.{IsAnew, IsCut, awaited, left_of}
+use Rattle.tds_relay.specs.declared.news.Known.{Known}
+use Rattle.tds_relay.specs.News.{awaiting}
 use Rattle.tds_relay.specs.Posts.{post_in, put}
 use Rattle.tds_relay.proofs.bytes.Cuts.{cut_is}
 use Rattle.tds_relay.proofs.steps.Reaching.{ok_more}
@@ -8,11 +10,12 @@ use Rattle.tds_relay.proofs.link.Answer.put_without_news.Goals as goal
 pub returns : goal.returns
 returns c =
     let made = c.in_ok-put_data.ensures in
-    let kept : c.cut.new.kept.items ≡ (left_of c.args.self.now.known c.args.self.now.walker c.args.bytes.now).bytes =
-    c.in_ok-cut.ensures.kept ∙ ap (λ (front : List ℕ). front ++ (left_of c.args.self.now.known c.args.self.now.walker c.args.bytes.now).bytes) c.new-kept.ensures.items in
-    let is_cut : IsCut c.args.self.now c.args.header c.args.bytes.now made.0 =
-    cut_is c.args.self.now c.args.header c.args.bytes.now c.close.new.self.size c.ends-ends.result c.cut.new.kept.items c.close.new.kept.items made.0 c.cut.new.self.known
-    (c.in_ok-close.ensures.size ∙ c.in_ok-cut.ensures.size) c.ends-ends.ensures kept c.in_ok-cut.ensures.known c.in_ok-close.ensures.kept
+    let kept : c.cut.new.kept.items ≡ (left_of (awaiting c.args.owed c.args.self.now.known) c.args.self.now.walker c.args.bytes.now).bytes =
+    c.in_ok-cut.ensures.kept ∙ ap (λ (front : List ℕ). front ++ (left_of c.awaits.new.self c.args.self.now.walker c.args.bytes.now).bytes) c.new-kept.ensures.items
+    ∙ ap (λ (k : Known). (left_of k c.args.self.now.walker c.args.bytes.now).bytes) c.awaits.ensures in
+    let is_cut : IsCut (awaited c.args.owed c.args.self.now) c.args.header c.args.bytes.now made.0 =
+    cut_is (awaited c.args.owed c.args.self.now) c.args.header c.args.bytes.now c.close.new.self.size c.ends-ends.result c.cut.new.kept.items c.close.new.kept.items made.0 c.cut.new.self.known
+    (c.in_ok-close.ensures.size ∙ c.in_ok-cut.ensures.size) c.ends-ends.ensures kept (c.in_ok-cut.ensures.known ∙ ap (λ (k : Known). (left_of k c.args.self.now.walker c.args.bytes.now).known) c.awaits.ensures) c.in_ok-close.ensures.kept
     (subst (λ (bytes : List ℕ). IsAnew c.close.new.self.size c.args.header.packet_id c.ends-ends.result bytes made.0) c.deref.ensures.value made.1) in
     ok_more c.append.result _ _
     (λ post. (

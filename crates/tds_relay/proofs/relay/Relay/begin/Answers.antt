@@ -1,6 +1,9 @@
-use Rattle.std.proofs.Common.{ap, false, refl, rules}
-use Rattle.tds_relay.specs.Hall.{change_end, closes}
-use Rattle.tds_relay.specs.Ties.{Application}
+use Rattle.std.proofs.Common.{◌≡◌, Option, Some, ap, false, inl, refl, rules, subst, sym}
+use Rattle.tds_packet.specs.declared.status.Reset.{Reset}
+use Rattle.tds_packet.specs.declared.status.Reset.TheVariants.{Full, KeepTransaction}
+use Rattle.tds_relay.specs.Fronts.{ends_in, hall_of_ends}
+use Rattle.tds_relay.specs.Hall.{AsksFor, AsksToPart, Ends, IfAsked, change_end, closes, end_at}
+use Rattle.tds_relay.specs.Ties.{Application, desk_in}
 use Rattle.tds_relay.proofs.steps.Fronts.{ends_kept, moves_closes, moves_same}
 use Rattle.tds_relay.proofs.steps.Reaching.{ok_if, ok_more}
 use Rattle.tds_relay.proofs.steps.Staying.{stays_refl, stays_same}
@@ -16,15 +19,31 @@ returns-in-false-default-clause-goes c = ok_more c.wait.result _ _ (λ g from h.
 
 pub returns-in-false-default-clause-moves : goal.returns-in-false-default-clause-moves
 returns-in-false-default-clause-moves c =
-    ok_more c.wait.result _ _ (λ m from h. m (Application c.args.key) refl from (moves_same (Application c.args.key) from _ _ _ _ refl (ends_kept c.args.self.now.applications c.args.key c.in-Some.application.now _ c.in-Some.ensures.value c.forget.ensures.end) h)) c.wait.ensures.moves
+    ok_more c.wait.result _ _ (λ m asks from h. m (Application c.args.key) refl from (moves_same (Application c.args.key) from _ _ _ _ refl (ends_kept c.args.self.now.applications c.args.key c.in-Some.application.now _ c.in-Some.ensures.value c.forget.ensures.end) h)) c.wait.ensures.moves
 
 pub returns-in-false-default-clause-read : goal.returns-in-false-default-clause-read
 returns-in-false-default-clause-read c = stays_same c.wait.result _ _ _ (stays_refl c.args.self.now.links.items) (ok_if c.wait.result _ c.wait.ensures.links)
 
+pub returns-in-true-Some-Full-clause-moves : goal.returns-in-true-Some-Full-clause-moves
+returns-in-true-Some-Full-clause-moves c =
+    let kept = ends_kept c.args.self.now.applications c.args.key c.in-Some.application.now c.forget.new.self c.in-Some.ensures.value c.forget.ensures.end in
+    let full : c.args.reset ≡ Some Full = search rules in
+    ok_more c.change.result _ _
+    (λ m asks from h. m (subst (λ (es : Ends). AsksToPart (hall_of_ends (desk_in c.args.self.now.desk) es) c.args.key) (sym kept) (inl (subst (λ (r : Option Reset). IfAsked r (end_at (ends_in c.args.self.now.applications) c.args.key)) full asks))) from (moves_same (Application c.args.key) from _ _ _ _ refl kept h))
+    c.change.ensures.moves
+
+pub returns-else-may_keep_later-clause-moves : goal.returns-else-may_keep_later-clause-moves
+returns-else-may_keep_later-clause-moves c =
+    let kept = ends_kept c.args.self.now.applications c.args.key c.in-Some.application.now c.forget.new.self c.in-Some.ensures.value c.forget.ensures.end in
+    let keeps : c.args.reset ≡ Some KeepTransaction = search rules in
+    ok_more c.renew.result _ _
+    (λ m asks from h. m (subst (λ (es : Ends). AsksFor KeepTransaction (end_at es c.args.key)) (sym kept) (subst (λ (r : Option Reset). IfAsked r (end_at (ends_in c.args.self.now.applications) c.args.key)) keeps asks)) from (moves_same (Application c.args.key) from _ _ _ _ refl kept h))
+    c.renew.ensures.moves
+
 pub returns-in_default-message_kind-clause-moves : goal.returns-in_default-message_kind-clause-moves
 returns-in_default-message_kind-clause-moves c =
     ok_more c.expel.result _ _
-    (λ m from h. m from (moves_closes (Application c.args.key) from _ _ _ _ c.args.key refl
+    (λ m asks from h. m from (moves_closes (Application c.args.key) from _ _ _ _ c.args.key refl
     (ap (change_end c.args.key closes) (ends_kept c.args.self.now.applications c.args.key c.in-Some.application.now _ c.in-Some.ensures.value refl)) h))
     c.expel.ensures.moves
 

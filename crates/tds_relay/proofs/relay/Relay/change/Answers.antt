@@ -12,7 +12,7 @@ use Rattle.tds_relay.proofs.steps.Going.{waits_starts}
 use Rattle.tds_relay.proofs.relay.Relay.change.Goals as goal
 
 pub returns-then-not-has_nothing_out-clause-moves : goal.returns-then-not-has_nothing_out-clause-moves
-returns-then-not-has_nothing_out-clause-moves c = ok_more c.expel.result _ _ (λ m from h. m from (moves_closes (Application c.args.key) from _ _ _ _ c.args.key refl refl h)) c.expel.ensures.moves
+returns-then-not-has_nothing_out-clause-moves c = ok_more c.expel.result _ _ (λ m asks from h. m from (moves_closes (Application c.args.key) from _ _ _ _ c.args.key refl refl h)) c.expel.ensures.moves
 
 pub returns-clause-goes : goal.returns-clause-goes
 returns-clause-goes c = ok_more c.wait.result _ _ (λ g from h. g (Application c.args.key) refl from (reaches_left c.args.key from _ _ c.in_ok-release.ensures.leaving h)) c.wait.ensures.goes
@@ -20,7 +20,7 @@ returns-clause-goes c = ok_more c.wait.result _ _ (λ g from h. g (Application c
 pub returns-clause-moves : goal.returns-clause-moves
 returns-clause-moves c =
     ok_more c.wait.result _ _
-    (λ m from h. m (Application c.args.key) refl from (moves_lets_go c.args.key from _ _ _ (c.has_nothing_out.ensures (search rules)) c.in_ok-release.ensures.lets_go h))
+    (λ m asks from h. m (Application c.args.key) refl from (moves_lets_go c.args.key from _ _ _ (c.has_nothing_out.ensures (search rules), asks) c.in_ok-release.ensures.lets_go h))
     c.wait.ensures.moves
 
 pub returns-clause-read : goal.returns-clause-read
@@ -35,7 +35,7 @@ returns-then-is_some-clause-goes c = ok_more c.expel-then-is_some.result _ _ (λ
 pub returns-then-is_some-clause-moves : goal.returns-then-is_some-clause-moves
 returns-then-is_some-clause-moves c =
     ok_more c.expel-then-is_some.result _ _
-    (λ m from h. m from (moves_closes (Application c.args.key) from _ _ _ _ c.args.key refl refl (moves_lets_go c.args.key from _ _ _ (c.has_nothing_out.ensures (search rules)) c.in_ok-release.ensures.lets_go h)))
+    (λ m asks from h. m from (moves_closes (Application c.args.key) from _ _ _ _ c.args.key refl refl (moves_lets_go c.args.key from _ _ _ (c.has_nothing_out.ensures (search rules), asks) c.in_ok-release.ensures.lets_go h)))
     c.expel-then-is_some.ensures.moves
 
 pub returns-then-is_some-clause-underway : goal.returns-then-is_some-clause-underway

@@ -1,8 +1,7 @@
 use Rattle.std.proofs.Common.{List, subst, sym, ap, ◌∙◌}
 use Rattle.tds_relay.specs.declared.link.Link.{Link}
-use Rattle.tds_relay.specs.Reads.{Stays}
+use Rattle.tds_relay.specs.Reads.{Stays, waits_on}
 use Rattle.tds_relay.proofs.steps.Staying.{stays_without}
-use Rattle.tds_relay.specs.Bodies.{waits_on}
 use Rattle.tds_relay.proofs.spared.Waits.{left_wait}
 use Rattle.tds_relay.proofs.relay.Relay.close_link.Goals as goal
 

@@ -1,9 +1,9 @@
 use Rattle.std.proofs.Common.{ap, subst, sym}
 use Rattle.tds_relay.specs.declared.desk.Desk as code
 use Rattle.tds_relay.specs.Ties.{Application, Reaches, desk_in, IsReached}
-use Rattle.tds_relay.specs.Fronts.{ends_in, hall_in}
-use Rattle.tds_relay.specs.Hall.{Ends, IfOpen, IsHere, end_at}
-use Rattle.tds_relay.proofs.steps.Fronts.{moves_lets_go, moves_same, open_closed}
+use Rattle.tds_relay.specs.Fronts.{ends_in, hall_in, hall_of_ends}
+use Rattle.tds_relay.specs.Hall.{Ends, MayPart, end_at}
+use Rattle.tds_relay.proofs.steps.Fronts.{closed_parts, moves_lets_go, moves_same}
 use Rattle.tds_relay.proofs.steps.Reaching.{ok_more, reaches_left}
 use Rattle.tds_relay.proofs.steps.Staying.{stays_from}
 use Rattle.tds_relay.specs.Taking.{IsDeaf}
@@ -23,7 +23,7 @@ pub returns-clause-moves : goal.returns-clause-moves
 returns-clause-moves c =
     ok_more c.release.result _ _
     (λ l from h. moves_lets_go c.args.key from _ _ _
-    (subst (λ (es : Ends). IfOpen IsHere (end_at es c.args.key)) (sym c.in_ok-end.ensures.ends) (open_closed IsHere (ends_in c.args.self.now.applications) c.args.key)) l
+    (subst (λ (es : Ends). MayPart (hall_of_ends (desk_in c.end.new.self.desk) es) c.args.key) (sym c.in_ok-end.ensures.ends) (closed_parts (desk_in c.end.new.self.desk) (ends_in c.args.self.now.applications) c.args.key)) l
     (moves_same (Application c.args.key) from _ _ _ _ (ap desk_in c.in_ok-end.ensures.desk) c.in_ok-end.ensures.ends h))
     c.release.ensures.lets_go
 

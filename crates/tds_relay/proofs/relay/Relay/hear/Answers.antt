@@ -2,9 +2,10 @@ use Rattle.std.proofs.Common.{List, Option, ap, length, refl, sym, ◌∙◌, ru
 use Rattle.tds_relay.specs.declared.link.Link.{Link}
 use Rattle.tds_relay.specs.declared.desk.coming.Heard.{Heard}
 use Rattle.tds_relay.specs.Fronts.{ends_in, house_in, house_with, told_by}
-use Rattle.tds_relay.specs.Posts.{posts_in}
+use Rattle.tds_relay.specs.declared.outgoing.Outgoing.{Outgoing}
+use Rattle.tds_relay.specs.Posts.{post_in, posts_in}
 use Rattle.tds_relay.specs.Ties.{desk_in}
-use Rattle.tds_relay.specs.Reads.{place_of}
+use Rattle.tds_relay.specs.Reads.{bytes_on, place_of}
 use Rattle.tds_relay.proofs.bytes.Streaming.{hear_at, unheard, unopened}
 use Rattle.tds_relay.proofs.steps.Staying.{others_written, others_open, opens_refl}
 use Rattle.tds_relay.proofs.steps.Reaching.{ok_if}
@@ -37,9 +38,12 @@ returns-then-not-link-clause-others c =
     others_written c.args.number c.args.self.now.links.items c.in-Some.place c.index_mut-link.result.now _
     (ap (λ (ls : List Link). place_of c.args.number ls) (sym c.deref.ensures.value) ∙ sym c.place_in.ensures.is ∙ c.in-Some.is)
     (ap (λ (l : Link). l.number) c.index_mut-link.ensures.value)
+    (ap (λ (l : Link). l.is_open) c.index_mut-link.ensures.value) (ap bytes_on c.index_mut-link.ensures.value)
 
 pub returns-clause-others : goal.returns-clause-others
 returns-clause-others c =
     ok_if c.hear_on.result _ (others_written c.args.number c.args.self.now.links.items c.in-Some.place c.index_mut-link.result.now _
     (ap (λ (ls : List Link). place_of c.args.number ls) (sym c.deref.ensures.value) ∙ sym c.place_in.ensures.is ∙ c.in-Some.is)
-    (c.hear_on.ensures.number ∙ ap (λ (l : Link). l.number) c.index_mut-link.ensures.value))
+    (c.hear_on.ensures.number ∙ ap (λ (l : Link). l.number) c.index_mut-link.ensures.value)
+    (c.hear_on.ensures.is_open ∙ ap (λ (l : Link). l.is_open) c.index_mut-link.ensures.value)
+    (ap (λ (o : Outgoing). (post_in o).bytes) c.hear_on.ensures.out ∙ ap bytes_on c.index_mut-link.ensures.value))

@@ -22,15 +22,15 @@ returns-in-Closed-clause-goes c = ok_if c.close.result _ (λ from h. subst (λ (
 pub returns-in-Kept-clause-moves : goal.returns-in-Kept-clause-moves
 returns-in-Kept-clause-moves c =
     ok_more c.start.result _ _
-    (λ m from h. m (Connection c.args.number) from (moves_same (Connection c.args.number) from _ _ _ _ (ap desk_in c.restart.ensures.desk) c.restart.ensures.ends (moves_does (Connection c.args.number) from _ _ _ _ _ _ _ c.in_ok-hold.ensures.turns.1 tt tt refl h)))
+    (λ m asks from h. m (Connection c.args.number) from (moves_same (Connection c.args.number) from _ _ _ _ (ap desk_in c.restart.ensures.desk) c.restart.ensures.ends (moves_does (Connection c.args.number) from _ _ _ _ _ _ _ c.in_ok-hold.ensures.turns.1 asks tt refl h)))
     c.start.ensures.moves
 
 pub returns-in-NotKept-clause-moves : goal.returns-in-NotKept-clause-moves
-returns-in-NotKept-clause-moves c = ok_more c.replace.result _ _ (λ m from h. m from (moves_does (Connection c.args.number) from _ _ _ _ _ _ _ c.in_ok-hold.ensures.turns.1 tt tt refl h)) c.replace.ensures.moves
+returns-in-NotKept-clause-moves c = ok_more c.replace.result _ _ (λ m asks from h. m from (moves_does (Connection c.args.number) from _ _ _ _ _ _ _ c.in_ok-hold.ensures.turns.1 asks tt refl h)) c.replace.ensures.moves
 
 pub returns-in-Closed-clause-moves : goal.returns-in-Closed-clause-moves
 returns-in-Closed-clause-moves c =
-    ok_more c.close.result _ _ (λ e from h. moves_closes (Connection c.args.number) from _ _ _ _ c.args.key (ap desk_in c.close.ensures.desk) e (moves_does (Connection c.args.number) from _ _ _ _ _ _ _ c.in_ok-hold.ensures.turns.1 tt tt refl h)) c.close.ensures.ends
+    ok_more c.close.result _ _ (λ e asks from h. moves_closes (Connection c.args.number) from _ _ _ _ c.args.key (ap desk_in c.close.ensures.desk) e (moves_does (Connection c.args.number) from _ _ _ _ _ _ _ c.in_ok-hold.ensures.turns.1 asks tt refl h)) c.close.ensures.ends
 
 pub returns-in-Kept-clause-read : goal.returns-in-Kept-clause-read
 returns-in-Kept-clause-read c = stays_on c.start.result _ _ _ c.restart.ensures.read c.start.ensures.read

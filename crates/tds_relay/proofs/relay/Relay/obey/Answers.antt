@@ -1,9 +1,11 @@
-use Rattle.std.proofs.Common.{true, ◌≡◌, ◌∙◌, ap, false, rules, sym, subst, List, ℕ, refl}
+use Rattle.std.proofs.Common.{true, ◌≡◌, ◌∙◌, ap, false, rules, sym, subst, List, ℕ, Some, refl, slice_set}
+use Rattle.tds_front.specs.Bytes.{fed}
 use Rattle.tds_front.specs.declared.front.Said.{Said}
 use Rattle.tds_relay.specs.Fronts.{given_by, hall_in}
-use Rattle.tds_relay.specs.Hall.{hands_on, takes_back}
+use Rattle.tds_relay.specs.Hall.{IfAsked, Ends, Open, asks_by, end_at, hands_on, takes_back}
 use Rattle.tds_relay.specs.Posts.{acknowledgement, give, posts_in, Posts}
 use Rattle.tds_relay.specs.Ties.{Application}
+use Rattle.tds_relay.proofs.steps.Fronts.{asks_begun}
 use Rattle.tds_relay.proofs.steps.Told.{fed_then}
 use Rattle.tds_relay.proofs.steps.Reaching.{ok_more, ok_if}
 use Rattle.tds_relay.proofs.steps.Staying.{stays_refl, stays_same}
@@ -50,7 +52,8 @@ returns-in-Nothing-clause-moves c = λ before bytes f. fed_then c.args.key _ bef
 pub returns-in-Begin-clause-moves : goal.returns-in-Begin-clause-moves
 returns-in-Begin-clause-moves c =
     ok_more c.begin.result _ _
-    (λ m before bytes f. fed_then c.args.key _ before _ bytes c.args.said _ (ap takes_back c.in-Begin.is) (ap hands_on c.in-Begin.is) f m)
+    (λ m before bytes f. fed_then c.args.key _ before _ bytes c.args.said _ (ap takes_back c.in-Begin.is) (ap hands_on c.in-Begin.is) f
+    (m (subst (λ (es : Ends). IfAsked c.in-Begin.reset (end_at es c.args.key)) (sym (f.is ∙ ap (λ (s : Said). slice_set before c.args.key (Some (Open (fed f.front bytes).front f.withdrawn (asks_by s f.asks)))) c.in-Begin.is)) (asks_begun c.in-Begin.reset before c.args.key _ _))))
     c.begin.ensures.moves
 
 pub returns-in-Body-clause-moves : goal.returns-in-Body-clause-moves

@@ -23,7 +23,7 @@ returns-clause-steps c =
 
 pub returns-clause-opens : goal.returns-clause-opens
 returns-clause-opens c =
-    opens_one_served c.serve_line.result c.args.number _ _ _ _ c.set_open.ensures.opens
+    opens_one_served c.serve_line.result c.args.number _ _ _ _ c.set_open.ensures.opens c.set_open.ensures.waits
     (stays_behind _ _ _ c.in_ok-order_write_on.ensures.links c.in_ok-start_on.ensures.read) c.serve_line.ensures.opens
 
 pub returns-clause-stand : goal.returns-clause-stand

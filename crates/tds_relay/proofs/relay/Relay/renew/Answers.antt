@@ -1,14 +1,15 @@
-use Rattle.std.proofs.Common.{ap, refl, subst, sym}
+use Rattle.std.proofs.Common.{ap, inr, refl, rules, subst, sym}
 use Rattle.tds_relay.specs.declared.desk.Desk as code
 use Rattle.tds_relay.specs.Ties.{Application, Reaches, desk_in}
 use Rattle.tds_relay.proofs.steps.Fronts.{moves_closes, moves_does, moves_same}
 use Rattle.tds_relay.proofs.steps.Reaching.{ok_if, ok_more, reaches_turn}
 use Rattle.tds_relay.proofs.steps.Staying.{stays_on}
 use Rattle.tds_relay.proofs.bytes.Calls.{stand_at, stand_on}
+use Rattle.tds_relay.specs.Asking.{Closes}
 use Rattle.tds_relay.specs.Bodies.{body_of, going_of}
 use Rattle.slab.specs.Slab.{Slab, get}
 use Rattle.tds_relay.specs.declared.application.Application as an
-use Rattle.tds_relay.proofs.steps.Bodied.{closed_body, closed_starts}
+use Rattle.tds_relay.proofs.steps.Bodied.{closed_body, closed_starts, shut_starts}
 use Rattle.tds_relay.proofs.steps.Going.{waits_from}
 use Rattle.tds_relay.proofs.relay.Relay.renew.Goals as goal
 
@@ -18,8 +19,8 @@ returns-in-Kept-clause-goes c =
     (λ g from h. g (Application c.args.key) from (subst (λ (d : code.Desk). Reaches (Application c.args.key) from (desk_in d)) (sym c.restart.ensures.desk) (reaches_turn (Application c.args.key) from _ _ _ _ _ c.in_ok-hold.ensures.turns.1 refl h)))
     c.start.ensures.goes
 
-pub returns-in-NotKept-clause-goes : goal.returns-in-NotKept-clause-goes
-returns-in-NotKept-clause-goes c = ok_more c.change.result _ _ (λ g from h. g from (reaches_turn (Application c.args.key) from _ _ _ _ _ c.in_ok-hold.ensures.turns.1 refl h)) c.change.ensures.goes
+pub returns-else-has_transaction-clause-goes : goal.returns-else-has_transaction-clause-goes
+returns-else-has_transaction-clause-goes c = ok_more c.change.result _ _ (λ g from h. g from (reaches_turn (Application c.args.key) from _ _ _ _ _ c.in_ok-hold.ensures.turns.1 refl h)) c.change.ensures.goes
 
 pub returns-in-Closed-clause-goes : goal.returns-in-Closed-clause-goes
 returns-in-Closed-clause-goes c = ok_if c.close.result _ (λ from h. subst (λ (d : code.Desk). Reaches (Application c.args.key) from (desk_in d)) (sym c.close.ensures.desk) (reaches_turn (Application c.args.key) from _ _ _ _ _ c.in_ok-hold.ensures.turns.1 refl h))
@@ -27,28 +28,28 @@ returns-in-Closed-clause-goes c = ok_if c.close.result _ (λ from h. subst (λ (
 pub returns-in-Kept-clause-moves : goal.returns-in-Kept-clause-moves
 returns-in-Kept-clause-moves c =
     ok_more c.start.result _ _
-    (λ m from h. m (Application c.args.key) from (moves_same (Application c.args.key) from _ _ _ _ (ap desk_in c.restart.ensures.desk) c.restart.ensures.ends
-    (moves_does (Application c.args.key) from _ _ _ _ _ _ _ c.in_ok-hold.ensures.turns.1 tt refl refl h)))
+    (λ m asks from h. m (Application c.args.key) from (moves_same (Application c.args.key) from _ _ _ _ (ap desk_in c.restart.ensures.desk) c.restart.ensures.ends
+    (moves_does (Application c.args.key) from _ _ _ _ _ _ _ c.in_ok-hold.ensures.turns.1 asks refl refl h)))
     c.start.ensures.moves
 
-pub returns-in-NotKept-clause-moves : goal.returns-in-NotKept-clause-moves
-returns-in-NotKept-clause-moves c = ok_more c.change.result _ _ (λ m from h. m from (moves_does (Application c.args.key) from _ _ _ _ _ _ _ c.in_ok-hold.ensures.turns.1 tt refl refl h)) c.change.ensures.moves
+pub returns-else-has_transaction-clause-moves : goal.returns-else-has_transaction-clause-moves
+returns-else-has_transaction-clause-moves c = ok_more c.change.result _ _ (λ m asks from h. m (inr (asks, c.has_transaction.ensures (search rules))) from (moves_does (Application c.args.key) from _ _ _ _ _ _ _ c.in_ok-hold.ensures.turns.1 asks refl refl h)) c.change.ensures.moves
 
 pub returns-in-Closed-clause-moves : goal.returns-in-Closed-clause-moves
 returns-in-Closed-clause-moves c =
-    ok_more c.close.result _ _ (λ e from h. moves_closes (Application c.args.key) from _ _ _ _ c.args.key (ap desk_in c.close.ensures.desk) e (moves_does (Application c.args.key) from _ _ _ _ _ _ _ c.in_ok-hold.ensures.turns.1 tt refl refl h)) c.close.ensures.ends
+    ok_more c.close.result _ _ (λ e asks from h. moves_closes (Application c.args.key) from _ _ _ _ c.args.key (ap desk_in c.close.ensures.desk) e (moves_does (Application c.args.key) from _ _ _ _ _ _ _ c.in_ok-hold.ensures.turns.1 asks refl refl h)) c.close.ensures.ends
 
 pub returns-in-Kept-clause-read : goal.returns-in-Kept-clause-read
 returns-in-Kept-clause-read c = stays_on c.start.result _ _ _ c.restart.ensures.read c.start.ensures.read
 
-pub returns-in-NotKept-clause-underway : goal.returns-in-NotKept-clause-underway
-returns-in-NotKept-clause-underway c = λ whole waits. ok_more c.change.result _ _ (λ u. u whole) c.change.ensures.underway
+pub returns-else-has_transaction-clause-underway : goal.returns-else-has_transaction-clause-underway
+returns-else-has_transaction-clause-underway c = λ whole waits. ok_more c.change.result _ _ (λ u. u whole) c.change.ensures.underway
 
 pub returns-in-Kept-clause-stand : goal.returns-in-Kept-clause-stand
 returns-in-Kept-clause-stand c = stand_on c.start.result _ _ _ (stand_at _ _ _ c.in_ok-hold.ensures.stand c.restart.ensures.desk) c.start.ensures.stand
 
-pub returns-in-NotKept-clause-stand : goal.returns-in-NotKept-clause-stand
-returns-in-NotKept-clause-stand c = stand_on c.change.result _ _ _ c.in_ok-hold.ensures.stand c.change.ensures.stand
+pub returns-else-has_transaction-clause-stand : goal.returns-else-has_transaction-clause-stand
+returns-else-has_transaction-clause-stand c = stand_on c.change.result _ _ _ c.in_ok-hold.ensures.stand c.change.ensures.stand
 
 pub returns-in-Closed-clause-stand : goal.returns-in-Closed-clause-stand
 returns-in-Closed-clause-stand c = ok_if c.close.result _ (stand_at _ _ _ c.in_ok-hold.ensures.stand c.close.ensures.desk)
@@ -58,9 +59,27 @@ returns-in-Kept-clause-body c = λ whole waits.
     ok_more c.start.result _ _ (λ s. waits_from (get c.args.self.now.applications c.args.key) (get c.restart.new.self.applications c.args.key) whole (going_of c.args.key c.args.self.now) (going_of c.args.key c.restart.new.self) (body_of c.args.key c.start.new.self) waits
     (ap (λ (s : Slab an.Application). get s c.args.key) c.restart.ensures.same) s) c.start.ensures.body
 
-pub returns-in-NotKept-clause-body : goal.returns-in-NotKept-clause-body
-returns-in-NotKept-clause-body c = λ whole waits.
+pub returns-else-has_transaction-clause-body : goal.returns-else-has_transaction-clause-body
+returns-else-has_transaction-clause-body c = λ whole waits.
     ok_more c.change.result _ _ (λ s. waits_from (get c.args.self.now.applications c.args.key) (get c.args.self.now.applications c.args.key) whole (going_of c.args.key c.args.self.now) _ (body_of c.args.key c.change.new.self) waits refl s) (c.change.ensures.body whole waits)
 
 pub returns-in-Closed-clause-body : goal.returns-in-Closed-clause-body
 returns-in-Closed-clause-body c = λ whole waits. ok_more c.close.result _ _ (λ e. closed_starts (body_of c.args.key c.args.self.now) (body_of c.args.key c.close.new.self) (closed_body c.args.key c.close.new.self.applications _ (going_of c.args.key c.close.new.self) e)) c.close.ensures.ends
+
+pub returns-then-has_transaction-clause-goes : goal.returns-then-has_transaction-clause-goes
+returns-then-has_transaction-clause-goes c = ok_more c.expel.result _ _ (λ g from h. g from (reaches_turn (Application c.args.key) from _ _ _ _ _ c.in_ok-hold.ensures.turns.1 refl h)) c.expel.ensures.goes
+
+pub returns-then-has_transaction-clause-moves : goal.returns-then-has_transaction-clause-moves
+returns-then-has_transaction-clause-moves c =
+    ok_more c.expel.result _ _
+    (λ m asks from h. m from (moves_closes (Application c.args.key) from _ _ _ _ c.args.key refl refl (moves_does (Application c.args.key) from _ _ _ _ _ _ _ c.in_ok-hold.ensures.turns.1 asks refl refl h)))
+    c.expel.ensures.moves
+
+pub returns-then-has_transaction-clause-underway : goal.returns-then-has_transaction-clause-underway
+returns-then-has_transaction-clause-underway c = λ whole waits. ok_more c.expel.result _ _ (λ d. Closes d) c.expel.ensures.over
+
+pub returns-then-has_transaction-clause-stand : goal.returns-then-has_transaction-clause-stand
+returns-then-has_transaction-clause-stand c = stand_on c.expel.result _ _ _ c.in_ok-hold.ensures.stand c.expel.ensures.stand
+
+pub returns-then-has_transaction-clause-body : goal.returns-then-has_transaction-clause-body
+returns-then-has_transaction-clause-body c = λ whole waits. ok_more c.expel.result _ _ (λ d. shut_starts c.expel.new.self.applications c.args.key (body_of c.args.key c.args.self.now) (going_of c.args.key c.expel.new.self) d) c.expel.ensures.over

@@ -20,17 +20,6 @@ returns-in_default-clause-moves c =
     (moves_loses (Connection c.args.number) from _ _ _ _ c.args.number _ _ _ c.in_ok-holder.ensures.turns (sym c.in_default.is ∙ c.in_ok-holder.ensures.whose) refl h))
     c.close_link.ensures.ends
 
-pub returns-then-not-has_nothing_out-clause-goes : goal.returns-then-not-has_nothing_out-clause-goes
-returns-then-not-has_nothing_out-clause-goes c =
-    ok_if c.close.result _ (λ from h. subst (λ (d : code.Desk). Reaches (Connection c.args.number) from (desk_in d)) (sym c.close.ensures.desk) (reaches_turn (Connection c.args.number) from _ _ _ _ _ c.in_ok-holder.ensures.turns tt h))
-
-pub returns-then-not-has_nothing_out-clause-moves : goal.returns-then-not-has_nothing_out-clause-moves
-returns-then-not-has_nothing_out-clause-moves c =
-    ok_more c.close.result _ _
-    (λ e from h. moves_same (Connection c.args.number) from _ _ _ _ (ap desk_in c.close.ensures.desk) e
-    (moves_loses (Connection c.args.number) from _ _ _ _ c.args.number (Some c.in-Some.key) _ _ c.in_ok-holder.ensures.turns (sym c.in-Some.is ∙ c.in_ok-holder.ensures.whose) refl h))
-    c.close.ensures.ends
-
 pub returns-clause-goes : goal.returns-clause-goes
 returns-clause-goes c =
     ok_more c.wait.result _ _
@@ -43,7 +32,7 @@ returns-clause-moves c =
     ok_more c.wait.result _ _
     (λ m from h. m (Connection c.args.number) tt from
     (moves_same (Connection c.args.number) from _ _ _ _ (ap desk_in (c.in_ok-close_link.ensures.desk ∙ c.let_go.ensures.desk)) c.in_ok-close_link.ensures.ends
-    (moves_replaces c.args.number c.in-Some.key from _ _ _ _ _ _ c.in_ok-holder.ensures.turns (sym c.in-Some.is ∙ c.in_ok-holder.ensures.whose) (c.has_nothing_out.ensures (search rules)) c.let_go.ensures.ends h)))
+    (moves_replaces c.args.number c.in-Some.key from _ _ _ _ _ _ c.in_ok-holder.ensures.turns (sym c.in-Some.is ∙ c.in_ok-holder.ensures.whose) (c.may_replace.ensures (search rules)) c.let_go.ensures.ends h)))
     c.wait.ensures.moves
 
 pub returns-clause-read : goal.returns-clause-read
@@ -53,9 +42,6 @@ returns-clause-read c =
 
 pub returns-in_default-clause-stand : goal.returns-in_default-clause-stand
 returns-in_default-clause-stand c = ok_if c.close_link.result _ (stand_at _ _ _ c.in_ok-holder.ensures.stand c.close_link.ensures.desk)
-
-pub returns-then-not-has_nothing_out-clause-stand : goal.returns-then-not-has_nothing_out-clause-stand
-returns-then-not-has_nothing_out-clause-stand c = ok_if c.close.result _ (stand_at _ _ _ c.in_ok-holder.ensures.stand c.close.ensures.desk)
 
 pub returns-clause-stand : goal.returns-clause-stand
 returns-clause-stand c = stand_on c.wait.result _ _ _ (stand_at _ _ _ c.in_ok-holder.ensures.stand (c.in_ok-close_link.ensures.desk ∙ c.let_go.ensures.desk)) c.wait.ensures.stand

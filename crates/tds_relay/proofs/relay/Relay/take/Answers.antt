@@ -1,5 +1,5 @@
 use Rattle.std.proofs.Common.{◌≡◌, ◌∙◌, Some, false, ap, refl, rules, sym, subst}
-use Rattle.std.specs.Prelude.{is_some, take}
+use Rattle.std.specs.Prelude.{take}
 use Rattle.tds_relay.specs.Fronts.{end_of, ends_in, given_by, hall_in, house_in, hall_of_ends}
 use Rattle.tds_relay.specs.Posts.{Posts, posts_in}
 use Rattle.tds_relay.specs.Ties.{Application, desk_in}
@@ -24,9 +24,9 @@ returns-in_default-feed-clause-tells c = λ first bytes t.
     let here : a.is_over ≡ false = search rules in
     let was = end_there slab c.args.key a c.in-Some.ensures.value ∙ ap Some (end_open a here) in
     let says = sym c.feed.ensures.brings ∙ c.in_default-feed.is in
-    tells_refused c.args.key first bytes c.args.piece.now _ (house_in c.args.self.now) (hall_in c.expel.new.self) _ a.front a.is_withdrawn (is_some a.reset) was
-    (waits_refused c.args.key es c.args.piece.now a.front a.is_withdrawn (is_some a.reset) _ (posts_in slab) was says)
-    (refused_is c.args.key (desk_in c.args.self.now.desk) es c.args.piece.now a.front a.is_withdrawn (is_some a.reset) _ was says)
+    tells_refused c.args.key first bytes c.args.piece.now _ (house_in c.args.self.now) (hall_in c.expel.new.self) _ a.front a.is_withdrawn a.reset was
+    (waits_refused c.args.key es c.args.piece.now a.front a.is_withdrawn a.reset _ (posts_in slab) was says)
+    (refused_is c.args.key (desk_in c.args.self.now.desk) es c.args.piece.now a.front a.is_withdrawn a.reset _ was says)
     (moved_same (Application c.args.key) _ _ _ _ _ refl
     (sym (closed_fed es _ c.args.key _ (end_of a) (end_there slab c.args.key a c.in-Some.ensures.value) (ends_written slab c.args.key _))) c.in_ok-expel.ensures.moves)
     (c.in_ok-expel.ensures.kept ∙ posts_kept slab c.args.key a _ c.in-Some.ensures.value c.feed.ensures.post) t
@@ -50,9 +50,9 @@ returns-in_default-feed-clause-asks c = λ first bytes t.
     let here : a.is_over ≡ false = search rules in
     let was = end_there slab c.args.key a c.in-Some.ensures.value ∙ ap Some (end_open a here) in
     let says = sym c.feed.ensures.brings ∙ c.in_default-feed.is in
-    asks_refused c.args.key first bytes c.args.piece.now _ _ (house_in c.args.self.now) (hall_in c.expel.new.self) _ a.front a.is_withdrawn (is_some a.reset) _ was
-    (waits_refused c.args.key es c.args.piece.now a.front a.is_withdrawn (is_some a.reset) _ (posts_in slab) was says)
-    (refused_is c.args.key (desk_in c.args.self.now.desk) es c.args.piece.now a.front a.is_withdrawn (is_some a.reset) _ was says) says
+    asks_refused c.args.key first bytes c.args.piece.now _ _ (house_in c.args.self.now) (hall_in c.expel.new.self) _ a.front a.is_withdrawn a.reset _ was
+    (waits_refused c.args.key es c.args.piece.now a.front a.is_withdrawn a.reset _ (posts_in slab) was says)
+    (refused_is c.args.key (desk_in c.args.self.now.desk) es c.args.piece.now a.front a.is_withdrawn a.reset _ was says) says
     (moved_same (Application c.args.key) _ _ _ _ _ refl
     (sym (closed_fed es _ c.args.key _ (end_of a) (end_there slab c.args.key a c.in-Some.ensures.value) (ends_written slab c.args.key _))) c.in_ok-expel.ensures.moves)
     (c.in_ok-expel.ensures.kept ∙ posts_kept slab c.args.key a _ c.in-Some.ensures.value c.feed.ensures.post)
@@ -103,9 +103,9 @@ returns-in_default-feed-clause-carries c = λ first bytes at t.
     let here : a.is_over ≡ false = search rules in
     let was = end_there slab c.args.key a c.in-Some.ensures.value ∙ ap Some (end_open a here) in
     let says = sym c.feed.ensures.brings ∙ c.in_default-feed.is in
-    carries_refused c.args.key first bytes c.args.piece.now _ at (body_of c.args.key c.args.self.now) (body_of c.args.key c.expel.new.self) (house_in c.args.self.now) (hall_in c.expel.new.self) _ a.front a.is_withdrawn (is_some a.reset) _ was
-    (waits_refused c.args.key es c.args.piece.now a.front a.is_withdrawn (is_some a.reset) _ (posts_in slab) was says)
-    (refused_is c.args.key (desk_in c.args.self.now.desk) es c.args.piece.now a.front a.is_withdrawn (is_some a.reset) _ was says) says
+    carries_refused c.args.key first bytes c.args.piece.now _ at (body_of c.args.key c.args.self.now) (body_of c.args.key c.expel.new.self) (house_in c.args.self.now) (hall_in c.expel.new.self) _ a.front a.is_withdrawn a.reset _ was
+    (waits_refused c.args.key es c.args.piece.now a.front a.is_withdrawn a.reset _ (posts_in slab) was says)
+    (refused_is c.args.key (desk_in c.args.self.now.desk) es c.args.piece.now a.front a.is_withdrawn a.reset _ was says) says
     (moved_same (Application c.args.key) _ _ _ _ _ refl
     (sym (closed_fed es _ c.args.key _ (end_of a) (end_there slab c.args.key a c.in-Some.ensures.value) (ends_written slab c.args.key _))) c.in_ok-expel.ensures.moves)
     (c.in_ok-expel.ensures.kept ∙ posts_kept slab c.args.key a _ c.in-Some.ensures.value c.feed.ensures.post)

@@ -1,5 +1,6 @@
 use Rattle.std.proofs.Common.{◌∙◌, ◌++◌, ℕ, Bool, List, ap, refl, subst, sym}
 use Rattle.tds_packet.specs.Layout.{header_bytes}
+use Rattle.tds_relay.specs.Cutting.{awaited}
 use Rattle.tds_relay.specs.Handing.{IsOf}
 use Rattle.tds_relay.specs.House.{Whole, Without}
 use Rattle.tds_relay.specs.Posts.{Post, post_of, put}
@@ -13,7 +14,7 @@ returns-then-news-clause-passes c =
     ok_more c.put_without_news.result _ _
     (λ made. record {
       manner = Without tells made.0;
-      by = subst (λ (b : Bool). IsOf tells b c.args.answer.now c.args.packet.header c.args.packet.«data».now (Without tells made.0)) (sym c.if-news.true) (made.0, refl, made.1);
+      by = subst (λ (b : Bool). IsOf tells b (awaited c.args.news.is_owed c.args.answer.now) c.args.packet.header c.args.packet.«data».now (Without tells made.0)) (sym c.if-news.true) (made.0, refl, made.1);
       is = made.2 ∙ ap (λ (p : Post). put made.0 p) c.in_ok-put_news.ensures.post ∙ news_first tells made.0 (post_of c.args.application.now);
     })
     c.put_without_news.ensures
@@ -25,7 +26,7 @@ returns-else-news-clause-passes c =
     ok_more c.put_packet.result _ _
     (λ post. record {
       manner = Whole tells;
-      by = subst (λ (b : Bool). IsOf tells b c.args.answer.now c.args.packet.header c.args.packet.«data».now (Whole tells)) (sym c.if-news.false) refl;
+      by = subst (λ (b : Bool). IsOf tells b (awaited c.args.news.is_owed c.args.answer.now) c.args.packet.header c.args.packet.«data».now (Whole tells)) (sym c.if-news.false) refl;
       is = post ∙ ap (λ (p : Post). put piece p) c.in_ok-put_news.ensures.post ∙ news_first tells piece (post_of c.args.application.now);
     })
     c.put_packet.ensures.post

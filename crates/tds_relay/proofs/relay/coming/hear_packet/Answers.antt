@@ -2,7 +2,7 @@ use Rattle.std.proofs.Common.{◌≡◌, ◌∙◌, ◌&&◌, ◌||◌, not, Boo
 use Rattle.std.specs.Prelude.{IsSome}
 use Rattle.tds_service.specs.Table.{reading_on}
 use Rattle.tds_relay.specs.declared.link.News.{News}
-use Rattle.tds_relay.specs.Desk.{whose}
+use Rattle.tds_relay.specs.Desk.{owes_reset, whose}
 use Rattle.tds_relay.specs.declared.desk.coming.What.TheVariants as whats
 use Rattle.tds_relay.specs.Fronts.{end_of, ends_in}
 use Rattle.tds_relay.specs.Hall.{End}
@@ -20,7 +20,7 @@ use Rattle.tds_relay.proofs.relay.coming.hear_packet.Goals as goal
 
 -- where it isn't handed on
 none : News
-none = news_for false false false
+none = news_for false false false false
 
 pub returns-then-matches-clause-goes : goal.returns-then-matches-clause-goes
 returns-then-matches-clause-goes c = λ from h. reaches_turn (Connection c.args.number) from _ _ _ _ _ c.in_ok-heard.ensures.ok.1 refl h
@@ -115,13 +115,13 @@ returns-clause-brings c =
     let mine : whose d number ≡ Some c.in-Some-key.key = sym c.in_ok-heard.ensures.whose ∙ its in
     let told = heard_so d number c.in-Some-key.key part heard turned.0 _ _ _ turned.1 mine its c.in_ok-heard.ensures.heard closed c.owes_reset-owed.result c.owes_reset.result c.owes_reset-owed.ensures c.owes_reset.ensures in
     let asks = c.is_told-asks.ensures hears ∙ ap (λ (o : Option End). hears_of_reset heard.what o) (sym (end_whose_is c.args.applications.now heard.key c.in-Some-key.key a its c.in-Some-get_mut.ensures.value)) in
-    let by : IsBy (news_for c.is_told-asks.result (c.owes_reset-owed.result && not c.owes_reset.result) (c.owes_reset-owed.result || c.holds.result)) c.args.link.now.answer header content passes.manner =
+    let by : IsBy (news_for c.is_told-asks.result (c.owes_reset-owed.result && not c.owes_reset.result) c.owes_reset-owed.result c.holds.result) c.args.link.now.answer header content passes.manner =
     subst (λ (n : News). IsBy n c.args.link.now.answer header content passes.manner) c.news_for-news.ensures passes.by in
-    let tells : IsTold (hears_of_reset heard.what (end_whose heard.key es)) passes.manner part =
-    subst (λ (b : Bool). IsTold b passes.manner part) asks
-    (told_for c.is_told-asks.result (c.owes_reset-owed.result && not c.owes_reset.result) (c.owes_reset-owed.result || c.holds.result) c.args.link.now.answer header content passes.manner part told
+    let tells : IsTold (owes_reset number d) (hears_of_reset heard.what (end_whose heard.key es)) passes.manner part =
+    subst (λ (b : Bool). IsTold (owes_reset number d) b passes.manner part) asks
+    (told_for (owes_reset number d) c.is_told-asks.result (c.owes_reset-owed.result && not c.owes_reset.result) c.owes_reset-owed.result c.holds.result c.args.link.now.answer header content passes.manner part told
     (unowed c.owes_reset-owed.result c.owes_reset.result c.holds.result) by) in
-    passing number walker (news_for c.is_told-asks.result (c.owes_reset-owed.result && not c.owes_reset.result) (c.owes_reset-owed.result || c.holds.result)) c.args.link.now.answer c.args.link.now.reader heard
+    passing number walker (news_for c.is_told-asks.result (c.owes_reset-owed.result && not c.owes_reset.result) c.owes_reset-owed.result c.holds.result) c.args.link.now.answer c.args.link.now.reader heard
     d _ es posts _ header content c.ends-ends.result turned.0 passes.manner _ _
     c.in-Some.ensures.lent c.ends-ends.ensures turned.1 c.in_ok-heard.ensures.whose c.in_ok-heard.ensures.heard there
     (handed_for _ _ c.args.link.now.answer _ _ passes.manner said by) tells

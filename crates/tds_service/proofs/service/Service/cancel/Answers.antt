@@ -1,11 +1,11 @@
 use Rattle.std.proofs.Common.{[], ◌∷◌, ◌∙◌, refl, ap, arith, rules}
-use Rattle.std.proofs.lemmas.Result.{IfOk-weaker}
+use Rattle.std.proofs.lemmas.Result.{IfOk-weaker, on_ok_weaker}
 use Rattle.tds_service.specs.Line as line
 use Rattle.tds_service.specs.Refusing.{refusal_in}
 use Rattle.tds_service.specs.Service.{has_lease}
 use Rattle.tds_service.specs.Ties.{line_in, cancel_answer}
 use Rattle.tds_service.proofs.Tables.{one_is_all, on_err, cancel_never, cancelled_fine}
-use Rattle.tds_service.proofs.Holding.{on_done}
+use Rattle.tds_service.proofs.Holding.{held_here, on_done}
 use Rattle.tds_service.proofs.Reached.{reached_at, acts_there, answers_there, refuses_there, clients_there, sizes_there}
 use Rattle.tds_service.proofs.service.Service.cancel.Goals as goal
 
@@ -29,6 +29,13 @@ returns-in-Some-clause-how c =
     IfOk-weaker c.cancel_at.result _ _
     (λ done h. (n, answers_there at line.Cancel (cancel_answer n done.1) (h at.here.seat at.here.at_lent).5.answer_is (cancelled_fine n done.1)))
     c.cancel_at.ensures.ok
+
+pub returns-in-Some-clause-stops : goal.returns-in-Some-clause-stops
+returns-in-Some-clause-stops c =
+    let at = reached_at (has_lease c.args.lease) c.args.self.now c.cancel_at.new.seats c.deref.ensures.value c.deref_mut.ensures.value c.in-Some.ensures.first (first_of (omega arith, search rules)) in
+    on_ok_weaker c.cancel_at.result
+    (λ h. (at.here.seat.connection.client, held_here c.args.lease c.args.self.now c.deref_mut.result.now c.in-Some.index at.here, h at.here.seat at.here.at_lent))
+    c.cancel_at.ensures.stops
 
 pub returns-in-Some-clause-refused : goal.returns-in-Some-clause-refused
 returns-in-Some-clause-refused c =

@@ -6,6 +6,7 @@ use Rattle.tds_service.specs.Line as line
 use Rattle.tds_service.specs.Line.{Line}
 use Rattle.tds_service.specs.Service.{Seat, Place, Back, gives_back, does, rests, find_by, has_lease}
 use Rattle.tds_service.specs.Table.{StepsIn, RefusesIn, service_in, seat_in, seats_in, rest_of}
+use Rattle.tds_service.proofs.Holding.{held_here}
 use Rattle.tds_service.proofs.Tables.{with_seats}
 use Rattle.tds_service.proofs.Reached.{reached_at, found_there, closed_there, rests_there, reads_there, clients_resting_there, sizes_resting_there}
 use Rattle.tds_service.proofs.service.Service.give_back.Goals as goal
@@ -26,6 +27,14 @@ returns-in-Ok-clause-ok c =
     (subst (λ (p : Option Place). StepsIn (does old old.given test (seat_in at.here.seat) p (line.Cancel ∷ []) (Back p)) new (Back (rest_of rest)) c.in-Ok.number before after)
     (k.5 ∙ ap (λ (l : Line). rests l.stage) k.4.line_is)
     (record { service_is = did; reply_is = refl; number_is = sym k.3; bytes = k.4.bytes }))
+
+pub returns-in-Ok-clause-stops : goal.returns-in-Ok-clause-stops
+returns-in-Ok-clause-stops c =
+    let at = reached_at (has_lease c.args.lease) c.args.self.now c.give_back_at.new.seats c.deref.ensures.value c.deref_mut.ensures.value c.in-Some.ensures.first (first_of (omega arith, search rules)) in (
+      at.here.seat.connection.client,
+      held_here c.args.lease c.args.self.now c.deref_mut.result.now c.in-Some.index at.here,
+      c.in-Ok.ensures.stops at.here.seat at.here.at_lent,
+    )
 
 pub returns-in-Err-clause-refused : goal.returns-in-Err-clause-refused
 returns-in-Err-clause-refused c =

@@ -1,0 +1,316 @@
+//! A connection's login at the server.
+ghost use Rattle.std.specs.Prelude.{◌≡◌, IfOk, IfSome};
+
+use std::alloc::{AllocError, Global};
+use tds_packet::{Direction, PacketReader, PacketSize};
+use tds_wire::{Change, ChangeValue, Features, Place, Told, Walker};
+
+/// PRELOGIN in one packet (MS-TDS 2.2.6.5): version 11.0, encryption isn't supported, no MARS.
+const PREPARE: [u8; 32] = [
+    0x12, 1, 0, 32, 0, 0, 1, 0, // header: type 12, end of message, 32 bytes
+    0, 0, 16, 0, 6, 1, 0, 22, 0, 1, 4, 0, 23, 0, 1, 0xff, // three options
+    11, 0, 0, 0, 0, 0, 2, 0,
+];
+
+/// LOGIN7's packet type, and how many bytes of data a packet has before a size is agreed.
+const LOGIN7: u8 = 0x10;
+
+const ROOM: usize = 4_088;
+
+/// The most bytes of a login's answer.
+const MOST: usize = 65_536;
+
+/// LOGINACK (MS-TDS 2.2.7.14), SSPI (2.2.7.22) and FEDAUTHINFO (2.2.7.12), which ask for another leg.
+const LOGIN_ACK: u8 = 0xad;
+
+const SSPI: u8 = 0xed;
+
+const FEDERATED: u8 = 0xee;
+
+/// The type of the change that names another server (MS-TDS 2.2.7.9).
+const ROUTING: u8 = 20;
+
+/// The most characters of that server's name.
+const MOST_NAMED: usize = 255;
+
+/// What a login acknowledges: no feature is asked for.
+pub const FEATURES: Features = Features {
+    encryption: false,
+    ranks: false,
+};
+
+/// What came of bytes.
+#[derive(Drop)]
+pub enum Dialed {
+    More,
+    /// It is let in: the packet size, and the data of the answer.
+    In(PacketSize, Vec<u8>),
+    /// The server asks for another leg: the data of that.
+    Leg(Vec<u8>),
+    /// It is to go to another server.
+    Routed(Target),
+    /// It isn't: the data of the answer.
+    Refused(Vec<u8>),
+    /// The server said what isn't spoken here, or demands encryption.
+    Wrong,
+}
+
+/// How a connection came to its server.
+#[derive(Clone, Copy)]
+pub struct Way {
+    /// The place of the server in the list.
+    pub server: usize,
+    /// Those that were tried for it, a bit each.
+    pub tried: u8,
+    /// How often a server has said that it is to go to another one.
+    pub hops: u8,
+}
+
+/// A server's name or address, and its port.
+#[derive(Drop)]
+pub struct Target {
+    pub host: String,
+    pub port: u16,
+}
+
+/// What the answer has said so far.
+#[derive(Clone, Copy)]
+struct Heard {
+    is_in: bool,
+    asks_for_leg: bool,
+    size: PacketSize,
+    /// Where another server's name stands.
+    routed: Option<Place>,
+}
+
+/// A connection's login.
+#[derive(Drop)]
+pub struct Dial {
+    alloc: Global,
+    reader: PacketReader,
+    walker: Walker,
+    message: Vec<u8>,
+    answer: Vec<u8>,
+    is_prepared: bool,
+    heard: Heard,
+    /// Whether the application was asked for another leg: the login can't be begun anew then.
+    pub has_legs: bool,
+    pub way: Way,
+    /// The server's process for it, as the newest packet says.
+    pub spid: u16,
+}
+
+impl Dial {
+    /// A login by this LOGIN7. Its first message is appended to `out`.
+    pub fn new(
+        alloc: Global,
+        message: &[u8],
+        way: Way,
+        out: &mut Vec<u8>,
+    ) -> Result<Option<Dial>, AllocError>
+        ensures by { IfOk result (λ made. IfSome made
+            (λ dial. dial.message.items ≡ message.now)) }
+    {
+        let (Some(most), Some(size)) = (PacketSize::new(32_767), PacketSize::new(4_096)) else {
+            return Ok(None);
+        };
+        out.extend_from_slice(&PREPARE)?;
+        Ok(Some(Dial {
+            alloc,
+            reader: PacketReader::new(alloc, most, Direction::ToClient)?,
+            walker: Walker::new(alloc, 4_096, FEATURES)?,
+            message: message.to_vec(alloc)?,
+            answer: Vec::new(alloc),
+            is_prepared: false,
+            heard: Heard {
+                is_in: false,
+                asks_for_leg: false,
+                size,
+                routed: None,
+            },
+            has_legs: false,
+            way,
+            spid: 0,
+        }))
+    }
+
+    /// Takes bytes up to the end of a packet, and answers how many. What is to be sent is appended.
+    pub fn take(&mut self, piece: &[u8], out: &mut Vec<u8>) -> Result<(usize, Dialed), AllocError>
+        ensures by { self.new.message ≡ self.old.message }
+    {
+        let Ok(count) = self.reader.feed(piece) else {
+            return Ok((piece.len(), Dialed::Wrong));
+        };
+        let Some(packet) = self.reader.packet() else {
+            return Ok((count, Dialed::More));
+        };
+        let ends = packet.header.status.ends();
+        self.spid = packet.header.spid;
+        if self.answer.len() <= MOST {
+            self.answer.extend_from_slice(packet.data)?;
+        }
+        if self.is_prepared {
+            look(&mut self.walker, packet.data, &mut self.heard);
+        }
+        self.reader.done();
+        if !ends {
+            return Ok((count, Dialed::More));
+        }
+        Ok((count, self.ended(out)?))
+    }
+
+    /// A message has ended.
+    fn ended(&mut self, out: &mut Vec<u8>) -> Result<Dialed, AllocError>
+        ensures by { self.new.message ≡ self.old.message }
+    {
+        let answer = std::mem::replace(&mut self.answer, Vec::new(self.alloc));
+        if self.is_prepared {
+            return self.judged(answer);
+        }
+        if demands_encryption(&answer) {
+            return Ok(Dialed::Wrong);
+        }
+        self.is_prepared = true;
+        put_login(out, &self.message)?;
+        Ok(Dialed::More)
+    }
+
+    /// What the server has answered.
+    fn judged(&mut self, answer: Vec<u8>) -> Result<Dialed, AllocError>
+        ensures by { self.new.message ≡ self.old.message }
+    {
+        if answer.len() > MOST {
+            return Ok(Dialed::Wrong);
+        }
+        if let Some(place) = self.heard.routed {
+            return match target_of(self.alloc, bytes_at(&answer, place))? {
+                Some(target) => Ok(Dialed::Routed(target)),
+                None => Ok(Dialed::Wrong),
+            };
+        }
+        if self.heard.is_in {
+            return Ok(Dialed::In(self.heard.size, answer));
+        }
+        if self.heard.asks_for_leg {
+            self.heard.asks_for_leg = false;
+            self.has_legs = true;
+            self.walker.restart();
+            return Ok(Dialed::Leg(answer));
+        }
+        Ok(Dialed::Refused(answer))
+    }
+}
+
+/// Looks for the login's acknowledgement and for the packet size, for another leg, and for another server.
+fn look(walker: &mut Walker, data: &[u8], heard: &mut Heard) {
+    let mut rest = data;
+    for _ in 0..data.len() {
+        if rest.is_empty() {
+            break;
+        }
+        let Ok(fed) = walker.feed(rest) else {
+            break;
+        };
+        let (_, others) = rest.split_at(fed.count);
+        rest = others;
+        if let Some(token) = fed.token {
+            heard.is_in = heard.is_in || token.kind == LOGIN_ACK;
+            heard.asks_for_leg = heard.asks_for_leg
+                || token.kind == SSPI
+                || token.kind == FEDERATED;
+            if let Some(told) = size_told(token.told) {
+                heard.size = told;
+            }
+            if let Some(place) = routing_told(token.told) {
+                heard.routed = Some(place);
+            }
+        }
+    }
+}
+
+/// Where a token names another server.
+fn routing_told(told: Told) -> Option<Place> {
+    match told {
+        Told::Change(
+            Change {
+                kind: ROUTING,
+                value: ChangeValue::Values { new, .. },
+            },
+        ) => Some(new),
+        _ => None,
+    }
+}
+
+/// The bytes of an answer that stand at this place.
+fn bytes_at(answer: &[u8], place: Place) -> &[u8] {
+    let (Ok(start), Ok(length)) = (usize::try_from(place.start), usize::try_from(place.length))
+    else {
+        return &[];
+    };
+    match answer.get(start..start.saturating_add(length)) {
+        Some(bytes) => bytes,
+        None => &[],
+    }
+}
+
+/// The server that a routing names: protocol 0 (TCP), the port, and the name behind the count of its units.
+fn target_of(alloc: Global, value: &[u8]) -> Result<Option<Target>, AllocError> {
+    let [0, low, high, _, _, name @ ..] = value else {
+        return Ok(None);
+    };
+    let mut host = String::new(alloc);
+    for unit in name.chunks_exact(2).take(MOST_NAMED) {
+        match unit {
+            [low @ 0x21..=0x7e, 0] => host.push(char::from(*low))?,
+            _ => return Ok(None),
+        }
+    }
+    Ok(Some(Target {
+        host,
+        port: u16::from_le_bytes([*low, *high]),
+    }))
+}
+
+/// The packet size that a token tells.
+fn size_told(told: Told) -> Option<PacketSize> {
+    let Told::Change(change) = told else {
+        return None;
+    };
+    let ChangeValue::PacketSize(size) = change.value else {
+        return None;
+    };
+    match u16::try_from(size) {
+        Ok(size) => PacketSize::new(size),
+        Err(_) => None,
+    }
+}
+
+/// Whether the answer to PRELOGIN demands that what follows is encrypted.
+fn demands_encryption(answer: &[u8]) -> bool {
+    for option in answer.chunks_exact(5) {
+        if let [1, high, low, _, _] = option {
+            let place = 256 * usize::from(*high) + usize::from(*low);
+            return match answer.get(place) {
+                Some(byte) => *byte == 1 || *byte == 3,
+                None => true,
+            };
+        }
+        if let [0xff, ..] = option {
+            return false;
+        }
+    }
+    false
+}
+
+/// Appends LOGIN7 in packets.
+fn put_login(out: &mut Vec<u8>, message: &[u8]) -> Result<(), AllocError> {
+    let mut left = message.len();
+    for chunk in message.chunks(ROOM) {
+        left = left.saturating_sub(chunk.len());
+        let status = if left == 0 { 1 } else { 0 };
+        let [high, low] = ((chunk.len() + 8) as u16).to_be_bytes();
+        out.extend_from_slice(&[LOGIN7, status, high, low, 0, 0, 1, 0])?;
+        out.extend_from_slice(chunk)?;
+    }
+    Ok(())
+}

@@ -1,0 +1,106 @@
+//! An application's login, as it comes.
+
+use crate::notice::put_refusal;
+use std::alloc::{AllocError, Global};
+use tds_login::{Login, LoginAnswer, put_answer};
+
+/// The most bytes of LOGIN7 (MS-TDS 2.2.6.4).
+const MOST: usize = 131_071;
+
+/// What came of bytes.
+#[derive(Drop)]
+pub enum Passed {
+    More,
+    /// The whole LOGIN7, without its packets' headers.
+    Login(Vec<u8>),
+    /// It isn't let in. What is to be sent says why.
+    Refused,
+}
+
+/// An application's login.
+#[derive(Drop)]
+pub struct Gate {
+    alloc: Global,
+    login: Login,
+    /// Which byte of a packet's header is due, 8 in its data.
+    place: u8,
+    high: u8,
+    /// How many bytes of data are due.
+    left: u16,
+    message: Vec<u8>,
+}
+
+impl Gate {
+    pub fn new(alloc: Global) -> Gate {
+        Gate {
+            alloc,
+            login: Login::new(),
+            place: 0,
+            high: 0,
+            left: 0,
+            message: Vec::new(alloc),
+        }
+    }
+
+    /// Takes bytes. What is answered is appended to `out`.
+    pub fn take(&mut self, piece: &[u8], out: &mut Vec<u8>) -> Result<Passed, AllocError> {
+        let mut rest = piece;
+        for _ in 0..piece.len() {
+            if rest.is_empty() {
+                break;
+            }
+            let Ok(fed) = self.login.feed(rest) else {
+                return Ok(Passed::Refused);
+            };
+            let (taken, others) = rest.split_at(fed.count);
+            self.gather(taken)?;
+            rest = others;
+            match fed.answer {
+                None => {}
+                Some(LoginAnswer::Prepare) => {
+                    put_answer(self.alloc, out, LoginAnswer::Prepare)?;
+                    self.message.clear();
+                }
+                Some(LoginAnswer::LetIn(_)) => return Ok(self.whole()),
+                Some(LoginAnswer::Refuse(refusal)) => {
+                    put_refusal(self.alloc, out, refusal)?;
+                    return Ok(Passed::Refused);
+                }
+            }
+        }
+        Ok(Passed::More)
+    }
+
+    fn whole(&mut self) -> Passed {
+        if self.message.len() > MOST {
+            return Passed::Refused;
+        }
+        Passed::Login(std::mem::replace(&mut self.message, Vec::new(self.alloc)))
+    }
+
+    /// Keeps the data of packets.
+    fn gather(&mut self, bytes: &[u8]) -> Result<(), AllocError> {
+        for byte in bytes {
+            match self.place {
+                2 => {
+                    self.high = *byte;
+                    self.place = 3;
+                }
+                3 => {
+                    self.left = (256 * u16::from(self.high) + u16::from(*byte)).saturating_sub(8);
+                    self.place = 4;
+                }
+                7 => self.place = if self.left > 0 { 8 } else { 0 },
+                8 => {
+                    if self.message.len() <= MOST {
+                        self.message.extend_from_slice(&[*byte])?;
+                    }
+                    self.left = self.left.saturating_sub(1);
+                    self.place = if self.left > 0 { 8 } else { 0 };
+                }
+                place => self.place = place.saturating_add(1),
+            }
+        }
+        Ok(())
+    }
+}

@@ -1,0 +1,191 @@
+//! Groups of applications that share connections: whose login is equal to a group's may join it, and by that
+//! login its connections log in.
+ghost use Rattle.std.specs.Prelude.{◌≡◌, ◌≤◌, ◌*◌, ℕ, List, IfOk, IfSome, Some, None, option_copied};
+ghost use Rattle.std.specs.Prelude.{IsTrue};
+ghost use Rattle.std.specs.Option.{option_copied_mut};
+ghost use Rattle.relay_logins.specs.Groups.{Admits, inner_in, is_joined_in, login_of};
+ghost use Rattle.relay_logins.specs.Keys.{OthersStay, known};
+
+use crate::dial::{Dial, Way};
+use crate::login7::{SharedLogin, are_equal};
+use crate::table::{Entry, Table, number_of};
+use std::alloc::{AllocError, Global};
+
+/// A group, and what else is known of it.
+#[derive(Drop)]
+pub struct Group<T> {
+    /// The LOGIN7 of its connections.
+    login: Vec<u8>,
+    /// Whether others whose logins are equal may join.
+    is_joined: bool,
+    pub inner: T,
+}
+
+/// All groups, each by a key that is never used again.
+#[derive(Drop)]
+pub struct Groups<T> {
+    groups: Table<Group<T>>,
+}
+
+impl<T: Drop> Groups<T> {
+    pub fn new(alloc: Global) -> Groups<T>
+        ensures { (key : ℕ) → known result.groups.slab key ≡ None }
+    {
+        Groups {
+            groups: Table::new(alloc),
+        }
+    }
+
+    /// A new group, whose connections log in by this login, and which those with an equal one may join. None
+    /// where there is no room.
+    pub fn begin(&mut self, login: SharedLogin, inner: T) -> Option<usize>
+        ensures logs_in { IfSome result (λ key.
+            login_of self.new.groups.slab key ≡ Some login.message.items) }
+        ensures fresh { IfSome result (λ key. 16384 * self.old.groups.given ≤ key) }
+        ensures others { IfSome result (λ key.
+            OthersStay key self.old.groups.slab self.new.groups.slab) }
+    {
+        self.groups.insert(Group {
+            login: login.message,
+            is_joined: true,
+            inner,
+        })
+    }
+
+    /// A new group of one application alone, whose connection logs in by this login.
+    pub fn begin_alone(&mut self, login: Vec<u8>, inner: T) -> Option<usize>
+        ensures logs_in { IfSome result (λ key.
+            login_of self.new.groups.slab key ≡ Some login.items) }
+        ensures joined { IfSome result (λ key. (other : List ℕ)
+            → Admits (known self.new.groups.slab key) other → ⊥) }
+        ensures fresh { IfSome result (λ key. 16384 * self.old.groups.given ≤ key) }
+        ensures others { IfSome result (λ key.
+            OthersStay key self.old.groups.slab self.new.groups.slab) }
+    {
+        self.groups.insert(Group {
+            login,
+            is_joined: false,
+            inner,
+        })
+    }
+
+    /// The group that an application with this login joins: its own login is equal.
+    pub fn join(&self, login: &SharedLogin) -> Option<usize>
+        ensures { IfSome result (λ key.
+            Admits (known self.now.groups.slab key) login.now.message.items) }
+    {
+        for (_, entry) in self.groups.iter() {
+            if self.admits(entry.key, login) {
+                return Some(entry.key);
+            }
+        }
+        None
+    }
+
+    /// Whether an application with this login may join a group.
+    fn admits(&self, key: usize, login: &SharedLogin) -> bool
+        ensures { IsTrue result → Admits (known self.now.groups.slab key) login.now.message.items }
+    {
+        match self.groups.get(key) {
+            Some(group) => group.is_joined && are_equal(&group.login, &login.message),
+            None => false,
+        }
+    }
+
+    /// A connection of a group begins its login, by the group's own. Its first message is appended to `out`.
+    /// None where there is no such group.
+    pub fn dial(
+        &self,
+        alloc: Global,
+        key: usize,
+        way: Way,
+        out: &mut Vec<u8>,
+    ) -> Result<Option<Dial>, AllocError>
+        ensures by { IfOk result (λ made. IfSome made
+            (λ dial. login_of self.now.groups.slab key ≡ Some dial.message.items)) }
+    {
+        match self.login_of(key) {
+            Some(login) => Dial::new(alloc, login, way, out),
+            None => Ok(None),
+        }
+    }
+
+    /// The LOGIN7 by which the connections of a group log in.
+    fn login_of(&self, key: usize) -> Option<&[u8]>
+        ensures { option_copied result ≡ login_of self.now.groups.slab key }
+    {
+        match self.groups.get(key) {
+            Some(group) => Some(group.login.as_slice()),
+            None => None,
+        }
+    }
+
+    /// Nobody joins a group any more.
+    pub fn close(&mut self, key: usize) {
+        if let Some(group) = self.groups.get_mut(key) {
+            group.is_joined = false;
+        }
+    }
+
+    /// What a group logged in by is forgotten: nobody logs in by it again, or joins.
+    pub fn forget_login(&mut self, key: usize) {
+        if let Some(group) = self.groups.get_mut(key) {
+            group.is_joined = false;
+            group.login.clear();
+        }
+    }
+
+    /// What is known of a group.
+    pub fn get(&self, key: usize) -> Option<&T>
+        ensures { option_copied result ≡ inner_in (known self.now.groups.slab key) }
+    {
+        match self.groups.get(key) {
+            Some(group) => Some(&group.inner),
+            None => None,
+        }
+    }
+
+    /// The same for writing.
+    pub fn get_mut(&mut self, key: usize) -> Option<&mut T>
+        ensures { option_copied_mut result ≡ inner_in (known self.old.groups.slab key) }
+    {
+        match self.groups.get_mut(key) {
+            Some(group) => Some(&mut group.inner),
+            None => None,
+        }
+    }
+
+    /// A group is one no longer. Its key is no group's from then on.
+    pub fn try_remove(&mut self, key: usize) -> Option<T>
+        ensures gone { known self.new.groups.slab key ≡ None }
+        ensures others { OthersStay key self.old.groups.slab self.new.groups.slab }
+    {
+        let group = self.groups.try_remove(key)?;
+        Some(group.inner)
+    }
+
+    /// Whether others may join a group.
+    pub fn is_joined(&self, key: usize) -> bool
+        ensures { result ≡ is_joined_in (known self.now.groups.slab key) }
+    {
+        match self.groups.get(key) {
+            Some(group) => group.is_joined,
+            None => false,
+        }
+    }
+
+    /// The key of the group of this number.
+    pub fn key_of(&self, number: u64) -> Option<usize> {
+        for (_, entry) in self.groups.iter() {
+            if number_of(entry.key) == number {
+                return Some(entry.key);
+            }
+        }
+        None
+    }
+
+    /// All groups.
+    pub fn iter(&self) -> slab::Iter<'_, Entry<Group<T>>> {
+        self.groups.iter()
+    }
+}

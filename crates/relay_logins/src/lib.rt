@@ -1,0 +1,21 @@
+//! The logins that a relay takes and makes (MS-TDS 2.2.6.4, 2.2.6.5), without I/O: of applications as they
+//! come, of connections at the server, and which of them are equal.
+#![tactic(auto)]
+
+mod dial;
+mod features;
+mod gate;
+mod groups;
+mod leg;
+mod login7;
+mod notice;
+mod table;
+
+pub use dial::{Dial, Dialed, FEATURES, Target, Way};
+pub use features::leave_out_features;
+pub use gate::{Gate, Passed};
+pub use groups::{Group, Groups};
+pub use leg::{Leg, Taken};
+pub use login7::{Kind, SharedLogin, Who, kind_of, who_of};
+pub use notice::{NOT_OPENED, NOWHERE, REFUSED, SILENT, UNANSWERED, put_error, put_saved};
+pub use table::{Entry, Table, number_of};

@@ -1,0 +1,97 @@
+//! What is told of a group and a socket, as objects of JSON. Names need no escape.
+
+use crate::at::Role;
+use crate::lines::{GroupLine, SocketLine};
+use std::io::{self, Write};
+
+/// A socket's object.
+pub fn put_json_socket(body: &mut Vec<u8>, socket: &SocketLine<'_>) -> io::Result<()> {
+    put_kind(body, socket)?;
+    put_at(body, socket)?;
+    put_others(body, socket)?;
+    put_who(body, socket)?;
+    put_process(body, socket)?;
+    write!(body, "}}")
+}
+
+fn put_kind(body: &mut Vec<u8>, socket: &SocketLine<'_>) -> io::Result<()> {
+    let (kind, number) = (socket.role.words(), socket.number);
+    write!(body, "{{\"kind\":\"{kind}\",\"number\":{number}")?;
+    match socket.group {
+        Some(group) => write!(body, ",\"group\":{group}"),
+        None => Ok(()),
+    }
+}
+
+/// What it is at.
+fn put_at(body: &mut Vec<u8>, socket: &SocketLine<'_>) -> io::Result<()> {
+    let (at, seconds) = (socket.at.words(), socket.seconds);
+    write!(body, ",\"at\":\"{at}\",\"seconds\":{seconds}")?;
+    if socket.limit == 0 {
+        return Ok(());
+    }
+    write!(body, ",\"limit\":{}", socket.limit)
+}
+
+/// A connection's process at the server.
+fn put_process(body: &mut Vec<u8>, socket: &SocketLine<'_>) -> io::Result<()> {
+    if let Role::Connection = socket.role {
+        let (spid, server) = (socket.spid, socket.server);
+        write!(body, ",\"spid\":{spid},\"server\":{server}")
+    } else {
+        Ok(())
+    }
+}
+
+/// Who is at the other end, and what it waits for.
+fn put_others(body: &mut Vec<u8>, socket: &SocketLine<'_>) -> io::Result<()> {
+    if let Some(number) = socket.partner {
+        let name = match socket.role {
+            Role::Connection => "held_by",
+            Role::Dialed => "opens_for",
+            _ => "holds",
+        };
+        write!(body, ",\"{name}\":{number}")?;
+    }
+    match socket.at.awaited() {
+        Some(what) => write!(body, ",\"waits_for\":\"{what}\""),
+        None => Ok(()),
+    }
+}
+
+/// Who it says that it is, and where it is.
+fn put_who(body: &mut Vec<u8>, socket: &SocketLine<'_>) -> io::Result<()> {
+    if let Some(peer) = socket.peer {
+        write!(body, ",\"from\":\"{peer}\"")?;
+    }
+    let Some(names) = socket.names else {
+        return Ok(());
+    };
+    for (what, name) in [
+        ("host", names.host),
+        ("user", names.user),
+        ("program", names.program),
+    ]
+    .iter()
+    {
+        write!(body, ",\"{what}\":\"{name}\"")?;
+    }
+    Ok(())
+}
+
+/// A group's object, up to the numbers of those who wait in it.
+pub fn put_json_group(body: &mut Vec<u8>, group: &GroupLine<'_>) -> io::Result<()> {
+    let (number, user) = (group.number, group.user);
+    write!(body, "{{\"group\":{number},\"user\":\"{user}\"")?;
+    put_sharing(body, group)?;
+    write!(body, ",\"line\":[")
+}
+
+fn put_sharing(body: &mut Vec<u8>, group: &GroupLine<'_>) -> io::Result<()> {
+    let is_shared = if group.is_shared { "true" } else { "false" };
+    write!(body, ",\"most\":{},\"shared\":{is_shared}", group.most)?;
+    match group.paused {
+        Some(seconds) => write!(body, ",\"paused_seconds\":{seconds}"),
+        None => Ok(()),
+    }
+}

@@ -1,0 +1,138 @@
+//! Whoever asks what the relay does, over HTTP/1: what he asks for, and the answer's head.
+
+use httparse::Status;
+use httparse::spans::{EMPTY_HEADER_SPAN, parse_request};
+use std::alloc::{AllocError, Global};
+use std::io::{self, Write};
+
+/// The most bytes of a request's head.
+const MOST: usize = 4_096;
+
+/// What may be asked for.
+pub const PAGES: &[u8] =
+    b"GET /, /json, /metrics; POST /kill/GROUP, /pause/GROUP, /resume/GROUP, /reload, /drain\n";
+
+/// What is asked for.
+#[derive(Clone, Copy)]
+pub enum Page {
+    /// A page of text for a reader.
+    Text,
+    Json,
+    /// The text form that Prometheus reads.
+    Metrics,
+    /// All that is there of the group of this number is to be closed.
+    Kill(u64),
+    /// The group of this number is to be paused, and to go on.
+    Pause(u64),
+    Resume(u64),
+    /// The settings are to be read again.
+    Reload,
+    /// The relay is to end in order.
+    Drain,
+    /// Nothing that is there.
+    Unknown,
+    /// No request of HTTP.
+    Wrong,
+}
+
+/// Somebody who asks, until his request's head has come.
+#[derive(Drop)]
+pub struct Asker {
+    head: Vec<u8>,
+    /// Whether he asks from this machine: only then is anything changed.
+    is_near: bool,
+}
+
+impl Asker {
+    pub fn new(alloc: Global, is_near: bool) -> Asker {
+        Asker {
+            head: Vec::new(alloc),
+            is_near,
+        }
+    }
+
+    /// Takes bytes, and answers what is asked for, once that is known.
+    pub fn take(&mut self, piece: &[u8]) -> Result<Option<Page>, AllocError> {
+        self.head.extend_from_slice(piece)?;
+        let mut headers = [EMPTY_HEADER_SPAN; 32];
+        let asked = match parse_request(&self.head, &mut headers) {
+            Ok(Status::Complete(head)) => Some(page_of(
+                head.method.of(&self.head),
+                head.path.of(&self.head),
+                self.is_near,
+            )),
+            Ok(Status::Partial) if self.head.len() <= MOST => None,
+            _ => Some(Page::Wrong),
+        };
+        Ok(asked)
+    }
+}
+
+fn page_of(method: &[u8], path: &[u8], is_near: bool) -> Page {
+    match method {
+        b"GET" => match path {
+            b"/" => Page::Text,
+            b"/json" => Page::Json,
+            b"/metrics" => Page::Metrics,
+            _ => Page::Unknown,
+        },
+        b"POST" if is_near => ordered(path),
+        _ => Page::Unknown,
+    }
+}
+
+/// What is to be changed.
+fn ordered(path: &[u8]) -> Page {
+    match path {
+        b"/reload" => return Page::Reload,
+        b"/drain" => return Page::Drain,
+        _ => {}
+    }
+    if let Some(group) = group_behind(path, b"/kill/") {
+        return Page::Kill(group);
+    }
+    if let Some(group) = group_behind(path, b"/pause/") {
+        return Page::Pause(group);
+    }
+    match group_behind(path, b"/resume/") {
+        Some(group) => Page::Resume(group),
+        None => Page::Unknown,
+    }
+}
+
+/// The number of a group that stands behind this.
+fn group_behind(path: &[u8], front: &[u8]) -> Option<u64> {
+    match path.strip_prefix(front) {
+        Some(digits) => number_of(digits),
+        None => None,
+    }
+}
+
+/// A group's number.
+fn number_of(digits: &[u8]) -> Option<u64> {
+    let mut number: u64 = 0;
+    if digits.is_empty() || digits.len() > 18 {
+        return None;
+    }
+    for digit in digits {
+        if !digit.is_ascii_digit() {
+            return None;
+        }
+        number = number
+            .saturating_mul(10)
+            .saturating_add(u64::from(*digit - b'0'));
+    }
+    Some(number)
+}
+
+/// Appends an answer with this body.
+pub fn put_answer(out: &mut Vec<u8>, status: &str, kind: &str, body: &[u8]) -> io::Result<()> {
+    let length = body.len();
+    write!(
+        out,
+        "HTTP/1.1 {status}\r\nContent-Type: {kind}; charset=utf-8\r\nContent-Length: {length}\r\n"
+    )?;
+    write!(out, "Connection: close\r\n\r\n")?;
+    out.extend_from_slice(body)?;
+    Ok(())
+}

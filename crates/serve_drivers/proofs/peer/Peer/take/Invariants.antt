@@ -1,6 +1,0 @@
-use Rattle.std.proofs.Common.{◌≤◌, vec_len}
-use Rattle.serve_drivers.specs.declared.peer.TheConstants.{MOST_WAITING}
-use Rattle.serve_drivers.proofs.peer.Peer.take.Given as goal
-
-abbrev pub invariant-loop : goal.invariant-loop
-invariant-loop l = vec_len l.fn.out ≤ MOST_WAITING → vec_len l.out ≤ MOST_WAITING

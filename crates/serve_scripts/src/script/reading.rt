@@ -1,0 +1,311 @@
+//! Script files: a JSON object with the keys `version` and `events`, each event an array that begins with
+//! its word.
+
+use crate::script::fields::{Field, event_of, fields_of};
+use crate::script::tokens::fault_of;
+use crate::script::{Event, Script, ScriptFault};
+use json_places::{
+    Key, Outline, Page, Takes, parts_of, put_doubled, put_json_fault, put_place, put_standing,
+    put_unknown_keys, put_value, put_value_fault,
+};
+use serde_json::Value;
+use serve_recordings::bytes_of;
+use std::alloc::{AllocError, Global};
+use std::fmt::Write;
+
+/// The keys of a script.
+const KEYS: [Key; 2] = [
+    Key {
+        name: "version",
+        takes: Takes::Whole { least: 1, most: 1 },
+        wanted: "the number 1",
+    },
+    Key {
+        name: "events",
+        takes: Takes::Array { most: MOST },
+        wanted: "an array of at most 1000 events",
+    },
+];
+
+/// The words of events.
+const WORDS: &str = "hold, cross, cut, split, answer, answer_hex, broken_hex, deaf, late, close, \
+     refuse, fail_reset and break";
+
+/// The most events of a script.
+const MOST: usize = 1000;
+
+/// Reads a script file of this name.
+pub fn read_script(alloc: Global, name: &str, bytes: &[u8]) -> Result<Script, ScriptFault> {
+    let page = Page { name, bytes };
+    let mut text = String::new(alloc);
+    match read_page(alloc, &mut text, page)? {
+        Some(events) => Ok(Script::of(events)),
+        None => Err(wrong(text)),
+    }
+}
+
+/// The events of a file; or what is wrong with it is appended.
+fn read_page(
+    alloc: Global,
+    text: &mut String,
+    page: Page<'_>,
+) -> Result<Option<Vec<Event>>, AllocError> {
+    match Value::from_slice(alloc, page.bytes) {
+        Ok(value) => read_value(alloc, text, page, &value),
+        Err(error) if error.is_memory() => Err(AllocError),
+        Err(_) => {
+            put_json_fault(alloc, text, page)?;
+            Ok(None)
+        }
+    }
+}
+
+/// The events of a file that spells this value; or what is wrong with it is appended.
+fn read_value(
+    alloc: Global,
+    text: &mut String,
+    page: Page<'_>,
+    value: &Value,
+) -> Result<Option<Vec<Event>>, AllocError> {
+    let outline = Outline::read(alloc, page.bytes)?;
+    put_outside_faults(alloc, text, page, &outline, value)?;
+    if !text.is_empty() {
+        return Ok(None);
+    }
+    read_events(alloc, text, page, &outline, value)
+}
+
+/// The events; or what is wrong with the first wrong one is appended.
+fn read_events(
+    alloc: Global,
+    text: &mut String,
+    page: Page<'_>,
+    outline: &Outline,
+    value: &Value,
+) -> Result<Option<Vec<Event>>, AllocError> {
+    let mut events = Vec::new(alloc);
+    let Some(Value::Array(values)) = value.get("events") else {
+        return Ok(Some(events));
+    };
+    for (index, value) in values.iter().enumerate() {
+        let at = outline.event_at(index);
+        match read_event(alloc, text, page, at, index.saturating_add(1), value)? {
+            Some(event) => events.push(event)?,
+            None => return Ok(None),
+        }
+    }
+    Ok(Some(events))
+}
+
+/// The fault of these lines, without the last one's end, which is its reader's.
+fn wrong(mut lines: String) -> ScriptFault {
+    lines.pop();
+    ScriptFault::Wrong(lines)
+}
+
+/// Appends a line for each thing that is wrong outside of the events.
+fn put_outside_faults(
+    alloc: Global,
+    text: &mut String,
+    page: Page<'_>,
+    outline: &Outline,
+    value: &Value,
+) -> Result<(), AllocError> {
+    if !value.is_object() {
+        put_place(text, page, outline.start)?;
+        text.push_str("a script is an object with the keys version and events; ")?;
+        return put_standing(alloc, text, value);
+    }
+    let members = outline.members.as_slice();
+    for key in &KEYS {
+        put_key_fault(text, page, outline, key, value)?;
+    }
+    put_unknown_keys(text, page, members, &KEYS, "version and events")?;
+    put_doubled(text, page, members)
+}
+
+/// Appends a line where a key of a script is missing, or has a value that no script has there.
+fn put_key_fault(
+    text: &mut String,
+    page: Page<'_>,
+    outline: &Outline,
+    key: &Key,
+    value: &Value,
+) -> Result<(), AllocError> {
+    match outline.value_at(key.name) {
+        Some(at) => put_value_fault(text, page, at, key, value),
+        None => {
+            put_place(text, page, outline.start)?;
+            writeln!(text, "the key \"{}\" is missing", key.name)
+        }
+    }
+}
+
+/// An event in a file.
+#[derive(Clone, Copy)]
+struct Spot<'a> {
+    alloc: Global,
+    page: Page<'a>,
+    /// The event's place, from 1, where it begins, and where its parts do.
+    place: usize,
+    at: usize,
+    parts: &'a [usize],
+}
+
+/// The event at a place, from 1, that begins behind so many bytes; or what is wrong with it is appended.
+fn read_event(
+    alloc: Global,
+    text: &mut String,
+    page: Page<'_>,
+    at: usize,
+    place: usize,
+    value: &Value,
+) -> Result<Option<Event>, AllocError> {
+    let parts = parts_of(alloc, page.bytes, at)?;
+    let spot = Spot {
+        alloc,
+        page,
+        place,
+        at,
+        parts: parts.as_slice(),
+    };
+    spot.read(text, value)
+}
+
+impl Spot<'_> {
+    /// The event, of this value; or what is wrong with it is appended.
+    fn read(&self, text: &mut String, value: &Value) -> Result<Option<Event>, AllocError> {
+        if let Some(values) = value.as_array() {
+            if let [first, fields @ ..] = values.as_slice() {
+                return self.read_fields(text, first, fields);
+            }
+        }
+        self.put_front(text, self.at)?;
+        text.push_str("an event is an array that begins with its word; ")?;
+        put_standing(self.alloc, text, value)?;
+        Ok(None)
+    }
+
+    /// The event of this word with what stands behind it; or what is wrong with them is appended.
+    fn read_fields(
+        &self,
+        text: &mut String,
+        first: &Value,
+        fields: &[Value],
+    ) -> Result<Option<Event>, AllocError> {
+        let word = first.as_str().unwrap_or("");
+        let Some(wanted) = fields_of(word) else {
+            self.put_no_word(text, first)?;
+            return Ok(None);
+        };
+        if self.put_field_fault(text, word, wanted, fields)? {
+            return Ok(None);
+        }
+        event_of(self.alloc, word, fields)
+    }
+
+    /// Where a part of it begins.
+    fn part(&self, index: usize) -> usize {
+        self.parts.get(index).copied().unwrap_or(self.at)
+    }
+
+    fn put_front(&self, text: &mut String, at: usize) -> Result<(), AllocError> {
+        put_place(text, self.page, at)?;
+        write!(text, "event {}: ", self.place)
+    }
+
+    /// Appends that no event has this word.
+    fn put_no_word(&self, text: &mut String, word: &Value) -> Result<(), AllocError> {
+        self.put_front(text, self.part(0))?;
+        text.push_str("there is no event ")?;
+        put_value(self.alloc, text, word)?;
+        writeln!(text, "; the words are {WORDS}")
+    }
+
+    /// Appends which field behind its word is wrong, and answers whether one is.
+    fn put_field_fault(
+        &self,
+        text: &mut String,
+        word: &str,
+        wanted: &[Field],
+        fields: &[Value],
+    ) -> Result<bool, AllocError> {
+        if fields.len() != wanted.len() {
+            self.put_count(text, word, wanted.len(), fields.len())?;
+            return Ok(true);
+        }
+        for (index, (value, wanted)) in fields.iter().zip(wanted.iter()).enumerate() {
+            if !wanted.takes(value) {
+                self.put_other(text, word, index.saturating_add(1), wanted.wanted(), value)?;
+                return Ok(true);
+            }
+        }
+        self.put_tokens_fault(text, word, wanted.last(), fields.last())
+    }
+
+    /// Appends what is wrong with tokens in hexadecimal digits that stand last, and answers whether
+    /// something is.
+    fn put_tokens_fault(
+        &self,
+        text: &mut String,
+        word: &str,
+        wanted: Option<&Field>,
+        value: Option<&Value>,
+    ) -> Result<bool, AllocError> {
+        let (Some(Field::Tokens | Field::AnyTokens), Some(value)) = (wanted, value) else {
+            return Ok(false);
+        };
+        let tokens = match bytes_of(self.alloc, value.as_str().unwrap_or(""))? {
+            Ok(tokens) => tokens,
+            Err(place) => {
+                self.put_front(text, self.part(2))?;
+                writeln!(
+                    text,
+                    "value 2 behind \"{word}\" has no digit at character {place}"
+                )?;
+                return Ok(true);
+            }
+        };
+        if matches!(wanted, Some(Field::AnyTokens)) {
+            return Ok(false);
+        }
+        let Some((at, why)) = fault_of(self.alloc, tokens.as_slice())? else {
+            return Ok(false);
+        };
+        self.put_front(text, self.part(2))?;
+        writeln!(
+            text,
+            "value 2 behind \"{word}\" is no answer at byte {at}: {why}"
+        )?;
+        Ok(true)
+    }
+
+    /// Appends how many values stand behind its word, and how many stand there.
+    fn put_count(
+        &self,
+        text: &mut String,
+        word: &str,
+        count: usize,
+        stand: usize,
+    ) -> Result<(), AllocError> {
+        self.put_front(text, self.part(0))?;
+        writeln!(
+            text,
+            "behind \"{word}\" stand {count} values; here stand {stand}"
+        )
+    }
+
+    /// Appends what the field at this place, from 1, is, and what stands there.
+    fn put_other(
+        &self,
+        text: &mut String,
+        word: &str,
+        nth: usize,
+        wanted: &str,
+        value: &Value,
+    ) -> Result<(), AllocError> {
+        self.put_front(text, self.part(nth))?;
+        write!(text, "value {nth} behind \"{word}\" is {wanted}; ")?;
+        put_standing(self.alloc, text, value)
+    }
+}

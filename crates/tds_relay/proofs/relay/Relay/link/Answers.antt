@@ -1,0 +1,18 @@
+use Rattle.std.proofs.Common.{◌≡◌, ◌∙◌, List, None, Option, Some, ap, rules, sym}
+use Rattle.std.specs.Prelude.{option_copied}
+use Rattle.tds_relay.specs.declared.link.Link.{Link}
+use Rattle.tds_relay.specs.Reads.{place_of}
+use Rattle.tds_relay.proofs.steps.Staying.{is_at, is_nowhere}
+use Rattle.tds_relay.proofs.relay.Relay.link.Goals as goal
+
+pub returns-in_err-place : goal.returns-in_err-place
+returns-in_err-place c =
+    let ls : List Link = c.args.self.now.links.items in
+    let here : place_of c.args.number ls ≡ None = search rules in
+    (let none = is_nowhere c.args.number ls here in search (rules, none))
+
+pub returns : goal.returns
+returns c =
+    let ls : List Link = c.args.self.now.links.items in
+    let here : place_of c.args.number ls ≡ Some c.in_ok-place.place = search rules in
+    sym ((is_at c.args.number ls c.in_ok-place.place here).found c.index.result.now ∙ ap Some (sym c.index.ensures))

@@ -1,0 +1,74 @@
+-- What parts an application from its connection is asked for by its own bytes.
+use Rattle.std.proofs.Common.{◌≡◌, ◌∙◌, ◌⊎◌, ◌++◌, ℕ, List, [], ◌∷◌, refl, sym, ap, subst, inl, inr, append_assoc}
+use Rattle.std.specs.Prelude.{Option, Some, None}
+use Rattle.tds_packet.specs.declared.status.Reset.{Reset}
+use Rattle.tds_packet.specs.declared.status.Reset.TheVariants.{Full, KeepTransaction}
+use Rattle.tds_relay.specs.declared.desk.Hold.{Hold}
+use Rattle.tds_relay.specs.Desk as desk
+use Rattle.tds_relay.specs.Desk.{find_key}
+use Rattle.tds_relay.specs.Giving.{Visit, house_in, moves_in}
+use Rattle.tds_relay.specs.Hall as hall
+use Rattle.tds_relay.specs.Hall.{AsksFor, End, Open, Over, Hall, HasNoTransaction, MayMove, Move, end_at, moved, moved_all, new_hall}
+use Rattle.tds_relay.specs.House.{House, Step, Admits, after_all, new_house}
+use Rattle.tds_relay.specs.Law.{HasAsked, KeepsOwn, KeepsSession, Parts, PartsFor, hall_behind}
+use Rattle.tds_relay.specs.Taking.{IsDeaf}
+use Rattle.tds_relay.specs.Telling.{AsksJust, happens_to, wants}
+use Rattle.tds_relay.proofs.ends.Keeping.{Asks, keeps_session}
+use Rattle.tds_relay.proofs.steps.Stepping.{after_both}
+use Rattle.tds_relay.proofs.visits.Stays.{hall_after, may_moves}
+use Rattle.tds_relay.proofs.visits.Tellings.{wants_in}
+
+-- what its end asks for, its bytes do
+asked : (asks : Option Reset) (reset : Reset) (o : Option End) → AsksJust asks o → AsksFor reset o → (asks ≡ Some reset) ⊎ IsDeaf o
+asked asks reset None just is = inr tt
+asked asks reset (Some (Open front withdrawn its)) just is = inl (sym just ∙ is)
+asked asks reset (Some Over) just is = inr tt
+
+module _ (A B : Reset → Type 0) (leads : (reset : Reset) → A reset → B reset) (key : ℕ) (hold : Hold) (h : Hall) where
+  either : (A Full ⊎ (A KeepTransaction × HasNoTransaction h.desk key)) → B Full ⊎ (B KeepTransaction × HasNoTransaction h.desk key)
+  either (inl all) = inl (leads Full all)
+  either (inr kept) = inr (leads KeepTransaction kept.0, kept.1)
+
+  parts_for : PartsFor A key h → PartsFor B key h
+  parts_for p = (p.0, either p.1)
+
+  pub parts_by : (move : Move) → Parts A key hold h move → Parts B key hold h move
+  parts_by (hall.Does (desk.Waits other)) p = absurd p
+  parts_by (hall.Does (desk.Unwaits other)) p = absurd p
+  parts_by (hall.Does desk.Serves) p = absurd p
+  parts_by (hall.Does (desk.Brings gives way)) p = absurd p
+  parts_by (hall.Does (desk.Does other deed)) p = absurd p
+  parts_by (hall.Does (desk.Leaves other gives way)) p = absurd p
+  parts_by (hall.Does (desk.Renews other resumes)) p = (p.0, leads KeepTransaction p.1)
+  parts_by (hall.Does (desk.Comes number part way)) p = absurd p
+  parts_by (hall.Does (desk.Loses number)) p = absurd p
+  parts_by (hall.Sends other deed) p = absurd p
+  parts_by (hall.LetsGo other gives way) p = (p.0, parts_for p.1)
+  parts_by (hall.Loses number) p = p
+  parts_by (hall.Replaces number) p = (p.0, parts_for p.1)
+  parts_by (hall.Comes number part way) p = p
+  parts_by (hall.Feeds other bytes) p = absurd p
+  parts_by (hall.Closes other) p = absurd p
+  parts_by (hall.Enters other ends) p = absurd p
+  parts_by (hall.Quits other gives way) p = p
+
+-- where a visit's steps have led, its moves lead
+behind_is : (max key : ℕ) (v : Visit max key) → hall_behind v ≡ moved_all (new_hall max) (moves_in (v.before ++ Admits key v.ends v.posts ∷ v.since))
+behind_is max key v =
+    let come : List Step = Admits key v.ends v.posts ∷ [] in
+    ap (λ (h : House). h.hall) (sym (after_both (new_house max) (v.before ++ come) v.since) ∙ ap (after_all (new_house max)) (append_assoc v.before come v.since))
+    ∙ hall_after (new_house max) (v.before ++ Admits key v.ends v.posts ∷ v.since)
+
+own_by : (max key : ℕ) (v : Visit max key) (move : Move) (hold : Hold) → (find_key key (moved (hall_behind v) move).desk.holds ≡ Some hold) ⊎ Parts (Asks (hall_behind v) key) key hold (hall_behind v) move
+    → (find_key key (moved (hall_behind v) move).desk.holds ≡ Some hold) ⊎ Parts (HasAsked v) key hold (hall_behind v) move
+own_by max key v move hold (inl keeps) = inl keeps
+own_by max key v move hold (inr parts) =
+    inr (parts_by (Asks (hall_behind v) key) (HasAsked v) (λ reset. asked (wants None (happens_to v)) reset (end_at (hall_behind v).ends key) (wants_in max key v)) key hold (hall_behind v) move parts)
+
+pub keeps_own : (max key : ℕ) (v : Visit max key) (move : Move) → MayMove (hall_behind v) move → KeepsOwn v move
+keeps_own max key v move may hold e =
+    let all : List Step = v.before ++ Admits key v.ends v.posts ∷ v.since in
+    let is = behind_is max key v in
+    let keeps : KeepsSession key (hall_behind v) move =
+    subst (λ (h : Hall). KeepsSession key h move) (sym is) (keeps_session max key (moves_in all) move (may_moves (new_house max) all v.may) (subst (λ (h : Hall). MayMove h move) is may)) in
+    own_by max key v move hold (keeps hold e)

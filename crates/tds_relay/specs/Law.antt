@@ -1,0 +1,96 @@
+-- What a user of a relay is promised, in its own words.
+use Rattle.std.specs.Prelude.{◌≡◌, ◌⊎◌, ℕ, List, [], ◌∷◌, ◌++◌, drop, take, Option, Some, None, if◌then◌else◌}
+use Rattle.tds_packet.specs.declared.status.Reset.{Reset}
+use Rattle.tds_packet.specs.declared.status.Reset.TheVariants.{Full, KeepTransaction}
+use Rattle.tds_relay.specs.House.{after_all}
+use Rattle.tds_relay.specs.Taking.{IsDeaf}
+use Rattle.tds_relay.specs.Telling.{happens_to, wants}
+use Rattle.tds_relay.specs.Reads.{FillsAt, waits_on}
+use Rattle.tds_relay.specs.declared.link.Link.{Link}
+use Rattle.tds_relay.specs.declared.application.Application.{Application}
+use Rattle.tds_relay.specs.declared.desk.Hold.{Hold}
+use Rattle.tds_relay.specs.declared.order.Order.{Order}
+use Rattle.tds_relay.specs.declared.order.Order.TheVariants as orders
+use Rattle.tds_relay.specs.Desk as desk
+use Rattle.tds_relay.specs.Desk.{Wrong, find_key, hearing}
+use Rattle.tds_relay.specs.Giving.{Visit, house_in}
+use Rattle.tds_relay.specs.Hall.{Hall, Move, Does, LetsGo, Loses, Replaces, Comes, Quits, AsksFor, HasNoTransaction, IfOpen, IsHere, done_by, end_at, moved}
+
+-- ---- (1) What leaves
+
+abbrev pub or_nothing : Option (List ℕ) → List ℕ
+or_nothing None = []
+or_nothing (Some bytes) = bytes
+
+-- what is to be sent on the connection of this number
+abbrev pub waiting_on : ℕ → List Link → List ℕ
+waiting_on number ls = or_nothing (waits_on number ls)
+
+-- ---- (2) An application keeps its session: the connection that it holds, by the lease by which it holds it
+
+-- What its request asks for lets it be parted, and nothing of that has gone on.
+abbrev pub PartsFor : (Reset → Type 0) → ℕ → Hall → Type 0
+PartsFor Asks key h = IfOpen IsHere (end_at h.ends key) × (Asks Full ⊎ (Asks KeepTransaction × HasNoTransaction h.desk key))
+
+-- The only ways in which it may hold that no more: its request asks for a reset that does so; it has left; or its connection is lost, or says
+-- what no server may.
+abbrev pub Parts : (Reset → Type 0) → ℕ → Hold → Hall → Move → Type 0
+Parts Asks key hold h (Does (desk.Renews other resumes)) = (other ≡ key) × Asks KeepTransaction
+Parts Asks key hold h (LetsGo other gives way) = (other ≡ key) × PartsFor Asks key h
+Parts Asks key hold h (Replaces number) = (number ≡ hold.number) × PartsFor Asks key h
+Parts Asks key hold h (Quits other gives way) = other ≡ key
+Parts Asks key hold h (Loses number) = number ≡ hold.number
+Parts Asks key hold h (Comes number part way) = (number ≡ hold.number) × (hearing (done_by h.desk number part) ≡ Wrong)
+Parts Asks key hold h move = ⊥
+
+-- By what the relay has of its end.
+abbrev pub KeepsSession : ℕ → Hall → Move → Type 0
+KeepsSession key h move =
+    (hold : Hold) → find_key key h.desk.holds ≡ Some hold
+    → (find_key key (moved h move).desk.holds ≡ Some hold) ⊎ Parts (λ reset. AsksFor reset (end_at h.ends key)) key hold h move
+
+-- where a visit's steps have led
+abbrev pub hall_behind : {max key : ℕ} → Visit max key → Hall
+hall_behind {max} {key} v = (after_all (house_in v) v.since).hall
+
+-- The last request that has begun by its own bytes asks for this reset, and it has neither been told of it nor taken the request back; or it
+-- is to be closed.
+abbrev pub HasAsked : {max key : ℕ} → Visit max key → Reset → Type 0
+HasAsked {max} {key} v reset = (wants None (happens_to v) ≡ Some reset) ⊎ IsDeaf (end_at (hall_behind v).ends key)
+
+abbrev pub KeepsOwn : {max key : ℕ} → Visit max key → Move → Type 0
+KeepsOwn {max} {key} v move =
+    (hold : Hold) → find_key key (hall_behind v).desk.holds ≡ Some hold
+    → (find_key key (moved (hall_behind v) move).desk.holds ≡ Some hold) ⊎ Parts (HasAsked v) key hold (hall_behind v) move
+
+-- ---- (3) Who is to be closed is ordered closed, once
+
+abbrev pub closing : Option Application → List Order → List Order
+closing None all = all
+closing (Some a) all = if a.is_over then all else all ++ orders.Close a.tag ∷ []
+
+-- ---- (4) What goes out on a connection, over calls
+
+-- What becomes of what waits on a connection while it is open: a call leaves it there, with more behind it or not; or so many of its first
+-- bytes are sent.
+pub data Wire : Type 0 where
+  Fills : (old new : List ℕ) → FillsAt (Some old) (Some new) → Wire
+  Sends : (count : ℕ) → Wire
+
+-- They follow each other, from what waits first to what waits last.
+abbrev pub FollowOn : List ℕ → List Wire → List ℕ → Type 0
+FollowOn waits [] last = waits ≡ last
+FollowOn waits (Fills old new fills ∷ wires) last = (waits ≡ old) × FollowOn new wires last
+FollowOn waits (Sends count ∷ wires) last = FollowOn (drop count waits) wires last
+
+-- what is put there in them
+abbrev pub put_in : List Wire → List ℕ
+put_in [] = []
+put_in (Fills old new fills ∷ wires) = fills.0 ++ put_in wires
+put_in (Sends count ∷ wires) = put_in wires
+
+-- what is sent in them
+abbrev pub went_out : List ℕ → List Wire → List ℕ
+went_out waits [] = []
+went_out waits (Fills old new fills ∷ wires) = went_out new wires
+went_out waits (Sends count ∷ wires) = take count waits ++ went_out (drop count waits) wires

@@ -1,0 +1,16 @@
+#!/usr/bin/env bash
+# FreeTDS's tsql where scripts put it into bad places: tsql_scripted.sh NAME=PORT.. Its `timeout` cancels a request.
+conf=$(mktemp) || exit 1
+trap 'rm -f "$conf"' EXIT
+printf '[global]\n\ttimeout = 1\n' >"$conf"
+for word in "$@"; do
+    case ${word%%=*} in
+        held | crossed) texts=('rows 1 1;rows 5 1;rows 9 1' 'rows 7 1') ;;
+        begin_crossed) texts=(begin commit commit) ;;
+        cut) texts=('rows 1 1' 'rows 1 9' 'rows 3 1') ;;
+        *) texts=('rows 1 3;say x;rows 5 1') ;;
+    esac
+    echo "${word%%=*}"
+    (printf '%s\ngo\n' "${texts[@]}"; echo exit) |
+        FREETDSCONF=$conf TDSVER=7.4 timeout 30 tsql -H 127.0.0.1 -p "${word#*=}" -U a -P b -o q 2>&1
+done

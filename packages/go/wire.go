@@ -1,0 +1,125 @@
+package mouktelf
+
+/*
+#include "mouktelf.h"
+*/
+import "C"
+
+import "fmt"
+
+// Tells is what is told of a token: which fields of it count.
+type Tells uint8
+
+const (
+	TellsNothing      = Tells(C.TDS_WIRE_TELLS_NOTHING)
+	TellsDone         = Tells(C.TDS_WIRE_TELLS_DONE)          // Status, Command, Value: the count of rows
+	TellsTransaction  = Tells(C.TDS_WIRE_TELLS_TRANSACTION)   // Change; Value and OldValue, descriptors
+	TellsReset        = Tells(C.TDS_WIRE_TELLS_RESET)         // ENVCHANGE 18
+	TellsPacketSize   = Tells(C.TDS_WIRE_TELLS_PACKET_SIZE)   // Size
+	TellsValues       = Tells(C.TDS_WIRE_TELLS_VALUES)        // Change; Text the new value, Others the old one
+	TellsOtherChange  = Tells(C.TDS_WIRE_TELLS_OTHER_CHANGE)  // Change
+	TellsMessage      = Tells(C.TDS_WIRE_TELLS_MESSAGE)       // Number, State, Severity, Text; Others: names, line
+	TellsReturnStatus = Tells(C.TDS_WIRE_TELLS_RETURN_STATUS) // Number
+	TellsSessionState = Tells(C.TDS_WIRE_TELLS_SESSION_STATE) // Size: its number; Recoverable, Text: the states
+	TellsUnclear      = Tells(C.TDS_WIRE_TELLS_UNCLEAR)       // its fields don't fit its length or its type
+)
+
+// Place is bytes of the message, counted from its first one. They may have come in pieces that are gone.
+type Place struct{ Start, Length uint64 }
+
+// Walked is a token that has ended. A field that its kind doesn't have is 0.
+type Walked struct {
+	Start, Length   uint64
+	Value, OldValue uint64
+	Text, Others    Place
+	Number          int32
+	Size            uint32
+	Status, Command uint16
+	Kind            uint8
+	Tells           Tells
+	Change          uint8
+	State, Severity uint8
+	Recoverable     bool
+}
+
+// Refused is a byte that no answer has: its fault as the header numbers it (71 to 74), and its place in the message.
+type Refused struct {
+	Number uint8
+	At     uint64
+	Byte   uint8
+}
+
+func (refused Refused) Error() string {
+	return fmt.Sprintf("fault %d at %d, the byte %02x", refused.Number, refused.At, refused.Byte)
+}
+
+// Walk finds where each token of an answer ends, for every type of column of TDS 7.2 to 7.4 (MS-TDS 2.2.7). The bytes come in
+// pieces of any size: the data of packets of type 04.
+type Walk struct {
+	value  C.struct_tds_wire
+	memory C.struct_tds_wire_memory
+}
+
+// NewWalk makes a walk with room for so many columns, 4,096 at most. The others say that the FEATUREEXTACK of the login
+// acknowledged column encryption, and data classification of version 2.
+func NewWalk(most uint16, encryption, ranks bool) *Walk {
+	walk := &Walk{}
+	C.tds_wire_new(C.uint16_t(most), oneWhere(encryption), oneWhere(ranks), &walk.value, &walk.memory)
+	return walk
+}
+
+func oneWhere(is bool) C.uint8_t {
+	if is {
+		return 1
+	}
+	return 0
+}
+
+// Next takes bytes up to the end of one token: how many, and the token, nil where none has ended.
+func (walk *Walk) Next(bytes []byte) (int, *Walked, error) {
+	var count C.size_t
+	var token C.struct_tds_wire_token
+	switch answer := C.tds_wire_next(&walk.value, &walk.memory, at(bytes), C.size_t(len(bytes)), &count, &token); answer {
+	case C.TDS_WIRE_ENDED:
+		return int(count), walked(&token), nil
+	case C.TDS_WIRE_MORE:
+		return int(count), nil, nil
+	default:
+		refused := walk.value.refused
+		return 0, nil, Refused{uint8(answer), uint64(refused.at), uint8(refused.byte)}
+	}
+}
+
+// Between says whether a message may end here.
+func (walk *Walk) Between() bool { return C.tds_wire_is_between(&walk.value, &walk.memory) == 1 }
+
+// Restart begins anew, before the first token of the next message.
+func (walk *Walk) Restart() { C.tds_wire_restart(&walk.value, &walk.memory) }
+
+func place(it C.struct_tds_wire_place) Place { return Place{uint64(it.start), uint64(it.length)} }
+
+func walked(it *C.struct_tds_wire_token) *Walked {
+	return &Walked{
+		Start: uint64(it.start), Length: uint64(it.length), Value: uint64(it.value), OldValue: uint64(it.old_value),
+		Text: place(it.text), Others: place(it.others), Number: int32(it.number), Size: uint32(it.size),
+		Status: uint16(it.status), Command: uint16(it.command), Kind: uint8(it.kind), Tells: Tells(it.told),
+		Change: uint8(it.change), State: uint8(it.state), Severity: uint8(it.severity), Recoverable: it.recoverable == 1,
+	}
+}
+
+// Heard hears a token that a walk has found, of any server, in place of Take. It says whether the caller that asked is told
+// of it.
+func (client *Client) Heard(token *Walked) (bool, error) {
+	switch token.Tells {
+	case TellsDone:
+		return client.HeardDone(token.Kind, token.Status)
+	case TellsTransaction:
+		if token.Change == 8 || token.Change == 11 {
+			return client.HeardChange(token.Change, token.Value)
+		}
+		return client.HeardChange(token.Change, token.OldValue)
+	case TellsReset:
+		return client.HeardChange(18, 0)
+	}
+	return client.HeardOther()
+}

@@ -1,0 +1,330 @@
+"""The client's end of one connection."""
+
+import struct
+from ctypes import byref, c_char_p, c_size_t, c_uint8, c_uint16, c_void_p, cast
+from dataclasses import dataclass
+from enum import IntEnum
+from typing import Iterator, List, Optional, Tuple, Union
+
+from ._library import LIBRARY, ClientValue, Cursor, Packet, TokenValue, WireToken
+from .fault import Fault, Refused
+from .wire import Tells, Walk, Walked, _walked
+
+_MESSAGE_MOST = 4022
+_NO_NEXT = 255
+_TO_CLIENT = 1
+_OK, _FULL, _END, _TELL, _WANTS_BYTES, _FIRST_FAULT = 0, 1, 9, 10, 24, 20
+_HEADER, _RESET, _NEW_IS_TOLD, _AT_ONCE = 8, 18, (8, 11), 256
+
+
+class Answer(IntEnum):
+    """What a call did, as mouktelf.h numbers it."""
+
+    MORE = 1
+    LAST = 2
+    FINISHED = 3
+    ACKNOWLEDGED = 4
+    NOTHING = 5
+    ALREADY = 6
+    UNSENT = 7
+    ASKED = 8
+
+
+Acknowledged = Answer.ACKNOWLEDGED
+
+
+class MessageKind(IntEnum):
+    """Which message a request is (MS-TDS 2.2.1)."""
+
+    BATCH = 1
+    PROCEDURE = 3
+    BULK_LOAD = 7
+    TRANSACTION = 14
+
+
+class Stage(IntEnum):
+    """What a client is doing."""
+
+    IDLE = 0
+    SENDING = 1
+    READING = 2
+    CANCELLING = 3
+    BROKEN = 4
+
+
+class Reset(IntEnum):
+    """The reset that the next request asks for."""
+
+    FULL = 1
+    KEEP_TRANSACTION = 2
+
+
+@dataclass(frozen=True)
+class Message:
+    """An INFO or an ERROR."""
+
+    is_error: bool
+    number: int
+    state: int
+    severity: int
+    line: int
+    text: str
+
+
+@dataclass(frozen=True)
+class ReturnStatus:
+    """A RETURNSTATUS."""
+
+    value: int
+
+
+@dataclass(frozen=True)
+class Columns:
+    """A COLMETADATA of so many INT4 columns."""
+
+    count: int
+
+
+@dataclass(frozen=True)
+class Row:
+    """A ROW."""
+
+    values: Tuple[int, ...]
+
+
+@dataclass(frozen=True)
+class Change:
+    """An ENVCHANGE: 8 begin, 9 commit, 10 rollback, 18 the end of a reset; and the transaction's descriptor."""
+
+    kind: int
+    descriptor: int
+
+
+@dataclass(frozen=True)
+class Done:
+    """A DONE."""
+
+    status: int
+    rows: int
+
+
+Token = Union[Message, ReturnStatus, Columns, Row, Change, Done]
+
+
+@dataclass(frozen=True)
+class Taken:
+    """What one packet of an answer did: MORE, FINISHED or ACKNOWLEDGED, and the tokens that are told."""
+
+    answer: Answer
+    tokens: List[Token]
+
+
+@dataclass(frozen=True)
+class Heard:
+    """What the data of one packet did: MORE, FINISHED or ACKNOWLEDGED, and the tokens that are told, as a walk finds them."""
+
+    answer: Answer
+    tokens: List[Walked]
+
+
+def _done(number: int) -> int:
+    if number >= _FIRST_FAULT:
+        raise Fault(number)
+    return number
+
+
+class Client:
+    """The client's end of one connection, for packets of 512 to 32,767 bytes."""
+
+    def __init__(self, size: int) -> None:
+        self._value, self._message = ClientValue(), b""
+        self._kept, self._waiting = (c_uint8 * 1)(), c_size_t()
+        if not 0 <= size <= 0xFFFF:
+            raise Fault(23)
+        _done(LIBRARY.tds_client_new(size, byref(self._value)))
+
+    @property
+    def stage(self) -> Stage:
+        """What it is doing."""
+        return Stage(self._value.stage)
+
+    @property
+    def descriptor(self) -> int:
+        """The descriptor of the open transaction, 0 for none."""
+        return self._value.descriptor
+
+    def mark_reset(self, reset: Reset) -> None:
+        """In idle: lets the next request ask for a reset. Of two marks the stronger one stays."""
+        _done(LIBRARY.tds_client_mark_reset(byref(self._value), reset))
+
+    def start_batch(self, text: str) -> None:
+        """In idle: takes a batch of 1 to 2,000 units of UTF-16. Nothing goes out yet."""
+        data = text.encode("utf-16-le", "surrogatepass")
+        units = (c_uint16 * max(len(data) // 2, 1)).from_buffer_copy(data or b"\0\0")
+        self._start(LIBRARY.tds_client_start_batch, units, len(data) // 2)
+
+    def start_begin(self, isolation: int = 0) -> None:
+        """In idle: takes the request to begin a transaction, at a level of 0 to 5."""
+        self._start(LIBRARY.tds_client_start_begin, _level(isolation))
+
+    def start_commit(self, next: Optional[int] = None) -> None:
+        """In idle: takes the request to commit, and to begin the next transaction at once at that level."""
+        self._start(LIBRARY.tds_client_start_commit, _NO_NEXT if next is None else _level(next))
+
+    def start_rollback(self, next: Optional[int] = None) -> None:
+        """The same of a rollback."""
+        self._start(LIBRARY.tds_client_start_rollback, _NO_NEXT if next is None else _level(next))
+
+    def _start(self, call, *words) -> None:
+        message, count = (c_uint8 * _MESSAGE_MOST)(), c_size_t()
+        _done(call(byref(self._value), *words, message, _MESSAGE_MOST, byref(count)))
+        self._message = bytes(message[: count.value])
+
+    def send(self) -> Tuple[Answer, bytes]:
+        """In sending: the request's next packet, and whether it is the LAST or there are MORE."""
+        room, count = self._value.size, c_size_t()
+        out = (c_uint8 * max(room, 1))()
+        number = _done(LIBRARY.tds_client_send(byref(self._value), self._message, len(self._message), out, room, byref(count)))
+        return Answer(number), bytes(out[: count.value])
+
+    def send_all(self) -> bytes:
+        """The packets of the request that are still to go out."""
+        packets, answer = [], Answer.MORE
+        while answer == Answer.MORE:
+            answer, packet = self.send()
+            packets.append(packet)
+        return b"".join(packets)
+
+    def cancel(self) -> Tuple[Answer, bytes]:
+        """Cancels what is underway. Behind ASKED send the bytes, and take packets until ACKNOWLEDGED."""
+        out, count = (c_uint8 * 16)(), c_size_t()
+        number = _done(LIBRARY.tds_client_cancel(byref(self._value), out, 16, byref(count)))
+        return Answer(number), bytes(out[: count.value])
+
+    def take(self, packet: bytes) -> Taken:
+        """Takes one packet of an answer, from its first byte to its last. Behind a cancel nothing is told of it."""
+        is_told, columns = self._value.stage == Stage.READING, self._value.columns
+        answer = Answer(_done(LIBRARY.tds_client_take(byref(self._value), packet, len(packet))))
+        return Taken(answer, list(_tokens(packet[8:], columns)) if is_told else [])
+
+    def start_message(self, kind: MessageKind) -> None:
+        """In idle: begins a message that is sent in parts. Its body comes by `put`, and `finish` ends it."""
+        kept, waiting = (c_uint8 * (self._value.size - _HEADER))(), c_size_t()
+        _done(LIBRARY.tds_client_start_message(byref(self._value), kind, kept, len(kept), byref(waiting)))
+        self._kept, self._waiting = kept, waiting
+
+    def put(self, data: bytes) -> bytes:
+        """In sending: puts bytes of the message's body, and gives the packets that are full."""
+        room, packets = self._value.size, b""
+        out, taken, count, answer = (c_uint8 * max(room, 1))(), c_size_t(), c_size_t(), _FULL
+        while answer == _FULL:
+            answer = _done(LIBRARY.tds_client_put(
+                byref(self._value), self._kept, len(self._kept), byref(self._waiting), data, len(data), byref(taken), out,
+                room, byref(count)))
+            packets += bytes(out[: count.value])
+            data = data[taken.value:]
+        return packets
+
+    def finish(self) -> bytes:
+        """Ends the message, and gives its last packet."""
+        room, count = self._value.size, c_size_t()
+        out = (c_uint8 * max(room, 1))()
+        _done(LIBRARY.tds_client_finish(byref(self._value), self._kept, self._waiting, out, room, byref(count)))
+        return bytes(out[: count.value])
+
+    def heard(self, token: Walked) -> bool:
+        """Hears a token that a walk has found, of any server, in place of `take`. Whether the caller that asked is told
+        of it: behind a cancel nobody is."""
+        if token.tells == Tells.DONE:
+            return self.heard_done(token.kind, token.status)
+        if token.tells == Tells.TRANSACTION:
+            return self.heard_change(token.change, token.value if token.change in _NEW_IS_TOLD else token.old_value)
+        return self.heard_change(_RESET) if token.tells == Tells.RESET else self.heard_other()
+
+    def heard_done(self, kind: int, status: int) -> bool:
+        """Hears a DONE (FD), DONEPROC (FE) or DONEINPROC (FF) that a reader of your own has found."""
+        return _done(LIBRARY.tds_client_heard_done(byref(self._value), kind, status)) == _TELL
+
+    def heard_change(self, kind: int, descriptor: int = 0) -> bool:
+        """Hears an ENVCHANGE of type 8 to 12, 17 or 18, with the transaction's descriptor: the new one of a begin, else the old."""
+        return _done(LIBRARY.tds_client_heard_change(byref(self._value), kind, descriptor)) == _TELL
+
+    def heard_other(self) -> bool:
+        """Hears any other token."""
+        return _done(LIBRARY.tds_client_heard_other(byref(self._value))) == _TELL
+
+    def hear(self, walk: Walk, data: bytes, ends: bool) -> Heard:
+        """Hears all tokens that end in the data of a packet of any server's answer (type 04, behind its header), in one call for
+        256 of them; `ends` is bit 1 of the packet's status. It is `walk.tokens`, `heard` and `message_ended` in one, and a
+        `Fault` of it has in `tokens` what was told before."""
+        data, at, told, answer = bytes(data), 0, [], _TELL
+        first, found, taken, count = cast(c_char_p(data), c_void_p).value or 0, (WireToken * _AT_ONCE)(), c_size_t(), c_size_t()
+        while answer == _TELL:
+            answer = LIBRARY.tds_client_hear(
+                byref(self._value), byref(walk._value), byref(walk._memory), c_char_p(first + at), len(data) - at, ends,
+                byref(taken), found, _AT_ONCE, byref(count))
+            told += [_walked(found[place]) for place in range(count.value)]
+            at += taken.value
+        if answer < _FIRST_FAULT:
+            return Heard(Answer(answer or Answer.MORE), told)
+        refused = walk._value.refused
+        fault = Refused(answer, refused.at, refused.byte) if 71 <= answer <= 74 else Fault(answer)
+        fault.tokens = told
+        raise fault
+
+    def message_ended(self) -> Answer:
+        """Hears that a message has ended, behind the packet whose status has bit 1: MORE, FINISHED or ACKNOWLEDGED."""
+        return Answer(_done(LIBRARY.tds_client_message_ended(byref(self._value))))
+
+    def lost(self) -> None:
+        """The connection is lost: the client is broken, unless it is broken already."""
+        LIBRARY.tds_client_lost(byref(self._value))
+
+
+def _level(isolation: int) -> int:
+    if not 0 <= isolation < _NO_NEXT:
+        raise Fault(23)
+    return isolation
+
+
+def packets_of(data: bytes, size: int) -> Tuple[List[bytes], bytes]:
+    """The packets from a server at the front of these bytes, and the rest, behind which the next bytes go."""
+    if not 0 <= size <= 0xFFFF:
+        raise Fault(23)
+    data = bytes(data)
+    found, packets, count, at = (Packet * 16)(), [], c_size_t(), 0
+    first = cast(c_char_p(data), c_void_p).value or 0
+    while True:
+        number = LIBRARY.tds_packets_read(c_char_p(first + at), len(data) - at, size, _TO_CLIENT, found, 16, byref(count))
+        for packet in found[: count.value]:
+            packets.append(data[at: at + packet.length])
+            at += packet.length
+        if number == _WANTS_BYTES:
+            return packets, data[at:]
+        _done(number)
+
+
+def _tokens(data: bytes, columns: int) -> Iterator[Token]:
+    cursor, read, count, number = Cursor(0, columns), (TokenValue * 32)(), c_size_t(), _OK
+    while number == _OK:
+        number = LIBRARY.tds_tokens_next(data, len(data), byref(cursor), read, 32, byref(count))
+        for it in read[: count.value]:
+            yield _token(it, data[it.start:])
+    if number != _END:
+        raise Fault(number)
+
+
+def _token(it: TokenValue, data: bytes) -> Token:
+    if it.kind in (0xAB, 0xAA):
+        length = 2 * int.from_bytes(data[9:11], "little")
+        text = data[11: 11 + length].decode("utf-16-le", "surrogatepass")
+        return Message(it.kind == 0xAA, it.number, it.state, it.severity, it.line, text)
+    if it.kind == 0x79:
+        return ReturnStatus(it.number)
+    if it.kind == 0x81:
+        return Columns(it.value)
+    if it.kind == 0xD1:
+        return Row(struct.unpack_from(f"<{it.value}i", data, 1))
+    if it.kind == 0xE3:
+        return Change(it.change, it.value)
+    return Done(it.status, it.value)

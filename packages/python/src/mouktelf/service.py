@@ -1,0 +1,248 @@
+"""A table of connections that callers share, in front of any server: who holds each one, and what becomes of it."""
+
+from ctypes import byref, c_size_t, c_uint8, c_uint64
+from dataclasses import dataclass
+from enum import IntEnum
+from typing import Dict, NamedTuple, Tuple
+
+from ._library import LIBRARY, AskedValue, ClientValue, LentValue, SeatValue, ServiceValue, WhoseValue, WireToken
+from .client import Answer, Client, MessageKind
+from .fault import Fault
+from .wire import Walked
+
+_FULL, _TELL, _FIRST_FAULT, _OUT_OF_RANGE, _ATTENTION_MOST, _HEADER = 1, 10, 20, 23, 16, 8
+
+
+class Rest(IntEnum):
+    """Where a connection is that nobody holds any more: it may be lent again; it drains until its acknowledgement has
+    come; or it is in the table no longer, and its socket is to be closed."""
+
+    FREE = 1
+    DRAINING = 2
+    CLOSED = 3
+
+
+@dataclass(frozen=True)
+class Lent:
+    """A lease, and the number of its connection. Where nobody `had` that before it is to be opened and logged in."""
+
+    lease: int
+    number: int
+    had: bool
+
+
+@dataclass(frozen=True)
+class Asked:
+    """A request that was asked: its connection's number, and its own there: 1, 2, .."""
+
+    number: int
+    request: int
+
+
+@dataclass(frozen=True)
+class Whose:
+    """Whose it is what came: the lease that holds the connection, 0 where none does, and its newest request. `is_told`
+    says whether he is told of it: of a cancelled request's answer nobody is."""
+
+    lease: int
+    request: int
+    is_told: bool
+
+
+class Ended(NamedTuple):
+    """A lease or a ticket has ended: its connection's number, where that is, and what is to be sent on it."""
+
+    number: int
+    rest: Rest
+    sends: bytes = b""
+
+
+class Service:
+    """A table of at most so many connections, whose packets have 512 to 32,767 bytes.
+
+    It has no lock and no socket. A call that can't be done raises Fault: 34 where there is no such lease, ticket or
+    connection, 35 where none can be lent, 36 where a connection isn't so that this can be done now."""
+
+    def __init__(self, most: int, size: int) -> None:
+        if most < 0:
+            raise Fault(_OUT_OF_RANGE)
+        # That of a size that no client can have is refused.
+        Client(size)
+        self._most, self._value, self._seats = most, ServiceValue(0, 0, 0, size), (SeatValue * most)()
+        self._clients: Dict[int, "_Held"] = {}
+        self._kept: Dict[int, Tuple] = {}
+
+    def __len__(self) -> int:
+        """How many connections there are."""
+        return self._value.count
+
+    def _call(self, call, *words) -> int:
+        answer = call(byref(self._value), self._seats, self._most, *words)
+        if answer >= _FIRST_FAULT:
+            raise Fault(answer)
+        return answer
+
+    def _lend(self, call, *words) -> Lent:
+        lent = LentValue()
+        self._call(call, *words, byref(lent))
+        return Lent(lent.lease, lent.number, bool(lent.had))
+
+    def _end(self, call, holder: int) -> Ended:
+        number = c_uint64()
+        rest = self._call(call, _number(holder), byref(number))
+        self._forget(holder)
+        return Ended(number.value, Rest(rest))
+
+    def _forget(self, lease: int) -> None:
+        self._clients.pop(lease, None)
+        self._kept.pop(lease, None)
+
+    def lease(self) -> Lent:
+        """Lends a free connection that is idle, and marks it for a full reset; else a new one, which is to be opened and
+        logged in. Fault 35: all are in use; wait until one is free."""
+        return self._lend(LIBRARY.tds_service_lease)
+
+    def ask(self, lease: int, kind: MessageKind) -> Asked:
+        """Begins a request of a lease. Its body comes by `put`, and `finish` ends it."""
+        kept, waiting, asked = (c_uint8 * (self._value.size - _HEADER))(), c_size_t(), AskedValue()
+        self._call(LIBRARY.tds_service_ask, _number(lease), kind, kept, len(kept), byref(waiting), byref(asked))
+        self._kept[lease] = kept, waiting
+        return Asked(asked.number, asked.request)
+
+    def put(self, lease: int, data: bytes) -> bytes:
+        """Puts bytes of the request's body, and gives the packets that are full."""
+        kept, waiting = self._waits(lease)
+        room, packets, answer = self._value.size, b"", _FULL
+        out, taken, count = (c_uint8 * room)(), c_size_t(), c_size_t()
+        while answer == _FULL:
+            answer = self._call(LIBRARY.tds_service_put, _number(lease), kept, len(kept), byref(waiting), data, len(data),
+                                byref(taken), out, room, byref(count))
+            packets += bytes(out[: count.value])
+            data = data[taken.value:]
+        return packets
+
+    def finish(self, lease: int) -> bytes:
+        """Ends the request, and gives its last packet."""
+        kept, waiting = self._waits(lease)
+        room, count = self._value.size, c_size_t()
+        out = (c_uint8 * room)()
+        self._call(LIBRARY.tds_service_finish, _number(lease), kept, waiting, out, room, byref(count))
+        return bytes(out[: count.value])
+
+    def _waits(self, lease: int) -> Tuple:
+        return self._kept.get(lease) or ((c_uint8 * (self._value.size - _HEADER))(), c_size_t())
+
+    def ask_batch(self, lease: int, text: str) -> Tuple[Asked, bytes]:
+        """Asks a batch, whole: which request it is, and its packets."""
+        asked = self.ask(lease, MessageKind.BATCH)
+        packets = self.put(lease, text.encode("utf-16-le", "surrogatepass"))
+        return asked, packets + self.finish(lease)
+
+    def cancel(self, lease: int) -> Tuple[Answer, bytes]:
+        """Cancels what is underway. Behind ASKED send the bytes; its acknowledgement is heard by `message_ended`."""
+        out, count = (c_uint8 * _ATTENTION_MOST)(), c_size_t()
+        answer = self._call(LIBRARY.tds_service_cancel, _number(lease), out, _ATTENTION_MOST, byref(count))
+        return Answer(answer), bytes(out[: count.value])
+
+    def came(self, number: int, token: Walked) -> Whose:
+        """Hears a token that a walk has found on the connection of this number: whose it is, and whether he is told."""
+        value, whose = WireToken(), WhoseValue()
+        value.kind, value.told, value.change, value.status = token.kind, token.tells, token.change, token.status
+        value.value, value.old_value = token.value, token.old_value
+        answer = self._call(LIBRARY.tds_service_came, _number(number), byref(value), byref(whose))
+        return Whose(whose.lease, whose.request, answer == _TELL)
+
+    def message_ended(self, number: int, is_cut: bool = False) -> Tuple[Answer, Whose]:
+        """Hears that a message has ended there, behind the packet whose status has bit 1; `is_cut` where the walk isn't
+        between two tokens then. FINISHED: the request has its whole answer. ACKNOWLEDGED: its cancel is acknowledged, and
+        a connection that drained is free. MORE: the acknowledgement is still to come."""
+        whose = WhoseValue()
+        answer = self._call(LIBRARY.tds_service_message_ended, _number(number), is_cut, byref(whose))
+        return Answer(answer), Whose(whose.lease, whose.request, answer == Answer.FINISHED)
+
+    def client(self, lease: int) -> Client:
+        """The client of a lease's connection, for what the calls by lease don't do: to log in, say. A request that is asked by
+        it isn't counted in `Whose.request`. Behind the lease's end each of its calls raises Fault 34."""
+        if lease not in self._clients:
+            self._seat(LIBRARY.tds_service_find, lease)
+            self._clients[lease] = _Held(self, LIBRARY.tds_service_find, lease)
+        return self._clients[lease]
+
+    def connection(self, number: int) -> Client:
+        """The client of the connection of this number, whoever holds it: for what comes on it."""
+        self._seat(LIBRARY.tds_service_at, number)
+        return _Held(self, LIBRARY.tds_service_at, number)
+
+    def holder(self, number: int) -> int:
+        """The number of the lease, or of the ticket, that holds the connection of this number; 0 where none does."""
+        seat = self._seat(LIBRARY.tds_service_at, number)
+        return seat.holder if seat.place in _HELD else 0
+
+    def _seat(self, call, key: int) -> SeatValue:
+        index = c_size_t()
+        self._call(call, _number(key), byref(index))
+        return self._seats[index.value]
+
+    def give_back(self, lease: int) -> Ended:
+        """Ends a lease. What is underway is cancelled, and what `sends` has is to be sent for that."""
+        out, count, number = (c_uint8 * _ATTENTION_MOST)(), c_size_t(), c_uint64()
+        rest = self._call(LIBRARY.tds_service_give_back, _number(lease), out, _ATTENTION_MOST, byref(count), byref(number))
+        self._forget(lease)
+        return Ended(number.value, Rest(rest), bytes(out[: count.value]))
+
+    def drained(self, number: int) -> Rest:
+        """For a connection that drains, each time that its client has taken something: FREE once the client is idle,
+        else DRAINING. Fault 36 where it doesn't drain."""
+        return Rest(self._call(LIBRARY.tds_service_drained, _number(number)))
+
+    def lost(self, number: int) -> None:
+        """The connection of this number is lost: it is in the table no longer, and its lease unknown."""
+        holder = self.holder(number)
+        self._call(LIBRARY.tds_service_lost, _number(number))
+        self._forget(holder)
+
+    def keep(self, lease: int) -> int:
+        """Keeps a connection that is idle in a transaction, and gives a ticket for it. The lease is spent."""
+        ticket = c_uint64()
+        self._call(LIBRARY.tds_service_keep, _number(lease), byref(ticket))
+        self._forget(lease)
+        return ticket.value
+
+    def resume(self, ticket: int) -> Lent:
+        """Lends a connection that was kept, and marks it for a reset that keeps its transaction. The ticket is spent."""
+        return self._lend(LIBRARY.tds_service_resume, _number(ticket))
+
+    def abandon(self, ticket: int) -> Ended:
+        """Gives a connection up that was kept. The ticket is spent."""
+        return self._end(LIBRARY.tds_service_abandon, ticket)
+
+    def clean(self, number: int) -> Lent:
+        """Lends the connection of this number, if it is free and idle, to be cleaned: ask a batch that does nothing on
+        it, which asks for a full reset, and call `cleaned` once it is answered."""
+        return self._lend(LIBRARY.tds_service_clean, _number(number))
+
+    def cleaned(self, lease: int) -> Ended:
+        """Ends a lease of `clean`: FREE where the reset was done and no transaction is open, else CLOSED."""
+        return self._end(LIBRARY.tds_service_cleaned, lease)
+
+
+_HELD = (1, 2, 3)
+
+
+class _Held(Client):
+    """The client of a connection in a table. Its seat may move, so it is found anew at each call."""
+
+    def __init__(self, service: Service, call, key: int) -> None:
+        self._service, self._by, self._key = service, call, key
+        self._message = b""
+        self._kept, self._waiting = (c_uint8 * 1)(), c_size_t()
+
+    @property
+    def _value(self) -> ClientValue:
+        return self._service._seat(self._by, self._key).client
+
+
+def _number(number: int) -> int:
+    if not 0 <= number < 1 << 64:
+        raise Fault(_OUT_OF_RANGE)
+    return number

@@ -1,0 +1,116 @@
+//! Requests that are sent in parts, and what a driver's own reader tells the client of an answer.
+
+use crate::wire::walked;
+use crate::{done, raw, Client, Fault, Taken, Walk, Walked};
+
+/// How many tokens are heard in one call of the library.
+const AT_ONCE: usize = 64;
+
+/// Which message a request is.
+#[derive(Clone, Copy, PartialEq, Eq, Debug)]
+pub enum MessageKind {
+    Batch = 1,
+    Procedure = 3,
+    BulkLoad = 7,
+    Transaction = 14,
+}
+
+/// What a driver's reader has heard: one token.
+#[derive(Clone, Copy, PartialEq, Eq, Debug)]
+pub enum Heard {
+    /// An ENVCHANGE of this type, 8 to 12, 17 or 18, with its descriptor.
+    Change(u8, u64),
+    /// A DONE (`FD`), DONEPROC (`FE`) or DONEINPROC (`FF`) with this status.
+    Done(u8, u16),
+    Other,
+}
+
+impl Client {
+    /// Begins a message. Its body comes by `put`, and `finish` ends it.
+    pub fn start_message(&mut self, kind: MessageKind) -> Result<(), Fault> {
+        let mut kept = vec![0; usize::from(self.raw.size) - 8];
+        let mut count = 0;
+        // SAFETY: the pointer and the length are those of one vector.
+        done(unsafe { raw::tds_client_start_message(&mut self.raw, kind as u8, kept.as_mut_ptr(), kept.len(), &mut count) })?;
+        (self.kept, self.waiting) = (kept, count);
+        Ok(())
+    }
+
+    /// Puts bytes of the message's body, and appends the packets that are full.
+    pub fn put(&mut self, mut bytes: &[u8], out: &mut Vec<u8>) -> Result<(), Fault> {
+        let mut packet = vec![0; usize::from(self.raw.size)];
+        loop {
+            let (kept, kept_room, mut taken, mut count) = (self.kept.as_mut_ptr(), self.kept.len(), 0, 0);
+            // SAFETY: each pointer and length is that of one vector or slice, and no two of them overlap.
+            let answer = unsafe {
+                raw::tds_client_put(&mut self.raw, kept, kept_room, &mut self.waiting, bytes.as_ptr(), bytes.len(), &mut taken, packet.as_mut_ptr(), packet.len(), &mut count)
+            };
+            match answer {
+                0 => return Ok(()),
+                1 => out.extend_from_slice(&packet[..count]),
+                number => return Err(Fault::of(number)),
+            }
+            bytes = &bytes[taken..];
+        }
+    }
+
+    /// Ends the message, and appends its last packet.
+    pub fn finish(&mut self, out: &mut Vec<u8>) -> Result<(), Fault> {
+        let mut packet = vec![0; usize::from(self.raw.size)];
+        let mut count = 0;
+        // SAFETY: each pointer and length is that of one vector, and no two of them overlap.
+        done(unsafe { raw::tds_client_finish(&mut self.raw, self.kept.as_ptr(), self.waiting, packet.as_mut_ptr(), packet.len(), &mut count) })?;
+        out.extend_from_slice(&packet[..count]);
+        Ok(())
+    }
+
+    /// Hears a token of any server, and says whether the caller that asked is told of it.
+    pub fn heard(&mut self, heard: Heard) -> Result<bool, Fault> {
+        let raw = &mut self.raw;
+        // SAFETY: the client is this one's own.
+        let answer = match heard {
+            Heard::Change(change, descriptor) => unsafe { raw::tds_client_heard_change(raw, change, descriptor) },
+            Heard::Done(kind, status) => unsafe { raw::tds_client_heard_done(raw, kind, status) },
+            Heard::Other => unsafe { raw::tds_client_heard_other(raw) },
+        };
+        match answer {
+            10 => Ok(true),
+            11 => Ok(false),
+            number => Err(Fault::of(number)),
+        }
+    }
+
+    /// Hears all tokens that end in the data of a packet of any server's answer (type 04, behind its header), and appends
+    /// those that the caller who asked is told of, also before a fault; `ends` is bit 1 of the packet's status. It is
+    /// `Walk::next`, `heard` and `message_ended` in one.
+    pub fn hear(&mut self, walk: &mut Walk, mut data: &[u8], ends: bool, told: &mut Vec<Walked>) -> Result<Taken, Fault> {
+        let mut found = [raw::WireToken::default(); AT_ONCE];
+        loop {
+            let (mut taken, mut count) = (0, 0);
+            // SAFETY: each pointer and length is that of one slice or array; walk and memory belong together.
+            let answer = unsafe {
+                raw::tds_client_hear(&mut self.raw, &mut walk.value, &mut walk.memory, data.as_ptr(), data.len(), ends.into(), &mut taken, found.as_mut_ptr(), AT_ONCE, &mut count)
+            };
+            told.extend(found[..count].iter().map(walked));
+            data = &data[taken..];
+            match answer {
+                10 => {}
+                0 | 1 => return Ok(Taken::More),
+                3 => return Ok(Taken::Finished),
+                4 => return Ok(Taken::Acknowledged),
+                number => return Err(Fault::of(number)),
+            }
+        }
+    }
+
+    /// Hears that a message has ended.
+    pub fn message_ended(&mut self) -> Result<Taken, Fault> {
+        // SAFETY: the client is this one's own.
+        match unsafe { raw::tds_client_message_ended(&mut self.raw) } {
+            1 => Ok(Taken::More),
+            3 => Ok(Taken::Finished),
+            4 => Ok(Taken::Acknowledged),
+            number => Err(Fault::of(number)),
+        }
+    }
+}
