@@ -59,12 +59,12 @@ const EVENT_LIMIT: usize = 10_000;
 /// time. It answers what each event came to, with what is seen of the connections after it, and
 /// what came of each request in the end. An event that doesn't apply is told as refused, and the
 /// play goes on. Where the carrier fails in an event, the event is marked lost: its connection is
-/// cut, and the report is that of the schedule with a cut there. The carrier is told where each event
-/// begins, by its place in the schedule, from 1.
+/// cut, and the report is that of the schedule with a cut there. A carrier that is told of events is
+/// told where each one begins, by its place in the schedule, from 1.
 ///
 /// Where it is refused for its events or its setup, the carrier is as it was. Where memory was
-/// refused, the carrier may have been used, and nothing is said of it. A carrier that was used
-/// serves another play: what it held of a connection is forgotten when that number is opened.
+/// refused, or a cleaning failed, the carrier may have been used, and nothing is said of it. A carrier
+/// that was used serves another play: opening a number forgets what there was of it.
 pub fn play<C: EventCarrier>(
     alloc: Global,
     setup: &Setup,
@@ -100,9 +100,9 @@ pub fn play<C: EventCarrier>(
     // Where no event is lost both are the model's of the events as they are.
     ensures whole { AreFaithful (C.pipes carrier.new) → IfOk result (λ report. MarksNothing report
         → IsWholePlayOf setup.now script_answers events.now report) }
-    // The carrier was told of each event in order, and what each event hands over, lets come and cuts
-    // before the next is told of is what it does in the model; calls fail in those that are marked
-    // lost, on the connection that each uses, and in no other.
+    // What each event hands over, lets come and cuts before the next one begins is what it does in the
+    // model, and a carrier that is told of events was told of each, in order; calls fail in those that
+    // are marked lost, on the connection that each uses, and in no other.
     ensures calls { AreFaithful (C.pipes carrier.new) → IfOk result (λ report. MakesCalls
         C.is_told setup.now script_answers (marked events.now report.events) (C.began carrier.old)
         (C.began carrier.new) (C.pipes carrier.new)) }
@@ -202,14 +202,13 @@ pub fn play_with<E: Engine + Copy, C: EventCarrier>(
     ensures refines { AreFaithful (C.pipes carrier.new) → IfOk result (λ report. IsReportOfPlay setup.now
         (answer_of (E.statements_of engine) (E.step_of engine)) events.now report
         (C.pipes carrier.new)) }
-    // The carrier was told of each event in order, and each does there what it does in the model.
+    // Each event does at the carrier what it does in the model; one that is told of events was told of
+    // each, in order.
     ensures calls { AreFaithful (C.pipes carrier.new) → IfOk result (λ report. MakesCalls
         C.is_told setup.now
         (answer_of (E.statements_of engine) (E.step_of engine)) (marked events.now report.events)
         (C.began carrier.old) (C.began carrier.new) (C.pipes carrier.new)) }
-    // So exactly the events in which calls failed are marked lost, event by event; and the calls that
-    // failed on a connection, over the whole run, are of the kinds that its one lost event makes. Where
-    // no call failed, none is marked.
+    // Exactly the events in which calls failed are marked lost. Where no call failed, none is marked.
     ensures lost { AreFaithful (C.pipes carrier.new) → IfOk result (λ report. MarksFailures
         C.is_told setup.now
         (answer_of (E.statements_of engine) (E.step_of engine)) (marked events.now report.events)

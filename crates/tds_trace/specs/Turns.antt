@@ -36,7 +36,8 @@ abbrev pub MayBring : List ℕ → Bool → Option Pipe → Option Pipe → Type
 MayBring bytes false before now = (0 < length bytes) × IsOpen now × MayCarry true before now
 MayBring bytes true before now = (bytes ≡ []) × IsOpen now × MayCarry true before now
 
--- A call that a carrier which is told of events may be asked there, as `EventCarrier` requires, and that may be answered so. A cut doesn't fail.
+-- A call that a carrier which is told of events may be asked there, as `EventCarrier` requires, and that may be
+-- answered so. A cut doesn't fail.
 abbrev pub MayBe : Made → Bool → Option Pipe → Option Pipe → Type 0
 MayBe made.Open failed before now = before ≡ now
 MayBe (made.Send d bytes) failed before now = (0 < length bytes.items) × IsOpen now × MaySend true before now

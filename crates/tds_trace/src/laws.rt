@@ -13,9 +13,9 @@ ghost use Rattle.tds_world.specs.Losses.{Played};
 ghost use Rattle.tds_world.specs.World.{World};
 ghost use Rattle.tds_world.specs.declared.event.Setup.{Setup};
 
-/// Over any carrier that was new at first and is told of events: where a play made these calls there (the clause `calls` of
-/// `play`), and they were recorded ([`crate::RecordingCarrier::into_calls`]), each event's calls do there
-/// what the event does in the model.
+/// Over any carrier that was new at first and is told of events: where a play made these calls there
+/// (the clause `calls` of `play`), and they were recorded ([`crate::RecordingCarrier::into_calls`]),
+/// each event's calls do there what the event does in the model.
 pub fn record_of_a_play()
     ensures { (setup : Setup) (answers : Answers) (ps : List Played) (event : Option ℕ)
         (calls : List Call) (told : List Begun) (last : ℕ → Option Pipe)
