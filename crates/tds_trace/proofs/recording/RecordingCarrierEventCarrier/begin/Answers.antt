@@ -5,8 +5,8 @@ use Rattle.tds_trace.specs.Told.{begun_by, begun_in}
 use Rattle.tds_trace.proofs.Turning.{told_one_more}
 use Rattle.tds_trace.proofs.recording.RecordingCarrierEventCarrier.begin.Goals as goal
 
-pub invariant_of-self-in-Ok : goal.invariant_of-self-in-Ok
-invariant_of-self-in-Ok g c =
+pub invariant_of-self : goal.invariant_of-self
+invariant_of-self g c =
     let pipes = g.C.Carrier.pipes in
     let was = c.args.self.now.began.items in
     let t = c.of.result in
