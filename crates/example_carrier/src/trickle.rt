@@ -1,7 +1,7 @@
 //! A carrier that brings one byte a call.
 ghost use Rattle.std.specs.Prelude.{◌≡◌, ℕ, None};
 
-use std::alloc::{AllocError, Global};
+use std::alloc::Global;
 use tds_packet::Direction;
 use tds_play::{Carrier, CarrierError, MemoryCarrier};
 
@@ -30,12 +30,6 @@ impl Trickle {
 
 impl Carrier for Trickle {
     ghost pipes = { λ t. ⟦<MemoryCarrier as Carrier>⟧.pipes t.memory };
-
-    ghost began = { λ t. ⟦<MemoryCarrier as Carrier>⟧.began t.memory };
-
-    fn begin(&mut self, event: u32) -> Result<(), AllocError> {
-        self.memory.begin(event)
-    }
 
     fn open(&mut self, conn: u32) -> Result<(), CarrierError> {
         self.memory.open(conn)

@@ -87,7 +87,7 @@ fail_in_turn setup answers n (p ∷ ps) [] last w does = does
 fail_in_turn setup answers n (p ∷ ps) (b ∷ bs) last w does =
     (does.1.fails, fail_in_turn setup answers (suc n) ps bs last (world_then setup answers w p) does.2)
 
-pub marks_failures : (setup : Setup) (answers : Answers) (ps : List Played) (old new : List Begun) (pipes : ℕ → Option Pipe) → MakesCalls setup answers ps old new pipes → TellFailures setup answers ps pipes → MarksFailures setup answers ps old new pipes
+pub marks_failures : {is_told : Bool} (setup : Setup) (answers : Answers) (ps : List Played) (old new : List Begun) (pipes : ℕ → Option Pipe) → MakesCalls is_told setup answers ps old new pipes → TellFailures setup answers ps pipes → MarksFailures is_told setup answers ps old new pipes
 marks_failures setup answers ps old new pipes makes whole = record {
   told = makes.told;
   since = makes.since;

@@ -1,5 +1,5 @@
 -- What a call of a carrier needs: the event that it was told of has handed over nothing yet, and no call failed.
-use Rattle.std.proofs.Common.{◌≡◌, ◌∙◌, ◌<◌, ℕ, suc, List, [], ◌∷◌, ◌++◌, length, slice_index_or, Option, Some, None, false, refl, sym, ap, subst}
+use Rattle.std.proofs.Common.{Bool, true, ◌≡◌, ◌∙◌, ◌<◌, ℕ, suc, List, [], ◌∷◌, ◌++◌, length, slice_index_or, Option, Some, None, false, refl, sym, ap, subst}
 use Rattle.tds_packet.specs.declared.kind.Direction.{Direction}
 use Rattle.tds_packet.specs.declared.kind.Direction.TheVariants.{ToServer, ToClient}
 use Rattle.tds_play.specs.Failures.{Carry, HasNoFailure, LiveAreSound, Send}
@@ -14,9 +14,9 @@ newest_is pipes [] b = refl
 newest_is pipes (c ∷ bs) b = newest_is c.pipes bs b
 
 -- A carrier was told of an event, and nothing else changed.
-pub just_told : (event : ℕ) (old new : List Begun) (pipes after : ℕ → Option Pipe) → new ≡ old ++ record { event = event; pipes = pipes } ∷ [] → after ≡ pipes → IsJustTold new after
-just_told event old new pipes after told still n =
-    ap (λ (bs : List Begun). since bs n) told
+pub just_told : {is_told : Bool} (event : ℕ) (old new : List Begun) (pipes after : ℕ → Option Pipe) → (is_told ≡ true → new ≡ old ++ record { event = event; pipes = pipes } ∷ []) → after ≡ pipes → IsJustTold is_told new after
+just_told event old new pipes after told still n tells =
+    ap (λ (bs : List Begun). since bs n) (told tells)
     ∙ ap (λ (ps : ℕ → Option Pipe). ps n) (newest_is (λ n. None) old (record { event = event; pipes = pipes }))
     ∙ ap (λ (ps : ℕ → Option Pipe). ps n) (sym still)
 
@@ -30,20 +30,20 @@ carries_fine : (p : Option Pipe) → HasNoFailure p → (d : Direction) → (tra
 carries_fine None fine d = refl
 carries_fine (Some p) fine d = fine (Carry d)
 
-may_send : (before now : Option Pipe) → before ≡ now → HasNoFailure now → MaySend before now
-may_send before now same fine = record {
-  first = λ d. ap (λ (p : Option Pipe). (traffic p d).handed) (sym same);
+may_send : (is_told : Bool) (before now : Option Pipe) → (is_told ≡ true → before ≡ now) → HasNoFailure now → MaySend is_told before now
+may_send is_told before now same fine = record {
+  first = λ tells d. ap (λ (p : Option Pipe). (traffic p d).handed) (sym (same tells));
   unfailed = sends_fine now fine;
 }
 
 -- Bytes may be handed over, and carried.
-pub sends_at : (told : List Begun) (pipes : ℕ → Option Pipe) (n m : ℕ) → m ≡ n → IsUnasked told pipes n → MaySend (since told m) (pipes m)
-sends_at told pipes n m is u =
-    subst (λ (k : ℕ). MaySend (since told k) (pipes k)) (sym is) (may_send (since told n) (pipes n) u.since_then u.unfailed)
+pub sends_at : {is_told : Bool} (told : List Begun) (pipes : ℕ → Option Pipe) (n m : ℕ) → m ≡ n → IsUnasked is_told told pipes n → MaySend is_told (since told m) (pipes m)
+sends_at {is_told} told pipes n m is u =
+    subst (λ (k : ℕ). MaySend is_told (since told k) (pipes k)) (sym is) (may_send is_told (since told n) (pipes n) u.since_then u.unfailed)
 
-pub carries_at : (told : List Begun) (pipes : ℕ → Option Pipe) (n : ℕ) → IsUnasked told pipes n → MayCarry (since told n) (pipes n)
-carries_at told pipes n u = record {
-  sends = may_send (since told n) (pipes n) u.since_then u.unfailed;
+pub carries_at : {is_told : Bool} (told : List Begun) (pipes : ℕ → Option Pipe) (n : ℕ) → IsUnasked is_told told pipes n → MayCarry is_told (since told n) (pipes n)
+carries_at {is_told} told pipes n u = record {
+  sends = may_send is_told (since told n) (pipes n) u.since_then u.unfailed;
   unfailed = carries_fine (pipes n) u.unfailed;
 }
 
@@ -70,10 +70,10 @@ carried_carries (Some p) ToServer bytes ToClient = refl
 carried_carries (Some p) ToClient bytes ToServer = refl
 carried_carries (Some p) ToClient bytes ToClient = refl
 
-pub carries_on : (before p : Option Pipe) (d : Direction) (bytes : List ℕ) → MayCarry before p → MayCarry before (carried_on p d bytes)
+pub carries_on : {is_told : Bool} (before p : Option Pipe) (d : Direction) (bytes : List ℕ) → MayCarry is_told before p → MayCarry is_told before (carried_on p d bytes)
 carries_on before p d bytes may = record {
   sends = record {
-    first = λ e. carried_handed p d bytes e ∙ may.sends.first e;
+    first = λ tells e. carried_handed p d bytes e ∙ may.sends.first tells e;
     unfailed = λ e. carried_sends p d bytes e ∙ may.sends.unfailed e;
   };
   unfailed = λ e. carried_carries p d bytes e ∙ may.unfailed e;
@@ -94,29 +94,29 @@ stuck_sends (Some p) ToClient ToServer = refl
 stuck_sends (Some p) ToClient ToClient = refl
 
 -- Where no more came, what had come may cause an answer.
-pub sends_stuck : (before p : Option Pipe) (d : Direction) → MayCarry before p → MaySend before (stuck_on p d)
+pub sends_stuck : {is_told : Bool} (before p : Option Pipe) (d : Direction) → MayCarry is_told before p → MaySend is_told before (stuck_on p d)
 sends_stuck before p d may = record {
-  first = λ e. stuck_handed p d e ∙ may.sends.first e;
+  first = λ tells e. stuck_handed p d e ∙ may.sends.first tells e;
   unfailed = λ e. stuck_sends p d e ∙ may.sends.unfailed e;
 }
 
 -- What one call left, seen by the next one: the carrier was told of no other event.
-pub sends_then : (told still : List Begun) (n m : ℕ) (now : ℕ → Option Pipe) (p : Option Pipe) → m ≡ n → still ≡ told → now n ≡ p → MaySend (since told n) p → MaySend (since still m) (now m)
-sends_then told still n m now p is same here may =
-    subst (λ (k : ℕ). MaySend (since still k) (now k)) (sym is)
-    (subst (λ (bs : List Begun). MaySend (since bs n) (now n)) (sym same)
-    (subst (λ (q : Option Pipe). MaySend (since told n) q) (sym here) may))
+pub sends_then : {is_told : Bool} (told still : List Begun) (n m : ℕ) (now : ℕ → Option Pipe) (p : Option Pipe) → m ≡ n → still ≡ told → now n ≡ p → MaySend is_told (since told n) p → MaySend is_told (since still m) (now m)
+sends_then {is_told} told still n m now p is same here may =
+    subst (λ (k : ℕ). MaySend is_told (since still k) (now k)) (sym is)
+    (subst (λ (bs : List Begun). MaySend is_told (since bs n) (now n)) (sym same)
+    (subst (λ (q : Option Pipe). MaySend is_told (since told n) q) (sym here) may))
 
-pub carries_then : (told still : List Begun) (n m : ℕ) (now : ℕ → Option Pipe) (p : Option Pipe) → m ≡ n → still ≡ told → now n ≡ p → MayCarry (since told n) p → MayCarry (since still m) (now m)
-carries_then told still n m now p is same here may =
-    subst (λ (k : ℕ). MayCarry (since still k) (now k)) (sym is)
-    (subst (λ (bs : List Begun). MayCarry (since bs n) (now n)) (sym same)
-    (subst (λ (q : Option Pipe). MayCarry (since told n) q) (sym here) may))
+pub carries_then : {is_told : Bool} (told still : List Begun) (n m : ℕ) (now : ℕ → Option Pipe) (p : Option Pipe) → m ≡ n → still ≡ told → now n ≡ p → MayCarry is_told (since told n) p → MayCarry is_told (since still m) (now m)
+carries_then {is_told} told still n m now p is same here may =
+    subst (λ (k : ℕ). MayCarry is_told (since still k) (now k)) (sym is)
+    (subst (λ (bs : List Begun). MayCarry is_told (since bs n) (now n)) (sym same)
+    (subst (λ (q : Option Pipe). MayCarry is_told (since told n) q) (sym here) may))
 
 -- ---- A connection of a player
 
-pub unasked_at : {E S : Type 0} (links : List (Seated E S)) (place n : ℕ) (x d : Seated E S) (told : List Begun) (pipes : ℕ → Option Pipe)
-    → IsJustTold told pipes → LiveAreSound links pipes → place < length links → slice_index_or links place d ≡ x → x.link.is_cut ≡ false → n ≡ suc place → IsUnasked told pipes n
+pub unasked_at : {E S : Type 0} {is_told : Bool} (links : List (Seated E S)) (place n : ℕ) (x d : Seated E S) (told : List Begun) (pipes : ℕ → Option Pipe)
+    → IsJustTold is_told told pipes → LiveAreSound links pipes → place < length links → slice_index_or links place d ≡ x → x.link.is_cut ≡ false → n ≡ suc place → IsUnasked is_told told pipes n
 unasked_at {E} {S} links place n x d told pipes just sound within at live is =
     let lives = ap (λ (y : Seated E S). y.link.is_cut) at ∙ live in
     record {

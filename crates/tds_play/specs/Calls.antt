@@ -1,5 +1,5 @@
 -- What each event of a play does at its carrier: the calls that it makes there, by what they leave.
-use Rattle.std.specs.Prelude.{ℕ, suc, ◌≡◌, List, [], ◌∷◌, ◌++◌, length, Option}
+use Rattle.std.specs.Prelude.{Bool, true, ℕ, suc, ◌≡◌, List, [], ◌∷◌, ◌++◌, length, Option}
 use Rattle.tds_session.specs.Answer.{Answers}
 use Rattle.tds_world.specs.declared.event.Setup.{Setup}
 use Rattle.tds_world.specs.Losses.{Played, is_lost, link_of, world_then}
@@ -14,7 +14,7 @@ pub record StandsAs (w : World) (pipes : ℕ → Option Pipe) : Type 0 where
   pub came : CarriesBytesOf w pipes
   pub cut : CutsThoseOf w pipes
 
--- What an event does at a carrier, between being told of and the next one: it hands over, lets come and cuts
+-- What an event does at a carrier, between its beginning and that of the next one: it hands over, lets come and cuts
 -- what takes the world before it to the world after it, on those connections and on no other. Where it is
 -- marked lost, calls that it makes fail, on the connection whose link it uses; where it isn't, none fails.
 pub record Does (setup : Setup) (answers : Answers) (w : World) (p : Played) (before after : ℕ → Option Pipe)
@@ -31,8 +31,8 @@ abbrev pub next_there : List Begun → (ℕ → Option Pipe) → ℕ → Option 
 next_there [] last = last
 next_there (b ∷ bs) last = b.pipes
 
--- The carrier was told of each of these events in order, the first of which has this number, and each does
--- what it does in the model before the next one is told of.
+-- These are the beginnings of these events in order, the first of which has this number, and each does what
+-- it does in the model before the next one begins.
 abbrev pub DoInTurn : Setup → Answers → ℕ → List Played → List Begun → (ℕ → Option Pipe) → World → Type 0
 DoInTurn setup answers n [] [] last w = Unit {0}
 DoInTurn setup answers n [] (b ∷ bs) last w = ⊥
@@ -41,11 +41,12 @@ DoInTurn setup answers n (p ∷ ps) (b ∷ bs) last w =
     (b.event ≡ n) × Does setup answers w p b.pipes (next_there bs last)
     × DoInTurn setup answers (suc n) ps bs last (world_then setup answers w p)
 
--- The calls of a play from nothing: what its carrier was told of, and what each event did there.
-pub record MakesCalls (setup : Setup) (answers : Answers) (ps : List Played) (old new : List Begun)
+-- The calls of a play from nothing: where each event began, which is what its carrier was told of, where it is
+-- told at all, and what the event did there.
+pub record MakesCalls (is_told : Bool) (setup : Setup) (answers : Answers) (ps : List Played) (old new : List Begun)
     (pipes : ℕ → Option Pipe) : Type 0 where
   pub told : List Begun
-  pub since : new ≡ old ++ told
+  pub since : is_told ≡ true → new ≡ old ++ told
   pub calls : DoInTurn setup answers 1 ps told pipes new_world
 
 -- In which event calls failed: in each that is marked lost, calls that it makes; in any other one, none.
@@ -59,9 +60,9 @@ FailInTurn setup answers (p ∷ ps) (b ∷ bs) last w =
     × FailInTurn setup answers ps bs last (world_then setup answers w p)
 
 -- Exactly the events in which calls failed are marked lost: event by event, and over the whole run.
-pub record MarksFailures (setup : Setup) (answers : Answers) (ps : List Played) (old new : List Begun)
-    (pipes : ℕ → Option Pipe) : Type 0 where
+pub record MarksFailures (is_told : Bool) (setup : Setup) (answers : Answers) (ps : List Played)
+    (old new : List Begun) (pipes : ℕ → Option Pipe) : Type 0 where
   pub told : List Begun
-  pub since : new ≡ old ++ told
+  pub since : is_told ≡ true → new ≡ old ++ told
   pub each : FailInTurn setup answers ps told pipes new_world
   pub whole : TellFailures setup answers ps pipes

@@ -1,11 +1,10 @@
 -- What a carrier in memory holds.
-use Rattle.std.specs.Prelude.{ℕ, List, map, take, Option, option_map}
+use Rattle.std.specs.Prelude.{ℕ, take, Option, option_map}
 use Rattle.std.specs.Ordering.{nat_cmp}
 use Rattle.std.specs.BTreeMap.{BTreeMap, get}
 use Rattle.tds_play.specs.Kept.{Kept}
-use Rattle.tds_play.specs.Pipe.{Begun, Pipe, Traffic}
+use Rattle.tds_play.specs.Pipe.{Pipe, Traffic}
 use Rattle.tds_play.specs.declared.memory.queue.Queue.{Queue}
-use Rattle.tds_play.specs.declared.memory.Telling.{Telling}
 use Rattle.tds_play.specs.declared.memory.MemoryPipe.{MemoryPipe}
 
 -- What came out is what stands before the place.
@@ -31,10 +30,3 @@ pipe_of p = record {
 
 abbrev pub pipe_at : BTreeMap ℕ MemoryPipe → ℕ → Option Pipe
 pipe_at pipes conn = option_map pipe_of (get nat_cmp pipes conn)
-
--- The events of which it was told, and what there was of each connection then.
-abbrev pub begun_by : Telling → Begun
-begun_by t = record { event = t.event.value; pipes = pipe_at t.pipes.value }
-
-abbrev pub begun_in : List Telling → List Begun
-begun_in tellings = map begun_by tellings

@@ -17,7 +17,8 @@ pub record Pipe : Type 0 where
   pub open_failures : ℕ
   pub is_cut : Bool
 
--- An event of which a carrier was told: its number, and what there was of each connection then.
+-- An event of which a carrier was told: its number, and what there was of each connection then. What is said of
+-- these is said where the carrier is told at all.
 pub record Begun : Type 0 where
   pub event : ℕ
   pub pipes : ℕ → Option Pipe
@@ -76,14 +77,14 @@ IsOpen (Some p) = (p.is_cut ≡ false) × (p.open_failures ≡ 0)
 
 -- Since an event began no bytes were handed over on a connection, and no call of `send` ever failed there: what
 -- each call of `send` needs. So an event hands a connection all its bytes by one call.
-pub record MaySend (before now : Option Pipe) : Type 0 where
-  pub first : (d : Direction) → (traffic now d).handed ≡ (traffic before d).handed
+pub record MaySend (is_told : Bool) (before now : Option Pipe) : Type 0 where
+  pub first : is_told ≡ true → (d : Direction) → (traffic now d).handed ≡ (traffic before d).handed
   pub unfailed : (d : Direction) → (traffic now d).send_failures ≡ 0
 
 -- The same, and no call of `carry` ever failed there: what each call of `carry` needs. So it comes before the
 -- event's bytes are handed over, and behind a failure there is none.
-pub record MayCarry (before now : Option Pipe) : Type 0 where
-  pub sends : MaySend before now
+pub record MayCarry (is_told : Bool) (before now : Option Pipe) : Type 0 where
+  pub sends : MaySend is_told before now
   pub unfailed : (d : Direction) → (traffic now d).carry_failures ≡ 0
 
 -- These bytes were handed over, with so many failures.

@@ -50,13 +50,18 @@ abbrev pub IsReportOf : (ℕ → Option Pipe) → List ℕ → Report → Type 0
 IsReportOf pipes bytes report = (setup : Setup) × (events : List Event) × Spells bytes setup events
     × (first_refusal setup (length events) ≡ None) × IsTold pipes setup events report
 
+-- What a refusal says of the bytes: which schedule is refused, or that one is played, of which a cleaning failed.
+abbrev pub IsRefusedSo : PlayRefusal → List ℕ → Type 0
+IsRefusedSo play.NotCleaned bytes = IsRefused bytes None
+IsRefusedSo why bytes = IsRefused bytes (Some why)
+
 -- What a fault says of the bytes that were read. That reading failed, that a write failed and that
 -- memory was refused can't be seen in them; a report is printed only of what is played.
 abbrev pub IsFaultOf : RunFault → List ℕ → Type 0
 IsFaultOf run.File bytes = ⊤
 IsFaultOf run.Json bytes = IsNoJson bytes
 IsFaultOf (run.Schedule place) bytes = IsWrongAt bytes place
-IsFaultOf (run.Play refusal) bytes = IsRefused bytes (Some refusal)
+IsFaultOf (run.Play refusal) bytes = IsRefusedSo refusal bytes
 IsFaultOf run.Output bytes = IsRefused bytes None
 IsFaultOf run.Memory bytes = ⊤
 
@@ -65,7 +70,7 @@ abbrev pub IsShownBy : RunFault → List ℕ → Type 0
 IsShownBy run.File bytes = ⊥
 IsShownBy run.Json bytes = IsNoJson bytes
 IsShownBy (run.Schedule place) bytes = IsWrongAt bytes place
-IsShownBy (run.Play refusal) bytes = IsRefused bytes (Some refusal)
+IsShownBy (run.Play refusal) bytes = IsRefusedSo refusal bytes
 IsShownBy run.Output bytes = ⊥
 IsShownBy run.Memory bytes = ⊥
 
@@ -137,3 +142,4 @@ abbrev pub of_refusal : PlayRefusal → RunFault
 of_refusal play.Memory = run.Memory
 of_refusal play.TooManyEvents = run.Play play.TooManyEvents
 of_refusal play.WrongSetup = run.Play play.WrongSetup
+of_refusal play.NotCleaned = run.Play play.NotCleaned

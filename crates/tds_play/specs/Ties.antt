@@ -1,6 +1,6 @@
 -- What a play keeps of its connections, whatever comes: what it counts as underway is underway at
 -- the carrier.
-use Rattle.std.specs.Prelude.{ℕ, suc, ◌+◌, ◌≡◌, ◌≤◌, ◌<◌, List, length, Option, false, min, slice_index_or}
+use Rattle.std.specs.Prelude.{ℕ, suc, ◌+◌, ◌≡◌, ◌≤◌, ◌<◌, List, length, Option, Bool, true, false, min, slice_index_or}
 use Rattle.tds_packet.specs.declared.kind.Direction.{Direction}
 use Rattle.tds_packet.specs.declared.kind.Direction.TheVariants.{ToServer, ToClient}
 use Rattle.tds_play.specs.Failures.{HasNoFailure}
@@ -38,12 +38,12 @@ pub record OpensTies {E S : Type 0} (number : ℕ) (link : Link E S) (before aft
   pub begun : still ≡ told
 
 -- Since a carrier was told of an event nothing was asked of it.
-abbrev pub IsJustTold : List Begun → (ℕ → Option Pipe) → Type 0
-IsJustTold told pipes = (n : ℕ) → since told n ≡ pipes n
+abbrev pub IsJustTold : Bool → List Begun → (ℕ → Option Pipe) → Type 0
+IsJustTold is_told told pipes = (n : ℕ) → is_told ≡ true → since told n ≡ pipes n
 
 -- An event comes to the connection of this number, of which nothing was asked since, and where no call ever failed.
-pub record IsUnasked (told : List Begun) (pipes : ℕ → Option Pipe) (number : ℕ) : Type 0 where
-  pub since_then : since told number ≡ pipes number
+pub record IsUnasked (is_told : Bool) (told : List Begun) (pipes : ℕ → Option Pipe) (number : ℕ) : Type 0 where
+  pub since_then : is_told ≡ true → since told number ≡ pipes number
   pub unfailed : HasNoFailure (pipes number)
 
 -- The bytes that a connection counts as underway one way.

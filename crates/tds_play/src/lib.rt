@@ -17,7 +17,7 @@ mod run;
 mod seat;
 mod worlds;
 
-pub use carrier::{Carrier, CarrierError};
+pub use carrier::{Carrier, CarrierError, EventCarrier};
 pub use memory::MemoryCarrier;
 pub use playing::{play, play_with};
 pub use refusal::PlayRefusal;

@@ -1,5 +1,5 @@
 //! One connection: both its ends, what is underway between them, and the requests asked on it.
-ghost use Rattle.std.specs.Prelude.{[], ◌∷◌, ◌≡◌, ℕ, reverse, false, Some, IfOk, None};
+ghost use Rattle.std.specs.Prelude.{true, [], ◌∷◌, ◌≡◌, ℕ, reverse, false, Some, IfOk, None};
 ghost use Rattle.tds_client.specs.Session.{new_session};
 ghost use Rattle.tds_ends.specs.AllBytes.{new_reader};
 ghost use Rattle.tds_play.specs.Failures.{Fails, Open};
@@ -23,7 +23,7 @@ mod deliveries;
 mod leasing;
 
 use crate::NoMemory;
-use crate::carrier::{Carrier, CarrierError};
+use crate::carrier::{CarrierError, EventCarrier};
 use crate::request::Record;
 use std::alloc::{AllocError, Global};
 use tds_client::{Client, ClientState};
@@ -98,7 +98,7 @@ impl<E: Engine + Drop> Link<E> {
 
     /// Opens a connection at the carrier. It answers whether the carrier failed, so that the
     /// connection is cut.
-    pub(crate) fn open<C: Carrier>(
+    pub(crate) fn open<C: EventCarrier>(
         alloc: Global,
         carrier: &mut C,
         number: u32,
@@ -106,7 +106,8 @@ impl<E: Engine + Drop> Link<E> {
         size: PacketSize,
         on_attention: OnAttention,
     ) -> Result<(Link<E>, bool), NoMemory>
-        requires first { since (C.began carrier.old) number ≡ C.pipes carrier.old number }
+        requires first { C.is_told ≡ true
+            → since (C.began carrier.old) number ≡ C.pipes carrier.old number }
         ensures number { IfOk result (λ opened. opened.0.number ≡ number) }
         ensures ties { IfOk result (λ opened. OpensTies number opened.0 (C.pipes carrier.old)
             (C.pipes carrier.new) (C.began carrier.old) (C.began carrier.new)) }

@@ -1,7 +1,7 @@
 //! A carrier in memory.
-ghost use Rattle.std.specs.Prelude.{[], ◌≡◌, ◌≤◌, ◌<◌, ◌+◌, ℕ, length, take, drop, None, Some, Ok, Err, OnOk};
+ghost use Rattle.std.specs.Prelude.{◌≡◌, ◌≤◌, ◌<◌, ◌+◌, ℕ, length, take, drop, None, Some, Ok, Err, OnOk};
 ghost use Rattle.tds_play.specs.Kept.{kept_after, kept_with, nothing_kept};
-ghost use Rattle.tds_play.specs.Memory.{begun_in, kept_in, pipe_at};
+ghost use Rattle.tds_play.specs.Memory.{kept_in, pipe_at};
 ghost use Rattle.tds_play.specs.declared.carrier.CarrierError.TheVariants.{Memory};
 
 mod queue;
@@ -10,7 +10,6 @@ use crate::carrier::{Carrier, CarrierError};
 use queue::Queue;
 use std::alloc::{AllocError, Global};
 use std::collections::BTreeMap;
-use std::snapshot::Snapshot;
 use tds_packet::Direction;
 
 #[derive(Drop)]
@@ -20,32 +19,22 @@ struct MemoryPipe {
     is_cut: bool,
 }
 
-/// What there was of each connection when an event began. It has no bytes: clauses alone read it.
-#[derive(Drop)]
-struct Telling {
-    event: Snapshot<u32>,
-    pipes: Snapshot<BTreeMap<u32, MemoryPipe>>,
-}
-
 /// Carries bytes in memory. What comes is what was handed over, and it fails only where a growth is
 /// refused.
 #[derive(Drop)]
 pub struct MemoryCarrier {
     alloc: Global,
     pipes: BTreeMap<u32, MemoryPipe>,
-    began: Vec<Telling>,
 }
 
 impl MemoryCarrier {
     /// A carrier without a connection. It takes no memory.
     pub fn new(alloc: Global) -> MemoryCarrier
-        ensures empty { (conn : ℕ) → ⟦<MemoryCarrier as Carrier>⟧.pipes result conn ≡ None }
-        ensures untold { ⟦<MemoryCarrier as Carrier>⟧.began result ≡ [] }
+        ensures { (conn : ℕ) → ⟦<MemoryCarrier as Carrier>⟧.pipes result conn ≡ None }
     {
         MemoryCarrier {
             alloc,
             pipes: BTreeMap::new(alloc),
-            began: Vec::new(alloc),
         }
     }
 }
@@ -95,16 +84,6 @@ impl From<AllocError> for CarrierError {
 
 impl Carrier for MemoryCarrier {
     ghost pipes = { λ m. pipe_at m.pipes };
-
-    ghost began = { λ m. begun_in m.began.items };
-
-    fn begin(&mut self, event: u32) -> Result<(), AllocError> {
-        self.began.push(Telling {
-            event: Snapshot::of(&event),
-            pipes: Snapshot::of(&self.pipes),
-        })?;
-        Ok(())
-    }
 
     fn open(&mut self, conn: u32) -> Result<(), CarrierError> {
         let pipe = MemoryPipe {

@@ -18,11 +18,11 @@ mod cleaning;
 mod ending;
 mod lending;
 
-use crate::NoMemory;
-use crate::carrier::Carrier;
+use crate::carrier::EventCarrier;
 use crate::link::EventDone;
 use crate::link::acts::{done, refused};
 use crate::pool::{Holdings, by_number};
+use crate::refusal::Stop;
 use crate::seat::Held;
 use std::alloc::Global;
 use tds_packet::PacketSize;
@@ -85,13 +85,13 @@ impl<E: Engine + Copy> Player<E> {
     }
 
     /// One event.
-    pub(crate) fn happen<C: Carrier>(
+    pub(crate) fn happen<C: EventCarrier>(
         &mut self,
         carrier: &mut C,
         event: &Event,
-    ) -> Result<EventDone, NoMemory>
+    ) -> Result<EventDone, Stop>
         requires tied { AreTied (all_of self.old) (C.pipes carrier.old) }
-        requires told { IsJustTold (C.began carrier.old) (C.pipes carrier.old) }
+        requires told { IsJustTold C.is_told (C.began carrier.old) (C.pipes carrier.old) }
         requires sound { LiveAreSound (all_of self.old) (C.pipes carrier.old) }
         requires held { AreHeld self.old }
         requires few { AreFew 9999 self.old }

@@ -1,6 +1,6 @@
 //! A whole play.
 ghost use Rattle.std.specs.List.{AllByRecursion};
-ghost use Rattle.std.specs.Prelude.{ℕ, ◌≡◌, ◌≢◌, ◌≤◌, List, [], ◌++◌, length, None, Some, Err, IfErr, IfOk, OnOk};
+ghost use Rattle.std.specs.Prelude.{ℕ, ◌≡◌, ◌≢◌, ◌≤◌, ◌⊎◌, List, [], ◌++◌, length, None, Some, Err, IfErr, IfOk, OnOk};
 ghost use Rattle.tds_play.specs.AnyBytes.{ReadsBytes};
 ghost use Rattle.tds_play.specs.Calls.{MakesCalls, MarksFailures};
 ghost use Rattle.tds_play.specs.Failures.{FailNowhere, TellFailures};
@@ -11,7 +11,7 @@ ghost use Rattle.tds_play.specs.Refused.{first_refusal};
 ghost use Rattle.tds_play.specs.WholePlay.{CarriesBytesOf, CutsThoseOf, HandsBytesOf, IsReportOfPlay, IsWholePlayOf, world_of};
 ghost use Rattle.tds_play.specs.Steps.{AreFew, StandsThen};
 ghost use Rattle.tds_play.specs.Stopping.{AllStop};
-ghost use Rattle.tds_play.specs.declared.refusal.PlayRefusal.TheVariants.{Memory};
+ghost use Rattle.tds_play.specs.declared.refusal.PlayRefusal.TheVariants.{Memory, NotCleaned};
 ghost use Rattle.tds_play.specs.declared.refusal.PlayRefusal.{PlayRefusal};
 ghost use Rattle.tds_session.specs.Answer.{answer_of, script_answers};
 ghost use Rattle.tds_world.specs.Descriptors.{UseFewDescriptors};
@@ -30,11 +30,10 @@ ghost use Rattle.tds_world.specs.declared.event.Event.{Event};
 ghost use Rattle.tds_world.specs.declared.event.Setup.{Setup};
 ghost use Rattle.tds_world.specs.declared.report.RequestReport.{RequestReport};
 
-use crate::NoMemory;
-use crate::carrier::Carrier;
+use crate::carrier::EventCarrier;
 use crate::player::Player;
 use crate::pool::next_number;
-use crate::refusal::PlayRefusal;
+use crate::refusal::{PlayRefusal, Stop};
 use crate::worlds::worlds_hold;
 use std::alloc::Global;
 use tds_packet::PacketSize;
@@ -60,13 +59,13 @@ const EVENT_LIMIT: usize = 10_000;
 /// time. It answers what each event came to, with what is seen of the connections after it, and
 /// what came of each request in the end. An event that doesn't apply is told as refused, and the
 /// play goes on. Where the carrier fails in an event, the event is marked lost: its connection is
-/// cut, and the report is that of the schedule with a cut there. The carrier is told where each event
-/// begins, by its place in the schedule, from 1.
+/// cut, and the report is that of the schedule with a cut there. A carrier that is told of events is
+/// told where each one begins, by its place in the schedule, from 1.
 ///
 /// Where it is refused for its events or its setup, the carrier is as it was. Where memory was
-/// refused, the carrier may have been used, and nothing is said of it. A carrier that was used
-/// serves another play: what it held of a connection is forgotten when that number is opened.
-pub fn play<C: Carrier>(
+/// refused, or a cleaning failed, the carrier may have been used, and nothing is said of it. A carrier
+/// that was used serves another play: opening a number forgets what there was of it.
+pub fn play<C: EventCarrier>(
     alloc: Global,
     setup: &Setup,
     events: &[Event],
@@ -78,8 +77,10 @@ pub fn play<C: Carrier>(
     ensures unused { (why : PlayRefusal) → first_refusal setup.now (length events.now) ≡ Some why
         → carrier.new ≡ carrier.old }
     ensures played { OnOk result (first_refusal setup.now (length events.now) ≡ None) }
-    ensures named { IfErr result (λ why. why ≢ Memory
+    ensures named { IfErr result (λ why. why ≢ Memory → why ≢ NotCleaned
         → first_refusal setup.now (length events.now) ≡ Some why) }
+    ensures stopped { result ≡ Err NotCleaned
+        → first_refusal setup.now (length events.now) ≡ None }
     // Whatever bytes the carrier brings: a delivery answers a fault of the packet reader only where
     // the bytes that came by then have it, and some fault where they have one; and the callers are
     // given some of the tokens that come.
@@ -99,17 +100,17 @@ pub fn play<C: Carrier>(
     // Where no event is lost both are the model's of the events as they are.
     ensures whole { AreFaithful (C.pipes carrier.new) → IfOk result (λ report. MarksNothing report
         → IsWholePlayOf setup.now script_answers events.now report) }
-    // The carrier was told of each event in order, and what each event hands over, lets come and cuts
-    // before the next is told of is what it does in the model; calls fail in those that are marked
-    // lost, on the connection that each uses, and in no other.
-    ensures calls { AreFaithful (C.pipes carrier.new) → IfOk result (λ report. MakesCalls setup.now
-        script_answers (marked events.now report.events) (C.began carrier.old)
+    // What each event hands over, lets come and cuts before the next one begins is what it does in the
+    // model, and a carrier that is told of events was told of each, in order; calls fail in those that
+    // are marked lost, on the connection that each uses, and in no other.
+    ensures calls { AreFaithful (C.pipes carrier.new) → IfOk result (λ report. MakesCalls
+        C.is_told setup.now script_answers (marked events.now report.events) (C.began carrier.old)
         (C.began carrier.new) (C.pipes carrier.new)) }
     // So exactly the events in which calls failed are marked lost, event by event; and the calls that
     // failed on a connection, over the whole run, are of the kinds that its one lost event makes. Where
     // no call failed, none is marked.
-    ensures lost { AreFaithful (C.pipes carrier.new) → IfOk result (λ report. MarksFailures setup.now
-        script_answers (marked events.now report.events) (C.began carrier.old)
+    ensures lost { AreFaithful (C.pipes carrier.new) → IfOk result (λ report. MarksFailures
+        C.is_told setup.now script_answers (marked events.now report.events) (C.began carrier.old)
         (C.began carrier.new) (C.pipes carrier.new)) }
     ensures unfailing { AreFaithful (C.pipes carrier.new) → FailNowhere (C.pipes carrier.new)
         → IfOk result MarksNothing }
@@ -175,7 +176,7 @@ pub fn play<C: Carrier>(
 }
 
 /// Plays a schedule from nothing, as [`play`] does, with servers of any engine.
-pub fn play_with<E: Engine + Copy, C: Carrier>(
+pub fn play_with<E: Engine + Copy, C: EventCarrier>(
     alloc: Global,
     setup: &Setup,
     events: &[Event],
@@ -187,8 +188,10 @@ pub fn play_with<E: Engine + Copy, C: Carrier>(
     ensures unused { (why : PlayRefusal) → first_refusal setup.now (length events.now) ≡ Some why
         → carrier.new ≡ carrier.old }
     ensures played { OnOk result (first_refusal setup.now (length events.now) ≡ None) }
-    ensures named { IfErr result (λ why. why ≢ Memory
+    ensures named { IfErr result (λ why. why ≢ Memory → why ≢ NotCleaned
         → first_refusal setup.now (length events.now) ≡ Some why) }
+    ensures stopped { result ≡ Err NotCleaned
+        → first_refusal setup.now (length events.now) ≡ None }
     // Whatever bytes the carrier brings: a delivery answers a fault of the packet reader only where
     // the bytes that came by then have it, and some fault where they have one; and the callers are
     // given some of the tokens that come.
@@ -199,14 +202,15 @@ pub fn play_with<E: Engine + Copy, C: Carrier>(
     ensures refines { AreFaithful (C.pipes carrier.new) → IfOk result (λ report. IsReportOfPlay setup.now
         (answer_of (E.statements_of engine) (E.step_of engine)) events.now report
         (C.pipes carrier.new)) }
-    // The carrier was told of each event in order, and each does there what it does in the model.
-    ensures calls { AreFaithful (C.pipes carrier.new) → IfOk result (λ report. MakesCalls setup.now
+    // Each event does at the carrier what it does in the model; one that is told of events was told of
+    // each, in order.
+    ensures calls { AreFaithful (C.pipes carrier.new) → IfOk result (λ report. MakesCalls
+        C.is_told setup.now
         (answer_of (E.statements_of engine) (E.step_of engine)) (marked events.now report.events)
         (C.began carrier.old) (C.began carrier.new) (C.pipes carrier.new)) }
-    // So exactly the events in which calls failed are marked lost, event by event; and the calls that
-    // failed on a connection, over the whole run, are of the kinds that its one lost event makes. Where
-    // no call failed, none is marked.
-    ensures lost { AreFaithful (C.pipes carrier.new) → IfOk result (λ report. MarksFailures setup.now
+    // Exactly the events in which calls failed are marked lost. Where no call failed, none is marked.
+    ensures lost { AreFaithful (C.pipes carrier.new) → IfOk result (λ report. MarksFailures
+        C.is_told setup.now
         (answer_of (E.statements_of engine) (E.step_of engine)) (marked events.now report.events)
         (C.began carrier.old) (C.began carrier.new) (C.pipes carrier.new)) }
     ensures unfailing { AreFaithful (C.pipes carrier.new) → FailNowhere (C.pipes carrier.new)
@@ -262,6 +266,7 @@ fn packet_size(setup: &Setup, events: usize) -> Result<PacketSize, PlayRefusal>
     ensures setup { OnOk result (IsSetup setup.now) }
     ensures size { IfOk result (λ size. size ≡ setup.now.packet_size) }
     ensures refused { IfErr result (λ why. first_refusal setup.now events ≡ Some why) }
+    ensures early { IfErr result (λ why. why ≢ NotCleaned) }
 {
     if events > EVENT_LIMIT {
         return Err(PlayRefusal::TooManyEvents);
@@ -298,7 +303,7 @@ fn known(event: &Event)
 }
 
 /// Plays the events, one after the other, and tells of them and of the requests.
-fn play_events<E: Engine + Copy, C: Carrier>(
+fn play_events<E: Engine + Copy, C: EventCarrier>(
     alloc: Global,
     mut player: Player<E>,
     events: &[Event],
@@ -308,10 +313,10 @@ fn play_events<E: Engine + Copy, C: Carrier>(
     requires none { AreFew 0 player }
     requires held { AreHeld player }
     requires few { length events.now ≤ 10000 }
-    ensures memory { IfErr result (λ why. why ≡ Memory) }
+    ensures stops { IfErr result (λ why. (why ≡ Memory) ⊎ (why ≡ NotCleaned)) }
     ensures calls { (setup : Setup) → IsSetup setup → AreFaithful (C.pipes carrier.new)
         → RepresentsWorld setup player.engine player (C.pipes carrier.old) new_world
-        → IfOk result (λ report. MakesCalls setup
+        → IfOk result (λ report. MakesCalls C.is_told setup
         (answer_of (E.statements_of player.engine) (E.step_of player.engine))
         (marked events.now report.events) (C.began carrier.old) (C.began carrier.new)
         (C.pipes carrier.new)) }
@@ -340,12 +345,12 @@ fn play_events<E: Engine + Copy, C: Carrier>(
 }
 
 /// Plays the events, one after the other, and tells of them.
-fn run<E: Engine + Copy, C: Carrier>(
+fn run<E: Engine + Copy, C: EventCarrier>(
     alloc: Global,
     player: &mut Player<E>,
     events: &[Event],
     carrier: &mut C,
-) -> Result<Vec<EventReport>, NoMemory>
+) -> Result<Vec<EventReport>, Stop>
     requires begins { player.old.links.items ≡ [] }
     requires none { AreFew 0 player.old }
     requires held { AreHeld player.old }
@@ -362,7 +367,7 @@ fn run<E: Engine + Copy, C: Carrier>(
         (marked events.now reports.items) (C.pipes carrier.new)) }
     ensures calls { (setup : Setup) → IsSetup setup → AreFaithful (C.pipes carrier.new)
         → RepresentsWorld setup player.old.engine player.old (C.pipes carrier.old) new_world
-        → IfOk result (λ reports. MakesCalls setup
+        → IfOk result (λ reports. MakesCalls C.is_told setup
         (answer_of (E.statements_of player.old.engine) (E.step_of player.old.engine))
         (marked events.now reports.items) (C.began carrier.old) (C.began carrier.new)
         (C.pipes carrier.new)) }

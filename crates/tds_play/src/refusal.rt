@@ -12,10 +12,12 @@ pub enum PlayRefusal {
     WrongSetup,
     /// 3: a growth was refused. The carrier may have been used.
     Memory,
+    /// 4: what answered a cleaning left a transaction, or did no reset. The carrier was used.
+    NotCleaned,
 }
 
 impl PlayRefusal {
-    /// The refusal's number, 1 to 3.
+    /// The refusal's number, 1 to 4.
     pub fn number(&self) -> u8
         ensures { result ≡ play_refusal_number self.now }
     {
@@ -23,7 +25,42 @@ impl PlayRefusal {
             PlayRefusal::TooManyEvents => 1,
             PlayRefusal::WrongSetup => 2,
             PlayRefusal::Memory => 3,
+            PlayRefusal::NotCleaned => 4,
         }
+    }
+}
+
+/// What ends a play between its first event and its last.
+#[derive(Debug, Drop)]
+pub(crate) enum Stop {
+    /// A growth was refused.
+    Memory,
+    /// The pool closed a connection that was cleaned.
+    NotCleaned,
+}
+
+impl From<Stop> for PlayRefusal {
+    ghost use Rattle.tds_play.specs.Refused.{of_stop};
+
+    ghost from_gives = { λ stop refusal. refusal ≡ of_stop stop };
+
+    fn from(stop: Stop) -> PlayRefusal {
+        match stop {
+            Stop::Memory => PlayRefusal::Memory,
+            Stop::NotCleaned => PlayRefusal::NotCleaned,
+        }
+    }
+}
+
+impl From<AllocError> for Stop {
+    fn from(_: AllocError) -> Stop {
+        Stop::Memory
+    }
+}
+
+impl<T: Drop> From<AllocFailed<T>> for Stop {
+    fn from(_: AllocFailed<T>) -> Stop {
+        Stop::Memory
     }
 }
 

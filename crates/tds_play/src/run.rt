@@ -8,7 +8,7 @@ ghost use Rattle.tds_play.specs.Runs.{AreLeft, IsReportOf, IsFaultOf, IsBeforeOu
 ghost use Rattle.tds_play.specs.declared.run.RunFault.{RunFault};
 ghost use Rattle.tds_play.specs.declared.run.RunFault.TheVariants.{Output, Memory};
 
-use crate::carrier::Carrier;
+use crate::carrier::EventCarrier;
 use crate::playing::play;
 use crate::refusal::PlayRefusal;
 use std::alloc::{AllocError, Global};
@@ -29,7 +29,7 @@ pub(crate) enum RunFault {
     Json,
     /// The JSON value spells no schedule: the place of the first wrong event, or 0.
     Schedule(usize),
-    /// The schedule isn't played.
+    /// The schedule isn't played, or not to its end.
     Play(PlayRefusal),
     /// A write of the report failed.
     Output,
@@ -57,6 +57,7 @@ impl From<PlayRefusal> for RunFault {
             PlayRefusal::Memory => RunFault::Memory,
             PlayRefusal::TooManyEvents => RunFault::Play(PlayRefusal::TooManyEvents),
             PlayRefusal::WrongSetup => RunFault::Play(PlayRefusal::WrongSetup),
+            PlayRefusal::NotCleaned => RunFault::Play(PlayRefusal::NotCleaned),
         }
     }
 }
@@ -83,7 +84,7 @@ impl RunFault {
 /// Reads a schedule, plays it, and prints the report to `output`, or a line about the first fault
 /// to `errors`. It answers the exit status: 0 if the whole report went out, else 1. An event in which
 /// the carrier fails is marked lost in the report.
-pub fn run_play<R: Read, C: Carrier, W: Write, F: Write>(
+pub fn run_play<R: Read, C: EventCarrier, W: Write, F: Write>(
     alloc: Global,
     reader: &mut R,
     carrier: &mut C,
@@ -134,7 +135,7 @@ fn write_line<F: Write>(errors: &mut F, line: &str)
 }
 
 #[tactic(auto, using(crate::proofs::Running::leaves_all))]
-fn report_file<R: Read, C: Carrier, W: Write>(
+fn report_file<R: Read, C: EventCarrier, W: Write>(
     alloc: Global,
     reader: &mut R,
     carrier: &mut C,
@@ -171,7 +172,7 @@ fn read_file<R: Read>(alloc: Global, reader: &mut R) -> Result<Vec<u8>, RunFault
 
 /// Plays the schedule in these bytes, and answers the text of its report; or else the whole line of
 /// the fault that they show, or `None` where memory was refused.
-pub fn play_text<C: Carrier>(
+pub fn play_text<C: EventCarrier>(
     alloc: Global,
     bytes: &[u8],
     carrier: &mut C,
@@ -187,7 +188,7 @@ pub fn play_text<C: Carrier>(
 }
 
 /// The text of the report of these bytes.
-fn text_of_play<C: Carrier>(
+fn text_of_play<C: EventCarrier>(
     alloc: Global,
     bytes: &[u8],
     carrier: &mut C,
@@ -220,7 +221,11 @@ fn line_of(alloc: Global, fault: &RunFault) -> Option<String>
     }
 }
 
-fn play_file<C: Carrier>(alloc: Global, bytes: &[u8], carrier: &mut C) -> Result<Report, RunFault>
+fn play_file<C: EventCarrier>(
+    alloc: Global,
+    bytes: &[u8],
+    carrier: &mut C,
+) -> Result<Report, RunFault>
     ensures played { AreFaithful (C.pipes carrier.new)
         → IfOk result (λ report. IsReportOf (C.pipes carrier.new) bytes.now report) }
     ensures fault { IfErr result (λ fault. IsFaultOf fault bytes.now × IsBeforeOutput fault) }

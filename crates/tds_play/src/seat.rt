@@ -21,10 +21,10 @@ ghost use Rattle.tds_world.specs.declared.event.Setup.{Setup};
 mod cleaning;
 mod leasing;
 
-use crate::NoMemory;
-use crate::carrier::Carrier;
+use crate::carrier::EventCarrier;
 use crate::link::acts::on_cut;
 use crate::link::{EventDone, Link};
+use crate::refusal::Stop;
 use std::alloc::Global;
 use tds_pool::{GivenBack, Pool};
 use tds_session::Engine;
@@ -53,18 +53,18 @@ fn place_by(holder: u32, place: tds_pool::Place) -> Place
 impl<E: Engine + Drop> Held<E> {
     /// Does what this event does at the ends of its connection. Where that is cut, the pool loses
     /// it.
-    pub(crate) fn act<C: Carrier>(
+    pub(crate) fn act<C: EventCarrier>(
         &mut self,
         alloc: Global,
         carrier: &mut C,
         pool: &mut Pool,
         number: u32,
         event: &Event,
-    ) -> Result<EventDone, NoMemory>
+    ) -> Result<EventDone, Stop>
         requires ends { IsOfEnds event.now }
         requires tied { IsTied self.old.link (C.pipes carrier.old self.old.link.number) }
-        requires unasked { self.old.link.is_cut ≡ false → IsUnasked (C.began carrier.old)
-            (C.pipes carrier.old) self.old.link.number }
+        requires unasked { self.old.link.is_cut ≡ false → IsUnasked C.is_told
+            (C.began carrier.old) (C.pipes carrier.old) self.old.link.number }
         requires there { IsThere self.old pool.old }
         requires lent { is_of_caller event.now ≡ true → self.old.link.is_cut ≡ false
             → IsSome (carried self.old.link.number (connections pool.old)) }
@@ -118,12 +118,12 @@ impl<E: Engine + Drop> Held<E> {
 
     /// What an event at its ends makes of it in the pool: one that is cut leaves it, and one that
     /// drains, or is being cleaned, may be free once bytes came to its client.
-    fn settle<C: Carrier>(
+    fn settle<C: EventCarrier>(
         &mut self,
         carrier: &mut C,
         pool: &mut Pool,
         event: &Event,
-    ) -> Result<(), NoMemory>
+    ) -> Result<(), Stop>
         requires tied { IsTied self.old.link (C.pipes carrier.old self.old.link.number) }
         requires is_in { IsSome (numbered self.old.link.number (connections pool.old)) }
         ensures number { self.new.link.number ≡ self.old.link.number }
@@ -162,7 +162,7 @@ impl<E: Engine + Drop> Held<E> {
 
     /// A draining connection is free once its client is idle. One that the pool closes is cut. One
     /// that is being cleaned stays.
-    fn drain<C: Carrier>(&mut self, carrier: &mut C, pool: &mut Pool)
+    fn drain<C: EventCarrier>(&mut self, carrier: &mut C, pool: &mut Pool)
         requires live { self.old.link.is_cut ≡ false }
         requires tied { IsTied self.old.link (C.pipes carrier.old self.old.link.number) }
         requires is_in { IsSome (numbered self.old.link.number (connections pool.old)) }

@@ -1,9 +1,8 @@
 -- The connections over TCP.
-use Rattle.std.specs.Prelude.{ℕ, List, map, Option, option_map}
+use Rattle.std.specs.Prelude.{ℕ, Option, option_map}
 use Rattle.std.specs.Ordering.{nat_cmp}
 use Rattle.std.specs.BTreeMap.{BTreeMap, get}
-use Rattle.tds_play.specs.Pipe.{Begun, Pipe}
-use Rattle.tds_tcp.specs.declared.carrier.Telling.{Telling}
+use Rattle.tds_play.specs.Pipe.{Pipe}
 use Rattle.tds_tcp.specs.declared.pair.Pair.{Pair}
 
 abbrev pub pipe_of : {S : Type 0} → Pair S → Pipe
@@ -16,10 +15,3 @@ pipe_of p = record {
 
 abbrev pub pipe_at : {S : Type 0} → BTreeMap ℕ (Pair S) → ℕ → Option Pipe
 pipe_at pairs conn = option_map pipe_of (get nat_cmp pairs conn)
-
--- The events of which it was told, and what there was of each connection then.
-abbrev pub begun_by : {S : Type 0} → Telling S → Begun
-begun_by t = record { event = t.event.value; pipes = pipe_at t.pairs.value }
-
-abbrev pub begun_in : {S : Type 0} → List (Telling S) → List Begun
-begun_in tellings = map begun_by tellings

@@ -1,16 +1,15 @@
 //! The carrier.
-ghost use Rattle.std.specs.Prelude.{[], ◌∷◌, ◌≡◌, ◌≢◌, ◌<◌, ◌≤◌, ◌+◌, ◌++◌, None, Some, Err, IfOk, IfErr, IfSome, OnOk, ℕ, length, take, drop};
+ghost use Rattle.std.specs.Prelude.{◌≡◌, ◌<◌, ◌≤◌, ◌+◌, None, Some, Err, IfOk, IfErr, IfSome, OnOk, ℕ, length, take, drop};
 ghost use Rattle.tds_play.specs.Pipe.{Changes, new_pipe, sent_on, carried_on, stuck_on, cut_pipe, traffic, IsOpen, IsUncut};
 ghost use Rattle.tds_play.specs.declared.carrier.CarrierError.TheVariants.{Lost, Memory};
 ghost use Rattle.tds_tcp.specs.Accepts.{one_more};
 ghost use Rattle.tds_tcp.specs.Flows.{HasRoom};
-ghost use Rattle.tds_tcp.specs.Pairs.{begun_in, pipe_at};
+ghost use Rattle.tds_tcp.specs.Pairs.{pipe_at};
 
 use crate::pair::Pair;
-use std::alloc::{AllocError, Global};
+use std::alloc::Global;
 use std::collections::BTreeMap;
 use std::net::{Ipv4Addr, Net, OpenListener, OpenStream, SocketAddr, SocketAddrV4};
-use std::snapshot::Snapshot;
 use std::time::Duration;
 use tds_packet::Direction;
 use tds_play::{Carrier, CarrierError};
@@ -20,13 +19,6 @@ const PATIENCE: u64 = 5;
 
 /// How many connections of others are let go of while one's own is waited for.
 const STRANGERS: u32 = 256;
-
-/// What there was of each connection when an event began. It has no bytes: clauses alone read it.
-#[derive(Drop)]
-struct Telling<S> {
-    event: Snapshot<u32>,
-    pairs: Snapshot<BTreeMap<u32, Pair<S>>>,
-}
 
 /// Carries bytes over TCP, on 127.0.0.1, both ends of each connection in this one process. What it
 /// answers is said for any system: nothing is known of the bytes that come. Where a run's bytes came
@@ -48,7 +40,6 @@ pub struct TcpCarrier<R, L, S> {
     listener: L,
     accepted: u32,
     pairs: BTreeMap<u32, Pair<S>>,
-    began: Vec<Telling<S>>,
 }
 
 impl<R: Net + Drop> TcpCarrier<R, R::Listener, R::Stream> {
@@ -59,7 +50,6 @@ impl<R: Net + Drop> TcpCarrier<R, R::Listener, R::Stream> {
         rt: R,
     ) -> Result<TcpCarrier<R, R::Listener, R::Stream>, CarrierError>
         ensures empty { IfOk result (λ t. (conn : ℕ) → pipe_at t.pairs conn ≡ None) }
-        ensures untold { IfOk result (λ t. begun_in t.began.items ≡ []) }
         ensures accepted { IfOk result (λ t. t.accepted ≡ 0) }
         ensures lost { IfErr result (λ error. error ≡ Lost) }
     {
@@ -71,7 +61,6 @@ impl<R: Net + Drop> TcpCarrier<R, R::Listener, R::Stream> {
                 listener,
                 accepted: 0,
                 pairs: BTreeMap::new(alloc),
-                began: Vec::new(alloc),
             }),
             Err(_) => Err(CarrierError::Lost),
         }
@@ -87,7 +76,6 @@ impl<R: Net + Drop> TcpCarrier<R, R::Listener, R::Stream> {
     /// Connects, and accepts in turn.
     fn connect(&mut self) -> Option<(R::Stream, R::Stream)>
         ensures pairs { self.new.pairs ≡ self.old.pairs }
-        ensures began { self.new.began ≡ self.old.began }
         ensures some { IfSome result (λ _. self.new.accepted ≡ one_more self.old.accepted) }
         ensures none { result ≡ None → self.new.accepted ≡ self.old.accepted }
     {
@@ -126,30 +114,12 @@ fn is_ready<S: OpenStream>(stream: &S) -> bool {
 impl<R: Net + Drop> Carrier for TcpCarrier<R, R::Listener, R::Stream> {
     ghost pipes = { λ t. pipe_at t.pairs };
 
-    ghost began = { λ t. begun_in t.began.items };
-
-    /// The trait's clauses, and that no connection is accepted.
-    fn begin(&mut self, event: u32) -> Result<(), AllocError>
-        ensures told { OnOk result (begun_in self.new.began.items ≡ begun_in self.old.began.items
-            ++ record { event = event; pipes = pipe_at self.old.pairs } ∷ []) }
-        ensures still { OnOk result (pipe_at self.new.pairs ≡ pipe_at self.old.pairs) }
-        ensures accepted { self.new.accepted ≡ self.old.accepted }
-    {
-        self.began.push(Telling {
-            event: Snapshot::of(&event),
-            pairs: Snapshot::of(&self.pairs),
-        })?;
-        Ok(())
-    }
-
     /// The trait's clauses, and how many were accepted.
     fn open(&mut self, conn: u32) -> Result<(), CarrierError>
         ensures ok { OnOk result (
             Changes (pipe_at self.old.pairs) (pipe_at self.new.pairs) conn (Some (new_pipe 0))) }
         ensures lost { result ≡ Err Lost
             → Changes (pipe_at self.old.pairs) (pipe_at self.new.pairs) conn (Some (new_pipe 1)) }
-        ensures began { result ≢ Err Memory
-            → begun_in self.new.began.items ≡ begun_in self.old.began.items }
         ensures accepted { OnOk result (self.new.accepted ≡ one_more self.old.accepted) }
         ensures none_more { result ≡ Err Lost → self.new.accepted ≡ self.old.accepted }
     {
@@ -178,8 +148,6 @@ impl<R: Net + Drop> Carrier for TcpCarrier<R, R::Listener, R::Stream> {
         ensures lost { result ≡ Err Lost
             → Changes (pipe_at self.old.pairs) (pipe_at self.new.pairs)
             conn (sent_on (pipe_at self.old.pairs conn) direction bytes.now 1) }
-        ensures began { result ≢ Err Memory
-            → begun_in self.new.began.items ≡ begun_in self.old.began.items }
         ensures room { OnOk result (
             HasRoom (traffic (pipe_at self.old.pairs conn) direction) (length bytes.now)) }
         ensures accepted { self.new.accepted ≡ self.old.accepted }
@@ -211,8 +179,6 @@ impl<R: Net + Drop> Carrier for TcpCarrier<R, R::Listener, R::Stream> {
             → Changes (pipe_at self.old.pairs) (pipe_at self.new.pairs)
             conn (stuck_on (pipe_at self.old.pairs conn) direction) }
         ensures nothing { result ≡ Err Lost → out.new.items ≡ out.old.items }
-        ensures began { result ≢ Err Memory
-            → begun_in self.new.began.items ≡ begun_in self.old.began.items }
         ensures accepted { self.new.accepted ≡ self.old.accepted }
     {
         match self.pairs.get_mut(&conn) {
@@ -226,7 +192,6 @@ impl<R: Net + Drop> Carrier for TcpCarrier<R, R::Listener, R::Stream> {
         requires { IsUncut (pipe_at self.old.pairs conn) }
         ensures cut { Changes (pipe_at self.old.pairs) (pipe_at self.new.pairs)
             conn (cut_pipe (pipe_at self.old.pairs conn)) }
-        ensures began { begun_in self.new.began.items ≡ begun_in self.old.began.items }
         ensures accepted { self.new.accepted ≡ self.old.accepted }
     {
         match self.pairs.get_mut(&conn) {

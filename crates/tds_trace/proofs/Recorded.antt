@@ -117,7 +117,7 @@ brought_by (Err Memory) way pipes next conn before after ok lost nothing known =
 
 -- It may be asked, and answered so.
 pub may_bring : (r : Result ℕ CarrierError) (bytes : List ℕ) (before now : Option Pipe) (old after : List ℕ)
-    → IsOpen now → MayCarry before now → IfOk r (λ n. 0 < n) → IfOk r (λ n. length after ≡ length old + n)
+    → IsOpen now → MayCarry true before now → IfOk r (λ n. 0 < n) → IfOk r (λ n. length after ≡ length old + n)
     → (r ≡ Err Lost → after ≡ old) → r ≢ Err Memory → bytes ≡ drop (length old) after
     → MayBring bytes (is_err r) before now
 may_bring (Ok n) bytes before now old after is_open may least count nothing known is =

@@ -1,5 +1,5 @@
 -- The calls of a play are those that its carrier was asked: each event's do there what the event does in the model.
-use Rattle.std.proofs.Common.{◌≡◌, ◌∙◌, ℕ, suc, List, [], ◌∷◌, Option, None, sym, ap, subst}
+use Rattle.std.proofs.Common.{◌≡◌, ◌∙◌, ℕ, suc, List, [], ◌∷◌, Option, None, true, refl, sym, ap, subst}
 use Rattle.std.proofs.Math.Path.{fun_ext}
 use Rattle.std.specs.List.{AllByRecursion}
 use Rattle.tds_play.specs.Calls.{Does, DoInTurn as MakeInTurn, MakesCalls, next_there}
@@ -36,7 +36,7 @@ in_turn setup answers n (p ∷ ps) (b ∷ bs) last before w calls begins (number
 
 pub calls_of_record : (setup : Setup) (answers : Answers) (ps : List Played) (event : Option ℕ) (calls : List Call) (told : List Begun)
     (last : ℕ → Option Pipe)
-    → MakesCalls setup answers ps [] told last → IsRecordOf event calls told last → AreCallsOfPlay setup answers ps calls
+    → MakesCalls true setup answers ps [] told last → IsRecordOf event calls told last → AreCallsOfPlay setup answers ps calls
 calls_of_record setup answers ps event calls told last makes is =
     in_turn setup answers 1 ps told last (λ n. None) new_world calls (fun_ext is.begins)
-    (subst (λ (bs : List Begun). MakeInTurn setup answers 1 ps bs last new_world) (sym makes.since) makes.calls) is.each
+    (subst (λ (bs : List Begun). MakeInTurn setup answers 1 ps bs last new_world) (sym (makes.since refl)) makes.calls) is.each

@@ -102,6 +102,13 @@ told_event event calls before after pipes next b is still more was =
       each = told_more before b pipes next calls is still was.each;
     })
 
+-- The same, of what a carrier kept of the event.
+pub told_one_more : (event : Option ℕ) (number : ℕ) (calls : List Call) (before after : List Begun) (pipes : ℕ → Option Pipe) (b : Begun)
+    → b.event ≡ number → b.pipes ≡ pipes → after ≡ before ++ b ∷ []
+    → IsRecordOf event calls before pipes → IsRecordOf (Some number) calls after pipes
+told_one_more event number calls before after pipes b at is more was =
+    subst (λ (n : ℕ). IsRecordOf (Some n) calls after pipes) at (told_event event calls before after pipes pipes b is refl more was)
+
 -- One call more, by what was told.
 called_with : (told : List Begun) (call : Call) (calls : List Call) (pipes next : ℕ → Option Pipe)
     → Changes pipes next call.conn (made_on call.made call.failed (pipes call.conn))

@@ -1,8 +1,8 @@
 -- What ends a run of a trace before the whole trace went out: what went out before, and the line about it.
-use Rattle.std.specs.Prelude.{ℕ, ◌≡◌, ◌⊎◌, ◌++◌, List, Option, Some, ⊤, codes, decimal}
+use Rattle.std.specs.Prelude.{ℕ, ◌≡◌, ◌⊎◌, ◌++◌, List, Option, ⊤, codes, decimal}
 use Rattle.std.specs.Io.KnownBytes.{Keeps}
 use Rattle.tds_play.specs.Refused.{play_refusal_number}
-use Rattle.tds_play.specs.Runs.{AreLeft, IsRefused}
+use Rattle.tds_play.specs.Runs.{AreLeft, IsRefusedSo}
 use Rattle.tds_play.specs.declared.refusal.PlayRefusal.{PlayRefusal}
 use Rattle.tds_play.specs.declared.refusal.PlayRefusal.TheVariants as play
 use Rattle.tds_text.specs.Files.{IsNoJson, IsWrongAt}
@@ -20,7 +20,7 @@ abbrev pub IsFaultOf : TraceFault → List ℕ → Type 0
 IsFaultOf trace.File bytes = ⊤
 IsFaultOf trace.Json bytes = IsNoJson bytes
 IsFaultOf (trace.Schedule place) bytes = IsWrongAt bytes place
-IsFaultOf (trace.Play refusal) bytes = IsRefused bytes (Some refusal)
+IsFaultOf (trace.Play refusal) bytes = IsRefusedSo refusal bytes
 IsFaultOf trace.Output bytes = ⊤
 IsFaultOf trace.Memory bytes = ⊤
 
@@ -29,7 +29,7 @@ abbrev pub IsShownBy : TraceFault → List ℕ → Type 0
 IsShownBy trace.File bytes = ⊥
 IsShownBy trace.Json bytes = IsNoJson bytes
 IsShownBy (trace.Schedule place) bytes = IsWrongAt bytes place
-IsShownBy (trace.Play refusal) bytes = IsRefused bytes (Some refusal)
+IsShownBy (trace.Play refusal) bytes = IsRefusedSo refusal bytes
 IsShownBy trace.Output bytes = ⊥
 IsShownBy trace.Memory bytes = ⊥
 
@@ -87,3 +87,4 @@ abbrev pub of_refusal : PlayRefusal → TraceFault
 of_refusal play.Memory = trace.Memory
 of_refusal play.TooManyEvents = trace.Play play.TooManyEvents
 of_refusal play.WrongSetup = trace.Play play.WrongSetup
+of_refusal play.NotCleaned = trace.Play play.NotCleaned

@@ -33,13 +33,14 @@ left_of calls n p = fold (λ q c. if c.conn == n then made_on c.made c.failed q 
 -- What a call of `carry` may bring where there was `before` of the connection when the event began and is `now`:
 -- some bytes, or none where it fails.
 abbrev pub MayBring : List ℕ → Bool → Option Pipe → Option Pipe → Type 0
-MayBring bytes false before now = (0 < length bytes) × IsOpen now × MayCarry before now
-MayBring bytes true before now = (bytes ≡ []) × IsOpen now × MayCarry before now
+MayBring bytes false before now = (0 < length bytes) × IsOpen now × MayCarry true before now
+MayBring bytes true before now = (bytes ≡ []) × IsOpen now × MayCarry true before now
 
--- A call that a carrier may be asked there, as `Carrier` requires, and that may be answered so. A cut doesn't fail.
+-- A call that a carrier which is told of events may be asked there, as `EventCarrier` requires, and that may be
+-- answered so. A cut doesn't fail.
 abbrev pub MayBe : Made → Bool → Option Pipe → Option Pipe → Type 0
 MayBe made.Open failed before now = before ≡ now
-MayBe (made.Send d bytes) failed before now = (0 < length bytes.items) × IsOpen now × MaySend before now
+MayBe (made.Send d bytes) failed before now = (0 < length bytes.items) × IsOpen now × MaySend true before now
 MayBe (made.Carry d bytes) failed before now = MayBring bytes.items failed before now
 MayBe made.Cut failed before now = (failed ≡ false) × IsUncut now
 

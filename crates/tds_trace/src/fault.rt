@@ -15,7 +15,7 @@ pub(crate) enum TraceFault {
     Json,
     /// The JSON value spells no schedule: the place of the first wrong event, or 0.
     Schedule(usize),
-    /// The schedule isn't played.
+    /// The schedule isn't played, or not to its end.
     Play(PlayRefusal),
     /// A write of the trace failed.
     Output,
@@ -42,6 +42,7 @@ impl From<PlayRefusal> for TraceFault {
             PlayRefusal::Memory => TraceFault::Memory,
             PlayRefusal::TooManyEvents => TraceFault::Play(PlayRefusal::TooManyEvents),
             PlayRefusal::WrongSetup => TraceFault::Play(PlayRefusal::WrongSetup),
+            PlayRefusal::NotCleaned => TraceFault::Play(PlayRefusal::NotCleaned),
         }
     }
 }

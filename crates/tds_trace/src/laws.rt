@@ -1,6 +1,6 @@
 //! Whose the calls of a recorded play are, and how many attentions are among a run's bytes. The functions do
 //! nothing when they run: their contracts are the laws.
-ghost use Rattle.std.specs.Prelude.{[], ℕ, List, Option};
+ghost use Rattle.std.specs.Prelude.{[], ℕ, List, Option, true};
 ghost use Rattle.tds_play.specs.Calls.{MakesCalls};
 ghost use Rattle.tds_play.specs.Pipe.{Begun, Pipe};
 ghost use Rattle.tds_play.specs.WholePlay.{CarriesBytesOf, HandsBytesOf};
@@ -13,13 +13,13 @@ ghost use Rattle.tds_world.specs.Losses.{Played};
 ghost use Rattle.tds_world.specs.World.{World};
 ghost use Rattle.tds_world.specs.declared.event.Setup.{Setup};
 
-/// Over any carrier that was new at first: where a play made these calls there (the clause `calls` of
-/// `play`), and they were recorded ([`crate::RecordingCarrier::into_calls`]), each event's calls do there
-/// what the event does in the model.
+/// Over any carrier that was new at first and is told of events: where a play made these calls there
+/// (the clause `calls` of `play`), and they were recorded ([`crate::RecordingCarrier::into_calls`]),
+/// each event's calls do there what the event does in the model.
 pub fn record_of_a_play()
     ensures { (setup : Setup) (answers : Answers) (ps : List Played) (event : Option ℕ)
         (calls : List Call) (told : List Begun) (last : ℕ → Option Pipe)
-        → MakesCalls setup answers ps [] told last → ∥ IsRecordOf event calls told last ∥₁
+        → MakesCalls true setup answers ps [] told last → ∥ IsRecordOf event calls told last ∥₁
         → ∥ AreCallsOfPlay setup answers ps calls ∥₁ }
 {}
 

@@ -1,20 +1,43 @@
 //! A carrier that records its calls.
-ghost use Rattle.std.specs.Prelude.{[], ◌∷◌, ◌≡◌, ◌≢◌, ◌++◌, ◌≤◌, ◌<◌, ◌+◌, ℕ, List, length, drop, take, false, is_err, Option, Some, Err, None, IfOk, IfSome, OnOk};
+ghost use Rattle.std.specs.Prelude.{[], ◌∷◌, ◌≡◌, ◌≢◌, ◌++◌, ◌≤◌, ◌<◌, ◌+◌, ℕ, List, length, drop, take, true, false, is_err, Option, Some, Err, None, IfOk, IfSome, OnOk};
 ghost use Rattle.tds_trace.specs.Calls.{AreCallsAt};
+ghost use Rattle.tds_trace.specs.Told.{begun_in};
 ghost use Rattle.tds_trace.specs.Turns.{IsRecordOf};
 ghost use Rattle.tds_play.specs.Pipe.{Changes, new_pipe, sent_on, carried_on, stuck_on, cut_pipe, traffic, IsOpen, IsUncut};
 ghost use Rattle.tds_play.specs.declared.carrier.CarrierError.TheVariants.{Lost, Memory};
 
 use crate::call::{Call, Made};
 use std::alloc::{AllocError, Global};
+use std::snapshot::Snapshot;
 use tds_packet::Direction;
 use tds_play::{Carrier, CarrierError};
 
-/// A carrier, and a record of each call that it was asked, in order, with the event that made it.
+/// What there was of a carrier when an event began. It has no bytes: clauses alone read it.
+#[derive(Drop)]
+struct Telling<C> {
+    event: Snapshot<u32>,
+    carrier: Snapshot<C>,
+}
+
+impl<C> Telling<C> {
+    fn of(event: u32, carrier: &C) -> Telling<C>
+        ensures event { result.event.value ≡ event }
+        ensures carrier { result.carrier.value ≡ carrier.now }
+    {
+        Telling {
+            event: Snapshot::of(&event),
+            carrier: Snapshot::of(carrier),
+        }
+    }
+}
+
+/// A carrier, and a record of each call that it was asked, in order, with the event that made it. It is
+/// told of events, and keeps what there was of each connection when each one began.
 #[derive(Drop)]
 pub struct RecordingCarrier<C: Carrier + Drop> {
     alloc: Global,
     inner: C,
+    began: Vec<Telling<C>>,
     /// The event of which it was told last.
     event: Option<u32>,
     calls: Vec<Call>,
@@ -22,21 +45,21 @@ pub struct RecordingCarrier<C: Carrier + Drop> {
     is_short: bool,
     ghost recorded: { is_short ≡ false → AreCallsAt calls.items (C.pipes inner) },
     ghost turns: { is_short ≡ false
-        → ∥ IsRecordOf event calls.items (C.began inner) (C.pipes inner) ∥₁ },
+        → ∥ IsRecordOf event calls.items (begun_in C.pipes began.items) (C.pipes inner) ∥₁ },
 }
 
 impl<C: Carrier + Drop> RecordingCarrier<C> {
-    /// Records the calls of a carrier that is new: it has no connection, and was told of no event. Both are
-    /// required, since of its carrier `play` tells these two alone: a record that began behind others could
-    /// not be known to begin with the play. It takes no memory.
+    /// Records the calls of a carrier that is new: it has no connection. That is required, since a record
+    /// that began behind others could not be known to begin with the play. It takes no memory.
     pub fn new(alloc: Global, inner: C) -> RecordingCarrier<C>
-        requires unused { (conn : ℕ) → C.pipes inner conn ≡ None }
-        requires untold { C.began inner ≡ [] }
+        requires { (conn : ℕ) → C.pipes inner conn ≡ None }
         ensures inner { result.inner ≡ inner }
+        ensures untold { result.began.items ≡ [] }
     {
         RecordingCarrier {
             alloc,
             inner,
+            began: Vec::new(alloc),
             event: None,
             calls: Vec::new(alloc),
             is_short: false,
@@ -48,7 +71,7 @@ impl<C: Carrier + Drop> RecordingCarrier<C> {
     pub fn into_calls(self) -> Result<Vec<Call>, AllocError>
         ensures all { IfOk result (λ calls. AreCallsAt calls.items (C.pipes self.inner)) }
         ensures turns { IfOk result (λ calls. ∥ IsRecordOf self.event calls.items
-            (C.began self.inner) (C.pipes self.inner) ∥₁) }
+            (begun_in C.pipes self.began.items) (C.pipes self.inner) ∥₁) }
     {
         match self.is_short {
             true => Err(AllocError),
@@ -85,14 +108,6 @@ fn keep<T>(
     is_short || matches!(answer, Err(CarrierError::Memory)) || calls.push(call).is_err()
 }
 
-/// Whether nothing is known of the record behind a telling that was answered so.
-fn is_unknown(is_short: bool, answer: &Result<(), AllocError>) -> bool
-    ensures whole { result ≡ false → is_short ≡ false }
-    ensures answered { result ≡ false → is_err answer.now ≡ false }
-{
-    is_short || answer.is_err()
-}
-
 /// The bytes behind so many.
 fn behind(bytes: &[u8], before: usize) -> &[u8]
     ensures { result.now ≡ drop before bytes.now }
@@ -103,16 +118,24 @@ fn behind(bytes: &[u8], before: usize) -> &[u8]
     }
 }
 
-impl<C: Carrier + Drop> Carrier for RecordingCarrier<C> {
+impl<C: Carrier + Drop> tds_play::EventCarrier for RecordingCarrier<C> {
+    ghost is_told = { true };
+
     ghost pipes = { λ c. C.pipes c.inner };
 
-    ghost began = { λ c. C.began c.inner };
+    ghost began = { λ c. begun_in C.pipes c.began.items };
 
     fn begin(&mut self, event: u32) -> Result<(), AllocError> {
-        self.event = Some(event);
-        let answer = self.inner.begin(event);
-        self.is_short = is_unknown(self.is_short, &answer);
-        answer
+        match self.began.push(Telling::of(event, &self.inner)) {
+            Ok(()) => {
+                self.event = Some(event);
+                Ok(())
+            }
+            Err(_) => {
+                self.is_short = true;
+                Err(AllocError)
+            }
+        }
     }
 
     fn open(&mut self, conn: u32) -> Result<(), CarrierError> {

@@ -4,7 +4,7 @@ ghost use Rattle.tds_trace.specs.Calls.{AreCallsOf};
 ghost use Rattle.tds_trace.specs.Turns.{AreCallsOfPlay};
 ghost use Rattle.tds_play.specs.Refused.{first_refusal};
 ghost use Rattle.tds_play.specs.declared.refusal.PlayRefusal.{PlayRefusal};
-ghost use Rattle.tds_play.specs.declared.refusal.PlayRefusal.TheVariants.{Memory};
+ghost use Rattle.tds_play.specs.declared.refusal.PlayRefusal.TheVariants.{Memory, NotCleaned};
 ghost use Rattle.tds_session.specs.Answer.{script_answers};
 ghost use Rattle.tds_world.specs.Events.{world_after};
 ghost use Rattle.tds_world.specs.Losses.{marked};
@@ -31,8 +31,10 @@ pub fn play_traced(alloc: Global, setup: &Setup, events: &[Event]) -> Result<Tra
     ensures refused { (why : PlayRefusal) → first_refusal setup.now (length events.now) ≡ Some why
         → result ≡ Err why }
     ensures played { OnOk result (first_refusal setup.now (length events.now) ≡ None) }
-    ensures named { IfErr result (λ why. why ≢ Memory
+    ensures named { IfErr result (λ why. why ≢ Memory → why ≢ NotCleaned
         → first_refusal setup.now (length events.now) ≡ Some why) }
+    ensures stopped { result ≡ Err NotCleaned
+        → first_refusal setup.now (length events.now) ≡ None }
     // The report is the model's.
     ensures report { IfOk result (λ trace.
         trace.report ≡ observed setup.now script_answers events.now) }

@@ -62,7 +62,8 @@ pub fn why_unread(
     Ok(text)
 }
 
-/// Why the schedule in these bytes, a file's of this name, is read and not played, as `why_unread`.
+/// Why the schedule in these bytes, a file's of this name, is read and not played, or not to its end, as
+/// `why_unread`.
 pub fn why_unplayed(
     alloc: Global,
     name: &str,
@@ -74,6 +75,13 @@ pub fn why_unplayed(
     let mut text = String::new(alloc);
     let outline = Outline::read(alloc, bytes)?;
     put_limits(&mut text, page, &outline, setup, events)?;
+    if text.is_empty() {
+        // Nothing else ends a play that has begun.
+        writeln!(
+            text,
+            "{name}: what answered a clean left a transaction, or did no reset"
+        )?;
+    }
     text.pop();
     Ok(text)
 }

@@ -1,5 +1,5 @@
 -- A carrier is told of each event of a play, and what each does there.
-use Rattle.std.proofs.Common.{◌≡◌, ◌∙◌, ◌+◌, ◌<◌, ◌≤◌, ℕ, suc, List, [], ◌∷◌, ◌++◌, length, take, slice_index_or, Option, Bool, append_assoc, refl, sym, ap, subst, arith}
+use Rattle.std.proofs.Common.{◌≡◌, ◌∙◌, ◌+◌, ◌<◌, ◌≤◌, ℕ, suc, List, [], ◌∷◌, ◌++◌, length, take, slice_index_or, Option, Bool, true, append_assoc, refl, sym, ap, subst, arith}
 use Rattle.std.proofs.lemmas.List.{append-nil, take_all}
 use Rattle.tds_pool.specs.Connections.{connections}
 use Rattle.tds_session.specs.Answer.{Answers}
@@ -78,10 +78,10 @@ one_more_does setup answers n (q ∷ ps) (c ∷ bs) p b last last' w far is at d
   one_more_does setup answers (suc n) ps bs p b last last' (world_then setup answers w q) far.2 is (at ∙ omega arith) does,
 )
 
-pub makes_none : (setup : Setup) (answers : Answers) (es : List Event) (rs : List EventReport) (told : List Begun) (pipes : ℕ → Option Pipe) → MakesCalls setup answers (marked (take 0 es) rs) told told pipes
+pub makes_none : {is_told : Bool} (setup : Setup) (answers : Answers) (es : List Event) (rs : List EventReport) (told : List Begun) (pipes : ℕ → Option Pipe) → MakesCalls is_told setup answers (marked (take 0 es) rs) told told pipes
 makes_none setup answers es rs told pipes = record {
   told = [];
-  since = sym (append-nil told);
+  since = λ tells. sym (append-nil told);
   calls = tt;
 }
 
@@ -90,14 +90,14 @@ marked_long [] rs = refl
 marked_long (e ∷ es) [] = ap suc (marked_long es [])
 marked_long (e ∷ es) (r ∷ rs) = ap suc (marked_long es rs)
 
-pub makes_more : (setup : Setup) (answers : Answers) (es : List Event) (i number : ℕ) (e : Event) (reports then : List EventReport) (done : EventDone) (seen : List Snapshot)
+pub makes_more : {is_told : Bool} (setup : Setup) (answers : Answers) (es : List Event) (i number : ℕ) (e : Event) (reports then : List EventReport) (done : EventDone) (seen : List Snapshot)
     (old told still : List Begun) (before last : ℕ → Option Pipe)
     → i < length es → e ≡ slice_index_or es i e → length reports ≡ i → i < 10000 → number ≡ suc (length reports)
     → then ≡ reports ++ record { outcome = done.outcome; lost = done.lost; snapshots = seen } ∷ []
-    → still ≡ told ++ record { event = number; pipes = before } ∷ []
+    → (is_told ≡ true → still ≡ told ++ record { event = number; pipes = before } ∷ [])
     → Does setup answers (world_with setup answers (marked (take i es) reports) new_world) (record { event = e; loss = loss_of done }) before last
-    → MakesCalls setup answers (marked (take i es) reports) old told before → MakesCalls setup answers (marked (take (i + 1) es) then) old still last
-makes_more setup answers es i number e reports then done seen old told still before last less is count few at more begun does far =
+    → MakesCalls is_told setup answers (marked (take i es) reports) old told before → MakesCalls is_told setup answers (marked (take (i + 1) es) then) old still last
+makes_more {is_told} setup answers es i number e reports then done seen old told still before last less is count few at more begun does far =
     let p : Played = record { event = e; loss = loss_of done } in
     let r : EventReport = record { outcome = done.outcome; lost = done.lost; snapshots = seen } in
     let b : Begun = record { event = number; pipes = before } in
@@ -105,16 +105,16 @@ makes_more setup answers es i number e reports then done seen old told still bef
     let ps : marked (take (i + 1) es) then ≡ marked (take i es) reports ++ p ∷ [] =
     ap (λ xs. marked xs then) (one_taken es i e less is) ∙ ap (marked (take i es ++ e ∷ [])) more
     ∙ marked_one_more (take i es) e reports r same in
-    subst (λ (xs : List Played). MakesCalls setup answers xs old still last) (sym ps)
+    subst (λ (xs : List Played). MakesCalls is_told setup answers xs old still last) (sym ps)
     (record {
       told = far.told ++ b ∷ [];
-      since = begun ∙ ap (λ (bs : List Begun). bs ++ b ∷ []) far.since ∙ append_assoc old far.told (b ∷ []);
+      since = λ tells. begun tells ∙ ap (λ (bs : List Begun). bs ++ b ∷ []) (far.since tells) ∙ append_assoc old far.told (b ∷ []);
       calls = one_more_does setup answers 1 (marked (take i es) reports) far.told p b before last new_world far.calls refl
           (at ∙ omega (arith, count, few, so_many i es (omega (arith, less)), marked_long (take i es) reports)) does;
     })
 
-pub makes_all : (setup : Setup) (answers : Answers) (es : List Event) (i : ℕ) (so_far reports : List EventReport) (old new : List Begun) (pipes : ℕ → Option Pipe)
-    → length es ≤ i → reports ≡ so_far → MakesCalls setup answers (marked (take i es) so_far) old new pipes → MakesCalls setup answers (marked es reports) old new pipes
-makes_all setup answers es i so_far reports old new pipes over same far =
+pub makes_all : {is_told : Bool} (setup : Setup) (answers : Answers) (es : List Event) (i : ℕ) (so_far reports : List EventReport) (old new : List Begun) (pipes : ℕ → Option Pipe)
+    → length es ≤ i → reports ≡ so_far → MakesCalls is_told setup answers (marked (take i es) so_far) old new pipes → MakesCalls is_told setup answers (marked es reports) old new pipes
+makes_all {is_told} setup answers es i so_far reports old new pipes over same far =
     let ps : marked (take i es) so_far ≡ marked es reports = ap (λ xs. marked xs so_far) (take_all i es over) ∙ ap (marked es) (sym same) in
-    subst (λ (xs : List Played). MakesCalls setup answers xs old new pipes) ps far
+    subst (λ (xs : List Played). MakesCalls is_told setup answers xs old new pipes) ps far

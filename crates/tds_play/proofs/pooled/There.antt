@@ -1,5 +1,5 @@
 -- What stands at a place of a player: its number, how it is tied, and that the pool has it.
-use Rattle.std.proofs.Common.{◌≡◌, ◌∙◌, ℕ, suc, ◌+◌, ◌<◌, length, List, get_or, Option, Some, false, ap}
+use Rattle.std.proofs.Common.{◌≡◌, ◌∙◌, ℕ, suc, ◌+◌, ◌<◌, length, List, Bool, true, get_or, Option, Some, false, ap}
 use Rattle.std.proofs.lemmas.Option.{get_or_from_slice_get}
 use Rattle.std.specs.List.{slice_get}
 use Rattle.std.specs.Prelude.{option_map}
@@ -36,8 +36,8 @@ stands_there {E} {S} player place h pipes tied held within is =
     }
 
 -- Nothing was asked of its connection since the carrier was told of the event.
-pub unasked_there : {E S : Type 0} (player : Player E S) (place : ℕ) (h : Held E S) (told : List Begun) (pipes : ℕ → Option Pipe)
-    → AreTied (all_of player) pipes → IsJustTold told pipes → LiveAreSound (all_of player) pipes → slice_get player.links.items place ≡ Some h → h.link.is_cut ≡ false → IsUnasked told pipes h.link.number
+pub unasked_there : {E S : Type 0} {is_told : Bool} (player : Player E S) (place : ℕ) (h : Held E S) (told : List Begun) (pipes : ℕ → Option Pipe)
+    → AreTied (all_of player) pipes → IsJustTold is_told told pipes → LiveAreSound (all_of player) pipes → slice_get player.links.items place ≡ Some h → h.link.is_cut ≡ false → IsUnasked is_told told pipes h.link.number
 unasked_there {E} {S} player place h told pipes tied just sound at live =
     let x : Seated E S = seated_in h (numbered (1 + place) (connections player.pool)) in
     let there : slice_get (all_of player) place ≡ Some x =

@@ -32,7 +32,7 @@ ghost use Rattle.tds_play.specs.Ties.{IsTied, IsUnasked, KeepsTies};
 
 use super::{EventDone, Link};
 use crate::NoMemory;
-use crate::carrier::Carrier;
+use crate::carrier::EventCarrier;
 use std::alloc::Global;
 use tds_client::Client;
 use tds_ends::laws::{asks_alike, idle_alike, sends_append, the_other_stays, works_alike};
@@ -106,7 +106,7 @@ fn is_of_caller(event: &Event) -> bool
 impl<E: Engine + Drop> Link<E> {
     /// Does what this event does at the ends of its connection, whose client stands in the pool. What
     /// a caller does, it does where the pool lends its client.
-    pub(crate) fn act<C: Carrier>(
+    pub(crate) fn act<C: EventCarrier>(
         &mut self,
         alloc: Global,
         carrier: &mut C,
@@ -117,7 +117,8 @@ impl<E: Engine + Drop> Link<E> {
         requires ends { IsOfEnds event.now }
         requires live { self.old.is_cut ≡ false }
         requires tied { IsTied self.old (C.pipes carrier.old self.old.number) }
-        requires unasked { IsUnasked (C.began carrier.old) (C.pipes carrier.old) self.old.number }
+        requires unasked { IsUnasked C.is_told (C.began carrier.old) (C.pipes carrier.old)
+            self.old.number }
         requires there { IsSome (numbered self.old.number (connections pool.old)) }
         requires lent { is_of_caller event.now ≡ true
             → IsSome (carried self.old.number (connections pool.old)) }
@@ -169,7 +170,7 @@ impl<E: Engine + Drop> Link<E> {
     }
 
     /// Asks, sends or cancels, with its client.
-    fn act_by_caller<C: Carrier>(
+    fn act_by_caller<C: EventCarrier>(
         &mut self,
         alloc: Global,
         carrier: &mut C,
@@ -180,7 +181,8 @@ impl<E: Engine + Drop> Link<E> {
         requires by { is_of_caller event.now ≡ true }
         requires live { self.old.is_cut ≡ false }
         requires tied { IsTied self.old (C.pipes carrier.old self.old.number) }
-        requires unasked { IsUnasked (C.began carrier.old) (C.pipes carrier.old) self.old.number }
+        requires unasked { IsUnasked C.is_told (C.began carrier.old) (C.pipes carrier.old)
+            self.old.number }
         ensures number { self.new.number ≡ self.old.number }
         ensures ties { OnOk result (KeepsTies self.old.number self.new (C.pipes carrier.old)
             (C.pipes carrier.new) (C.began carrier.old) (C.began carrier.new)) }
@@ -232,7 +234,7 @@ impl<E: Engine + Drop> Link<E> {
     }
 
     /// The server works, bytes come, or the connection is cut.
-    fn act_alone<C: Carrier>(
+    fn act_alone<C: EventCarrier>(
         &mut self,
         alloc: Global,
         carrier: &mut C,
@@ -243,7 +245,8 @@ impl<E: Engine + Drop> Link<E> {
         requires alone { is_of_caller event.now ≡ false }
         requires live { self.old.is_cut ≡ false }
         requires tied { IsTied self.old (C.pipes carrier.old self.old.number) }
-        requires unasked { IsUnasked (C.began carrier.old) (C.pipes carrier.old) self.old.number }
+        requires unasked { IsUnasked C.is_told (C.began carrier.old) (C.pipes carrier.old)
+            self.old.number }
         requires there { IsSome (numbered self.old.number (connections pool.old)) }
         ensures number { self.new.number ≡ self.old.number }
         ensures client { OnOk result (ChangesClient self.old.number pool.old pool.new) }
@@ -335,10 +338,15 @@ impl<E: Engine + Drop> Link<E> {
     }
 
     /// The server does the next step of the answer that is due.
-    fn work<C: Carrier>(&mut self, alloc: Global, carrier: &mut C) -> Result<EventDone, NoMemory>
+    fn work<C: EventCarrier>(
+        &mut self,
+        alloc: Global,
+        carrier: &mut C,
+    ) -> Result<EventDone, NoMemory>
         requires live { self.old.is_cut ≡ false }
         requires tied { IsTied self.old (C.pipes carrier.old self.old.number) }
-        requires unasked { IsUnasked (C.began carrier.old) (C.pipes carrier.old) self.old.number }
+        requires unasked { IsUnasked C.is_told (C.began carrier.old) (C.pipes carrier.old)
+            self.old.number }
         ensures number { self.new.number ≡ self.old.number }
         ensures ties { OnOk result (KeepsTies self.old.number self.new (C.pipes carrier.old)
             (C.pipes carrier.new) (C.began carrier.old) (C.began carrier.new)) }

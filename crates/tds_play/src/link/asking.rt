@@ -27,7 +27,7 @@ ghost use Rattle.tds_play.specs.Ties.{IsTied, IsUnasked, KeepsTies};
 use super::acts::{done, refused};
 use super::{EventDone, Link};
 use crate::NoMemory;
-use crate::carrier::Carrier;
+use crate::carrier::EventCarrier;
 use crate::request::Record;
 use std::alloc::{AllocError, Global};
 use tds_client::{Cancelled, Client, ClientRefusal, ClientState, Sent};
@@ -134,7 +134,7 @@ impl<E: Engine + Drop> Link<E> {
     }
 
     /// The request's next packet goes out.
-    pub(super) fn send<C: Carrier>(
+    pub(super) fn send<C: EventCarrier>(
         &mut self,
         alloc: Global,
         carrier: &mut C,
@@ -142,7 +142,8 @@ impl<E: Engine + Drop> Link<E> {
     ) -> Result<EventDone, NoMemory>
         requires live { self.old.is_cut ≡ false }
         requires tied { IsTied self.old (C.pipes carrier.old self.old.number) }
-        requires unasked { IsUnasked (C.began carrier.old) (C.pipes carrier.old) self.old.number }
+        requires unasked { IsUnasked C.is_told (C.began carrier.old) (C.pipes carrier.old)
+            self.old.number }
         ensures number { self.new.number ≡ self.old.number }
         ensures ties { OnOk result (KeepsTies self.old.number self.new (C.pipes carrier.old)
             (C.pipes carrier.new) (C.began carrier.old) (C.began carrier.new)) }
@@ -218,7 +219,7 @@ impl<E: Engine + Drop> Link<E> {
     }
 
     /// The request underway is cancelled.
-    pub(super) fn cancel<C: Carrier>(
+    pub(super) fn cancel<C: EventCarrier>(
         &mut self,
         alloc: Global,
         carrier: &mut C,
@@ -226,7 +227,8 @@ impl<E: Engine + Drop> Link<E> {
     ) -> Result<EventDone, NoMemory>
         requires live { self.old.is_cut ≡ false }
         requires tied { IsTied self.old (C.pipes carrier.old self.old.number) }
-        requires unasked { IsUnasked (C.began carrier.old) (C.pipes carrier.old) self.old.number }
+        requires unasked { IsUnasked C.is_told (C.began carrier.old) (C.pipes carrier.old)
+            self.old.number }
         ensures number { self.new.number ≡ self.old.number }
         ensures ties { OnOk result (KeepsTies self.old.number self.new (C.pipes carrier.old)
             (C.pipes carrier.new) (C.began carrier.old) (C.began carrier.new)) }

@@ -13,7 +13,7 @@ ghost use Rattle.tds_world.specs.Connection.{Connection, cut};
 
 use super::{EventDone, Link};
 use crate::NoMemory;
-use crate::carrier::{Carrier, CarrierError};
+use crate::carrier::{CarrierError, EventCarrier};
 use crate::feeding::Fault;
 use std::alloc::AllocError;
 use tds_packet::Direction;
@@ -29,7 +29,7 @@ pub(super) struct Carried {
 }
 
 /// Hands bytes over, at least one. It answers whether the carrier failed.
-fn hand_bytes<C: Carrier>(
+fn hand_bytes<C: EventCarrier>(
     carrier: &mut C,
     number: u32,
     direction: Direction,
@@ -37,7 +37,8 @@ fn hand_bytes<C: Carrier>(
 ) -> Result<bool, NoMemory>
     requires some { 0 < length bytes.now }
     requires there { IsOpen (C.pipes carrier.old number) }
-    requires once { MaySend (since (C.began carrier.old) number) (C.pipes carrier.old number) }
+    requires once { MaySend C.is_told (since (C.began carrier.old) number)
+        (C.pipes carrier.old number) }
     ensures handed { IfOk result (λ lost. Changes (C.pipes carrier.old) (C.pipes carrier.new) number
         (sent_on (C.pipes carrier.old number) direction bytes.now (if lost then 1 else 0))) }
     ensures begun { OnOk result (C.began carrier.new ≡ C.began carrier.old) }
@@ -52,7 +53,7 @@ fn hand_bytes<C: Carrier>(
 impl<E: Engine + Drop> Link<E> {
     /// Hands bytes to the carrier, if there are any, and counts them. It answers whether the
     /// carrier failed.
-    pub(super) fn hand_over<C: Carrier>(
+    pub(super) fn hand_over<C: EventCarrier>(
         &mut self,
         carrier: &mut C,
         direction: Direction,
@@ -60,7 +61,7 @@ impl<E: Engine + Drop> Link<E> {
     ) -> Result<bool, NoMemory>
         requires live { self.old.is_cut ≡ false }
         requires tied { IsTied self.old (C.pipes carrier.old self.old.number) }
-        requires once { MaySend (since (C.began carrier.old) self.old.number)
+        requires once { MaySend C.is_told (since (C.began carrier.old) self.old.number)
             (C.pipes carrier.old self.old.number) }
         ensures number { self.new.number ≡ self.old.number }
         ensures live { self.new.is_cut ≡ false }
@@ -114,7 +115,7 @@ impl<E: Engine + Drop> Link<E> {
 
     /// Lets the carrier bring so many of the bytes underway, by as many calls as that takes, or
     /// until it fails.
-    pub(super) fn carry<C: Carrier>(
+    pub(super) fn carry<C: EventCarrier>(
         &mut self,
         carrier: &mut C,
         direction: Direction,
@@ -124,7 +125,7 @@ impl<E: Engine + Drop> Link<E> {
         requires live { self.old.is_cut ≡ false }
         requires tied { IsTied self.old (C.pipes carrier.old self.old.number) }
         requires underway { count ≤ counted self.old direction }
-        requires early { MayCarry (since (C.began carrier.old) self.old.number)
+        requires early { MayCarry C.is_told (since (C.began carrier.old) self.old.number)
             (C.pipes carrier.old self.old.number) }
         ensures number { self.new.number ≡ self.old.number }
         ensures live { self.new.is_cut ≡ false }
@@ -141,7 +142,7 @@ impl<E: Engine + Drop> Link<E> {
             out.new.items (C.pipes carrier.old self.old.number)
             (C.pipes carrier.new self.old.number)) }
         // What it causes may go out.
-        ensures sends { OnOk result (MaySend (since (C.began carrier.new) self.old.number)
+        ensures sends { OnOk result (MaySend C.is_told (since (C.began carrier.new) self.old.number)
             (C.pipes carrier.new self.old.number)) }
         // Where nothing had failed, this call did exactly where that is answered.
         ensures failed { HasNoFailure (C.pipes carrier.old self.old.number)
@@ -168,7 +169,7 @@ impl<E: Engine + Drop> Link<E> {
     }
 
     /// Cuts the connection. A request that is not settled is lost.
-    pub(crate) fn cut<C: Carrier>(&mut self, carrier: &mut C)
+    pub(crate) fn cut<C: EventCarrier>(&mut self, carrier: &mut C)
         requires uncut { IsUncut (C.pipes carrier.old self.old.number) }
         requires server_reads { self.old.server_reader.direction ≡ ToServer }
         requires client_reads { self.old.client_reader.direction ≡ ToClient }
@@ -199,7 +200,7 @@ impl<E: Engine + Drop> Link<E> {
     }
 
     /// The end of an event: where the carrier failed, the connection is cut.
-    pub(crate) fn end<C: Carrier>(
+    pub(crate) fn end<C: EventCarrier>(
         &mut self,
         carrier: &mut C,
         outcome: Outcome,
@@ -233,7 +234,7 @@ impl<E: Engine + Drop> Link<E> {
     }
 
     /// The end of a delivery that an end refused: the connection is cut.
-    pub(super) fn end_by_fault<C: Carrier>(
+    pub(super) fn end_by_fault<C: EventCarrier>(
         &mut self,
         carrier: &mut C,
         fault: Fault,

@@ -22,7 +22,7 @@ ghost use Rattle.tds_world.specs.declared.report.Place.TheVariants.{Draining};
 
 use super::{EventDone, Link};
 use crate::NoMemory;
-use crate::carrier::Carrier;
+use crate::carrier::EventCarrier;
 use crate::request::Record;
 use std::alloc::{AllocError, Global};
 use tds_client::Sent;
@@ -63,7 +63,7 @@ impl<E: Engine + Drop> Link<E> {
     }
 
     /// The request of a cleaning, which the pool has begun, goes out whole.
-    pub(crate) fn clean<C: Carrier>(
+    pub(crate) fn clean<C: EventCarrier>(
         &mut self,
         alloc: Global,
         carrier: &mut C,
@@ -73,7 +73,8 @@ impl<E: Engine + Drop> Link<E> {
     ) -> Result<EventDone, NoMemory>
         requires live { self.old.is_cut ≡ false }
         requires tied { IsTied self.old (C.pipes carrier.old self.old.number) }
-        requires unasked { IsUnasked (C.began carrier.old) (C.pipes carrier.old) self.old.number }
+        requires unasked { IsUnasked C.is_told (C.began carrier.old) (C.pipes carrier.old)
+            self.old.number }
         ensures number { self.new.number ≡ self.old.number }
         ensures client { OnOk result (ChangesClient self.old.number pool.old pool.new) }
         ensures columns { OnOk result ((client_at self.old.number (connections pool.new)).columns

@@ -23,7 +23,7 @@ ghost use Rattle.tds_world.specs.declared.outcome.Outcome.TheVariants as outcome
 
 use super::{EventDone, Link};
 use crate::NoMemory;
-use crate::carrier::Carrier;
+use crate::carrier::EventCarrier;
 use crate::feeding::{Heard, feed_client, feed_server};
 use std::alloc::Global;
 use tds_ends::all_bytes::{given_are_told, no_fault_is_read};
@@ -53,7 +53,7 @@ fn either(first: bool, second: bool) -> bool
 
 impl<E: Engine + Drop> Link<E> {
     /// Bytes come to the server, and what they cause goes out.
-    pub(crate) fn deliver_to_server<C: Carrier>(
+    pub(crate) fn deliver_to_server<C: EventCarrier>(
         &mut self,
         alloc: Global,
         carrier: &mut C,
@@ -61,7 +61,8 @@ impl<E: Engine + Drop> Link<E> {
     ) -> Result<EventDone, NoMemory>
         requires live { self.old.is_cut ≡ false }
         requires tied { IsTied self.old (C.pipes carrier.old self.old.number) }
-        requires unasked { IsUnasked (C.began carrier.old) (C.pipes carrier.old) self.old.number }
+        requires unasked { IsUnasked C.is_told (C.began carrier.old) (C.pipes carrier.old)
+            self.old.number }
         ensures number { self.new.number ≡ self.old.number }
         ensures ties { OnOk result (KeepsTies self.old.number self.new (C.pipes carrier.old)
             (C.pipes carrier.new) (C.began carrier.old) (C.began carrier.new)) }
@@ -107,7 +108,7 @@ impl<E: Engine + Drop> Link<E> {
 
     /// Bytes come to the client, wherever that stands in the pool, and it tells their tokens to the
     /// newest request's caller.
-    pub(crate) fn deliver_to_client<C: Carrier>(
+    pub(crate) fn deliver_to_client<C: EventCarrier>(
         &mut self,
         alloc: Global,
         carrier: &mut C,
@@ -116,7 +117,8 @@ impl<E: Engine + Drop> Link<E> {
     ) -> Result<EventDone, NoMemory>
         requires live { self.old.is_cut ≡ false }
         requires tied { IsTied self.old (C.pipes carrier.old self.old.number) }
-        requires unasked { IsUnasked (C.began carrier.old) (C.pipes carrier.old) self.old.number }
+        requires unasked { IsUnasked C.is_told (C.began carrier.old) (C.pipes carrier.old)
+            self.old.number }
         requires there { IsSome (numbered self.old.number (connections pool.old)) }
         ensures client { OnOk result (ChangesClient self.old.number pool.old pool.new) }
         ensures number { self.new.number ≡ self.old.number }

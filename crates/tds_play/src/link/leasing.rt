@@ -13,7 +13,7 @@ ghost use Rattle.tds_play.specs.Ties.{IsTied, IsUnasked, KeepsTies};
 
 use super::Link;
 use crate::NoMemory;
-use crate::carrier::Carrier;
+use crate::carrier::EventCarrier;
 use std::alloc::Global;
 use tds_client::Client;
 use tds_ends::laws::{cancels_alike, idle_alike, pool_is_unseen, sends_append, the_other_stays};
@@ -23,7 +23,7 @@ use tds_world::laws::phases_tell;
 
 impl<E: Engine + Drop> Link<E> {
     /// What is underway is cancelled, since its lease ends. It answers whether the carrier failed.
-    pub(crate) fn give_up<C: Carrier>(
+    pub(crate) fn give_up<C: EventCarrier>(
         &mut self,
         alloc: Global,
         carrier: &mut C,
@@ -31,7 +31,8 @@ impl<E: Engine + Drop> Link<E> {
     ) -> Result<bool, NoMemory>
         requires live { self.old.is_cut ≡ false }
         requires tied { IsTied self.old (C.pipes carrier.old self.old.number) }
-        requires unasked { IsUnasked (C.began carrier.old) (C.pipes carrier.old) self.old.number }
+        requires unasked { IsUnasked C.is_told (C.began carrier.old) (C.pipes carrier.old)
+            self.old.number }
         ensures number { self.new.number ≡ self.old.number }
         ensures live { self.new.is_cut ≡ false }
         ensures ties { OnOk result (KeepsTies self.old.number self.new (C.pipes carrier.old)

@@ -17,25 +17,25 @@ ghost use Rattle.tds_world.specs.declared.outcome.Outcome.TheVariants as outcome
 
 use super::Player;
 use crate::NoMemory;
-use crate::carrier::Carrier;
+use crate::carrier::EventCarrier;
 use crate::link::EventDone;
 use crate::link::acts::{done, refused};
 use crate::pool::next_number;
-use std::alloc::AllocError;
+use crate::refusal::Stop;
 use tds_ends::laws::{idle_alike, lends_matching, pool_is_unseen};
 use tds_session::Engine;
 use tds_world::{Event, Opened, Outcome};
 
 impl<E: Engine + Copy> Player<E> {
     /// An event on the connection at this place, by its kind.
-    pub(super) fn step_at<C: Carrier>(
+    pub(super) fn step_at<C: EventCarrier>(
         &mut self,
         carrier: &mut C,
         place: usize,
         event: &Event,
-    ) -> Result<EventDone, NoMemory>
+    ) -> Result<EventDone, Stop>
         requires tied { AreTied (all_of self.old) (C.pipes carrier.old) }
-        requires told { IsJustTold (C.began carrier.old) (C.pipes carrier.old) }
+        requires told { IsJustTold C.is_told (C.began carrier.old) (C.pipes carrier.old) }
         requires sound { LiveAreSound (all_of self.old) (C.pipes carrier.old) }
         requires held { AreHeld self.old }
         requires few { AreFew 9999 self.old }
@@ -59,14 +59,14 @@ impl<E: Engine + Copy> Player<E> {
     }
 
     /// An event at the ends of the connection at this place.
-    fn act_on<C: Carrier>(
+    fn act_on<C: EventCarrier>(
         &mut self,
         carrier: &mut C,
         place: usize,
         event: &Event,
-    ) -> Result<EventDone, NoMemory>
+    ) -> Result<EventDone, Stop>
         requires tied { AreTied (all_of self.old) (C.pipes carrier.old) }
-        requires told { IsJustTold (C.began carrier.old) (C.pipes carrier.old) }
+        requires told { IsJustTold C.is_told (C.began carrier.old) (C.pipes carrier.old) }
         requires sound { LiveAreSound (all_of self.old) (C.pipes carrier.old) }
         requires held { AreHeld self.old }
         requires few { AreFew 9999 self.old }
@@ -107,14 +107,14 @@ impl<E: Engine + Copy> Player<E> {
     }
 
     /// The lease of this number ends, on the connection at this place.
-    fn give_back<C: Carrier>(
+    fn give_back<C: EventCarrier>(
         &mut self,
         carrier: &mut C,
         place: usize,
         number: u32,
-    ) -> Result<EventDone, NoMemory>
+    ) -> Result<EventDone, Stop>
         requires tied { AreTied (all_of self.old) (C.pipes carrier.old) }
-        requires told { IsJustTold (C.began carrier.old) (C.pipes carrier.old) }
+        requires told { IsJustTold C.is_told (C.began carrier.old) (C.pipes carrier.old) }
         requires sound { LiveAreSound (all_of self.old) (C.pipes carrier.old) }
         requires held { AreHeld self.old }
         requires there { place < length self.old.links.items }
@@ -132,13 +132,13 @@ impl<E: Engine + Copy> Player<E> {
             Ok(done) => Ok(done),
             Err(lease) => {
                 self.leases.put(number, lease);
-                Err(AllocError)
+                Err(Stop::Memory)
             }
         }
     }
 
     /// The lease of this number becomes a ticket, on the connection at this place.
-    fn keep(&mut self, place: usize, number: u32) -> Result<EventDone, NoMemory>
+    fn keep(&mut self, place: usize, number: u32) -> Result<EventDone, Stop>
         requires held { AreHeld self.old }
         requires few { AreFew 9999 self.old }
         requires there { place < length self.old.links.items }
@@ -159,7 +159,7 @@ impl<E: Engine + Copy> Player<E> {
                 Ok(()) => Ok(done(Outcome::Kept(next))),
                 Err(ticket) => {
                     let _ = self.pool.abandon(ticket);
-                    Err(AllocError)
+                    Err(Stop::Memory)
                 }
             },
             Err((lease, refusal)) => {
@@ -170,7 +170,7 @@ impl<E: Engine + Copy> Player<E> {
     }
 
     /// The ticket of this number becomes a lease, on the connection at this place.
-    fn resume(&mut self, place: usize, number: u32) -> Result<EventDone, NoMemory>
+    fn resume(&mut self, place: usize, number: u32) -> Result<EventDone, Stop>
         requires held { AreHeld self.old }
         requires few { AreFew 9999 self.old }
         requires there { place < length self.old.links.items }
@@ -205,12 +205,12 @@ impl<E: Engine + Copy> Player<E> {
     }
 
     /// The ticket of this number ends, on the connection at this place.
-    fn abandon<C: Carrier>(
+    fn abandon<C: EventCarrier>(
         &mut self,
         carrier: &mut C,
         place: usize,
         number: u32,
-    ) -> Result<EventDone, NoMemory>
+    ) -> Result<EventDone, Stop>
         requires tied { AreTied (all_of self.old) (C.pipes carrier.old) }
         requires held { AreHeld self.old }
         requires there { place < length self.old.links.items }

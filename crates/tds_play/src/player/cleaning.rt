@@ -9,22 +9,23 @@ ghost use Rattle.tds_world.specs.declared.event.Event.TheVariants as events;
 
 use super::Player;
 use crate::NoMemory;
-use crate::carrier::Carrier;
+use crate::carrier::EventCarrier;
 use crate::link::EventDone;
 use crate::pool::next_number;
+use crate::refusal::Stop;
 use tds_session::Engine;
 use tds_world::Outcome;
 
 impl<E: Engine + Copy> Player<E> {
     /// The connection at this place, which has this number, is cleaned.
-    pub(super) fn clean<C: Carrier>(
+    pub(super) fn clean<C: EventCarrier>(
         &mut self,
         carrier: &mut C,
         place: usize,
         conn: u32,
-    ) -> Result<EventDone, NoMemory>
+    ) -> Result<EventDone, Stop>
         requires tied { AreTied (all_of self.old) (C.pipes carrier.old) }
-        requires told { IsJustTold (C.began carrier.old) (C.pipes carrier.old) }
+        requires told { IsJustTold C.is_told (C.began carrier.old) (C.pipes carrier.old) }
         requires sound { LiveAreSound (all_of self.old) (C.pipes carrier.old) }
         requires held { AreHeld self.old }
         requires few { AreFew 9999 self.old }

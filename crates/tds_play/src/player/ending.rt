@@ -21,7 +21,7 @@ ghost use Rattle.tds_world.specs.declared.event.Setup.{Setup};
 use super::Player;
 use super::lending::spend;
 use crate::NoMemory;
-use crate::carrier::Carrier;
+use crate::carrier::EventCarrier;
 use crate::request::Record;
 use crate::seat::Held;
 use std::alloc::Global;
@@ -30,7 +30,7 @@ use tds_world::{RequestReport, Snapshot};
 
 impl<E: Engine + Copy> Player<E> {
     /// Every connection is cut.
-    pub(super) fn cut_all<C: Carrier>(&mut self, carrier: &mut C)
+    pub(super) fn cut_all<C: EventCarrier>(&mut self, carrier: &mut C)
         requires tied { AreTied (all_of self.old) (C.pipes carrier.old) }
         requires held { AreHeld self.old }
         ensures keeps { CutsSome self.old self.new (C.pipes carrier.old) (C.pipes carrier.new)
@@ -48,7 +48,7 @@ impl<E: Engine + Copy> Player<E> {
     }
 
     /// The connection at this place is cut, unless it is cut already.
-    fn cut_at<C: Carrier>(&mut self, carrier: &mut C, place: usize)
+    fn cut_at<C: EventCarrier>(&mut self, carrier: &mut C, place: usize)
         requires tied { AreTied (all_of self.old) (C.pipes carrier.old) }
         requires held { AreHeld self.old }
         requires there { place < length self.old.links.items }

@@ -13,9 +13,10 @@ ghost use Rattle.tds_world.specs.declared.outcome.Outcome.TheVariants as outcome
 
 use super::Player;
 use crate::NoMemory;
-use crate::carrier::Carrier;
+use crate::carrier::EventCarrier;
 use crate::link::acts::{done, refused};
 use crate::link::{EventDone, Link};
+use crate::refusal::Stop;
 use crate::seat::Held;
 use std::alloc::{AllocError, Global};
 use tds_ends::laws::{idle_alike, lends_matching, pool_is_unseen};
@@ -41,9 +42,9 @@ impl<E: Engine + Copy> Player<E> {
     }
 
     /// The pool lends a connection: one that was lent before, or a new one, which is opened.
-    pub(super) fn lease<C: Carrier>(&mut self, carrier: &mut C) -> Result<EventDone, NoMemory>
+    pub(super) fn lease<C: EventCarrier>(&mut self, carrier: &mut C) -> Result<EventDone, Stop>
         requires tied { AreTied (all_of self.old) (C.pipes carrier.old) }
-        requires told { IsJustTold (C.began carrier.old) (C.pipes carrier.old) }
+        requires told { IsJustTold C.is_told (C.began carrier.old) (C.pipes carrier.old) }
         requires held { AreHeld self.old }
         requires few { AreFew 9999 self.old }
         ensures { IfOk result (λ done. HappensAs
@@ -67,7 +68,7 @@ impl<E: Engine + Copy> Player<E> {
                 }
             }
             Err(refusal) => match refusal {
-                PoolRefusal::Memory => Err(AllocError),
+                PoolRefusal::Memory => Err(Stop::Memory),
                 _ => Ok(refused(Refusal::AllInUse)),
             },
         }
@@ -88,13 +89,13 @@ impl<E: Engine + Copy> Player<E> {
     }
 
     /// A new connection is opened, which the pool lent to this lease.
-    fn open<C: Carrier>(
+    fn open<C: EventCarrier>(
         &mut self,
         carrier: &mut C,
         conn: u32,
         lease: u32,
     ) -> Result<EventDone, NoMemory>
-        requires told { IsJustTold (C.began carrier.old) (C.pipes carrier.old) }
+        requires told { IsJustTold C.is_told (C.began carrier.old) (C.pipes carrier.old) }
         ensures { IfOk result (λ done. OpensAs conn lease self.old self.new
             (C.pipes carrier.old) (C.pipes carrier.new)
             (C.began carrier.old) (C.began carrier.new) done) }

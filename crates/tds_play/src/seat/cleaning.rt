@@ -1,5 +1,5 @@
 //! A connection that the pool cleans.
-ghost use Rattle.std.specs.Prelude.{[], ◌≡◌, ◌≢◌, ℕ, false, true, IfOk, IfSome, IsSome, None, OnOk};
+ghost use Rattle.std.specs.Prelude.{[], ◌≡◌, ◌≢◌, ℕ, false, true, IfErr, IfOk, IfSome, IsSome, None, OnOk};
 ghost use Rattle.tds_ends.specs.ModelGives.{IsCountable};
 ghost use Rattle.tds_play.specs.Failures.{FailsAs, HasNoFailure, calls_of};
 ghost use Rattle.tds_play.specs.Plays.{MayLose, RefinesAct, RepresentsConnection, acts_on, after};
@@ -7,9 +7,11 @@ ghost use Rattle.tds_play.specs.Pooled.{ChangesOne, IsNotCleaned, IsThere, clean
 ghost use Rattle.tds_play.specs.Reads.{IsReading, ReadsOn};
 ghost use Rattle.tds_play.specs.Seats.{drained};
 ghost use Rattle.tds_play.specs.Ties.{IsTied, IsUnasked, KeepsTies};
-ghost use Rattle.tds_pool.specs.Calls.{cleaning, free_one, refuses_clean};
+ghost use Rattle.tds_play.specs.declared.refusal.Stop.TheVariants as stops;
+ghost use Rattle.tds_pool.specs.Calls.{cleaned, cleaning, free_one, refuses_clean};
 ghost use Rattle.tds_pool.specs.Cleaning.{is_cleaned};
 ghost use Rattle.tds_pool.specs.Connections.{SameRest, connections, numbered, taken_out};
+ghost use Rattle.tds_pool.specs.declared.answers.GivenBack.TheVariants as given;
 ghost use Rattle.tds_pool.specs.declared.answers.PoolRefusal.TheVariants as refusals;
 ghost use Rattle.tds_session.specs.Answer.{answer_of};
 ghost use Rattle.tds_world.specs.Cleaning.{clean_request};
@@ -20,9 +22,10 @@ ghost use Rattle.tds_world.specs.declared.event.Setup.{Setup};
 
 use super::Held;
 use crate::NoMemory;
-use crate::carrier::Carrier;
+use crate::carrier::EventCarrier;
 use crate::link::EventDone;
 use crate::link::acts::refused;
+use crate::refusal::Stop;
 use std::alloc::{AllocError, Global};
 use tds_ends::laws::idle_alike;
 use tds_pool::{GivenBack, Place, Pool, PoolRefusal};
@@ -74,7 +77,7 @@ fn begin_cleaning(alloc: Global, pool: &mut Pool, number: u32) -> Result<Option<
 impl<E: Engine + Drop> Held<E> {
     /// It is cleaned, where it is free: the pool's own request is asked under a lease of this number,
     /// and goes out whole.
-    pub(crate) fn clean<C: Carrier>(
+    pub(crate) fn clean<C: EventCarrier>(
         &mut self,
         alloc: Global,
         carrier: &mut C,
@@ -83,8 +86,8 @@ impl<E: Engine + Drop> Held<E> {
         request: u32,
     ) -> Result<EventDone, NoMemory>
         requires tied { IsTied self.old.link (C.pipes carrier.old self.old.link.number) }
-        requires unasked { self.old.link.is_cut ≡ false → IsUnasked (C.began carrier.old)
-            (C.pipes carrier.old) self.old.link.number }
+        requires unasked { self.old.link.is_cut ≡ false → IsUnasked C.is_told
+            (C.began carrier.old) (C.pipes carrier.old) self.old.link.number }
         requires there { IsThere self.old pool.old }
         ensures number { self.new.link.number ≡ self.old.link.number }
         ensures holder { self.new.holder ≡ self.old.holder }
@@ -157,10 +160,10 @@ impl<E: Engine + Drop> Held<E> {
         }
     }
 
-    /// One that is being cleaned is free once its answer has come. What the pool would close then is
-    /// where the answer left a transaction, or the reset was not done, and the play ends there. Where
-    /// the carrier brings what it was handed, no play of the batch language comes to that.
-    pub(super) fn look_at_cleaning(&mut self, pool: &mut Pool) -> Result<(), NoMemory>
+    /// One that is being cleaned is free once its answer has come. Where the answer left a
+    /// transaction, or the reset was not done, the pool closes it, and the play ends there. Where the
+    /// carrier brings what it was handed, no play of the batch language comes to that.
+    pub(super) fn look_at_cleaning(&mut self, pool: &mut Pool) -> Result<(), Stop>
         requires live { self.old.link.is_cut ≡ false }
         requires cleans { is_cleaned (numbered self.old.link.number (connections pool.old)) ≡ true }
         ensures same { self.new ≡ self.old }
@@ -169,9 +172,12 @@ impl<E: Engine + Drop> Held<E> {
         ensures there { OnOk result (IsThere self.new pool.new) }
         ensures seat { OnOk result
             (seat_in self.new pool.new ≡ drained (seat_in self.old pool.old)) }
+        ensures stops { IfErr result (λ stop. (stop ≡ stops.NotCleaned) × ((number : ℕ)
+            × ((cleaned self.old.link.number (connections pool.old)).answer
+            ≡ given.Closed number))) }
     {
         match pool.cleaned(self.link.number) {
-            GivenBack::Closed(_) => Err(AllocError),
+            GivenBack::Closed(_) => Err(Stop::NotCleaned),
             _ => Ok(()),
         }
     }

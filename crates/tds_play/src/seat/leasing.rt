@@ -23,7 +23,7 @@ ghost use Rattle.tds_world.specs.declared.outcome.Refusal.TheVariants.{Connectio
 ghost use Rattle.tds_world.specs.declared.outcome.Refusal.{Refusal};
 
 use super::Held;
-use crate::carrier::Carrier;
+use crate::carrier::EventCarrier;
 use crate::link::EventDone;
 use crate::link::acts::done;
 use std::alloc::Global;
@@ -35,7 +35,7 @@ use tds_world::{AbandonOutcome, GiveBackOutcome, Outcome, Refusal};
 impl<E: Engine + Drop> Held<E> {
     /// Its lease ends. What is underway is cancelled first. The lease comes back where a growth was
     /// refused.
-    pub(crate) fn give_back<C: Carrier>(
+    pub(crate) fn give_back<C: EventCarrier>(
         &mut self,
         alloc: Global,
         carrier: &mut C,
@@ -43,8 +43,8 @@ impl<E: Engine + Drop> Held<E> {
         lease: Lease,
     ) -> Result<EventDone, Lease>
         requires tied { IsTied self.old.link (C.pipes carrier.old self.old.link.number) }
-        requires unasked { self.old.link.is_cut ≡ false → IsUnasked (C.began carrier.old)
-            (C.pipes carrier.old) self.old.link.number }
+        requires unasked { self.old.link.is_cut ≡ false → IsUnasked C.is_told
+            (C.began carrier.old) (C.pipes carrier.old) self.old.link.number }
         requires there { IsThere self.old pool.old }
         requires named { lease.number ≡ self.old.link.number }
         requires lent { self.old.link.is_cut ≡ false
@@ -107,7 +107,7 @@ impl<E: Engine + Drop> Held<E> {
     }
 
     /// Its lease has ended. One that the pool closed, or where the carrier failed, is cut.
-    fn come_back<C: Carrier>(
+    fn come_back<C: EventCarrier>(
         &mut self,
         carrier: &mut C,
         pool: &mut Pool,
@@ -160,7 +160,7 @@ impl<E: Engine + Drop> Held<E> {
     }
 
     /// It is cut, and leaves the pool.
-    fn leave<C: Carrier>(&mut self, carrier: &mut C, pool: &mut Pool)
+    fn leave<C: EventCarrier>(&mut self, carrier: &mut C, pool: &mut Pool)
         requires tied { IsTied self.old.link (C.pipes carrier.old self.old.link.number) }
         requires live { self.old.link.is_cut ≡ false }
         ensures holder { self.new.holder ≡ self.old.holder }
@@ -183,7 +183,7 @@ impl<E: Engine + Drop> Held<E> {
     }
 
     /// Its ticket ends. One that the pool closes is cut.
-    pub(crate) fn abandon<C: Carrier>(
+    pub(crate) fn abandon<C: EventCarrier>(
         &mut self,
         carrier: &mut C,
         pool: &mut Pool,

@@ -1,14 +1,12 @@
 //! The carrier.
-ghost use Rattle.std.specs.Prelude.{[], ◌∷◌, ◌≡◌, ◌≢◌, ◌<◌, ◌≤◌, ◌+◌, ◌++◌, None, Some, Err, IfOk, OnOk, ℕ, length, take, drop};
-ghost use Rattle.test_calls.specs.Links.{begun_in, pipe_at};
-ghost use Rattle.tds_play.specs.Pipe.{Changes, new_pipe, sent_on, carried_on, stuck_on, cut_pipe, traffic, IsOpen, IsUncut};
+ghost use Rattle.std.specs.Prelude.{◌≡◌, ◌<◌, None, Some, Err, ℕ};
+ghost use Rattle.test_calls.specs.Links.{pipe_at};
 ghost use Rattle.tds_play.specs.declared.carrier.CarrierError.TheVariants.{Lost, Memory};
 
 use crate::lane::Change;
 use crate::link::Link;
 use std::alloc::{AllocError, Global};
 use std::collections::BTreeMap;
-use std::snapshot::Snapshot;
 use tds_packet::Direction;
 use tds_play::{Carrier, CarrierError};
 
@@ -23,13 +21,6 @@ pub struct Plan {
     pub change: Option<(u32, Direction, Change)>,
 }
 
-/// What there was of each connection when an event began. It has no bytes: clauses alone read it.
-#[derive(Drop)]
-struct Telling {
-    event: Snapshot<u32>,
-    links: Snapshot<BTreeMap<u32, Link>>,
-}
-
 /// Carries bytes in memory by a plan, and counts what it was asked. What comes may be other than what
 /// was handed over.
 #[derive(Drop)]
@@ -37,7 +28,6 @@ pub struct FailingCarrier {
     alloc: Global,
     plan: Plan,
     links: BTreeMap<u32, Link>,
-    began: Vec<Telling>,
     calls: u32,
     lost: Vec<u32>,
 }
@@ -46,13 +36,11 @@ impl FailingCarrier {
     /// A carrier without a connection, and with this plan. It takes no memory.
     pub fn new(alloc: Global, plan: Plan) -> FailingCarrier
         ensures empty { (conn : ℕ) → pipe_at result.links conn ≡ None }
-        ensures untold { begun_in result.began.items ≡ [] }
     {
         FailingCarrier {
             alloc,
             plan,
             links: BTreeMap::new(alloc),
-            began: Vec::new(alloc),
             calls: 0,
             lost: Vec::new(alloc),
         }
@@ -75,7 +63,6 @@ impl FailingCarrier {
     /// Counts a call on this connection, and says whether it fails.
     fn fails(&mut self, conn: u32) -> Result<bool, AllocError>
         ensures links { self.new.links ≡ self.old.links }
-        ensures began { self.new.began ≡ self.old.began }
     {
         self.calls = self.calls.saturating_add(1);
         let fails = self.plan.failing == Some(self.calls);
@@ -97,16 +84,6 @@ impl FailingCarrier {
 
 impl Carrier for FailingCarrier {
     ghost pipes = { λ c. pipe_at c.links };
-
-    ghost began = { λ c. begun_in c.began.items };
-
-    fn begin(&mut self, event: u32) -> Result<(), AllocError> {
-        self.began.push(Telling {
-            event: Snapshot::of(&event),
-            links: Snapshot::of(&self.links),
-        })?;
-        Ok(())
-    }
 
     fn open(&mut self, conn: u32) -> Result<(), CarrierError> {
         let fails = self.fails(conn)?;

@@ -18,27 +18,27 @@ returns-clause-unfailing g c = λ setup is faithful play fine.
 pub returns-clause-lost : goal.returns-clause-lost
 returns-clause-lost g c = λ setup is faithful play.
     let engine = c.args.player.engine in
-    subst (λ (rs : List EventReport). TellFailures setup (answer_of (g.E.Engine.statements_of engine) (g.E.Engine.step_of engine)) (marked c.args.events.now rs) (g.C.Carrier.pipes c.run-reports.new.carrier)) (sym c.new.ensures)
+    subst (λ (rs : List EventReport). TellFailures setup (answer_of (g.E.Engine.statements_of engine) (g.E.Engine.step_of engine)) (marked c.args.events.now rs) (g.C.EventCarrier.pipes c.run-reports.new.carrier)) (sym c.new.ensures)
     (c.in_ok-reports.ensures.lost setup is faithful play)
 
 pub returns-clause-calls : goal.returns-clause-calls
 returns-clause-calls g c = λ setup is faithful play.
     let engine = c.args.player.engine in
-    subst (λ (rs : List EventReport). MakesCalls setup (answer_of (g.E.Engine.statements_of engine) (g.E.Engine.step_of engine)) (marked c.args.events.now rs)
-    (g.C.Carrier.began c.args.carrier.now) (g.C.Carrier.began c.run-reports.new.carrier) (g.C.Carrier.pipes c.run-reports.new.carrier)) (sym c.new.ensures)
+    subst (λ (rs : List EventReport). MakesCalls g.C.EventCarrier.is_told setup (answer_of (g.E.Engine.statements_of engine) (g.E.Engine.step_of engine)) (marked c.args.events.now rs)
+    (g.C.EventCarrier.began c.args.carrier.now) (g.C.EventCarrier.began c.run-reports.new.carrier) (g.C.EventCarrier.pipes c.run-reports.new.carrier)) (sym c.new.ensures)
     (c.in_ok-reports.ensures.calls setup is faithful play)
 
 pub returns-clause-reads : goal.returns-clause-reads
 returns-clause-reads g c =
     let all = c.in_ok-reports.ensures.reads c.in_ok-requests.field-0.items c.in_ok-requests.ensures.given in
-    subst (λ (rs : List EventReport). ReadsBytes c.args.player.size c.args.events.now (record { events = rs; requests = c.new-2.result }) (g.C.Carrier.pipes c.run-reports.new.carrier)) (sym c.new.ensures)
-    (subst (λ (qs : List RequestReport). ReadsBytes c.args.player.size c.args.events.now (record { events = c.in_ok-reports.field-0.items; requests = qs }) (g.C.Carrier.pipes c.run-reports.new.carrier)) (sym c.new-2.ensures) all)
+    subst (λ (rs : List EventReport). ReadsBytes c.args.player.size c.args.events.now (record { events = rs; requests = c.new-2.result }) (g.C.EventCarrier.pipes c.run-reports.new.carrier)) (sym c.new.ensures)
+    (subst (λ (qs : List RequestReport). ReadsBytes c.args.player.size c.args.events.now (record { events = c.in_ok-reports.field-0.items; requests = qs }) (g.C.EventCarrier.pipes c.run-reports.new.carrier)) (sym c.new-2.ensures) all)
 
 pub returns-clause-refines : goal.returns-clause-refines
 returns-clause-refines g c = λ setup is faithful play.
     let engine = c.args.player.engine in
     let answers : Answers = answer_of (g.E.Engine.statements_of engine) (g.E.Engine.step_of engine) in
-    let pipes = g.C.Carrier.pipes c.run-reports.new.carrier in
+    let pipes = g.C.EventCarrier.pipes c.run-reports.new.carrier in
     let stands = c.in_ok-reports.ensures.stands setup is faithful play in
     subst (λ (rs : List EventReport). IsReportOfPlay setup answers c.args.events.now (record { events = rs; requests = c.new-2.result }) pipes) (sym c.new.ensures)
     (stands.whole c.new-2.result (c.new-2.ensures ∙ c.in_ok-requests.ensures.told setup engine pipes _ stands.world stands.order))

@@ -1,4 +1,4 @@
-use Rattle.std.proofs.Common.{◌≡◌, ◌≤◌, ℕ, List, [], length, ap, subst, sym, refl, ◌∙◌, arith}
+use Rattle.std.proofs.Common.{◌≡◌, ◌≤◌, ℕ, List, [], length, ap, subst, ⊎_elim, sym, refl, ◌∙◌, arith}
 use Rattle.std.proofs.lemmas.Result.{IfOk-weaker}
 use Rattle.std.specs.List.{AllByRecursion}
 use Rattle.std.specs.Prelude.{Err, IfErr, IfOk, Ok, OnOk, Option, Result}
@@ -57,59 +57,59 @@ pub returns-in-Ok-clause-played : goal.returns-in-Ok-clause-played
 returns-in-Ok-clause-played g c = told_always c.play_events.result _ c.in-Ok.ensures.ok
 
 pub returns-in-Ok-clause-named : goal.returns-in-Ok-clause-named
-returns-in-Ok-clause-named g c = if_err c.play_events.result _ _ (λ why is differs. absurd (differs is)) c.play_events.ensures.memory
+returns-in-Ok-clause-named g c = if_err c.play_events.result _ _ (λ why is differs other. ⊎_elim (λ m. absurd (differs m)) (λ m. absurd (other m)) is) c.play_events.ensures.stops
 
 pub returns-in-Ok-clause-refines : goal.returns-in-Ok-clause-refines
 returns-in-Ok-clause-refines g c = λ faithful.
     let new = c.new-player.ensures in
-    subst (λ engine. IfOk c.play_events.result (λ report. IsReportOfPlay c.args.setup.now (answer_of (g.E.Engine.statements_of engine) (g.E.Engine.step_of engine)) c.args.events.now report (g.C.Carrier.pipes c.play_events.new.carrier)))
+    subst (λ engine. IfOk c.play_events.result (λ report. IsReportOfPlay c.args.setup.now (answer_of (g.E.Engine.statements_of engine) (g.E.Engine.step_of engine)) c.args.events.now report (g.C.EventCarrier.pipes c.play_events.new.carrier)))
     new.engine
     (c.play_events.ensures.refines c.args.setup.now c.in-Ok.ensures.setup faithful
-    (begins c.args.setup.now c.new-player.result (g.C.Carrier.pipes c.args.carrier.now) new.links new.leases new.tickets new.asked new.max (new.size ∙ c.in-Ok.ensures.size) new.told))
+    (begins c.args.setup.now c.new-player.result (g.C.EventCarrier.pipes c.args.carrier.now) new.links new.leases new.tickets new.asked new.max (new.size ∙ c.in-Ok.ensures.size) new.told))
 
 pub returns-in-Ok-clause-calls : goal.returns-in-Ok-clause-calls
 returns-in-Ok-clause-calls g c = λ faithful.
     let new = c.new-player.ensures in
-    subst (λ engine. IfOk c.play_events.result (λ report. MakesCalls c.args.setup.now (answer_of (g.E.Engine.statements_of engine) (g.E.Engine.step_of engine)) (marked c.args.events.now report.events)
-    (g.C.Carrier.began c.args.carrier.now) (g.C.Carrier.began c.play_events.new.carrier) (g.C.Carrier.pipes c.play_events.new.carrier)))
+    subst (λ engine. IfOk c.play_events.result (λ report. MakesCalls g.C.EventCarrier.is_told c.args.setup.now (answer_of (g.E.Engine.statements_of engine) (g.E.Engine.step_of engine)) (marked c.args.events.now report.events)
+    (g.C.EventCarrier.began c.args.carrier.now) (g.C.EventCarrier.began c.play_events.new.carrier) (g.C.EventCarrier.pipes c.play_events.new.carrier)))
     new.engine
     (c.play_events.ensures.calls c.args.setup.now c.in-Ok.ensures.setup faithful
-    (begins c.args.setup.now c.new-player.result (g.C.Carrier.pipes c.args.carrier.now) new.links new.leases new.tickets new.asked new.max (new.size ∙ c.in-Ok.ensures.size) new.told))
+    (begins c.args.setup.now c.new-player.result (g.C.EventCarrier.pipes c.args.carrier.now) new.links new.leases new.tickets new.asked new.max (new.size ∙ c.in-Ok.ensures.size) new.told))
 
 pub returns-in-Ok-clause-lost : goal.returns-in-Ok-clause-lost
 returns-in-Ok-clause-lost g c = λ faithful.
     let new = c.new-player.ensures in
     let answers = answer_of (g.E.Engine.statements_of c.args.engine) (g.E.Engine.step_of c.args.engine) in
-    let pipes = g.C.Carrier.pipes c.play_events.new.carrier in
-    let was = g.C.Carrier.began c.args.carrier.now in
-    let is = g.C.Carrier.began c.play_events.new.carrier in
+    let pipes = g.C.EventCarrier.pipes c.play_events.new.carrier in
+    let was = g.C.EventCarrier.began c.args.carrier.now in
+    let is = g.C.EventCarrier.began c.play_events.new.carrier in
     both_so c.play_events.result
-    (λ report. MakesCalls c.args.setup.now answers (marked c.args.events.now report.events) was is pipes)
+    (λ report. MakesCalls g.C.EventCarrier.is_told c.args.setup.now answers (marked c.args.events.now report.events) was is pipes)
     (λ report. TellFailures c.args.setup.now answers (marked c.args.events.now report.events) pipes)
-    (λ report. MarksFailures c.args.setup.now answers (marked c.args.events.now report.events) was is pipes)
+    (λ report. MarksFailures g.C.EventCarrier.is_told c.args.setup.now answers (marked c.args.events.now report.events) was is pipes)
     (λ report makes tells. marks_failures c.args.setup.now answers (marked c.args.events.now report.events) was is pipes makes tells)
     (returns-in-Ok-clause-calls g c faithful)
-    (subst (λ engine. IfOk c.play_events.result (λ report. TellFailures c.args.setup.now (answer_of (g.E.Engine.statements_of engine) (g.E.Engine.step_of engine)) (marked c.args.events.now report.events) (g.C.Carrier.pipes c.play_events.new.carrier)))
+    (subst (λ engine. IfOk c.play_events.result (λ report. TellFailures c.args.setup.now (answer_of (g.E.Engine.statements_of engine) (g.E.Engine.step_of engine)) (marked c.args.events.now report.events) (g.C.EventCarrier.pipes c.play_events.new.carrier)))
     new.engine
     (c.play_events.ensures.lost c.args.setup.now c.in-Ok.ensures.setup faithful
-    (begins c.args.setup.now c.new-player.result (g.C.Carrier.pipes c.args.carrier.now) new.links new.leases new.tickets new.asked new.max (new.size ∙ c.in-Ok.ensures.size) new.told)))
+    (begins c.args.setup.now c.new-player.result (g.C.EventCarrier.pipes c.args.carrier.now) new.links new.leases new.tickets new.asked new.max (new.size ∙ c.in-Ok.ensures.size) new.told)))
 
 pub returns-in-Ok-clause-unfailing : goal.returns-in-Ok-clause-unfailing
 returns-in-Ok-clause-unfailing g c = λ faithful fine.
     let new = c.new-player.ensures in
     c.play_events.ensures.unfailing c.args.setup.now c.in-Ok.ensures.setup faithful
-    (begins c.args.setup.now c.new-player.result (g.C.Carrier.pipes c.args.carrier.now) new.links new.leases new.tickets new.asked new.max (new.size ∙ c.in-Ok.ensures.size) new.told)
+    (begins c.args.setup.now c.new-player.result (g.C.EventCarrier.pipes c.args.carrier.now) new.links new.leases new.tickets new.asked new.max (new.size ∙ c.in-Ok.ensures.size) new.told)
     fine
 
 pub returns-in-Ok-clause-reads : goal.returns-in-Ok-clause-reads
 returns-in-Ok-clause-reads g c =
-    subst (λ (size : ℕ). IfOk c.play_events.result (λ report. ReadsBytes size c.args.events.now report (g.C.Carrier.pipes c.play_events.new.carrier))) (c.new-player.ensures.size ∙ c.in-Ok.ensures.size)
+    subst (λ (size : ℕ). IfOk c.play_events.result (λ report. ReadsBytes size c.args.events.now report (g.C.EventCarrier.pipes c.play_events.new.carrier))) (c.new-player.ensures.size ∙ c.in-Ok.ensures.size)
     c.play_events.ensures.reads
 
 pub returns-in-Ok-clause-as_if_alone : goal.returns-in-Ok-clause-as_if_alone
 returns-in-Ok-clause-as_if_alone g c = λ faithful blind uses.
     let answers = answer_of (g.E.Engine.statements_of c.args.engine) (g.E.Engine.step_of c.args.engine) in
-    IfOk-weaker c.play_events.result (λ report. IsReportOfPlay c.args.setup.now answers c.args.events.now report (g.C.Carrier.pipes c.play_events.new.carrier))
+    IfOk-weaker c.play_events.result (λ report. IsReportOfPlay c.args.setup.now answers c.args.events.now report (g.C.EventCarrier.pipes c.play_events.new.carrier))
     (λ report. AsIfAlone c.args.setup.now.on_attention answers (world_with c.args.setup.now answers (marked c.args.events.now report.events) new_world))
     (λ report is. c.as_if_alone.ensures c.args.setup.now answers c.engine_is_lawful.ensures blind uses (marked c.args.events.now report.events)
     (subst AreFewEvents (sym (c.marks_of_a_report.ensures.events c.args.events.now report.events)) (few_events is.known is.few)))
@@ -118,7 +118,7 @@ returns-in-Ok-clause-as_if_alone g c = λ faithful blind uses.
 pub returns-in-Ok-clause-told_alone : goal.returns-in-Ok-clause-told_alone
 returns-in-Ok-clause-told_alone g c = λ faithful blind uses.
     let answers = answer_of (g.E.Engine.statements_of c.args.engine) (g.E.Engine.step_of c.args.engine) in
-    IfOk-weaker c.play_events.result (λ report. IsReportOfPlay c.args.setup.now answers c.args.events.now report (g.C.Carrier.pipes c.play_events.new.carrier))
+    IfOk-weaker c.play_events.result (λ report. IsReportOfPlay c.args.setup.now answers c.args.events.now report (g.C.EventCarrier.pipes c.play_events.new.carrier))
     (λ report. ShowsAsIfAlone c.args.setup.now.on_attention answers (far_in (world_with c.args.setup.now answers (marked c.args.events.now report.events) new_world)) c.args.events.now report)
     (λ report is. c.of_marked_report.ensures.told_alone c.args.setup.now answers c.args.events.now report c.engine_is_lawful.ensures blind uses (few_events is.known is.few) is.told)
     (returns-in-Ok-clause-refines g c faithful)
@@ -126,7 +126,7 @@ returns-in-Ok-clause-told_alone g c = λ faithful blind uses.
 pub returns-in-Ok-clause-left_clean : goal.returns-in-Ok-clause-left_clean
 returns-in-Ok-clause-left_clean g c = λ faithful clean.
     let answers = answer_of (g.E.Engine.statements_of c.args.engine) (g.E.Engine.step_of c.args.engine) in
-    IfOk-weaker c.play_events.result (λ report. IsReportOfPlay c.args.setup.now answers c.args.events.now report (g.C.Carrier.pipes c.play_events.new.carrier))
+    IfOk-weaker c.play_events.result (λ report. IsReportOfPlay c.args.setup.now answers c.args.events.now report (g.C.EventCarrier.pipes c.play_events.new.carrier))
     (λ report. ShowsLeftClean c.args.events.now report)
     (λ report is. c.of_marked_report.ensures.left_clean c.args.setup.now answers c.args.events.now report c.engine_is_lawful.ensures clean is.told)
     (returns-in-Ok-clause-refines g c faithful)
@@ -135,7 +135,7 @@ pub returns-in-Ok-clause-all_stop : goal.returns-in-Ok-clause-all_stop
 returns-in-Ok-clause-all_stop g c = λ faithful none.
     let answers = answer_of (g.E.Engine.statements_of c.args.engine) (g.E.Engine.step_of c.args.engine) in
     let lawful = c.engine_is_lawful.ensures in
-    IfOk-weaker c.play_events.result (λ report. IsReportOfPlay c.args.setup.now answers c.args.events.now report (g.C.Carrier.pipes c.play_events.new.carrier))
+    IfOk-weaker c.play_events.result (λ report. IsReportOfPlay c.args.setup.now answers c.args.events.now report (g.C.EventCarrier.pipes c.play_events.new.carrier))
     (λ report. AllStop c.args.setup.now answers (world_with c.args.setup.now answers (marked c.args.events.now report.events) new_world) report)
     (λ report is.
     let ps = marked c.args.events.now report.events in

@@ -48,19 +48,19 @@ few_then player i few less =
 
 pub events-init : goal.events-init
 events-init g c = record {
-  tied = none_tied (all_of c.args.player.now) (g.C.Carrier.pipes c.args.carrier.now) (none_of c.args.player.now c.requires.begins);
+  tied = none_tied (all_of c.args.player.now) (g.C.EventCarrier.pipes c.args.carrier.now) (none_of c.args.player.now c.requires.begins);
   held = c.requires.held;
   few = c.requires.none;
   known = tt;
   count = ap length c.new-reports.ensures.items;
   within = omega (arith, ap length c.new-reports.ensures.items);
-  sound = subst (λ (ls : List (Seated g.row.E.Denot g.row.E-Stmt.Denot)). LiveAreSound ls (g.C.Carrier.pipes c.args.carrier.now)) (sym (none_of c.args.player.now c.requires.begins)) (λ i d less. absurd (omega (arith, less)));
+  sound = subst (λ (ls : List (Seated g.row.E.Denot g.row.E-Stmt.Denot)). LiveAreSound ls (g.C.EventCarrier.pipes c.args.carrier.now)) (sym (none_of c.args.player.now c.requires.begins)) (λ i d less. absurd (omega (arith, less)));
   size = refl;
   reads =
-      subst (λ (rs : List EventReport). AllRead c.args.player.now.size (all_of c.args.player.now) (g.C.Carrier.pipes c.args.carrier.now) (answers_of (take 0 c.args.events.now) rs)) (sym c.new-reports.ensures.items)
-      (none_read c.args.player.now.size (all_of c.args.player.now) (g.C.Carrier.pipes c.args.carrier.now) c.args.events.now (none_of c.args.player.now c.requires.begins));
-  calls = λ setup is faithful play. makes_none setup _ c.args.events.now c.new-reports.result.items (g.C.Carrier.began c.args.carrier.now) (g.C.Carrier.pipes c.args.carrier.now);
-  lost = λ setup is faithful play. rw (c.requires.begins) (told_none setup _ (g.C.Carrier.pipes c.args.carrier.now));
+      subst (λ (rs : List EventReport). AllRead c.args.player.now.size (all_of c.args.player.now) (g.C.EventCarrier.pipes c.args.carrier.now) (answers_of (take 0 c.args.events.now) rs)) (sym c.new-reports.ensures.items)
+      (none_read c.args.player.now.size (all_of c.args.player.now) (g.C.EventCarrier.pipes c.args.carrier.now) c.args.events.now (none_of c.args.player.now c.requires.begins));
+  calls = λ setup is faithful play. makes_none setup _ c.args.events.now c.new-reports.result.items (g.C.EventCarrier.began c.args.carrier.now) (g.C.EventCarrier.pipes c.args.carrier.now);
+  lost = λ setup is faithful play. rw (c.requires.begins) (told_none setup _ (g.C.EventCarrier.pipes c.args.carrier.now));
   refines = λ setup is faithful play. record { play = play; told = c.new-reports.ensures.items };
 }
 
@@ -80,9 +80,9 @@ events-preserved g c =
     let old = c.events.player in
     let new = c.happen.new.self in
     let done : EventDone = c.in_ok-done.done in
-    let pipes : ℕ → Option Pipe = g.C.Carrier.pipes c.events.carrier in
-    let begun : ℕ → Option Pipe = g.C.Carrier.pipes c.begin.new.self in
-    let after : ℕ → Option Pipe = g.C.Carrier.pipes c.happen.new.carrier in
+    let pipes : ℕ → Option Pipe = g.C.EventCarrier.pipes c.events.carrier in
+    let begun : ℕ → Option Pipe = g.C.EventCarrier.pipes c.begin.new.self in
+    let after : ℕ → Option Pipe = g.C.EventCarrier.pipes c.happen.new.carrier in
     let still : begun ≡ pipes = c.in_ok-begin.ensures.still in
     let answers : Answers = answer_of (g.E.Engine.statements_of engine) (g.E.Engine.step_of engine) in
     let said = c.in_ok-done.ensures in
@@ -132,8 +132,8 @@ events-preserved g c =
           let w : World = world_with setup answers (marked (take i es) rs) new_world in
           let count : c.len.result ≡ length rs = omega (arith, c.len.ensures, c.events.reports.ok.0) in
           let number : c.next_number.result ≡ suc (length rs) = c.next_number.ensures.few (omega (arith, count, inv.count, less)) ∙ ap suc count in
-          makes_more setup answers es i c.next_number.result e rs _ done c.new.result (g.C.Carrier.began c.args.carrier.now) (g.C.Carrier.began c.events.carrier) (g.C.Carrier.began c.happen.new.carrier) pipes after
-          c.events-test.true c.event-item.is inv.count less number c.in_ok-push.ensures.items (said.begun ∙ c.in_ok-begin.ensures.told)
+          makes_more setup answers es i c.next_number.result e rs _ done c.new.result (g.C.EventCarrier.began c.args.carrier.now) (g.C.EventCarrier.began c.events.carrier) (g.C.EventCarrier.began c.happen.new.carrier) pipes after
+          c.events-test.true c.event-item.is inv.count less number c.in_ok-push.ensures.items (λ tells. said.begun ∙ c.in_ok-begin.ensures.told tells)
           (does_so setup answers engine e done old new pipes after w inv.tied said.tied far.play (refines setup is all far.play).then
           (subst (λ (ps : ℕ → Option Pipe). AreSameBeyond (length new.links.items) ps after) still said.others) (fails setup is far.play))
           (inv.calls setup is (faithful all) play);
@@ -148,25 +148,25 @@ pub returns-clause-calls : goal.returns-clause-calls
 returns-clause-calls g c = λ setup is faithful play.
     let engine = c.args.player.now.engine in
     makes_all setup (answer_of (g.E.Engine.statements_of engine) (g.E.Engine.step_of engine)) c.args.events.now c.events.event-index c.events.reports.items c.events.reports.items
-    (g.C.Carrier.began c.args.carrier.now) (g.C.Carrier.began c.events.carrier) (g.C.Carrier.pipes c.events.carrier)
+    (g.C.EventCarrier.began c.args.carrier.now) (g.C.EventCarrier.began c.events.carrier) (g.C.EventCarrier.pipes c.events.carrier)
     (omega (arith, c.events-test.false)) refl (c.events.invariant.calls setup is (λ place less. faithful (suc place)) play)
 
 pub returns-clause-unfailing : goal.returns-clause-unfailing
 returns-clause-unfailing g c = λ setup requests is faithful play fine.
     let engine = c.args.player.now.engine in
-    unfailing_in_the_end setup (answer_of (g.E.Engine.statements_of engine) (g.E.Engine.step_of engine)) c.args.events.now c.events.event-index (length c.events.player.links.items) (g.C.Carrier.pipes c.events.carrier) c.events.reports.items c.events.reports.items
+    unfailing_in_the_end setup (answer_of (g.E.Engine.statements_of engine) (g.E.Engine.step_of engine)) c.args.events.now c.events.event-index (length c.events.player.links.items) (g.C.EventCarrier.pipes c.events.carrier) c.events.reports.items c.events.reports.items
     (omega (arith, c.events-test.false)) c.events.invariant.within refl (c.events.invariant.lost setup is (λ place less. faithful (suc place)) play) fine
 
 pub returns-clause-lost : goal.returns-clause-lost
 returns-clause-lost g c = λ setup is faithful play.
     let engine = c.args.player.now.engine in
     let far = c.events.invariant.refines setup is (λ place less. faithful (suc place)) play in
-    told_in_the_end setup (answer_of (g.E.Engine.statements_of engine) (g.E.Engine.step_of engine)) engine c.args.events.now c.events.event-index c.events.player (g.C.Carrier.pipes c.events.carrier) c.events.reports.items c.events.reports.items
+    told_in_the_end setup (answer_of (g.E.Engine.statements_of engine) (g.E.Engine.step_of engine)) engine c.args.events.now c.events.event-index c.events.player (g.C.EventCarrier.pipes c.events.carrier) c.events.reports.items c.events.reports.items
     (omega (arith, c.events-test.false)) refl far.play (c.events.invariant.lost setup is (λ place less. faithful (suc place)) play)
 
 pub returns-clause-reads : goal.returns-clause-reads
 returns-clause-reads g c = λ requests given.
-    read_in_the_end c.args.player.now.size c.args.events.now c.events.event-index (all_of c.events.player) (g.C.Carrier.pipes c.events.carrier) c.events.reports.items c.events.reports.items requests requests
+    read_in_the_end c.args.player.now.size c.args.events.now c.events.event-index (all_of c.events.player) (g.C.EventCarrier.pipes c.events.carrier) c.events.reports.items c.events.reports.items requests requests
     (omega (arith, c.events-test.false)) refl refl c.events.invariant.reads given
 
 pub returns-clause-stands : goal.returns-clause-stands
@@ -181,10 +181,10 @@ returns-clause-stands g c = λ setup is faithful play.
     let over : length es ≤ i = omega (arith, c.events-test.false) in
     let whole : take i es ≡ es = take_all i es over in
     record {
-      world = subst (λ (xs : List Event). RepresentsWorld setup engine c.events.player (g.C.Carrier.pipes c.events.carrier) (world_with setup answers (marked xs rs) new_world)) whole far.play;
+      world = subst (λ (xs : List Event). RepresentsWorld setup engine c.events.player (g.C.EventCarrier.pipes c.events.carrier) (world_with setup answers (marked xs rs) new_world)) whole far.play;
       order = subst RequestsInOrder (sym (world_is setup answers (marked es rs) new_world)) (c.worlds_hold.ensures.order setup (with_cuts setup answers (marked es rs) new_world));
       whole = λ requests asked.
-          in_the_end setup answers engine es i c.events.player (g.C.Carrier.pipes c.events.carrier) rs rs requests
+          in_the_end setup answers engine es i c.events.player (g.C.EventCarrier.pipes c.events.carrier) rs rs requests
           is c.events.invariant.known c.requires.few c.events.invariant.tied over far refl
           (subst (λ (xs : List Event). requests ≡ request_reports (world_with setup answers (marked xs rs) new_world) 1 (world_with setup answers (marked xs rs) new_world).asked_on) (sym whole) asked)
           (laws.whole setup answers es) (laws.plain setup answers es);
@@ -192,7 +192,7 @@ returns-clause-stands g c = λ setup is faithful play.
 
 pub happen-requires-clause-told : goal.happen-requires-clause-told
 happen-requires-clause-told g c =
-    just_told c.next_number.result (g.C.Carrier.began c.events.carrier) (g.C.Carrier.began c.begin.new.self) (g.C.Carrier.pipes c.events.carrier) (g.C.Carrier.pipes c.begin.new.self)
+    just_told c.next_number.result (g.C.EventCarrier.began c.events.carrier) (g.C.EventCarrier.began c.begin.new.self) (g.C.EventCarrier.pipes c.events.carrier) (g.C.EventCarrier.pipes c.begin.new.self)
     c.in_ok-begin.ensures.told c.in_ok-begin.ensures.still
 
 pub happen-requires-clause-sound : goal.happen-requires-clause-sound

@@ -19,7 +19,7 @@ use Rattle.tds_play.proofs.playing.run.Given as goal
 
 abbrev pub invariant-events : goal.invariant-events
 invariant-events g l =
-    let pipes = g.C.Carrier.pipes in
+    let pipes = g.C.EventCarrier.pipes in
     let engine = l.fn.player.engine in
     record {
       tied : AreTied (all_of l.player) (pipes l.carrier);
@@ -37,8 +37,8 @@ invariant-events g l =
           (all_known (length l.player.links.items) (pipes l.carrier));
       calls : (setup : Setup) → IsSetup setup → AreFaithfulTo (length l.player.links.items) (pipes l.carrier)
           → RepresentsWorld setup engine l.fn.player (pipes l.fn.carrier) new_world
-          → MakesCalls setup (answer_of (g.E.Engine.statements_of engine) (g.E.Engine.step_of engine)) (marked (take l.event-index l.events) l.reports.items)
-          (g.C.Carrier.began l.fn.carrier) (g.C.Carrier.began l.carrier) (pipes l.carrier);
+          → MakesCalls g.C.EventCarrier.is_told setup (answer_of (g.E.Engine.statements_of engine) (g.E.Engine.step_of engine)) (marked (take l.event-index l.events) l.reports.items)
+          (g.C.EventCarrier.began l.fn.carrier) (g.C.EventCarrier.began l.carrier) (pipes l.carrier);
       refines : (setup : Setup) → IsSetup setup → AreFaithfulTo (length l.player.links.items) (pipes l.carrier)
           → RepresentsWorld setup engine l.fn.player (pipes l.fn.carrier) new_world
           → IsSoFar setup (answer_of (g.E.Engine.statements_of engine) (g.E.Engine.step_of engine)) engine (take l.event-index l.events) l.player (pipes l.carrier) l.reports.items;

@@ -16,4 +16,4 @@ returns-clause-turns c =
     let faithful = c.memory_is_faithful.ensures c.play.new.carrier.inner in
     let calls = c.in_ok-report.ensures.calls faithful in
     c.record_of_a_play.ensures c.args.setup.now script_answers (marked c.args.events.now c.in_ok-report.report.events) c.play.new.carrier.event c.in_ok-calls.calls.items
-    _ _ (rw (c.new-carrier.ensures.inner, c.new.ensures.untold) at calls) c.in_ok-calls.ensures.turns
+    _ _ (rw c.new-carrier.ensures.untold at calls) c.in_ok-calls.ensures.turns

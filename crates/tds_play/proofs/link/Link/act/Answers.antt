@@ -35,8 +35,8 @@ returns-then-is_of_caller-clause-reads g c = λ size reads.
     let after : client_at n (connections mid) ≡ s =
     client_at_is n (connections mid) (with s it.connection)
     (ap (numbered n) (c.at.ensures.writes s (lent_there n pcs c.in-Some.client.now c.in-Some.ensures.value)) ∙ client_found n s pcs it.connection it.there) in
-    let old : Option Pipe = g.C.Carrier.pipes c.args.carrier.now n in
-    subst (λ (x : ClientSession). IfOk c.act_by_caller.result (λ done. ReadsOn size c.args.event.now done.outcome c.act_by_caller.new.self x.columns old (g.C.Carrier.pipes c.act_by_caller.new.carrier n))) (sym after)
+    let old : Option Pipe = g.C.EventCarrier.pipes c.args.carrier.now n in
+    subst (λ (x : ClientSession). IfOk c.act_by_caller.result (λ done. ReadsOn size c.args.event.now done.outcome c.act_by_caller.new.self x.columns old (g.C.EventCarrier.pipes c.act_by_caller.new.carrier n))) (sym after)
     (c.act_by_caller.ensures.reads size (subst (λ (x : ClientSession). IsReading size c.args.self.now x.columns old) before reads))
 
 pub returns-then-is_of_caller-clause-refines : goal.returns-then-is_of_caller-clause-refines
@@ -50,6 +50,6 @@ returns-then-is_of_caller-clause-refines g c = λ setup w m engine p faithful pl
     let after : client_at n (connections mid) ≡ s =
     client_at_is n (connections mid) (with s it.connection)
     (ap (numbered n) (c.at.ensures.writes s (lent_there n pcs c.in-Some.client.now c.in-Some.ensures.value)) ∙ client_found n s pcs it.connection it.there) in
-    let old : Option Pipe = g.C.Carrier.pipes c.args.carrier.now n in
-    subst (λ (x : ClientSession). IfOk c.act_by_caller.result (λ done. RefinesAct n setup.packet_size engine done c.act_by_caller.new.self (seated (placed_behind c.args.event.now x p) x) (g.C.Carrier.pipes c.act_by_caller.new.carrier n) (acts_on setup (answer_of (g.E.Engine.statements_of engine) (g.E.Engine.step_of engine)) w (met (loss_of done) c.args.event.now) n m) m)) (sym after)
+    let old : Option Pipe = g.C.EventCarrier.pipes c.args.carrier.now n in
+    subst (λ (x : ClientSession). IfOk c.act_by_caller.result (λ done. RefinesAct n setup.packet_size engine done c.act_by_caller.new.self (seated (placed_behind c.args.event.now x p) x) (g.C.EventCarrier.pipes c.act_by_caller.new.carrier n) (acts_on setup (answer_of (g.E.Engine.statements_of engine) (g.E.Engine.step_of engine)) w (met (loss_of done) c.args.event.now) n m) m)) (sym after)
     (c.act_by_caller.ensures.refines setup w m engine p faithful (subst (λ (x : ClientSession). RepresentsConnection n setup.packet_size engine c.args.self.now (seated p x) old m) before played) promises few next)

@@ -18,8 +18,8 @@ pieces-preserved g c =
     let i = c.pieces.invariant in
     let d = c.args.direction in
     let conn : ℕ = c.args.self.now.number in
-    let old : ℕ → Option Pipe = g.C.Carrier.pipes c.pieces.carrier in
-    let new : ℕ → Option Pipe = g.C.Carrier.pipes c.carry.new.self in
+    let old : ℕ → Option Pipe = g.C.EventCarrier.pipes c.pieces.carrier in
+    let new : ℕ → Option Pipe = g.C.EventCarrier.pipes c.carry.new.self in
     let piece : ℕ = c.in-Ok.piece in
     let before : List ℕ = c.pieces.out.items in
     let after : List ℕ = c.carry.new.out.items in
@@ -49,13 +49,13 @@ pieces-preserved g c =
           ∙ ap (λ l. with_counted l d (counted c.args.self.now d - (c.args.count - (c.pieces.left - piece)))) i.counted
           ∙ count_twice c.args.self.now d _ _;
       begun = still ∙ i.begun;
-      early = carries_then (g.C.Carrier.began c.pieces.carrier) (g.C.Carrier.began c.carry.new.self) conn conn new (carried_on (old conn) d (drop (length before) after)) refl still ok.here
-          (carries_on (since (g.C.Carrier.began c.pieces.carrier) conn) (old conn) d (drop (length before) after) i.early);
+      early = carries_then (g.C.EventCarrier.began c.pieces.carrier) (g.C.EventCarrier.began c.carry.new.self) conn conn new (carried_on (old conn) d (drop (length before) after)) refl still ok.here
+          (carries_on (since (g.C.EventCarrier.began c.pieces.carrier) conn) (old conn) d (drop (length before) after) i.early);
       faithful = λ f. i.faithful (back f);
-      brought = λ f. subst (λ (n : ℕ). Brings (g.C.Carrier.pipes c.args.carrier.now conn) d n c.args.out.now.items after (new conn) false) (sym left)
+      brought = λ f. subst (λ (n : ℕ). Brings (g.C.EventCarrier.pipes c.args.carrier.now conn) d n c.args.out.now.items after (new conn) false) (sym left)
           (brought_more c.args.self.now _ (old conn) (new conn) d (c.args.count - c.pieces.left) piece c.args.out.now.items before after (c.requires.tied.holds c.requires.live) (omega (arith, c.requires.underway)) (i.brought (back f)) (bytes f) ok.here);
-      any = subst (λ (n : ℕ). BringsAny d n c.args.out.now.items after (g.C.Carrier.pipes c.args.carrier.now conn) (new conn)) (sym left)
-          (brings_more d (c.args.count - c.pieces.left) piece c.args.out.now.items before after (drop (length before) after) (g.C.Carrier.pipes c.args.carrier.now conn) (old conn) (new conn) i.any
+      any = subst (λ (n : ℕ). BringsAny d n c.args.out.now.items after (g.C.EventCarrier.pipes c.args.carrier.now conn) (new conn)) (sym left)
+          (brings_more d (c.args.count - c.pieces.left) piece c.args.out.now.items before after (drop (length before) after) (g.C.EventCarrier.pipes c.args.carrier.now conn) (old conn) (new conn) i.any
           (sym (take-append-drop (length before) after) ∙ ap (λ (xs : List ℕ). xs ++ drop (length before) after) brings.kept) (long_tail before after piece brings.count)
           (λ e. ap (λ p. (traffic p e).came) ok.here ∙ open_came (old conn) d (drop (length before) after) e (i.tied.holds i.live).is_open));
       failed = λ call. ap (λ p. failures p call) ok.here ∙ carried_no_more (old conn) d (drop (length before) after) call ∙ i.failed call;
@@ -64,15 +64,15 @@ pieces-preserved g c =
 pub returns-clause-failed : goal.returns-clause-failed
 returns-clause-failed g c = λ fine.
     let conn : ℕ = c.args.self.now.number in
-    fails_no_more (Carry c.args.direction ∷ []) false (g.C.Carrier.pipes c.args.carrier.now conn) (g.C.Carrier.pipes c.pieces.carrier conn) c.pieces.invariant.failed fine
+    fails_no_more (Carry c.args.direction ∷ []) false (g.C.EventCarrier.pipes c.args.carrier.now conn) (g.C.EventCarrier.pipes c.pieces.carrier conn) c.pieces.invariant.failed fine
 
 pub returns-in-Err-Lost-clause-failed : goal.returns-in-Err-Lost-clause-failed
 returns-in-Err-Lost-clause-failed g c = λ fine.
     let i = c.pieces.invariant in
     let d = c.args.direction in
     let conn : ℕ = c.args.self.now.number in
-    let old : ℕ → Option Pipe = g.C.Carrier.pipes c.pieces.carrier in
-    let new : ℕ → Option Pipe = g.C.Carrier.pipes c.carry.new.self in
+    let old : ℕ → Option Pipe = g.C.EventCarrier.pipes c.pieces.carrier in
+    let new : ℕ → Option Pipe = g.C.EventCarrier.pipes c.carry.new.self in
     let lost : Changes old new conn (stuck_on (old conn) d) = subst (λ (k : ℕ). Changes old new k (stuck_on (old k) d)) i.number (c.carry.ensures.lost (c.in-Err-Lost.is ∙ ap Err c.in-Err-Lost.field-0-is)) in
     subst (HasFailed (Carry d ∷ [])) (sym lost.here) (stuck_fails (old conn) d (i.tied.holds i.live).is_open (λ call. i.failed call ∙ fine call))
 
@@ -88,10 +88,10 @@ pieces-init g c = record {
   begun = refl;
   early = c.requires.early;
   faithful = λ f. f;
-  brought = λ f. brought_at_first (g.C.Carrier.pipes c.args.carrier.now c.args.self.now.number) c.args.direction c.args.count c.args.out.now.items;
+  brought = λ f. brought_at_first (g.C.EventCarrier.pipes c.args.carrier.now c.args.self.now.number) c.args.direction c.args.count c.args.out.now.items;
   any =
       let none : 0 ≡ c.args.count - c.args.count = omega arith in
-      let pipe : Option Pipe = g.C.Carrier.pipes c.args.carrier.now c.args.self.now.number in
+      let pipe : Option Pipe = g.C.EventCarrier.pipes c.args.carrier.now c.args.self.now.number in
       subst (λ (n : ℕ). BringsAny c.args.direction n c.args.out.now.items c.args.out.now.items pipe pipe) none (brings_nothing c.args.direction c.args.out.now.items pipe pipe (λ d. refl));
   failed = λ call. refl;
 }
@@ -100,18 +100,18 @@ pub returns-clause-any : goal.returns-clause-any
 returns-clause-any g c =
     let conn : ℕ = c.args.self.now.number in
     let all : c.args.count - c.pieces.left ≡ c.args.count = omega (arith, c.pieces-test.false) in
-    subst (λ (n : ℕ). BringsAny c.args.direction n c.args.out.now.items c.pieces.out.items (g.C.Carrier.pipes c.args.carrier.now conn) (g.C.Carrier.pipes c.pieces.carrier conn)) all c.pieces.invariant.any
+    subst (λ (n : ℕ). BringsAny c.args.direction n c.args.out.now.items c.pieces.out.items (g.C.EventCarrier.pipes c.args.carrier.now conn) (g.C.EventCarrier.pipes c.pieces.carrier conn)) all c.pieces.invariant.any
 
 pub returns-in-Err-Lost-clause-any : goal.returns-in-Err-Lost-clause-any
 returns-in-Err-Lost-clause-any g c =
     let i = c.pieces.invariant in
     let d = c.args.direction in
     let conn : ℕ = c.args.self.now.number in
-    let old : ℕ → Option Pipe = g.C.Carrier.pipes c.pieces.carrier in
-    let new : ℕ → Option Pipe = g.C.Carrier.pipes c.carry.new.self in
+    let old : ℕ → Option Pipe = g.C.EventCarrier.pipes c.pieces.carrier in
+    let new : ℕ → Option Pipe = g.C.EventCarrier.pipes c.carry.new.self in
     let failed = c.in-Err-Lost.is ∙ ap Err c.in-Err-Lost.field-0-is in
     let lost : Changes old new conn (stuck_on (old conn) d) = subst (λ (k : ℕ). Changes old new k (stuck_on (old k) d)) i.number (c.carry.ensures.lost failed) in
-    brings_still d (c.args.count - c.pieces.left) c.args.out.now.items c.pieces.out.items c.carry.new.out.items (g.C.Carrier.pipes c.args.carrier.now conn) (old conn) (new conn) i.any (c.carry.ensures.nothing failed)
+    brings_still d (c.args.count - c.pieces.left) c.args.out.now.items c.pieces.out.items c.carry.new.out.items (g.C.EventCarrier.pipes c.args.carrier.now conn) (old conn) (new conn) i.any (c.carry.ensures.nothing failed)
     (λ e. ap (λ p. (traffic p e).came) lost.here ∙ stuck_came (old conn) d e)
 
 pub returns-in-Err-Lost-clause-ties : goal.returns-in-Err-Lost-clause-ties
@@ -119,8 +119,8 @@ returns-in-Err-Lost-clause-ties g c =
     let i = c.pieces.invariant in
     let d = c.args.direction in
     let conn : ℕ = c.args.self.now.number in
-    let old : ℕ → Option Pipe = g.C.Carrier.pipes c.pieces.carrier in
-    let new : ℕ → Option Pipe = g.C.Carrier.pipes c.carry.new.self in
+    let old : ℕ → Option Pipe = g.C.EventCarrier.pipes c.pieces.carrier in
+    let new : ℕ → Option Pipe = g.C.EventCarrier.pipes c.carry.new.self in
     let failed = c.in-Err-Lost.is ∙ ap Err c.in-Err-Lost.field-0-is in
     let lost : Changes old new conn (stuck_on (old conn) d) = subst (λ (k : ℕ). Changes old new k (stuck_on (old k) d)) i.number (c.carry.ensures.lost failed) in
     record {
@@ -135,8 +135,8 @@ returns-in-Err-Lost-clause-brought g c = λ f.
     let i = c.pieces.invariant in
     let d = c.args.direction in
     let conn : ℕ = c.args.self.now.number in
-    let old : ℕ → Option Pipe = g.C.Carrier.pipes c.pieces.carrier in
-    let new : ℕ → Option Pipe = g.C.Carrier.pipes c.carry.new.self in
+    let old : ℕ → Option Pipe = g.C.EventCarrier.pipes c.pieces.carrier in
+    let new : ℕ → Option Pipe = g.C.EventCarrier.pipes c.carry.new.self in
     let failed = c.in-Err-Lost.is ∙ ap Err c.in-Err-Lost.field-0-is in
     let lost : Changes old new conn (stuck_on (old conn) d) = subst (λ (k : ℕ). Changes old new k (stuck_on (old k) d)) i.number (c.carry.ensures.lost failed) in
     let so_far = i.brought (stuck_faithful (old conn) d (subst IsFaithful lost.here f)) in
@@ -151,8 +151,8 @@ pub carry-requires-clause-early : goal.carry-requires-clause-early
 carry-requires-clause-early g c =
     let i = c.pieces.invariant in
     let conn : ℕ = c.args.self.now.number in
-    let told = g.C.Carrier.began c.pieces.carrier in
-    let pipes : ℕ → Option Pipe = g.C.Carrier.pipes c.pieces.carrier in
+    let told = g.C.EventCarrier.began c.pieces.carrier in
+    let pipes : ℕ → Option Pipe = g.C.EventCarrier.pipes c.pieces.carrier in
     carries_then told told conn c.pieces.self.number pipes (pipes conn) i.number refl refl i.early
 
 pub returns-clause-sends : goal.returns-clause-sends
@@ -163,9 +163,9 @@ returns-in-Err-Lost-clause-sends g c =
     let i = c.pieces.invariant in
     let d = c.args.direction in
     let conn : ℕ = c.args.self.now.number in
-    let old : ℕ → Option Pipe = g.C.Carrier.pipes c.pieces.carrier in
-    let new : ℕ → Option Pipe = g.C.Carrier.pipes c.carry.new.self in
+    let old : ℕ → Option Pipe = g.C.EventCarrier.pipes c.pieces.carrier in
+    let new : ℕ → Option Pipe = g.C.EventCarrier.pipes c.carry.new.self in
     let failed = c.in-Err-Lost.is ∙ ap Err c.in-Err-Lost.field-0-is in
     let lost : Changes old new conn (stuck_on (old conn) d) = subst (λ (k : ℕ). Changes old new k (stuck_on (old k) d)) i.number (c.carry.ensures.lost failed) in
-    sends_then (g.C.Carrier.began c.pieces.carrier) (g.C.Carrier.began c.carry.new.self) conn conn new (stuck_on (old conn) d) refl (c.carry.ensures.began (λ e. let bad = sym failed ∙ e in absurd (cc))) lost.here
-    (sends_stuck (since (g.C.Carrier.began c.pieces.carrier) conn) (old conn) d i.early)
+    sends_then (g.C.EventCarrier.began c.pieces.carrier) (g.C.EventCarrier.began c.carry.new.self) conn conn new (stuck_on (old conn) d) refl (c.carry.ensures.began (λ e. let bad = sym failed ∙ e in absurd (cc))) lost.here
+    (sends_stuck (since (g.C.EventCarrier.began c.pieces.carrier) conn) (old conn) d i.early)

@@ -7,7 +7,7 @@ use Rattle.tds_play.proofs.link.Link.carry.Given as goal
 
 abbrev pub invariant-pieces : goal.invariant-pieces
 invariant-pieces g l =
-    let pipes = g.C.Carrier.pipes in
+    let pipes = g.C.EventCarrier.pipes in
     record {
       number : l.self.number ≡ l.fn.self.number;
       live : l.self.is_cut ≡ false;
@@ -16,8 +16,8 @@ invariant-pieces g l =
       within : l.left ≤ l.count;
       underway : l.left ≤ counted l.self l.direction;
       counted : l.self ≡ with_counted l.fn.self l.direction (counted l.fn.self l.direction - (l.count - l.left));
-      begun : g.C.Carrier.began l.carrier ≡ g.C.Carrier.began l.fn.carrier;
-      early : MayCarry (since (g.C.Carrier.began l.carrier) l.fn.self.number) (pipes l.carrier l.fn.self.number);
+      begun : g.C.EventCarrier.began l.carrier ≡ g.C.EventCarrier.began l.fn.carrier;
+      early : MayCarry g.C.EventCarrier.is_told (since (g.C.EventCarrier.began l.carrier) l.fn.self.number) (pipes l.carrier l.fn.self.number);
       faithful : IsFaithful (pipes l.carrier l.fn.self.number) → IsFaithful (pipes l.fn.carrier l.fn.self.number);
       brought : IsFaithful (pipes l.carrier l.fn.self.number)
           → Brings (pipes l.fn.carrier l.fn.self.number) l.direction (l.count - l.left) l.fn.out.items l.out.items (pipes l.carrier l.fn.self.number) false;

@@ -25,20 +25,20 @@ hand_over-requires-clause-live g c = ap (λ l. l.is_cut) c.in_ok-ask_cleaning.en
 pub hand_over-requires-clause-tied : goal.hand_over-requires-clause-tied
 hand_over-requires-clause-tied g c =
     c.in_ok-ask_cleaning.ensures.tied _
-    (subst (λ (n : ℕ). IsTied c.args.self.now (g.C.Carrier.pipes c.args.carrier.now n)) (sym c.in_ok-ask_cleaning.ensures.number) c.requires.tied)
+    (subst (λ (n : ℕ). IsTied c.args.self.now (g.C.EventCarrier.pipes c.args.carrier.now n)) (sym c.in_ok-ask_cleaning.ensures.number) c.requires.tied)
 
 pub returns-clause-refines : goal.returns-clause-refines
 returns-clause-refines g c = λ size engine seat d played idle rests began few.
     let conn : ℕ = c.args.self.now.number in
-    let old : ℕ → Option Pipe = g.C.Carrier.pipes c.args.carrier.now in
+    let old : ℕ → Option Pipe = g.C.EventCarrier.pipes c.args.carrier.now in
     let ask = c.in_ok-ask_cleaning.ensures in
     let put = c.in_ok-put_whole.ensures in
     let out = c.in_ok-lost.ensures in
     let e : Effect Sent = record { answer = sents.Last; session = client_at conn (connections c.put_whole.new.pool); bytes = put.sent.0 } in
     let bytes = c.as_slice.ensures.value ∙ put.sent.2 ∙ ap (λ (xs : List ℕ). xs ++ e.bytes) c.new-out.ensures.items in
-    let handed = given ToServer conn c.ask_cleaning.new.self c.hand_over.new.self old (g.C.Carrier.pipes c.hand_over.new.carrier) c.as_slice.result.now c.in_ok-lost.lost
+    let handed = given ToServer conn c.ask_cleaning.new.self c.hand_over.new.self old (g.C.EventCarrier.pipes c.hand_over.new.carrier) c.as_slice.result.now c.in_ok-lost.lost
     ask.number (c.requires.tied.holds c.requires.live).is_open
-    (λ e. let h = out.nothing e in (h.1, ap g.C.Carrier.pipes h.2)) out.handed out.counted in
+    (λ e. let h = out.nothing e in (h.1, ap g.C.EventCarrier.pipes h.2)) out.handed out.counted in
     let then = cleaned_played (record {
       unseen = c.pool_is_unseen.ensures;
       waits = c.idle_alike.ensures;
@@ -48,23 +48,23 @@ returns-clause-refines g c = λ size engine seat d played idle rests began few.
       stays = c.the_other_stays.ensures.sends;
       appends = c.sends_append.ensures.to_server;
       tells = c.phases_tell.ensures;
-    }) conn size c.args.lease c.args.request engine c.args.self.now c.ask_cleaning.new.self c.hand_over.new.self seat (old conn) (g.C.Carrier.pipes c.hand_over.new.carrier conn) d (client_at conn (connections c.args.pool.now)) e c.as_slice.result.now
+    }) conn size c.args.lease c.args.request engine c.args.self.now c.ask_cleaning.new.self c.hand_over.new.self seat (old conn) (g.C.EventCarrier.pipes c.hand_over.new.carrier conn) d (client_at conn (connections c.args.pool.now)) e c.as_slice.result.now
     played c.requires.live idle rests began ask.asked put.sent.1 refl bytes few handed in
-    ends_so conn c.hand_over.new.self.number size engine c.end.result _ c.in_ok-lost.lost c.hand_over.new.self c.end.new.self (seated Draining e.session) (g.C.Carrier.pipes c.hand_over.new.carrier) (g.C.Carrier.pipes c.end.new.carrier) _ d
+    ends_so conn c.hand_over.new.self.number size engine c.end.result _ c.in_ok-lost.lost c.hand_over.new.self c.end.new.self (seated Draining e.session) (g.C.EventCarrier.pipes c.hand_over.new.carrier) (g.C.EventCarrier.pipes c.end.new.carrier) _ d
     (out.number ∙ ask.number) c.end.ensures.done then.0 (c.end.ensures.refines size engine (seated Draining e.session)) then.1
 
 pub returns-clause-failed : goal.returns-clause-failed
 returns-clause-failed g c =
     let out = c.in_ok-lost.ensures in
     sent_as c.args.self.now.number c.ask_cleaning.new.self.number c.hand_over.new.self.number (Send ToServer ∷ []) c.end.result c.in_ok-lost.lost c.end.new.self
-    (g.C.Carrier.pipes c.args.carrier.now) (g.C.Carrier.pipes c.hand_over.new.carrier) (g.C.Carrier.pipes c.end.new.carrier)
+    (g.C.EventCarrier.pipes c.args.carrier.now) (g.C.EventCarrier.pipes c.hand_over.new.carrier) (g.C.EventCarrier.pipes c.end.new.carrier)
     c.in_ok-ask_cleaning.ensures.number out.number (out.failed [] false) (c.end.ensures.failed (Send ToServer ∷ []))
 
 pub returns-clause-still : goal.returns-clause-still
 returns-clause-still g c =
     let out = c.in_ok-lost.ensures in
     stays_handed c.args.self.now.number c.ask_cleaning.new.self.number c.hand_over.new.self.number c.args.self.now c.ask_cleaning.new.self c.hand_over.new.self c.end.new.self
-    (g.C.Carrier.pipes c.args.carrier.now) (g.C.Carrier.pipes c.hand_over.new.carrier) (g.C.Carrier.pipes c.end.new.carrier)
+    (g.C.EventCarrier.pipes c.args.carrier.now) (g.C.EventCarrier.pipes c.hand_over.new.carrier) (g.C.EventCarrier.pipes c.end.new.carrier)
     c.in_ok-ask_cleaning.ensures.number out.number (c.in_ok-ask_cleaning.ensures.still _) out.still c.end.ensures.still
 
 pub returns-clause-number : goal.returns-clause-number
@@ -79,10 +79,10 @@ pub returns-clause-ties : goal.returns-clause-ties
 returns-clause-ties g c =
     let out = c.in_ok-lost.ensures in
     ties_handed c.args.self.now.number c.ask_cleaning.new.self.number c.hand_over.new.self.number c.hand_over.new.self c.end.new.self
-    (g.C.Carrier.pipes c.args.carrier.now) (g.C.Carrier.pipes c.hand_over.new.carrier) (g.C.Carrier.pipes c.end.new.carrier)
-    (g.C.Carrier.began c.args.carrier.now) (g.C.Carrier.began c.hand_over.new.carrier) (g.C.Carrier.began c.end.new.carrier)
+    (g.C.EventCarrier.pipes c.args.carrier.now) (g.C.EventCarrier.pipes c.hand_over.new.carrier) (g.C.EventCarrier.pipes c.end.new.carrier)
+    (g.C.EventCarrier.began c.args.carrier.now) (g.C.EventCarrier.began c.hand_over.new.carrier) (g.C.EventCarrier.began c.end.new.carrier)
     c.in_ok-ask_cleaning.ensures.number out.number out.ties c.end.ensures.ties
 
 pub hand_over-requires-clause-once : goal.hand_over-requires-clause-once
 hand_over-requires-clause-once g c =
-    sends_at (g.C.Carrier.began c.args.carrier.now) (g.C.Carrier.pipes c.args.carrier.now) c.args.self.now.number c.ask_cleaning.new.self.number c.in_ok-ask_cleaning.ensures.number c.requires.unasked
+    sends_at (g.C.EventCarrier.began c.args.carrier.now) (g.C.EventCarrier.pipes c.args.carrier.now) c.args.self.now.number c.ask_cleaning.new.self.number c.in_ok-ask_cleaning.ensures.number c.requires.unasked

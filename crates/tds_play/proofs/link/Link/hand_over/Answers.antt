@@ -11,11 +11,11 @@ pub returns-then-is_empty-clause-ties : goal.returns-then-is_empty-clause-ties
 returns-then-is_empty-clause-ties g c = record { tied = c.requires.tied; others = λ other differs. refl; begun = refl; faithful = λ f. f }
 
 pub returns-then-is_empty-clause-still : goal.returns-then-is_empty-clause-still
-returns-then-is_empty-clause-still g c = stays c.args.self.now (g.C.Carrier.pipes c.args.carrier.now c.args.self.now.number)
+returns-then-is_empty-clause-still g c = stays c.args.self.now (g.C.EventCarrier.pipes c.args.carrier.now c.args.self.now.number)
 
 pub returns-then-is_empty-clause-failed : goal.returns-then-is_empty-clause-failed
 returns-then-is_empty-clause-failed g c = λ calls before fails.
-    none_fails calls (Send c.args.direction ∷ []) before (g.C.Carrier.pipes c.args.carrier.now c.args.self.now.number) fails
+    none_fails calls (Send c.args.direction ∷ []) before (g.C.EventCarrier.pipes c.args.carrier.now c.args.self.now.number) fails
 
 -- ---- Some bytes
 
@@ -31,7 +31,7 @@ returns-clause-rest g c = recounted_so c.args.self.now c.went.new.self c.args.di
 pub returns-clause-ties : goal.returns-clause-ties
 returns-clause-ties g c =
     handed_ties c.args.self.now c.went.new.self c.args.direction _ c.args.bytes.now (cond c.in_ok-lost.lost 1 0)
-    (g.C.Carrier.pipes c.args.carrier.now) (g.C.Carrier.pipes c.hand_bytes.new.carrier) (g.C.Carrier.began c.args.carrier.now) (g.C.Carrier.began c.hand_bytes.new.carrier)
+    (g.C.EventCarrier.pipes c.args.carrier.now) (g.C.EventCarrier.pipes c.hand_bytes.new.carrier) (g.C.EventCarrier.began c.args.carrier.now) (g.C.EventCarrier.began c.hand_bytes.new.carrier)
     c.requires.tied c.requires.live refl c.went.ensures c.in_ok-lost.ensures.handed c.in_ok-lost.ensures.begun
 
 pub returns-clause-handed : goal.returns-clause-handed
@@ -40,11 +40,11 @@ returns-clause-handed g c = λ full. c.in_ok-lost.ensures.handed.here
 pub returns-clause-still : goal.returns-clause-still
 returns-clause-still g c =
     let conn = c.args.self.now.number in
-    handed_stays c.args.self.now c.went.new.self (g.C.Carrier.pipes c.args.carrier.now conn) (g.C.Carrier.pipes c.hand_bytes.new.carrier conn) c.args.direction c.args.bytes.now (cond c.in_ok-lost.lost 1 0)
+    handed_stays c.args.self.now c.went.new.self (g.C.EventCarrier.pipes c.args.carrier.now conn) (g.C.EventCarrier.pipes c.hand_bytes.new.carrier conn) c.args.direction c.args.bytes.now (cond c.in_ok-lost.lost 1 0)
     (recounted_so c.args.self.now c.went.new.self c.args.direction _ c.went.ensures) c.in_ok-lost.ensures.handed.here
 
 pub returns-clause-failed : goal.returns-clause-failed
 returns-clause-failed g c = λ calls before fails.
     let conn = c.args.self.now.number in
-    sent_fails calls before c.in_ok-lost.lost (g.C.Carrier.pipes c.args.carrier.now conn) (g.C.Carrier.pipes c.hand_bytes.new.carrier conn) c.args.direction c.args.bytes.now
+    sent_fails calls before c.in_ok-lost.lost (g.C.EventCarrier.pipes c.args.carrier.now conn) (g.C.EventCarrier.pipes c.hand_bytes.new.carrier conn) c.args.direction c.args.bytes.now
     (c.requires.tied.holds c.requires.live).is_open c.in_ok-lost.ensures.handed.here fails

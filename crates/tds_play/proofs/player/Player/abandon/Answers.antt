@@ -16,7 +16,7 @@ use Rattle.tds_play.proofs.player.Player.abandon.Goals as goal
 pub abandon-requires : goal.abandon-requires
 abandon-requires g c =
     let old = c.args.self.now in
-    let stands = stands_there old c.args.place c.index_mut.result.now (g.C.Carrier.pipes c.args.carrier.now) c.requires.tied c.requires.held c.requires.there c.index_mut.ensures.value in
+    let stands = stands_there old c.args.place c.index_mut.result.now (g.C.EventCarrier.pipes c.args.carrier.now) c.requires.tied c.requires.held c.requires.there c.index_mut.ensures.value in
     let slot = slot_of (λ (t : Ticket). t.number) old.tickets c.args.number (suc c.args.place) c.in-Some.ticket c.requires.kept c.in-Some.ensures.taken in
     record {
       tied = stands.tied;
@@ -31,7 +31,7 @@ returns g c =
     let h = c.index_mut.result.now in
     let k = c.abandon.new.self in
     let said = c.abandon.ensures in
-    let pipes = g.C.Carrier.pipes in
+    let pipes = g.C.EventCarrier.pipes in
     let stands = stands_there old c.args.place h (pipes c.args.carrier.now) c.requires.tied c.requires.held c.requires.there c.index_mut.ensures.value in
     let slot = slot_of (λ (t : Ticket). t.number) old.tickets c.args.number (suc c.args.place) c.in-Some.ticket c.requires.kept c.in-Some.ensures.taken in
     touched_steps (λ x. answer_of (g.E.Engine.statements_of x) (g.E.Engine.step_of x)) (event.Abandon c.args.number) c.args.place old _ h k (pipes c.args.carrier.now) (pipes c.abandon.new.carrier) _ _ c.abandon.result c.requires.tied stands.at said.number refl

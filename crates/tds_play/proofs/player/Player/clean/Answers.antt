@@ -18,10 +18,10 @@ use Rattle.tds_play.proofs.player.Player.clean.Goals as goal
 pub clean-requires : goal.clean-requires
 clean-requires g c =
     let old = c.args.self.now in
-    let stands = stands_there old c.args.place c.index_mut.result.now (g.C.Carrier.pipes c.args.carrier.now) c.requires.tied c.requires.held c.requires.there c.index_mut.ensures.value in
+    let stands = stands_there old c.args.place c.index_mut.result.now (g.C.EventCarrier.pipes c.args.carrier.now) c.requires.tied c.requires.held c.requires.there c.index_mut.ensures.value in
     record {
       tied = stands.tied;
-      unasked = unasked_there old c.args.place c.index_mut.result.now (g.C.Carrier.began c.args.carrier.now) (g.C.Carrier.pipes c.args.carrier.now) c.requires.tied c.requires.told c.requires.sound stands.at;
+      unasked = unasked_there old c.args.place c.index_mut.result.now (g.C.EventCarrier.began c.args.carrier.now) (g.C.EventCarrier.pipes c.args.carrier.now) c.requires.tied c.requires.told c.requires.sound stands.at;
       there = stands.there;
     }
 
@@ -35,7 +35,7 @@ returns g c =
     let said = c.in_ok-done.ensures in
     let noted = c.in_ok-note_cleaning.ensures.noted c.args.conn in
     let rest = c.in_ok-note_cleaning.ensures.rest in
-    let pipes = g.C.Carrier.pipes in
+    let pipes = g.C.EventCarrier.pipes in
     let stands = stands_there old c.args.place h (pipes c.args.carrier.now) c.requires.tied c.requires.held c.requires.there c.index_mut.ensures.value in
     let pool : new.pool ≡ c.clean.new.pool = ap (λ (p : Player g.row.E.Denot g.row.E-Stmt.Denot). p.pool) rest in
     let tickets : new.tickets ≡ old.tickets = ap (λ (p : Player g.row.E.Denot g.row.E-Stmt.Denot). p.tickets) rest in

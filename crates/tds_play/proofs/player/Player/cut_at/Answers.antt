@@ -16,7 +16,7 @@ returns-then-link g c =
     let old = c.args.self.now in
     let h = c.index_mut.result.now in
     let new = record old { links = with_item old.links c.args.place h } in
-    let pipes = g.C.Carrier.pipes c.args.carrier.now in
+    let pipes = g.C.EventCarrier.pipes c.args.carrier.now in
     let same = unmoved c.args.place old new h c.requires.there c.index_mut.ensures.value refl refl in
     record {
       keeps = unmoved_keeps c.args.place old new h pipes _ c.requires.tied c.requires.held c.requires.there c.index_mut.ensures.value refl refl refl;
@@ -39,7 +39,7 @@ pub cut-requires : goal.cut-requires
 cut-requires g c =
     let old = c.args.self.now in
     let h = c.index_mut.result.now in
-    let pipes = g.C.Carrier.pipes c.args.carrier.now in
+    let pipes = g.C.EventCarrier.pipes c.args.carrier.now in
     let tied = tied_at old c.args.place h pipes c.requires.tied (read_at old.links.items c.args.place h c.requires.there c.index_mut.ensures.value) in
     record { uncut = is_uncut (pipes h.link.number) (tied.holds c.if-link.false).is_open; server_reads = tied.server_reads; client_reads = tied.client_reads }
 
@@ -49,8 +49,8 @@ returns g c =
     let h = c.index_mut.result.now in
     let k = record h { link = c.cut.new.self } in
     let new = record old { links = with_item old.links c.args.place k; pool = c.lost.new.self } in
-    let pipes = g.C.Carrier.pipes c.args.carrier.now in
-    let pipes' = g.C.Carrier.pipes c.cut.new.carrier in
+    let pipes = g.C.EventCarrier.pipes c.args.carrier.now in
+    let pipes' = g.C.EventCarrier.pipes c.cut.new.carrier in
     let is = cuts_at c.args.place _ old new h k pipes c.requires.tied c.requires.there c.index_mut.ensures.value
     refl c.cut.ensures.value c.cut.ensures.number c.lost.ensures.shown c.lost.ensures.rest
     (record { engine_is = refl; max_is = refl; size_is = refl; told_is = refl }) refl refl in

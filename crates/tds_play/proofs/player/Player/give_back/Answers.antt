@@ -15,11 +15,11 @@ use Rattle.tds_play.proofs.player.Player.give_back.Goals as goal
 pub give_back-requires : goal.give_back-requires
 give_back-requires g c =
     let old = c.args.self.now in
-    let stands = stands_there old c.args.place c.index_mut.result.now (g.C.Carrier.pipes c.args.carrier.now) c.requires.tied c.requires.held c.requires.there c.index_mut.ensures.value in
+    let stands = stands_there old c.args.place c.index_mut.result.now (g.C.EventCarrier.pipes c.args.carrier.now) c.requires.tied c.requires.held c.requires.there c.index_mut.ensures.value in
     let slot = slot_of (λ (l : Lease). l.number) old.leases c.args.number (suc c.args.place) c.in-Some.lease c.requires.lent c.in-Some.ensures.taken in
     record {
       tied = stands.tied;
-      unasked = unasked_there old c.args.place c.index_mut.result.now (g.C.Carrier.began c.args.carrier.now) (g.C.Carrier.pipes c.args.carrier.now) c.requires.tied c.requires.told c.requires.sound stands.at;
+      unasked = unasked_there old c.args.place c.index_mut.result.now (g.C.EventCarrier.began c.args.carrier.now) (g.C.EventCarrier.pipes c.args.carrier.now) c.requires.tied c.requires.told c.requires.sound stands.at;
       there = stands.there;
       named = slot.conn_is ∙ sym stands.number;
       lent = lent_there old c.args.place c.args.number c.in-Some.lease c.index_mut.result.now c.requires.held stands.at slot;
@@ -38,7 +38,7 @@ returns-in-Ok g c =
     let k = c.give_back.new.self in
     let done = c.in-Ok.done in
     let said = c.in-Ok.ensures in
-    let pipes = g.C.Carrier.pipes in
+    let pipes = g.C.EventCarrier.pipes in
     let stands = stands_there old c.args.place h (pipes c.args.carrier.now) c.requires.tied c.requires.held c.requires.there c.index_mut.ensures.value in
     let slot = slot_of (λ (l : Lease). l.number) old.leases c.args.number (suc c.args.place) c.in-Some.lease c.requires.lent c.in-Some.ensures.taken in
     touched_steps (λ x. answer_of (g.E.Engine.statements_of x) (g.E.Engine.step_of x)) (event.GiveBack c.args.number) c.args.place old _ h k (pipes c.args.carrier.now) (pipes c.give_back.new.carrier) _ _ done c.requires.tied stands.at said.number refl

@@ -27,7 +27,7 @@ reuse-requires g c =
 pub returns-in-Reused : goal.returns-in-Reused
 returns-in-Reused g c =
     let old = c.args.self.now in
-    let pipes = g.C.Carrier.pipes c.args.carrier.now in
+    let pipes = g.C.EventCarrier.pipes c.args.carrier.now in
     let l : LentAgain c.in-Reused.conn c.in-Ok.given old.pool c.lease.new.self =
     lent_again_of c.in-Reused.conn c.in-Ok.given c.in-Ok.opened old.pool c.lease.new.self _ _ (lent_next (connections old.pool)) refl c.in-Ok.ensures.reused c.in-Ok.ensures.turn c.in-Ok.ensures.reset c.in-Ok.ensures.new c.in-Reused.is in
     let told = c.in_ok-begin_lease-in-Ok.ensures in
@@ -44,7 +44,7 @@ pub returns-in_ok-done-in-New : goal.returns-in_ok-done-in-New
 returns-in_ok-done-in-New g c =
     let old = c.args.self.now in
     let told = c.in_ok-begin_lease-in-Ok.ensures in
-    opens_happen (λ x. answer_of (g.E.Engine.statements_of x) (g.E.Engine.step_of x)) c.next-lease.result c.in-New.conn c.in-Ok.given old c.begin_lease.new.self c.open.new.self c.lease.new.self (g.C.Carrier.pipes c.args.carrier.now) (g.C.Carrier.pipes c.open.new.carrier) _ _ c.in_ok-done-in-New.done
+    opens_happen (λ x. answer_of (g.E.Engine.statements_of x) (g.E.Engine.step_of x)) c.next-lease.result c.in-New.conn c.in-Ok.given old c.begin_lease.new.self c.open.new.self c.lease.new.self (g.C.EventCarrier.pipes c.args.carrier.now) (g.C.EventCarrier.pipes c.open.new.carrier) _ _ c.in_ok-done-in-New.done
     c.requires.tied c.requires.held c.requires.few
     (lent_new_of c.in-New.conn c.in-Ok.given c.in-Ok.opened old.pool c.lease.new.self (lent_next (connections old.pool)) refl c.in-Ok.ensures.reused c.in-Ok.ensures.new c.in-Ok.ensures.first c.in-Ok.ensures.used c.in-Ok.ensures.allowed c.in-New.is)
     c.next-lease.ensures told.rest told.leases c.in_ok-done-in-New.ensures
@@ -54,7 +54,7 @@ returns-in_ok-done-in-New g c =
 pub returns-in_default : goal.returns-in_default
 returns-in_default g c =
     let old = c.args.self.now in
-    let pipes = g.C.Carrier.pipes c.args.carrier.now in
+    let pipes = g.C.EventCarrier.pipes c.args.carrier.now in
     refuses_happen (λ x. answer_of (g.E.Engine.statements_of x) (g.E.Engine.step_of x)) event.Lease AllInUse old (record old { pool = c.lease.new.self }) pipes _ c.refused.result
     c.requires.tied tt
     (λ setup engine w is idle. refused_found setup engine w old pipes _ is c.requires.held c.requires.few idle (λ some. let bad = c.in-Err.ensures.takes_none some in absurd (cc)) c.in_default.not-Memory c.in-Err.ensures.refused)

@@ -11,5 +11,5 @@ returns g c =
       | then-lost w ↦ lost_out c.args.conn c.in_ok-link.lost old c.if-lost.self w.lost.new.self w.if-lost.true (record { connections = w.lost.ensures.shown; rest = w.lost.ensures.rest }) w.self-is
       | else-lost w ↦ lost_not c.args.conn c.in_ok-link.lost old c.if-lost.self w.if-lost.false w.self-is
     ] in
-    opens_as c.args.conn c.args.lease old c.if-lost.self _ c.in_ok-link.link c.in_ok-link.lost (g.C.Carrier.pipes c.args.carrier.now) (g.C.Carrier.pipes c.open.new.carrier) (g.C.Carrier.began c.args.carrier.now) (g.C.Carrier.began c.open.new.carrier) _
+    opens_as c.args.conn c.args.lease old c.if-lost.self _ c.in_ok-link.link c.in_ok-link.lost (g.C.EventCarrier.pipes c.args.carrier.now) (g.C.EventCarrier.pipes c.open.new.carrier) (g.C.EventCarrier.began c.args.carrier.now) (g.C.EventCarrier.began c.open.new.carrier) _
     split c.in_ok-push.ensures.items refl refl said.number said.uncut said.ties said.failed said.reads.0 said.reads.1 (said.refines c.args.lease)

@@ -4,22 +4,22 @@ use Rattle.tds_play.proofs.player.Player.step_at.Goals as goal
 
 pub returns-in-Resume : goal.returns-in-Resume
 returns-in-Resume g c =
-    of_quiet (λ x. answer_of (g.E.Engine.statements_of x) (g.E.Engine.step_of x)) c.args.event.now _ c.args.place c.args.self.now c.resume.new.self (g.C.Carrier.pipes c.args.carrier.now) (g.C.Carrier.began c.args.carrier.now) c.resume.result c.in-Resume.is
-    (c.resume.ensures (g.C.Carrier.pipes c.args.carrier.now) c.requires.tied)
+    of_quiet (λ x. answer_of (g.E.Engine.statements_of x) (g.E.Engine.step_of x)) c.args.event.now _ c.args.place c.args.self.now c.resume.new.self (g.C.EventCarrier.pipes c.args.carrier.now) (g.C.EventCarrier.began c.args.carrier.now) c.resume.result c.in-Resume.is
+    (c.resume.ensures (g.C.EventCarrier.pipes c.args.carrier.now) c.requires.tied)
 
 pub returns-in-Keep : goal.returns-in-Keep
 returns-in-Keep g c =
-    of_quiet (λ x. answer_of (g.E.Engine.statements_of x) (g.E.Engine.step_of x)) c.args.event.now _ c.args.place c.args.self.now c.keep.new.self (g.C.Carrier.pipes c.args.carrier.now) (g.C.Carrier.began c.args.carrier.now) c.keep.result c.in-Keep.is
-    (c.keep.ensures (g.C.Carrier.pipes c.args.carrier.now) c.requires.tied)
+    of_quiet (λ x. answer_of (g.E.Engine.statements_of x) (g.E.Engine.step_of x)) c.args.event.now _ c.args.place c.args.self.now c.keep.new.self (g.C.EventCarrier.pipes c.args.carrier.now) (g.C.EventCarrier.began c.args.carrier.now) c.keep.result c.in-Keep.is
+    (c.keep.ensures (g.C.EventCarrier.pipes c.args.carrier.now) c.requires.tied)
 
 pub returns-in-GiveBack : goal.returns-in-GiveBack
 returns-in-GiveBack g c =
-    of_event (λ x. answer_of (g.E.Engine.statements_of x) (g.E.Engine.step_of x)) c.args.event.now _ c.args.place c.args.self.now c.give_back.new.self (g.C.Carrier.pipes c.args.carrier.now) (g.C.Carrier.pipes c.give_back.new.carrier) _ _ c.give_back.result c.in-GiveBack.is c.give_back.ensures
+    of_event (λ x. answer_of (g.E.Engine.statements_of x) (g.E.Engine.step_of x)) c.args.event.now _ c.args.place c.args.self.now c.give_back.new.self (g.C.EventCarrier.pipes c.args.carrier.now) (g.C.EventCarrier.pipes c.give_back.new.carrier) _ _ c.give_back.result c.in-GiveBack.is c.give_back.ensures
 
 pub returns-in-Abandon : goal.returns-in-Abandon
 returns-in-Abandon g c =
-    of_event (λ x. answer_of (g.E.Engine.statements_of x) (g.E.Engine.step_of x)) c.args.event.now _ c.args.place c.args.self.now c.abandon.new.self (g.C.Carrier.pipes c.args.carrier.now) (g.C.Carrier.pipes c.abandon.new.carrier) _ _ c.abandon.result c.in-Abandon.is c.abandon.ensures
+    of_event (λ x. answer_of (g.E.Engine.statements_of x) (g.E.Engine.step_of x)) c.args.event.now _ c.args.place c.args.self.now c.abandon.new.self (g.C.EventCarrier.pipes c.args.carrier.now) (g.C.EventCarrier.pipes c.abandon.new.carrier) _ _ c.abandon.result c.in-Abandon.is c.abandon.ensures
 
 pub returns-in-Clean : goal.returns-in-Clean
 returns-in-Clean g c =
-    of_event (λ x. answer_of (g.E.Engine.statements_of x) (g.E.Engine.step_of x)) c.args.event.now _ c.args.place c.args.self.now c.clean.new.self (g.C.Carrier.pipes c.args.carrier.now) (g.C.Carrier.pipes c.clean.new.carrier) _ _ c.clean.result c.in-Clean.is c.clean.ensures
+    of_event (λ x. answer_of (g.E.Engine.statements_of x) (g.E.Engine.step_of x)) c.args.event.now _ c.args.place c.args.self.now c.clean.new.self (g.C.EventCarrier.pipes c.args.carrier.now) (g.C.EventCarrier.pipes c.clean.new.carrier) _ _ c.clean.result c.in-Clean.is c.clean.ensures

@@ -31,7 +31,7 @@ returns-then-self-clause-pool g c =
 
 pub returns-then-self-clause-reads : goal.returns-then-self-clause-reads
 returns-then-self-clause-reads g c = λ size reads.
-    gone_on size c.args.event.now c.on_cut.result.outcome (new_connection Keep (Leased 0)) c.args.self.now.link (seat_in c.args.self.now c.args.pool.now).client.columns (g.C.Carrier.pipes c.args.carrier.now c.args.self.now.link.number)
+    gone_on size c.args.event.now c.on_cut.result.outcome (new_connection Keep (Leased 0)) c.args.self.now.link (seat_in c.args.self.now c.args.pool.now).client.columns (g.C.EventCarrier.pipes c.args.carrier.now c.args.self.now.link.number)
     (ap (λ (d : EventDone). d.outcome) (c.on_cut.ensures.value (new_connection Keep (Leased 0)))) reads
 
 -- What stands under its number once the client has done what the event does.
@@ -56,15 +56,15 @@ returns-clause-reads g c = λ size reads.
     let s : ClientSession = client_at n (connections mid) in
     let there : IsSome (numbered n (connections c.args.pool.now)) = c.requires.there.is_in c.if-self.false in
     let it : IsIn n (connections c.args.pool.now) = in_of n (connections c.args.pool.now) there in
-    let old : Option Pipe = g.C.Carrier.pipes c.args.carrier.now n in
+    let old : Option Pipe = g.C.EventCarrier.pipes c.args.carrier.now n in
     let columns : (seat_in c.args.self.now c.args.pool.now).client.columns ≡ (client_at n (connections c.args.pool.now)).columns =
     ap (λ o. (seat_by h o).client.columns) it.there ∙ sym (ap (λ (x : ClientSession). x.columns) (client_at_is n (connections c.args.pool.now) it.connection it.there)) in
     let seat : numbered c.act.new.self.number (connections mid) ≡ Some (with s it.connection) =
     ap (λ (k : ℕ). numbered k (connections mid)) c.in_ok-done.ensures.number
     ∙ c.in_ok-done.ensures.client.here ∙ ap (option_map (with s)) it.there in
-    settled_reads size c.args.event.now c.in_ok-done.done.outcome c.act.new.self c.settle.new.self.link s.columns (seat_in c.settle.new.self c.settle.new.pool).client.columns old (g.C.Carrier.pipes c.act.new.carrier n) (g.C.Carrier.pipes c.settle.new.carrier n)
+    settled_reads size c.args.event.now c.in_ok-done.done.outcome c.act.new.self c.settle.new.self.link s.columns (seat_in c.settle.new.self c.settle.new.pool).client.columns old (g.C.EventCarrier.pipes c.act.new.carrier n) (g.C.EventCarrier.pipes c.settle.new.carrier n)
     (c.in_ok-done.ensures.reads size (subst (λ (k : Option ℕ). IsReading size c.args.self.now.link k old) columns reads))
-    (stays_numbered c.act.new.self.number n c.act.new.self c.settle.new.self.link (g.C.Carrier.pipes c.act.new.carrier) (g.C.Carrier.pipes c.settle.new.carrier) c.in_ok-done.ensures.number c.in_ok-settle.ensures.still)
+    (stays_numbered c.act.new.self.number n c.act.new.self c.settle.new.self.link (g.C.EventCarrier.pipes c.act.new.carrier) (g.C.EventCarrier.pipes c.settle.new.carrier) c.in_ok-done.ensures.number c.in_ok-settle.ensures.still)
     (λ live. ap (λ (x : ClientSession). x.columns) (c.in_ok-settle.ensures.client live) ∙ ap (λ o. (seat_by h o).client.columns) seat)
 
 pub returns-clause-refines : goal.returns-clause-refines
@@ -78,11 +78,11 @@ returns-clause-refines g c = λ setup w m engine faithful played gives few next.
     let it : IsIn n (connections c.args.pool.now) = in_of n (connections c.args.pool.now) there in
     let lent : client_at n (connections c.args.pool.now) ≡ it.connection.client = client_at_is n (connections c.args.pool.now) it.connection it.there in
     let p : Place = place_by h it.connection.place in
-    let old : Option Pipe = g.C.Carrier.pipes c.args.carrier.now n in
+    let old : Option Pipe = g.C.EventCarrier.pipes c.args.carrier.now n in
     let seat : seat_in c.args.self.now c.args.pool.now ≡ seated p (client_at n (connections c.args.pool.now)) =
     ap (seat_by h) it.there ∙ sym (ap (seated p) lent) in
-    let before = faithful_before n c.act.new.self.number c.settle.new.self.link (g.C.Carrier.pipes c.act.new.carrier) (g.C.Carrier.pipes c.settle.new.carrier)
-    (g.C.Carrier.began c.act.new.carrier) (g.C.Carrier.began c.settle.new.carrier) c.in_ok-done.ensures.number c.in_ok-settle.ensures.ties faithful in
+    let before = faithful_before n c.act.new.self.number c.settle.new.self.link (g.C.EventCarrier.pipes c.act.new.carrier) (g.C.EventCarrier.pipes c.settle.new.carrier)
+    (g.C.EventCarrier.began c.act.new.carrier) (g.C.EventCarrier.began c.settle.new.carrier) c.in_ok-done.ensures.number c.in_ok-settle.ensures.ties faithful in
     let acted = c.in_ok-done.ensures.refines setup w m engine p before (subst (λ (x : Seat). RepresentsConnection n size engine c.args.self.now.link x old m) seat played) gives few next in
     let found : numbered c.act.new.self.number (connections mid) ≡ Some (with s it.connection) =
     ap (λ (k : ℕ). numbered k (connections mid)) c.in_ok-done.ensures.number
@@ -91,11 +91,11 @@ returns-clause-refines g c = λ setup w m engine faithful played gives few next.
     let is : seat_in now mid ≡ seated p s = ap (seat_by h) found in
     record {
       outcome = acted.outcome;
-      played = settled_played n size engine now c.settle.new.self s (seated (placed_behind c.args.event.now s p) s) c.settle.new.pool (g.C.Carrier.pipes c.act.new.carrier n) (g.C.Carrier.pipes c.settle.new.carrier n) _ refl acted.played
-          (λ cut. let z = c.in_ok-settle.ensures.cut cut in (z.0, ap (λ x. g.C.Carrier.pipes x n) z.1))
+      played = settled_played n size engine now c.settle.new.self s (seated (placed_behind c.args.event.now s p) s) c.settle.new.pool (g.C.EventCarrier.pipes c.act.new.carrier n) (g.C.EventCarrier.pipes c.settle.new.carrier n) _ refl acted.played
+          (λ cut. let z = c.in_ok-settle.ensures.cut cut in (z.0, ap (λ x. g.C.EventCarrier.pipes x n) z.1))
           (λ lives fine.
           let z = c.in_ok-settle.ensures.sound lives (ap (λ (x : Seat). is_broken x.client.stage) is ∙ fine) in
-          (z.0, ap (λ x. g.C.Carrier.pipes x n) z.1, z.2 ∙ ap (behind_event c.args.event.now) is));
+          (z.0, ap (λ x. g.C.EventCarrier.pipes x n) z.1, z.2 ∙ ap (behind_event c.args.event.now) is));
     }
 
 pub returns-clause-number : goal.returns-clause-number
@@ -111,14 +111,14 @@ pub returns-clause-ties : goal.returns-clause-ties
 returns-clause-ties g c =
     let n : ℕ = c.args.self.now.link.number in
     ties_handed n n c.act.new.self.number c.act.new.self c.settle.new.self.link
-    (g.C.Carrier.pipes c.args.carrier.now) (g.C.Carrier.pipes c.act.new.carrier) (g.C.Carrier.pipes c.settle.new.carrier)
-    (g.C.Carrier.began c.args.carrier.now) (g.C.Carrier.began c.act.new.carrier) (g.C.Carrier.began c.settle.new.carrier)
+    (g.C.EventCarrier.pipes c.args.carrier.now) (g.C.EventCarrier.pipes c.act.new.carrier) (g.C.EventCarrier.pipes c.settle.new.carrier)
+    (g.C.EventCarrier.began c.args.carrier.now) (g.C.EventCarrier.began c.act.new.carrier) (g.C.EventCarrier.began c.settle.new.carrier)
     refl c.in_ok-done.ensures.number c.in_ok-done.ensures.ties c.in_ok-settle.ensures.ties
 
 pub returns-clause-failed : goal.returns-clause-failed
 returns-clause-failed g c = λ fine.
     settled_as c.args.self.now.link.number c.act.new.self.number (calls_of c.args.event.now) c.in_ok-done.done c.act.new.self c.settle.new.self.link
-    (g.C.Carrier.pipes c.act.new.carrier) (g.C.Carrier.pipes c.settle.new.carrier)
+    (g.C.EventCarrier.pipes c.act.new.carrier) (g.C.EventCarrier.pipes c.settle.new.carrier)
     c.in_ok-done.ensures.number (λ cut. ap (λ h. h.link.is_cut) (c.in_ok-settle.ensures.cut cut).0 ∙ cut) c.in_ok-settle.ensures.failed (c.in_ok-done.ensures.failed fine)
 
 pub returns-clause-gone : goal.returns-clause-gone

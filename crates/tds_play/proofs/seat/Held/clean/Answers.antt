@@ -39,14 +39,14 @@ returns-then-self-clause-pool g c =
 
 pub returns-then-self-clause-reads : goal.returns-then-self-clause-reads
 returns-then-self-clause-reads g c = λ size n reads.
-    gone_on size (event.Clean n) c.refused.result.outcome (new_connection Keep (Leased 0)) c.args.self.now.link (seat_in c.args.self.now c.args.pool.now).client.columns (g.C.Carrier.pipes c.args.carrier.now c.args.self.now.link.number)
+    gone_on size (event.Clean n) c.refused.result.outcome (new_connection Keep (Leased 0)) c.args.self.now.link (seat_in c.args.self.now c.args.pool.now).client.columns (g.C.EventCarrier.pipes c.args.carrier.now c.args.self.now.link.number)
     (ap (λ (d : EventDone). d.outcome) c.refused.ensures) reads
 
 pub returns-then-self-clause-refines : goal.returns-then-self-clause-refines
 returns-then-self-clause-refines g c = λ setup w n m engine played rests few leases asked.
     let k : ℕ = c.args.self.now.link.number in
-    does_whole k setup.packet_size engine c.refused.result c.args.self.now.link (seat_in c.args.self.now c.args.pool.now) (g.C.Carrier.pipes c.args.carrier.now k) _ m
-    (cut_alike k setup.packet_size engine c.args.self.now.link (seat_in c.args.self.now c.args.pool.now) (g.C.Carrier.pipes c.args.carrier.now k) setup (answer_of (g.E.Engine.statements_of engine) (g.E.Engine.step_of engine)) w (event.Clean n) m c.refused.result played c.if-self.true c.refused.ensures)
+    does_whole k setup.packet_size engine c.refused.result c.args.self.now.link (seat_in c.args.self.now c.args.pool.now) (g.C.EventCarrier.pipes c.args.carrier.now k) _ m
+    (cut_alike k setup.packet_size engine c.args.self.now.link (seat_in c.args.self.now c.args.pool.now) (g.C.EventCarrier.pipes c.args.carrier.now k) setup (answer_of (g.E.Engine.statements_of engine) (g.E.Engine.step_of engine)) w (event.Clean n) m c.refused.result played c.if-self.true c.refused.ensures)
 
 -- ---- It is refused
 
@@ -64,7 +64,7 @@ pub returns-in-Some-clause-reads : goal.returns-in-Some-clause-reads
 returns-in-Some-clause-reads g c = λ size n reads.
     let k : ℕ = c.args.self.now.link.number in
     let h : ℕ = c.args.self.now.holder in
-    let pipe : Option Pipe = g.C.Carrier.pipes c.args.carrier.now k in
+    let pipe : Option Pipe = g.C.EventCarrier.pipes c.args.carrier.now k in
     let still = c.in_ok-refusal.ensures.still (subst (λ o. IsSome o) (sym c.in-Some.is) refl) in
     still_on size (event.Clean n) _ c.args.self.now.link c.args.self.now.link (seat_in c.args.self.now c.args.pool.now).client.columns (seat_in c.args.self.now c.begin_cleaning.new.pool).client.columns pipe pipe
     (λ d. refl) reads (stays c.args.self.now.link pipe) (ap (λ cs. (seat_by h (numbered k cs)).client.columns) still.0)
@@ -75,7 +75,7 @@ returns-in-Some-clause-refines g c = λ setup w n m engine played rests few leas
     let h : ℕ = c.args.self.now.holder in
     let pcs = connections c.args.pool.now in
     let answers : Answers = answer_of (g.E.Engine.statements_of engine) (g.E.Engine.step_of engine) in
-    let pipe : Option Pipe = g.C.Carrier.pipes c.args.carrier.now k in
+    let pipe : Option Pipe = g.C.EventCarrier.pipes c.args.carrier.now k in
     let it : IsIn k pcs = in_of k pcs (c.requires.there.is_in c.if-self.false) in
     let still = c.in_ok-refusal.ensures.still (subst (λ o. IsSome o) (sym c.in-Some.is) refl) in
     let why = subst (λ o. IfSome o (IsNotCleaned (refuses_clean (free_one k pcs)))) c.in-Some.is c.in_ok-refusal.ensures.refused in
@@ -138,8 +138,8 @@ returns-clause-reads g c = λ size k reads.
     } in
     let mid : client_at n (connections c.begin_cleaning.new.pool) ≡ asks_reset it.connection.client clean_request =
     client_at_is n (connections c.begin_cleaning.new.pool) (begun clean_request it.connection) (ap (numbered n) began.1 ∙ begun_here n clean_request pcs it.connection it.there) in
-    let old : Option Pipe = g.C.Carrier.pipes c.args.carrier.now n in
-    let now : Option Pipe = g.C.Carrier.pipes c.clean.new.carrier n in
+    let old : Option Pipe = g.C.EventCarrier.pipes c.args.carrier.now n in
+    let now : Option Pipe = g.C.EventCarrier.pipes c.clean.new.carrier n in
     let columns : (client_at n (connections c.clean.new.pool)).columns ≡ (seat_in c.args.self.now c.args.pool.now).client.columns =
     c.in_ok-done.ensures.columns ∙ ap (λ (x : ClientSession). x.columns) mid ∙ sym (ap (λ o. (seat_by h o).client.columns) it.there) in
     settled_reads size (event.Clean k) c.in_ok-done.done.outcome c.clean.new.self c.clean.new.self (client_at n (connections c.clean.new.pool)).columns (seat_in (record c.args.self.now { link = c.clean.new.self }) c.leave_if_cut.new.pool).client.columns old now now
@@ -169,8 +169,8 @@ returns-clause-refines g c = λ setup w k m engine played rests few leases asked
       rest = c.leave_if_cut.ensures.rest;
     } in
     let free : WasFree it.connection = was_free n pcs it.connection it.there began.0 in
-    let old : Option Pipe = g.C.Carrier.pipes c.args.carrier.now n in
-    let now : Option Pipe = g.C.Carrier.pipes c.clean.new.carrier n in
+    let old : Option Pipe = g.C.EventCarrier.pipes c.args.carrier.now n in
+    let now : Option Pipe = g.C.EventCarrier.pipes c.clean.new.carrier n in
     let mid : client_at n (connections c.begin_cleaning.new.pool) ≡ asks_reset it.connection.client clean_request =
     client_at_is n (connections c.begin_cleaning.new.pool) (begun clean_request it.connection) (ap (numbered n) began.1 ∙ begun_here n clean_request pcs it.connection it.there) in
     let there : RepresentsConnection n size engine c.args.self.now.link (seat_by h (Some it.connection)) old m =

@@ -8,7 +8,7 @@ pub returns-then-lost-clause-refines : goal.returns-then-lost-clause-refines
 returns-then-lost-clause-refines g c = λ size engine seat then m rests played same.
     let left = c.leave.ensures.refines size engine seat then m played in
     elim c.then-lost.branch [
-      | then-lost-via-then-lost w ↦ subst (λ (b : Bool). RepresentsConnection c.args.self.now.link.number size engine c.leave.new.self.link then (g.C.Carrier.pipes c.leave.new.carrier c.args.self.now.link.number) (cut_where b m)) (sym w.if-lost.true) left
+      | then-lost-via-then-lost w ↦ subst (λ (b : Bool). RepresentsConnection c.args.self.now.link.number size engine c.leave.new.self.link then (g.C.EventCarrier.pipes c.leave.new.carrier c.args.self.now.link.number) (cut_where b m)) (sym w.if-lost.true) left
       | then-lost-via-else-lost+then-matches w ↦ elim w.match-matches.branch [
         | in-Closed-matches w' ↦ elim c.match-answer.branch [
           | in-Free z ↦ (let e = w'.in-Closed-matches.is in let f = z.answer-is in absurd (cc))

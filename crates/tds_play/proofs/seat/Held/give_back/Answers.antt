@@ -107,11 +107,11 @@ returns-in-Ok-give_back-clause-reads g c = λ size k reads.
     let client : c.in-Some.client.now ≡ it.connection.client = lent_client n pcs it.connection c.in-Some.client.now it.there c.in-Some.ensures.value in
     let before : s.columns ≡ (seat_in c.args.self.now c.args.pool.now).client.columns =
     c.in-Ok-give_up.ensures.columns ∙ ap (λ (x : ClientSession). x.columns) client ∙ sym (ap (λ o. (seat_by h o).client.columns) it.there) in
-    let old : Option Pipe = g.C.Carrier.pipes c.args.carrier.now n in
-    let mid : Option Pipe = g.C.Carrier.pipes c.give_up.new.carrier n in
-    settled_reads size (event.GiveBack k) c.come_back.result.outcome c.give_up.new.self c.come_back.new.self.link (seat_in c.args.self.now c.args.pool.now).client.columns (seat_in c.come_back.new.self c.come_back.new.pool).client.columns old mid (g.C.Carrier.pipes c.come_back.new.carrier n)
+    let old : Option Pipe = g.C.EventCarrier.pipes c.args.carrier.now n in
+    let mid : Option Pipe = g.C.EventCarrier.pipes c.give_up.new.carrier n in
+    settled_reads size (event.GiveBack k) c.come_back.result.outcome c.give_up.new.self c.come_back.new.self.link (seat_in c.args.self.now c.args.pool.now).client.columns (seat_in c.come_back.new.self c.come_back.new.pool).client.columns old mid (g.C.EventCarrier.pipes c.come_back.new.carrier n)
     (still_on size (event.GiveBack k) c.come_back.result.outcome c.args.self.now.link c.give_up.new.self (seat_in c.args.self.now c.args.pool.now).client.columns (seat_in c.args.self.now c.args.pool.now).client.columns old mid (λ d. refl) reads c.in-Ok-give_up.ensures.still refl)
-    (stays_numbered c.give_up.new.self.number n c.give_up.new.self c.come_back.new.self.link (g.C.Carrier.pipes c.give_up.new.carrier) (g.C.Carrier.pipes c.come_back.new.carrier) c.in-Ok-give_up.ensures.number c.come_back.ensures.still)
+    (stays_numbered c.give_up.new.self.number n c.give_up.new.self c.come_back.new.self.link (g.C.EventCarrier.pipes c.give_up.new.carrier) (g.C.EventCarrier.pipes c.come_back.new.carrier) c.in-Ok-give_up.ensures.number c.come_back.ensures.still)
     (λ live.
     let rests : rests_in (given_back c.args.lease then).answer ≡ true = sym (ap rests_in answer) ∙ lives_rests (rests_in c.in-Ok-give_back.answer) c.come_back.new.self.link.is_cut c.come_back.ensures.closed live in
     let here = given_here c.args.lease n then (record lent.0 { client = s }) c.requires.named known rests in
@@ -134,7 +134,7 @@ returns-in-Ok-give_back-clause-refines g c = λ setup w k m engine played few.
     let live : c.args.self.now.link.is_cut ≡ false = c.if-self.false in
     let there : IsSome (numbered n pcs) = c.requires.there.is_in live in
     let it : IsIn n pcs = in_of n pcs there in
-    let old : Option Pipe = g.C.Carrier.pipes c.args.carrier.now n in
+    let old : Option Pipe = g.C.EventCarrier.pipes c.args.carrier.now n in
     let writes : connections (with_client_numbered c.args.pool.now n s) ≡ then = c.at.ensures.writes s (lent_there n (connections c.args.pool.now) c.in-Some.client.now c.in-Some.ensures.value) in
     let shown : connections q ≡ (given_back c.args.lease then).connections = c.in-Ok-give_back.ensures.shown ∙ ap (λ (cs : List Connection). (given_back c.args.lease cs).connections) writes in
     let answer : c.in-Ok-give_back.answer ≡ (given_back c.args.lease then).answer = c.in-Ok-give_back.ensures.answer ∙ ap (λ (cs : List Connection). (given_back c.args.lease cs).answer) writes in
@@ -172,9 +172,9 @@ returns-in-Ok-give_back-clause-refines g c = λ setup w k m engine played few.
           ∙ b.outcome
           ∙ sym (ap outcome_of acted);
       played =
-          subst (λ a. RepresentsConnection n size engine c.come_back.new.self.link now (g.C.Carrier.pipes c.come_back.new.carrier n) (cut_where c.come_back.result.lost (after a m))) (sym acted)
-          (subst (λ (x : Bool). RepresentsConnection n size engine c.come_back.new.self.link now (g.C.Carrier.pipes c.come_back.new.carrier n) (cut_where x (after (comes_back (cancels m)) m))) (sym (ap (λ (d : EventDone). d.lost) c.come_back.ensures.done))
-          (back_ended n c.give_up.new.self.number size engine c.give_up.new.self c.come_back.new.self.link back now (g.C.Carrier.pipes c.give_up.new.carrier) (g.C.Carrier.pipes c.come_back.new.carrier) c.in-Ok-give_up.lost (after (comes_back (cancels m)) m) c.in-Ok-give_up.ensures.number
+          subst (λ a. RepresentsConnection n size engine c.come_back.new.self.link now (g.C.EventCarrier.pipes c.come_back.new.carrier n) (cut_where c.come_back.result.lost (after a m))) (sym acted)
+          (subst (λ (x : Bool). RepresentsConnection n size engine c.come_back.new.self.link now (g.C.EventCarrier.pipes c.come_back.new.carrier n) (cut_where x (after (comes_back (cancels m)) m))) (sym (ap (λ (d : EventDone). d.lost) c.come_back.ensures.done))
+          (back_ended n c.give_up.new.self.number size engine c.give_up.new.self c.come_back.new.self.link back now (g.C.EventCarrier.pipes c.give_up.new.carrier) (g.C.EventCarrier.pipes c.come_back.new.carrier) c.in-Ok-give_up.lost (after (comes_back (cancels m)) m) c.in-Ok-give_up.ensures.number
           (λ i. c.come_back.ensures.refines size engine back now (after (comes_back (cancels m)) m) rests i same) b.played));
     }
 
@@ -187,17 +187,17 @@ pub returns-in-Ok-give_back-clause-ties : goal.returns-in-Ok-give_back-clause-ti
 returns-in-Ok-give_back-clause-ties g c =
     let n : ℕ = c.args.self.now.link.number in
     ties_handed n n c.give_up.new.self.number c.give_up.new.self c.come_back.new.self.link
-    (g.C.Carrier.pipes c.args.carrier.now) (g.C.Carrier.pipes c.give_up.new.carrier) (g.C.Carrier.pipes c.come_back.new.carrier)
-    (g.C.Carrier.began c.args.carrier.now) (g.C.Carrier.began c.give_up.new.carrier) (g.C.Carrier.began c.come_back.new.carrier)
+    (g.C.EventCarrier.pipes c.args.carrier.now) (g.C.EventCarrier.pipes c.give_up.new.carrier) (g.C.EventCarrier.pipes c.come_back.new.carrier)
+    (g.C.EventCarrier.began c.args.carrier.now) (g.C.EventCarrier.began c.give_up.new.carrier) (g.C.EventCarrier.began c.come_back.new.carrier)
     refl c.in-Ok-give_up.ensures.number c.in-Ok-give_up.ensures.ties c.come_back.ensures.ties
 
 pub returns-in-Ok-give_back-clause-failed : goal.returns-in-Ok-give_back-clause-failed
 returns-in-Ok-give_back-clause-failed g c = λ k fine.
     let n : ℕ = c.args.self.now.link.number in
     ended_as (Send ToServer ∷ []) c.come_back.result _ c.in-Ok-give_up.lost c.come_back.new.self.link
-    (g.C.Carrier.pipes c.give_up.new.carrier n) (g.C.Carrier.pipes c.come_back.new.carrier n)
+    (g.C.EventCarrier.pipes c.give_up.new.carrier n) (g.C.EventCarrier.pipes c.come_back.new.carrier n)
     c.come_back.ensures.done c.come_back.ensures.cut
-    (subst (λ (j : ℕ). FailsNoMore (g.C.Carrier.pipes c.give_up.new.carrier j) (g.C.Carrier.pipes c.come_back.new.carrier j)) c.in-Ok-give_up.ensures.number c.come_back.ensures.failed)
+    (subst (λ (j : ℕ). FailsNoMore (g.C.EventCarrier.pipes c.give_up.new.carrier j) (g.C.EventCarrier.pipes c.come_back.new.carrier j)) c.in-Ok-give_up.ensures.number c.come_back.ensures.failed)
     (c.in-Ok-give_up.ensures.failed fine)
 
 pub returns-in-Ok-give_back-clause-gone : goal.returns-in-Ok-give_back-clause-gone

@@ -1,12 +1,14 @@
+use Rattle.std.proofs.Common.{refl}
 use Rattle.tds_trace.proofs.Recorded.{all_kept, done_by, turn_kept}
+use Rattle.tds_trace.specs.Told.{begun_in}
 use Rattle.tds_trace.specs.declared.call.Made.TheVariants as made
-use Rattle.tds_trace.proofs.recording.RecordingCarrierCarrier.open.Goals as goal
+use Rattle.tds_trace.proofs.recording.RecordingCarrierEventCarrier.open.Goals as goal
 
 pub invariant_of-self : goal.invariant_of-self
 invariant_of-self g c =
     let event = c.args.self.now.event in
     let calls = c.args.self.now.calls.items in
-    let before = g.C.Carrier.began c.args.self.now.inner in
+    let before = begun_in g.C.Carrier.pipes c.args.self.now.began.items in
     let pipes = g.C.Carrier.pipes c.args.self.now.inner in
     let next = g.C.Carrier.pipes c.open-answer.new.self in
     record {
@@ -14,13 +16,13 @@ invariant_of-self g c =
           all_kept event calls _ c.args.conn made.Open _ before pipes next
           (c.keep-self.ensures.told short) (c.keep-self.ensures.calls short)
           (done_by c.open-answer.result made.Open pipes next c.args.conn (c.keep-self.ensures.known short) c.open-answer.ensures.ok c.open-answer.ensures.lost)
-          c.requires.first
+          (c.requires.first refl)
           (c.args.self.now.recorded (c.keep-self.ensures.whole short));
       turns = λ short.
           turn_kept event calls _ c.args.conn made.Open _ before _ pipes next
           (c.keep-self.ensures.told short) (c.keep-self.ensures.calls short)
           (done_by c.open-answer.result made.Open pipes next c.args.conn (c.keep-self.ensures.known short) c.open-answer.ensures.ok c.open-answer.ensures.lost)
-          c.requires.first
-          (c.open-answer.ensures.began (c.keep-self.ensures.known short))
+          (c.requires.first refl)
+          refl
           (c.args.self.now.turns (c.keep-self.ensures.whole short));
     }
