@@ -69,6 +69,7 @@ def in_pieces(name):
 cancelled("held")
 cancelled("crossed")
 times_out("begin_crossed")
-request_times_out("begin_request_crossed")
+if "begin_request_crossed" in PORTS:
+    request_times_out("begin_request_crossed")
 is_cut("cut")
 in_pieces("split")
