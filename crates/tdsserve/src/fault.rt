@@ -57,7 +57,7 @@ pub enum Bar {
     Taken,
     #[error("another server listens at this socket; end that one first, or take another path")]
     Served,
-    #[error("a file stands there that is no socket, and stays as it is; take a path where nothing stands")]
+    #[error("something stands there that is no socket, and stays as it is; take a path where nothing stands")]
     File,
     /// What the system says.
     #[error("{0}")]
