@@ -249,7 +249,7 @@ impl Front {
             MessageKind::Procedure => self.plan_call(script)?,
             MessageKind::BulkLoad => Some(self.plan_rows(server.session().descriptor())?),
             MessageKind::Transaction | MessageKind::Attention => {
-                return self.take_transaction(server, reset, out);
+                return self.take_transaction(server, script, reset, out);
             }
         };
         match planned {

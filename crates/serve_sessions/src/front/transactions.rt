@@ -2,8 +2,9 @@
 ghost use Rattle.std.specs.Prelude.{◌+◌, ◌≤◌, vec_len};
 
 use crate::front::packets::transaction;
-use crate::front::{Front, Planned, Took, came_of};
+use crate::front::{Front, Planned, Took, came_of, copy};
 use serve_requests::{Plan, transaction_name};
+use serve_scripts::{Reply, Script};
 use serve_values::text::units_in;
 use std::alloc::AllocError;
 use tds_packet::Reset;
@@ -12,20 +13,19 @@ use tds_server::Server;
 use tds_session::ScriptEngine;
 
 impl Front {
-    /// Hands a transaction manager request on. One that counts alone is run as a batch that changes nothing.
+    /// Hands a transaction manager request on, or what is run in its place.
     pub(crate) fn take_transaction(
         &mut self,
         server: &mut Server<ScriptEngine>,
+        script: &Script,
         reset: Option<Reset>,
         out: &mut Vec<u8>,
     ) -> Result<Took, AllocError>
         ensures { vec_len out.new ≤ vec_len out.old + 35 }
     {
-        let data = self.reader.data();
-        self.text = units_in(self.alloc, transaction_name(data).as_bytes())?;
-        if let Some((level, descriptor)) = self.counted() {
-            let plan = self.habits.plan_level(level)?;
-            let planned = Planned::new(plan, descriptor, Took::Transaction);
+        let name = transaction_name(self.reader.data());
+        self.text = units_in(self.alloc, name.as_bytes())?;
+        if let Some(planned) = self.plan_transaction(script)? {
             return self.hand_on(server, reset, planned, out);
         }
         self.habits.end_savepoints();
@@ -37,15 +37,21 @@ impl Front {
         Ok(took)
     }
 
-    /// How many transactions are begun within one another behind the request that has come, and the descriptor
-    /// in its headers, where it counts alone; else none.
-    fn counted(&self) -> Option<(u32, u64)> {
+    /// The plan of a request that the script answers, or that counts alone; none of one that the session does.
+    fn plan_transaction(&mut self, script: &Script) -> Result<Option<Planned>, AllocError> {
         let read = decode(self.alloc, RequestKind::Transaction, self.reader.data());
         let Ok((descriptor, request)) = read else {
-            return None;
+            return Ok(None);
         };
-        let level = level_behind(&request, self.habits.level())?;
-        Some((level, descriptor))
+        let plan = match script.reply_to(self.text.as_slice()) {
+            Some(Reply::Tokens(tokens)) => Plan::whole(self.alloc, copy(self.alloc, tokens)?)?,
+            Some(Reply::Batch(text)) => self.habits.plan_batch(text)?,
+            None => match level_behind(&request, self.habits.level()) {
+                Some(level) => self.habits.plan_level(level)?,
+                None => return Ok(None),
+            },
+        };
+        Ok(Some(Planned::new(plan, descriptor, Took::Transaction)))
     }
 }
 
