@@ -44,6 +44,16 @@ def times_out(name):
     ask(connection.cursor(), "commit")
 
 
+def request_times_out(name):
+    connection = connect(name, timeout=1)
+    try:
+        connection.autocommit = False
+    except Exception as error:  # whatever it shows
+        print("  autocommit = False ->", type(error).__name__, error)
+    ask(connection.cursor(), "commit")
+    ask(connection.cursor(), "commit")
+
+
 def is_cut(name):
     connection = connect(name)
     ask(connection.cursor(), "rows 1 1")
@@ -59,5 +69,7 @@ def in_pieces(name):
 cancelled("held")
 cancelled("crossed")
 times_out("begin_crossed")
+if "begin_request_crossed" in PORTS:
+    request_times_out("begin_request_crossed")
 is_cut("cut")
 in_pieces("split")

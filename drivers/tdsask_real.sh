@@ -6,9 +6,9 @@ rows='rows 1 1;rows 5 1;rows 9 1'
 for place in "$@"; do
     address=127.0.0.1:${place#*=}
     case ${place%%=*} in
-        # for a begin that is no batch
-        begin_request_crossed) continue ;;
-        begin_crossed) words=(--cancel 0 begin commit commit) ;;
+        # what is asked first has a connection behind a relay too, which acknowledges what it hasn't sent on
+        begin_crossed) words=('get a' --cancel 0 begin commit commit) ;;
+        begin_request_crossed) words=('get a' --cancel 0 --begin commit commit) ;;
         crossed | held) words=(--cancel 3 "$rows" 'get a') ;;
         cut) words=('rows 7 2' 'rows 1 90' 'get a') ;;
         *) words=("$rows" --begin 'set a 5' --reset 'get a') ;;

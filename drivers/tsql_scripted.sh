@@ -7,6 +7,8 @@ for word in "$@"; do
     case ${word%%=*} in
         held | crossed) texts=('rows 1 1;rows 5 1;rows 9 1' 'rows 7 1') ;;
         begin_crossed) texts=(begin commit commit) ;;
+        # it asks for no begin but by a text
+        begin_request_crossed) continue ;;
         cut) texts=('rows 1 1' 'rows 1 9' 'rows 3 1') ;;
         *) texts=('rows 1 3;say x;rows 5 1') ;;
     esac

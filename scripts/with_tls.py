@@ -171,8 +171,8 @@ def main(words):
         print("error: with --tls ADDRESS is the first word", file=sys.stderr)
         return 2
     if not is_own(address) and "--let-others-in" not in others:
-        print(f"error: ADDRESS {address} isn't this machine's own; --let-others-in listens there, and lets everybody in "
-              "who can reach it", file=sys.stderr)
+        print(f"error: ADDRESS {address} isn't this machine's own, as 127.0.0.1 is; --let-others-in listens there, if this "
+              "machine has the address, and lets everybody in who can reach it", file=sys.stderr)
         return 2
     others = [it for it in others if it != "--let-others-in"]
     return Pair(path, program, certificate, key, address, others).run()

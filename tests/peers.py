@@ -142,6 +142,19 @@ def batch(text, descriptor=0, status=1):
     return packet(1, headers + text.encode("utf-16le"), status)
 
 
+# What stands behind the headers of a transaction manager request (MS-TDS 2.2.6.9), by tdsask's word for it: its type,
+# then a begin's isolation level and name, or another's name, flags, and what begins the next transaction.
+REQUESTS = {"--begin": b"\5\0\0\0", "--commit": b"\7\0\0\0", "--rollback": b"\x08\0\0\0",
+            "--commit-begin": b"\7\0\0\1\0\0", "--rollback-begin": b"\x08\0\0\1\0\0"}
+
+
+def request(text, descriptor=0):
+    """The transaction manager request of this word, or a batch with this text."""
+    if text not in REQUESTS:
+        return batch(text, descriptor)
+    return packet(0x0E, struct.pack("<IIHQI", 22, 18, 2, descriptor, 1) + REQUESTS[text])
+
+
 ATTENTION = packet(6, b"")
 
 
@@ -250,7 +263,7 @@ class Client:
 
     def ask(self, text):
         self.start()
-        self.link.sendall(batch(text, self.descriptor))
+        self.link.sendall(request(text, self.descriptor))
 
     def cancel(self):
         """Its caller is told nothing from here on."""

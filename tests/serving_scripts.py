@@ -149,7 +149,7 @@ def logs(program, cases):
                           stderr=subprocess.PIPE, text=True, encoding="ascii") as child:
         port = int(child.stderr.readline().rpartition(":")[2])
         client = Client(port)
-        for text in ("begin", 'say "\u20ac"\\', "no " + "x" * 100):
+        for text in ("begin", 'say "\u20ac"\\', "no " + "x" * 100, "--rollback"):
             client.ask(text)
             client.finish()
         client.link.close()
@@ -159,14 +159,15 @@ def logs(program, cases):
     for it in told:
         it.pop("milliseconds", None)
         it.pop("from", None)
-    asked = lambda number, text, transaction: [
-        {"connection": 1, "event": "request", "request": number, "kind": "batch", "text": text,
+    asked = lambda number, text, transaction, kind="batch": [
+        {"connection": 1, "event": "request", "request": number, "kind": kind, "text": text,
          "transaction": transaction}]
     answered = lambda number, failed: [
         {"connection": 1, "event": "answered", "request": number, "failed": failed}]
     wanted = [{"connection": 1, "event": "opened"}, {"connection": 1, "event": "logged in", "packets": 4096},
               *asked(1, "begin", 0), *answered(1, False), *asked(2, 'say "\u20ac"\\', 1), *answered(2, True),
               *asked(3, "no " + "x" * 57, 1), *answered(3, True),
+              *asked(4, "TM_ROLLBACK_XACT", 1, "transaction request"), *answered(4, False),
               {"connection": 1, "event": "closed", "why": "its end"}]
     cases.same("a log of objects", told[:len(wanted) - 1] + told[-1:], wanted)
 

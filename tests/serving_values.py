@@ -7,7 +7,7 @@ import subprocess
 import time
 
 from cases import DATA, rows
-from peers import Server, batch, connect, exactly, login, message, packet
+from peers import Server, batch, connect, exactly, login, message, packet, request
 
 SERVE = f"{DATA}/serve"
 COLLATION = bytes.fromhex("0904d00034")
@@ -81,13 +81,15 @@ class Asker:
         for at in range(0, len(sent), 65536):
             self.link.sendall(sent[at:at + 65536])
         data = message(self.link)
+        at = 0
         # ENVCHANGE 8 to 10 (MS-TDS 2.2.7.9): the transaction begins or ends
-        if data[:1] == b"\xe3" and data[3] in (8, 9, 10):
-            self.transaction = int.from_bytes(data[5:5 + data[4]], "little")
+        while data[at:at + 1] == b"\xe3" and data[at + 3] in (8, 9, 10):
+            self.transaction = int.from_bytes(data[at + 5:at + 5 + data[at + 4]], "little")
+            at += 3 + int.from_bytes(data[at + 1:at + 3], "little")
         return list(told(data))
 
     def ask(self, text):
-        return self.told(batch(text, self.transaction))
+        return self.told(request(text, self.transaction))
 
     def call(self, text, *parameters):
         """sp_executesql of a text with parameters, each a name, its type and its value."""

@@ -3,6 +3,7 @@
 mod fault;
 mod fields;
 mod reading;
+mod similar;
 mod tokens;
 
 pub use fault::ScriptFault;

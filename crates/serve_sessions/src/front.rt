@@ -5,9 +5,10 @@ ghost use Rattle.std.specs.Prelude.{◌+◌, ◌≤◌, length, vec_len, IfOk};
 mod packets;
 mod planning;
 mod recorded;
+mod transactions;
 
 use crate::answering::Answering;
-use packets::{attention, batch, message_of, transaction};
+use packets::{attention, batch, message_of};
 use serve_requests::{Habits, MessageKind, MessageReader, Plan, Stop, Whole};
 use serve_scripts::{Breach, Orders, Script};
 use serve_values::Moment;
@@ -119,7 +120,8 @@ impl Front {
         self.habits.set_now(now);
     }
 
-    /// The text of the newest request; of a call without one the procedure's name.
+    /// The text of the newest request; of a call without one the procedure's name, and of a transaction
+    /// manager request its own.
     pub fn text(&self) -> &[u16] {
         self.text.as_slice()
     }
@@ -247,31 +249,13 @@ impl Front {
             MessageKind::Procedure => self.plan_call(script)?,
             MessageKind::BulkLoad => Some(self.plan_rows(server.session().descriptor())?),
             MessageKind::Transaction | MessageKind::Attention => {
-                return self.take_transaction(server, reset, out);
+                return self.take_transaction(server, script, reset, out);
             }
         };
         match planned {
             Some(planned) => self.hand_on(server, reset, planned, out),
             None => Ok(Took::Fault),
         }
-    }
-
-    /// Hands a transaction manager request on.
-    fn take_transaction(
-        &mut self,
-        server: &mut Server<ScriptEngine>,
-        reset: Option<Reset>,
-        out: &mut Vec<u8>,
-    ) -> Result<Took, AllocError>
-        ensures { vec_len out.new ≤ vec_len out.old + 35 }
-    {
-        self.text.clear();
-        let packet = transaction(reset, self.reader.data());
-        let took = came_of(Took::Transaction, server.take(packet, out))?;
-        if took == Took::Transaction {
-            self.answer(Plan::same(self.alloc))?;
-        }
-        Ok(took)
     }
 
     /// Hands on what is run for a request.

@@ -1,13 +1,14 @@
 //! The server as the words ask for it, before it serves.
 
 use crate::address::find_place;
-use crate::fault::ServeFault;
+use crate::fault::{Bar, ServeFault};
 use crate::words::Asked;
 use serve_drivers::{House, Log, Manner, Place};
 use serve_recordings::read_recording;
 use serve_scripts::{Script, read_script};
 use std::fs;
-use std::io::{ErrorKind, Read, Stderr};
+use std::io::{self, ErrorKind, Read, Stderr};
+use std::os::unix::fs::FileTypeExt;
 
 /// The most bytes of a script file and of a recording, as of a schedule's.
 const FILE_LIMIT: usize = 33_554_432;
@@ -25,12 +26,28 @@ pub fn begin(rt: &HostRuntime, asked: &Asked) -> Result<(House<Stderr>, Place), 
     let log = Log::new(rt.stderr(), asked.style);
     let mut house = match House::new(rt, rt.alloc(), &place, manner, script, log) {
         Ok(house) => house,
-        Err(error) => return Err(ServeFault::Listen(place, error)),
+        Err(error) => {
+            let bar = bar_of(rt, &place, error);
+            return Err(ServeFault::Listen(place, bar));
+        }
     };
     if asked.ends_with_input {
         house.end_with_input().map_err(ServeFault::Input)?;
     }
     Ok((house, place))
+}
+
+/// Why it can't listen at this place, where the system refuses with this error.
+fn bar_of(rt: &HostRuntime, place: &Place, error: io::Error) -> Bar {
+    match (place, error.kind()) {
+        (Place::Tcp(_), ErrorKind::AddrNotAvailable) => Bar::NoAddress,
+        (Place::Tcp(_), ErrorKind::AddrInUse) => Bar::Taken,
+        (Place::Unix(path), ErrorKind::AddrInUse) => match fs::symlink_metadata(rt, path.as_str()) {
+            Ok(found) if !found.file_type().is_socket() => Bar::File,
+            _ => Bar::Served,
+        },
+        _ => Bar::System(error),
+    }
 }
 
 /// What the words say of answers.

@@ -19,8 +19,9 @@ pub enum ServeFault {
     /// The word that stands for the address, and what is wrong with it.
     #[error("error: ADDRESS {0:?} {1}")]
     Address(String, String),
-    #[error("error: ADDRESS {0:?} isn't this machine's own; --let-others-in listens there, and lets \
-         everybody in who can reach it, whatever name and password they give")]
+    #[error("error: ADDRESS {0:?} isn't this machine's own, as 127.0.0.1 is; --let-others-in listens there, \
+         if this machine has the address, and lets everybody in who can reach it, whatever name and password \
+         they give")]
     NotOwn(String),
     #[error("error: --pace takes 0 to 60000 milliseconds")]
     Pace,
@@ -37,14 +38,30 @@ pub enum ServeFault {
     File(String),
     #[error("error: --script and --replay: one of the two")]
     TwoFiles,
-    /// The system doesn't let it listen there.
+    /// It can't listen there, and why.
     #[error("error: {0}: {1}")]
-    Listen(Place, io::Error),
+    Listen(Place, Bar),
     /// The system refuses to go on.
     #[error("error: {0}")]
     Refused(io::Error),
     #[error("error: memory")]
     Memory,
+}
+
+/// Why it can't listen at a place.
+#[derive(Debug, Drop, thiserror::Error)]
+pub enum Bar {
+    #[error("this machine has no such address; 127.0.0.1 is always one, and `ip address` shows the others")]
+    NoAddress,
+    #[error("another program listens there; port 0 is one that the system finds free")]
+    Taken,
+    #[error("another server listens at this socket; end that one first, or take another path")]
+    Served,
+    #[error("something stands there that is no socket, and stays as it is; take a path where nothing stands")]
+    File,
+    /// What the system says.
+    #[error("{0}")]
+    System(io::Error),
 }
 
 impl ServeFault {

@@ -1,8 +1,12 @@
 //! Transactions within one another, as a SQL Server counts them, and savepoints.
 
-use crate::plan::{Deed, Plan};
+ghost use Rattle.std.specs.Prelude.{◌≤◌, vec_len, IfOk};
+ghost use Rattle.serve_requests.specs.declared.plan.TheConstants.{LONGEST};
+
+use crate::plan::{Deed, End, Plan};
 use crate::session::{Habits, MOST};
 use crate::substituting::substituted;
+use serve_answers::{Done, put_done};
 use serve_values::text::{is_same, is_word, own, units_in};
 use serve_values::{Moment, Parameter};
 use std::alloc::AllocError;
@@ -32,6 +36,28 @@ impl Habits {
         if let Some(level) = level {
             self.level = if transaction == 0 { 0 } else { level.max(1) };
         }
+    }
+
+    /// How many transactions are begun within one another.
+    pub fn level(&self) -> u32 {
+        self.level
+    }
+
+    /// The plan of a request that counts transactions alone, of which there are so many behind it.
+    pub fn plan_level(&self, level: u32) -> Result<Plan, AllocError>
+        ensures fits { IfOk result (λ plan. vec_len plan.text ≤ LONGEST) }
+    {
+        let mut plan = Plan::new(self.alloc, End::Batch);
+        let mut tokens = Vec::new(self.alloc);
+        put_done(&mut tokens, Done::Statement, 1, 0)?;
+        plan.add_silent(self.alloc, Deed::Tokens(tokens))?;
+        plan.levels.push(level)?;
+        Ok(plan)
+    }
+
+    /// No savepoint is left: the transaction that had them ends, or begins anew.
+    pub fn end_savepoints(&mut self) {
+        self.saved.clear();
     }
 
     /// Adds `begin tran`: in a transaction it counts alone.

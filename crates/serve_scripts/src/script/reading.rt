@@ -2,11 +2,12 @@
 //! its word.
 
 use crate::script::fields::{Field, event_of, fields_of};
+use crate::script::similar::similar;
 use crate::script::tokens::fault_of;
 use crate::script::{Event, Script, ScriptFault};
 use json_places::{
-    Key, Outline, Page, Takes, parts_of, put_doubled, put_json_fault, put_place, put_standing,
-    put_unknown_keys, put_value, put_value_fault,
+    Key, Outline, Page, Place, Takes, parts_of, put_doubled, put_json_fault, put_place,
+    put_standing, put_unknown_keys, put_value, put_value_fault,
 };
 use serde_json::Value;
 use serve_recordings::bytes_of;
@@ -29,7 +30,7 @@ const KEYS: [Key; 2] = [
 
 /// The words of events.
 const WORDS: &str = "hold, cross, cut, split, answer, answer_hex, broken_hex, deaf, late, close, \
-     refuse, fail_reset and break";
+     refuse, fail_reset, break";
 
 /// The most events of a script.
 const MOST: usize = 1000;
@@ -60,7 +61,7 @@ fn read_page(
     }
 }
 
-/// The events of a file that spells this value; or what is wrong with it is appended.
+/// The events of a file that spells this value; or all that is wrong with it is appended.
 fn read_value(
     alloc: Global,
     text: &mut String,
@@ -69,32 +70,38 @@ fn read_value(
 ) -> Result<Option<Vec<Event>>, AllocError> {
     let outline = Outline::read(alloc, page.bytes)?;
     put_outside_faults(alloc, text, page, &outline, value)?;
-    if !text.is_empty() {
-        return Ok(None);
-    }
-    read_events(alloc, text, page, &outline, value)
+    let events = read_events(alloc, text, page, &outline, value)?;
+    Ok(if text.is_empty() { Some(events) } else { None })
 }
 
-/// The events; or what is wrong with the first wrong one is appended.
+/// The events that are right; what is wrong with the others is appended. Of too many none is looked at.
 fn read_events(
     alloc: Global,
     text: &mut String,
     page: Page<'_>,
     outline: &Outline,
     value: &Value,
-) -> Result<Option<Vec<Event>>, AllocError> {
+) -> Result<Vec<Event>, AllocError> {
     let mut events = Vec::new(alloc);
-    let Some(Value::Array(values)) = value.get("events") else {
-        return Ok(Some(events));
+    let values = match value.get("events") {
+        Some(Value::Array(values)) if values.len() <= MOST => values.as_slice(),
+        _ => &[],
     };
+    // The file is gone over once, however many are wrong.
+    let mut place = Place::start();
     for (index, value) in values.iter().enumerate() {
         let at = outline.event_at(index);
-        match read_event(alloc, text, page, at, index.saturating_add(1), value)? {
-            Some(event) => events.push(event)?,
-            None => return Ok(None),
+        place.go_to(page.bytes, at);
+        let event = Numbered {
+            number: index.saturating_add(1),
+            place,
+            at,
+        };
+        if let Some(event) = read_event(alloc, text, page, event, value)? {
+            events.push(event)?;
         }
     }
-    Ok(Some(events))
+    Ok(events)
 }
 
 /// The fault of these lines, without the last one's end, which is its reader's.
@@ -141,32 +148,37 @@ fn put_key_fault(
     }
 }
 
+/// An event's number, from 1, its place, and how many bytes stand before it.
+#[derive(Clone, Copy)]
+struct Numbered {
+    number: usize,
+    place: Place,
+    at: usize,
+}
+
 /// An event in a file.
 #[derive(Clone, Copy)]
 struct Spot<'a> {
     alloc: Global,
     page: Page<'a>,
-    /// The event's place, from 1, where it begins, and where its parts do.
-    place: usize,
-    at: usize,
+    event: Numbered,
+    /// Where its parts begin.
     parts: &'a [usize],
 }
 
-/// The event at a place, from 1, that begins behind so many bytes; or what is wrong with it is appended.
+/// The event that stands there; or what is wrong with it is appended.
 fn read_event(
     alloc: Global,
     text: &mut String,
     page: Page<'_>,
-    at: usize,
-    place: usize,
+    event: Numbered,
     value: &Value,
 ) -> Result<Option<Event>, AllocError> {
-    let parts = parts_of(alloc, page.bytes, at)?;
+    let parts = parts_of(alloc, page.bytes, event.at)?;
     let spot = Spot {
         alloc,
         page,
-        place,
-        at,
+        event,
         parts: parts.as_slice(),
     };
     spot.read(text, value)
@@ -180,7 +192,7 @@ impl Spot<'_> {
                 return self.read_fields(text, first, fields);
             }
         }
-        self.put_front(text, self.at)?;
+        self.put_front(text, self.event.at)?;
         text.push_str("an event is an array that begins with its word; ")?;
         put_standing(self.alloc, text, value)?;
         Ok(None)
@@ -198,7 +210,7 @@ impl Spot<'_> {
             self.put_no_word(text, first)?;
             return Ok(None);
         };
-        if self.put_field_fault(text, word, wanted, fields)? {
+        if self.put_field_faults(text, word, wanted, fields)? {
             return Ok(None);
         }
         event_of(self.alloc, word, fields)
@@ -206,24 +218,29 @@ impl Spot<'_> {
 
     /// Where a part of it begins.
     fn part(&self, index: usize) -> usize {
-        self.parts.get(index).copied().unwrap_or(self.at)
+        self.parts.get(index).copied().unwrap_or(self.event.at)
     }
 
     fn put_front(&self, text: &mut String, at: usize) -> Result<(), AllocError> {
-        put_place(text, self.page, at)?;
-        write!(text, "event {}: ", self.place)
+        let mut place = self.event.place;
+        place.go_to(self.page.bytes, at);
+        place.put(text, self.page.name)?;
+        write!(text, "event {}: ", self.event.number)
     }
 
-    /// Appends that no event has this word.
-    fn put_no_word(&self, text: &mut String, word: &Value) -> Result<(), AllocError> {
+    /// Appends that no event has this word, and which it may be.
+    fn put_no_word(&self, text: &mut String, first: &Value) -> Result<(), AllocError> {
         self.put_front(text, self.part(0))?;
-        text.push_str("there is no event ")?;
-        put_value(self.alloc, text, word)?;
-        writeln!(text, "; the words are {WORDS}")
+        text.push_str("no event begins with ")?;
+        put_value(self.alloc, text, first)?;
+        match similar(self.alloc, first.as_str().unwrap_or(""), WORDS)? {
+            Some(word) => writeln!(text, "; did you mean \"{word}\""),
+            None => writeln!(text, "; the words are {WORDS}"),
+        }
     }
 
-    /// Appends which field behind its word is wrong, and answers whether one is.
-    fn put_field_fault(
+    /// Appends which fields behind its word are wrong, and answers whether one is.
+    fn put_field_faults(
         &self,
         text: &mut String,
         word: &str,
@@ -231,16 +248,18 @@ impl Spot<'_> {
         fields: &[Value],
     ) -> Result<bool, AllocError> {
         if fields.len() != wanted.len() {
-            self.put_count(text, word, wanted.len(), fields.len())?;
+            self.put_count(text, word, wanted, fields.len())?;
             return Ok(true);
         }
+        let mut is_wrong = false;
         for (index, (value, wanted)) in fields.iter().zip(wanted.iter()).enumerate() {
             if !wanted.takes(value) {
                 self.put_other(text, word, index.saturating_add(1), wanted.wanted(), value)?;
-                return Ok(true);
+                is_wrong = true;
             }
         }
-        self.put_tokens_fault(text, word, wanted.last(), fields.last())
+        let has_no_tokens = self.put_tokens_fault(text, word, wanted.last(), fields.last())?;
+        Ok(is_wrong || has_no_tokens)
     }
 
     /// Appends what is wrong with tokens in hexadecimal digits that stand last, and answers whether
@@ -255,7 +274,10 @@ impl Spot<'_> {
         let (Some(Field::Tokens | Field::AnyTokens), Some(value)) = (wanted, value) else {
             return Ok(false);
         };
-        let tokens = match bytes_of(self.alloc, value.as_str().unwrap_or(""))? {
+        let Some(digits) = value.as_str() else {
+            return Ok(false);
+        };
+        let tokens = match bytes_of(self.alloc, digits)? {
             Ok(tokens) => tokens,
             Err(place) => {
                 self.put_front(text, self.part(2))?;
@@ -280,19 +302,22 @@ impl Spot<'_> {
         Ok(true)
     }
 
-    /// Appends how many values stand behind its word, and how many stand there.
+    /// Appends which values stand behind its word, and how many stand there.
     fn put_count(
         &self,
         text: &mut String,
         word: &str,
-        count: usize,
+        wanted: &[Field],
         stand: usize,
     ) -> Result<(), AllocError> {
+        let count = wanted.len();
         self.put_front(text, self.part(0))?;
-        writeln!(
-            text,
-            "behind \"{word}\" stand {count} values; here stand {stand}"
-        )
+        write!(text, "behind \"{word}\" stand {count} values")?;
+        for (index, wanted) in wanted.iter().enumerate() {
+            text.push_str(if index == 0 { ": " } else { ", and " })?;
+            text.push_str(wanted.wanted())?;
+        }
+        writeln!(text, "; here stand {stand}")
     }
 
     /// Appends what the field at this place, from 1, is, and what stands there.
