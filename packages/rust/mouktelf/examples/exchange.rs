@@ -86,7 +86,7 @@ fn connection() -> Result<(), Box<dyn Error>> {
     client.lost();
     assert_eq!(client.state(), State::Broken(Fault::Peer(1)));
     let refused = client.start(Request::Commit(None)).expect_err("it is broken");
-    assert_eq!(refused.to_string(), "the client is broken");
+    assert_eq!(refused.to_string(), "fault 33: the client is broken");
     assert_eq!(client.start(Request::Begin(9)), Err(Fault::OutOfRange));
     Ok(())
 }

@@ -167,7 +167,8 @@ fn many() {
             });
         }
     });
-    assert_eq!((order.lock().unwrap().len(), &*order.lock().unwrap().clone()), (3200, &bytes.lock().unwrap()[..]));
+    let (order, bytes) = (order.lock().unwrap(), bytes.lock().unwrap());
+    assert_eq!((order.len(), &order[..]), (3200, &bytes[..]));
 }
 
 struct Fails;
