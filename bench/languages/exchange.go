@@ -21,7 +21,7 @@ func must(err error) {
 	}
 }
 
-func exchange(client *mouktelf.Client, came []byte, out []byte) (told int) {
+func exchange(client *mouktelf.StrictClient, came []byte, out []byte) (told int) {
 	must(client.StartBatch("rows 5 2"))
 	_, err := client.Send(&out)
 	must(err)
@@ -45,7 +45,7 @@ func exchange(client *mouktelf.Client, came []byte, out []byte) (told int) {
 func main() {
 	came, err := hex.DecodeString(answer)
 	must(err)
-	client, err := mouktelf.New(512)
+	client, err := mouktelf.NewStrict(512)
 	must(err)
 	best, told := 1e9, 0
 	for run := 0; run < 7; run++ {

@@ -1,6 +1,6 @@
 // One request and its answer by known bytes, so many times: microseconds each, the fastest of 7 runs.
 
-import { Answer, Client, packetsOf } from "mouktelf";
+import { Answer, StrictClient, packetsOf } from "mouktelf";
 
 const ANSWER = Uint8Array.from(Buffer.from(
   "0400002C0000010081010000000000000038016E00D105000000D106000000FD110000000200000000000000" +
@@ -19,7 +19,7 @@ function exchange(client) {
   return told;
 }
 
-const client = new Client(512);
+const client = new StrictClient(512);
 let best = Infinity, told = 0;
 for (let run = 0; run < 7; run++) {
   const begun = process.hrtime.bigint();

@@ -2,7 +2,7 @@
 
 import time
 
-from mouktelf import Answer, Client, packets_of
+from mouktelf import Answer, StrictClient, packets_of
 
 ANSWER = bytes.fromhex("0400002C0000010081010000000000000038016E00D105000000D106000000FD110000000200000000000000"
                        "0401001500000200FD000000000000000000000000")
@@ -20,7 +20,7 @@ def exchange(client):
     return told
 
 
-client, best = Client(512), 1e9
+client, best = StrictClient(512), 1e9
 for _ in range(7):
     begun = time.perf_counter()
     for _ in range(TIMES):

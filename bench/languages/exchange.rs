@@ -1,6 +1,6 @@
 //! One request and its answer by known bytes, so many times: microseconds each, the fastest of 7 runs.
 
-use mouktelf::{Client, Fault, Packets, Request};
+use mouktelf::{Fault, Packets, Request, StrictClient};
 use std::time::Instant;
 
 const ANSWER: [u8; 65] = [
@@ -9,7 +9,7 @@ const ANSWER: [u8; 65] = [
 ];
 const TIMES: u32 = 100_000;
 
-fn exchange(client: &mut Client, out: &mut Vec<u8>) -> Result<usize, Fault> {
+fn exchange(client: &mut StrictClient, out: &mut Vec<u8>) -> Result<usize, Fault> {
     out.clear();
     client.start(Request::Batch("rows 5 2"))?;
     client.send(out)?;
@@ -22,7 +22,7 @@ fn exchange(client: &mut Client, out: &mut Vec<u8>) -> Result<usize, Fault> {
 }
 
 fn main() -> Result<(), Fault> {
-    let (mut client, mut out, mut best, mut told) = (Client::new(512)?, Vec::new(), f64::MAX, 0);
+    let (mut client, mut out, mut best, mut told) = (StrictClient::new(512)?, Vec::new(), f64::MAX, 0);
     for _ in 0..7 {
         let begun = Instant::now();
         for _ in 0..TIMES {

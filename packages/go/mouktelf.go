@@ -1,5 +1,5 @@
 // Package mouktelf is the client's end of a connection that speaks the Tabular Data Stream, over the
-// C file mouktelf.c. A Client has no lock: use it from one goroutine at a time.
+// C file mouktelf.c. A Client has no lock: an Outgoing has.
 package mouktelf
 
 /*
@@ -9,41 +9,9 @@ package mouktelf
 import "C"
 
 import (
-	"fmt"
 	"unicode/utf16"
 	"unsafe"
 )
-
-// Fault is why a call was not done: a number of mouktelf.h, from 20 on.
-type Fault uint8
-
-func (fault Fault) Error() string {
-	switch {
-	case fault == C.TDS_NO_MEMORY:
-		return "memory is wanted"
-	case fault == C.TDS_OUT_OF_RANGE:
-		return "a text, a packet size or a level is out of range"
-	case fault == C.TDS_NOT_IDLE:
-		return "a request is underway"
-	case fault == C.TDS_NOT_SENDING:
-		return "no request is going out"
-	case fault == C.TDS_IS_BROKEN:
-		return "the client is broken"
-	case fault == NoSuch:
-		return "there is no such lease, ticket or connection"
-	case fault == AllInUse:
-		return "all connections are in use"
-	case fault == NotNow:
-		return "the connection isn't so that this can be done now"
-	case fault > 60:
-		return fmt.Sprintf("the peer broke the protocol: fault %d", fault-60)
-	case fault > 50:
-		return fmt.Sprintf("a packet's data have token fault %d", fault-50)
-	case fault > 40:
-		return fmt.Sprintf("a packet's header has fault %d", fault-40)
-	}
-	return fmt.Sprintf("the library answered %d", uint8(fault))
-}
 
 func done(answer C.uint8_t) error {
 	if answer == C.TDS_OK {
@@ -74,12 +42,13 @@ func at(bytes []byte) *C.uint8_t {
 	return (*C.uint8_t)(unsafe.Pointer(&bytes[0]))
 }
 
-// Client is the client's end of one connection, with the message of the request that goes out.
+// Client is the client's end of one connection to any server, with the message of the request that goes out.
 type Client struct {
 	raw     C.struct_tds_client
 	message []byte
 	kept    []byte // of a message that is put in parts, the room for what waits
 	waiting C.size_t
+	walk    *Walk // by which it hears
 }
 
 // New makes a client for packets of 512 to 32,767 bytes.
@@ -168,20 +137,6 @@ func (client *Client) wrote(answer C.uint8_t, out *[]byte, bytes []byte) (Answer
 	return Answer(answer), nil
 }
 
-// Take takes one packet of an answer, and gives the tokens that are told.
-func (client *Client) Take(packet []byte) (Answer, *Tokens, error) {
-	reading, columns := client.raw.stage == C.TDS_READING, client.raw.columns
-	answer := C.tds_client_take(&client.raw, at(packet), C.size_t(len(packet)))
-	if answer >= 20 {
-		return 0, nil, Fault(answer)
-	}
-	tokens := &Tokens{}
-	if reading {
-		tokens.data, tokens.cursor.columns = packet[8:], columns
-	}
-	return Answer(answer), tokens, nil
-}
-
 // Lost says that the connection is lost.
 func (client *Client) Lost() { C.tds_client_lost(&client.raw) }
 
@@ -202,64 +157,4 @@ func Packets(bytes []byte, size uint16) (packets [][]byte, rest []byte, err erro
 			return packets, bytes, Fault(answer)
 		}
 	}
-}
-
-// Token is a token; which fields it has, mouktelf.h says. Values are those of a row.
-type Token struct {
-	Kind, State, Severity uint8
-	Status                uint16
-	Number                int32
-	Value                 uint64
-	Text                  string
-	Values                []int32
-}
-
-// Tokens gives the tokens of a packet's data but the ENVCHANGEs, one behind the other. It reads up
-// to 32 in one call: those from next to count were read and not given yet.
-type Tokens struct {
-	data        []byte
-	cursor      C.struct_tds_cursor
-	read        [32]C.struct_tds_token
-	next, count C.size_t
-	answer      C.uint8_t
-}
-
-// Next gives the next token, or none at the end. Behind a fault there is none.
-func (tokens *Tokens) Next() (*Token, error) {
-	for {
-		for tokens.next < tokens.count {
-			raw := &tokens.read[tokens.next]
-			tokens.next++
-			if raw.kind != C.TDS_ENVCHANGE {
-				return token(raw, tokens.data[raw.start:]), nil
-			}
-		}
-		switch answer := tokens.answer; answer {
-		case C.TDS_OK:
-			tokens.next = 0
-			tokens.answer = C.tds_tokens_next(at(tokens.data), C.size_t(len(tokens.data)), &tokens.cursor, &tokens.read[0], C.size_t(len(tokens.read)), &tokens.count)
-		case C.TDS_END:
-			return nil, nil
-		default:
-			tokens.answer = C.TDS_END
-			return nil, Fault(answer)
-		}
-	}
-}
-
-func token(raw *C.struct_tds_token, bytes []byte) *Token {
-	it := &Token{Kind: uint8(raw.kind), State: uint8(raw.state), Severity: uint8(raw.severity), Status: uint16(raw.status), Number: int32(raw.number), Value: uint64(raw.value)}
-	switch raw.kind {
-	case C.TDS_INFO, C.TDS_ERROR:
-		units := make([]uint16, int(bytes[9])|int(bytes[10])<<8)
-		for i := range units {
-			units[i] = uint16(bytes[11+2*i]) | uint16(bytes[12+2*i])<<8
-		}
-		it.Text = string(utf16.Decode(units))
-	case C.TDS_ROW:
-		for i := 1; i < 1+4*int(raw.value); i += 4 {
-			it.Values = append(it.Values, int32(bytes[i])|int32(bytes[i+1])<<8|int32(bytes[i+2])<<16|int32(bytes[i+3])<<24)
-		}
-	}
-	return it
 }

@@ -53,6 +53,7 @@ type Service struct {
 	value    C.struct_tds_service
 	seats    []C.struct_tds_seat // one more than there may be: an address for none
 	messages map[uint64]*Client  // by a connection's number: the message that goes out, or waits
+	walks    map[uint64]*Walk    // by a connection's number
 	isLent   bool                // a client is: no call of the table is done
 }
 
@@ -64,7 +65,7 @@ func NewService(most int, size uint16) (*Service, error) {
 	if _, err := New(size); err != nil {
 		return nil, err
 	}
-	service := &Service{seats: make([]C.struct_tds_seat, most+1), messages: map[uint64]*Client{}}
+	service := &Service{seats: make([]C.struct_tds_seat, most+1), messages: map[uint64]*Client{}, walks: map[uint64]*Walk{}}
 	service.value.size = C.uint16_t(size)
 	return service, nil
 }
@@ -95,6 +96,9 @@ func (service *Service) ends(call func(number *C.uint64_t) C.uint8_t) (Ended, er
 		return Ended{}, Fault(rest)
 	}
 	delete(service.messages, uint64(number))
+	if Rest(rest) == Closed {
+		delete(service.walks, uint64(number))
+	}
 	return Ended{Number: uint64(number), Rest: Rest(rest)}, nil
 }
 
@@ -106,30 +110,31 @@ func (service *Service) Lease() (Lent, error) {
 	})
 }
 
-// waits is what waits of a request of a lease's connection.
-func (service *Service) waits(lease uint64) (*Client, error) {
+// waits is what waits of a request of a lease's connection, and the size of its packets.
+func (service *Service) waits(lease uint64) (*Client, int, error) {
 	var index C.size_t
 	if service.isLent {
-		return nil, NotNow
+		return nil, 0, NotNow
 	}
 	if err := done(C.tds_service_find(&service.value, &service.seats[0], service.most(), C.uint64_t(lease), &index)); err != nil {
-		return nil, err
+		return nil, 0, err
 	}
-	number := uint64(service.seats[index].number)
+	seat := &service.seats[index]
+	number := uint64(seat.number)
 	if service.messages[number] == nil {
 		service.messages[number] = &Client{}
 	}
-	return service.messages[number], nil
+	return service.messages[number], int(seat.client.size), nil
 }
 
 // Ask begins a request of a lease: Batch, Procedure and so on. Its body comes by Put, and Finish ends it.
 func (service *Service) Ask(lease uint64, kind uint8) (Requested, error) {
-	waits, err := service.waits(lease)
+	waits, size, err := service.waits(lease)
 	if err != nil {
 		return Requested{}, err
 	}
 	var asked C.struct_tds_asked
-	kept, count := make([]byte, service.value.size-8), C.size_t(0)
+	kept, count := make([]byte, size-8), C.size_t(0)
 	answer := C.tds_service_ask(&service.value, &service.seats[0], service.most(), C.uint64_t(lease), C.uint8_t(kind), at(kept),
 		C.size_t(len(kept)), &count, &asked)
 	if err := done(answer); err != nil {
@@ -141,11 +146,11 @@ func (service *Service) Ask(lease uint64, kind uint8) (Requested, error) {
 
 // Put puts bytes of the request's body, and appends the packets that are full.
 func (service *Service) Put(lease uint64, bytes []byte, out *[]byte) error {
-	waits, err := service.waits(lease)
+	waits, size, err := service.waits(lease)
 	if err != nil {
 		return err
 	}
-	packet := make([]byte, service.value.size)
+	packet := make([]byte, size)
 	for {
 		var taken, count C.size_t
 		answer := C.tds_service_put(&service.value, &service.seats[0], service.most(), C.uint64_t(lease), at(waits.kept),
@@ -160,11 +165,11 @@ func (service *Service) Put(lease uint64, bytes []byte, out *[]byte) error {
 
 // Finish ends the request, and appends its last packet.
 func (service *Service) Finish(lease uint64, out *[]byte) error {
-	waits, err := service.waits(lease)
+	waits, size, err := service.waits(lease)
 	if err != nil {
 		return err
 	}
-	packet, count := make([]byte, service.value.size), C.size_t(0)
+	packet, count := make([]byte, size), C.size_t(0)
 	answer := C.tds_service_finish(&service.value, &service.seats[0], service.most(), C.uint64_t(lease), at(waits.kept), waits.waiting,
 		at(packet), C.size_t(len(packet)), &count)
 	if err := done(answer); err != nil {
@@ -205,7 +210,68 @@ func (service *Service) Cancel(lease uint64, out *[]byte) (Answer, error) {
 	return Answer(answer), nil
 }
 
-// Came hears a token that a walk has found on the connection of this number: whose it is, and whether he is told.
+// Hear hears one packet on the connection of this number, whoever holds it, as Client.Hear: the lease that holds it and its request,
+// which are told what is appended. A connection that drained is free behind Acknowledged.
+func (service *Service) Hear(number uint64, packet []byte, told *[]Walked) (Answer, Whose, error) {
+	seat, err := service.seat(number)
+	if err == nil && len(packet) < 8 {
+		err = Fault(C.TDS_WANTS_BYTES)
+	}
+	if err != nil {
+		return 0, Whose{}, err
+	}
+	whose, drains, before := Whose{Request: uint64(seat.asked)}, seat.place == C.TDS_PLACE_DRAINING, len(*told)
+	if seat.place == C.TDS_PLACE_LENT || seat.place == C.TDS_PLACE_CLEANING {
+		whose.Lease = uint64(seat.holder)
+	}
+	answer, err := hears(&seat.client, service.walk(number), packet[8:], packet[1]&1 == 1, told)
+	if whose.Told = len(*told) > before; drains && err == nil {
+		_, err = service.Drained(number)
+	}
+	return answer, whose, err
+}
+
+func (service *Service) seat(number uint64) (*C.struct_tds_seat, error) {
+	var index C.size_t
+	if service.isLent {
+		return nil, NotNow
+	}
+	if err := done(C.tds_service_at(&service.value, &service.seats[0], service.most(), C.uint64_t(number), &index)); err != nil {
+		return nil, err
+	}
+	return &service.seats[index], nil
+}
+
+func (service *Service) walk(number uint64) *Walk {
+	if service.walks[number] == nil {
+		service.walks[number] = NewWalk(C.TDS_WIRE_MOST_COLUMNS, false, false)
+	}
+	return service.walks[number]
+}
+
+// LoggedIn says that the connection of this number, which is new, is logged in, and the login agreed on packets of this size; walk is
+// the one that it hears by, where the login acknowledged what NewWalk has to know, or nil. NotNow: something was asked on it.
+func (service *Service) LoggedIn(number uint64, size uint16, walk *Walk) error {
+	seat, err := service.seat(number)
+	if err != nil {
+		return err
+	}
+	if seat.asked != 0 || seat.client.stage != C.TDS_IDLE || seat.client.mark != C.TDS_RESET_NONE {
+		return NotNow
+	}
+	client, err := New(size)
+	if err != nil {
+		return err
+	}
+	seat.client = client.raw
+	if walk != nil {
+		service.walks[number] = walk
+	}
+	return nil
+}
+
+// Came hears a token that a walk of your own has found on the connection of this number, in place of Hear: whose it is, and whether
+// he is told.
 func (service *Service) Came(number uint64, token *Walked) (Whose, error) {
 	var whose C.struct_tds_whose
 	if service.isLent {
@@ -222,7 +288,7 @@ func (service *Service) Came(number uint64, token *Walked) (Whose, error) {
 	return Whose{uint64(whose.lease), uint64(whose.request), answer == C.TDS_TELL}, nil
 }
 
-// MessageEnded hears that a message has ended there, behind the packet whose status has bit 1; isCut where the walk isn't between
+// MessageEnded hears behind Came that a message has ended there, with the packet whose status has bit 1; isCut where the walk isn't between
 // two tokens then. Finished: the request has its whole answer. Acknowledged: its cancel is acknowledged, and a connection that
 // drained is free. More: the acknowledgement is still to come.
 func (service *Service) MessageEnded(number uint64, isCut bool) (Answer, Whose, error) {
@@ -264,10 +330,11 @@ func (service *Service) uses(answer C.uint8_t, index C.size_t, use func(client *
 	if waits, is := service.messages[uint64(seat.number)]; is {
 		*client = *waits
 	}
-	client.raw, service.isLent = seat.client, true
+	client.raw, client.walk, service.isLent = seat.client, service.walk(uint64(seat.number)), true
 	defer func() {
 		left := *client
 		seat.client, service.messages[uint64(seat.number)], service.isLent = client.raw, &left, false
+		service.walks[uint64(seat.number)] = client.walk
 		client.Lost()
 	}()
 	return use(client)
@@ -317,6 +384,7 @@ func (service *Service) Lost(number uint64) error {
 	err := done(C.tds_service_lost(&service.value, &service.seats[0], service.most(), C.uint64_t(number)))
 	if err == nil {
 		delete(service.messages, number)
+		delete(service.walks, number)
 	}
 	return err
 }

@@ -3,6 +3,7 @@ package mouktelf
 import (
 	"encoding/hex"
 	"reflect"
+	"strings"
 	"testing"
 )
 
@@ -72,10 +73,8 @@ func asks(service *Service, lease uint64, start func(client *Client) error) (sta
 func get(client *Client) error { return client.StartBatch("get a") }
 
 func takes(service *Service, number uint64, packet string) (answer Answer, err error) {
-	err = service.At(number, func(client *Client) (err error) {
-		answer, _, err = client.Take(bytesOf(packet))
-		return err
-	})
+	var told []Walked
+	answer, _, err = service.Hear(number, bytesOf(packet), &told)
 	return answer, err
 }
 
@@ -160,8 +159,8 @@ func TestDrains(t *testing.T) {
 	refuses(t, err, NotNow)
 	answer, err = takes(service, 1, acknowledgedBytes)
 	is(t, answer, err, Acknowledged)
-	rest, err = service.Drained(1)
-	is(t, rest, err, Free)
+	_, err = service.Drained(1)
+	refuses(t, err, NotNow)
 	lent := lease(t, service)
 	is(t, lent, nil, Lent{lent.Lease, 1, true})
 	status, err = asks(service, lent.Lease, get)
@@ -224,8 +223,11 @@ func TestCleaned(t *testing.T) {
 		is(t, status, err, byte(9))
 		_, err = service.Cleaned(lent.Lease)
 		refuses(t, err, NotNow)
-		_, err = takes(service, 1, it.answer)
-		is(t, 0, err, 0)
+		if _, err = takes(service, 1, it.answer); it.rest == Free {
+			is(t, 0, err, 0)
+		} else {
+			refuses(t, err, Fault(76))
+		}
 		ended, err := service.Cleaned(lent.Lease)
 		is(t, ended, err, Ended{Number: 1, Rest: it.rest})
 		is(t, service.Len(), nil, it.count)
@@ -334,6 +336,51 @@ func TestAsks(t *testing.T) {
 	// A message that ends inside a token breaks the connection.
 	_, _, err = service.MessageEnded(1, true)
 	refuses(t, err, Fault(75))
+}
+
+// By number: whose a packet's tokens are, and that nobody is told of what drains.
+func TestHears(t *testing.T) {
+	service, told, out := table(t, 1), []Walked(nil), []byte(nil)
+	first := lease(t, service).Lease
+	_, err := service.AskBatch(first, "get a", &out)
+	is(t, len(out), err, 40)
+	answer, whose, err := service.Hear(1, bytesOf(endedBytes), &told)
+	is(t, whose, err, Whose{first, 1, true})
+	if answer != Finished || len(told) != 1 || told[0].Tells != TellsDone {
+		t.Error(answer, told)
+	}
+	_, err = service.AskBatch(first, "get a", &out)
+	is(t, len(out), err, 80)
+	ended, err := service.GiveBack(first)
+	is(t, ended.Rest, err, Draining)
+	answer, whose, err = service.Hear(1, bytesOf(acknowledgedBytes), &told)
+	is(t, whose, err, Whose{0, 2, false})
+	is(t, answer, nil, Acknowledged)
+	is(t, lease(t, service).Had, nil, true)
+	_, _, err = service.Hear(2, bytesOf(endedBytes), &told)
+	refuses(t, err, NoSuch)
+	_, _, err = service.Hear(1, nil, &told)
+	refuses(t, err, Fault(24))
+}
+
+// The login agrees on other packets than were asked for: the connection's client is one of that size, and no other's is.
+func TestLoggedIn(t *testing.T) {
+	service, err := NewService(2, 4096)
+	is(t, 0, err, 0)
+	first, second, text := lease(t, service), lease(t, service), strings.Repeat("a", 1000)
+	is(t, 0, service.LoggedIn(1, 512, nil), 0)
+	var small, large []byte
+	_, err = service.AskBatch(first.Lease, text, &small)
+	is(t, len(small), err, 2022+8*5)
+	_, err = service.AskBatch(second.Lease, text, &large)
+	is(t, len(large), err, 2022+8)
+	refuses(t, service.LoggedIn(1, 4096, nil), NotNow)
+	refuses(t, service.LoggedIn(3, 4096, nil), NoSuch)
+	for _, size := range []uint16{0, 511, 32768, 65535} {
+		service := table(t, 1)
+		lease(t, service)
+		refuses(t, service.LoggedIn(1, size, nil), Fault(23))
+	}
 }
 
 func TestRefused(t *testing.T) {

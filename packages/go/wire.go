@@ -5,7 +5,7 @@ package mouktelf
 */
 import "C"
 
-import "fmt"
+import "sync"
 
 // Tells is what is told of a token: which fields of it count.
 type Tells uint8
@@ -42,17 +42,6 @@ type Walked struct {
 	Recoverable     bool
 }
 
-// Refused is a byte that no answer has: its fault as the header numbers it (71 to 74), and its place in the message.
-type Refused struct {
-	Number uint8
-	At     uint64
-	Byte   uint8
-}
-
-func (refused Refused) Error() string {
-	return fmt.Sprintf("fault %d at %d, the byte %02x", refused.Number, refused.At, refused.Byte)
-}
-
 // Walk finds where each token of an answer ends, for every type of column of TDS 7.2 to 7.4 (MS-TDS 2.2.7). The bytes come in
 // pieces of any size: the data of packets of type 04.
 type Walk struct {
@@ -81,13 +70,21 @@ func (walk *Walk) Next(bytes []byte) (int, *Walked, error) {
 	var token C.struct_tds_wire_token
 	switch answer := C.tds_wire_next(&walk.value, &walk.memory, at(bytes), C.size_t(len(bytes)), &count, &token); answer {
 	case C.TDS_WIRE_ENDED:
-		return int(count), walked(&token), nil
+		it := walked(&token)
+		return int(count), &it, nil
 	case C.TDS_WIRE_MORE:
 		return int(count), nil, nil
 	default:
-		refused := walk.value.refused
-		return 0, nil, Refused{uint8(answer), uint64(refused.at), uint8(refused.byte)}
+		return 0, nil, walk.fault(answer)
 	}
+}
+
+// fault is that of this number: of a byte that this walk has refused, with its place.
+func (walk *Walk) fault(number C.uint8_t) error {
+	if number < C.TDS_WIRE_UNKNOWN_TOKEN || number > C.TDS_WIRE_MANY_COLUMNS {
+		return Fault(number)
+	}
+	return Refused{Fault(number), uint64(walk.value.refused.at), uint8(walk.value.refused.byte)}
 }
 
 // Between says whether a message may end here.
@@ -98,8 +95,8 @@ func (walk *Walk) Restart() { C.tds_wire_restart(&walk.value, &walk.memory) }
 
 func place(it C.struct_tds_wire_place) Place { return Place{uint64(it.start), uint64(it.length)} }
 
-func walked(it *C.struct_tds_wire_token) *Walked {
-	return &Walked{
+func walked(it *C.struct_tds_wire_token) Walked {
+	return Walked{
 		Start: uint64(it.start), Length: uint64(it.length), Value: uint64(it.value), OldValue: uint64(it.old_value),
 		Text: place(it.text), Others: place(it.others), Number: int32(it.number), Size: uint32(it.size),
 		Status: uint16(it.status), Command: uint16(it.command), Kind: uint8(it.kind), Tells: Tells(it.told),
@@ -107,8 +104,65 @@ func walked(it *C.struct_tds_wire_token) *Walked {
 	}
 }
 
-// Heard hears a token that a walk has found, of any server, in place of Take. It says whether the caller that asked is told
-// of it.
+const atOnce = 256
+
+// room is for the tokens of one call, and for what it says of them.
+type room struct {
+	tokens       [atOnce]C.struct_tds_wire_token
+	taken, count C.size_t
+}
+
+var rooms = sync.Pool{New: func() any { return &room{} }}
+
+func hears(raw *C.struct_tds_client, walk *Walk, data []byte, ends bool, told *[]Walked) (Answer, error) {
+	found := rooms.Get().(*room)
+	defer rooms.Put(found)
+	for {
+		answer := C.tds_client_hear(raw, &walk.value, &walk.memory, at(data), C.size_t(len(data)), oneWhere(ends), &found.taken,
+			&found.tokens[0], atOnce, &found.count)
+		for i := range found.tokens[:found.count] {
+			*told = append(*told, walked(&found.tokens[i]))
+		}
+		data = data[found.taken:]
+		switch {
+		case answer == C.TDS_OK:
+			return More, nil
+		case answer >= 20:
+			return 0, walk.fault(answer)
+		case answer != C.TDS_TELL:
+			return Answer(answer), nil
+		}
+	}
+}
+
+// Walk is the walk that it hears by.
+func (client *Client) Walk() *Walk {
+	if client.walk == nil {
+		client.walk = NewWalk(C.TDS_WIRE_MOST_COLUMNS, false, false)
+	}
+	return client.walk
+}
+
+// HearBy lets it hear by this walk, where the login acknowledged what NewWalk has to know.
+func (client *Client) HearBy(walk *Walk) { client.walk = walk }
+
+// Hear hears one packet of any server's answer, from its first byte to its last, and appends the tokens that end in it and that the
+// caller who asked is told of, also before a fault: More, Finished or Acknowledged. Where they stand is counted from their message's
+// first byte: keep its packets' data until it ends, if you read rows or texts. Behind a cancel nothing is told.
+func (client *Client) Hear(packet []byte, told *[]Walked) (Answer, error) {
+	if len(packet) < 8 {
+		return 0, Fault(C.TDS_WANTS_BYTES)
+	}
+	return client.HearData(packet[8:], packet[1]&1 == 1, told)
+}
+
+// HearData is the same of a packet's data, behind its header, or of a piece of them; ends is bit 1 of the packet's status, with its
+// last piece.
+func (client *Client) HearData(data []byte, ends bool, told *[]Walked) (Answer, error) {
+	return hears(&client.raw, client.Walk(), data, ends, told)
+}
+
+// Heard hears a token that a walk of your own has found, in place of Hear. It says whether the caller that asked is told of it.
 func (client *Client) Heard(token *Walked) (bool, error) {
 	switch token.Tells {
 	case TellsDone:

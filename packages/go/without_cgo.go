@@ -15,7 +15,6 @@ package mouktelf
 import (
 	"bytes"
 	"encoding/binary"
-	"fmt"
 	"math/bits"
 	"sync"
 	"unicode/utf16"
@@ -63,11 +62,11 @@ func (m *machine) room(size int) uint64 {
 	if wanted > cap(m.b) {
 		m.b = append(make([]byte, 0, 2*wanted), m.b...)
 	}
-	before := len(m.b)
-	m.b = m.b[:wanted]
-	for k := before; k < wanted; k++ {
-		m.b[k] = 0
+	lent := m.b[len(m.b):wanted]
+	for k := range lent {
+		lent[k] = 0
 	}
+	m.b = m.b[:wanted]
 	return uint64(at)
 }
 
@@ -22457,7 +22456,7 @@ func c_tds_packets_read(bytes *uint8, length uint64, size uint16, direction uint
 	of_packets := m.room(int(room) * 16)
 	of_count := m.room(8); m.write64(of_count, *count)
 	answer := of_core_tds_packets_read(m, of_bytes, length, size, direction, of_packets, room, of_count)
-	for k := range unsafe.Slice(packets, room) { unsafe.Slice(packets, room)[k].from(m, of_packets+16*uint64(k)) }
+	for k := uint64(0); k < room && k < m.read64(of_count); k++ { unsafe.Slice(packets, room)[k].from(m, of_packets+16*uint64(k)) }
 	*count = m.read64(of_count)
 	machines.Put(m)
 	return answer
@@ -22718,7 +22717,7 @@ func c_tds_tokens_next(data *uint8, length uint64, cursor *c_struct_tds_cursor, 
 	of_count := m.room(8); m.write64(of_count, *count)
 	answer := of_core_tds_tokens_next(m, of_data, length, of_cursor, of_tokens, room, of_count)
 	cursor.from(m, of_cursor)
-	for k := range unsafe.Slice(tokens, room) { unsafe.Slice(tokens, room)[k].from(m, of_tokens+32*uint64(k)) }
+	for k := uint64(0); k < room && k < m.read64(of_count); k++ { unsafe.Slice(tokens, room)[k].from(m, of_tokens+32*uint64(k)) }
 	*count = m.read64(of_count)
 	machines.Put(m)
 	return answer
@@ -22803,7 +22802,7 @@ func c_tds_client_hear(client *c_struct_tds_client, walk *c_struct_tds_wire, mem
 	walk.from(m, of_walk)
 	memory.from(m, of_memory)
 	*taken = m.read64(of_taken)
-	for k := range unsafe.Slice(tokens, room) { unsafe.Slice(tokens, room)[k].from(m, of_tokens+88*uint64(k)) }
+	for k := uint64(0); k < room && k < m.read64(of_count); k++ { unsafe.Slice(tokens, room)[k].from(m, of_tokens+88*uint64(k)) }
 	*count = m.read64(of_count)
 	machines.Put(m)
 	return answer
@@ -23116,37 +23115,6 @@ func c_tds_service_cleaned(service *c_struct_tds_service, seats *c_struct_tds_se
 }
 
 
-// Fault is why a call was not done: a number of mouktelf.h, from 20 on.
-type Fault uint8
-
-func (fault Fault) Error() string {
-	switch {
-	case fault == c_TDS_NO_MEMORY:
-		return "memory is wanted"
-	case fault == c_TDS_OUT_OF_RANGE:
-		return "a text, a packet size or a level is out of range"
-	case fault == c_TDS_NOT_IDLE:
-		return "a request is underway"
-	case fault == c_TDS_NOT_SENDING:
-		return "no request is going out"
-	case fault == c_TDS_IS_BROKEN:
-		return "the client is broken"
-	case fault == NoSuch:
-		return "there is no such lease, ticket or connection"
-	case fault == AllInUse:
-		return "all connections are in use"
-	case fault == NotNow:
-		return "the connection isn't so that this can be done now"
-	case fault > 60:
-		return fmt.Sprintf("the peer broke the protocol: fault %d", fault-60)
-	case fault > 50:
-		return fmt.Sprintf("a packet's data have token fault %d", fault-50)
-	case fault > 40:
-		return fmt.Sprintf("a packet's header has fault %d", fault-40)
-	}
-	return fmt.Sprintf("the library answered %d", uint8(fault))
-}
-
 func done(answer c_uint8_t) error {
 	if answer == c_TDS_OK {
 		return nil
@@ -23176,12 +23144,13 @@ func at(bytes []byte) *c_uint8_t {
 	return (*c_uint8_t)(unsafe.Pointer(&bytes[0]))
 }
 
-// Client is the client's end of one connection, with the message of the request that goes out.
+// Client is the client's end of one connection to any server, with the message of the request that goes out.
 type Client struct {
 	raw     c_struct_tds_client
 	message []byte
 	kept    []byte // of a message that is put in parts, the room for what waits
 	waiting c_size_t
+	walk    *Walk // by which it hears
 }
 
 // New makes a client for packets of 512 to 32,767 bytes.
@@ -23270,20 +23239,6 @@ func (client *Client) wrote(answer c_uint8_t, out *[]byte, bytes []byte) (Answer
 	return Answer(answer), nil
 }
 
-// Take takes one packet of an answer, and gives the tokens that are told.
-func (client *Client) Take(packet []byte) (Answer, *Tokens, error) {
-	reading, columns := client.raw.stage == c_TDS_READING, client.raw.columns
-	answer := c_tds_client_take(&client.raw, at(packet), c_size_t(len(packet)))
-	if answer >= 20 {
-		return 0, nil, Fault(answer)
-	}
-	tokens := &Tokens{}
-	if reading {
-		tokens.data, tokens.cursor.columns = packet[8:], columns
-	}
-	return Answer(answer), tokens, nil
-}
-
 // Lost says that the connection is lost.
 func (client *Client) Lost() { c_tds_client_lost(&client.raw) }
 
@@ -23304,6 +23259,31 @@ func Packets(bytes []byte, size uint16) (packets [][]byte, rest []byte, err erro
 			return packets, bytes, Fault(answer)
 		}
 	}
+}
+
+
+// StrictClient is a client that reads the batch language alone, of tdsserve and of tests, a packet and its tokens at a time; whatever
+// else a SQL Server answers it refuses. What it takes, no walk sees: Take all packets of an answer, or Hear all of them.
+type StrictClient struct{ Client }
+
+// NewStrict makes one, as New.
+func NewStrict(size uint16) (*StrictClient, error) {
+	client := &StrictClient{}
+	return client, done(c_tds_client_new(c_uint16_t(size), &client.raw))
+}
+
+// Take takes one packet of an answer, and gives the tokens that are told.
+func (client *StrictClient) Take(packet []byte) (Answer, *Tokens, error) {
+	reading, columns := client.raw.stage == c_TDS_READING, client.raw.columns
+	answer := c_tds_client_take(&client.raw, at(packet), c_size_t(len(packet)))
+	if answer >= 20 {
+		return 0, nil, Fault(answer)
+	}
+	tokens := &Tokens{}
+	if reading {
+		tokens.data, tokens.cursor.columns = packet[8:], columns
+	}
+	return Answer(answer), tokens, nil
 }
 
 // Token is a token; which fields it has, mouktelf.h says. Values are those of a row.
@@ -23479,17 +23459,6 @@ type Walked struct {
 	Recoverable     bool
 }
 
-// Refused is a byte that no answer has: its fault as the header numbers it (71 to 74), and its place in the message.
-type Refused struct {
-	Number uint8
-	At     uint64
-	Byte   uint8
-}
-
-func (refused Refused) Error() string {
-	return fmt.Sprintf("fault %d at %d, the byte %02x", refused.Number, refused.At, refused.Byte)
-}
-
 // Walk finds where each token of an answer ends, for every type of column of TDS 7.2 to 7.4 (MS-TDS 2.2.7). The bytes come in
 // pieces of any size: the data of packets of type 04.
 type Walk struct {
@@ -23518,13 +23487,21 @@ func (walk *Walk) Next(bytes []byte) (int, *Walked, error) {
 	var token c_struct_tds_wire_token
 	switch answer := c_tds_wire_next(&walk.value, &walk.memory, at(bytes), c_size_t(len(bytes)), &count, &token); answer {
 	case c_TDS_WIRE_ENDED:
-		return int(count), walked(&token), nil
+		it := walked(&token)
+		return int(count), &it, nil
 	case c_TDS_WIRE_MORE:
 		return int(count), nil, nil
 	default:
-		refused := walk.value.refused
-		return 0, nil, Refused{uint8(answer), uint64(refused.at), uint8(refused.byte)}
+		return 0, nil, walk.fault(answer)
 	}
+}
+
+// fault is that of this number: of a byte that this walk has refused, with its place.
+func (walk *Walk) fault(number c_uint8_t) error {
+	if number < c_TDS_WIRE_UNKNOWN_TOKEN || number > c_TDS_WIRE_MANY_COLUMNS {
+		return Fault(number)
+	}
+	return Refused{Fault(number), uint64(walk.value.refused.at), uint8(walk.value.refused.byte)}
 }
 
 // Between says whether a message may end here.
@@ -23535,8 +23512,8 @@ func (walk *Walk) Restart() { c_tds_wire_restart(&walk.value, &walk.memory) }
 
 func place(it c_struct_tds_wire_place) Place { return Place{uint64(it.start), uint64(it.length)} }
 
-func walked(it *c_struct_tds_wire_token) *Walked {
-	return &Walked{
+func walked(it *c_struct_tds_wire_token) Walked {
+	return Walked{
 		Start: uint64(it.start), Length: uint64(it.length), Value: uint64(it.value), OldValue: uint64(it.old_value),
 		Text: place(it.text), Others: place(it.others), Number: int32(it.number), Size: uint32(it.size),
 		Status: uint16(it.status), Command: uint16(it.command), Kind: uint8(it.kind), Tells: Tells(it.told),
@@ -23544,8 +23521,65 @@ func walked(it *c_struct_tds_wire_token) *Walked {
 	}
 }
 
-// Heard hears a token that a walk has found, of any server, in place of Take. It says whether the caller that asked is told
-// of it.
+const atOnce = 256
+
+// room is for the tokens of one call, and for what it says of them.
+type room struct {
+	tokens       [atOnce]c_struct_tds_wire_token
+	taken, count c_size_t
+}
+
+var rooms = sync.Pool{New: func() any { return &room{} }}
+
+func hears(raw *c_struct_tds_client, walk *Walk, data []byte, ends bool, told *[]Walked) (Answer, error) {
+	found := rooms.Get().(*room)
+	defer rooms.Put(found)
+	for {
+		answer := c_tds_client_hear(raw, &walk.value, &walk.memory, at(data), c_size_t(len(data)), oneWhere(ends), &found.taken,
+			&found.tokens[0], atOnce, &found.count)
+		for i := range found.tokens[:found.count] {
+			*told = append(*told, walked(&found.tokens[i]))
+		}
+		data = data[found.taken:]
+		switch {
+		case answer == c_TDS_OK:
+			return More, nil
+		case answer >= 20:
+			return 0, walk.fault(answer)
+		case answer != c_TDS_TELL:
+			return Answer(answer), nil
+		}
+	}
+}
+
+// Walk is the walk that it hears by.
+func (client *Client) Walk() *Walk {
+	if client.walk == nil {
+		client.walk = NewWalk(c_TDS_WIRE_MOST_COLUMNS, false, false)
+	}
+	return client.walk
+}
+
+// HearBy lets it hear by this walk, where the login acknowledged what NewWalk has to know.
+func (client *Client) HearBy(walk *Walk) { client.walk = walk }
+
+// Hear hears one packet of any server's answer, from its first byte to its last, and appends the tokens that end in it and that the
+// caller who asked is told of, also before a fault: More, Finished or Acknowledged. Where they stand is counted from their message's
+// first byte: keep its packets' data until it ends, if you read rows or texts. Behind a cancel nothing is told.
+func (client *Client) Hear(packet []byte, told *[]Walked) (Answer, error) {
+	if len(packet) < 8 {
+		return 0, Fault(c_TDS_WANTS_BYTES)
+	}
+	return client.HearData(packet[8:], packet[1]&1 == 1, told)
+}
+
+// HearData is the same of a packet's data, behind its header, or of a piece of them; ends is bit 1 of the packet's status, with its
+// last piece.
+func (client *Client) HearData(data []byte, ends bool, told *[]Walked) (Answer, error) {
+	return hears(&client.raw, client.Walk(), data, ends, told)
+}
+
+// Heard hears a token that a walk of your own has found, in place of Hear. It says whether the caller that asked is told of it.
 func (client *Client) Heard(token *Walked) (bool, error) {
 	switch token.Tells {
 	case TellsDone:
@@ -23608,6 +23642,7 @@ type Service struct {
 	value    c_struct_tds_service
 	seats    []c_struct_tds_seat // one more than there may be: an address for none
 	messages map[uint64]*Client  // by a connection's number: the message that goes out, or waits
+	walks    map[uint64]*Walk    // by a connection's number
 	isLent   bool                // a client is: no call of the table is done
 }
 
@@ -23619,7 +23654,7 @@ func NewService(most int, size uint16) (*Service, error) {
 	if _, err := New(size); err != nil {
 		return nil, err
 	}
-	service := &Service{seats: make([]c_struct_tds_seat, most+1), messages: map[uint64]*Client{}}
+	service := &Service{seats: make([]c_struct_tds_seat, most+1), messages: map[uint64]*Client{}, walks: map[uint64]*Walk{}}
 	service.value.size = c_uint16_t(size)
 	return service, nil
 }
@@ -23650,6 +23685,9 @@ func (service *Service) ends(call func(number *c_uint64_t) c_uint8_t) (Ended, er
 		return Ended{}, Fault(rest)
 	}
 	delete(service.messages, uint64(number))
+	if Rest(rest) == Closed {
+		delete(service.walks, uint64(number))
+	}
 	return Ended{Number: uint64(number), Rest: Rest(rest)}, nil
 }
 
@@ -23661,30 +23699,31 @@ func (service *Service) Lease() (Lent, error) {
 	})
 }
 
-// waits is what waits of a request of a lease's connection.
-func (service *Service) waits(lease uint64) (*Client, error) {
+// waits is what waits of a request of a lease's connection, and the size of its packets.
+func (service *Service) waits(lease uint64) (*Client, int, error) {
 	var index c_size_t
 	if service.isLent {
-		return nil, NotNow
+		return nil, 0, NotNow
 	}
 	if err := done(c_tds_service_find(&service.value, &service.seats[0], service.most(), c_uint64_t(lease), &index)); err != nil {
-		return nil, err
+		return nil, 0, err
 	}
-	number := uint64(service.seats[index].number)
+	seat := &service.seats[index]
+	number := uint64(seat.number)
 	if service.messages[number] == nil {
 		service.messages[number] = &Client{}
 	}
-	return service.messages[number], nil
+	return service.messages[number], int(seat.client.size), nil
 }
 
 // Ask begins a request of a lease: Batch, Procedure and so on. Its body comes by Put, and Finish ends it.
 func (service *Service) Ask(lease uint64, kind uint8) (Requested, error) {
-	waits, err := service.waits(lease)
+	waits, size, err := service.waits(lease)
 	if err != nil {
 		return Requested{}, err
 	}
 	var asked c_struct_tds_asked
-	kept, count := make([]byte, service.value.size-8), c_size_t(0)
+	kept, count := make([]byte, size-8), c_size_t(0)
 	answer := c_tds_service_ask(&service.value, &service.seats[0], service.most(), c_uint64_t(lease), c_uint8_t(kind), at(kept),
 		c_size_t(len(kept)), &count, &asked)
 	if err := done(answer); err != nil {
@@ -23696,11 +23735,11 @@ func (service *Service) Ask(lease uint64, kind uint8) (Requested, error) {
 
 // Put puts bytes of the request's body, and appends the packets that are full.
 func (service *Service) Put(lease uint64, bytes []byte, out *[]byte) error {
-	waits, err := service.waits(lease)
+	waits, size, err := service.waits(lease)
 	if err != nil {
 		return err
 	}
-	packet := make([]byte, service.value.size)
+	packet := make([]byte, size)
 	for {
 		var taken, count c_size_t
 		answer := c_tds_service_put(&service.value, &service.seats[0], service.most(), c_uint64_t(lease), at(waits.kept),
@@ -23715,11 +23754,11 @@ func (service *Service) Put(lease uint64, bytes []byte, out *[]byte) error {
 
 // Finish ends the request, and appends its last packet.
 func (service *Service) Finish(lease uint64, out *[]byte) error {
-	waits, err := service.waits(lease)
+	waits, size, err := service.waits(lease)
 	if err != nil {
 		return err
 	}
-	packet, count := make([]byte, service.value.size), c_size_t(0)
+	packet, count := make([]byte, size), c_size_t(0)
 	answer := c_tds_service_finish(&service.value, &service.seats[0], service.most(), c_uint64_t(lease), at(waits.kept), waits.waiting,
 		at(packet), c_size_t(len(packet)), &count)
 	if err := done(answer); err != nil {
@@ -23760,7 +23799,68 @@ func (service *Service) Cancel(lease uint64, out *[]byte) (Answer, error) {
 	return Answer(answer), nil
 }
 
-// Came hears a token that a walk has found on the connection of this number: whose it is, and whether he is told.
+// Hear hears one packet on the connection of this number, whoever holds it, as Client.Hear: the lease that holds it and its request,
+// which are told what is appended. A connection that drained is free behind Acknowledged.
+func (service *Service) Hear(number uint64, packet []byte, told *[]Walked) (Answer, Whose, error) {
+	seat, err := service.seat(number)
+	if err == nil && len(packet) < 8 {
+		err = Fault(c_TDS_WANTS_BYTES)
+	}
+	if err != nil {
+		return 0, Whose{}, err
+	}
+	whose, drains, before := Whose{Request: uint64(seat.asked)}, seat.place == c_TDS_PLACE_DRAINING, len(*told)
+	if seat.place == c_TDS_PLACE_LENT || seat.place == c_TDS_PLACE_CLEANING {
+		whose.Lease = uint64(seat.holder)
+	}
+	answer, err := hears(&seat.client, service.walk(number), packet[8:], packet[1]&1 == 1, told)
+	if whose.Told = len(*told) > before; drains && err == nil {
+		_, err = service.Drained(number)
+	}
+	return answer, whose, err
+}
+
+func (service *Service) seat(number uint64) (*c_struct_tds_seat, error) {
+	var index c_size_t
+	if service.isLent {
+		return nil, NotNow
+	}
+	if err := done(c_tds_service_at(&service.value, &service.seats[0], service.most(), c_uint64_t(number), &index)); err != nil {
+		return nil, err
+	}
+	return &service.seats[index], nil
+}
+
+func (service *Service) walk(number uint64) *Walk {
+	if service.walks[number] == nil {
+		service.walks[number] = NewWalk(c_TDS_WIRE_MOST_COLUMNS, false, false)
+	}
+	return service.walks[number]
+}
+
+// LoggedIn says that the connection of this number, which is new, is logged in, and the login agreed on packets of this size; walk is
+// the one that it hears by, where the login acknowledged what NewWalk has to know, or nil. NotNow: something was asked on it.
+func (service *Service) LoggedIn(number uint64, size uint16, walk *Walk) error {
+	seat, err := service.seat(number)
+	if err != nil {
+		return err
+	}
+	if seat.asked != 0 || seat.client.stage != c_TDS_IDLE || seat.client.mark != c_TDS_RESET_NONE {
+		return NotNow
+	}
+	client, err := New(size)
+	if err != nil {
+		return err
+	}
+	seat.client = client.raw
+	if walk != nil {
+		service.walks[number] = walk
+	}
+	return nil
+}
+
+// Came hears a token that a walk of your own has found on the connection of this number, in place of Hear: whose it is, and whether
+// he is told.
 func (service *Service) Came(number uint64, token *Walked) (Whose, error) {
 	var whose c_struct_tds_whose
 	if service.isLent {
@@ -23777,7 +23877,7 @@ func (service *Service) Came(number uint64, token *Walked) (Whose, error) {
 	return Whose{uint64(whose.lease), uint64(whose.request), answer == c_TDS_TELL}, nil
 }
 
-// MessageEnded hears that a message has ended there, behind the packet whose status has bit 1; isCut where the walk isn't between
+// MessageEnded hears behind Came that a message has ended there, with the packet whose status has bit 1; isCut where the walk isn't between
 // two tokens then. Finished: the request has its whole answer. Acknowledged: its cancel is acknowledged, and a connection that
 // drained is free. More: the acknowledgement is still to come.
 func (service *Service) MessageEnded(number uint64, isCut bool) (Answer, Whose, error) {
@@ -23819,10 +23919,11 @@ func (service *Service) uses(answer c_uint8_t, index c_size_t, use func(client *
 	if waits, is := service.messages[uint64(seat.number)]; is {
 		*client = *waits
 	}
-	client.raw, service.isLent = seat.client, true
+	client.raw, client.walk, service.isLent = seat.client, service.walk(uint64(seat.number)), true
 	defer func() {
 		left := *client
 		seat.client, service.messages[uint64(seat.number)], service.isLent = client.raw, &left, false
+		service.walks[uint64(seat.number)] = client.walk
 		client.Lost()
 	}()
 	return use(client)
@@ -23872,6 +23973,7 @@ func (service *Service) Lost(number uint64) error {
 	err := done(c_tds_service_lost(&service.value, &service.seats[0], service.most(), c_uint64_t(number)))
 	if err == nil {
 		delete(service.messages, number)
+		delete(service.walks, number)
 	}
 	return err
 }

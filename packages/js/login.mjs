@@ -1,13 +1,19 @@
-// Over a socket of node: logs in to a server of the batch language (tdsserve), begins a transaction, is given rows, cancels a
-// batch in its middle, and commits.
+// Over a socket of node: logs in to a server of the batch language (tdsserve, also with --real), begins a transaction, is given rows,
+// cancels a batch in its middle, and commits.
 //
 //     tdsserve 127.0.0.1:1433 & node login.mjs 1433
 
 import { once } from "node:events";
 import net from "node:net";
-import { Answer, Client, isLetIn, login, packetsOf } from "mouktelf";
+import { Answer, Client, Outgoing, Tells, isLetIn, login, packetsOf } from "mouktelf";
 
-const SIZE = 4096;
+const SIZE = 4096, COLMETADATA = 0x81, ROW = 0xd1, NBCROW = 0xd2, INTN = 0x26;
+
+/** The first value of a row, a whole number of four bytes: a walk says where rows stand, and values are yours to read (MS-TDS 2.2.7). */
+function firstOf(columns, row) {
+  const nulls = row[0] === ROW ? 0 : (columns.readUInt16LE(1) + 7) >> 3;
+  return row.readInt32LE(1 + nulls + (columns[9] === INTN ? 1 : 0));
+}
 
 class Connection {
   client = new Client(SIZE);
@@ -18,6 +24,8 @@ class Connection {
     const self = new Connection();
     self.socket = net.connect(port, "127.0.0.1");
     await once(self.socket, "connect");
+    // A socket of node keeps what waits, so no write of it is waited for.
+    self.outgoing = new Outgoing(bytes => { self.socket.write(bytes); });
     self.pieces = self.socket[Symbol.asyncIterator]();
     self.socket.write(login(name, SIZE));
     if (!isLetIn(await self.packet())) throw new Error("the server let nobody in");
@@ -37,19 +45,30 @@ class Connection {
     return this.#packets.shift();
   }
 
+  /** Nothing is awaited between a call and its `put`. */
   send() {
-    this.socket.write(this.client.sendAll());
+    this.outgoing.put(this.client.sendAll());
   }
 
-  /** Takes packets until the request is settled, and shows what is told. */
+  /** Any task may: its bytes go out behind the request's. */
+  cancel() {
+    const [answer, attention] = this.client.cancel();
+    this.outgoing.put(attention);
+    return answer;
+  }
+
+  /** Hears packets until the request is settled, and shows what is told. */
   async hear() {
-    let answer = Answer.MORE;
+    let data = Buffer.alloc(0), columns, answer = Answer.MORE, tokens;
     while (answer === Answer.MORE) {
-      const taken = this.client.take(await this.packet());
-      answer = taken.answer;
-      for (const token of taken.tokens) {
-        if (token.type === "info" || token.type === "error") console.log(token.type, token.text);
-        else if (token.type === "row") console.log("row", ...token.values);
+      const packet = await this.packet();
+      data = Buffer.concat([data, packet.subarray(8)]);
+      ({ answer, tokens } = this.client.hear(packet));
+      for (const token of tokens) {
+        const cut = ({ start, length }) => data.subarray(start, start + length), own = cut(token);
+        if (token.tells === Tells.MESSAGE) console.log(token.kind === 0xab ? "info" : "error", cut(token.text).toString("utf16le"));
+        else if (token.kind === COLMETADATA) columns = own;
+        else if (token.kind === ROW || token.kind === NBCROW) console.log("row", firstOf(columns, own));
       }
     }
     console.log(answer === Answer.FINISHED ? "finished" : "cancelled");
@@ -69,9 +88,8 @@ it.send();
 await it.hear();
 it.client.startBatch("rows 0 64;rows 0 64;rows 0 64");
 it.send();
-const [answer, attention] = it.client.cancel();
+const answer = it.cancel();
 if (answer !== Answer.ASKED) throw new Error(`cancel: ${answer}`);
-it.socket.write(attention);
 await it.hear();
 it.tell();
 it.client.startCommit();

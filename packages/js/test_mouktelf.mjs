@@ -7,7 +7,7 @@
 
 import assert from "node:assert/strict";
 import { readFileSync } from "node:fs";
-import { Answer, Client, Fault, MessageKind, Refused, Reset, Stage, Walk, login, packetsOf } from "mouktelf";
+import { Answer, Client, Fault, MessageKind, Refused, Reset, Stage, StrictClient, Tells, Walk, login, packetsOf } from "mouktelf";
 
 const bytes = digits => new Uint8Array(Buffer.from(digits, "hex"));
 const hex = data => Buffer.from(data).toString("hex").toUpperCase();
@@ -25,7 +25,7 @@ function refuses(number, call) {
 }
 
 function exchange() {
-  const client = new Client(512);
+  const client = new StrictClient(512);
   client.startBegin();
   const [answer, packet] = client.send();
   assert.deepEqual([answer, hex(packet)], [Answer.LAST, BEGIN]);
@@ -43,7 +43,7 @@ function exchange() {
 }
 
 function cancelled() {
-  const client = new Client(512);
+  const client = new StrictClient(512);
   client.startBatch("say a");
   client.sendAll();
   const said = { type: "info", number: 50000, state: 1, severity: 0, line: 0, text: "a" };
@@ -77,33 +77,68 @@ function asked() {
   const client = new Client(512);
   client.startBatch("say a");
   client.sendAll();
-  return [client, new Walk()];
+  return client;
 }
 
-/** A packet's data in one call: what a walk finds and the client hears, also where that is more than goes into one. */
+/** All that is told of a token: what most haven't is read where it is asked for. */
+function whole(it) {
+  const { start, length, kind, tells, value, oldValue, text, others, number, size, status, command, change, state, severity } = it;
+  return { start, length, kind, tells, value, oldValue, text, others, number, size, status, command, change, state, severity };
+}
+
+/** A packet in one call: what a walk finds and the client hears, in any pieces, also where that is more than goes into one. */
 function heardAtOnce() {
-  const begun = bytes("E30B0008080500000000000000" + "00" + ENDED.slice(16));
-  let [client, walk] = asked();
-  assert.deepEqual(client.hear(walk, begun.subarray(0, 5), false), { answer: Answer.MORE, tokens: [] });
-  assert.deepEqual(client.hear(walk, begun.subarray(5), true), { answer: Answer.FINISHED, tokens: [...new Walk().tokens(begun)] });
-  assert.equal(client.descriptor, 5n);
-  const many = bytes("7901000000".repeat(300) + ENDED.slice(16));
-  [client, walk] = asked();
-  assert.deepEqual(client.hear(walk, many, true), { answer: Answer.FINISHED, tokens: [...new Walk().tokens(many)] });
+  const begun = bytes("E30B0008080500000000000000" + "00" + ENDED.slice(16)), wanted = [...new Walk().tokens(begun)].map(whole);
+  for (let cut = 0; cut < begun.length; cut++) {
+    const client = asked(), first = client.hearData(begun.subarray(0, cut), false), last = client.hearData(begun.subarray(cut), true);
+    assert.deepEqual([first.answer, last.answer, client.descriptor], [Answer.MORE, Answer.FINISHED, 5n]);
+    assert.deepEqual([...first.tokens, ...last.tokens].map(whole), wanted);
+  }
+  const many = bytes("7901000000".repeat(300) + ENDED.slice(16)), client = asked();
+  const { answer, tokens } = client.hear(bytes("0401000000000000" + hex(many)));
+  assert.deepEqual([answer, client.stage, tokens.map(whole)], [Answer.FINISHED, Stage.IDLE, [...new Walk().tokens(many)].map(whole)]);
+  client.startBatch("say a");
+  client.sendAll();
+  const [told] = client.hear(bytes(SAID)).tokens;
+  assert.deepEqual([told.tells, told.kind, told.number, told.text], [Tells.MESSAGE, 0xab, 50000, { start: 11, length: 2 }]);
+  client.cancel();
+  assert.deepEqual(client.hear(bytes(ENDED)), { answer: Answer.MORE, tokens: [] });
+  assert.deepEqual(client.hear(bytes(ACKNOWLEDGED)), { answer: Answer.ACKNOWLEDGED, tokens: [] });
+  refuses(24, () => client.hear(new Uint8Array(7)));
+  const own = asked();
+  assert.deepEqual([own.heardChange(8, 7n), own.heardOther(), own.heardDone(0xfd, 0)], [true, true, true]);
+  assert.deepEqual([own.messageEnded(), own.descriptor], [Answer.FINISHED, 7n]);
+}
+
+/** A peer's fault is a peer's also at a message's end, and each number has a text of its own. */
+function faultsOfAPeer() {
   for (const [data, number, count] of [["790100000000", 71, 1], ["7901", 75, 0]]) {
-    [client, walk] = asked();
-    assert.throws(() => client.hear(walk, bytes(data), true), why => why instanceof Fault && why.number === number && why.isPeer
+    const client = asked();
+    assert.throws(() => client.hearData(bytes(data), true), why => why instanceof Fault && why.number === number && why.isPeer
       && why.tokens.length === count && (why instanceof Refused) === (number === 71) && (number !== 71 || why.at === 5));
     assert.equal(client.stage, Stage.BROKEN);
   }
-  [client] = asked();
-  assert.deepEqual([client.heardChange(8, 7n), client.heardOther(), client.heardDone(0xfd, 0)], [true, true, true]);
-  assert.deepEqual([client.messageEnded(), client.descriptor], [Answer.FINISHED, 7n]);
+  const client = new Client(512);
+  client.markReset(Reset.FULL);
+  client.startBatch("say a");
+  client.sendAll();
+  assert.throws(() => client.hear(bytes(ENDED)), why => why.number === 76 && why.isPeer);
+  const numbers = [[20, 26], [31, 36], [41, 46], [51, 57], [61, 69], [71, 76]].flatMap(
+    ([first, last]) => Array.from({ length: last - first + 1 }, (_, place) => first + place));
+  const texts = new Set(numbers.map(it => new Fault(it).message.split(": ")[1]));
+  assert.deepEqual([texts.size, texts.has("see mouktelf.h")], [numbers.length, false]);
+  assert.deepEqual(numbers.filter(it => new Fault(it).isPeer), numbers.filter(it => it > 40));
+}
+
+/** 16,000 packets in one piece are cut in time that grows with it. */
+function manyPackets() {
+  const one = "04000023" + "00".repeat(31), [packets, rest] = packetsOf(bytes(one.repeat(16_000) + "04000023000000"), 512);
+  assert.deepEqual([packets.length, hex(packets[15_999]), hex(rest)], [16_000, one, "04000023000000"]);
 }
 
 function refused() {
   for (const size of [0, 511, 32768, 65536, -1, 1.5, "512"]) refuses(23, () => new Client(size));
-  const client = new Client(512);
+  const client = new StrictClient(512);
   refuses(23, () => client.startBatch(""));
   refuses(23, () => client.startBatch("a".repeat(2001)));
   refuses(23, () => client.startBegin(6));
@@ -117,7 +152,7 @@ function refused() {
   assert.equal(client.stage, Stage.BROKEN);
   refuses(33, () => client.startBatch("say a"));
   refuses(41, () => packetsOf(new Uint8Array(8).fill(255), 512));
-  refuses(24, () => new Client(512).take(new Uint8Array()));
+  refuses(24, () => new StrictClient(512).take(new Uint8Array()));
   assert.equal(hex(login("sa")).slice(0, 24), "1001006A00000100" + "62000000");
 }
 
@@ -133,6 +168,8 @@ exchange();
 cancelled();
 streamed();
 heardAtOnce();
+faultsOfAPeer();
+manyPackets();
 refused();
 if (process.argv.length > 2) await schedules(process.argv.slice(2));
 console.log(`${process.argv.length - 2} schedules, and all else is right`);

@@ -48,7 +48,7 @@ function staleLeases() {
   // What hasn't gone out isn't cancelled at the server.
   endsAs(service.giveBack(spent), 1n, Rest.FREE);
   for (const call of ["send", "cancel", "finish", "startCommit", "messageEnded"]) refuses(UNKNOWN, () => client[call]());
-  refuses(UNKNOWN, () => client.take(ENDED));
+  refuses(UNKNOWN, () => client.hear(ENDED));
   for (const call of ["client", "giveBack", "keep", "cleaned", "resume", "abandon"]) refuses(UNKNOWN, () => service[call](spent));
   // Nor do they when somebody else has the connection.
   const { lease } = service.lease();
@@ -67,15 +67,16 @@ function drains() {
   assert.equal(service.holder(1), 0n);
   refuses(ALL_IN_USE, () => service.lease());
   // The answer's end crosses the cancel.
-  assert.equal(service.connection(1).take(ENDED).answer, Answer.MORE);
+  assert.deepEqual(service.hear(1, ENDED), { answer: Answer.MORE, tokens: [], lease: 0n, request: 0n });
   assert.equal(service.drained(1), Rest.DRAINING);
   refuses(ALL_IN_USE, () => service.lease());
   refuses(NOT_NOW, () => service.clean(1));
-  assert.equal(service.connection(1).take(ACKNOWLEDGED).answer, Answer.ACKNOWLEDGED);
-  assert.equal(service.drained(1), Rest.FREE);
+  assert.equal(service.hear(1, ACKNOWLEDGED).answer, Answer.ACKNOWLEDGED);
+  refuses(NOT_NOW, () => service.drained(1));
   const lent = service.lease();
   assert.deepEqual([lent.number, lent.had, ask(service, lent.lease)], [1n, true, 9]);
-  assert.equal(service.connection(1).take(RESET).answer, Answer.FINISHED);
+  const came = service.hear(1n, RESET);
+  assert.deepEqual([came.answer, came.lease, came.tokens.map(it => it.kind)], [Answer.FINISHED, lent.lease, [0xe3, 0xfd]]);
 }
 
 function kept() {
@@ -84,7 +85,7 @@ function kept() {
   const client = service.client(lease);
   client.startBegin();
   client.sendAll();
-  service.connection(1).take(BEGUN);
+  service.hear(1, BEGUN);
   const ticket = service.keep(lease);
   refuses(UNKNOWN, () => client.startCommit());
   assert.equal(service.holder(1), ticket);
@@ -94,7 +95,7 @@ function kept() {
   refuses(UNKNOWN, () => service.resume(ticket));
   // It goes on with its transaction: a reset that keeps that is asked for (bit 10).
   assert.equal(ask(service, lent.lease), 0x11);
-  service.connection(1).take(RESET);
+  service.hear(1, RESET);
   const second = service.keep(lent.lease);
   endsAs(service.abandon(second), 1n, Rest.FREE);
   refuses(UNKNOWN, () => service.abandon(second));
@@ -111,7 +112,8 @@ function cleaned() {
     refuses(ALL_IN_USE, () => service.lease());
     assert.equal(ask(service, lent.lease), 9);
     refuses(NOT_NOW, () => service.cleaned(lent.lease));
-    service.connection(1).take(answer);
+    if (answer === RESET) service.hear(1, answer);
+    else refuses(76, () => service.hear(1, answer));
     endsAs(service.cleaned(lent.lease), 1n, rest);
     assert.equal(service.count, count);
   }
@@ -130,8 +132,8 @@ function lost() {
   refuses(UNKNOWN, () => service.lost(1));
   const [answer, attention] = clients[2].cancel();
   assert.deepEqual([service.count, answer, hex(attention)], [2, Answer.ASKED, ATTENTION]);
-  assert.deepEqual([clients[1].stage, service.connection(2).take(ENDED).answer], [Stage.READING, Answer.FINISHED]);
-  assert.equal(service.connection(3).take(ENDED).answer, Answer.MORE);
+  assert.deepEqual([clients[1].stage, service.hear(2, ENDED).answer], [Stage.READING, Answer.FINISHED]);
+  assert.equal(service.hear(3, ENDED).answer, Answer.MORE);
   assert.equal(service.lease().number, 4n);
 }
 
@@ -179,6 +181,23 @@ function asks() {
   assert.equal(service.client(lent.lease).stage, Stage.BROKEN);
 }
 
+/** By number: whose a packet's tokens are. And the login agrees on other packets than were asked for, on one connection. */
+function loggedIn() {
+  const service = new Service(2, 4096), first = service.lease(), second = service.lease(), text = "a".repeat(1000);
+  service.loggedIn(1, 512);
+  const sizes = [first, second].map(it => service.askBatch(it.lease, text).packets.length);
+  assert.deepEqual(sizes, [2022 + 8 * 5, 2022 + 8]);
+  const { answer, lease, request } = service.hear(2, ENDED);
+  assert.deepEqual([answer, lease, request], [Answer.FINISHED, second.lease, 1n]);
+  refuses(NOT_NOW, () => service.loggedIn(1, 4096));
+  refuses(UNKNOWN, () => service.loggedIn(3, 4096));
+  for (const size of [0, 511, 32768, 65536, -1]) {
+    const other = new Service(1, 512);
+    other.lease();
+    refuses(OUT_OF_RANGE, () => other.loggedIn(1, size));
+  }
+}
+
 function refused() {
   for (const size of [0, 511, 32768, 65536]) refuses(OUT_OF_RANGE, () => new Service(1, size));
   for (const most of [-1, 1.5, "1"]) refuses(OUT_OF_RANGE, () => new Service(most, 512));
@@ -190,6 +209,6 @@ function refused() {
   for (const number of [-1, 2n ** 64n, 1.5, "1"]) refuses(OUT_OF_RANGE, () => new Service(1, 512).lost(number));
 }
 
-const parts = [oneLeaseEach, staleLeases, drains, kept, cleaned, lost, streamed, asks, refused];
+const parts = [oneLeaseEach, staleLeases, drains, kept, cleaned, lost, streamed, asks, loggedIn, refused];
 for (const it of parts) it();
 console.log(`${parts.length} parts of the table, all right`);

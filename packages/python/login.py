@@ -1,20 +1,28 @@
-"""Over a socket: logs in to a server of the batch language (tdsserve), begins a transaction, is given rows, cancels a batch
-in its middle, and commits.
+"""Over a socket: logs in to a server of the batch language (tdsserve, also with --real), begins a transaction, is given rows,
+cancels a batch in its middle, and commits.
 
     tdsserve 127.0.0.1:1433 & python3 login.py 1433"""
 
 import socket
 import sys
 
-from mouktelf import Answer, Client, Message, Row, is_let_in, login, packets_of
+from mouktelf import Answer, Client, Outgoing, Tells, is_let_in, login, packets_of
 
 SIZE = 4096
+COLMETADATA, ROW, NBCROW, INTN = 0x81, 0xD1, 0xD2, 0x26
+
+
+def first_of(columns, row):
+    """The first value of a row, a whole number of four bytes: a walk says where rows stand, and values are yours to read (MS-TDS 2.2.7)."""
+    nulls = 0 if row[0] == ROW else (int.from_bytes(columns[1:3], "little") + 7) // 8
+    at = 1 + nulls + (columns[9] == INTN)
+    return int.from_bytes(row[at: at + 4], "little", signed=True)
 
 
 class Connection:
     def __init__(self, port):
         self.socket = socket.create_connection(("127.0.0.1", port))
-        self.client = Client(SIZE)
+        self.client, self.outgoing = Client(SIZE), Outgoing(self.socket.sendall)
         self.came, self.packets = b"", []
 
     def packet(self):
@@ -32,41 +40,50 @@ class Connection:
             sys.exit("the server let nobody in")
         print("logged in")
 
-    def send(self):
-        self.socket.sendall(self.client.send_all())
+    def ask(self, start, *words):
+        with self.outgoing:
+            start(*words)
+            self.outgoing.put(self.client.send_all())
+
+    def cancel(self):
+        """Any thread may: its bytes go out behind the request's."""
+        with self.outgoing:
+            answer, attention = self.client.cancel()
+            self.outgoing.put(attention)
+        return answer
 
     def hear(self):
-        """Takes packets until the request is settled, and shows what is told."""
-        answer = Answer.MORE
+        """Hears packets until the request is settled, and shows what is told."""
+        data, columns, answer = b"", b"", Answer.MORE
         while answer == Answer.MORE:
-            taken = self.client.take(self.packet())
-            answer = taken.answer
-            for token in taken.tokens:
-                if isinstance(token, Message):
-                    print("error" if token.is_error else "info", token.text)
-                elif isinstance(token, Row):
-                    print("row", *token.values)
+            packet = self.packet()
+            data += packet[8:]
+            with self.outgoing:
+                answer, tokens = self.client.hear(packet)
+            for token in tokens:
+                own = data[token.start: token.start + token.length]
+                if token.tells == Tells.MESSAGE:
+                    text = data[token.text.start: token.text.start + token.text.length]
+                    print("info" if token.kind == 0xAB else "error", text.decode("utf-16-le"))
+                elif token.kind == COLMETADATA:
+                    columns = own
+                elif token.kind in (ROW, NBCROW):
+                    print("row", first_of(columns, own))
         print("finished" if answer == Answer.FINISHED else "cancelled")
 
 
 def main(port):
     it = Connection(port)
     it.log_in("sa")
-    it.client.start_begin()
-    it.send()
+    it.ask(it.client.start_begin)
     it.hear()
-    it.client.start_batch("set a 5;say hello;rows 7 2")
-    it.send()
+    it.ask(it.client.start_batch, "set a 5;say hello;rows 7 2")
     it.hear()
-    it.client.start_batch("rows 0 64;rows 0 64;rows 0 64")
-    it.send()
-    answer, attention = it.client.cancel()
-    assert answer == Answer.ASKED
-    it.socket.sendall(attention)
+    it.ask(it.client.start_batch, "rows 0 64;rows 0 64;rows 0 64")
+    assert it.cancel() == Answer.ASKED
     it.hear()
     print("in a transaction:", "yes" if it.client.descriptor else "no")
-    it.client.start_commit()
-    it.send()
+    it.ask(it.client.start_commit)
     it.hear()
     print("in a transaction:", "yes" if it.client.descriptor else "no")
 

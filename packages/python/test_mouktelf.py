@@ -6,8 +6,8 @@ The bytes are those of examples/c/bytes.h, and stand in docs/PROTOCOL.md."""
 import sys
 
 from mouktelf import (
-    Answer, Change, Client, Columns, Done, Fault, Heard, Message, MessageKind, NotPlayed, Refused, Reset, Row, Stage, Walk, packets_of,
-    play,
+    Answer, Change, Client, Columns, Done, Fault, Heard, Message, MessageKind, NotPlayed, Place, Refused, Reset, Row, Stage, StrictClient,
+    Tells, Walk, packets_of, play,
 )
 
 BEGIN = bytes.fromhex("0E010022000001001600000012000000020000000000000000000100000005000000")
@@ -28,7 +28,7 @@ def refuses(number, call, *words):
 
 
 def exchange():
-    client = Client(512)
+    client = StrictClient(512)
     client.start_begin()
     assert client.send() == (Answer.LAST, BEGIN)
     taken = client.take(BEGUN)
@@ -42,7 +42,7 @@ def exchange():
 
 
 def cancelled():
-    client = Client(512)
+    client = StrictClient(512)
     client.start_batch("say a")
     client.send_all()
     assert client.take(SAID).tokens[0] == Message(False, 50000, 1, 0, 0, "a")
@@ -76,32 +76,66 @@ def asked():
     client = Client(512)
     client.start_batch("say a")
     client.send_all()
-    return client, Walk()
+    return client
 
 
 def heard_at_once():
-    """A packet's data in one call: what a walk finds and the client hears, also where that is more than goes into one."""
+    """A packet in one call: what a walk finds and the client hears, in any pieces, also where that is more than goes into one."""
     begun = bytes.fromhex("E30B0008080500000000000000" + "00") + ENDED[8:]
-    client, walk = asked()
-    assert client.hear(walk, begun[:5], False) == Heard(Answer.MORE, [])
-    assert client.hear(walk, begun[5:], True) == Heard(Answer.FINISHED, list(Walk().tokens(begun)))
-    assert client.descriptor == 5
+    for cut in range(len(begun)):
+        client = asked()
+        first, last = client.hear_data(begun[:cut], False), client.hear_data(begun[cut:], True)
+        assert (first.answer, last.answer, client.descriptor) == (Answer.MORE, Answer.FINISHED, 5)
+        assert first.tokens + last.tokens == list(Walk().tokens(begun))
     many = b"\x79\1\0\0\0" * 300 + ENDED[8:]
-    client, walk = asked()
-    assert client.hear(walk, many, True) == Heard(Answer.FINISHED, list(Walk().tokens(many)))
+    client = asked()
+    assert client.hear(b"\4\1" + bytes(6) + many) == Heard(Answer.FINISHED, list(Walk().tokens(many)))
+    assert client.stage == Stage.IDLE
+    client.start_batch("say a")
+    client.send_all()
+    told = client.hear(SAID).tokens[0]
+    assert (told.tells, told.kind, told.number, told.state, told.text) == (Tells.MESSAGE, 0xAB, 50000, 1, Place(11, 2))
+    client.cancel()
+    assert client.hear(ENDED) == Heard(Answer.MORE, []) and client.hear(ACKNOWLEDGED) == Heard(Answer.ACKNOWLEDGED, [])
+    refuses(24, client.hear, b"\4\1")
+
+
+def faults_of_a_peer():
+    """A peer's fault is a peer's also at a message's end, and each number has a text of its own."""
     for data, number, tokens in ((b"\x79\1\0\0\0\0", 71, 1), (b"\x79\1", 75, 0)):
-        client, walk = asked()
+        client = asked()
         try:
-            client.hear(walk, data, True)
+            client.hear_data(data, True)
         except Fault as why:
             assert (why.number, why.is_peer, len(why.tokens), client.stage) == (number, True, tokens, Stage.BROKEN)
             assert isinstance(why, Refused) == (number == 71) and (number != 71 or (why.at, why.byte) == (5, 0))
         else:
             raise AssertionError(f"{number} is wanted")
+    client = Client(512)
+    client.mark_reset(Reset.FULL)
+    client.start_batch("say a")
+    client.send_all()
+    try:
+        client.hear(ENDED)
+    except Fault as why:
+        assert (why.number, why.is_peer, client.stage) == (76, True, Stage.BROKEN)
+    else:
+        raise AssertionError("its answer tells of no reset")
+    numbers = (*range(20, 27), *range(31, 37), *range(41, 47), *range(51, 58), *range(61, 70), *range(71, 77))
+    texts = {str(Fault(it)).partition(": ")[2] for it in numbers}
+    assert len(texts) == len(numbers) and "see mouktelf.h" not in texts
+    assert [it for it in numbers if Fault(it).is_peer] == [it for it in numbers if it > 40]
+
+
+def is_linear():
+    """16,000 packets in one piece."""
+    packet = b"\4\0\0\x23" + bytes(31)
+    packets, rest = packets_of(packet * 16_000 + packet[:7], 512)
+    assert len(packets) == 16_000 and set(packets) == {packet} and rest == packet[:7]
 
 
 def by_a_reader_of_its_own():
-    client, _ = asked()
+    client = asked()
     assert client.heard_change(8, 7) and client.heard_other() and client.heard_done(0xFD, 0)
     assert client.message_ended() == Answer.FINISHED and client.descriptor == 7
 
@@ -109,7 +143,7 @@ def by_a_reader_of_its_own():
 def refused():
     for size in (0, 511, 32768, 65536, -1):
         refuses(23, Client, size)
-    client = Client(512)
+    client = StrictClient(512)
     refuses(23, client.start_batch, "")
     refuses(23, client.start_batch, "a" * 2001)
     refuses(23, client.start_begin, 6)
@@ -123,7 +157,7 @@ def refused():
     assert client.stage == Stage.BROKEN
     refuses(33, client.start_batch, "say a")
     refuses(41, packets_of, b"\xff" * 8, 512)
-    refuses(24, Client(512).take, b"")
+    refuses(24, StrictClient(512).take, b"")
 
 
 def schedules(names):
@@ -144,6 +178,8 @@ if __name__ == "__main__":
     cancelled()
     streamed()
     heard_at_once()
+    faults_of_a_peer()
+    is_linear()
     by_a_reader_of_its_own()
     refused()
     if sys.argv[1:]:

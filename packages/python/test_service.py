@@ -2,7 +2,7 @@
 
 The bytes are those of test_mouktelf.py; the numbers of faults are those of mouktelf.h."""
 
-from mouktelf import Answer, Asked, Fault, Lent, MessageKind, Rest, Service, Stage, Walk, Whose
+from mouktelf import Answer, Asked, Came, Fault, Lent, MessageKind, Rest, Service, Stage, Walk, Whose
 
 BEGUN = bytes.fromhex("0401002300000100E30B000808010000000000000000FD000000000000000000000000")
 ENDED = bytes.fromhex("0401001500000200FD000000000000000000000000")
@@ -23,9 +23,7 @@ def refuses(number, call, *words):
 
 def ask(service, lease):
     """A batch goes out; its packet, whose second byte has bit 8 (hexadecimal) where it asks for a full reset."""
-    client = service.client(lease)
-    client.start_batch("get a")
-    return client.send_all()
+    return service.ask_batch(lease, "get a")[1]
 
 
 def one_lease_each():
@@ -50,7 +48,8 @@ def stale_leases():
     assert service.give_back(spent) == (1, Rest.FREE, b"")
     for call in (client.send, client.cancel, client.finish, client.start_commit):
         refuses(UNKNOWN, call)
-    refuses(UNKNOWN, client.take, ENDED)
+    refuses(UNKNOWN, client.hear, ENDED)
+    refuses(UNKNOWN, client.heard_other)
     for call in (service.client, service.give_back, service.keep, service.cleaned, service.resume, service.abandon):
         refuses(UNKNOWN, call, spent)
     # Nor do they when somebody else has the connection.
@@ -71,16 +70,17 @@ def drains():
     assert service.holder(1) == 0
     refuses(ALL_IN_USE, service.lease)
     # The answer's end crosses the cancel.
-    assert service.connection(1).take(ENDED).answer == Answer.MORE
+    assert service.hear(1, ENDED) == Came(0, 1, Answer.MORE, [])
     assert service.drained(1) == Rest.DRAINING
     refuses(ALL_IN_USE, service.lease)
     refuses(NOT_NOW, service.clean, 1)
-    assert service.connection(1).take(ACKNOWLEDGED).answer == Answer.ACKNOWLEDGED
-    assert service.drained(1) == Rest.FREE
+    assert service.hear(1, ACKNOWLEDGED) == Came(0, 1, Answer.ACKNOWLEDGED, [])
+    refuses(NOT_NOW, service.drained, 1)
     lent = service.lease()
     assert (lent.number, lent.had) == (1, True)
     assert ask(service, lent.lease)[1] == 9
-    assert service.connection(1).take(RESET).answer == Answer.FINISHED
+    came = service.hear(1, RESET)
+    assert came[:3] == (lent.lease, 2, Answer.FINISHED) and [it.kind for it in came.tokens] == [0xE3, 0xFD]
 
 
 def kept():
@@ -90,7 +90,7 @@ def kept():
     client = service.client(lease)
     client.start_begin()
     client.send_all()
-    service.connection(1).take(BEGUN)
+    service.hear(1, BEGUN)
     ticket = service.keep(lease)
     refuses(UNKNOWN, client.start_commit)
     assert service.holder(1) == ticket
@@ -100,7 +100,7 @@ def kept():
     refuses(UNKNOWN, service.resume, ticket)
     # It goes on with its transaction: a reset that keeps that is asked for (bit 10).
     assert ask(service, lent.lease)[1] == 0x11
-    service.connection(1).take(RESET)
+    service.hear(1, RESET)
     ticket = service.keep(lent.lease)
     assert service.abandon(ticket) == (1, Rest.FREE, b"")
     refuses(UNKNOWN, service.abandon, ticket)
@@ -117,7 +117,10 @@ def cleaned():
         refuses(ALL_IN_USE, service.lease)
         assert ask(service, lent.lease)[1] == 9
         refuses(NOT_NOW, service.cleaned, lent.lease)
-        service.connection(1).take(answer)
+        try:
+            assert service.hear(1, answer).answer == Answer.FINISHED and answer == RESET
+        except Fault as fault:
+            assert fault.number == 76 and answer == ENDED
         assert service.cleaned(lent.lease) == (1, rest, b"") and len(service) == count
 
 
@@ -133,8 +136,8 @@ def lost():
     refuses(UNKNOWN, service.connection, 1)
     refuses(UNKNOWN, service.lost, 1)
     assert len(service) == 2 and clients[2].cancel() == (Answer.ASKED, ATTENTION)
-    assert clients[1].stage == Stage.READING and service.connection(2).take(ENDED).answer == Answer.FINISHED
-    assert service.connection(3).take(ENDED).answer == Answer.MORE
+    assert clients[1].stage == Stage.READING and service.hear(2, ENDED)[:3] == (leases[1], 1, Answer.FINISHED)
+    assert service.hear(3, ENDED).answer == Answer.MORE
     assert service.lease().number == 4
 
 
@@ -171,6 +174,25 @@ def asks():
     assert service.client(lent.lease).stage == Stage.BROKEN
 
 
+def logged_in():
+    """The login agrees on other packets than were asked for: the connection's client is one of that size, and no other's is."""
+    service, text = Service(2, 4096), "a" * 1000
+    first, second = service.lease(), service.lease()
+    service.logged_in(1, 512)
+    assert len(service.ask_batch(first.lease, text)[1]) == 2022 + 8 * 5 and len(service.ask_batch(second.lease, text)[1]) == 2022 + 8
+    assert service.hear(1, ENDED).answer == service.hear(2, ENDED).answer == Answer.FINISHED
+    refuses(NOT_NOW, service.logged_in, 1, 4096)
+    refuses(UNKNOWN, service.logged_in, 3, 4096)
+    service.give_back(first.lease)
+    lent = service.lease()
+    packets = service.ask_batch(lent.lease, text)[1]
+    assert packets[1] == 8 and int.from_bytes(packets[2:4], "big") == 512
+    for size in (0, 511, 32768, 65536, -1):
+        service = Service(1, 512)
+        service.lease()
+        refuses(OUT_OF_RANGE, service.logged_in, 1, size)
+
+
 def refused():
     for size in (0, 511, 32768, 65536):
         refuses(OUT_OF_RANGE, Service, 1, size)
@@ -184,7 +206,7 @@ def refused():
 
 
 if __name__ == "__main__":
-    parts = (one_lease_each, stale_leases, drains, kept, cleaned, lost, asks, refused)
+    parts = (one_lease_each, stale_leases, drains, kept, cleaned, lost, asks, logged_in, refused)
     for it in parts:
         it()
     print(f"{len(parts)} parts of the table, all right")

@@ -28,7 +28,7 @@ def told(token):
 
 class Client:
     def __init__(self, size):
-        self.size, self.client, self.rest = size, mouktelf.Client(size), b""
+        self.size, self.client, self.rest = size, mouktelf.StrictClient(size), b""
         self.batch, self.begin = self.client.start_batch, self.client.start_begin
         self.commit, self.rollback = self.client.start_commit, self.client.start_rollback
 

@@ -17,7 +17,7 @@ TYPES = {"size_t": "uint64", "uint64_t": "uint64", "int64_t": "int64", "uint32_t
          "uint16_t": "uint16", "uint8_t": "uint8"}
 # Nobody reads its fields, and it is long: it crosses as it is.
 WHOLE = "tds_wire_memory"
-IMPORTS = ("fmt", "sync", "unicode/utf16", "unsafe")
+IMPORTS = ("sync", "unicode/utf16", "unsafe")
 
 
 def go_type(kind):
@@ -59,8 +59,9 @@ def length_of(arguments, place):
     return None
 
 
-def crossing(argument, many, known):
-    """How an argument that points crosses: its Go type, and what is done before the call and behind it."""
+def crossing(argument, many, is_counted, known):
+    """How an argument that points crosses: its Go type, and what is done before the call and behind it. Of a room that is counted
+    those come back that the call says it wrote."""
     kind, word = parts(argument)
     item, is_const = kind.replace("const", "").replace("*", "").strip(), "const" in kind
     at, whole = f"of_{word}", f"unsafe.Slice({word}, {many})"
@@ -71,7 +72,8 @@ def crossing(argument, many, known):
     if item.startswith("struct "):
         size = known[item[7:]].size
         if many:
-            first, back = f"{at} := m.room(int({many}) * {size})", f"for k := range {whole} {{ {whole}[k].from(m, {at}+{size}*uint64(k)) }}"
+            turns = f"k := uint64(0); k < {many} && k < m.read64(of_count); k++" if is_counted else f"k := range {whole}"
+            first, back = f"{at} := m.room(int({many}) * {size})", f"for {turns} {{ {whole}[k].from(m, {at}+{size}*uint64(k)) }}"
             # The others are written by their calls, and not read.
             if word == "seats":
                 first += f"\n\tfor k := range {whole} {{ {whole}[k].to(m, {at}+{size}*uint64(k)) }}"
@@ -91,7 +93,8 @@ def call(prefix, answer, name, arguments, known):
             head.append(f"{word} {go_type(kind)}")
             words.append(word)
             continue
-        item, first, last = crossing(argument, length_of(arguments, place), known)
+        is_counted = [parts(it)[1] for it in arguments[place + 1: place + 3]] == ["room", "count"]
+        item, first, last = crossing(argument, length_of(arguments, place), is_counted, known)
         head.append(f"{word} *{go_type(item)}")
         words.append(f"of_{word}")
         before.append(first)

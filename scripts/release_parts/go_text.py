@@ -50,11 +50,11 @@ func (m *machine) room(size int) uint64 {
 	if wanted > cap(m.b) {
 		m.b = append(make([]byte, 0, 2*wanted), m.b...)
 	}
-	before := len(m.b)
-	m.b = m.b[:wanted]
-	for k := before; k < wanted; k++ {
-		m.b[k] = 0
+	lent := m.b[len(m.b):wanted]
+	for k := range lent {
+		lent[k] = 0
 	}
+	m.b = m.b[:wanted]
 	return uint64(at)
 }
 

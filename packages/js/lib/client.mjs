@@ -1,10 +1,10 @@
 // The client's end of one connection.
 
 import { calls, memory } from "./calls.mjs";
-import { FIRST_FAULT, done, within } from "./fault.mjs";
-import { BOTH, Tells, WALKED, walkedAt } from "./wire.mjs";
+import { Fault, done, within } from "./fault.mjs";
+import { Tells, Walk, hears } from "./wire.mjs";
 
-/** Who makes a client of a table's seat: `new Client(HELD, () => ADDRESS)`. */
+/** Who makes a client of a table's seat: `new Client(HELD, walk, () => ADDRESS)`. */
 export const HELD = Symbol("held");
 
 /** What a call did, as mouktelf.h numbers it. */
@@ -21,25 +21,27 @@ export const Reset = Object.freeze({ FULL: 1, KEEP_TRANSACTION: 2 });
 /** Which message a request is (MS-TDS 2.2.1). */
 export const MessageKind = Object.freeze({ BATCH: 1, PROCEDURE: 3, BULK_LOAD: 7, TRANSACTION: 14 });
 
-const OK = 0, FULL = 1, END = 9, TELL = 10, WANTS_BYTES = 24;
+const FULL = 1, TELL = 10, WANTS_BYTES = 24;
 const MESSAGE_MOST = 4022, TO_CLIENT = 1, NO_NEXT = 255;
 export const ATTENTION_MOST = 16, COUNT = 8, HEADER = 8;
 // The sizes of the header's structs, and where their fields lie.
-const PACKET = { size: 16 }, CURSOR = { size: 16, columns: 8 };
-export const CLIENT = { size: 40, descriptor: 0, packetSize: 24, stage: 26, columns: 32 };
-const TOKEN = {
-  size: 32, value: 0, start: 8, number: 16, line: 20, status: 24, command: 26, kind: 28, state: 29, severity: 30, change: 31,
-};
-const PACKETS = 16, TOKENS = 32, AT_ONCE = 256;
+const PACKET = { size: 16 };
+export const CLIENT = { size: 40, descriptor: 0, packetSize: 24, stage: 26, mark: 30, columns: 32 };
+const PACKETS = 16;
+/** Where it lies in memory. */
+export const AT = Symbol("at");
 
-/** The client's end of one connection, for packets of 512 to 32,767 bytes. */
+/** The client's end of one connection to any server, for packets of 512 to 32,767 bytes. */
 export class Client {
   #place;
+  #walk;
   #message = new Uint8Array();
   #kept = new Uint8Array();
   #waiting = 0;
 
-  constructor(size, place) {
+  /** `walk` is the one that it hears by, where the login acknowledged what a Walk has to know. */
+  constructor(size, walk, place) {
+    this.#walk = walk;
     if (size === HELD) {
       this.#place = place;
       return;
@@ -50,7 +52,10 @@ export class Client {
     done(calls.tds_client_new(size, this.#value));
   }
 
-  /** Where it lies in memory. */
+  get [AT]() {
+    return this.#place();
+  }
+
   get #at() {
     return this.#place();
   }
@@ -131,23 +136,11 @@ export class Client {
     return joined(packets);
   }
 
-  /** Cancels what is underway: [answer, bytes]. Behind ASKED send the bytes, and take packets until ACKNOWLEDGED. */
+  /** Cancels what is underway: [answer, bytes]. Behind ASKED send the bytes, and hear packets until ACKNOWLEDGED. */
   cancel() {
     const at = memory.lend(COUNT + ATTENTION_MOST);
     const answer = done(calls.tds_client_cancel(this.#value, BigInt(at + COUNT), BigInt(ATTENTION_MOST), BigInt(at)));
     return [answer, memory.copy(at + COUNT, memory.count(at))];
-  }
-
-  /**
-   * Takes one packet of an answer, from its first byte to its last: {answer, tokens}, where the answer is MORE, FINISHED or
-   * ACKNOWLEDGED. Behind a cancel no token is told.
-   */
-  take(packet) {
-    const isTold = this.stage === Stage.READING, columns = memory.view().getUint8(this.#at + CLIENT.columns);
-    const at = memory.lend(packet.length + 1);
-    memory.bytes(at, packet.length).set(packet);
-    const answer = done(calls.tds_client_take(this.#value, BigInt(at), BigInt(packet.length)));
-    return { answer, tokens: isTold ? tokensOf(packet.subarray(HEADER), columns) : [] };
   }
 
   /** In idle: begins a message of a MessageKind that is sent in parts. Its body comes by `put`, and `finish` ends it. */
@@ -187,10 +180,28 @@ export class Client {
     return memory.copy(out, memory.count(at));
   }
 
+  /** The walk that it hears by. */
+  get walk() {
+    return this.#walk ??= new Walk();
+  }
+
   /**
-   * Hears a token that a walk has found, of any server, in place of `take`. Whether the caller that asked is told of it:
-   * behind a cancel nobody is.
+   * Hears one packet of any server's answer, from its first byte to its last: {answer, tokens}, MORE, FINISHED or ACKNOWLEDGED, and
+   * the tokens that end in it and are told. Where they stand is counted from their message's first byte: keep its packets' data until
+   * it ends, if you read rows or texts. Behind a cancel nothing is told. A Fault has in `tokens` what was told before it.
    */
+  hear(packet) {
+    if (packet.length < HEADER) throw new Fault(WANTS_BYTES);
+    return this.hearData(packet.subarray(HEADER), packet[1] & 1);
+  }
+
+  /** The same of a packet's data, behind its header, or of a piece of them; `ends` is bit 1 of the packet's status, with its last piece. */
+  hearData(data, ends) {
+    const at = this.#at, walk = this.walk;
+    return hears(at, walk, data, ends);
+  }
+
+  /** Hears a token that a walk of your own has found, in place of `hear`. Whether the caller that asked is told of it: behind a cancel nobody is. */
   heard(token) {
     switch (token.tells) {
       case Tells.DONE:
@@ -218,27 +229,6 @@ export class Client {
   /** Hears any other token. */
   heardOther() {
     return done(calls.tds_client_heard_other(this.#value)) === TELL;
-  }
-
-  /**
-   * Hears all tokens that end in the data of a packet of any server's answer (type 04, behind its header), in one call for 256 of
-   * them: {answer, tokens}, MORE, FINISHED or ACKNOWLEDGED, and those that are told. `ends` is bit 1 of the packet's status. It is
-   * `walk.tokens`, `heard` and `messageEnded` in one, and a Fault of it has in `tokens` what was told before.
-   */
-  hear(walk, data, ends) {
-    const room = AT_ONCE * WALKED.size, at = memory.lend(2 * COUNT + room + data.length);
-    const found = at + 2 * COUNT, bytes = found + room, tokens = [];
-    memory.bytes(bytes, data.length).set(data);
-    for (let passed = 0, answer = TELL; ; passed += memory.count(at)) {
-      if (answer !== TELL) {
-        if (answer < FIRST_FAULT) return { answer: answer || Answer.MORE, tokens };
-        throw Object.assign(walk.fault(answer), { tokens });
-      }
-      answer = calls.tds_client_hear(this.#value, ...walk[BOTH], BigInt(bytes + passed), BigInt(data.length - passed), Number(ends),
-        BigInt(at), BigInt(found), BigInt(AT_ONCE), BigInt(at + COUNT));
-      const count = memory.count(at + COUNT);
-      for (let place = 0; place < count; place++) tokens.push(walkedAt(found + place * WALKED.size));
-    }
   }
 
   /** Hears that a message has ended, behind the packet whose status has bit 1: MORE, FINISHED or ACKNOWLEDGED. */
@@ -275,46 +265,5 @@ export function packetsOf(data, size) {
     }
     if (answer === WANTS_BYTES) return [packets, data.subarray(passed)];
     done(answer);
-  }
-}
-
-/** The tokens of a packet's data, {type, ..} each, where the client knew so many columns before it. */
-function tokensOf(data, columns) {
-  const at = memory.lend(COUNT + CURSOR.size + TOKENS * TOKEN.size + data.length), cursor = at + COUNT;
-  const first = cursor + CURSOR.size, bytes = first + TOKENS * TOKEN.size, told = [];
-  memory.bytes(cursor, CURSOR.size).fill(0);
-  memory.bytes(cursor + CURSOR.columns, 1)[0] = columns;
-  memory.bytes(bytes, data.length).set(data);
-  for (let answer = OK; answer !== END;) {
-    answer = done(calls.tds_tokens_next(
-      BigInt(bytes), BigInt(data.length), BigInt(cursor), BigInt(first), BigInt(TOKENS), BigInt(at)));
-    for (let place = 0; place < memory.count(at); place++) told.push(tokenAt(first + place * TOKEN.size, data));
-  }
-  return told;
-}
-
-const utf16 = new TextDecoder("utf-16le");
-
-function tokenAt(at, data) {
-  const view = memory.view(), start = memory.count(at + TOKEN.start), number = view.getInt32(at + TOKEN.number, true);
-  const value = view.getBigUint64(at + TOKEN.value, true), kind = view.getUint8(at + TOKEN.kind);
-  const own = new DataView(data.buffer, data.byteOffset + start);
-  switch (kind) {
-    case 0xab:
-    case 0xaa: {
-      const from = start + 11, text = utf16.decode(data.subarray(from, from + 2 * own.getUint16(9, true)));
-      const [state, severity] = [view.getUint8(at + TOKEN.state), view.getUint8(at + TOKEN.severity)];
-      return { type: kind === 0xaa ? "error" : "info", number, state, severity, line: view.getInt32(at + TOKEN.line, true), text };
-    }
-    case 0x79:
-      return { type: "returnStatus", value: number };
-    case 0x81:
-      return { type: "columns", count: Number(value) };
-    case 0xd1:
-      return { type: "row", values: Array.from({ length: Number(value) }, (_, place) => own.getInt32(1 + 4 * place, true)) };
-    case 0xe3:
-      return { type: "change", kind: view.getUint8(at + TOKEN.change), descriptor: value };
-    default:
-      return { type: "done", status: view.getUint16(at + TOKEN.status, true), rows: value };
   }
 }

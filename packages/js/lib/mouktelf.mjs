@@ -3,8 +3,10 @@
 // socket is yours.
 
 export { Answer, Client, MessageKind, Reset, Stage, packetsOf } from "./client.mjs";
-export { Fault } from "./fault.mjs";
+export { Fault, Refused } from "./fault.mjs";
 export { VERSION } from "./library.mjs";
 export { isLetIn, login } from "./login.mjs";
+export { Outgoing } from "./outgoing.mjs";
 export { Rest, Service } from "./service.mjs";
-export { Refused, Tells, Walk } from "./wire.mjs";
+export { StrictClient } from "./strict.mjs";
+export { Tells, Walk } from "./wire.mjs";

@@ -1,16 +1,17 @@
 // A table of connections that callers share, in front of any server: who holds each one, and what becomes of it.
 
 import { calls, memory } from "./calls.mjs";
-import { ATTENTION_MOST, COUNT, Client, HEADER, HELD, MessageKind, joined } from "./client.mjs";
+import { ATTENTION_MOST, CLIENT, COUNT, Client, HEADER, HELD, MessageKind, Stage, joined } from "./client.mjs";
 import { Fault, done, within } from "./fault.mjs";
-import { WALKED } from "./wire.mjs";
+import { WALKED, Walk, hears } from "./wire.mjs";
 
 // The sizes of the header's structs, and where their fields lie.
 const TABLE = { size: 32, last: 0, given: 8, count: 16, packetSize: 24 };
-const SEAT = { size: 72, number: 40, holder: 48, place: 64 };
+const SEAT = { size: 72, number: 40, holder: 48, asked: 56, place: 64 };
 const ASKED = { size: 16, number: 0, request: 8 }, WHOSE = { size: 16, lease: 0, request: 8 }, FULL = 1, TELL = 10;
 const LENT = { size: 24, lease: 0, number: 8, had: 16 };
-const FIRST_HELD = 1, LAST_HELD = 3, MOST_SEATS = 1 << 20, OUT_OF_RANGE = 23;
+// Where a seat is: lent, being cleaned, kept for a ticket, draining.
+const LENT_NOW = 1, CLEANING = 2, KEPT = 3, DRAINS = 4, MOST_SEATS = 1 << 20, OUT_OF_RANGE = 23, WANTS_BYTES = 24, NOT_NOW = 36;
 
 /**
  * Where a connection is that nobody holds any more: it may be lent again; it drains until its acknowledgement has come; or it is
@@ -37,6 +38,8 @@ export class Service {
   #clients = new Map();
   /** Of a lease's request: what waits, and how much of it does. */
   #kept = new Map();
+  /** Of a connection's number: the walk that it hears by. */
+  #walks = new Map();
 
   constructor(most, size) {
     this.#most = within(most, MOST_SEATS);
@@ -67,8 +70,13 @@ export class Service {
 
   #end(name, holder) {
     const at = memory.lend(COUNT), rest = this.#call(name, holder, BigInt(at));
+    return this.#ended(holder, memory.view().getBigUint64(at, true), rest, new Uint8Array());
+  }
+
+  #ended(holder, number, rest, sends) {
     this.#forget(holder);
-    return { number: memory.view().getBigUint64(at, true), rest, sends: new Uint8Array() };
+    if (rest === Rest.CLOSED) this.#walks.delete(number);
+    return { number, rest, sends };
   }
 
   /**
@@ -94,13 +102,15 @@ export class Service {
     this.#kept.delete(lease);
   }
 
-  get #packetSize() {
-    return memory.view().getUint16(this.#at + TABLE.packetSize, true);
+  /** The size of the packets of a lease's connection. */
+  #packetSize(key) {
+    const seat = this.#seat("tds_service_find", key);
+    return memory.view().getUint16(seat + CLIENT.packetSize, true);
   }
 
   /** Begins a request of a lease, of a MessageKind: {number, request}. Its body comes by `put`, and `finish` ends it. */
   ask(lease, kind) {
-    const key = id(lease), room = this.#packetSize - HEADER, at = memory.lend(COUNT + ASKED.size + room), asked = at + COUNT;
+    const key = id(lease), room = this.#packetSize(key) - HEADER, at = memory.lend(COUNT + ASKED.size + room), asked = at + COUNT;
     const kept = asked + ASKED.size;
     this.#call("tds_service_ask", key, within(kind, 255), BigInt(kept), BigInt(room), BigInt(at), BigInt(asked));
     this.#kept.set(key, { kept: memory.copy(kept, room), waiting: memory.count(at) });
@@ -109,12 +119,12 @@ export class Service {
   }
 
   #waits(key) {
-    return this.#kept.get(key) ?? { kept: new Uint8Array(this.#packetSize - HEADER), waiting: 0 };
+    return this.#kept.get(key) ?? { kept: new Uint8Array(this.#packetSize(key) - HEADER), waiting: 0 };
   }
 
   /** Puts bytes of the request's body, and gives the packets that are full. */
   put(lease, data) {
-    const key = id(lease), waits = this.#waits(key), room = this.#packetSize, length = waits.kept.length, packets = [];
+    const key = id(lease), waits = this.#waits(key), room = this.#packetSize(key), length = waits.kept.length, packets = [];
     for (let answer = FULL; answer === FULL;) {
       // waiting, taken, count; what is kept; the packet; the bytes
       const at = memory.lend(3 * COUNT + length + room + data.length);
@@ -135,7 +145,7 @@ export class Service {
 
   /** Ends the request, and gives its last packet. */
   finish(lease) {
-    const key = id(lease), { kept, waiting } = this.#waits(key), room = this.#packetSize;
+    const key = id(lease), { kept, waiting } = this.#waits(key), room = this.#packetSize(key);
     const at = memory.lend(COUNT + kept.length + room), out = at + COUNT + kept.length;
     memory.bytes(at + COUNT, kept.length).set(kept);
     this.#call("tds_service_finish", key, BigInt(at + COUNT), BigInt(waiting), BigInt(out), BigInt(room), BigInt(at));
@@ -157,8 +167,42 @@ export class Service {
   }
 
   /**
-   * Hears a token that a walk has found on the connection of this number: {lease, request, isTold}, whose it is (0n where no lease
-   * holds the connection), and whether he is told.
+   * Hears one packet on the connection of this number, whoever holds it, as `hear` of a client: {answer, tokens, lease, request}, the
+   * lease that holds it (0n where none does) and its request, which are told the tokens. A connection that drained is free behind
+   * ACKNOWLEDGED.
+   */
+  hear(number, packet) {
+    const key = id(number), seat = this.#seat("tds_service_at", key), view = memory.view(), place = view.getUint8(seat + SEAT.place);
+    if (packet.length < HEADER) throw new Fault(WANTS_BYTES);
+    const lease = place === LENT_NOW || place === CLEANING ? view.getBigUint64(seat + SEAT.holder, true) : 0n;
+    const request = view.getBigUint64(seat + SEAT.asked, true), walk = this.#walkOf(key);
+    const heard = hears(this.#seat("tds_service_at", key), walk, packet.subarray(HEADER), packet[1] & 1);
+    if (place === DRAINS) this.drained(key);
+    return { ...heard, lease, request };
+  }
+
+  #walkOf(key) {
+    if (!this.#walks.has(key)) this.#walks.set(key, new Walk());
+    return this.#walks.get(key);
+  }
+
+  /**
+   * The connection of this number, which is new, is logged in, and the login agreed on packets of this size; `walk` is the one that it
+   * hears by, where the login acknowledged what a Walk has to know. Fault 36: something was asked on it.
+   */
+  loggedIn(number, size, walk) {
+    const key = id(number), seat = this.#seat("tds_service_at", key), view = memory.view();
+    if (view.getBigUint64(seat + SEAT.asked, true) || view.getUint8(seat + CLIENT.stage) !== Stage.IDLE || view.getUint8(seat + CLIENT.mark))
+      throw new Fault(NOT_NOW);
+    // A size that no client can have is refused before anything is written.
+    new Client(size);
+    done(calls.tds_client_new(size, BigInt(seat)));
+    if (walk) this.#walks.set(key, walk);
+  }
+
+  /**
+   * Hears a token that a walk of your own has found on the connection of this number, in place of `hear`: {lease, request, isTold}, whose it is
+   * (0n where no lease holds the connection), and whether he is told.
    */
   came(number, token) {
     const at = memory.lend(WHOSE.size + WALKED.size), value = at + WHOSE.size, view = memory.view();
@@ -173,7 +217,7 @@ export class Service {
   }
 
   /**
-   * Hears that a message has ended there, behind the packet whose status has bit 1: {answer, lease, request}; `isCut` where the walk
+   * Behind `came` hears that a message has ended there, with the packet whose status has bit 1: {answer, lease, request}; `isCut` where the walk
    * isn't between two tokens then. FINISHED: the request has its whole answer. ACKNOWLEDGED: its cancel is acknowledged, and a
    * connection that drained is free. MORE: the acknowledgement is still to come.
    */
@@ -189,7 +233,10 @@ export class Service {
   client(lease) {
     const key = id(lease), place = () => this.#seat("tds_service_find", key);
     place();
-    if (!this.#clients.has(key)) this.#clients.set(key, new Client(HELD, place));
+    if (!this.#clients.has(key)) {
+      const number = memory.view().getBigUint64(place() + SEAT.number, true);
+      this.#clients.set(key, new Client(HELD, this.#walkOf(number), place));
+    }
     return this.#clients.get(key);
   }
 
@@ -197,13 +244,13 @@ export class Service {
   connection(number) {
     const key = id(number), place = () => this.#seat("tds_service_at", key);
     place();
-    return new Client(HELD, place);
+    return new Client(HELD, this.#walkOf(key), place);
   }
 
   /** The number of the lease, or of the ticket, that holds the connection of this number; 0n where none does. */
   holder(number) {
     const seat = this.#seat("tds_service_at", id(number)), view = memory.view(), place = view.getUint8(seat + SEAT.place);
-    return place >= FIRST_HELD && place <= LAST_HELD ? view.getBigUint64(seat + SEAT.holder, true) : 0n;
+    return place >= LENT_NOW && place <= KEPT ? view.getBigUint64(seat + SEAT.holder, true) : 0n;
   }
 
   /**
@@ -214,8 +261,7 @@ export class Service {
     const key = id(lease), at = memory.lend(2 * COUNT + ATTENTION_MOST), out = at + 2 * COUNT;
     const rest = this.#call(
       "tds_service_give_back", key, BigInt(out), BigInt(ATTENTION_MOST), BigInt(at), BigInt(at + COUNT));
-    this.#forget(key);
-    return { number: memory.view().getBigUint64(at + COUNT, true), rest, sends: memory.copy(out, memory.count(at)) };
+    return this.#ended(key, memory.view().getBigUint64(at + COUNT, true), rest, memory.copy(out, memory.count(at)));
   }
 
   /**
@@ -231,6 +277,7 @@ export class Service {
     const key = id(number), holder = this.holder(key);
     this.#call("tds_service_lost", key);
     this.#forget(holder);
+    this.#walks.delete(key);
   }
 
   /** Keeps a connection that is idle in a transaction, and gives a ticket for it. The lease is spent. */

@@ -1,9 +1,9 @@
 // Where each token of an answer ends, for every type of column of TDS 7.2 to 7.4 (MS-TDS 2.2.7).
 
 import { calls, memory } from "./calls.mjs";
-import { Fault, within } from "./fault.mjs";
+import { FIRST_FAULT, Fault, Refused, within } from "./fault.mjs";
 
-const COUNT = 8;
+const COUNT = 8, AT_ONCE = 256, TELL = 10, MORE = 1;
 /** Where a walk and its memory lie, for a client that hears by it. */
 export const BOTH = Symbol("both");
 
@@ -18,14 +18,6 @@ export const WALKED = {
   size: 88, start: 0, length: 8, value: 16, oldValue: 24, text: 32, others: 48, number: 64, size32: 68, status: 72,
   command: 74, kind: 76, told: 77, change: 78, state: 79, severity: 80, recoverable: 81,
 };
-
-/** A byte that no answer has: `number` as mouktelf.h numbers it (71 to 74), and its place in the message. */
-export class Refused extends Fault {
-  constructor(number, at, byte) {
-    super(number, ` at ${at}, the byte ${byte}`);
-    Object.assign(this, { at, byte });
-  }
-}
 
 /**
  * Finds where each token of an answer ends, for every type of column of TDS 7.2 to 7.4 (MS-TDS 2.2.7). The bytes come in
@@ -80,17 +72,105 @@ export class Walk {
   }
 }
 
+/**
+ * Lets the client that lies there hear what ends in these data, by this walk: {answer, tokens}. A packet goes in in one call for 256
+ * tokens. A Fault has in `tokens` what was told before it.
+ */
+export function hears(client, walk, data, ends) {
+  const room = AT_ONCE * WALKED.size, at = memory.lend(2 * COUNT + room + data.length);
+  const found = at + 2 * COUNT, bytes = found + room, tokens = [], [value, own] = walk[BOTH];
+  const [first, count, taken, most, last] = [BigInt(found), BigInt(at + COUNT), BigInt(at), BigInt(AT_ONCE), Number(ends)];
+  memory.bytes(bytes, data.length).set(data);
+  for (let passed = 0, answer = TELL; ;) {
+    answer = calls.tds_client_hear(
+      BigInt(client), value, own, BigInt(bytes + passed), BigInt(data.length - passed), last, taken, first, most, count);
+    const view = memory.view();
+    for (let place = 0, all = memory.count(at + COUNT); place < all; place++) tokens.push(walkedIn(view, found + place * WALKED.size));
+    if (answer !== TELL) {
+      if (answer < FIRST_FAULT) return { answer: answer || MORE, tokens };
+      throw Object.assign(walk.fault(answer), { tokens });
+    }
+    passed += memory.count(at);
+  }
+}
+
 /** The token that lies there. */
 export function walkedAt(at) {
-  const view = memory.view(), long = field => view.getBigUint64(at + field, true);
-  const place = field => ({ start: Number(long(field)), length: Number(long(field + 8)) });
-  return {
-    start: Number(long(WALKED.start)), length: Number(long(WALKED.length)), kind: view.getUint8(at + WALKED.kind),
-    tells: view.getUint8(at + WALKED.told), value: long(WALKED.value), oldValue: long(WALKED.oldValue),
-    text: place(WALKED.text), others: place(WALKED.others), number: view.getInt32(at + WALKED.number, true),
-    size: view.getUint32(at + WALKED.size32, true), status: view.getUint16(at + WALKED.status, true),
-    command: view.getUint16(at + WALKED.command, true), change: view.getUint8(at + WALKED.change),
-    state: view.getUint8(at + WALKED.state), severity: view.getUint8(at + WALKED.severity),
-    isRecoverable: view.getUint8(at + WALKED.recoverable) === 1,
-  };
+  return walkedIn(memory.view(), at);
+}
+
+/** A number of 64 bits that is read as one of JavaScript's: places, which are below 2^53. */
+function numberAt(view, at) {
+  return view.getUint32(at, true) + view.getUint32(at + 4, true) * 2 ** 32;
+}
+
+/** A token that has ended. What most tokens haven't is read where it is asked for, of bytes of its own. */
+class Walked {
+  #own;
+
+  constructor(view, at) {
+    this.start = numberAt(view, at + WALKED.start);
+    this.length = numberAt(view, at + WALKED.length);
+    this.kind = view.getUint8(at + WALKED.kind);
+    this.tells = view.getUint8(at + WALKED.told);
+    this.#own = this.tells === Tells.NOTHING ? NOTHING : new DataView(view.buffer.slice(at, at + WALKED.size));
+  }
+
+  #place(field) {
+    return { start: numberAt(this.#own, field), length: numberAt(this.#own, field + 8) };
+  }
+
+  get value() {
+    return this.#own.getBigUint64(WALKED.value, true);
+  }
+
+  get oldValue() {
+    return this.#own.getBigUint64(WALKED.oldValue, true);
+  }
+
+  get text() {
+    return this.#place(WALKED.text);
+  }
+
+  get others() {
+    return this.#place(WALKED.others);
+  }
+
+  get number() {
+    return this.#own.getInt32(WALKED.number, true);
+  }
+
+  get size() {
+    return this.#own.getUint32(WALKED.size32, true);
+  }
+
+  get status() {
+    return this.#own.getUint16(WALKED.status, true);
+  }
+
+  get command() {
+    return this.#own.getUint16(WALKED.command, true);
+  }
+
+  get change() {
+    return this.#own.getUint8(WALKED.change);
+  }
+
+  get state() {
+    return this.#own.getUint8(WALKED.state);
+  }
+
+  get severity() {
+    return this.#own.getUint8(WALKED.severity);
+  }
+
+  get isRecoverable() {
+    return this.#own.getUint8(WALKED.recoverable) === 1;
+  }
+}
+
+const NOTHING = new DataView(new ArrayBuffer(WALKED.size));
+
+function walkedIn(view, at) {
+  return new Walked(view, at);
 }

@@ -34,7 +34,7 @@ func expect(what string, holds bool) {
 }
 
 // receive takes what came packet by packet, and prints what is told.
-func receive(client *tds.Client, digits string) (answer tds.Answer, err error) {
+func receive(client *tds.StrictClient, digits string) (answer tds.Answer, err error) {
 	piece, err := hex.DecodeString(digits)
 	must(err)
 	packets, _, err := tds.Packets(piece, 512)
@@ -71,7 +71,7 @@ func show(token *tds.Token) {
 	}
 }
 
-func ask(client *tds.Client, started error) (out []byte) {
+func ask(client *tds.StrictClient, started error) (out []byte) {
 	must(started)
 	for {
 		answer, err := client.Send(&out)
@@ -83,7 +83,7 @@ func ask(client *tds.Client, started error) (out []byte) {
 }
 
 func connection() {
-	client, err := tds.New(512)
+	client, err := tds.NewStrict(512)
 	must(err)
 	ask(client, client.StartBegin(0))
 	answer, err := receive(client, begun)

@@ -41,7 +41,7 @@ func decoded(digits ...string) (all [][]byte) {
 
 type run struct {
 	random *rand.Rand
-	client *mouktelf.Client
+	client *mouktelf.StrictClient
 	walk   *mouktelf.Walk
 	said   func(words ...any)
 }
@@ -87,9 +87,9 @@ func (r *run) take(packet []byte) {
 // one is one call, of any of the package.
 func (r *run) one() {
 	var out []byte
-	switch r.random.Intn(16) {
+	switch r.random.Intn(17) {
 	case 0:
-		client, err := mouktelf.New(uint16([]int{511, 512, 4096, 32767, 32768, r.random.Intn(65536)}[r.random.Intn(6)]))
+		client, err := mouktelf.NewStrict(uint16([]int{511, 512, 4096, 32767, 32768, r.random.Intn(65536)}[r.random.Intn(6)]))
 		if r.said(err); err == nil {
 			r.client = client
 		}
@@ -125,6 +125,13 @@ func (r *run) one() {
 	case 14:
 		told, err := r.client.HeardDone(uint8(0xFD+r.random.Intn(3)), uint16(r.random.Intn(65536)))
 		r.said(told, err)
+	case 15:
+		var told []mouktelf.Walked
+		answer, err := r.client.Hear(r.packet(), &told)
+		r.said(answer, err, told)
+		if err != nil {
+			r.client.Walk().Restart()
+		}
 	default:
 		r.walked()
 	}
@@ -165,7 +172,7 @@ func main() {
 		calls = given
 	}
 	sum := fnv.New64a()
-	client, err := mouktelf.New(512)
+	client, err := mouktelf.NewStrict(512)
 	if err != nil {
 		panic(err)
 	}

@@ -58,7 +58,7 @@ func walked(data []byte, size int, form, agreed string) (lines []string) {
 		piece := data[:min(size, len(data))]
 		count, token, err := walk.Next(piece)
 		if refused, is := err.(mouktelf.Refused); is {
-			return append(lines, fmt.Sprintf("fault %d at %d", refused.Number, refused.At))
+			return append(lines, fmt.Sprintf("fault %d at %d", uint8(refused.Fault), refused.At))
 		}
 		if token != nil {
 			lines = append(lines, line(token, form))

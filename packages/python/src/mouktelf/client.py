@@ -1,20 +1,18 @@
 """The client's end of one connection."""
 
-import struct
-from ctypes import byref, c_char_p, c_size_t, c_uint8, c_uint16, c_void_p, cast
-from dataclasses import dataclass
+from ctypes import byref, c_char_p, c_size_t, c_uint8, c_uint16
 from enum import IntEnum
-from typing import Iterator, List, Optional, Tuple, Union
+from typing import List, NamedTuple, Optional, Tuple
 
-from ._library import LIBRARY, ClientValue, Cursor, Packet, TokenValue, WireToken
-from .fault import Fault, Refused
-from .wire import Tells, Walk, Walked, _walked
+from ._library import LIBRARY, ClientValue, Packet
+from .fault import Fault
+from .wire import AT_ONCE, ROOM, Tells, Walk, Walked, address_of
 
 _MESSAGE_MOST = 4022
 _NO_NEXT = 255
 _TO_CLIENT = 1
-_OK, _FULL, _END, _TELL, _WANTS_BYTES, _FIRST_FAULT = 0, 1, 9, 10, 24, 20
-_HEADER, _RESET, _NEW_IS_TOLD, _AT_ONCE = 8, 18, (8, 11), 256
+_FULL, _TELL, _WANTS_BYTES, _FIRST_FAULT = 1, 10, 24, 20
+_HEADER, _RESET, _NEW_IS_TOLD = 8, 18, (8, 11)
 
 
 class Answer(IntEnum):
@@ -59,69 +57,8 @@ class Reset(IntEnum):
     KEEP_TRANSACTION = 2
 
 
-@dataclass(frozen=True)
-class Message:
-    """An INFO or an ERROR."""
-
-    is_error: bool
-    number: int
-    state: int
-    severity: int
-    line: int
-    text: str
-
-
-@dataclass(frozen=True)
-class ReturnStatus:
-    """A RETURNSTATUS."""
-
-    value: int
-
-
-@dataclass(frozen=True)
-class Columns:
-    """A COLMETADATA of so many INT4 columns."""
-
-    count: int
-
-
-@dataclass(frozen=True)
-class Row:
-    """A ROW."""
-
-    values: Tuple[int, ...]
-
-
-@dataclass(frozen=True)
-class Change:
-    """An ENVCHANGE: 8 begin, 9 commit, 10 rollback, 18 the end of a reset; and the transaction's descriptor."""
-
-    kind: int
-    descriptor: int
-
-
-@dataclass(frozen=True)
-class Done:
-    """A DONE."""
-
-    status: int
-    rows: int
-
-
-Token = Union[Message, ReturnStatus, Columns, Row, Change, Done]
-
-
-@dataclass(frozen=True)
-class Taken:
-    """What one packet of an answer did: MORE, FINISHED or ACKNOWLEDGED, and the tokens that are told."""
-
-    answer: Answer
-    tokens: List[Token]
-
-
-@dataclass(frozen=True)
-class Heard:
-    """What the data of one packet did: MORE, FINISHED or ACKNOWLEDGED, and the tokens that are told, as a walk finds them."""
+class Heard(NamedTuple):
+    """What one packet of an answer did: MORE, FINISHED or ACKNOWLEDGED, and the tokens that are told, as a walk finds them."""
 
     answer: Answer
     tokens: List[Walked]
@@ -134,10 +71,11 @@ def _done(number: int) -> int:
 
 
 class Client:
-    """The client's end of one connection, for packets of 512 to 32,767 bytes."""
+    """The client's end of one connection to any server, for packets of 512 to 32,767 bytes."""
 
-    def __init__(self, size: int) -> None:
-        self._value, self._message = ClientValue(), b""
+    def __init__(self, size: int, walk: Optional[Walk] = None) -> None:
+        """`walk` is the one that it hears by, where the login acknowledged what a `Walk` has to know."""
+        self._value, self._message, self._walk = ClientValue(), b"", walk
         self._kept, self._waiting = (c_uint8 * 1)(), c_size_t()
         if not 0 <= size <= 0xFFFF:
             raise Fault(23)
@@ -196,16 +134,10 @@ class Client:
         return b"".join(packets)
 
     def cancel(self) -> Tuple[Answer, bytes]:
-        """Cancels what is underway. Behind ASKED send the bytes, and take packets until ACKNOWLEDGED."""
+        """Cancels what is underway. Behind ASKED send the bytes, and hear packets until ACKNOWLEDGED."""
         out, count = (c_uint8 * 16)(), c_size_t()
         number = _done(LIBRARY.tds_client_cancel(byref(self._value), out, 16, byref(count)))
         return Answer(number), bytes(out[: count.value])
-
-    def take(self, packet: bytes) -> Taken:
-        """Takes one packet of an answer, from its first byte to its last. Behind a cancel nothing is told of it."""
-        is_told, columns = self._value.stage == Stage.READING, self._value.columns
-        answer = Answer(_done(LIBRARY.tds_client_take(byref(self._value), packet, len(packet))))
-        return Taken(answer, list(_tokens(packet[8:], columns)) if is_told else [])
 
     def start_message(self, kind: MessageKind) -> None:
         """In idle: begins a message that is sent in parts. Its body comes by `put`, and `finish` ends it."""
@@ -233,8 +165,8 @@ class Client:
         return bytes(out[: count.value])
 
     def heard(self, token: Walked) -> bool:
-        """Hears a token that a walk has found, of any server, in place of `take`. Whether the caller that asked is told
-        of it: behind a cancel nobody is."""
+        """Hears a token that a walk of your own has found, in place of `hear`. Whether the caller that asked is told of it: behind
+        a cancel nobody is."""
         if token.tells == Tells.DONE:
             return self.heard_done(token.kind, token.status)
         if token.tells == Tells.TRANSACTION:
@@ -253,22 +185,39 @@ class Client:
         """Hears any other token."""
         return _done(LIBRARY.tds_client_heard_other(byref(self._value))) == _TELL
 
-    def hear(self, walk: Walk, data: bytes, ends: bool) -> Heard:
-        """Hears all tokens that end in the data of a packet of any server's answer (type 04, behind its header), in one call for
-        256 of them; `ends` is bit 1 of the packet's status. It is `walk.tokens`, `heard` and `message_ended` in one, and a
-        `Fault` of it has in `tokens` what was told before."""
-        data, at, told, answer = bytes(data), 0, [], _TELL
-        first, found, taken, count = cast(c_char_p(data), c_void_p).value or 0, (WireToken * _AT_ONCE)(), c_size_t(), c_size_t()
+    @property
+    def walk(self) -> Walk:
+        """The walk that it hears by."""
+        if self._walk is None:
+            self._walk = Walk()
+        return self._walk
+
+    def hear(self, packet: bytes) -> Heard:
+        """Hears one packet of any server's answer, from its first byte to its last, and tells the tokens that end in it. Where
+        they stand is counted from their message's first byte: keep its packets' data until it ends, if you read rows or texts.
+        Behind a cancel nothing is told. A `Fault` has in `tokens` what was told before it."""
+        if len(packet) < _HEADER:
+            raise Fault(_WANTS_BYTES)
+        return self._hear(bytes(packet), _HEADER, packet[1] & 1)
+
+    def hear_data(self, data: bytes, ends: bool) -> Heard:
+        """The same of a packet's data, behind its header, or of a piece of them; `ends` is bit 1 of the packet's status, with its
+        last piece."""
+        return self._hear(bytes(data), 0, ends)
+
+    def _hear(self, data: bytes, at: int, ends: int) -> Heard:
+        # It is `walk.tokens`, `heard` and `message_ended`, for 256 tokens in one call.
+        walk, room, told, answer = self.walk, ROOM, [], _TELL
+        first, client, both = address_of(data), byref(self._value), (byref(walk._value), byref(walk._memory))
+        taken, count = byref(room.taken), byref(room.count)
         while answer == _TELL:
             answer = LIBRARY.tds_client_hear(
-                byref(self._value), byref(walk._value), byref(walk._memory), c_char_p(first + at), len(data) - at, ends,
-                byref(taken), found, _AT_ONCE, byref(count))
-            told += [_walked(found[place]) for place in range(count.value)]
-            at += taken.value
+                client, *both, c_char_p(first + at), len(data) - at, ends, taken, room.tokens, AT_ONCE, count)
+            told += room.told(room.count.value)
+            at += room.taken.value
         if answer < _FIRST_FAULT:
             return Heard(Answer(answer or Answer.MORE), told)
-        refused = walk._value.refused
-        fault = Refused(answer, refused.at, refused.byte) if 71 <= answer <= 74 else Fault(answer)
+        fault = walk.fault(answer)
         fault.tokens = told
         raise fault
 
@@ -293,7 +242,7 @@ def packets_of(data: bytes, size: int) -> Tuple[List[bytes], bytes]:
         raise Fault(23)
     data = bytes(data)
     found, packets, count, at = (Packet * 16)(), [], c_size_t(), 0
-    first = cast(c_char_p(data), c_void_p).value or 0
+    first = address_of(data)
     while True:
         number = LIBRARY.tds_packets_read(c_char_p(first + at), len(data) - at, size, _TO_CLIENT, found, 16, byref(count))
         for packet in found[: count.value]:
@@ -302,29 +251,3 @@ def packets_of(data: bytes, size: int) -> Tuple[List[bytes], bytes]:
         if number == _WANTS_BYTES:
             return packets, data[at:]
         _done(number)
-
-
-def _tokens(data: bytes, columns: int) -> Iterator[Token]:
-    cursor, read, count, number = Cursor(0, columns), (TokenValue * 32)(), c_size_t(), _OK
-    while number == _OK:
-        number = LIBRARY.tds_tokens_next(data, len(data), byref(cursor), read, 32, byref(count))
-        for it in read[: count.value]:
-            yield _token(it, data[it.start:])
-    if number != _END:
-        raise Fault(number)
-
-
-def _token(it: TokenValue, data: bytes) -> Token:
-    if it.kind in (0xAB, 0xAA):
-        length = 2 * int.from_bytes(data[9:11], "little")
-        text = data[11: 11 + length].decode("utf-16-le", "surrogatepass")
-        return Message(it.kind == 0xAA, it.number, it.state, it.severity, it.line, text)
-    if it.kind == 0x79:
-        return ReturnStatus(it.number)
-    if it.kind == 0x81:
-        return Columns(it.value)
-    if it.kind == 0xD1:
-        return Row(struct.unpack_from(f"<{it.value}i", data, 1))
-    if it.kind == 0xE3:
-        return Change(it.change, it.value)
-    return Done(it.status, it.value)

@@ -1,29 +1,57 @@
 """Why a call was not done, or what the peer did wrong."""
 
+# The one table of what each number says; the packages for other languages have the same (tests/versions compares them).
 _WORDS = {
-    21: "the buffer is too short", 22: "memory, or a number, is used up", 23: "a size, a text, a level or a kind is out of range",
-    24: "less than a packet is there", 25: "bytes stand behind the packet", 26: "this is no place in these data",
-    31: "a request is underway", 32: "no request is going out", 33: "the client is broken",
-    34: "there is no such lease, ticket or connection", 35: "all connections are in use", 36: "not as the connection stands now",
-    61: "an answer where nothing was asked", 62: "an answer while the request goes out", 63: "an acknowledgement that nobody asked for",
-    64: "a transaction's end or begin that can't be", 65: "a reset that nobody asked for", 66: "no final DONE", 67: "tokens behind the final DONE",
-    68: "data that are no tokens of the batch language", 69: "the connection is lost",
-    71: "a token that no answer has", 72: "a row, and no columns are known", 73: "a type that no column has", 74: "more columns than there is room for",
-    75: "the answer ended inside a token", 76: "the request asked for a reset, and its answer tells of none",
+    20: "this is no client, or no walk",
+    21: "the buffer is too short",
+    22: "memory, or a number, is used up",
+    23: "a size, a text, a level or a kind is out of range",
+    24: "less than a packet is there",
+    25: "bytes stand behind the packet",
+    26: "this is no place in these data",
+    31: "a request is underway",
+    32: "no request is going out",
+    33: "the client is broken",
+    34: "there is no such lease, ticket or connection",
+    35: "all connections are in use",
+    36: "not as the connection stands now",
+    41: "a packet of a type that no packet has",
+    42: "a packet that goes the other way",
+    43: "a packet's length is under that of its header",
+    44: "a packet is longer than the login agreed on",
+    45: "a packet's status is wrong",
+    46: "a packet in a message's middle has no data",
+    51: "a token that the batch language hasn't",
+    52: "a token is cut off at its packet's end",
+    53: "a token's length is wrong",
+    54: "an ENVCHANGE that the batch language hasn't",
+    55: "a DONE's status is wrong",
+    56: "a row of the batch language, and no columns are known",
+    57: "a column that the batch language hasn't",
+    61: "an answer where nothing was asked",
+    62: "an answer while the request goes out",
+    63: "an acknowledgement that nobody asked for",
+    64: "a transaction's end or begin that can't be",
+    65: "a reset that nobody asked for",
+    66: "no final DONE",
+    67: "tokens behind the final DONE",
+    68: "data that are no tokens of the batch language",
+    69: "the connection is lost",
+    71: "a token that no answer has",
+    72: "a row, and no columns are known",
+    73: "a type that no column has",
+    74: "more columns than there is room for",
+    75: "the answer ended inside a token",
+    76: "the request asked for a reset, and its answer tells of none",
 }
-
-
-def _word(number: int) -> str:
-    if 41 <= number <= 46:
-        return "a packet's header is wrong"
-    return "a packet's data spell no token" if 51 <= number <= 57 else _WORDS.get(number, "see mouktelf.h")
+_FIRST_OF_PEER = 41
 
 
 class Fault(Exception):
     """Why a call was not done, or what the peer did wrong: a number of mouktelf.h, from 20 on."""
 
     def __init__(self, number: int, more: str = "") -> None:
-        super().__init__(f"fault {number}{more}: {_word(number)}")
+        super().__init__(f"fault {number}{more}: {_WORDS.get(number, 'see mouktelf.h')}")
         self.number = number
         # Of `hear`: what was told before.
         self.tokens: list = []
@@ -31,7 +59,7 @@ class Fault(Exception):
     @property
     def is_peer(self) -> bool:
         """Whether the peer broke the protocol, or is gone: close the connection."""
-        return 61 <= self.number <= 76
+        return self.number >= _FIRST_OF_PEER
 
 
 class Refused(Fault):

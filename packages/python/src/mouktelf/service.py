@@ -3,14 +3,16 @@
 from ctypes import byref, c_size_t, c_uint8, c_uint64
 from dataclasses import dataclass
 from enum import IntEnum
-from typing import Dict, NamedTuple, Tuple
+from typing import Dict, List, NamedTuple, Optional, Tuple
 
 from ._library import LIBRARY, AskedValue, ClientValue, LentValue, SeatValue, ServiceValue, WhoseValue, WireToken
 from .client import Answer, Client, MessageKind
 from .fault import Fault
-from .wire import Walked
+from .wire import TOKEN, Walk, Walked
 
-_FULL, _TELL, _FIRST_FAULT, _OUT_OF_RANGE, _ATTENTION_MOST, _HEADER = 1, 10, 20, 23, 16, 8
+_FULL, _TELL, _FIRST_FAULT, _OUT_OF_RANGE, _NOT_NOW, _ATTENTION_MOST, _HEADER = 1, 10, 20, 23, 36, 16, 8
+# Where a seat is: lent, being cleaned, kept for a ticket, draining.
+_LENT, _CLEANING, _KEPT, _DRAINS = 1, 2, 3, 4
 
 
 class Rest(IntEnum):
@@ -49,6 +51,16 @@ class Whose:
     is_told: bool
 
 
+class Came(NamedTuple):
+    """What one packet did: MORE, FINISHED or ACKNOWLEDGED, and the tokens that are told: the `request`'s, of the `lease` that holds
+    the connection (0 where none does)."""
+
+    lease: int
+    request: int
+    answer: Answer
+    tokens: List[Walked]
+
+
 class Ended(NamedTuple):
     """A lease or a ticket has ended: its connection's number, where that is, and what is to be sent on it."""
 
@@ -69,8 +81,10 @@ class Service:
         # That of a size that no client can have is refused.
         Client(size)
         self._most, self._value, self._seats = most, ServiceValue(0, 0, 0, size), (SeatValue * most)()
+        # By a lease; and by a connection's number its walk.
         self._clients: Dict[int, "_Held"] = {}
         self._kept: Dict[int, Tuple] = {}
+        self._walks: Dict[int, Walk] = {}
 
     def __len__(self) -> int:
         """How many connections there are."""
@@ -89,9 +103,13 @@ class Service:
 
     def _end(self, call, holder: int) -> Ended:
         number = c_uint64()
-        rest = self._call(call, _number(holder), byref(number))
+        return self._ended(holder, Rest(self._call(call, _number(holder), byref(number))), number.value)
+
+    def _ended(self, holder: int, rest: Rest, number: int, sends: bytes = b"") -> Ended:
         self._forget(holder)
-        return Ended(number.value, Rest(rest))
+        if rest == Rest.CLOSED:
+            self._walks.pop(number, None)
+        return Ended(number, rest, sends)
 
     def _forget(self, lease: int) -> None:
         self._clients.pop(lease, None)
@@ -104,7 +122,7 @@ class Service:
 
     def ask(self, lease: int, kind: MessageKind) -> Asked:
         """Begins a request of a lease. Its body comes by `put`, and `finish` ends it."""
-        kept, waiting, asked = (c_uint8 * (self._value.size - _HEADER))(), c_size_t(), AskedValue()
+        kept, waiting, asked = (c_uint8 * (self._size(lease) - _HEADER))(), c_size_t(), AskedValue()
         self._call(LIBRARY.tds_service_ask, _number(lease), kind, kept, len(kept), byref(waiting), byref(asked))
         self._kept[lease] = kept, waiting
         return Asked(asked.number, asked.request)
@@ -112,7 +130,7 @@ class Service:
     def put(self, lease: int, data: bytes) -> bytes:
         """Puts bytes of the request's body, and gives the packets that are full."""
         kept, waiting = self._waits(lease)
-        room, packets, answer = self._value.size, b"", _FULL
+        room, packets, answer = self._size(lease), b"", _FULL
         out, taken, count = (c_uint8 * room)(), c_size_t(), c_size_t()
         while answer == _FULL:
             answer = self._call(LIBRARY.tds_service_put, _number(lease), kept, len(kept), byref(waiting), data, len(data),
@@ -124,13 +142,17 @@ class Service:
     def finish(self, lease: int) -> bytes:
         """Ends the request, and gives its last packet."""
         kept, waiting = self._waits(lease)
-        room, count = self._value.size, c_size_t()
+        room, count = self._size(lease), c_size_t()
         out = (c_uint8 * room)()
         self._call(LIBRARY.tds_service_finish, _number(lease), kept, waiting, out, room, byref(count))
         return bytes(out[: count.value])
 
     def _waits(self, lease: int) -> Tuple:
-        return self._kept.get(lease) or ((c_uint8 * (self._value.size - _HEADER))(), c_size_t())
+        return self._kept.get(lease) or ((c_uint8 * (self._size(lease) - _HEADER))(), c_size_t())
+
+    def _size(self, lease: int) -> int:
+        """The packet size of a lease's connection."""
+        return self._seat(LIBRARY.tds_service_find, lease).client.size
 
     def ask_batch(self, lease: int, text: str) -> Tuple[Asked, bytes]:
         """Asks a batch, whole: which request it is, and its packets."""
@@ -144,16 +166,46 @@ class Service:
         answer = self._call(LIBRARY.tds_service_cancel, _number(lease), out, _ATTENTION_MOST, byref(count))
         return Answer(answer), bytes(out[: count.value])
 
+    def hear(self, number: int, packet: bytes) -> Came:
+        """Hears one packet on the connection of this number, whoever holds it, as `Client.hear`; a connection that drained is free
+        behind ACKNOWLEDGED."""
+        seat = self._seat(LIBRARY.tds_service_at, number)
+        lease, request, drains = seat.holder if seat.place in (_LENT, _CLEANING) else 0, seat.asked, seat.place == _DRAINS
+        heard = self.connection(number).hear(packet)
+        if drains:
+            self.drained(number)
+        return Came(lease, request, *heard)
+
+    def logged_in(self, number: int, size: int, walk: Optional[Walk] = None) -> None:
+        """The connection of this number, which is new, is logged in, and the login agreed on packets of this size; `walk` is the one
+        that it hears by, where the login acknowledged what a `Walk` has to know. Fault 36: something was asked on it."""
+        seat = self._seat(LIBRARY.tds_service_at, number)
+        if seat.asked or seat.client.stage or seat.client.mark or not 0 <= size <= 0xFFFF:
+            raise Fault(_NOT_NOW if 0 <= size <= 0xFFFF else _OUT_OF_RANGE)
+        value = ClientValue()
+        answer = LIBRARY.tds_client_new(size, byref(value))
+        if answer >= _FIRST_FAULT:
+            raise Fault(answer)
+        seat.client = value
+        if walk is not None:
+            self._walks[number] = walk
+
+    def walk(self, number: int) -> Walk:
+        """The walk by which the connection of this number hears."""
+        self._seat(LIBRARY.tds_service_at, number)
+        if number not in self._walks:
+            self._walks[number] = Walk()
+        return self._walks[number]
+
     def came(self, number: int, token: Walked) -> Whose:
-        """Hears a token that a walk has found on the connection of this number: whose it is, and whether he is told."""
-        value, whose = WireToken(), WhoseValue()
-        value.kind, value.told, value.change, value.status = token.kind, token.tells, token.change, token.status
-        value.value, value.old_value = token.value, token.old_value
+        """Hears a token that a walk of your own has found on the connection of this number, in place of `hear`: whose it is, and
+        whether he is told."""
+        value, whose = WireToken.from_buffer_copy(TOKEN.pack(*token)), WhoseValue()
         answer = self._call(LIBRARY.tds_service_came, _number(number), byref(value), byref(whose))
         return Whose(whose.lease, whose.request, answer == _TELL)
 
     def message_ended(self, number: int, is_cut: bool = False) -> Tuple[Answer, Whose]:
-        """Hears that a message has ended there, behind the packet whose status has bit 1; `is_cut` where the walk isn't
+        """Behind `came` hears that a message has ended there, with the packet whose status has bit 1; `is_cut` where the walk isn't
         between two tokens then. FINISHED: the request has its whole answer. ACKNOWLEDGED: its cancel is acknowledged, and
         a connection that drained is free. MORE: the acknowledgement is still to come."""
         whose = WhoseValue()
@@ -176,7 +228,7 @@ class Service:
     def holder(self, number: int) -> int:
         """The number of the lease, or of the ticket, that holds the connection of this number; 0 where none does."""
         seat = self._seat(LIBRARY.tds_service_at, number)
-        return seat.holder if seat.place in _HELD else 0
+        return seat.holder if seat.place in (_LENT, _CLEANING, _KEPT) else 0
 
     def _seat(self, call, key: int) -> SeatValue:
         index = c_size_t()
@@ -187,8 +239,7 @@ class Service:
         """Ends a lease. What is underway is cancelled, and what `sends` has is to be sent for that."""
         out, count, number = (c_uint8 * _ATTENTION_MOST)(), c_size_t(), c_uint64()
         rest = self._call(LIBRARY.tds_service_give_back, _number(lease), out, _ATTENTION_MOST, byref(count), byref(number))
-        self._forget(lease)
-        return Ended(number.value, Rest(rest), bytes(out[: count.value]))
+        return self._ended(lease, Rest(rest), number.value, bytes(out[: count.value]))
 
     def drained(self, number: int) -> Rest:
         """For a connection that drains, each time that its client has taken something: FREE once the client is idle,
@@ -200,6 +251,7 @@ class Service:
         holder = self.holder(number)
         self._call(LIBRARY.tds_service_lost, _number(number))
         self._forget(holder)
+        self._walks.pop(number, None)
 
     def keep(self, lease: int) -> int:
         """Keeps a connection that is idle in a transaction, and gives a ticket for it. The lease is spent."""
@@ -226,9 +278,6 @@ class Service:
         return self._end(LIBRARY.tds_service_cleaned, lease)
 
 
-_HELD = (1, 2, 3)
-
-
 class _Held(Client):
     """The client of a connection in a table. Its seat may move, so it is found anew at each call."""
 
@@ -240,6 +289,10 @@ class _Held(Client):
     @property
     def _value(self) -> ClientValue:
         return self._service._seat(self._by, self._key).client
+
+    @property
+    def walk(self) -> Walk:
+        return self._service.walk(self._service._seat(self._by, self._key).number)
 
 
 def _number(number: int) -> int:

@@ -1,13 +1,20 @@
 """Where each token of an answer ends, for every type of column of TDS 7.2 to 7.4 (MS-TDS 2.2.7)."""
 
-from ctypes import byref, c_char_p, c_size_t, c_void_p, cast
+import struct
+import threading
+from ctypes import byref, c_char_p, c_size_t, c_uint8, c_void_p, cast
 from enum import IntEnum
-from typing import Iterator, NamedTuple, Optional, Tuple, Union
+from functools import partial
+from operator import itemgetter
+from typing import Iterator, NamedTuple, Optional, Tuple
 
-from ._library import LIBRARY, WireMemory, WireToken, WireWalk
-from .fault import Refused
+from ._library import LIBRARY, WireMemory, WireWalk
+from .fault import Fault, Refused
 
 _ENDED, _MORE = 0, 1
+AT_ONCE = 256
+# struct tds_wire_token, all of it.
+TOKEN = struct.Struct("=8QiIHH6B6x")
 
 
 class Tells(IntEnum):
@@ -33,29 +40,48 @@ class Place(NamedTuple):
     length: int
 
 
-class Walked(NamedTuple):
-    """A token that has ended. A field that its kind doesn't have is 0.
+class Walked(tuple):
+    """A token that has ended: a plain tuple of what mouktelf.h has in it, and a name for each. A field that its kind doesn't
+    have is 0.
 
     DONE: status, command, value (the count of rows). TRANSACTION: change, value and old_value, descriptors.
     PACKET_SIZE: size. VALUES: change, text (the new one), others (the old one). MESSAGE: number, state, severity, text,
     others (names and line). RETURN_STATUS: number. SESSION_STATE: size (its number), is_recoverable, text (the states)."""
 
-    start: int
-    length: int
-    kind: int
-    tells: Tells
-    value: int
-    old_value: int
-    text: Place
-    others: Place
-    number: int
-    size: int
-    status: int
-    command: int
-    change: int
-    state: int
-    severity: int
-    is_recoverable: bool
+    __slots__ = ()
+    start, length, value, old_value = (property(itemgetter(it)) for it in range(4))
+    text = property(lambda it: Place(it[4], it[5]))
+    others = property(lambda it: Place(it[6], it[7]))
+    number, size, status, command, kind = (property(itemgetter(it)) for it in range(8, 13))
+    tells = property(lambda it: _TELLS[it[13]])
+    change, state, severity = (property(itemgetter(it)) for it in range(14, 17))
+    is_recoverable = property(lambda it: it[17] == 1)
+
+    def __repr__(self) -> str:
+        told = ", ".join(f"{name}={getattr(self, name)!r}" for name in _FIELDS if getattr(self, name) not in (0, (0, 0)))
+        return f"Walked(tells={self.tells.name}{', ' if told else ''}{told})"
+
+
+_FIELDS = ("start", "length", "kind", "value", "old_value", "text", "others", "number", "size", "status", "command", "change",
+           "state", "severity", "is_recoverable")
+_TELLS = tuple(Tells)
+_walked = partial(tuple.__new__, Walked)
+
+
+class _Room(threading.local):
+    """Room for the tokens that a call writes. Each thread has its own, since ctypes lets others run in the middle of a call."""
+
+    def __init__(self) -> None:
+        self.bytes = bytearray(AT_ONCE * TOKEN.size)
+        self.view, self.tokens = memoryview(self.bytes), (c_uint8 * len(self.bytes)).from_buffer(self.bytes)
+        self.taken, self.count = c_size_t(), c_size_t()
+
+    def told(self, count: int) -> Iterator[Walked]:
+        """The first ones that were written."""
+        return map(_walked, TOKEN.iter_unpack(self.view[: count * TOKEN.size]))
+
+
+ROOM = _Room()
 
 
 class Walk:
@@ -69,20 +95,24 @@ class Walk:
 
     def next(self, data: bytes) -> Tuple[int, Optional[Walked]]:
         """Takes bytes up to the end of one token: how many, and the token, where one has ended."""
-        return self._next(data, len(data))
+        return self._next(c_char_p(data), len(data))
 
-    def _next(self, data: Union[bytes, c_char_p], length: int) -> Tuple[int, Optional[Walked]]:
-        token, count = WireToken(), c_size_t()
-        answer = LIBRARY.tds_wire_next(byref(self._value), byref(self._memory), data, length, byref(count), byref(token))
+    def _next(self, data: c_char_p, length: int) -> Tuple[int, Optional[Walked]]:
+        room = ROOM
+        answer = LIBRARY.tds_wire_next(byref(self._value), byref(self._memory), data, length, byref(room.count), room.tokens)
         if answer > _MORE:
-            refused = self._value.refused
-            raise Refused(answer, refused.at, refused.byte)
-        return count.value, _walked(token) if answer == _ENDED else None
+            raise self.fault(answer)
+        return room.count.value, next(room.told(1)) if answer == _ENDED else None
+
+    def fault(self, number: int) -> Fault:
+        """The fault of this number: of a byte that this walk has refused, with its place."""
+        refused = self._value.refused
+        return Refused(number, refused.at, refused.byte) if 71 <= number <= 74 else Fault(number)
 
     def tokens(self, data: bytes) -> Iterator[Walked]:
         """The tokens that end in this piece."""
         data, at = bytes(data), 0
-        first = cast(c_char_p(data), c_void_p).value or 0
+        first = address_of(data)
         while at < len(data):
             count, token = self._next(c_char_p(first + at), len(data) - at)
             at += count
@@ -99,11 +129,6 @@ class Walk:
         LIBRARY.tds_wire_restart(byref(self._value), byref(self._memory))
 
 
-_TELLS = tuple(Tells)
-
-
-def _walked(it: WireToken) -> Walked:
-    return Walked(
-        it.start, it.length, it.kind, _TELLS[it.told], it.value, it.old_value, Place(it.text.start, it.text.length),
-        Place(it.others.start, it.others.length), it.number, it.size, it.status, it.command, it.change, it.state,
-        it.severity, bool(it.recoverable))
+def address_of(data: bytes) -> int:
+    """Where these bytes lie; whoever asks keeps them."""
+    return cast(c_char_p(data), c_void_p).value or 0

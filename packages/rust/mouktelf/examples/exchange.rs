@@ -1,7 +1,7 @@
 //! A request and its answer, a cancel that crosses the answer's end, a reset and a peer's fault.
 
 use std::error::Error;
-use mouktelf::{Cancelled, Client, Fault, Packets, Request, Reset, State, Taken, Token, Tokens};
+use mouktelf::{Cancelled, StrictClient, Fault, Packets, Request, Reset, State, Taken, Token, Tokens};
 
 /// What the server sends: an answer's step or its end, as MS-TDS has it.
 const BEGUN: &str = "0401002300000100E30B000808010000000000000000FD000000000000000000000000";
@@ -19,7 +19,7 @@ fn bytes(hexadecimal: &str) -> Vec<u8> {
 }
 
 /// What came is taken packet by packet, and what is told is printed.
-fn receive(client: &mut Client, hexadecimal: &str) -> Result<Taken, Fault> {
+fn receive(client: &mut StrictClient, hexadecimal: &str) -> Result<Taken, Fault> {
     let piece = bytes(hexadecimal);
     let mut taken = Taken::More;
     for packet in Packets::new(&piece, 512) {
@@ -40,7 +40,7 @@ fn receive(client: &mut Client, hexadecimal: &str) -> Result<Taken, Fault> {
     Ok(taken)
 }
 
-fn ask(client: &mut Client, request: Request<'_>) -> Result<Vec<u8>, Fault> {
+fn ask(client: &mut StrictClient, request: Request<'_>) -> Result<Vec<u8>, Fault> {
     let mut out = Vec::new();
     client.start(request)?;
     while client.send(&mut out)? {}
@@ -59,7 +59,7 @@ fn runs() {
 }
 
 fn connection() -> Result<(), Box<dyn Error>> {
-    let mut client = Client::new(512)?;
+    let mut client = StrictClient::new(512)?;
     ask(&mut client, Request::Begin(0))?;
     assert_eq!(receive(&mut client, BEGUN)?, Taken::Finished);
     assert_eq!(client.descriptor(), 1);
@@ -86,7 +86,7 @@ fn connection() -> Result<(), Box<dyn Error>> {
     client.lost();
     assert_eq!(client.state(), State::Broken(Fault::Peer(1)));
     let refused = client.start(Request::Commit(None)).expect_err("it is broken");
-    assert_eq!(refused.to_string(), "the client is broken");
+    assert_eq!(refused.to_string(), "fault 33: the client is broken");
     assert_eq!(client.start(Request::Begin(9)), Err(Fault::OutOfRange));
     Ok(())
 }

@@ -1,18 +1,20 @@
-//! Over a socket: logs in to a server of the batch language (tdsserve), begins a transaction, is given rows, cancels a batch
-//! in its middle, and commits.
+//! Over a socket: logs in to a server of the batch language (tdsserve, also with --real), begins a transaction, is given rows,
+//! cancels a batch in its middle, and commits.
 //!
 //!     tdsserve 127.0.0.1:1433 & cargo run --example login 1433
 
-use mouktelf::{is_let_in, login, Cancelled, Client, Packets, Request, Taken, Token};
+use mouktelf::{is_let_in, login, Cancelled, Client, Outgoing, Packets, Request, Taken, Told};
 use std::error::Error;
 use std::io::{Read, Write};
 use std::net::TcpStream;
+use std::sync::Mutex;
 
 const SIZE: u16 = 4096;
 
 struct Connection {
     socket: TcpStream,
-    client: Client,
+    client: Mutex<Client>,
+    outgoing: Outgoing<TcpStream>,
     /// What came and is no packet yet.
     came: Vec<u8>,
 }
@@ -20,7 +22,8 @@ struct Connection {
 impl Connection {
     fn open(port: u16) -> Result<Connection, Box<dyn Error>> {
         let socket = TcpStream::connect(("127.0.0.1", port))?;
-        Ok(Connection { socket, client: Client::new(SIZE)?, came: Vec::new() })
+        let outgoing = Outgoing::new(socket.try_clone()?);
+        Ok(Connection { socket, client: Mutex::new(Client::new(SIZE)?), outgoing, came: Vec::new() })
     }
 
     /// The next packet, from its first byte to its last.
@@ -34,7 +37,7 @@ impl Connection {
             let mut piece = [0; 4096];
             let count = self.socket.read(&mut piece)?;
             if count == 0 {
-                self.client.lost();
+                self.client.lock().unwrap().lost();
                 return Err("the server has gone".into());
             }
             self.came.extend_from_slice(&piece[..count]);
@@ -50,22 +53,33 @@ impl Connection {
         Ok(())
     }
 
-    fn send(&mut self, request: Request<'_>) -> Result<(), Box<dyn Error>> {
-        let mut out = Vec::new();
-        self.client.start(request)?;
-        while self.client.send(&mut out)? {}
-        Ok(self.socket.write_all(&out)?)
+    fn ask(&self, request: Request<'_>) -> Result<(), Box<dyn Error>> {
+        Ok(self.outgoing.call(&self.client, |client, out| {
+            client.start(request)?;
+            while client.send(out)? {}
+            Ok::<(), mouktelf::Fault>(())
+        })??)
     }
 
-    /// Takes packets until the request is settled, and shows what is told.
+    /// Any thread may: its bytes go out behind the request's.
+    fn cancel(&self) -> Result<Cancelled, Box<dyn Error>> {
+        Ok(self.outgoing.call(&self.client, |client, out| client.cancel(out))??)
+    }
+
+    /// Hears packets until the request is settled, and shows what is told.
     fn hear(&mut self) -> Result<(), Box<dyn Error>> {
+        let (mut data, mut columns, mut told) = (Vec::new(), Vec::new(), Vec::new());
         loop {
             let packet = self.packet()?;
-            let (taken, tokens) = self.client.take(&packet)?;
-            for token in tokens {
-                match token? {
-                    Token::Info(message) => println!("info {}", message.text),
-                    Token::Row(values) => println!("row {}", values[0]),
+            data.extend_from_slice(&packet[8..]);
+            told.clear();
+            let taken = self.client.lock().unwrap().hear(&packet, &mut told)?;
+            for token in &told {
+                let own = cut(&data, token.start, token.length);
+                match (token.told, token.kind) {
+                    (Told::Message { text, .. }, _) => println!("info {}", units(cut(&data, text.start, text.length))),
+                    (_, 0x81) => columns = own.to_vec(),
+                    (_, 0xD1 | 0xD2) => println!("row {}", first_of(&columns, own)),
                     _ => {}
                 }
             }
@@ -79,27 +93,41 @@ impl Connection {
     }
 
     fn tell_transaction(&self) {
-        println!("in a transaction: {}", if self.client.descriptor() == 0 { "no" } else { "yes" });
+        println!("in a transaction: {}", if self.client.lock().unwrap().descriptor() == 0 { "no" } else { "yes" });
     }
+}
+
+fn cut(data: &[u8], start: u64, length: u64) -> &[u8] {
+    &data[start as usize..(start + length) as usize]
+}
+
+fn units(text: &[u8]) -> String {
+    char::decode_utf16(text.chunks_exact(2).map(|it| u16::from_le_bytes([it[0], it[1]]))).map(|it| it.unwrap_or('?')).collect()
+}
+
+/// The first value of a row, a whole number of four bytes: a walk says where rows stand, and values are yours to read (MS-TDS 2.2.7).
+fn first_of(columns: &[u8], row: &[u8]) -> i32 {
+    // NBCROW has a bit for each column, INTN a length.
+    let nulls = if row[0] == 0xD2 { usize::from(u16::from_le_bytes([columns[1], columns[2]])).div_ceil(8) } else { 0 };
+    let at = 1 + nulls + usize::from(columns[9] == 0x26);
+    i32::from_le_bytes([row[at], row[at + 1], row[at + 2], row[at + 3]])
 }
 
 fn main() -> Result<(), Box<dyn Error>> {
     let port = std::env::args().nth(1).unwrap_or("1433".into()).parse()?;
     let mut it = Connection::open(port)?;
     it.log_in("sa")?;
-    it.send(Request::Begin(0))?;
+    it.ask(Request::Begin(0))?;
     it.hear()?;
-    it.send(Request::Batch("set a 5;say hello;rows 7 2"))?;
+    it.ask(Request::Batch("set a 5;say hello;rows 7 2"))?;
     it.hear()?;
-    it.send(Request::Batch("rows 0 64;rows 0 64;rows 0 64"))?;
-    let mut attention = Vec::new();
-    if it.client.cancel(&mut attention)? != Cancelled::Asked {
+    it.ask(Request::Batch("rows 0 64;rows 0 64;rows 0 64"))?;
+    if it.cancel()? != Cancelled::Asked {
         return Err("nothing is cancelled".into());
     }
-    it.socket.write_all(&attention)?;
     it.hear()?;
     it.tell_transaction();
-    it.send(Request::Commit(None))?;
+    it.ask(Request::Commit(None))?;
     it.hear()?;
     it.tell_transaction();
     Ok(())

@@ -53,7 +53,7 @@ fn walked(data: &[u8], piece: usize, is_short: bool, agreed: Agreed) -> Vec<Stri
                     lines.extend(token.map(|it| line(it, is_short)));
                 }
                 Err(refused) => {
-                    lines.push(format!("fault {} at {}", refused.number, refused.at));
+                    lines.push(format!("fault {} at {}", refused.fault.number(), refused.at));
                     return lines;
                 }
             }

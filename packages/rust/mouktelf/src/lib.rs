@@ -5,8 +5,10 @@
 mod fault;
 mod judge;
 mod login;
+mod outgoing;
 mod service;
 mod streams;
+mod strict;
 mod tokens;
 mod wire;
 
@@ -15,8 +17,10 @@ use mouktelf_sys as raw;
 pub use fault::Fault;
 pub use judge::{judge, Finding, Level, Limits, Piece, What};
 pub use login::{is_let_in, login};
+pub use outgoing::Outgoing;
 pub use service::{Asked, Lent, Rest, Seated, Service, Whose};
 pub use streams::{Heard, MessageKind};
+pub use strict::StrictClient;
 pub use tokens::{Change, Message, Packets, Rows, Token, Tokens};
 pub use wire::{Agreed, Place, Refused, Told, Walk, Walked};
 
@@ -70,13 +74,15 @@ const MESSAGE_MOST: usize = 4022;
 /// No transaction is begun behind a commit or a rollback.
 const NO_NEXT: u8 = 255;
 
-/// The client's end of one connection, with the message of the request that goes out.
+/// The client's end of one connection to any server, with the message of the request that goes out.
 pub struct Client {
     raw: raw::Client,
     message: Vec<u8>,
     /// Of a message that is put in parts, the room for what waits, and how much waits.
     kept: Vec<u8>,
     waiting: usize,
+    /// By which it hears, once it has.
+    walk: Option<Walk>,
 }
 
 impl Client {
@@ -85,7 +91,7 @@ impl Client {
         let mut raw = raw::Client::default();
         // SAFETY: the client is written to alone.
         done(unsafe { raw::tds_client_new(size, &mut raw) })?;
-        Ok(Client { raw, message: Vec::new(), kept: Vec::new(), waiting: 0 })
+        Ok(Client { raw, message: Vec::new(), kept: Vec::new(), waiting: 0, walk: None })
     }
 
     pub fn state(&self) -> State {
@@ -170,20 +176,6 @@ impl Client {
             8 => Ok(Cancelled::Asked),
             number => Err(Fault::of(number)),
         }
-    }
-
-    /// Takes one packet of an answer, and lends the tokens that are told: in reading all but the
-    /// ENVCHANGEs, else none.
-    pub fn take<'a>(&mut self, packet: &'a [u8]) -> Result<(Taken, Tokens<'a>), Fault> {
-        let (reading, columns) = (self.state() == State::Reading, self.raw.columns);
-        // SAFETY: the pointer and the length are those of one slice.
-        let taken = match unsafe { raw::tds_client_take(&mut self.raw, packet.as_ptr(), packet.len()) } {
-            1 => Taken::More,
-            3 => Taken::Finished,
-            4 => Taken::Acknowledged,
-            number => return Err(Fault::of(number)),
-        };
-        Ok((taken, if reading { Tokens::told(&packet[8..], columns) } else { Tokens::told(&[], 0) }))
     }
 
     /// The connection is lost.

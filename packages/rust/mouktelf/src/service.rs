@@ -1,6 +1,7 @@
 //! A table of connections that callers share, in front of any server: who holds each one, and what becomes of it.
 
-use crate::{raw, Cancelled, Client, Fault, MessageKind, Taken, Told, Walked};
+use crate::streams::hears;
+use crate::{raw, Cancelled, Client, Fault, MessageKind, Taken, Told, Walk, Walked};
 use std::collections::HashMap;
 use std::mem::take;
 use std::ops::{Deref, DerefMut};
@@ -46,6 +47,8 @@ pub struct Service {
     seats: Vec<raw::Seat>,
     /// Of a connection, by its number, the message that goes out, and what waits of one.
     messages: HashMap<u64, Message>,
+    /// Of a connection, by its number.
+    walks: HashMap<u64, Walk>,
 }
 
 #[derive(Default)]
@@ -82,6 +85,9 @@ impl Drop for Seated<'_> {
         let (whole, kept) = (take(&mut self.client.message), take(&mut self.client.kept));
         seat.client = self.client.raw;
         self.service.messages.insert(seat.number, Message { whole, kept, waiting: self.client.waiting });
+        if let Some(walk) = self.client.walk.take() {
+            self.service.walks.insert(seat.number, walk);
+        }
     }
 }
 
@@ -91,7 +97,7 @@ impl Service {
         // A size that no client can have is refused.
         Client::new(size)?;
         let value = raw::Service { size, ..raw::Service::default() };
-        Ok(Service { value, seats: vec![raw::Seat::default(); most], messages: HashMap::new() })
+        Ok(Service { value, seats: vec![raw::Seat::default(); most], messages: HashMap::new(), walks: HashMap::new() })
     }
 
     /// How many connections there are.
@@ -109,7 +115,7 @@ impl Service {
 
     /// Begins a request of a lease. Its body comes by `put`, and `finish` ends it.
     pub fn ask(&mut self, lease: u64, kind: MessageKind) -> Result<Asked, Fault> {
-        let (mut kept, mut waiting, mut it) = (vec![0; self.room() - 8], 0, raw::Asked::default());
+        let (mut kept, mut waiting, mut it) = (vec![0; self.find(lease)?.1 - 8], 0, raw::Asked::default());
         // SAFETY: as in `lease`, and of one vector more.
         let answer = unsafe {
             raw::tds_service_ask(&self.value, self.seats.as_mut_ptr(), self.seats.len(), lease, kind as u8, kept.as_mut_ptr(), kept.len(), &mut waiting, &mut it)
@@ -121,23 +127,19 @@ impl Service {
         Ok(Asked { number: it.number, request: it.request })
     }
 
-    fn room(&self) -> usize {
-        usize::from(self.value.size)
-    }
-
-    /// The number of a lease's connection.
-    fn number_of(&self, lease: u64) -> Result<u64, Fault> {
+    /// The number of a lease's connection, and the size of its packets.
+    fn find(&self, lease: u64) -> Result<(u64, usize), Fault> {
         let mut index = 0;
         // SAFETY: as in `lease`.
         match unsafe { raw::tds_service_find(&self.value, self.seats.as_ptr(), self.seats.len(), lease, &mut index) } {
-            0 => Ok(self.seats[index].number),
+            0 => Ok((self.seats[index].number, usize::from(self.seats[index].client.size))),
             answer => Err(fault(answer)),
         }
     }
 
     /// Puts bytes of the request's body, and appends the packets that are full.
     pub fn put(&mut self, lease: u64, mut bytes: &[u8], out: &mut Vec<u8>) -> Result<(), Fault> {
-        let (room, number) = (self.room(), self.number_of(lease)?);
+        let (number, room) = self.find(lease)?;
         let (mut packet, waits) = (vec![0; room], self.messages.entry(number).or_default());
         loop {
             let (kept, kept_room, mut taken, mut count) = (waits.kept.as_mut_ptr(), waits.kept.len(), 0, 0);
@@ -156,8 +158,8 @@ impl Service {
 
     /// Ends the request, and appends its last packet.
     pub fn finish(&mut self, lease: u64, out: &mut Vec<u8>) -> Result<(), Fault> {
-        let number = self.number_of(lease)?;
-        let (mut packet, mut count, waits) = (vec![0; self.room()], 0, self.messages.entry(number).or_default());
+        let (number, room) = self.find(lease)?;
+        let (mut packet, mut count, waits) = (vec![0; room], 0, self.messages.entry(number).or_default());
         // SAFETY: each pointer and length is that of one vector, and no two of them overlap.
         let answer = unsafe {
             raw::tds_service_finish(&self.value, self.seats.as_mut_ptr(), self.seats.len(), lease, waits.kept.as_ptr(), waits.waiting, packet.as_mut_ptr(), packet.len(), &mut count)
@@ -195,7 +197,37 @@ impl Service {
         }
     }
 
-    /// Hears a token that a walk has found on the connection of this number: whose it is, and whether he is told.
+    /// Hears one packet on the connection of this number, whoever holds it, as `Client::hear`: the lease that holds it and its
+    /// request, which are told what is appended. A connection that drained is free behind `Acknowledged`.
+    pub fn hear(&mut self, number: u64, packet: &[u8], told: &mut Vec<Walked>) -> Result<(Taken, Whose), Fault> {
+        let (head, data) = packet.split_at(if packet.len() < 8 { return Err(Fault::NoPacket) } else { 8 });
+        let (index, before) = (self.at(number)?, told.len());
+        let seat = &mut self.seats[index];
+        let (lease, drains) = (matches!(seat.place, 1 | 2).then_some(seat.holder), seat.place == 4);
+        let mut whose = Whose { lease, request: seat.asked, is_told: false };
+        let taken = hears(&mut seat.client, self.walks.entry(number).or_default(), data, head[1] & 1 == 1, told)?;
+        whose.is_told = told.len() > before;
+        if drains {
+            self.drained(number)?;
+        }
+        Ok((taken, whose))
+    }
+
+    /// The connection of this number, which is new, is logged in, and the login agreed on packets of this size; `walk` is the one
+    /// that it hears by, where the login acknowledged what a `Walk` has to know. `Fault::NotNow`: something was asked on it.
+    pub fn logged_in(&mut self, number: u64, size: u16, walk: Option<Walk>) -> Result<(), Fault> {
+        let index = self.at(number)?;
+        let seat = &mut self.seats[index];
+        if seat.asked != 0 || seat.client.stage != 0 || seat.client.mark != 0 {
+            return Err(Fault::NotNow);
+        }
+        seat.client = Client::new(size)?.raw;
+        self.walks.extend(walk.map(|it| (number, it)));
+        Ok(())
+    }
+
+    /// Hears a token that a walk of your own has found on the connection of this number, in place of `hear`: whose it is, and
+    /// whether he is told.
     pub fn came(&mut self, number: u64, token: &Walked) -> Result<Whose, Fault> {
         let (value, mut whose) = (of_table(token), raw::Whose::default());
         // SAFETY: as in `lease`.
@@ -206,7 +238,7 @@ impl Service {
         }
     }
 
-    /// Hears that a message has ended there, behind the packet whose status has bit 1; `is_cut` where the walk isn't between two
+    /// Behind `came` hears that a message has ended there, with the packet whose status has bit 1; `is_cut` where the walk isn't between two
     /// tokens then. `Finished`: the request has its whole answer. `Acknowledged`: its cancel is acknowledged, and a connection
     /// that drained is free. `More`: the acknowledgement is still to come.
     pub fn message_ended(&mut self, number: u64, is_cut: bool) -> Result<(Taken, Whose), Fault> {
@@ -252,7 +284,7 @@ impl Service {
         }
         let seat = &self.seats[index];
         let Message { whole, kept, waiting } = self.messages.remove(&seat.number).unwrap_or_default();
-        let client = Client { raw: seat.client, message: whole, kept, waiting };
+        let client = Client { raw: seat.client, message: whole, kept, waiting, walk: self.walks.remove(&seat.number) };
         Ok(Seated { service: self, index, client })
     }
 
@@ -277,6 +309,9 @@ impl Service {
     fn ended(&mut self, answer: u8, number: u64) -> Result<(u64, Rest), Fault> {
         let rest = rest(answer)?;
         self.messages.remove(&number);
+        if rest == Rest::Closed {
+            self.walks.remove(&number);
+        }
         Ok((number, rest))
     }
 
@@ -295,6 +330,7 @@ impl Service {
             return Err(fault(answer));
         }
         self.messages.remove(&number);
+        self.walks.remove(&number);
         Ok(())
     }
 

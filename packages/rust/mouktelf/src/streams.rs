@@ -64,7 +64,7 @@ impl Client {
         Ok(())
     }
 
-    /// Hears a token of any server, and says whether the caller that asked is told of it.
+    /// Hears a token that a reader of your own has found, in place of `hear`, and says whether the caller that asked is told of it.
     pub fn heard(&mut self, heard: Heard) -> Result<bool, Fault> {
         let raw = &mut self.raw;
         // SAFETY: the client is this one's own.
@@ -80,27 +80,29 @@ impl Client {
         }
     }
 
-    /// Hears all tokens that end in the data of a packet of any server's answer (type 04, behind its header), and appends
-    /// those that the caller who asked is told of, also before a fault; `ends` is bit 1 of the packet's status. It is
-    /// `Walk::next`, `heard` and `message_ended` in one.
-    pub fn hear(&mut self, walk: &mut Walk, mut data: &[u8], ends: bool, told: &mut Vec<Walked>) -> Result<Taken, Fault> {
-        let mut found = [raw::WireToken::default(); AT_ONCE];
-        loop {
-            let (mut taken, mut count) = (0, 0);
-            // SAFETY: each pointer and length is that of one slice or array; walk and memory belong together.
-            let answer = unsafe {
-                raw::tds_client_hear(&mut self.raw, &mut walk.value, &mut walk.memory, data.as_ptr(), data.len(), ends.into(), &mut taken, found.as_mut_ptr(), AT_ONCE, &mut count)
-            };
-            told.extend(found[..count].iter().map(walked));
-            data = &data[taken..];
-            match answer {
-                10 => {}
-                0 | 1 => return Ok(Taken::More),
-                3 => return Ok(Taken::Finished),
-                4 => return Ok(Taken::Acknowledged),
-                number => return Err(Fault::of(number)),
-            }
-        }
+    /// The walk that it hears by.
+    pub fn walk(&mut self) -> &mut Walk {
+        self.walk.get_or_insert_with(Walk::default)
+    }
+
+    /// Lets it hear by this walk, where the login acknowledged what a `Walk` has to know.
+    pub fn hear_by(&mut self, walk: Walk) {
+        self.walk = Some(walk);
+    }
+
+    /// Hears one packet of any server's answer, from its first byte to its last, and appends the tokens that end in it and that the
+    /// caller who asked is told of, also before a fault. Where they stand is counted from their message's first byte: keep its
+    /// packets' data until it ends, if you read rows or texts. Behind a cancel nothing is told.
+    pub fn hear(&mut self, packet: &[u8], told: &mut Vec<Walked>) -> Result<Taken, Fault> {
+        let (head, data) = packet.split_at(if packet.len() < 8 { return Err(Fault::NoPacket) } else { 8 });
+        self.hear_data(data, head[1] & 1 == 1, told)
+    }
+
+    /// The same of a packet's data, behind its header, or of a piece of them; `ends` is bit 1 of the packet's status, with its last
+    /// piece.
+    pub fn hear_data(&mut self, data: &[u8], ends: bool, told: &mut Vec<Walked>) -> Result<Taken, Fault> {
+        let walk = self.walk.get_or_insert_with(Walk::default);
+        hears(&mut self.raw, walk, data, ends, told)
     }
 
     /// Hears that a message has ended.
@@ -111,6 +113,27 @@ impl Client {
             3 => Ok(Taken::Finished),
             4 => Ok(Taken::Acknowledged),
             number => Err(Fault::of(number)),
+        }
+    }
+}
+
+/// `Walk::next`, `heard` and `message_ended` in one, for many tokens in one call.
+pub(crate) fn hears(raw: &mut raw::Client, walk: &mut Walk, mut data: &[u8], ends: bool, told: &mut Vec<Walked>) -> Result<Taken, Fault> {
+    let mut found = [raw::WireToken::default(); AT_ONCE];
+    loop {
+        let (mut taken, mut count) = (0, 0);
+        // SAFETY: each pointer and length is that of one slice or array; walk and memory belong together.
+        let answer = unsafe {
+            raw::tds_client_hear(raw, &mut walk.value, &mut walk.memory, data.as_ptr(), data.len(), ends.into(), &mut taken, found.as_mut_ptr(), AT_ONCE, &mut count)
+        };
+        told.extend(found[..count].iter().map(walked));
+        data = &data[taken..];
+        match answer {
+            10 => {}
+            0 | 1 => return Ok(Taken::More),
+            3 => return Ok(Taken::Finished),
+            4 => return Ok(Taken::Acknowledged),
+            number => return Err(Fault::of(number)),
         }
     }
 }

@@ -1,6 +1,8 @@
 //! Where each token of an answer ends, for every type of column of TDS 7.2 to 7.4 (MS-TDS 2.2.7).
 
-use crate::{raw, Heard};
+use crate::{raw, Fault, Heard};
+use std::error::Error;
+use std::fmt;
 
 /// Bytes of the message, counted from its first one. They may have come in pieces that are gone.
 #[derive(Clone, Copy, PartialEq, Eq, Debug)]
@@ -54,12 +56,26 @@ impl Walked {
     }
 }
 
-/// A byte that no answer has: which fault it is, as `mouktelf.h` numbers it (71 to 74), and its place in the message.
+/// A byte that no answer has: which fault it is (`Fault::Peer` of 11 to 14), and its place in the message.
 #[derive(Clone, Copy, PartialEq, Eq, Debug)]
 pub struct Refused {
-    pub number: u8,
+    pub fault: Fault,
     pub at: u64,
     pub byte: u8,
+}
+
+impl fmt::Display for Refused {
+    fn fmt(&self, f: &mut fmt::Formatter<'_>) -> fmt::Result {
+        write!(f, "fault {} at {}, the byte {:02x}: {}", self.fault.number(), self.at, self.byte, self.fault.words())
+    }
+}
+
+impl Error for Refused {}
+
+impl From<Refused> for Fault {
+    fn from(it: Refused) -> Fault {
+        it.fault
+    }
 }
 
 /// What the FEATUREEXTACK of the login acknowledged: column encryption, and data classification of version 2.
@@ -67,6 +83,12 @@ pub struct Refused {
 pub struct Agreed {
     pub encryption: bool,
     pub ranks: bool,
+}
+
+impl Default for Walk {
+    fn default() -> Walk {
+        Walk::new(4096, Agreed::default())
+    }
 }
 
 /// A walk over the tokens of answers, whose bytes come in pieces of any size: the data of packets of type 04.
@@ -94,8 +116,14 @@ impl Walk {
         match answer {
             0 => Ok((count, Some(walked(&token)))),
             1 => Ok((count, None)),
-            number => Err(Refused { number, at: self.value.refused.at, byte: self.value.refused.byte }),
+            number => Err(Refused { fault: Fault::of(number), at: self.value.refused.at, byte: self.value.refused.byte }),
         }
+    }
+
+    /// The byte that it has refused, if it has.
+    pub fn refused(&self) -> Option<Refused> {
+        let refused = self.value.refused;
+        (refused.fault != 0).then(|| Refused { fault: Fault::of(70 + refused.fault), at: refused.at, byte: refused.byte })
     }
 
     /// Whether a message may end here.

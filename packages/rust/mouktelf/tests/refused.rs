@@ -1,6 +1,6 @@
 //! What is refused, and that nothing is written then.
 
-use mouktelf::{login, Cancelled, Client, Fault, Packets, Request, Reset, State};
+use mouktelf::{login, Cancelled, Client, Fault, Packets, Request, Reset, State, StrictClient};
 
 #[test]
 fn versions_fit() {
@@ -33,7 +33,7 @@ fn calls_in_the_wrong_state() {
 fn bytes_that_are_no_packet() {
     assert_eq!(Packets::new(&[0xFF; 8], 512).next(), Some(Err(Fault::Packet(1))));
     assert_eq!(Packets::new(&[], 512).next(), None);
-    assert!(Client::new(512).unwrap().take(&[]).is_err());
+    assert!(StrictClient::new(512).unwrap().take(&[]).is_err());
 }
 
 #[test]

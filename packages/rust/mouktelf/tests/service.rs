@@ -24,7 +24,7 @@ fn ask(service: &mut Service, lease: u64, request: Request<'_>) -> Result<u8, Fa
 const GET: Request<'_> = Request::Batch("get a");
 
 fn take(service: &mut Service, number: u64, packet: &str) -> Result<Taken, Fault> {
-    service.connection(number)?.take(&bytes(packet)).map(|it| it.0)
+    service.hear(number, &bytes(packet), &mut Vec::new()).map(|it| it.0)
 }
 
 /// Ends a lease, and what is to be sent for that.
@@ -82,7 +82,7 @@ fn drains() {
     assert_eq!((service.drained(1), service.lease()), (Ok(Rest::Draining), Err(Fault::AllInUse)));
     assert_eq!(service.clean(1), Err(Fault::NotNow));
     assert_eq!(take(&mut service, 1, ACKNOWLEDGED), Ok(Taken::Acknowledged));
-    assert_eq!(service.drained(1), Ok(Rest::Free));
+    assert_eq!(service.drained(1), Err(Fault::NotNow));
     let lent = service.lease().unwrap();
     assert_eq!((lent.number, lent.had, ask(&mut service, lent.lease, GET)), (1, true, Ok(9)));
     assert_eq!(take(&mut service, 1, RESET), Ok(Taken::Finished));
@@ -121,7 +121,8 @@ fn cleaned() {
         assert_eq!(service.lease(), Err(Fault::AllInUse));
         assert_eq!(ask(&mut service, lent.lease, GET), Ok(9));
         assert_eq!(service.cleaned(lent.lease), Err(Fault::NotNow));
-        take(&mut service, 1, answer).unwrap();
+        let taken = if answer == RESET { Ok(Taken::Finished) } else { Err(Fault::Peer(16)) };
+        assert_eq!(take(&mut service, 1, answer), taken);
         assert_eq!((service.cleaned(lent.lease), service.count()), (Ok((1, rest)), count));
     }
 }
@@ -206,6 +207,44 @@ fn asks() {
     // A message that ends inside a token breaks the connection.
     assert_eq!(service.message_ended(1, true), Err(Fault::Peer(15)));
     assert!(matches!(service.client(lease).unwrap().state(), State::Broken(_)));
+}
+
+/// By number: whose a packet's tokens are, and that nobody is told of what drains.
+#[test]
+fn hears() {
+    let (mut service, mut told, mut out) = (Service::new(1, 512).unwrap(), Vec::new(), Vec::new());
+    let lease = service.lease().unwrap().lease;
+    service.ask_batch(lease, "get a", &mut out).unwrap();
+    let first = Whose { lease: Some(lease), request: 1, is_told: true };
+    assert_eq!(service.hear(1, &bytes(ENDED), &mut told), Ok((Taken::Finished, first)));
+    assert_eq!(told, tokens(&mut Walk::default(), ENDED));
+    service.ask_batch(lease, "get b", &mut out).unwrap();
+    assert_eq!(gives_back(&mut service, lease), Ok((1, Rest::Draining, ATTENTION.to_vec())));
+    let nobody = Whose { lease: None, request: 2, is_told: false };
+    assert_eq!(service.hear(1, &bytes(ACKNOWLEDGED), &mut told), Ok((Taken::Acknowledged, nobody)));
+    assert_eq!((told.len(), service.lease().map(|it| it.had)), (1, Ok(true)));
+    assert_eq!(service.hear(2, &bytes(ENDED), &mut told), Err(Fault::NoSuch));
+    assert_eq!(service.hear(1, &[], &mut told), Err(Fault::NoPacket));
+}
+
+/// The login agrees on other packets than were asked for: the connection's client is one of that size, and no other's is.
+#[test]
+fn logged_in() {
+    let (mut service, text) = (Service::new(2, 4096).unwrap(), "a".repeat(1000));
+    let leases = [service.lease().unwrap().lease, service.lease().unwrap().lease];
+    service.logged_in(1, 512, None).unwrap();
+    let sizes = leases.map(|lease| {
+        let mut out = Vec::new();
+        service.ask_batch(lease, &text, &mut out).unwrap();
+        out.len()
+    });
+    assert_eq!(sizes, [2022 + 8 * 5, 2022 + 8]);
+    assert_eq!((service.logged_in(1, 4096, None), service.logged_in(3, 4096, None)), (Err(Fault::NotNow), Err(Fault::NoSuch)));
+    for size in [0, 511, 32768, 65535] {
+        let mut service = Service::new(1, 512).unwrap();
+        service.lease().unwrap();
+        assert_eq!(service.logged_in(1, size, None), Err(Fault::OutOfRange));
+    }
 }
 
 #[test]
