@@ -2,12 +2,14 @@
 //! have. One thread.
 #![tactic(auto)]
 
-mod group;
-mod house;
-mod link;
-mod socket;
+mod changing;
+mod lines;
+mod program;
+mod telling;
+mod turns;
+mod watching;
 
-use house::House;
+use program::Program;
 use relay_settings::{Asked, RelayFault, read_words};
 use std::env;
 use std::io::{self, Stderr};
@@ -38,23 +40,23 @@ fn answer(rt: &HostRuntime, fault: &RelayFault) -> u8 {
 fn run(rt: &HostRuntime) -> Result<(), RelayFault> {
     let words = given_words(rt).map_err(RelayFault::of_words)?;
     let asked = read_words(rt, rt.alloc(), words.as_slice())?;
-    let mut house = match House::new(rt, rt.alloc(), words, asked, rt.stderr()) {
-        Ok(house) => house,
-        Err(error) => return Err(RelayFault::Listen(asked.listen, error)),
+    let mut program = match Program::new(rt, rt.alloc(), words, asked, rt.stderr()) {
+        Ok(program) => program,
+        Err(error) => return Err(RelayFault::of_listener(asked.listen, error)),
     };
-    prepare(rt, &mut house, asked)?;
-    serve(rt, &mut house, asked)
+    prepare(rt, &mut program, asked)?;
+    serve(rt, &mut program, asked)
 }
 
 /// What it ends with, and where it tells what it does.
-fn prepare(rt: &HostRuntime, house: &mut House<Stderr>, asked: Asked) -> Result<(), RelayFault> {
+fn prepare(rt: &HostRuntime, program: &mut Program<Stderr>, asked: Asked) -> Result<(), RelayFault> {
     if asked.ends_with_input {
-        house.end_with_input().map_err(RelayFault::Input)?;
+        program.end_with_input().map_err(RelayFault::of_input)?;
     }
     if let Some(stats) = asked.stats {
-        let at = match house.tell_at(rt, stats) {
+        let at = match program.tell_at(rt, stats) {
             Ok(at) => at,
-            Err(error) => return Err(RelayFault::Listen(stats, error)),
+            Err(error) => return Err(RelayFault::of_listener(stats, error)),
         };
         let _ = eprintln!(rt; "telling at {at}");
     }
@@ -62,12 +64,12 @@ fn prepare(rt: &HostRuntime, house: &mut House<Stderr>, asked: Asked) -> Result<
 }
 
 /// Says where it serves, serves, and says how many applications it closed in the middle once it ends.
-fn serve(rt: &HostRuntime, house: &mut House<Stderr>, asked: Asked) -> Result<(), RelayFault> {
-    let address = house.address().map_err(RelayFault::Refused)?;
+fn serve(rt: &HostRuntime, program: &mut Program<Stderr>, asked: Asked) -> Result<(), RelayFault> {
+    let address = program.address().map_err(RelayFault::of_system)?;
     if let Some(server) = asked.servers.at(0) {
         let _ = eprintln!(rt; "relaying {address} to {server}");
     }
-    let open = house.serve(rt).map_err(RelayFault::Refused)?;
+    let open = program.serve(rt).map_err(RelayFault::of_system)?;
     let _ = eprintln!(rt; "ended: applications {open}");
     Ok(())
 }

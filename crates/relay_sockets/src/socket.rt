@@ -1,5 +1,6 @@
 //! A socket, and what it is.
 
+use crate::ending::Cause;
 use crate::link::Link;
 use relay_logins::{Dial, Gate, Leg, Way, Who};
 use relay_status::{Asker, At, Judged, Names, Role as Told};
@@ -42,13 +43,12 @@ pub enum Whose {
     Closing,
 }
 
-/// What is known of a socket behind its end: what it was, and how far its login had come.
+/// What is known of a socket behind its end: what it was, where it was dialed, and how far its login had come.
 #[derive(Clone, Copy)]
 pub struct Gone {
     pub whose: Whose,
+    pub dialed: Option<SocketAddr>,
     pub way: Option<Way>,
-    /// Whether that login took too long.
-    pub is_late: bool,
     /// Whether that login can't be begun anew.
     pub has_legs: bool,
 }
@@ -76,6 +76,8 @@ pub struct Socket {
     /// Who an application says that it is, and where it is.
     pub who: Option<Who>,
     pub peer: Option<SocketAddr>,
+    /// Where a connection was dialed.
+    pub dialed: Option<SocketAddr>,
     /// The millisecond in which it came, or was logged in.
     pub born: u64,
     pub seen: Seen,
@@ -84,8 +86,8 @@ pub struct Socket {
     pub partner: Option<u64>,
     /// The place among all reports of the one since which bytes of it wait to be read.
     pub order: u64,
-    /// Whether its login took too long.
-    pub is_late: bool,
+    /// Why it ends, as far as that is known.
+    pub cause: Option<Cause>,
     /// Since when a connection is free that is being checked.
     pub checked: Option<u64>,
     /// A connection's process at the server, and the server's place in the list.
@@ -99,6 +101,7 @@ pub struct Socket {
 }
 
 impl Socket {
+    /// A socket that has come, or was dialed, in this millisecond.
     pub fn new(number: u64, link: Link, role: Role, out: Vec<u8>, now: u64) -> Socket {
         Socket {
             number,
@@ -108,6 +111,7 @@ impl Socket {
             out,
             who: None,
             peer: None,
+            dialed: None,
             born: now,
             seen: Seen {
                 at: At::Other,
@@ -116,7 +120,7 @@ impl Socket {
             },
             partner: None,
             order: 0,
-            is_late: false,
+            cause: None,
             checked: None,
             spid: 0,
             server: 0,
@@ -205,6 +209,7 @@ impl Socket {
         self.born = now;
     }
 
+    /// What is known of it behind its end.
     pub fn gone(&self) -> Gone {
         let (way, has_legs) = match self.dial() {
             Some(dial) => (Some(dial.way), dial.has_legs),
@@ -212,8 +217,8 @@ impl Socket {
         };
         Gone {
             whose: self.whose(),
+            dialed: self.dialed,
             way,
-            is_late: self.is_late,
             has_legs,
         }
     }
@@ -253,6 +258,7 @@ impl Socket {
         })
     }
 
+    /// Whose it is.
     pub fn whose(&self) -> Whose {
         match &self.role {
             Role::Gate(_) => Whose::Gate,

@@ -1,10 +1,11 @@
 //! Which server is dialed for a login.
-use super::{House, relay_of};
+
 use crate::group::Group;
-use crate::socket::{Role, Whose};
+use crate::house::{House, relay_of};
 use mio::net::TcpStream;
-use relay_logins::{Groups, NOT_OPENED, NOWHERE, Target, Way, put_error};
-use relay_settings::{MOST_SERVERS, bit};
+use relay_logins::{Groups, NOT_OPENED, Target, Way, put_error};
+use relay_settings::{MOST_SERVERS, SystemError, bit, is_reached_at};
+use relay_sockets::{Cause, Role, Whose};
 use relay_status::raise;
 use std::io::{self, Write};
 use std::net::{IpAddr, Ipv4Addr, Net, SocketAddr};
@@ -14,11 +15,11 @@ const MOST_HOPS: u8 = 4;
 
 impl<W: Write + Drop> House<W> {
     /// Dials for this login the preferred one of the servers that weren't tried. False where there is none.
-    pub(super) fn reach<R: Net>(&mut self, rt: &R, whose: Whose, tried: u8) -> io::Result<bool> {
+    pub(crate) fn reach<R: Net>(&mut self, rt: &R, whose: Whose, tried: u8) -> io::Result<bool> {
         let mut tried = tried;
         for _ in 0..MOST_SERVERS {
             let servers = self.asked.servers;
-            let Some(place) = servers.next(tried, &self.away, self.now) else {
+            let Some(place) = servers.next(tried, &self.upstream.away, self.now()) else {
                 return Ok(false);
             };
             let Some(address) = servers.at(place) else {
@@ -53,25 +54,37 @@ impl<W: Write + Drop> House<W> {
         let Some(dial) = self.groups.dial(self.alloc, group, way, &mut out)? else {
             return Ok(false);
         };
-        let Ok(stream) = TcpStream::connect(rt, address) else {
-            self.went_away(way);
-            return Ok(false);
+        let stream = match TcpStream::connect(rt, address) {
+            Ok(stream) => stream,
+            Err(error) => {
+                let cause = Cause::Failed(SystemError::new(error));
+                self.upstream.fail(address, cause);
+                self.went_away(way, cause)?;
+                return Ok(false);
+            }
         };
+        let now = self.now();
         let role = match whose {
             Whose::Opening(group, number) => Role::Opening(group, number, dial),
             _ => Role::First(group, dial),
         };
-        let Some(key) = self.take_in(stream, role, out)? else {
+        let Some(key) = self.sockets.take_in(stream, role, out, now)? else {
             return Ok(false);
         };
-        self.is_dialed(whose, key);
-        raise(&mut self.counts.dialed);
-        self.say("connection", key, "is dialed");
+        self.is_dialed(whose, key, address);
+        raise(&mut self.journal.counts.dialed);
+        if self.journal.is_logged {
+            let address = format!(in self.alloc; "{address}")?;
+            self.say_of("connection", key, "is dialed at", address.as_str());
+        }
         Ok(true)
     }
 
-    /// This socket is a login's connection from now on.
-    fn is_dialed(&mut self, whose: Whose, key: usize) {
+    /// This socket is a login's connection from now on, at this address.
+    fn is_dialed(&mut self, whose: Whose, key: usize, address: SocketAddr) {
+        if let Some(socket) = self.sockets.get_mut(key) {
+            socket.dialed = Some(address);
+        }
         match whose {
             Whose::Opening(group, number) => {
                 if let Some(relay) = relay_of(&mut self.groups, group) {
@@ -90,49 +103,74 @@ impl<W: Write + Drop> House<W> {
     }
 
     /// A server has failed: for some seconds others are preferred.
-    pub(super) fn went_away(&mut self, way: Way) {
+    pub(crate) fn went_away(&mut self, way: Way, cause: Cause) -> io::Result<()> {
         if way.hops > 0 {
-            return;
+            return Ok(());
         }
-        raise(&mut self.counts.away);
+        raise(&mut self.journal.counts.away);
         let seconds = self.asked.limits.away;
-        if let Some(until) = self.away.get_mut(way.server) {
-            *until = self.now.saturating_add(seconds.saturating_mul(1000));
+        let until = self.now().saturating_add(seconds.saturating_mul(1000));
+        self.upstream.is_away(way.server, until);
+        match self.asked.servers.at(way.server) {
+            Some(address) if self.journal.is_logged => {
+                let told = format!(in self.alloc; "server {address} {cause}")?;
+                self.journal.note(told.as_str());
+                Ok(())
+            }
+            _ => Ok(()),
         }
     }
 
     /// The server says that a login is to go to another one, and so it does.
-    pub(super) fn follow<R: Net>(
+    pub(crate) fn follow<R: Net>(
         &mut self,
         rt: &R,
         key: usize,
         whose: Whose,
         target: &Target,
     ) -> io::Result<()> {
-        self.say("connection", key, "is told another server");
-        let found = match self.sockets.get(key) {
-            Some(socket) => match socket.dial() {
-                Some(dial) if !dial.has_legs && dial.way.hops < MOST_HOPS => Some(dial.way),
-                _ => None,
-            },
-            None => None,
-        };
+        let (host, port) = (target.host.as_str(), target.port);
+        let named = format!(in self.alloc; "{host}:{port}")?;
+        self.say_of("connection", key, "is told another server,", named.as_str());
+        let way = self.way_on(key);
         let _ = self.take_out(key)?;
-        if let (Some(way), Some(address)) = (found, address_of(rt, target)) {
-            raise(&mut self.counts.routed);
-            let way = Way {
-                hops: way.hops.saturating_add(1),
-                ..way
-            };
-            if self.connect(rt, whose, way, address)? {
-                return Ok(());
+        self.upstream.begin();
+        let missed = match (way, address_of(rt, target)) {
+            (None, _) => Some("a login is sent on four times at most, and not behind a leg of it"),
+            (_, None) => Some("the system's resolver knows no such name"),
+            (_, Some(address)) if is_reached_at(self.asked.listen, address) => {
+                Some("that is this relay itself")
             }
+            (Some(way), Some(address)) => {
+                raise(&mut self.journal.counts.routed);
+                if self.connect(rt, whose, way, address)? {
+                    return Ok(());
+                }
+                None
+            }
+        };
+        let why = match missed {
+            Some(missed) => format!(in self.alloc; "The login is sent on to {named}: {missed}.")?,
+            None => self.upstream.sentence(self.alloc)?,
+        };
+        self.not_reached(rt, whose, why.as_str())
+    }
+
+    /// How the login of this connection goes on at another server, if it may.
+    fn way_on(&self, key: usize) -> Option<Way> {
+        let dial = self.sockets.get(key)?.dial()?;
+        let way = dial.way;
+        if dial.has_legs || way.hops >= MOST_HOPS {
+            return None;
         }
-        self.not_reached(rt, whose, NOWHERE)
+        Some(Way {
+            hops: way.hops.saturating_add(1),
+            ..way
+        })
     }
 
     /// No server was reached for this login, and this is why.
-    pub(super) fn not_reached<R: Net>(
+    pub(crate) fn not_reached<R: Net>(
         &mut self,
         rt: &R,
         whose: Whose,
@@ -141,7 +179,7 @@ impl<W: Write + Drop> House<W> {
         match whose {
             Whose::First(group) => self.not_judged(group, why),
             Whose::Opening(group, number) => {
-                self.not_opened(group, number)?;
+                self.not_opened(group, number, why)?;
                 self.obey(rt, group)
             }
             _ => Ok(()),
@@ -149,12 +187,12 @@ impl<W: Write + Drop> House<W> {
     }
 
     /// The connection of this number can't be opened: who waits for it is told so, and is to be closed.
-    pub(super) fn not_opened(&mut self, group: usize, number: u64) -> io::Result<()> {
+    pub(crate) fn not_opened(&mut self, group: usize, number: u64, why: &str) -> io::Result<()> {
         let Some(relay) = relay_of(&mut self.groups, group) else {
             return Ok(());
         };
         if let Some(key) = relay.sent_on(number, 0) {
-            self.tell_not_opened(key)?;
+            self.tell_not_opened(key, why)?;
         }
         match relay_of(&mut self.groups, group) {
             Some(relay) => Ok(relay.lost(number)?),
@@ -163,22 +201,21 @@ impl<W: Write + Drop> House<W> {
     }
 
     /// An application is told that no connection can be opened, where nothing else waits for it.
-    fn tell_not_opened(&mut self, key: usize) -> io::Result<()> {
-        raise(&mut self.counts.not_served);
-        self.say("socket", key, "waits for a connection that can't be opened");
+    fn tell_not_opened(&mut self, key: usize, why: &str) -> io::Result<()> {
+        raise(&mut self.journal.counts.not_served);
+        let what = "waits for a connection that can't be opened:";
+        self.say_of("socket", key, what, why);
+        let alloc = self.alloc;
         let House {
-            sockets,
-            groups,
-            alloc,
-            ..
+            sockets, groups, ..
         } = self;
         let Some(socket) = sockets.get_mut(key) else {
             return Ok(());
         };
         if let Whose::Application(group, application) = socket.whose() {
             if is_all_sent(groups, group, application) {
-                let (number, sentence) = NOT_OPENED;
-                put_error(*alloc, &mut socket.out, number, sentence)?;
+                let told = format!(in alloc; "The relay could not open a connection. {why}")?;
+                put_error(alloc, &mut socket.out, NOT_OPENED, told.as_str())?;
             }
         }
         Ok(())

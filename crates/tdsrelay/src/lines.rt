@@ -1,9 +1,10 @@
 //! What is told of each group and each socket.
-use super::House;
-use crate::group::Group;
-use crate::socket::{Socket, Whose};
+
+use crate::program::Program;
+use relay_house::Group;
 use relay_logins::number_of;
 use relay_settings::{Limits, lesser};
+use relay_sockets::{Socket, Whose};
 use relay_status::{
     At, GroupLine, SocketLine, put_group, put_json_group, put_json_socket, put_socket,
 };
@@ -12,14 +13,14 @@ use std::io::{self, Write};
 /// The most of a line that are told.
 const MOST_TOLD: usize = 100;
 
-impl<W: Write + Drop> House<W> {
+impl<W: Write + Drop> Program<W> {
     /// A group: its figures, a line for each socket of it, and the applications that wait, the first one first.
-    pub(super) fn put_group(&self, body: &mut Vec<u8>, key: usize) -> io::Result<()> {
-        let Some(group) = self.groups.get(key) else {
+    pub fn put_group(&self, body: &mut Vec<u8>, key: usize) -> io::Result<()> {
+        let Some(group) = self.house.groups.get(key) else {
             return Ok(());
         };
         put_group(body, &self.line_of_group(key, group))?;
-        for (_, entry) in self.sockets.iter() {
+        for (_, entry) in self.house.sockets.iter() {
             if entry.value.group() == Some(key) {
                 put_socket(body, &self.line_of(entry.key, &entry.value))?;
             }
@@ -33,9 +34,9 @@ impl<W: Write + Drop> House<W> {
     }
 
     /// The applications whose login hasn't come yet, so that they are in no group.
-    pub(super) fn put_coming(&self, body: &mut Vec<u8>) -> io::Result<()> {
+    pub fn put_coming(&self, body: &mut Vec<u8>) -> io::Result<()> {
         let mut is_first = true;
-        for (_, entry) in self.sockets.iter() {
+        for (_, entry) in self.house.sockets.iter() {
             if let Whose::Gate = entry.value.whose() {
                 if is_first {
                     write!(body, "\nin no group yet\n")?;
@@ -47,9 +48,9 @@ impl<W: Write + Drop> House<W> {
         Ok(())
     }
 
-    pub(super) fn put_json_sockets(&self, body: &mut Vec<u8>) -> io::Result<()> {
+    pub fn put_json_sockets(&self, body: &mut Vec<u8>) -> io::Result<()> {
         let mut is_first = true;
-        for (_, entry) in self.sockets.iter() {
+        for (_, entry) in self.house.sockets.iter() {
             if !is_first {
                 write!(body, ",")?;
             }
@@ -59,9 +60,9 @@ impl<W: Write + Drop> House<W> {
         Ok(())
     }
 
-    pub(super) fn put_json_groups(&self, body: &mut Vec<u8>) -> io::Result<()> {
+    pub fn put_json_groups(&self, body: &mut Vec<u8>) -> io::Result<()> {
         let mut is_first = true;
-        for (_, entry) in self.groups.iter() {
+        for (_, entry) in self.house.groups.iter() {
             let (key, group) = (entry.key, &entry.value.inner);
             if !is_first {
                 write!(body, ",")?;
@@ -91,7 +92,7 @@ impl<W: Write + Drop> House<W> {
 
     /// The number of an application of a group.
     fn number_in(&self, group: usize, key: usize) -> Option<u64> {
-        for (_, entry) in self.sockets.iter() {
+        for (_, entry) in self.house.sockets.iter() {
             if let Whose::Application(of, application) = entry.value.whose() {
                 if of == group && application == key {
                     return Some(entry.value.number);
@@ -134,7 +135,7 @@ impl<W: Write + Drop> House<W> {
     }
 
     fn seconds_since(&self, since: u64) -> u64 {
-        self.now.saturating_sub(since) / 1000
+        self.house.now().saturating_sub(since) / 1000
     }
 }
 

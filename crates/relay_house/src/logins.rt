@@ -1,12 +1,12 @@
 //! What comes on sockets, and logins of applications.
-use super::{House, relay_of};
+
 use crate::group::{Group, Pair, Stage};
-use crate::link::News;
-use crate::socket::{Role, Whose};
+use crate::house::{House, relay_of};
 use relay_logins::{
-    Kind, NOWHERE, Passed, REFUSED, SharedLogin, kind_of, leave_out_features, put_error, put_saved,
+    Kind, Passed, REFUSED, SharedLogin, kind_of, leave_out_features, number_of, put_error, put_saved,
     who_of,
 };
+use relay_sockets::{Cause, News, Role, Whose};
 use relay_status::raise;
 use std::io::{self, Write};
 use std::net::Net;
@@ -16,12 +16,12 @@ use tds_packet::PacketSize;
 const MOST_GROUPS: usize = 256;
 
 impl<W: Write + Drop> House<W> {
-    /// These bytes came on a socket.
-    pub(super) fn came<R: Net>(&mut self, rt: &R, key: usize, piece: &[u8]) -> io::Result<()> {
+    /// These bytes came on a socket, which isn't of somebody who asks what the relay does.
+    pub fn came<R: Net>(&mut self, rt: &R, key: usize, piece: &[u8]) -> io::Result<()> {
         let House {
             sockets,
             groups,
-            precise,
+            journal,
             ..
         } = self;
         let Some(socket) = sockets.get_mut(key) else {
@@ -31,7 +31,7 @@ impl<W: Write + Drop> House<W> {
             Whose::Application(group, application) => {
                 if let Some(relay) = relay_of(groups, group) {
                     relay.said(application, piece)?;
-                    socket.asks(relay.begun_by(application), *precise);
+                    socket.asks(relay.begun_by(application), journal.moment.micros);
                 }
                 self.obey(rt, group)
             }
@@ -39,15 +39,17 @@ impl<W: Write + Drop> House<W> {
             Whose::Gate => self.passed(rt, key, piece),
             Whose::First(group) => self.first_dialed(rt, key, group, piece),
             Whose::Opening(group, number) => self.dialed(rt, key, group, number, piece),
-            Whose::Judged(_) => self.closed(rt, key),
+            Whose::Judged(_) => {
+                let why = Cause::Wrong("speaks before its login is answered");
+                self.ended(rt, key, why)
+            }
             Whose::Leg(group) => self.leg_came(rt, key, group, piece),
-            Whose::Asker => self.asked_for(rt, key, piece),
-            Whose::Closing => Ok(()),
+            Whose::Asker | Whose::Closing => Ok(()),
         }
     }
 
     /// These bytes came on a connection that is logged in.
-    pub(super) fn heard<R: Net>(
+    pub(crate) fn heard<R: Net>(
         &mut self,
         rt: &R,
         group: usize,
@@ -74,7 +76,10 @@ impl<W: Write + Drop> House<W> {
         let passed = gate.take(piece, &mut socket.out)?;
         match passed {
             Passed::More => self.send_or_close(rt, key),
-            Passed::Refused => self.dismiss(rt, key),
+            Passed::Refused(why) => {
+                self.say_of("application", key, "is refused:", why);
+                self.dismiss(rt, key)
+            }
             Passed::Login(message) => self.log_in(rt, key, message),
         }
     }
@@ -103,7 +108,7 @@ impl<W: Write + Drop> House<W> {
     }
 
     /// It joins a group: it waits for the judgement, or gets what the server answered the first one.
-    pub(super) fn join<R: Net>(&mut self, rt: &R, key: usize, group: usize) -> io::Result<()> {
+    pub(crate) fn join<R: Net>(&mut self, rt: &R, key: usize, group: usize) -> io::Result<()> {
         let House {
             sockets,
             groups,
@@ -121,11 +126,21 @@ impl<W: Write + Drop> House<W> {
             Stage::Open(relay, answer) => {
                 put_saved(&mut socket.out, answer)?;
                 socket.role = Role::Application(group, relay.enter(key)?);
-                raise(&mut self.counts.let_in);
-                self.say("application", key, "is let in");
+                raise(&mut self.journal.counts.let_in);
+                self.is_let_in(key, group)?;
                 self.send_or_close(rt, key)
             }
         }
+    }
+
+    /// A line about an application of a group.
+    fn is_let_in(&mut self, key: usize, group: usize) -> io::Result<()> {
+        if self.journal.is_logged {
+            let group = number_of(group);
+            let group = format!(in self.alloc; "{group}")?;
+            self.say_of("application", key, "is let in, group", group.as_str());
+        }
+        Ok(())
     }
 
     /// It is the first one of its kind: the server judges it, on a connection of its own.
@@ -176,10 +191,12 @@ impl<W: Write + Drop> House<W> {
         if let Some(socket) = self.sockets.get_mut(key) {
             socket.role = Role::Judged(group);
         }
+        self.upstream.begin();
         if self.reach(rt, Whose::First(group), 0)? {
             return Ok(());
         }
-        self.not_judged(group, NOWHERE)
+        let why = self.upstream.sentence(self.alloc)?;
+        self.not_judged(group, why.as_str())
     }
 
     /// Why no more groups may be, if so.
@@ -193,9 +210,9 @@ impl<W: Write + Drop> House<W> {
             }
         }
         if is_shared && shared >= MOST_GROUPS {
-            Some("The relay has as many different logins as it takes.")
+            Some("The relay has as many different logins as it takes, 256.")
         } else if !is_shared && alone >= self.asked.alone {
-            Some("The relay has as many logins that can't be shared as it takes.")
+            Some("The relay has as many logins that can't be shared as it takes (--alone).")
         } else {
             None
         }
@@ -203,23 +220,17 @@ impl<W: Write + Drop> House<W> {
 
     // ---- Refusals
 
-    pub(super) fn send_or_close<R: Net>(&mut self, rt: &R, key: usize) -> io::Result<()> {
-        if self.send(key)? {
-            Ok(())
-        } else {
-            self.closed(rt, key)
-        }
-    }
-
     /// It is told why it isn't let in, and closed.
     fn refuse<R: Net>(&mut self, rt: &R, key: usize, why: &str) -> io::Result<()> {
         self.put_refusal(key, why)?;
         self.send_or_close(rt, key)
     }
 
-    pub(super) fn put_refusal(&mut self, key: usize, why: &str) -> io::Result<()> {
+    /// It is told why it isn't let in, and is to be closed then.
+    pub fn put_refusal(&mut self, key: usize, why: &str) -> io::Result<()> {
         let alloc = self.alloc;
-        raise(&mut self.counts.refused);
+        raise(&mut self.journal.counts.refused);
+        self.say_of("application", key, "is refused:", why);
         let Some(socket) = self.sockets.get_mut(key) else {
             return Ok(());
         };
@@ -227,11 +238,11 @@ impl<W: Write + Drop> House<W> {
         put_error(alloc, &mut socket.out, REFUSED, why)?;
         socket.role = Role::Closing;
         self.let_go(whose)?;
-        self.report(key, News::Turn)
+        Ok(self.sockets.report(key, News::Turn)?)
     }
 
     /// It is closed behind what waits for it.
-    pub(super) fn dismiss<R: Net>(&mut self, rt: &R, key: usize) -> io::Result<()> {
+    pub fn dismiss<R: Net>(&mut self, rt: &R, key: usize) -> io::Result<()> {
         if let Some(socket) = self.sockets.get_mut(key) {
             socket.role = Role::Closing;
         }

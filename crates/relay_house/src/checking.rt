@@ -1,6 +1,7 @@
 //! Free connections of a group are checked: each is reset anew, which a server must answer in time.
-use super::{House, relay_of};
-use crate::socket::Whose;
+
+use crate::house::{House, relay_of};
+use relay_sockets::Whose;
 use std::io::{self, Write};
 use std::net::Net;
 use tds_relay::PlaceOn;
@@ -13,7 +14,7 @@ const BEGUN: [u8; 8] = [1, 0, 0, 16, 0, 0, 1, 0];
 
 impl<W: Write + Drop> House<W> {
     /// Checks the groups whose time it is.
-    pub(super) fn check_all<R: Net>(&mut self, rt: &R) -> io::Result<()> {
+    pub fn check_all<R: Net>(&mut self, rt: &R) -> io::Result<()> {
         let seconds = self.asked.limits.check;
         if seconds == 0 {
             return Ok(());
@@ -32,7 +33,7 @@ impl<W: Write + Drop> House<W> {
 
     /// Whether a group wasn't checked for so many milliseconds. Then it is from now on.
     fn is_due(&mut self, key: usize, limit: u64) -> bool {
-        let now = self.now;
+        let now = self.now();
         let Some(group) = self.groups.get_mut(key) else {
             return false;
         };
@@ -44,7 +45,7 @@ impl<W: Write + Drop> House<W> {
     }
 
     /// Checks the free connections of a group: each is lent to nobody, and so cleaned behind that.
-    pub(super) fn check<R: Net>(&mut self, rt: &R, group: usize) -> io::Result<()> {
+    pub(crate) fn check<R: Net>(&mut self, rt: &R, group: usize) -> io::Result<()> {
         let count = self.free_in(group)?;
         let House { groups, .. } = self;
         let Some(checked) = groups.get_mut(group) else {
@@ -66,10 +67,7 @@ impl<W: Write + Drop> House<W> {
 
     /// How many connections of a group are free. Each is noted to be checked.
     fn free_in(&mut self, group: usize) -> io::Result<usize> {
-        let mut keys = Vec::new(self.alloc);
-        for (_, entry) in self.sockets.iter() {
-            keys.push(entry.key)?;
-        }
+        let keys = self.sockets.keys()?;
         let House {
             sockets,
             groups,

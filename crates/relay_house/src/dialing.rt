@@ -1,8 +1,9 @@
 //! Logins of connections: what the server answers.
-use super::{House, relay_of};
+
 use crate::group::Stage;
-use crate::socket::{Role, Whose};
-use relay_logins::{Dialed, NOWHERE, put_saved};
+use crate::house::{House, relay_of};
+use relay_logins::{Dialed, Unfit, put_saved};
+use relay_sockets::{Cause, Role, Whose};
 use relay_status::raise;
 use std::io::{self, Write};
 use std::mem;
@@ -18,7 +19,7 @@ impl<W: Write + Drop> House<W> {
                 break;
             }
             let Some(socket) = self.sockets.get_mut(key) else {
-                return Ok((&[], Dialed::Wrong));
+                return Ok((&[], Dialed::Wrong(Unfit::NoPackets)));
             };
             let (count, dialed) = match &mut socket.role {
                 Role::First(_, dial) => dial.take(rest, &mut socket.out)?,
@@ -38,7 +39,7 @@ impl<W: Write + Drop> House<W> {
     }
 
     /// Bytes came on the first connection of a group.
-    pub(super) fn first_dialed<R: Net>(
+    pub(crate) fn first_dialed<R: Net>(
         &mut self,
         rt: &R,
         key: usize,
@@ -48,13 +49,13 @@ impl<W: Write + Drop> House<W> {
         let (rest, dialed) = self.dial(key, piece)?;
         match dialed {
             Dialed::More => self.send_or_close(rt, key),
-            Dialed::Wrong => self.closed(rt, key),
+            Dialed::Wrong(why) => self.ended(rt, key, Cause::Wrong(why.words())),
             Dialed::Routed(target) => self.follow(rt, key, Whose::First(group), &target),
             Dialed::Leg(answer) => match self.pair_of(group) {
                 Some(pair) => self.ask_leg(rt, pair.application, group, &answer),
-                None => self.refused(rt, key, group, &answer),
+                None => self.refused(rt, key, group, &answer, 0),
             },
-            Dialed::Refused(answer) => self.refused(rt, key, group, &answer),
+            Dialed::Refused(answer, error) => self.refused(rt, key, group, &answer, error),
             Dialed::In(size, answer) => self.let_in(rt, key, group, size, answer, rest),
         }
     }
@@ -66,11 +67,26 @@ impl<W: Write + Drop> House<W> {
         key: usize,
         group: usize,
         answer: &[u8],
+        error: i32,
     ) -> io::Result<()> {
+        self.say_refused(key, Cause::Refused(error))?;
         let _ = self.take_out(key)?;
         self.unpair(group);
         self.judged(rt, group, answer)?;
         let _ = self.groups.try_remove(group).is_some();
+        Ok(())
+    }
+
+    /// A line about a connection that isn't let in: by which server, and why.
+    fn say_refused(&mut self, key: usize, cause: Cause) -> io::Result<()> {
+        let dialed = match self.sockets.get(key) {
+            Some(socket) if self.journal.is_logged => socket.dialed,
+            _ => None,
+        };
+        if let Some(address) = dialed {
+            let why = format!(in self.alloc; "{address} {cause}")?;
+            self.say_of("connection", key, "is refused:", why.as_str());
+        }
         Ok(())
     }
 
@@ -87,7 +103,7 @@ impl<W: Write + Drop> House<W> {
         let waiting = self.judged_by(group);
         let Some(number) = self.begin_relay(key, group, size, answer)? else {
             let _ = self.take_out(key)?;
-            return self.not_judged(group, NOWHERE);
+            return self.not_judged(group, "The relay has no room for one more connection.");
         };
         self.join_all(rt, &waiting, group)?;
         self.begin_sharing(rt, key, group, number, rest)
@@ -164,16 +180,14 @@ impl<W: Write + Drop> House<W> {
 
     /// A connection is logged in.
     fn is_in(&mut self, key: usize, role: Role) {
-        let now = self.now;
+        let now = self.now();
         if let Some(socket) = self.sockets.get_mut(key) {
             let took = now.saturating_sub(socket.born);
             socket.becomes(role, now);
-            self.logins.add(took.saturating_mul(1000));
-            if let Some(until) = self.away.get_mut(socket.server) {
-                *until = 0;
-            }
+            self.journal.logins.add(took.saturating_mul(1000));
+            self.upstream.is_back(socket.server);
         }
-        raise(&mut self.counts.opened);
+        raise(&mut self.journal.counts.opened);
         self.say("connection", key, "is opened");
     }
 
@@ -190,7 +204,7 @@ impl<W: Write + Drop> House<W> {
     }
 
     /// Whether a socket is still an application that waits for this judgement.
-    pub(super) fn is_judged(&self, key: usize, group: usize) -> bool {
+    pub(crate) fn is_judged(&self, key: usize, group: usize) -> bool {
         match self.sockets.get(key) {
             Some(socket) => match socket.whose() {
                 Whose::Judged(of) | Whose::Leg(of) => of == group,
@@ -219,7 +233,7 @@ impl<W: Write + Drop> House<W> {
     }
 
     /// The server didn't judge the first login of a group: those who wait for that are told why.
-    pub(super) fn not_judged(&mut self, group: usize, why: &str) -> io::Result<()> {
+    pub(crate) fn not_judged(&mut self, group: usize, why: &str) -> io::Result<()> {
         let waiting = self.judged_by(group);
         let _ = self.groups.try_remove(group).is_some();
         for key in waiting.iter() {
@@ -231,7 +245,7 @@ impl<W: Write + Drop> House<W> {
     }
 
     /// Bytes came on another connection of a group.
-    pub(super) fn dialed<R: Net>(
+    pub(crate) fn dialed<R: Net>(
         &mut self,
         rt: &R,
         key: usize,
@@ -242,16 +256,15 @@ impl<W: Write + Drop> House<W> {
         let (rest, dialed) = self.dial(key, piece)?;
         match dialed {
             Dialed::More => return self.send_or_close(rt, key),
-            Dialed::Wrong => return self.closed(rt, key),
+            Dialed::Wrong(why) => return self.ended(rt, key, Cause::Wrong(why.words())),
             Dialed::Routed(target) => {
                 return self.follow(rt, key, Whose::Opening(group, number), &target);
             }
             Dialed::In(size, _) if self.has_size(group, size) => {}
-            Dialed::In(..) | Dialed::Leg(_) | Dialed::Refused(_) => {
-                // The server doesn't let these logins in any more: who comes later is judged anew.
-                self.say("connection", key, "is refused");
-                self.groups.close(group);
-                return self.ended(rt, key, false);
+            Dialed::In(..) => return self.shut(rt, key, group, Cause::OtherSize),
+            Dialed::Leg(_) => return self.shut(rt, key, group, Cause::Refused(0)),
+            Dialed::Refused(_, error) => {
+                return self.shut(rt, key, group, Cause::Refused(error));
             }
         }
         self.is_in(key, Role::Connection(group, number));
@@ -259,6 +272,19 @@ impl<W: Write + Drop> House<W> {
             relay.opened(number)?;
         }
         self.heard(rt, group, number, rest)
+    }
+
+    /// The server doesn't let the logins of a group in any more: who comes later is judged anew.
+    fn shut<R: Net>(
+        &mut self,
+        rt: &R,
+        key: usize,
+        group: usize,
+        cause: Cause,
+    ) -> io::Result<()> {
+        self.say_refused(key, cause)?;
+        self.groups.close(group);
+        self.ended(rt, key, cause)
     }
 
     /// Whether a group's packets have this size.

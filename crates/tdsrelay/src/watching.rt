@@ -1,13 +1,17 @@
 //! Time limits, and the end: what has lasted too long is closed.
-use super::{House, relay_of};
-use crate::group::Group;
-use crate::socket::{Role, Whose};
-use relay_logins::{Groups, SILENT, UNANSWERED, put_error};
+
+use crate::program::Program;
+use relay_house::{Group, House, relay_of};
+use relay_logins::{Groups, UNANSWERED, put_error};
 use relay_settings::{Limits, is_beyond};
+use relay_sockets::{Cause, Role, Whose};
 use relay_status::{At, raise};
 use std::io::{self, Write};
 use std::net::Net;
 use tds_relay::{Place, PlaceOn, Relay};
+
+/// What an application is told whose login no server answers.
+const SILENT: &str = "The server gave no answer in time.";
 
 /// Why something is closed.
 #[derive(Clone, Copy)]
@@ -59,17 +63,14 @@ impl Why {
     }
 }
 
-impl<W: Write + Drop> House<W> {
+impl<W: Write + Drop> Program<W> {
     /// Closes what has lasted longer than its limit.
-    pub(super) fn sweep<R: Net>(&mut self, rt: &R) -> io::Result<()> {
-        let mut keys = Vec::new(self.alloc);
-        for (_, entry) in self.sockets.iter() {
-            keys.push(entry.key)?;
-        }
+    pub fn sweep<R: Net>(&mut self, rt: &R) -> io::Result<()> {
+        let keys = self.house.sockets.keys()?;
         for key in keys.iter() {
             self.sweep_one(rt, *key)?;
         }
-        self.check_all(rt)
+        self.house.check_all(rt)
     }
 
     fn sweep_one<R: Net>(&mut self, rt: &R, key: usize) -> io::Result<()> {
@@ -77,24 +78,24 @@ impl<W: Write + Drop> House<W> {
             self.end(rt, key, why)?;
         }
         // What made room for it may have been said of another one alone.
-        self.read_on(key)
+        Ok(self.house.sockets.read_on(key)?)
     }
 
     /// Whether it is to end, and has no application left or has waited long enough for that.
-    pub(super) fn has_ended(&self) -> bool {
+    pub fn has_ended(&self) -> bool {
         match self.ending {
             Some(since) => {
-                let lasted = self.now.saturating_sub(since);
-                self.applications() == 0 || is_beyond(self.asked.limits.drain, lasted)
+                let lasted = self.house.now().saturating_sub(since);
+                self.applications() == 0 || is_beyond(self.house.asked.limits.drain, lasted)
             }
             None => false,
         }
     }
 
     /// How many applications are logged in.
-    pub(super) fn applications(&self) -> usize {
+    pub fn applications(&self) -> usize {
         let mut count: usize = 0;
-        for (_, entry) in self.sockets.iter() {
+        for (_, entry) in self.house.sockets.iter() {
             if matches!(entry.value.role, Role::Application(..)) {
                 count = count.saturating_add(1);
             }
@@ -105,9 +106,9 @@ impl<W: Write + Drop> House<W> {
     /// Notes what a socket is at, and answers why it is to be closed, if it is.
     fn look_at(&mut self, key: usize) -> Option<Why> {
         let (at, mark) = self.at(key);
-        let (now, limits, is_ending) = (self.now, self.limits_of(key), self.ending.is_some());
+        let (now, limits, is_ending) = (self.house.now(), self.limits_of(key), self.ending.is_some());
         let is_paused = self.is_paused(key);
-        let socket = self.sockets.get_mut(key)?;
+        let socket = self.house.sockets.get_mut(key)?;
         socket.see(at, mark, now);
         let lasted = now.saturating_sub(socket.seen.since);
         let age = now.saturating_sub(socket.born);
@@ -124,10 +125,10 @@ impl<W: Write + Drop> House<W> {
     /// Who waits for their judgement is told what becomes of it, so has all their shares, and the times
     /// from one look at limits to the next. A connection that isn't shared may be idle as long as its
     /// application is there.
-    pub(super) fn limits_of(&self, key: usize) -> Limits {
-        let mut limits = self.asked.limits;
-        let count = self.asked.servers.count();
-        let whose = match self.sockets.get(key) {
+    pub fn limits_of(&self, key: usize) -> Limits {
+        let mut limits = self.house.asked.limits;
+        let count = self.house.asked.servers.count();
+        let whose = match self.house.sockets.get(key) {
             Some(socket) => socket.whose(),
             None => return limits,
         };
@@ -140,7 +141,7 @@ impl<W: Write + Drop> House<W> {
             Whose::Judged(_) if limits.login > 0 => {
                 limits.login = limits.login.saturating_add(count.saturating_mul(2));
             }
-            Whose::Connection(group, _) if self.pair_of(group).is_some() => {
+            Whose::Connection(group, _) if self.house.pair_of(group).is_some() => {
                 limits.idle = 0;
                 limits.life = 0;
             }
@@ -151,11 +152,11 @@ impl<W: Write + Drop> House<W> {
 
     /// Whether the group of a socket that is a connection is paused.
     fn is_paused(&self, key: usize) -> bool {
-        let Some(socket) = self.sockets.get(key) else {
+        let Some(socket) = self.house.sockets.get(key) else {
             return false;
         };
         match socket.whose() {
-            Whose::Connection(group, _) => match self.groups.get(group) {
+            Whose::Connection(group, _) => match self.house.groups.get(group) {
                 Some(group) => group.is_paused(),
                 None => false,
             },
@@ -164,12 +165,10 @@ impl<W: Write + Drop> House<W> {
     }
 
     /// What a socket is at, and what tells two of that apart.
-    pub(super) fn at(&mut self, key: usize) -> (At, u64) {
+    pub fn at(&mut self, key: usize) -> (At, u64) {
         let House {
-            sockets,
-            groups,
-            ..
-        } = self;
+            sockets, groups, ..
+        } = &mut self.house;
         let Some(socket) = sockets.get(key) else {
             return (At::Other, 0);
         };
@@ -191,8 +190,8 @@ impl<W: Write + Drop> House<W> {
     /// Closes it. An application is told why, where nothing else waits for it.
     fn end<R: Net>(&mut self, rt: &R, key: usize, why: Why) -> io::Result<()> {
         self.count(why);
-        self.say("socket", key, why.words());
-        let whose = match self.sockets.get(key) {
+        self.house.say("socket", key, why.words());
+        let whose = match self.house.sockets.get(key) {
             Some(socket) => socket.whose(),
             None => return Ok(()),
         };
@@ -203,23 +202,15 @@ impl<W: Write + Drop> House<W> {
             (Whose::Application(group, application), _) => {
                 self.dismiss_from(rt, key, group, application, why)
             }
-            (Whose::Judged(_), Why::Login) => self.put_refusal(key, SILENT),
-            (Whose::Leg(_), Why::Login) => self.put_refusal(key, UNANSWERED),
-            (Whose::First(_) | Whose::Opening(..), Why::Login) => self.is_late(rt, key),
-            _ => self.ended(rt, key, matches!(why, Why::Login | Why::Cancel)),
+            (Whose::Judged(_), Why::Login) => self.house.put_refusal(key, SILENT),
+            (Whose::Leg(_), Why::Login) => self.house.put_refusal(key, UNANSWERED),
+            (_, Why::Login | Why::Cancel) => self.house.ended(rt, key, Cause::Silent),
+            _ => self.house.ended(rt, key, Cause::Own),
         }
-    }
-
-    /// The login of a connection has taken too long.
-    fn is_late<R: Net>(&mut self, rt: &R, key: usize) -> io::Result<()> {
-        if let Some(socket) = self.sockets.get_mut(key) {
-            socket.is_late = true;
-        }
-        self.ended(rt, key, true)
     }
 
     fn count(&mut self, why: Why) {
-        let counts = &mut self.counts;
+        let counts = &mut self.house.journal.counts;
         match why {
             Why::Login => raise(&mut counts.late_logins),
             Why::Wait => raise(&mut counts.late_waits),
@@ -235,12 +226,12 @@ impl<W: Write + Drop> House<W> {
     /// The connection on which an application's cancel isn't acknowledged is closed, and the application
     /// with it.
     fn give_up<R: Net>(&mut self, rt: &R, group: usize, application: usize) -> io::Result<()> {
-        if let Some(relay) = relay_of(&mut self.groups, group) {
+        if let Some(relay) = relay_of(&mut self.house.groups, group) {
             if let Some(Place::Cancelling(number)) = relay.place_of(application) {
                 relay.lost(number)?;
             }
         }
-        self.obey(rt, group)
+        self.house.obey(rt, group)
     }
 
     /// An application is taken out of its group and closed.
@@ -252,25 +243,23 @@ impl<W: Write + Drop> House<W> {
         application: usize,
         why: Why,
     ) -> io::Result<()> {
+        let alloc = self.house.alloc;
         let House {
-            sockets,
-            groups,
-            alloc,
-            ..
-        } = self;
+            sockets, groups, ..
+        } = &mut self.house;
         if let (Some(socket), Some(relay)) = (sockets.get_mut(key), relay_of(groups, group)) {
             if let (true, Some((number, text))) = (
                 relay.unsent(application).is_empty(),
                 why.told(),
             ) {
-                put_error(*alloc, &mut socket.out, number, text)?;
+                put_error(alloc, &mut socket.out, number, text)?;
             }
             socket.role = Role::Closing;
         }
-        self.leave(group, application)?;
-        self.obey(rt, group)?;
-        self.let_go(Whose::Application(group, application))?;
-        self.dismiss(rt, key)
+        self.house.leave(group, application)?;
+        self.house.obey(rt, group)?;
+        self.house.let_go(Whose::Application(group, application))?;
+        self.house.dismiss(rt, key)
     }
 }
 

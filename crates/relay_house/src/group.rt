@@ -1,4 +1,4 @@
-//! Applications whose logins are equal, and their relay.
+//! Applications whose logins are equal, or one that is alone, and their relay.
 
 use relay_logins::FEATURES;
 use relay_status::{Done, NOTHING};

@@ -1,14 +1,15 @@
 //! Logins that can't be shared: an application and a connection of its own, which end together.
-use super::House;
+
 use crate::group::Pair;
-use crate::socket::{Role, Whose};
+use crate::house::House;
 use relay_logins::{Leg, Taken, put_saved};
+use relay_sockets::{Cause, Role, Whose};
 use std::io::{self, Write};
 use std::net::Net;
 
 impl<W: Write + Drop> House<W> {
     /// The two ends of a group, where it isn't shared.
-    pub(super) fn pair_of(&self, group: usize) -> Option<Pair> {
+    pub fn pair_of(&self, group: usize) -> Option<Pair> {
         match self.groups.get(group) {
             Some(group) => group.pair,
             None => None,
@@ -16,14 +17,14 @@ impl<W: Write + Drop> House<W> {
     }
 
     /// The two ends are none of each other's any more.
-    pub(super) fn unpair(&mut self, group: usize) {
+    pub(crate) fn unpair(&mut self, group: usize) {
         if let Some(group) = self.groups.get_mut(group) {
             group.pair = None;
         }
     }
 
     /// The server asks an application for another leg of its login.
-    pub(super) fn ask_leg<R: Net>(
+    pub(crate) fn ask_leg<R: Net>(
         &mut self,
         rt: &R,
         application: usize,
@@ -41,7 +42,7 @@ impl<W: Write + Drop> House<W> {
     }
 
     /// Bytes of a leg came: they go on to the server.
-    pub(super) fn leg_came<R: Net>(
+    pub(crate) fn leg_came<R: Net>(
         &mut self,
         rt: &R,
         key: usize,
@@ -58,7 +59,10 @@ impl<W: Write + Drop> House<W> {
         match taken {
             Taken::More => {}
             Taken::Whole => socket.role = Role::Judged(group),
-            Taken::Wrong => return self.closed(rt, key),
+            Taken::Wrong => {
+                let why = Cause::Wrong("sends no leg of its login, and the server asks for one");
+                return self.ended(rt, key, why);
+            }
         }
         let Some(pair) = self.pair_of(group) else {
             return Ok(());
@@ -71,7 +75,7 @@ impl<W: Write + Drop> House<W> {
 
     /// A socket of this key has ended, which was this: the other end of a group that isn't shared ends with
     /// it. True where there was one.
-    pub(super) fn part(&mut self, whose: Whose, key: usize) -> io::Result<bool> {
+    pub(crate) fn part(&mut self, whose: Whose, key: usize) -> io::Result<bool> {
         let group = match whose {
             Whose::Judged(group) | Whose::Leg(group) => group,
             Whose::Application(group, _) | Whose::Connection(group, _) => group,
@@ -93,7 +97,7 @@ impl<W: Write + Drop> House<W> {
 
     /// An application that was this gets a last answer, and then it is closed: where it isn't in a group
     /// that is shared, its connection is closed now.
-    pub(super) fn let_go(&mut self, whose: Whose) -> io::Result<()> {
+    pub fn let_go(&mut self, whose: Whose) -> io::Result<()> {
         let group = match whose {
             Whose::Judged(group) | Whose::Leg(group) | Whose::Application(group, _) => group,
             _ => return Ok(()),

@@ -1,4 +1,5 @@
-//! What findings are called.
+//! What a judge's findings are called, for whoever tells them.
+#![tactic(auto)]
 
 use tds_judge::{Level, Name};
 
@@ -108,6 +109,7 @@ pub fn sentence_of(name: Name) -> &'static str {
     }
 }
 
+/// How much it weighs.
 pub fn level_text(level: Level) -> &'static str {
     match level {
         Level::Breach => "breach",
