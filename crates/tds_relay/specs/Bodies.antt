@@ -127,7 +127,7 @@ Becomes said.HandOn taken old new = Unit {0}
 abbrev pub taken_of : List ℕ → Option End → List ℕ
 taken_of bytes None = []
 taken_of bytes (Some (Open front withdrawn asks)) = take (count_by (fed front bytes).brings bytes) bytes
-taken_of bytes (Some Over) = []
+taken_of bytes (Some (Over why)) = []
 
 -- Piece by piece of what steps take of an application, from the one body to the other; before each and behind the last it may start.
 abbrev pub AreFollowed : ℕ → House → List Step → Body → Body → Type 0

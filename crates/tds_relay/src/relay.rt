@@ -31,6 +31,7 @@ mod stopping;
 use crate::NoMemory;
 use crate::application::Application;
 use crate::desk::{Desk, Mode};
+use crate::fault::Refused;
 use crate::link::Link;
 use crate::links::{forget_sent, place_in};
 use crate::order::Order;
@@ -60,6 +61,8 @@ pub struct Relay {
     /// Where the desk puts what is to be sent on a connection.
     outbox: Vec<u8>,
     counts: Counts,
+    /// The last connection that is closed for the header of a packet.
+    refused: Option<Refused>,
 }
 
 impl Relay {
@@ -87,6 +90,7 @@ impl Relay {
             orders: Vec::new(alloc),
             outbox: Vec::new(alloc),
             counts: Counts::none(),
+            refused: None,
         })
     }
 

@@ -97,7 +97,7 @@ ended_sent s lease count did = acts_sent s lease (line.Send true) (Ends count) t
 -- ---- At the desk
 
 abbrev pub behind : Desk → Service → Desk
-behind d s = record { mode = d.mode; service = s; holds = d.holds; line = d.line }
+behind d s = record d { service = s }
 
 sends_on : (d : Desk) (s : Service) (key : ℕ) (h : Hold) (whole : Bool) → find_key key d.holds ≡ Some h → IsSent whole (stage_by s h.lease) → SendsOn whole (behind d s) key
 sends_on d s key h whole its sent = record { hold = h; its = its; sent = sent }

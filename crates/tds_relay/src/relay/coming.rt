@@ -3,6 +3,7 @@ ghost use Rattle.std.specs.Prelude.{◌≡◌, ◌+◌, ◌≤◌, ◌&&◌, ◌
 ghost use Rattle.std.specs.Prelude.{IfOk, IsNone, OnOk};
 ghost use Rattle.tds_packet.specs.declared.status.Reset.TheVariants.{KeepTransaction};
 ghost use Rattle.tds_service.specs.Table.{reading_on};
+ghost use Rattle.tds_relay.specs.Faults.{RefusedBy};
 ghost use Rattle.tds_relay.specs.Fronts.{Moved, end_of, ends_in, hall_in, hall_of_ends, told_by};
 ghost use Rattle.tds_relay.specs.Fronts.{house_in, house_of, house_with};
 ghost use Rattle.tds_relay.specs.Hall.{AsksFor, IfWhose, MayPart, change_end, change_whose, end_at, holder, told};
@@ -22,6 +23,7 @@ use super::asking::behind;
 use crate::NoMemory;
 use crate::application::{Application, Asking};
 use crate::desk::{Desk, Heard, Renewed, What};
+use crate::fault::Refused;
 use crate::link::{Answer, Link, News};
 use crate::links::place_in;
 use crate::reading::reads_packets;
@@ -89,6 +91,7 @@ impl Relay {
             applications,
             links,
             outbox,
+            refused,
             ..
         } = self;
         outbox.clear();
@@ -99,7 +102,7 @@ impl Relay {
         if !link.is_open {
             return Ok((piece.len(), Some(NOTHING)));
         }
-        hear_on(desk, applications, link, number, outbox, piece)
+        hear_on(desk, applications, link, refused, number, outbox, piece)
     }
 
     /// What came of a packet is done.
@@ -305,6 +308,7 @@ fn hear_on(
     desk: &mut Desk,
     applications: &mut Slab<Application>,
     link: &mut Link,
+    refused: &mut Option<Refused>,
     number: u64,
     outbox: &mut Vec<u8>,
     piece: &[u8],
@@ -322,9 +326,15 @@ fn hear_on(
     ensures is_open { link.new.is_open ≡ link.old.is_open }
     ensures out { link.new.out ≡ link.old.out }
     ensures ends { OnOk result (ends_in applications.new ≡ ends_in applications.old) }
+    ensures refused { IfOk result (λ heard. RefusedBy number (fed link.old.reader piece.now) heard.1
+        refused.old refused.new) }
 {
-    let Ok(count) = link.reader.feed(piece) else {
-        return Ok((piece.len(), None));
+    let count = match link.reader.feed(piece) {
+        Ok(count) => count,
+        Err(fault) => {
+            *refused = Some(Refused { number, fault });
+            return Ok((piece.len(), None));
+        }
     };
     reads_packets();
     let heard = hear_packet(desk, applications, link, number, outbox)?;
