@@ -24,7 +24,7 @@ impl<W: Write + Drop> House<W> {
             let (count, dialed) = match &mut socket.role {
                 Role::First(_, dial) => dial.take(rest, &mut socket.out)?,
                 Role::Opening(_, _, dial) => dial.take(rest, &mut socket.out)?,
-                _ => return Ok((&[], Dialed::Wrong)),
+                _ => return Ok((&[], Dialed::Wrong(Unfit::NoPackets))),
             };
             rest = match rest.get(count..) {
                 Some(left) => left,

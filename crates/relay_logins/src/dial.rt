@@ -78,7 +78,7 @@ impl Unfit {
             Unfit::Encryption => {
                 "demands encryption, and the relay does not encrypt (tdstls client does)"
             }
-            Unfit::NoPackets => "does not answer in packets of TDS: is it a SQL Server's port?",
+            Unfit::NoPackets => "does not answer in packets of TDS (is that a SQL Server's port?)",
             Unfit::LongAnswer => "answers a login with more than 65,536 bytes",
             Unfit::NamesNone => "sends the login on, and names no server",
         }

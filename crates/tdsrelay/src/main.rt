@@ -10,10 +10,15 @@ mod turns;
 mod watching;
 
 use program::Program;
-use relay_settings::{Asked, RelayFault, read_words};
+use relay_settings::{Asked, MOST_SERVERS, RelayFault, Servers, SystemError, read_words};
 use std::env;
 use std::io::{self, Stderr};
+use std::net::TcpStream;
 use std::process::ExitCode;
+use std::time::Duration;
+
+/// For how long each server is waited for at the start.
+const PATIENCE: Duration = Duration::from_millis(500);
 
 fn main(rt: HostRuntime) -> ExitCode {
     match run(&rt) {
@@ -69,9 +74,22 @@ fn serve(rt: &HostRuntime, program: &mut Program<Stderr>, asked: Asked) -> Resul
     if let Some(server) = asked.servers.at(0) {
         let _ = eprintln!(rt; "relaying {address} to {server}");
     }
+    look_at_servers(rt, asked.servers);
     let open = program.serve(rt).map_err(RelayFault::of_system)?;
     let _ = eprintln!(rt; "ended: applications {open}");
     Ok(())
+}
+
+/// Says which servers take no connection now. It serves all the same: each login dials anew.
+fn look_at_servers(rt: &HostRuntime, servers: Servers) {
+    for place in 0..MOST_SERVERS {
+        if let Some(server) = servers.at(place) {
+            if let Err(error) = TcpStream::connect_timeout(rt, &server, PATIENCE) {
+                let error = SystemError::new(error);
+                let _ = eprintln!(rt; "server {server} takes no connection now: {error}");
+            }
+        }
+    }
 }
 
 /// The words of the command line, the program's name too.
