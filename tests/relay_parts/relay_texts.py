@@ -164,7 +164,7 @@ def broken(program, cases, server):
         del two, three
     # What begins as no token does, and a packet whose Length is 4.
     wrong = b"\x01" + DONE
-    for what, data, line in (("a server's", None, r"fault 2 of a server, Wire\(\w+\)"),
+    for what, data, line in (("a server's", None, r"fault 2 of a server, Wire\(Refusal \{ fault: UnknownToken, byte: 1, at: 0 \}\)"),
                              ("a packet's", bytes([4, 1, 0, 4, 0, 0, 1, 0]), "fault 3 of a packet, ShortLength")):
         with Before(server) as before, Relay(program, before.port, "--log", "--most", "1") as relay:
             before.answers = "rows 98", wrong

@@ -275,13 +275,7 @@ impl<W: Write + Drop> House<W> {
     }
 
     /// The server doesn't let the logins of a group in any more: who comes later is judged anew.
-    fn shut<R: Net>(
-        &mut self,
-        rt: &R,
-        key: usize,
-        group: usize,
-        cause: Cause,
-    ) -> io::Result<()> {
+    fn shut<R: Net>(&mut self, rt: &R, key: usize, group: usize, cause: Cause) -> io::Result<()> {
         self.say_refused(key, cause)?;
         self.groups.close(group);
         self.ended(rt, key, cause)

@@ -36,7 +36,11 @@ impl<W: Write + Drop> House<W> {
 }
 
 /// What an application did that it may not.
-fn fault_of(alloc: Global, relay: &Relay, application: usize) -> Result<Option<String>, AllocError> {
+fn fault_of(
+    alloc: Global,
+    relay: &Relay,
+    application: usize,
+) -> Result<Option<String>, AllocError> {
     match relay.fault_of(application) {
         Some(fault) => {
             let number = fault.number();

@@ -67,7 +67,9 @@ impl<W: Write + Drop> House<W> {
     /// A line of the log about a socket.
     pub fn say(&mut self, what: &str, key: usize, words: &str) {
         let House {
-            sockets, journal, ..
+            sockets,
+            journal,
+            ..
         } = self;
         match sockets.get(key) {
             Some(socket) if socket.is_told => journal.say(what, socket.number, words),
@@ -78,7 +80,9 @@ impl<W: Write + Drop> House<W> {
     /// The same, with something behind a blank.
     pub fn say_of(&mut self, what: &str, key: usize, words: &str, more: &str) {
         let House {
-            sockets, journal, ..
+            sockets,
+            journal,
+            ..
         } = self;
         match sockets.get(key) {
             Some(socket) if socket.is_told => journal.say_of(what, socket.number, words, more),

@@ -3,8 +3,8 @@
 use crate::group::{Group, Pair, Stage};
 use crate::house::{House, relay_of};
 use relay_logins::{
-    Kind, Passed, REFUSED, SharedLogin, kind_of, leave_out_features, number_of, put_error, put_saved,
-    who_of,
+    Kind, Passed, REFUSED, SharedLogin, kind_of, leave_out_features, number_of, put_error,
+    put_saved, who_of,
 };
 use relay_sockets::{Cause, News, Role, Whose};
 use relay_status::raise;

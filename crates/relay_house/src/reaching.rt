@@ -207,7 +207,9 @@ impl<W: Write + Drop> House<W> {
         self.say_of("socket", key, what, why);
         let alloc = self.alloc;
         let House {
-            sockets, groups, ..
+            sockets,
+            groups,
+            ..
         } = self;
         let Some(socket) = sockets.get_mut(key) else {
             return Ok(());

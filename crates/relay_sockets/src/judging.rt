@@ -33,7 +33,9 @@ impl Sockets {
         journal: &mut Journal<W>,
     ) -> io::Result<()> {
         let Sockets {
-            table, findings, ..
+            table,
+            findings,
+            ..
         } = self;
         if let Some(socket) = table.get_mut(key) {
             if let Some(judged) = &mut socket.judged {

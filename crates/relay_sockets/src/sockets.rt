@@ -8,10 +8,9 @@ use mio::{Events, Interest, Poll, Token};
 use relay_logins::{Entry, Table};
 use relay_status::raise;
 use std::alloc::{AllocError, Global};
-use std::io;
-use std::mem;
 use std::net::{Net, SocketAddr};
 use std::time::Duration;
+use std::{io, mem};
 use tds_judge::Finding;
 
 /// The most applications and connections at a time.
@@ -104,7 +103,9 @@ impl Sockets {
     /// The same, with the list to which what is found of it is appended.
     pub fn get_judged(&mut self, key: usize) -> Option<(&mut Socket, &mut Vec<Finding>)> {
         let Sockets {
-            table, findings, ..
+            table,
+            findings,
+            ..
         } = self;
         match table.get_mut(key) {
             Some(socket) => Some((socket, findings)),

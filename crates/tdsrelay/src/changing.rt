@@ -24,7 +24,9 @@ impl<W: Write + Drop> Program<W> {
             }
             None => return false,
         }
-        self.house.journal.say("group", number, "is paused, by POST /pause");
+        self.house
+            .journal
+            .say("group", number, "is paused, by POST /pause");
         true
     }
 
@@ -35,7 +37,9 @@ impl<W: Write + Drop> Program<W> {
         };
         group.goes_on = true;
         self.resumed.push(key)?;
-        self.house.journal.say("group", number, "goes on, by POST /resume");
+        self.house
+            .journal
+            .say("group", number, "goes on, by POST /resume");
         Ok(true)
     }
 
@@ -107,12 +111,16 @@ impl<W: Write + Drop> Program<W> {
         match read_words(rt, self.house.alloc, self.words.as_slice()) {
             Ok(asked) => {
                 self.take_over(asked);
-                self.house.journal.note("the settings are read again, by POST /reload");
+                self.house
+                    .journal
+                    .note("the settings are read again, by POST /reload");
                 self.answer_reload(rt, key, "200 OK", "read again\n")
             }
             Err(fault) => {
                 let told = format!(in self.house.alloc; "{fault}\n")?;
-                self.house.journal.note("the settings stay, since POST /reload finds them wrong");
+                self.house
+                    .journal
+                    .note("the settings stay, since POST /reload finds them wrong");
                 self.answer_reload(rt, key, "409 Conflict", told.as_str())
             }
         }

@@ -17,8 +17,8 @@ use std::net::TcpStream;
 use std::process::ExitCode;
 use std::time::Duration;
 
-/// For how long each server is waited for at the start.
-const PATIENCE: Duration = Duration::from_millis(500);
+/// For how many milliseconds each server is waited for at the start.
+const PATIENCE: u64 = 500;
 
 fn main(rt: HostRuntime) -> ExitCode {
     match run(&rt) {
@@ -54,7 +54,11 @@ fn run(rt: &HostRuntime) -> Result<(), RelayFault> {
 }
 
 /// What it ends with, and where it tells what it does.
-fn prepare(rt: &HostRuntime, program: &mut Program<Stderr>, asked: Asked) -> Result<(), RelayFault> {
+fn prepare(
+    rt: &HostRuntime,
+    program: &mut Program<Stderr>,
+    asked: Asked,
+) -> Result<(), RelayFault> {
     if asked.ends_with_input {
         program.end_with_input().map_err(RelayFault::of_input)?;
     }
@@ -82,9 +86,10 @@ fn serve(rt: &HostRuntime, program: &mut Program<Stderr>, asked: Asked) -> Resul
 
 /// Says which servers take no connection now. It serves all the same: each login dials anew.
 fn look_at_servers(rt: &HostRuntime, servers: Servers) {
+    let patience = Duration::from_millis(PATIENCE);
     for place in 0..MOST_SERVERS {
         if let Some(server) = servers.at(place) {
-            if let Err(error) = TcpStream::connect_timeout(rt, &server, PATIENCE) {
+            if let Err(error) = TcpStream::connect_timeout(rt, &server, patience) {
                 let error = SystemError::new(error);
                 let _ = eprintln!(rt; "server {server} takes no connection now: {error}");
             }

@@ -209,7 +209,10 @@ impl<W: Write + Drop> Program<W> {
             };
             let asker = Asker::new(alloc, from.ip().is_loopback());
             let role = Role::Asker(asker);
-            let _ = self.house.sockets.take_in(stream, role, Vec::new(alloc), now)?;
+            let _ = self
+                .house
+                .sockets
+                .take_in(stream, role, Vec::new(alloc), now)?;
         }
         Ok(())
     }

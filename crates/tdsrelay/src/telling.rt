@@ -77,8 +77,14 @@ impl<W: Write + Drop> Program<W> {
     fn put_metrics(&mut self, body: &mut Vec<u8>) -> io::Result<()> {
         self.see_all()?;
         put_metrics(body, &self.figures())?;
-        self.house.journal.requests.put_metrics(body, "tdsrelay_request_seconds")?;
-        self.house.journal.logins.put_metrics(body, "tdsrelay_login_seconds")?;
+        self.house
+            .journal
+            .requests
+            .put_metrics(body, "tdsrelay_request_seconds")?;
+        self.house
+            .journal
+            .logins
+            .put_metrics(body, "tdsrelay_login_seconds")?;
         self.put_users(body)
     }
 
@@ -129,7 +135,9 @@ impl<W: Write + Drop> Program<W> {
         if self.house.groups.key_of(number).is_none() {
             return Ok(false);
         }
-        self.house.journal.say("group", number, "is closed, by POST /kill");
+        self.house
+            .journal
+            .say("group", number, "is closed, by POST /kill");
         let mut keys = Vec::new(self.house.alloc);
         for (_, entry) in self.house.sockets.iter() {
             if let Some(group) = entry.value.group() {
@@ -149,7 +157,9 @@ impl<W: Write + Drop> Program<W> {
         let mut figures = Figures::new(self.house.now() / 1000, self.house.journal.counts);
         let now = self.house.now();
         let House {
-            sockets, groups, ..
+            sockets,
+            groups,
+            ..
         } = &self.house;
         for (_, entry) in sockets.iter() {
             let socket = &entry.value;
@@ -184,7 +194,9 @@ impl<W: Write + Drop> Program<W> {
     /// The number of the connection that an application holds, or of the application that holds one.
     fn partner_of(&mut self, key: usize) -> Option<u64> {
         let House {
-            sockets, groups, ..
+            sockets,
+            groups,
+            ..
         } = &mut self.house;
         // What is asked here says so, too, where nothing was sent.
         let other = match sockets.get(key)?.whose() {
@@ -205,7 +217,10 @@ impl<W: Write + Drop> Program<W> {
         write!(body, "\n")?;
         put_text_figures(body, &self.figures())?;
         self.house.journal.requests.put_text(body, "requests")?;
-        self.house.journal.logins.put_text(body, "logins of connections")?;
+        self.house
+            .journal
+            .logins
+            .put_text(body, "logins of connections")?;
         for (_, entry) in self.house.groups.iter() {
             self.put_group(body, entry.key)?;
         }

@@ -16,11 +16,7 @@ impl<W: Write + Drop> Program<W> {
     /// Each socket that has something to do has a turn, and further ones as long as it has more: so what a
     /// turn makes of another socket's costs no call of its own. None has more than a few, so that those who
     /// are reported meanwhile wait no longer than for that.
-    pub fn take_turns<R: Net>(
-        &mut self,
-        rt: &R,
-        buffer: &mut [u8; PIECE],
-    ) -> io::Result<()> {
+    pub fn take_turns<R: Net>(&mut self, rt: &R, buffer: &mut [u8; PIECE]) -> io::Result<()> {
         for _ in 0..TURNS {
             if !self.house.sockets.has_turns() {
                 break;
@@ -62,12 +58,16 @@ impl<W: Write + Drop> Program<W> {
     /// These bytes came on a socket.
     fn came<R: Net>(&mut self, rt: &R, key: usize, piece: &[u8]) -> io::Result<()> {
         let House {
-            sockets, journal, ..
+            sockets,
+            journal,
+            ..
         } = &mut self.house;
         sockets.read_on(key)?;
         sockets.judge(key, piece, journal)?;
         match sockets.get(key) {
-            Some(socket) if matches!(socket.whose(), Whose::Asker) => self.asked_for(rt, key, piece),
+            Some(socket) if matches!(socket.whose(), Whose::Asker) => self.asked_for(
+                rt, key, piece,
+            ),
             _ => self.house.came(rt, key, piece),
         }
     }
@@ -75,7 +75,9 @@ impl<W: Write + Drop> Program<W> {
     /// How many bytes may be read of a socket.
     fn room(&mut self, key: usize) -> usize {
         let House {
-            sockets, groups, ..
+            sockets,
+            groups,
+            ..
         } = &mut self.house;
         let Some(socket) = sockets.get(key) else {
             return 0;

@@ -106,7 +106,11 @@ impl<W: Write + Drop> Program<W> {
     /// Notes what a socket is at, and answers why it is to be closed, if it is.
     fn look_at(&mut self, key: usize) -> Option<Why> {
         let (at, mark) = self.at(key);
-        let (now, limits, is_ending) = (self.house.now(), self.limits_of(key), self.ending.is_some());
+        let (now, limits, is_ending) = (
+            self.house.now(),
+            self.limits_of(key),
+            self.ending.is_some(),
+        );
         let is_paused = self.is_paused(key);
         let socket = self.house.sockets.get_mut(key)?;
         socket.see(at, mark, now);
@@ -167,7 +171,9 @@ impl<W: Write + Drop> Program<W> {
     /// What a socket is at, and what tells two of that apart.
     pub fn at(&mut self, key: usize) -> (At, u64) {
         let House {
-            sockets, groups, ..
+            sockets,
+            groups,
+            ..
         } = &mut self.house;
         let Some(socket) = sockets.get(key) else {
             return (At::Other, 0);
@@ -245,7 +251,9 @@ impl<W: Write + Drop> Program<W> {
     ) -> io::Result<()> {
         let alloc = self.house.alloc;
         let House {
-            sockets, groups, ..
+            sockets,
+            groups,
+            ..
         } = &mut self.house;
         if let (Some(socket), Some(relay)) = (sockets.get_mut(key), relay_of(groups, group)) {
             if let (true, Some((number, text))) = (
