@@ -88,7 +88,7 @@ fed_why bytes fault (Some (Over why)) e = inl e
 
 takes_why : (key k : ℕ) (b : Bool) (bytes : List ℕ) (fault : FrontFault) (h : House) → (k == key) ≡ b → why_of (if b then option_map (feeds bytes) (end_at h.hall.ends key) else end_at h.hall.ends key) ≡ Some fault
     → (why_at key h ≡ Some fault) ⊎ BreaksBy key fault h (Takes k bytes)
-takes_why key k true bytes fault h is e = elim fed_why bytes fault (end_at h.hall.ends key) e [
+takes_why key k true bytes fault h is e = elim (fed_why bytes fault (end_at h.hall.ends key) e) [
   | inl same ↦ inl same
   | inr wrong ↦ inr (eqb-true k key is, wrong)
 ]
@@ -123,8 +123,8 @@ one_why key fault h (Removes k gives way) may e = inl (quits_why (k == key) faul
 pub is_met : (key : ℕ) (fault : FrontFault) (h : House) (steps : List Step) → MayAll h steps → IsMet key fault h steps
 is_met key fault h [] may = λ e. inl e
 is_met key fault h (step ∷ steps) may = λ e.
-    elim is_met key fault (after h step) steps may.1 e [
-      | inl before ↦ elim one_why key fault h step may.0 before [
+    elim (is_met key fault (after h step) steps may.1 e) [
+      | inl before ↦ elim (one_why key fault h step may.0 before) [
         | inl first ↦ inl first
         | inr breaks ↦ inr (inl breaks)
       ]
@@ -201,8 +201,8 @@ one_on number fault h (Removes k gives way) may e = inl (ap (fault_among number)
 pub is_met_on : (number : ℕ) (fault : ListenFault) (h : House) (steps : List Step) → MayAll h steps → IsMetOn number fault h steps
 is_met_on number fault h [] may = λ e. inl e
 is_met_on number fault h (step ∷ steps) may = λ e.
-    elim is_met_on number fault (after h step) steps may.1 e [
-      | inl before ↦ elim one_on number fault h step may.0 before [
+    elim (is_met_on number fault (after h step) steps may.1 e) [
+      | inl before ↦ elim (one_on number fault h step may.0 before) [
         | inl first ↦ inl first
         | inr breaks ↦ inr (inl breaks)
       ]

@@ -34,12 +34,12 @@ use Rattle.tds_relay.proofs.steps.Sent.{found_changed}
 there_unless : (s : Service) (lease : ℕ) (c : Seat) (all : List (Act Token)) (why : Option ClientRefusal) → find_by (has_lease lease) s.seats ≡ Some c
     → (acts_unless s (has_lease lease) c all why).reply ≡ Did → IsSome (find_by (has_lease lease) (acts_unless s (has_lease lease) c all why).service.seats)
 there_unless s lease c all (Some why) e did = absurd (let u : ⊥ = cc in u)
-there_unless s lease c all None e did = subst IsSome (sym (found_changed lease c (line_after c.line all) s.seats e)) tt
+there_unless s lease c all None e did = subst IsSome (sym (found_changed lease c (line_after c.line all) s.seats e)) refl
 
-there_by : (s : Service) (lease : ℕ) (o : Option Seat) → find_by (has_lease lease) s.seats ≡ o → (acts s (has_lease lease) line.Cancel (line.Cancel ∷ []) o).reply ≡ Did
+there_by : (s : Service) (lease : ℕ) (o : Option Seat) → find_by (has_lease lease) s.seats ≡ o → (acts {T = Token} s (has_lease lease) line.Cancel (line.Cancel ∷ []) o).reply ≡ Did
     → IsSome (find_by (has_lease lease) (acts {T = Token} s (has_lease lease) line.Cancel (line.Cancel ∷ []) o).service.seats)
 there_by s lease None e did = absurd (let u : ⊥ = cc in u)
-there_by s lease (Some c) e did = there_unless s lease c (line.Cancel ∷ []) (refusal_in (turn c.line line.Cancel).answer) e did
+there_by s lease (Some c) e did = there_unless s lease c (line.Cancel ∷ []) (refusal_in (turn {T = Token} c.line line.Cancel).answer) e did
 
 client_either : (b : Bool) (x : seats.Seat) (test : Seat → Bool) (xs : List seats.Seat) → IsSome (if b then Some (seat_in x) else find_by test (seats_in xs))
     → (IsSome (find_by test (seats_in xs)) → (s : ClientSession) × (client_by test xs ≡ Some s)) → (s : ClientSession) × ((if b then Some x.connection.client else client_by test xs) ≡ Some s)
@@ -47,7 +47,7 @@ client_either true x test xs is more = (x.connection.client, refl)
 client_either false x test xs is more = more is
 
 client_there : (test : Seat → Bool) (cs : List seats.Seat) → IsSome (find_by test (seats_in cs)) → (s : ClientSession) × (client_by test cs ≡ Some s)
-client_there test [] is = absurd (let u : ⊥ = is in u)
+client_there test [] is = absurd (let u : ⊥ = cc in u)
 client_there test (x ∷ xs) is = client_either (test (seat_in x)) x test xs is (client_there test xs)
 
 pub client_stops : (key : ℕ) (hold : Hold) (old new : desks.Desk) (before after : List ℕ) → find_key key old.holds.items ≡ Some hold → new.holds.items ≡ old.holds.items
