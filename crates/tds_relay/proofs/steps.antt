@@ -6,8 +6,10 @@ pub mod Faults
 pub mod Fed
 pub mod Fronts
 pub mod Going
+pub mod Halting
 pub mod Handed
 pub mod Made
+pub mod Placed
 pub mod Posting
 pub mod Putting
 pub mod Reaching

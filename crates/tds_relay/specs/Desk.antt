@@ -180,25 +180,25 @@ abbrev pub broken_of : ℕ → line.Answer → Option Broken → Option Broken
 broken_of number (line.Fault fault) had = Some (record { number = number; fault = fault })
 broken_of number answer had = had
 
-abbrev pub broken_by : ℕ → List (Done Token) → Option Broken → Option Broken
-broken_by number [] had = had
-broken_by number (done ∷ dones) had = broken_of number done.answer had
+abbrev pub last_broken : ℕ → List (Done Token) → Option Broken → Option Broken
+last_broken number [] had = had
+last_broken number (done ∷ dones) had = broken_of number done.answer had
 
-abbrev pub breaks : ℕ → List (Done Token) → Turn → Turn
-breaks number dones t = record { desk = record t.desk { broken = broken_by number dones t.desk.broken }; calls = t.calls }
+abbrev pub with_broken : ℕ → List (Done Token) → Turn → Turn
+with_broken number dones t = record { desk = record t.desk { broken = last_broken number dones t.desk.broken }; calls = t.calls }
 
 abbrev pub comes : Desk → ℕ → Part Token → Way → Turn
 comes d number part way =
     let heard = step {T = Token} d.service (calls.Came number part) in
-    breaks number heard.dones (comes_by d (calls.Came number part) heard.service number way (lease_at (seat_numbered number d.service.seats)) (hearing heard.dones))
+    with_broken number heard.dones (comes_by d (calls.Came number part) heard.service number way (lease_at (seat_numbered number d.service.seats)) (hearing heard.dones))
 
 -- how it broke them
-abbrev pub fault_in : ℕ → Option Broken → Option ListenFault
-fault_in number None = None
-fault_in number (Some b) = if b.number == number then Some b.fault else None
+abbrev pub fault_among : ℕ → Option Broken → Option ListenFault
+fault_among number None = None
+fault_among number (Some b) = if b.number == number then Some b.fault else None
 
 abbrev pub fault_on : ℕ → Desk → Option ListenFault
-fault_on number d = fault_in number d.broken
+fault_on number d = fault_among number d.broken
 
 -- To whom a packet that comes on a connection is handed: the application that holds it.
 abbrev pub key_of : Option Hold → Option ℕ

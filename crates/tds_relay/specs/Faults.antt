@@ -66,11 +66,11 @@ IsMetOn number fault h steps = fault_on number (after_all h steps).hall.desk ≡
 -- ---- Of a packet's header
 
 -- A header that was refused is the last one; else that is the same as before.
-abbrev pub RefusedBy : ℕ → packets.Reading → Option Heard → Option Refused → Option Refused → Type 0
-RefusedBy number r (Some heard) old new = new ≡ old
-RefusedBy number r None old new = (fault : PacketFault) × (fault_of r r.taken ≡ Some fault) × (new ≡ Some (record { number = number; fault = fault }))
+abbrev pub IsHeaderOf : ℕ → packets.Reading → Option Heard → Option Refused → Option Refused → Type 0
+IsHeaderOf number r (Some heard) old new = new ≡ old
+IsHeaderOf number r None old new = (fault : PacketFault) × (fault_of r r.taken ≡ Some fault) × (new ≡ Some (record { number = number; fault = fault }))
 
 -- how that of the connection of this number was
-abbrev pub refusal_in : ℕ → Option Refused → Option PacketFault
-refusal_in number None = None
-refusal_in number (Some r) = if r.number == number then Some r.fault else None
+abbrev pub header_fault_in : ℕ → Option Refused → Option PacketFault
+header_fault_in number None = None
+header_fault_in number (Some r) = if r.number == number then Some r.fault else None

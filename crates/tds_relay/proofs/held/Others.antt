@@ -264,7 +264,7 @@ module _ (d : Desk) (key : ℕ) (h : Hold) (c : Seat) (sound : Sound d) (sit : A
   settles_spares s m way None nm le = cleaning_spares h.lease h.number m (suc s.given) way (later h.lease s.given le) nm
 
   comes_by_pass : (m : ℕ) (part : Part Token) (s : Service) (way : Way) (o : Option ℕ) (dones : List (Done Token)) (hearing : Hearing) → (h.number == m) ≡ false → h.lease ≤ s.given
-      → P (desk.breaks m dones (desk.comes_by d (calls.Came m part) s m way o hearing))
+      → P (desk.with_broken m dones (desk.comes_by d (calls.Came m part) s m way o hearing))
   comes_by_pass m part s way o dones desk.Goes e le = record { service = refl; spares = (e, tt); sole = its.sole; line = its.line }
   comes_by_pass m part s way o dones desk.Settled e le = record { service = refl; spares = (e, settles_spares s m way o e le); sole = its.sole; line = its.line }
   comes_by_pass m part s way o dones desk.Wrong e le = record { service = refl; spares = (e, (e, tt)); sole = without_others m e; line = its.line }

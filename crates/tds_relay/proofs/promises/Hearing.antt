@@ -216,7 +216,7 @@ comes_found d n part way c Wrong sound e fits =
     (lost_leaves s n any (CaresFor d.holds) (CaresFor (without_number n d.holds)) (step_rises d.service (calls.Came n part) sound.tidy).tidy.distinct phase
     (λ x other hx. numbered d.holds n x.number x.place x.line other hx))
 
-sound_broken : (n : ℕ) (dones : List (Done Token)) (t : desk.Turn) → Sound t.desk → Sound (desk.breaks n dones t).desk
+sound_broken : (n : ℕ) (dones : List (Done Token)) (t : desk.Turn) → Sound t.desk → Sound (desk.with_broken n dones t).desk
 sound_broken n dones t sound = record { tidy = sound.tidy; rising = sound.rising; cared = sound.cared }
 
 comes_by_found : (d : Desk) (n : ℕ) (part : Part Token) (way : Way) (o : Option Seat) → find_by (has_number n) d.service.seats ≡ o → Sound d → Sound (desk.comes d n part way).desk
@@ -232,9 +232,9 @@ comes_by_found d n part way (Some c) e sound =
     let lease : lease_at (find_by (has_number n) d.service.seats) ≡ lease_in c.place = ap lease_at e in
     let heard : desk.hearing (step d.service call).dones ≡ hearing_of a = rw e refl in
     let dones = (step d.service call).dones in
-    let goes : desk.comes d n part way ≡ desk.breaks n dones (comes_by d call s n way (lease_in c.place) (hearing_of a)) =
-    ap (λ (l : Option ℕ). desk.breaks n dones (comes_by d call s n way l (desk.hearing dones))) lease
-    ∙ ap (λ (h : Hearing). desk.breaks n dones (comes_by d call s n way (lease_in c.place) h)) heard in
+    let goes : desk.comes d n part way ≡ desk.with_broken n dones (comes_by d call s n way (lease_in c.place) (hearing_of a)) =
+    ap (λ (l : Option ℕ). desk.with_broken n dones (comes_by d call s n way l (desk.hearing dones))) lease
+    ∙ ap (λ (h : Hearing). desk.with_broken n dones (comes_by d call s n way (lease_in c.place) h)) heard in
     subst (λ (t : desk.Turn). Sound t.desk) (sym goes) (sound_broken n dones (comes_by d call s n way (lease_in c.place) (hearing_of a)) (comes_found d n part way c (hearing_of a) sound e (heard_as c.line part c.line.stage)))
 
 pub comes_sound : (d : Desk) (n : ℕ) (part : Part Token) (way : Way) → Sound d → Sound (desk.comes d n part way).desk

@@ -184,7 +184,7 @@ hearing_answers : (a : Answer) (dones : List (Done Token)) → answers_in dones 
 hearing_answers a [] e = absurd (let u : ⊥ = cc in u)
 hearing_answers a (x ∷ xs) e = let same : x.answer ≡ a = cc in ap desk.hearing_of same
 
-broken_answers : (n : ℕ) (a : Answer) (dones : List (Done Token)) (had : Option Broken) → answers_in dones ≡ a ∷ [] → desk.broken_by n dones had ≡ desk.broken_of n a had
+broken_answers : (n : ℕ) (a : Answer) (dones : List (Done Token)) (had : Option Broken) → answers_in dones ≡ a ∷ [] → desk.last_broken n dones had ≡ desk.broken_of n a had
 broken_answers n a [] had e = absurd (let u : ⊥ = cc in u)
 broken_answers n a (x ∷ xs) had e = let same : x.answer ≡ a = cc in ap (λ (y : Answer). desk.broken_of n y had) same
 
@@ -216,7 +216,7 @@ came_settled d new n part way s1 lease a out after one answers is holder settled
     ∙ (ap (λ (l : Option ℕ). desk.comes_by d call heard.service n way l desk.Settled) holder
     ∙ ap (λ (x : Service). desk.comes_by d call x n way lease desk.Settled) (sym one.service_is)) in
     let goes : turn d (desk.Comes n part way) ≡ moves d d.holds d.line (call ∷ all) =
-    ap (desk.breaks n heard.dones) by
+    ap (desk.with_broken n heard.dones) by
     ∙ ap (moves_broken d d.holds d.line (call ∷ all)) (broken_answers n a heard.dones d.broken answers ∙ not_broken n a d.broken is) in
     let others : Makes all s1 (service_after s1 all) out after = record { service_is = refl; bytes = settled.bytes } in
     subst (λ (x : Desk). Turns (desk.Comes n part way) d x out after) (sym settled.desk_is)
@@ -238,7 +238,7 @@ came_wrong d lost n part way s1 fault out one answers turns =
     let by : desk.comes_by d call heard.service n way (lease_at (seat_numbered n d.service.seats)) (desk.hearing heard.dones) ≡ moves d held d.line all =
     ap (λ (h : desk.Hearing). desk.comes_by d call heard.service n way (lease_at (seat_numbered n d.service.seats)) h) (hearing_answers (line.Fault fault) heard.dones answers) in
     let goes : turn d (desk.Comes n part way) ≡ moves_broken d held d.line all broken =
-    ap (desk.breaks n heard.dones) by ∙ ap (moves_broken d held d.line all) (broken_answers n (line.Fault fault) heard.dones d.broken answers) in
+    ap (desk.with_broken n heard.dones) by ∙ ap (moves_broken d held d.line all) (broken_answers n (line.Fault fault) heard.dones d.broken answers) in
     subst (λ (x : Desk). Turns (desk.Comes n part way) d (record x { broken = broken }) out out) (sym turns.desk_is)
     (turns_broken d (desk.Comes n part way) s2 held d.line all broken out out goes
     (made_at call (calls.Lost n ∷ []) d.service s1 s2 calls.Did n out out one (makes_lost s1 s2 n out refl)))

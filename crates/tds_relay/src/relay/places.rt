@@ -2,7 +2,7 @@
 ghost use Rattle.std.specs.Prelude.{◌≡◌, IfSome, option_copied};
 ghost use Rattle.slab.specs.Slab.{get};
 ghost use Rattle.tds_relay.specs.Desk.{fault_on};
-ghost use Rattle.tds_relay.specs.Faults.{refusal_in, why_at};
+ghost use Rattle.tds_relay.specs.Faults.{header_fault_in, why_at};
 ghost use Rattle.tds_relay.specs.Fronts.{house_in};
 ghost use Rattle.tds_relay.specs.Places.{IsOn, Names, begun_in, held_by, open_on};
 ghost use Rattle.tds_relay.specs.Ties.{desk_in};
@@ -118,7 +118,7 @@ impl Relay {
     /// The fault of the header of a packet that came on the connection of this number, where that is closed for
     /// it: until another one is.
     pub fn header_fault_on(&self, number: u64) -> Option<&PacketFault>
-        ensures { option_copied result ≡ refusal_in number self.now.refused }
+        ensures { option_copied result ≡ header_fault_in number self.now.refused }
     {
         match &self.refused {
             Some(refused) => {
