@@ -79,12 +79,10 @@ def sent_on(program, cases):
     """A server that sends a login on to a name that nobody knows, and to the relay itself."""
     for host, why in (("no.such.host.invalid", "the system's resolver knows no such name"),
                       ("127.0.0.1", "that is this relay itself")):
-        with Before(None, (), b"") as server, socket.create_server(("127.0.0.1", 0)) as it:
-            own = it.getsockname()[1]
-            it.close()
+        with Before(None, (), b"") as server, Relay(program, server.port, "--log") as relay:
+            own = relay.port
             server.ends = routing(host, own) + ack() + DONE
-            with Relay(program, server.port, "--log", listen=own) as relay:
-                told, lines = told_at_login(relay), relay.lines()
+            told, lines = told_at_login(relay), relay.lines()
         named = f"{host}:{own}"
         cases.same(f"what an application is told: {why}", told, error_packet(REFUSED, f"The login is sent on to {named}: {why}."))
         cases.check(f"the log: {why}", f"connection 2 is told another server, {named}" in lines

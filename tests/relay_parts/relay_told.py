@@ -14,11 +14,11 @@ LINE = re.compile(rb"(relaying|telling at) (\S+)")
 class Relay:
     """A tdsrelay on free ports with these words, whose standard input is a pipe that ends it."""
 
-    def __init__(self, program, server, *words, others=(), listen=0):
+    def __init__(self, program, server, *words, others=()):
         servers = [f"127.0.0.1:{port}" for port in (server, *others)]
         stats = [] if "--stats" in words else ["--stats", "127.0.0.1:0"]
         self.child = subprocess.Popen(
-            [program, f"127.0.0.1:{listen}", *servers, *stats, "--until-input-ends", *words],
+            [program, "127.0.0.1:0", *servers, *stats, "--until-input-ends", *words],
             stdin=subprocess.PIPE, stderr=subprocess.PIPE)
         self.stats = self.port = None
         while self.port is None:

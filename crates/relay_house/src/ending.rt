@@ -113,8 +113,7 @@ impl<W: Write + Drop> House<W> {
         if cause.is_failure() && self.dial_again(rt, gone, cause)? {
             return Ok(());
         }
-        let why = self.upstream.sentence(self.alloc)?;
-        self.not_reached(rt, gone.whose, why.as_str())
+        self.missed(rt, gone.whose)
     }
 
     /// A connection of a group has ended.

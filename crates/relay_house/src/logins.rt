@@ -195,8 +195,7 @@ impl<W: Write + Drop> House<W> {
         if self.reach(rt, Whose::First(group), 0)? {
             return Ok(());
         }
-        let why = self.upstream.sentence(self.alloc)?;
-        self.not_judged(group, why.as_str())
+        self.missed(rt, Whose::First(group))
     }
 
     /// Why no more groups may be, if so.

@@ -134,26 +134,48 @@ impl<W: Write + Drop> House<W> {
         self.say_of("connection", key, "is told another server,", named.as_str());
         let way = self.way_on(key);
         let _ = self.take_out(key)?;
+        match self.goal_of(rt, way, target) {
+            Ok((way, address)) => self.follow_to(rt, whose, way, address),
+            Err(why) => {
+                let why = format!(in self.alloc; "The login is sent on to {named}: {why}.")?;
+                self.not_reached(rt, whose, why.as_str())
+            }
+        }
+    }
+
+    /// A login goes on at this address.
+    fn follow_to<R: Net>(
+        &mut self,
+        rt: &R,
+        whose: Whose,
+        way: Way,
+        address: SocketAddr,
+    ) -> io::Result<()> {
+        raise(&mut self.journal.counts.routed);
         self.upstream.begin();
-        let missed = match (way, address_of(rt, target)) {
-            (None, _) => Some("a login is sent on four times at most, and not behind a leg of it"),
-            (_, None) => Some("the system's resolver knows no such name"),
-            (_, Some(address)) if is_reached_at(self.asked.listen, address) => {
-                Some("that is this relay itself")
-            }
-            (Some(way), Some(address)) => {
-                raise(&mut self.journal.counts.routed);
-                if self.connect(rt, whose, way, address)? {
-                    return Ok(());
-                }
-                None
-            }
+        if self.connect(rt, whose, way, address)? {
+            return Ok(());
+        }
+        self.missed(rt, whose)
+    }
+
+    /// How and where a login goes on that is sent on to this server; or why it doesn't.
+    fn goal_of<R: Net>(
+        &self,
+        rt: &R,
+        way: Option<Way>,
+        target: &Target,
+    ) -> Result<(Way, SocketAddr), &'static str> {
+        let Some(way) = way else {
+            return Err("a login is sent on four times at most, and not behind a leg of it");
         };
-        let why = match missed {
-            Some(missed) => format!(in self.alloc; "The login is sent on to {named}: {missed}.")?,
-            None => self.upstream.sentence(self.alloc)?,
-        };
-        self.not_reached(rt, whose, why.as_str())
+        match address_of(rt, target) {
+            None => Err("the system's resolver knows no such name"),
+            Some(address) if is_reached_at(self.asked.listen, address) => {
+                Err("that is this relay itself")
+            }
+            Some(address) => Ok((way, address)),
+        }
     }
 
     /// How the login of this connection goes on at another server, if it may.
@@ -167,6 +189,12 @@ impl<W: Write + Drop> House<W> {
             hops: way.hops.saturating_add(1),
             ..way
         })
+    }
+
+    /// No server was reached for this login: why is what became of the last one.
+    pub(crate) fn missed<R: Net>(&mut self, rt: &R, whose: Whose) -> io::Result<()> {
+        let why = self.upstream.sentence(self.alloc)?;
+        self.not_reached(rt, whose, why.as_str())
     }
 
     /// No server was reached for this login, and this is why.

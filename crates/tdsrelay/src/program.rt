@@ -62,8 +62,10 @@ impl<W: Write + Drop> Program<W> {
         log: W,
     ) -> io::Result<Program<W>> {
         let start = Instant::now(rt)?;
-        let house = House::new(rt, alloc, asked, log)?;
+        let mut house = House::new(rt, alloc, asked, log)?;
         let listener = house.sockets.listen(rt, asked.listen, LISTENER)?;
+        // Where a port was asked for that is free, it is known now.
+        house.asked.listen = listener.local_addr()?;
         Ok(Program {
             house,
             words,
