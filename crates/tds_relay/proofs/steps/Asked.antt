@@ -24,7 +24,7 @@ use Rattle.tds_relay.proofs.steps.Fed.{left_fed, waits_fed}
 use Rattle.tds_relay.proofs.steps.Fronts.{moves_closes, no_moves}
 use Rattle.tds_relay.proofs.steps.Staying.{stays_opens}
 use Rattle.tds_relay.proofs.steps.Stepping.{makes_all}
-use Rattle.tds_relay.proofs.steps.Told.{deaf_closed, tells_begin, tells_deaf, tells_moves, tells_takes}
+use Rattle.tds_relay.proofs.steps.Told.{deaf_closed, deaf_for, tells_begin, tells_deaf, tells_moves, tells_takes}
 
 -- ---- Steps one behind the other
 

@@ -4,7 +4,7 @@ use Rattle.std.specs.Prelude.{Result, Ok, Err, OnOk}
 use Rattle.std.proofs.lemmas.Bool.{eqb-true}
 use Rattle.tds_packet.specs.Reading.{Reading}
 use Rattle.tds_relay.specs.declared.link.Link.{Link}
-use Rattle.tds_relay.specs.Reads.{FillsAt, Opens, OpensOne, OpensOthers, Seen, Sees, StaysAt, Stays, bytes_on, if_open, link_at, open_at, open_of, open_waits, opened_at, reader_at, reader_of, seen_at, seen_of, waits_on, without_link}
+use Rattle.tds_relay.specs.Reads.{FillsAt, FillsBy, Opens, OpensOne, OpensOthers, Seen, Sees, StaysAt, Stays, bytes_on, if_open, link_at, open_at, open_of, open_waits, opened_at, reader_at, reader_of, seen_at, seen_of, waits_on, without_link}
 
 pub at_refl : {A : Type 0} (o : Option A) → StaysAt o o
 at_refl None = tt
@@ -179,6 +179,21 @@ gone_open number ls e = not_open (link_at number ls) e
 
 pub taken_out : (number : ℕ) (ls : List Link) → reader_at number (without_link number ls) ≡ None
 taken_out number ls = unread (link_at number (without_link number ls)) (not_seen number ls)
+
+no_bytes : (o : Option Link) → option_map reader_of o ≡ None → option_map bytes_on o ≡ None
+no_bytes None e = refl
+no_bytes (Some l) e = absurd (let u : ⊥ = cc in u)
+
+-- whatever was to be sent there
+pub gone_filled : (out : List ℕ) (number : ℕ) (had : Option (List ℕ)) (ls : List Link) → reader_at number ls ≡ None → FillsBy out had (waits_on number ls)
+gone_filled out number had ls e = subst (FillsBy out had) (sym (no_bytes (link_at number ls) e)) tt
+
+put_filled : (out : List ℕ) (had : Option (List ℕ)) → FillsBy out had (option_map (λ (waits : List ℕ). waits ++ out) had)
+put_filled out None = tt
+put_filled out (Some waits) = refl
+
+pub filled_by : (out : List ℕ) (had now : Option (List ℕ)) → now ≡ option_map (λ (waits : List ℕ). waits ++ out) had → FillsBy out had now
+filled_by out had now e = subst (FillsBy out had) (sym e) (put_filled out had)
 
 -- ---- One is to be opened
 

@@ -7,7 +7,7 @@ ghost use Rattle.tds_relay.specs.Fronts.{MovedOn, ends_in, hall_in, house_in};
 ghost use Rattle.tds_relay.specs.House.{Steps};
 ghost use Rattle.tds_relay.specs.Posts.{change, posts_in, unsent_of, without_first};
 ghost use Rattle.tds_relay.specs.Law.{waiting_on};
-ghost use Rattle.tds_relay.specs.Reads.{Sees, Stays, waits_on};
+ghost use Rattle.tds_relay.specs.Reads.{FillsBy, Sees, Stays, waits_on};
 ghost use Rattle.tds_relay.specs.Sparing.{AllRest, SendsOn};
 ghost use Rattle.tds_relay.specs.Ties.{GoesOn, IsReached, Neither, desk_in};
 ghost use Rattle.tds_relay.specs.Walkers.{AllStand};
@@ -106,6 +106,8 @@ impl Relay {
         ensures asks { OnOk result (AskOn self.old.applications self.new.applications) }
         ensures sends { IsReached (desk_in self.old.desk)
             → OnOk result (SendsOn number self.old self.new) }
+        ensures puts { OnOk result (FillsBy self.old.outbox.items
+            (waits_on number self.old.links.items) (waits_on number self.new.links.items)) }
     {
         let fits = self.fits_on(number)?;
         if fits { Ok(()) } else { self.lose(number) }

@@ -17,8 +17,8 @@ use Rattle.tds_relay.proofs.steps.Bodied.{asks_kept, same_starts, shut_starts}
 use Rattle.tds_relay.proofs.steps.Carried.{carries_deaf, carries_fed, carries_moved, carries_refused}
 use Rattle.tds_relay.proofs.relay.Relay.take.Goals as goal
 
-pub returns-in_ok-expel_for-clause-tells : goal.returns-in_ok-expel_for-clause-tells
-returns-in_ok-expel_for-clause-tells c = λ first bytes t.
+pub returns-in-Err-clause-tells : goal.returns-in-Err-clause-tells
+returns-in-Err-clause-tells c = λ first bytes t.
     let slab = c.args.self.now.applications in
     let a = c.in-Some.application.now in
     let es = ends_in slab in
@@ -29,8 +29,8 @@ returns-in_ok-expel_for-clause-tells c = λ first bytes t.
     (waits_refused c.args.key es c.args.piece.now a.front a.is_withdrawn a.reset _ (posts_in slab) was says)
     (refused_is c.args.key (desk_in c.args.self.now.desk) es c.args.piece.now a.front a.is_withdrawn a.reset _ was says)
     (moved_same (Application c.args.key) _ _ _ _ _ refl
-    (sym (closed_fed (closes_for (Some c.in-Err.fault)) es _ c.args.key _ (end_of a) (ap (closes_for (Some c.in-Err.fault)) (end_open a here) ∙ sym (ap (closes_for (Some c.in-Err.fault)) (end_open c.feed.new.self (c.feed.ensures.over ∙ here)))) (end_there slab c.args.key a c.in-Some.ensures.value) (ends_written slab c.args.key _))) c.in_ok-expel_for.ensures.moves)
-    (c.in_ok-expel_for.ensures.kept ∙ posts_kept slab c.args.key a _ c.in-Some.ensures.value c.feed.ensures.post) t
+    (sym (closed_fed (closes_for (Some c.in-Err.fault)) es _ c.args.key _ (end_of a) (ap (closes_for (Some c.in-Err.fault)) (end_open a here) ∙ sym (ap (closes_for (Some c.in-Err.fault)) (end_open c.feed.new.self (c.feed.ensures.over ∙ here)))) (end_there slab c.args.key a c.in-Some.ensures.value) (ends_written slab c.args.key _))) c.in_ok-expel_for-in-Err.ensures.moves)
+    (c.in_ok-expel_for-in-Err.ensures.kept ∙ posts_kept slab c.args.key a _ c.in-Some.ensures.value c.feed.ensures.post) t
 
 pub returns-clause-tells : goal.returns-clause-tells
 returns-clause-tells c = λ first bytes t.
@@ -43,8 +43,8 @@ returns-clause-tells c = λ first bytes t.
     c.feed.ensures.front (search rules)) refl
     (c.in_ok-obey.ensures.given ∙ ap (λ (ps : Posts). given_by c.args.key c.in-Ok.fed.said ps) (posts_kept slab c.args.key a _ c.in-Some.ensures.value c.feed.ensures.post)) t
 
-pub returns-in_ok-expel_for-clause-asks : goal.returns-in_ok-expel_for-clause-asks
-returns-in_ok-expel_for-clause-asks c = λ first bytes t.
+pub returns-in-Err-clause-asks : goal.returns-in-Err-clause-asks
+returns-in-Err-clause-asks c = λ first bytes t.
     let slab = c.args.self.now.applications in
     let a = c.in-Some.application.now in
     let es = ends_in slab in
@@ -55,9 +55,9 @@ returns-in_ok-expel_for-clause-asks c = λ first bytes t.
     (waits_refused c.args.key es c.args.piece.now a.front a.is_withdrawn a.reset _ (posts_in slab) was says)
     (refused_is c.args.key (desk_in c.args.self.now.desk) es c.args.piece.now a.front a.is_withdrawn a.reset _ was says) says
     (moved_same (Application c.args.key) _ _ _ _ _ refl
-    (sym (closed_fed (closes_for (Some c.in-Err.fault)) es _ c.args.key _ (end_of a) (ap (closes_for (Some c.in-Err.fault)) (end_open a here) ∙ sym (ap (closes_for (Some c.in-Err.fault)) (end_open c.feed.new.self (c.feed.ensures.over ∙ here)))) (end_there slab c.args.key a c.in-Some.ensures.value) (ends_written slab c.args.key _))) c.in_ok-expel_for.ensures.moves)
-    (c.in_ok-expel_for.ensures.kept ∙ posts_kept slab c.args.key a _ c.in-Some.ensures.value c.feed.ensures.post)
-    (asks_links c.args.key first (house_in c.args.self.now) bytes c.args.piece.now _ _ (stays_opens _ _ c.in_ok-expel_for.ensures.read) t)
+    (sym (closed_fed (closes_for (Some c.in-Err.fault)) es _ c.args.key _ (end_of a) (ap (closes_for (Some c.in-Err.fault)) (end_open a here) ∙ sym (ap (closes_for (Some c.in-Err.fault)) (end_open c.feed.new.self (c.feed.ensures.over ∙ here)))) (end_there slab c.args.key a c.in-Some.ensures.value) (ends_written slab c.args.key _))) c.in_ok-expel_for-in-Err.ensures.moves)
+    (c.in_ok-expel_for-in-Err.ensures.kept ∙ posts_kept slab c.args.key a _ c.in-Some.ensures.value c.feed.ensures.post)
+    (asks_links c.args.key first (house_in c.args.self.now) bytes c.args.piece.now _ _ (stays_opens _ _ c.in_ok-expel_for-in-Err.ensures.read) t)
 
 pub returns-clause-asks : goal.returns-clause-asks
 returns-clause-asks c = λ first bytes t.
@@ -96,8 +96,8 @@ returns-then-application-clause-carries c = λ first bytes at t.
     (same_starts (body_of c.args.key c.args.self.now) (body_in (get (with_value slab c.args.key a) c.args.key) (going_of c.args.key c.args.self.now)) (asks_kept slab c.args.key a a c.in-Some.ensures.value (λ goes. refl) c.args.key (going_of c.args.key c.args.self.now)))
     (carries_deaf c.args.key first (house_in c.args.self.now) bytes c.args.piece.now _ at (body_of c.args.key c.args.self.now) (over_deaf c.args.key slab a c.in-Some.ensures.value (search rules)) t)
 
-pub returns-in_ok-expel_for-clause-carries : goal.returns-in_ok-expel_for-clause-carries
-returns-in_ok-expel_for-clause-carries c = λ first bytes at t.
+pub returns-in-Err-clause-carries : goal.returns-in-Err-clause-carries
+returns-in-Err-clause-carries c = λ first bytes at t.
     let slab = c.args.self.now.applications in
     let a = c.in-Some.application.now in
     let es = ends_in slab in
@@ -108,9 +108,9 @@ returns-in_ok-expel_for-clause-carries c = λ first bytes at t.
     (waits_refused c.args.key es c.args.piece.now a.front a.is_withdrawn a.reset _ (posts_in slab) was says)
     (refused_is c.args.key (desk_in c.args.self.now.desk) es c.args.piece.now a.front a.is_withdrawn a.reset _ was says) says
     (moved_same (Application c.args.key) _ _ _ _ _ refl
-    (sym (closed_fed (closes_for (Some c.in-Err.fault)) es _ c.args.key _ (end_of a) (ap (closes_for (Some c.in-Err.fault)) (end_open a here) ∙ sym (ap (closes_for (Some c.in-Err.fault)) (end_open c.feed.new.self (c.feed.ensures.over ∙ here)))) (end_there slab c.args.key a c.in-Some.ensures.value) (ends_written slab c.args.key _))) c.in_ok-expel_for.ensures.moves)
-    (c.in_ok-expel_for.ensures.kept ∙ posts_kept slab c.args.key a _ c.in-Some.ensures.value c.feed.ensures.post)
-    (shut_starts c.expel_for.new.self.applications c.args.key (body_of c.args.key c.args.self.now) (going_of c.args.key c.expel_for.new.self) c.in_ok-expel_for.ensures.over) t
+    (sym (closed_fed (closes_for (Some c.in-Err.fault)) es _ c.args.key _ (end_of a) (ap (closes_for (Some c.in-Err.fault)) (end_open a here) ∙ sym (ap (closes_for (Some c.in-Err.fault)) (end_open c.feed.new.self (c.feed.ensures.over ∙ here)))) (end_there slab c.args.key a c.in-Some.ensures.value) (ends_written slab c.args.key _))) c.in_ok-expel_for-in-Err.ensures.moves)
+    (c.in_ok-expel_for-in-Err.ensures.kept ∙ posts_kept slab c.args.key a _ c.in-Some.ensures.value c.feed.ensures.post)
+    (shut_starts c.expel_for.new.self.applications c.args.key (body_of c.args.key c.args.self.now) (going_of c.args.key c.expel_for.new.self) c.in_ok-expel_for-in-Err.ensures.over) t
 
 pub returns-clause-carries : goal.returns-clause-carries
 returns-clause-carries c = λ first bytes at t.
