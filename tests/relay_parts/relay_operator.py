@@ -13,8 +13,10 @@ from peers import ATTENTION, batch, connect, login, message, packet
 from relay_servers import Before
 from relay_told import Relay, error_packet, let_in, rows
 
-NOT_OPENED = 50105, "The relay could not open a connection to the server."
-SILENT = 50100, "The server gave no answer in time."
+NOT_OPENED, REFUSED = 50105, 50100
+# What a server at an address did, as the relay says it.
+DID = {"gone": "fails with ECONNREFUSED: Connection refused (os error 111)", "silent": "gave no answer in time",
+       "refuses": "refuses the login with error 18456"}
 
 
 def all_of(link):
@@ -186,7 +188,9 @@ def not_opened(program, cases, server):
                 cases.same("who waits for a connection to open", (second["at"], second["waits_for"], second["holds"]),
                            ("waits for its connection to open", "its connection to open", opened["number"]))
                 cases.same("the connection says so", (opened["opens_for"], opened["limit"]), (second["number"], 1))
-            cases.same(f"an error where the server {what}", all_of(two), error_packet(*NOT_OPENED))
+            did = f"127.0.0.1:{before.port} {DID[what]}"
+            cases.same(f"an error where the server {what}", all_of(two),
+                       error_packet(NOT_OPENED, f"The relay could not open a connection. The server {did}."))
             found = relay.json()
             cases.same(f"counts where the server {what}",
                        [found[f"total_{it}"] for it in ("applications_not_served", "connections_dialed",
@@ -195,11 +199,12 @@ def not_opened(program, cases, server):
                        [1, 2, 1, 0, int(what == "silent"), int(what != "refuses")])
             if what != "silent":
                 cases.check(f"the holder goes on where the server {what}", rows(one, 3))
-            lines = relay.end()[1].decode().splitlines()
-            refused = [it for it in lines if re.fullmatch(r"connection \d+ is refused", it)]
+            lines = relay.lines()
+            refused = [it for it in lines if re.fullmatch(rf"connection \d+ is refused: {re.escape(did)}", it)]
+            ended = [it for it in lines if re.fullmatch(rf"socket \d+ has ended: {re.escape(did)}", it)]
             cases.check(f"a line where the server {what}",
-                        f"socket {number} waits for a connection that can't be opened" in lines
-                        and len(refused) == int(what == "refuses"), lines)
+                        f"socket {number} waits for a connection that can't be opened: The server {did}." in lines
+                        and (len(refused), len(ended)) == ((1, 0) if what == "refuses" else (0, 1)), lines)
 
 
 def silent(program, cases):
@@ -212,7 +217,7 @@ def silent(program, cases):
             for link in links:
                 link.sendall(login())
             cases.same(f"who waits for {count} silent servers is told one error", [all_of(it) for it in links],
-                       [error_packet(*SILENT)] * 3)
+                       [error_packet(REFUSED, f"The server 127.0.0.1:{ports[count - 1]} gave no answer in time.")] * 3)
             found = relay.json()
             cases.same(f"counts of {count} silent servers",
                        [found[f"total_{it}"] for it in ("limits_login", "servers_failed", "connections_dialed",
@@ -231,7 +236,12 @@ def log(program, cases, server):
         port = port_of(one)
         one.close()
         until(relay, lambda it: it["connections_free"] == 1)
-        lines = relay.end()[1].decode().splitlines()
-        cases.same("the log", lines, [f"socket 1 has come from 127.0.0.1:{port}", "connection 2 is dialed",
-                                      "connection 2 is opened", "application 1 is let in", "socket 1 has ended",
-                                      "ended: applications 0"])
+        status, said = relay.end()
+        lines = said.decode().splitlines()
+        cases.check("each line begins with the seconds since the beginning",
+                    all(re.match(r"\d+\.\d{3} ", it) for it in lines[:-1]), lines)
+        cases.same("the log", [it.partition(" ")[2] for it in lines[:-1]] + lines[-1:], [
+            f"socket 1 has come from 127.0.0.1:{port}", f"connection 2 is dialed at 127.0.0.1:{server}",
+            "connection 2 is opened", "application 1 is let in, group 0",
+            "socket 1 has ended: the other end has closed the connection",
+            "the relay is to end, since its standard input has ended", "ended: applications 0"])

@@ -69,7 +69,6 @@ class Before:
                 link, _ = self.listener.accept()
             except OSError:
                 return
-            self.come += 1
             self.links.append(link)
             threading.Thread(target=self.guarded, args=(link,), daemon=True).start()
 
@@ -87,6 +86,8 @@ class Before:
 
     def one(self, link):
         whole(link)
+        # Who connects and says nothing only looks whether somebody is there.
+        self.come += 1
         self.send(link, PRELOGIN)
         self.logins.append(whole(link)[1])
         for token in self.says:

@@ -16,8 +16,9 @@ class Relay:
 
     def __init__(self, program, server, *words, others=()):
         servers = [f"127.0.0.1:{port}" for port in (server, *others)]
+        stats = [] if "--stats" in words else ["--stats", "127.0.0.1:0"]
         self.child = subprocess.Popen(
-            [program, "127.0.0.1:0", *servers, "--stats", "127.0.0.1:0", "--until-input-ends", *words],
+            [program, "127.0.0.1:0", *servers, *stats, "--until-input-ends", *words],
             stdin=subprocess.PIPE, stderr=subprocess.PIPE)
         self.stats = self.port = None
         while self.port is None:
@@ -31,9 +32,9 @@ class Relay:
             else:
                 self.stats = port
 
-    def ask(self, path, method="GET"):
+    def ask(self, path, method="GET", host="127.0.0.1"):
         """The status and the body of an answer over HTTP."""
-        with connect(self.stats) as link:
+        with socket.create_connection((host, self.stats), PATIENCE) as link:
             link.sendall(f"{method} {path} HTTP/1.1\r\nHost: a\r\n\r\n".encode())
             got = b""
             while more := link.recv(65536):
@@ -52,6 +53,10 @@ class Relay:
         self.child.stdin.close()
         said = self.child.stderr.read()
         return self.child.wait(PATIENCE), said
+
+    def lines(self):
+        """Ends it, and gives the lines of the log, without the seconds in front of each."""
+        return [re.sub(r"^\d+\.\d{3} ", "", it) for it in self.end()[1].decode().splitlines()]
 
     def __enter__(self):
         return self

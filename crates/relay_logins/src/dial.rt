@@ -27,6 +27,9 @@ const SSPI: u8 = 0xed;
 
 const FEDERATED: u8 = 0xee;
 
+/// ERROR (MS-TDS 2.2.7.10).
+const ERROR: u8 = 0xaa;
+
 /// The type of the change that names another server (MS-TDS 2.2.7.9).
 const ROUTING: u8 = 20;
 
@@ -49,10 +52,37 @@ pub enum Dialed {
     Leg(Vec<u8>),
     /// It is to go to another server.
     Routed(Target),
-    /// It isn't: the data of the answer.
-    Refused(Vec<u8>),
-    /// The server said what isn't spoken here, or demands encryption.
-    Wrong,
+    /// It isn't: the data of the answer, and the number of its first error, 0 where there is none.
+    Refused(Vec<u8>, i32),
+    /// The login can't go on with this server.
+    Wrong(Unfit),
+}
+
+/// Why a login can't go on with a server.
+#[derive(Clone, Copy)]
+pub enum Unfit {
+    /// It demands encryption.
+    Encryption,
+    /// Its bytes are no packets of an answer.
+    NoPackets,
+    /// Its answer is too long.
+    LongAnswer,
+    /// It names another server by what is no name and no address.
+    NamesNone,
+}
+
+impl Unfit {
+    /// What the server does.
+    pub fn words(self) -> &'static str {
+        match self {
+            Unfit::Encryption => {
+                "demands encryption, and the relay does not encrypt (tdstls client does)"
+            }
+            Unfit::NoPackets => "does not answer in packets of TDS (is that a SQL Server's port?)",
+            Unfit::LongAnswer => "answers a login with more than 65,536 bytes",
+            Unfit::NamesNone => "sends the login on, and names no server",
+        }
+    }
 }
 
 /// How a connection came to its server.
@@ -81,6 +111,8 @@ struct Heard {
     size: PacketSize,
     /// Where another server's name stands.
     routed: Option<Place>,
+    /// The number of the first error, 0 before there is one.
+    error: i32,
 }
 
 /// A connection's login.
@@ -127,6 +159,7 @@ impl Dial {
                 asks_for_leg: false,
                 size,
                 routed: None,
+                error: 0,
             },
             has_legs: false,
             way,
@@ -139,7 +172,7 @@ impl Dial {
         ensures by { self.new.message ≡ self.old.message }
     {
         let Ok(count) = self.reader.feed(piece) else {
-            return Ok((piece.len(), Dialed::Wrong));
+            return Ok((piece.len(), Dialed::Wrong(Unfit::NoPackets)));
         };
         let Some(packet) = self.reader.packet() else {
             return Ok((count, Dialed::More));
@@ -168,7 +201,7 @@ impl Dial {
             return self.judged(answer);
         }
         if demands_encryption(&answer) {
-            return Ok(Dialed::Wrong);
+            return Ok(Dialed::Wrong(Unfit::Encryption));
         }
         self.is_prepared = true;
         put_login(out, &self.message)?;
@@ -180,12 +213,12 @@ impl Dial {
         ensures by { self.new.message ≡ self.old.message }
     {
         if answer.len() > MOST {
-            return Ok(Dialed::Wrong);
+            return Ok(Dialed::Wrong(Unfit::LongAnswer));
         }
         if let Some(place) = self.heard.routed {
             return match target_of(self.alloc, bytes_at(&answer, place))? {
                 Some(target) => Ok(Dialed::Routed(target)),
-                None => Ok(Dialed::Wrong),
+                None => Ok(Dialed::Wrong(Unfit::NamesNone)),
             };
         }
         if self.heard.is_in {
@@ -197,7 +230,7 @@ impl Dial {
             self.walker.restart();
             return Ok(Dialed::Leg(answer));
         }
-        Ok(Dialed::Refused(answer))
+        Ok(Dialed::Refused(answer, self.heard.error))
     }
 }
 
@@ -223,6 +256,9 @@ fn look(walker: &mut Walker, data: &[u8], heard: &mut Heard) {
             }
             if let Some(place) = routing_told(token.told) {
                 heard.routed = Some(place);
+            }
+            if let (0, Told::Message(message), ERROR) = (heard.error, token.told, token.kind) {
+                heard.error = message.number;
             }
         }
     }

@@ -1,6 +1,6 @@
 //! An application's login, as it comes.
 
-use crate::notice::put_refusal;
+use crate::notice::{put_refusal, words_of};
 use std::alloc::{AllocError, Global};
 use tds_login::{Login, LoginAnswer, put_answer};
 
@@ -13,8 +13,8 @@ pub enum Passed {
     More,
     /// The whole LOGIN7, without its packets' headers.
     Login(Vec<u8>),
-    /// It isn't let in. What is to be sent says why.
-    Refused,
+    /// It isn't let in, and this is why. What is to be sent says that too, where it speaks TDS.
+    Refused(&'static str),
 }
 
 /// An application's login.
@@ -50,7 +50,7 @@ impl Gate {
                 break;
             }
             let Ok(fed) = self.login.feed(rest) else {
-                return Ok(Passed::Refused);
+                return Ok(Passed::Refused("its bytes are no login of TDS"));
             };
             let (taken, others) = rest.split_at(fed.count);
             self.gather(taken)?;
@@ -64,7 +64,7 @@ impl Gate {
                 Some(LoginAnswer::LetIn(_)) => return Ok(self.whole()),
                 Some(LoginAnswer::Refuse(refusal)) => {
                     put_refusal(self.alloc, out, refusal)?;
-                    return Ok(Passed::Refused);
+                    return Ok(Passed::Refused(words_of(refusal)));
                 }
             }
         }
@@ -73,7 +73,7 @@ impl Gate {
 
     fn whole(&mut self) -> Passed {
         if self.message.len() > MOST {
-            return Passed::Refused;
+            return Passed::Refused("its login has more than 131,071 bytes");
         }
         Passed::Login(std::mem::replace(&mut self.message, Vec::new(self.alloc)))
     }

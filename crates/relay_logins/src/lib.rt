@@ -11,11 +11,11 @@ mod login7;
 mod notice;
 mod table;
 
-pub use dial::{Dial, Dialed, FEATURES, Target, Way};
+pub use dial::{Dial, Dialed, FEATURES, Target, Unfit, Way};
 pub use features::leave_out_features;
 pub use gate::{Gate, Passed};
 pub use groups::{Group, Groups};
 pub use leg::{Leg, Taken};
 pub use login7::{Kind, SharedLogin, Who, kind_of, who_of};
-pub use notice::{NOT_OPENED, NOWHERE, REFUSED, SILENT, UNANSWERED, put_error, put_saved};
+pub use notice::{NOT_OPENED, REFUSED, UNANSWERED, put_error, put_saved};
 pub use table::{Entry, Table, number_of};

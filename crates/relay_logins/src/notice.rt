@@ -6,21 +6,13 @@ use std::alloc::{AllocError, Global};
 use tds_login::Refusal;
 use tds_packet::{Kind, Status, put_sent};
 
-/// The number of an error that refuses a login, and its sentence where the server is silent, where the
-/// application gives no further leg, and where no server answers as it should.
+/// The number of an error that refuses a login, and its sentence where the application gives no further leg.
 pub const REFUSED: u32 = 50_100;
-
-pub const SILENT: &str = "The server gave no answer in time.";
 
 pub const UNANSWERED: &str = "The application gave no answer in time.";
 
-pub const NOWHERE: &str = "The relay finds no server that speaks as it does.";
-
-/// The error of who waits for a connection that can't be opened.
-pub const NOT_OPENED: (u32, &str) = (
-    50_105,
-    "The relay could not open a connection to the server.",
-);
+/// The number of the error of who waits for a connection that can't be opened.
+pub const NOT_OPENED: u32 = 50_105;
 
 /// The name by which the relay calls itself.
 const NAME: &str = "tdsrelay";
@@ -58,13 +50,18 @@ pub fn put_error(
 /// Appends why a login is refused before the server hears of it.
 pub fn put_refusal(alloc: Global, out: &mut Vec<u8>, refusal: Refusal) -> Result<(), AllocError> {
     match refusal {
-        Refusal::Encryption => put_error(
-            alloc,
-            out,
-            17_835,
-            "This relay does not encrypt, and the client demanded encryption.",
-        ),
+        Refusal::Encryption => put_error(alloc, out, 17_835, words_of(refusal)),
         Refusal::OldVersion => put_old_version(alloc, out),
+    }
+}
+
+/// Why it is.
+pub fn words_of(refusal: Refusal) -> &'static str {
+    match refusal {
+        Refusal::Encryption => "This relay does not encrypt, and the client demanded encryption.",
+        Refusal::OldVersion => {
+            "This relay speaks TDS 7.2 to 7.4, and the client asked for an older version."
+        }
     }
 }
 
@@ -73,7 +70,7 @@ fn put_old_version(alloc: Global, out: &mut Vec<u8>) -> Result<(), AllocError> {
     put_token(
         &mut data,
         17_832,
-        "This relay speaks TDS 7.2 to 7.4, and the client asked for an older version.",
+        words_of(Refusal::OldVersion),
         &NARROW_PLACE,
     )?;
     data.extend_from_slice(&NARROW_DONE)?;

@@ -1,6 +1,8 @@
 //! The configuration file: the settings of the command line by name, in TOML.
 
 use crate::fault::RelayFault;
+use crate::near::nearest_first;
+use crate::system::SystemError;
 use std::alloc::{AllocError, Global};
 use std::fs::{self, Files};
 use std::io::{ErrorKind, Read};
@@ -80,10 +82,17 @@ impl Config {
                 is_known = is_known || *known == name.as_str();
             }
             if !is_known {
-                return Err(self.fault(name.as_str(), "there is no such setting")?);
+                return Err(self.unknown(name.as_str())?);
             }
         }
         Ok(())
+    }
+
+    /// There is no setting of this name: those that are, the nearest one first.
+    fn unknown(&self, name: &str) -> Result<RelayFault, AllocError> {
+        let known = nearest_first(self.alloc, name, &NAMES)?;
+        let why = format!(in self.alloc; "there is no such setting; those that are: {known}")?;
+        self.fault(name, why.as_str())
     }
 
     /// A whole number from this one to that one.
@@ -163,7 +172,10 @@ fn text_of<R: Files>(rt: &R, alloc: Global, path: &str) -> Result<String, RelayF
             Err(_) => format!(in alloc; "{path}: it isn't UTF-8")?,
         },
         Err(error) if error.kind() == ErrorKind::OutOfMemory => return Err(RelayFault::Memory),
-        Err(error) => format!(in alloc; "{path}: {error}")?,
+        Err(error) => {
+            let error = SystemError::new(error);
+            format!(in alloc; "{path} (--config): {error}")?
+        }
     };
     Err(RelayFault::Config(why))
 }

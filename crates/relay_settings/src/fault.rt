@@ -1,5 +1,6 @@
 //! What keeps the program from serving.
 
+use crate::system::SystemError;
 use clap::Error;
 use clap::error::ErrorKind as UsageKind;
 use std::alloc::AllocError;
@@ -14,30 +15,61 @@ pub enum RelayFault {
     Usage(Error),
     #[error("error: a word isn't UTF-8")]
     NoText,
-    /// The word that stands for an address.
-    #[error("error: {0:?} isn't an IP address, a colon and a port, as 127.0.0.1:1433")]
-    Address(String),
-    /// The word whose count can't be, what may be, and of what.
-    #[error("error: --{0} takes {1} to {2} {3}")]
-    Count(&'static str, usize, usize, &'static str),
-    #[error("error: there are more than 8 servers")]
+    /// Which word stands for an address, and as what it is given.
+    #[error("error: {0} {1:?} isn't an IP address, a colon and a port, as 127.0.0.1:1433; names aren't \
+         looked up (`getent ahosts NAME` says an address)")]
+    Address(&'static str, String),
+    /// A server is the relay itself.
+    #[error("error: SERVER {0} is where this relay itself listens: give the address of the server behind it")]
+    Itself(SocketAddr),
+    /// The word whose count can't be, what may be, and of what; and as what it is given.
+    #[error("error: --{0} takes {1} to {2} {3}, and not {4:?}")]
+    Count(&'static str, usize, usize, &'static str, String),
+    #[error("error: there are more than 8 servers: leave some out")]
     Servers,
     /// What is wrong with the configuration file.
     #[error("error: {0}")]
     Config(String),
-    /// The word whose seconds can't be.
-    #[error("error: --{0} takes seconds, 0 to 604800")]
-    Seconds(&'static str),
+    /// The word whose seconds can't be, and as what they are given.
+    #[error("error: --{0} takes seconds, 0 to 604800, and not {1:?}")]
+    Seconds(&'static str, String),
     #[error("error: --until-input-ends wants a pipe as standard input: {0}")]
-    Input(io::Error),
-    /// The system doesn't let it listen there.
+    Input(SystemError),
+    /// It can't listen there, and why.
     #[error("error: {0}: {1}")]
-    Listen(SocketAddr, io::Error),
+    Listen(SocketAddr, Bar),
     /// The system refuses to go on.
-    #[error("error: {0}")]
-    Refused(io::Error),
+    #[error("error: the system refuses to go on: {0}")]
+    Refused(SystemError),
     #[error("error: memory")]
     Memory,
+}
+
+/// Why it can't listen at an address.
+#[derive(Debug, Drop, thiserror::Error)]
+pub enum Bar {
+    #[error("this machine has no such address (EADDRNOTAVAIL); `ip address` shows those that it has, and \
+         0.0.0.0 is all of them")]
+    NoAddress,
+    #[error("another program listens there (EADDRINUSE); `ss -ltnp` shows which, and port 0 is one that is free")]
+    Taken,
+    #[error("the system doesn't let this user listen there (EACCES); ports from 1024 on are anybody's")]
+    Forbidden,
+    /// What the system says.
+    #[error("{0}")]
+    System(SystemError),
+}
+
+impl Bar {
+    /// Why it can't, where the system says this.
+    pub fn of(error: io::Error) -> Bar {
+        match error.kind() {
+            ErrorKind::AddrNotAvailable => Bar::NoAddress,
+            ErrorKind::AddrInUse => Bar::Taken,
+            ErrorKind::PermissionDenied => Bar::Forbidden,
+            _ => Bar::System(SystemError::new(error)),
+        }
+    }
 }
 
 impl RelayFault {
@@ -47,6 +79,24 @@ impl RelayFault {
             ErrorKind::OutOfMemory => RelayFault::Memory,
             _ => RelayFault::NoText,
         }
+    }
+
+    /// The fault where it can't listen at an address.
+    pub fn of_listener(address: SocketAddr, error: io::Error) -> RelayFault {
+        RelayFault::Listen(address, Bar::of(error))
+    }
+
+    /// The fault where the system refuses to go on.
+    pub fn of_system(error: io::Error) -> RelayFault {
+        match error.kind() {
+            ErrorKind::OutOfMemory => RelayFault::Memory,
+            _ => RelayFault::Refused(SystemError::new(error)),
+        }
+    }
+
+    /// The fault where standard input can't end it.
+    pub fn of_input(error: io::Error) -> RelayFault {
+        RelayFault::Input(SystemError::new(error))
     }
 
     /// Whether it is told on standard error; help and the version aren't.

@@ -4,10 +4,13 @@
 mod config;
 mod fault;
 mod limits;
+mod near;
 mod servers;
+mod system;
 mod words;
 
-pub use fault::RelayFault;
+pub use fault::{Bar, RelayFault};
 pub use limits::{Limits, is_beyond, lesser};
 pub use servers::{MOST as MOST_SERVERS, Servers, bit};
-pub use words::{Asked, read_words};
+pub use system::SystemError;
+pub use words::{Asked, is_reached_at, read_words};

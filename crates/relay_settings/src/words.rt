@@ -165,14 +165,15 @@ pub fn read_words<R: Files>(rt: &R, alloc: Global, words: &[String]) -> Result<A
 }
 
 fn asked_by(alloc: Global, matches: &ArgMatches, config: &Config) -> Result<Asked, RelayFault> {
+    let listen = address_of(alloc, "LISTEN", matches.get_str("LISTEN").unwrap_or(""))?;
     Ok(Asked {
-        listen: address_of(alloc, matches.get_str("LISTEN").unwrap_or(""))?,
-        servers: servers_of(alloc, matches.get_strs("SERVER").unwrap_or(&[]))?,
-        most: count_of(matches, config, &COUNT_MOST)?,
-        alone: count_of(matches, config, &COUNT_ALONE)?,
-        spin: count_of(matches, config, &COUNT_SPIN)? as u64,
+        listen,
+        servers: servers_of(alloc, listen, matches.get_strs("SERVER").unwrap_or(&[]))?,
+        most: count_of(alloc, matches, config, &COUNT_MOST)?,
+        alone: count_of(alloc, matches, config, &COUNT_ALONE)?,
+        spin: count_of(alloc, matches, config, &COUNT_SPIN)? as u64,
         stats: stats_of(alloc, matches, config)?,
-        limits: limits_of(matches, config)?,
+        limits: limits_of(alloc, matches, config)?,
         ends_with_input: matches.get_flag("until-input-ends"),
         is_logged: config.flag("log")? || matches.get_flag("log"),
         is_judged: config.flag("judge")? || matches.get_flag("judge"),
@@ -187,7 +188,7 @@ fn stats_of(
 ) -> Result<Option<SocketAddr>, RelayFault> {
     let set = config.text("stats")?;
     if let Some(word) = matches.get_str("stats") {
-        return Ok(Some(address_of(alloc, word)?));
+        return Ok(Some(address_of(alloc, "--stats", word)?));
     }
     match set {
         Some(text) => Ok(Some(address_in(config, text)?)),
@@ -195,23 +196,24 @@ fn stats_of(
     }
 }
 
-fn limits_of(matches: &ArgMatches, config: &Config) -> Result<Limits, RelayFault> {
+fn limits_of(alloc: Global, matches: &ArgMatches, config: &Config) -> Result<Limits, RelayFault> {
     let usual = USUAL_LIMITS;
     Ok(Limits {
-        login: seconds_of(matches, config, "login", usual.login)?,
-        wait: seconds_of(matches, config, "wait", usual.wait)?,
-        cancel: seconds_of(matches, config, "cancel", usual.cancel)?,
-        idle: seconds_of(matches, config, "idle", usual.idle)?,
-        life: seconds_of(matches, config, "life", usual.life)?,
-        hold: seconds_of(matches, config, "hold", usual.hold)?,
-        transaction: seconds_of(matches, config, "transaction", usual.transaction)?,
-        drain: seconds_of(matches, config, "drain", usual.drain)?,
-        check: seconds_of(matches, config, "check", usual.check)?,
-        away: seconds_of(matches, config, "away", usual.away)?,
+        login: seconds_of(alloc, matches, config, "login", usual.login)?,
+        wait: seconds_of(alloc, matches, config, "wait", usual.wait)?,
+        cancel: seconds_of(alloc, matches, config, "cancel", usual.cancel)?,
+        idle: seconds_of(alloc, matches, config, "idle", usual.idle)?,
+        life: seconds_of(alloc, matches, config, "life", usual.life)?,
+        hold: seconds_of(alloc, matches, config, "hold", usual.hold)?,
+        transaction: seconds_of(alloc, matches, config, "transaction", usual.transaction)?,
+        drain: seconds_of(alloc, matches, config, "drain", usual.drain)?,
+        check: seconds_of(alloc, matches, config, "check", usual.check)?,
+        away: seconds_of(alloc, matches, config, "away", usual.away)?,
     })
 }
 
 fn seconds_of(
+    alloc: Global,
     matches: &ArgMatches,
     config: &Config,
     name: &'static str,
@@ -223,14 +225,15 @@ fn seconds_of(
     };
     match word.parse::<u64>() {
         Ok(seconds) if seconds <= MOST_SECONDS => Ok(seconds),
-        _ => Err(RelayFault::Seconds(name)),
+        _ => Err(RelayFault::Seconds(name, String::from_str(alloc, word)?)),
     }
 }
 
-fn address_of(alloc: Global, word: &str) -> Result<SocketAddr, RelayFault> {
+/// The address that a word is, which stands for this.
+fn address_of(alloc: Global, what: &'static str, word: &str) -> Result<SocketAddr, RelayFault> {
     match word.parse::<SocketAddr>() {
         Ok(address) => Ok(address),
-        Err(_) => Err(RelayFault::Address(String::from_str(alloc, word)?)),
+        Err(_) => Err(RelayFault::Address(what, String::from_str(alloc, word)?)),
     }
 }
 
@@ -242,18 +245,34 @@ fn address_in(config: &Config, text: &str) -> Result<SocketAddr, RelayFault> {
     }
 }
 
-/// The servers, the preferred one first.
-fn servers_of(alloc: Global, words: &[&str]) -> Result<Servers, RelayFault> {
+/// The servers, the preferred one first, of a relay that listens there.
+fn servers_of(alloc: Global, listen: SocketAddr, words: &[&str]) -> Result<Servers, RelayFault> {
     let mut servers = Servers::none();
     for word in words.iter() {
-        if !servers.add(address_of(alloc, word)?) {
+        let server = address_of(alloc, "SERVER", word)?;
+        if is_reached_at(listen, server) {
+            return Err(RelayFault::Itself(server));
+        }
+        if !servers.add(server) {
             return Err(RelayFault::Servers);
         }
     }
     Ok(servers)
 }
 
-fn count_of(matches: &ArgMatches, config: &Config, count: &Count) -> Result<usize, RelayFault> {
+/// Whether who listens at the one address is reached at the other one.
+pub fn is_reached_at(listen: SocketAddr, address: SocketAddr) -> bool {
+    let (own, other) = (listen.ip(), address.ip());
+    listen.port() == address.port()
+        && (own == other || own.is_unspecified() && (other.is_loopback() || other.is_unspecified()))
+}
+
+fn count_of(
+    alloc: Global,
+    matches: &ArgMatches,
+    config: &Config,
+    count: &Count,
+) -> Result<usize, RelayFault> {
     let set = config.number(count.name, count.least as u64, count.most as u64)?;
     let Some(word) = matches.get_str(count.name) else {
         return Ok(match set {
@@ -263,7 +282,10 @@ fn count_of(matches: &ArgMatches, config: &Config, count: &Count) -> Result<usiz
     };
     match word.parse::<usize>() {
         Ok(found) if found >= count.least && found <= count.most => Ok(found),
-        _ => Err(RelayFault::Count(count.name, count.least, count.most, count.unit)),
+        _ => {
+            let word = String::from_str(alloc, word)?;
+            Err(RelayFault::Count(count.name, count.least, count.most, count.unit, word))
+        }
     }
 }
 

@@ -2,7 +2,7 @@
 
 use crate::counts::raise;
 use std::alloc::Global;
-use std::io::{self, Write};
+use std::io;
 use tds_judge::{Direction, Finding, Judge, Level, Limits};
 use tds_wire::Features;
 
@@ -131,19 +131,4 @@ impl Judged {
         self.told = self.told.saturating_add(1);
         self.told <= MOST_TOLD
     }
-}
-
-/// A line of the log about a finding: whose it is, the socket, its number and its weight, and where it stands.
-pub fn tell<W: Write>(log: &mut W, blamed: Blamed, number: u64, finding: &Finding) {
-    let (whose, found) = (blamed.words(), finding.name.number());
-    let weight = match finding.name.level() {
-        Level::Breach => "breach",
-        Level::Risk => "risk",
-        Level::Note => "note",
-    };
-    let (offset, value) = (finding.spot.offset, finding.value);
-    let _ = writeln!(
-        log,
-        "found {found} ({weight}) of {whose}, socket {number}, byte {offset}, value {value}"
-    );
 }

@@ -8,9 +8,15 @@ use std::io::{self, Write};
 /// The most bytes of a request's head.
 const MOST: usize = 4_096;
 
-/// What may be asked for.
-pub const PAGES: &[u8] =
-    b"GET /, /json, /metrics; POST /kill/GROUP, /pause/GROUP, /resume/GROUP, /reload, /drain\n";
+/// What is answered where there is no such page, where an order comes from another machine, and where what
+/// came is no request of HTTP.
+pub const PAGES: &[u8] = b"there is no such page; those that are: GET /, /json, /metrics; \
+POST /kill/GROUP, /pause/GROUP, /resume/GROUP, /reload, /drain\n";
+
+pub const FAR: &[u8] = b"POST is taken from the relay's own machine alone: ask at its 127.0.0.1\n";
+
+pub const NO_HTTP: &[u8] = b"no request of HTTP/1.1 of 4,096 bytes at most came here; \
+applications connect to the relay's other address, LISTEN\n";
 
 /// What is asked for.
 #[derive(Clone, Copy)]
@@ -29,6 +35,8 @@ pub enum Page {
     Reload,
     /// The relay is to end in order.
     Drain,
+    /// An order from another machine.
+    Far,
     /// Nothing that is there.
     Unknown,
     /// No request of HTTP.
@@ -77,6 +85,7 @@ fn page_of(method: &[u8], path: &[u8], is_near: bool) -> Page {
             _ => Page::Unknown,
         },
         b"POST" if is_near => ordered(path),
+        b"POST" => Page::Far,
         _ => Page::Unknown,
     }
 }

@@ -1,5 +1,6 @@
 pub mod Along
 pub mod Ending
+pub mod Faulting
 pub mod Feeding
 pub mod Folding
 pub mod Fronting

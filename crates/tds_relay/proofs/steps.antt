@@ -2,11 +2,14 @@ pub mod Asked
 pub mod Bodied
 pub mod Calling
 pub mod Carried
+pub mod Faults
 pub mod Fed
 pub mod Fronts
 pub mod Going
+pub mod Halting
 pub mod Handed
 pub mod Made
+pub mod Placed
 pub mod Posting
 pub mod Putting
 pub mod Reaching

@@ -44,7 +44,7 @@ pub record SendsOn (whole : Bool) (d : Desk) (key : ℕ) : Type 0 where
 abbrev pub IsTakenBack : Option End → Type 0
 IsTakenBack None = ⊥
 IsTakenBack (Some (Open front withdrawn asks)) = withdrawn ≡ true
-IsTakenBack (Some Over) = ⊥
+IsTakenBack (Some (Over why)) = ⊥
 
 -- A request of this application, of which all has come or not, beside these connections.
 pub data IsUnderway (whole : Bool) (links : List Link) (key : ℕ) (h : Hall) : Type 0 where
@@ -68,7 +68,7 @@ said_in (Err fault) = said.Nothing
 abbrev pub said_of : List ℕ → Option End → Said
 said_of bytes None = said.Nothing
 said_of bytes (Some (Open front withdrawn asks)) = said_in (fed front bytes).brings
-said_of bytes (Some Over) = said.Nothing
+said_of bytes (Some (Over why)) = said.Nothing
 
 -- where by it a request begins or goes on, or ends
 abbrev pub IfAsks : (Bool → Type 0) → Said → Type 0

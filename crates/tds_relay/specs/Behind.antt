@@ -59,7 +59,7 @@ brought front bytes = brought_by front.stage (judged front.due bytes) (fed front
 abbrev pub if_open : Option End → (Front → Bool → List passing.Event) → List passing.Event
 if_open None what = []
 if_open (Some (Open front withdrawn asks)) what = what front withdrawn
-if_open (Some Over) what = []
+if_open (Some (Over why)) what = []
 
 abbrev pub if_same : ℕ → ℕ → List passing.Event → List passing.Event
 if_same key other events = if other == key then events else []

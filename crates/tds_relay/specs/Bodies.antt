@@ -11,6 +11,7 @@ use Rattle.tds_front.specs.declared.front.Said.TheVariants as said
 use Rattle.tds_front.specs.Bytes.{fed}
 use Rattle.tds_service.specs.declared.service.Service as services
 use Rattle.tds_service.specs.Table.{Moves, client_of}
+use Rattle.tds_service.specs.Ties.{cancel_out}
 use Rattle.tds_relay.specs.declared.application.Application.{Application}
 use Rattle.tds_relay.specs.declared.application.Asking.{Asking}
 use Rattle.tds_relay.specs.declared.application.Asking.TheVariants as asking
@@ -20,10 +21,11 @@ use Rattle.tds_relay.specs.declared.link.Link.{Link}
 use Rattle.tds_relay.specs.declared.relay.Relay as code
 use Rattle.tds_relay.specs.Asking.{said_of}
 use Rattle.tds_relay.specs.Desk.{find_key}
+use Rattle.tds_relay.specs.Fronts.{ends_in}
 use Rattle.tds_relay.specs.Hall.{End, Open, Over, end_at}
 use Rattle.tds_relay.specs.House.{House, Step, Takes, after}
 use Rattle.tds_relay.specs.Reads.{waits_on}
-use Rattle.tds_relay.specs.Taking.{Tells, count_by}
+use Rattle.tds_relay.specs.Taking.{IsDeaf, Tells, count_by}
 
 pub data Body : Type 0 where
   -- its application is to be closed, or isn't there
@@ -78,6 +80,14 @@ AskAsBefore old new = (key : ℕ) (goes : Body) → body_in (get new key) goes �
 abbrev pub AskOn : Slab Application → Slab Application → Type 0
 AskOn old new = (key : ℕ) (goes : Body) → Spared (body_in (get old key) goes) (body_in (get new key) goes)
 
+-- Nothing of it goes on.
+abbrev pub IsUnsent : Body → Type 0
+IsUnsent Closed = Unit {0}
+IsUnsent Nowhere = Unit {0}
+IsUnsent (Kept kind bytes whole) = Unit {0}
+IsUnsent Astray = ⊥
+IsUnsent (Going number client waits) = ⊥
+
 -- ---- What becomes of one
 
 -- These bytes are put by a client, and with them its message is finished or not: the client behind that, and what goes out.
@@ -102,6 +112,14 @@ pub data Grows (whole : Bool) (more : List ℕ) : Body → Body → Type 0 where
   Drifts : {b : Body} → Grows whole more Astray b
   Shuts : {b : Body} → Grows whole more b Closed
 
+-- It goes on, and is cancelled by its client: what goes out by that, an attention, and before it the end of a request that was out in part,
+-- waits once behind what waited on its connection. What hasn't begun to go on stays. Or its application is to be closed.
+pub data Halts : Body → Body → Type 0 where
+  ByClient : {number : ℕ} {to : ClientSession} (waits : List ℕ) (from : ClientSession) → Halts (Going number from waits) (Going number to (waits ++ cancel_out from.stage))
+  Before : {b : Body} → IsUnsent b → Halts b b
+  OfAstray : {b : Body} → Halts Astray b
+  ByClosing : {b : Body} → Halts b Closed
+
 -- A request of packets of this type begins, with nothing of its body; or its application is to be closed.
 pub data Begins (kind : Kind) : Body → Type 0 where
   Asks : (message : MessageKind) → packets_are message ≡ kind → Begins kind (Kept message [] false)
@@ -113,7 +131,7 @@ pub data Begins (kind : Kind) : Body → Type 0 where
 abbrev pub last_of : ℕ → List ℕ → List ℕ
 last_of count bytes = drop (length bytes - count) bytes
 
--- What becomes of a body by bytes that are taken of its application, of which this is said. Of an attention that goes on nothing is said here.
+-- What becomes of a body by bytes that are taken of its application, of which this is said.
 abbrev pub Becomes : Said → List ℕ → Body → Body → Type 0
 Becomes said.Nothing taken old new = new ≡ old
 Becomes (said.Begin kind reset) taken old new = Begins kind new
@@ -121,13 +139,13 @@ Becomes (said.Body count) taken old new = Grows false (last_of count taken) old 
 Becomes (said.End count) taken old new = Grows true (last_of count taken) old new
 Becomes (said.Forget gone) taken old new = new ≡ Nowhere
 Becomes said.Acknowledge taken old new = new ≡ Nowhere
-Becomes said.HandOn taken old new = Unit {0}
+Becomes said.HandOn taken old new = Halts old new
 
 -- the bytes that an end takes of these at once
 abbrev pub taken_of : List ℕ → Option End → List ℕ
 taken_of bytes None = []
 taken_of bytes (Some (Open front withdrawn asks)) = take (count_by (fed front bytes).brings bytes) bytes
-taken_of bytes (Some Over) = []
+taken_of bytes (Some (Over why)) = []
 
 -- Piece by piece of what steps take of an application, from the one body to the other; before each and behind the last it may start.
 abbrev pub AreFollowed : ℕ → House → List Step → Body → Body → Type 0
@@ -170,6 +188,31 @@ pub record ClientPuts (whole : Bool) (more : List ℕ) (key : ℕ) (old new : de
   pub out : List ℕ
   pub put_is : ArePut whole more from to out
   pub appended : after ≡ before ++ out
+
+-- The client of the connection that an application holds cancels.
+pub record ClientStops (key : ℕ) (old new : desks.Desk) (before after : List ℕ) : Type 0 where
+  pub hold : Hold
+  pub its : find_key key old.holds.items ≡ Some hold
+  pub same : new.holds.items ≡ old.holds.items
+  pub from : ClientSession
+  pub to : ClientSession
+  pub moves : Moves hold.lease old.service new.service from to
+  pub appended : after ≡ before ++ cancel_out from.stage
+
+-- Something was put on the connection of this number, behind what waited there, and the desk and what is asked are as they were; or the
+-- application is to be closed.
+abbrev pub StopsOn : ℕ → ℕ → code.Relay → code.Relay → Type 0
+StopsOn number key old new =
+    IsDeaf (end_at (ends_in new.applications) key)
+    ⊎ ((new.desk ≡ old.desk) × AskAsBefore old.applications new.applications
+    × (waits_on number new.links.items ≡ option_map (λ (waits : List ℕ). waits ++ old.outbox.items) (waits_on number old.links.items)))
+
+-- What an application's cancel puts out is to be sent on the connection of this number, which it holds.
+pub record IsHalting (number key : ℕ) (old new : code.Relay) : Type 0 where
+  pub hold : Hold
+  pub its : find_key key old.desk.holds.items ≡ Some hold
+  pub number_is : number ≡ hold.number
+  pub stops : ClientStops key old.desk new.desk [] new.outbox.items
 
 -- These bytes are put where an application's request goes on, whether it asks one or not; or it is to be closed.
 abbrev pub PutsOn : Bool → List ℕ → ℕ → code.Relay → code.Relay → Type 0

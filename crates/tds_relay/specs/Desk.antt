@@ -2,24 +2,27 @@
 use Rattle.std.specs.Prelude.{ℕ, suc, ◌==◌, not, Bool, true, false, List, [], ◌∷◌, ◌++◌, filter, Option, Some, None, is_some, if◌then◌else◌}
 use Rattle.tds_wire.specs.declared.told.Token.{Token}
 use Rattle.tds_service.specs.Parts.{Part}
+use Rattle.tds_listen.specs.declared.fault.ListenFault.{ListenFault}
 use Rattle.tds_relay.specs.declared.desk.Hold.{Hold}
 use Rattle.tds_relay.specs.declared.desk.Mode.{Mode}
 use Rattle.tds_relay.specs.declared.desk.Mode.TheVariants.{Sessions}
+use Rattle.tds_relay.specs.declared.fault.Broken.{Broken}
 use Rattle.tds_service.specs.Line as line
 use Rattle.tds_service.specs.History.{Done}
 use Rattle.tds_service.specs.Service as calls
 use Rattle.tds_service.specs.Service.{Seat, Service, Call, Reply, Step, Unknown, AllInUse, NotNow, No, NoMemory, Lent, Ticket, Did, Back, Place, Leased, Cleaning, Kept, Free, Draining, step, service_after, new_service, lease_at, seat_numbered}
 
--- For how long an application keeps what it is lent; which one holds which connection, by which lease; and whose requests wait for one, the
--- first one first.
+-- For how long an application keeps what it is lent; which one holds which connection, by which lease; whose requests wait for one, the
+-- first one first; and which connection was the last that broke the rules, and how.
 pub record Desk : Type 0 where
   pub mode : Mode
   pub service : Service
   pub holds : List Hold
   pub line : List ℕ
+  pub broken : Option Broken
 
 abbrev pub new_desk : ℕ → Desk
-new_desk max = record { mode = Sessions; service = calls.new_service max; holds = []; line = [] }
+new_desk max = record { mode = Sessions; service = calls.new_service max; holds = []; line = []; broken = None }
 
 -- How far a cleaning came: it was sent, in so many packets; or memory was refused to its first, second, third or fourth call.
 pub data Way : Type 0 where
@@ -84,7 +87,7 @@ abbrev pub holding : ℕ → ℕ → ℕ → Hold
 holding key lease number = record { key = key; lease = lease; number = number }
 
 abbrev pub moves : Desk → List Hold → List ℕ → List (Call Token) → Turn
-moves d holds line calls = record { desk = record { mode = d.mode; service = service_after d.service calls; holds = holds; line = line }; calls = calls }
+moves d holds line calls = record { desk = record { mode = d.mode; service = service_after d.service calls; holds = holds; line = line; broken = d.broken }; calls = calls }
 
 abbrev pub rests : Desk → Turn
 rests d = moves d d.holds d.line []
@@ -172,10 +175,30 @@ comes_by d call s number way lease Goes = moves d d.holds d.line (call ∷ [])
 comes_by d call s number way lease Settled = moves d d.holds d.line (call ∷ settles d.holds s number way lease)
 comes_by d call s number way lease Wrong = moves d (without_number number d.holds) d.line (call ∷ calls.Lost number ∷ [])
 
+-- The connection of this number has broken the rules by that, or not.
+abbrev pub broken_of : ℕ → line.Answer → Option Broken → Option Broken
+broken_of number (line.Fault fault) had = Some (record { number = number; fault = fault })
+broken_of number answer had = had
+
+abbrev pub last_broken : ℕ → List (Done Token) → Option Broken → Option Broken
+last_broken number [] had = had
+last_broken number (done ∷ dones) had = broken_of number done.answer had
+
+abbrev pub with_broken : ℕ → List (Done Token) → Turn → Turn
+with_broken number dones t = record { desk = record t.desk { broken = last_broken number dones t.desk.broken }; calls = t.calls }
+
 abbrev pub comes : Desk → ℕ → Part Token → Way → Turn
 comes d number part way =
     let heard = step {T = Token} d.service (calls.Came number part) in
-    comes_by d (calls.Came number part) heard.service number way (lease_at (seat_numbered number d.service.seats)) (hearing heard.dones)
+    with_broken number heard.dones (comes_by d (calls.Came number part) heard.service number way (lease_at (seat_numbered number d.service.seats)) (hearing heard.dones))
+
+-- how it broke them
+abbrev pub fault_among : ℕ → Option Broken → Option ListenFault
+fault_among number None = None
+fault_among number (Some b) = if b.number == number then Some b.fault else None
+
+abbrev pub fault_on : ℕ → Desk → Option ListenFault
+fault_on number d = fault_among number d.broken
 
 -- To whom a packet that comes on a connection is handed: the application that holds it.
 abbrev pub key_of : Option Hold → Option ℕ

@@ -24,7 +24,7 @@ use Rattle.tds_relay.specs.Taking.{IsDeaf}
 use Rattle.tds_relay.specs.Ties.{Application as ByApplication, Cause, Turns, desk_in}
 
 abbrev pub end_of : Application → End
-end_of a = if a.is_over then Over else Open a.front a.is_withdrawn a.reset
+end_of a = if a.is_over then Over a.fault else Open a.front a.is_withdrawn a.reset
 
 abbrev pub ends_in : Slab Application → Ends
 ends_in s = map (option_map end_of) s.slots
@@ -89,7 +89,7 @@ MayPut key ends old new before after = ((new ≡ old) × (after ≡ before)) ⊎
 -- an application has taken its request back, of which something had gone on
 abbrev pub withdraws : End → End
 withdraws (Open front withdrawn asks) = Open front true asks
-withdraws Over = Over
+withdraws (Over why) = Over why
 
 -- Bytes of an application were taken, of which this was said: its end was before them, and is as they lead.
 pub record IsFed (key : ℕ) (before now : Ends) (bytes : List ℕ) (answer : Said) : Type 0 where

@@ -35,8 +35,8 @@ pub data End : Type 0 where
   -- with its connection until the server's acknowledgement of that. And its request may ask for a reset, full or not, of which it hasn't been
   -- told yet
   Open : (front : Front) (withdrawn : Bool) (asks : Option Reset) → End
-  -- nothing more is taken of it, and it is to be closed
-  Over : End
+  -- nothing more is taken of it, and it is to be closed: for this, where it did what the protocol doesn't allow
+  Over : (why : Option FrontFault) → End
 
 abbrev pub Ends : Type 0
 Ends = List (Option End)
@@ -64,15 +64,20 @@ new_hall max = record { desk = new_desk max; ends = [] }
 
 abbrev pub move_stage : (Stage → Stage) → End → End
 move_stage by (Open front withdrawn asks) = Open (record front { stage = by front.stage }) withdrawn asks
-move_stage by Over = Over
+move_stage by (Over why) = Over why
+
+-- it is to be closed, for this
+abbrev pub closes_for : Option FrontFault → End → End
+closes_for why (Open front withdrawn asks) = Over why
+closes_for why (Over was) = Over was
 
 abbrev pub closes : End → End
-closes end = Over
+closes end = closes_for None end
 
 -- its connection is let go, and with it what was taken back there
 abbrev pub lets_go : End → End
 lets_go (Open front withdrawn asks) = Open front false asks
-lets_go Over = Over
+lets_go (Over why) = Over why
 
 -- something of its request has gone on, where packets went out
 abbrev pub goes_on : List Packet → End → End
@@ -83,19 +88,19 @@ goes_on (packet ∷ packets) end = move_stage rules.went_on end
 abbrev pub acknowledged : End → End
 acknowledged (Open front true asks) = Open front false asks
 acknowledged (Open front false asks) = move_stage rules.acknowledged (Open front false asks)
-acknowledged Over = Over
+acknowledged (Over why) = Over why
 
 -- A packet of its answer has come: it is told of the reset by now that its request asked for. Of what it took back it hears nothing.
 abbrev pub hears : End → End
 hears (Open front withdrawn asks) = Open front withdrawn (if withdrawn then asks else None)
-hears Over = Over
+hears (Over why) = Over why
 
 -- this came of a packet on its connection
 abbrev pub told : What → End → End
 told whats.Goes end = hears end
 told whats.Finished end = move_stage rules.answered (hears end)
 told whats.Acknowledged end = acknowledged (hears end)
-told whats.Closed end = Over
+told whats.Closed end = closes end
 
 -- ---- What came, as the service answers it
 
@@ -136,11 +141,11 @@ asks_by said.HandOn asks = asks
 
 abbrev pub end_behind : Front → Bool → Option Reset → Result Fed FrontFault → End
 end_behind front withdrawn asks (Ok fed) = Open front (takes_back fed.said || withdrawn) (asks_by fed.said asks)
-end_behind front withdrawn asks (Err fault) = Over
+end_behind front withdrawn asks (Err fault) = Over (Some fault)
 
 abbrev pub feeds : List ℕ → End → End
 feeds bytes (Open front withdrawn asks) = end_behind (fed front bytes).front withdrawn asks (fed front bytes).brings
-feeds bytes Over = Over
+feeds bytes (Over why) = Over why
 
 -- whether an attention goes out by them
 abbrev pub stops_by : Result Fed FrontFault → Bool
@@ -245,13 +250,13 @@ IsWhole (stages.Broken fault) = ⊥
 abbrev pub IfOpen : (Stage → Type 0) → Option End → Type 0
 IfOpen P None = Unit {0}
 IfOpen P (Some (Open front withdrawn asks)) = P front.stage
-IfOpen P (Some Over) = Unit {0}
+IfOpen P (Some (Over why)) = Unit {0}
 
 -- Its request asks for this reset, of which it hasn't been told; where its end is open.
 abbrev pub AsksFor : Reset → Option End → Type 0
 AsksFor reset None = Unit {0}
 AsksFor reset (Some (Open front withdrawn asks)) = asks ≡ Some reset
-AsksFor reset (Some Over) = Unit {0}
+AsksFor reset (Some (Over why)) = Unit {0}
 
 -- where it asks for one
 abbrev pub IfAsked : Option Reset → Option End → Type 0

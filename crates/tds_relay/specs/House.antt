@@ -85,7 +85,7 @@ owed_by (Err fault) = None
 abbrev pub owed : List ℕ → Option End → Option (List (List ℕ))
 owed bytes None = None
 owed bytes (Some (Open front withdrawn asks)) = owed_by (fed front bytes).brings
-owed bytes (Some Over) = None
+owed bytes (Some (Over why)) = None
 
 -- these pieces are put behind what waits, one after the other
 abbrev pub put_all : List (List ℕ) → Post → Post
@@ -129,7 +129,7 @@ closes whats.Closed = true
 abbrev pub is_said : What → Option End → Bool
 is_said what None = false
 is_said what (Some (Open front withdrawn asks)) = not withdrawn && not (closes what)
-is_said what (Some Over) = false
+is_said what (Some (Over why)) = false
 
 -- It is handed on exactly where it is.
 abbrev pub IsHanded : Bool → Manner → Type 0
@@ -187,7 +187,7 @@ acknowledges whats.Closed = false
 abbrev pub hears_of_reset : What → Option End → Bool
 hears_of_reset what None = false
 hears_of_reset what (Some (Open front withdrawn asks)) = is_some asks && not (acknowledges what)
-hears_of_reset what (Some Over) = false
+hears_of_reset what (Some (Over why)) = false
 
 abbrev pub IsTold : Bool → Bool → Manner → Part Token → Type 0
 IsTold owed hears (Whole tells) part = tellings owed (Whole tells) part ≡ one_if hears

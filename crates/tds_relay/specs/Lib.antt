@@ -5,6 +5,7 @@ pub mod Bodies
 pub mod Bounds
 pub mod Cutting
 pub mod Desk
+pub mod Faults
 pub mod Fronting
 pub mod Fronts
 pub mod Hall

@@ -79,6 +79,12 @@ FillsAt old None = Unit {0}
 FillsAt None (Some new) = ⊥
 FillsAt (Some old) (Some new) = (out : List ℕ) × (new ≡ old ++ out)
 
+-- This was put behind it, once; or the connection is there no more.
+abbrev pub FillsBy : List ℕ → Option (List ℕ) → Option (List ℕ) → Type 0
+FillsBy out old None = Unit {0}
+FillsBy out None (Some new) = ⊥
+FillsBy out (Some old) (Some new) = new ≡ old ++ out
+
 -- It is the same, or the connection is there no more.
 abbrev pub StaysAt : {A : Type 0} → Option A → Option A → Type 0
 StaysAt old None = Unit {0}

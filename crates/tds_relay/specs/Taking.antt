@@ -12,7 +12,7 @@ use Rattle.tds_relay.specs.Ties.{Application}
 abbrev pub IsDeaf : Option End → Type 0
 IsDeaf None = Unit {0}
 IsDeaf (Some (Open front withdrawn asks)) = ⊥
-IsDeaf (Some Over) = Unit {0}
+IsDeaf (Some (Over why)) = Unit {0}
 
 -- how many of these bytes its end takes at once: all of them, where it is to be closed by them
 abbrev pub count_by : Result Fed FrontFault → List ℕ → ℕ

@@ -43,7 +43,7 @@ asked (Err fault) = []
 abbrev pub asked_in : List ℕ → Option End → List Event
 asked_in bytes None = []
 asked_in bytes (Some (Open front withdrawn asks)) = asked (fed front bytes).brings
-asked_in bytes (Some Over) = []
+asked_in bytes (Some (Over why)) = []
 
 abbrev pub heard_in : Bool → What → Manner → Part Token → List Event
 heard_in owed what (Whole tells) part = Hears (house.acknowledges what) (tellings owed (Whole tells) part) ∷ []
@@ -87,7 +87,7 @@ wants asks (Hears acknowledges times ∷ later) = wants None later
 abbrev pub AsksJust : Option Reset → Option End → Type 0
 AsksJust asks None = Unit {0}
 AsksJust asks (Some (Open front withdrawn is)) = is ≡ asks
-AsksJust asks (Some Over) = Unit {0}
+AsksJust asks (Some (Over why)) = Unit {0}
 
 -- from where an application has come
 abbrev pub happens_to : {max key : ℕ} → Visit max key → List Event

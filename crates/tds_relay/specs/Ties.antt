@@ -18,7 +18,7 @@ use Rattle.tds_relay.specs.Desk.{Desk, Event, Deed, Waits, Unwaits, Serves, Brin
 use Rattle.tds_relay.specs.Promises.{Cancels, Each, attentions_on}
 
 abbrev pub desk_in : code.Desk → Desk
-desk_in d = record { mode = d.mode; service = service_in d.service; holds = d.holds.items; line = d.line.items }
+desk_in d = record { mode = d.mode; service = service_in d.service; holds = d.holds.items; line = d.line.items; broken = d.broken }
 
 -- what goes out by calls, one behind the other
 abbrev pub sent_along : Service → List (Call Token) → List Packet
@@ -37,7 +37,7 @@ pub record Turns (event : Event) (old new : Desk) (before after : List ℕ) : Ty
 
 -- The calls were made, and nobody's hold or wait has changed.
 pub record Settles (all : List (Call Token)) (old new : Desk) (before after : List ℕ) : Type 0 where
-  pub desk_is : new ≡ record { mode = old.mode; service = service_after old.service all; holds = old.holds; line = old.line }
+  pub desk_is : new ≡ record old { service = service_after old.service all }
   pub bytes : Appends (sent_along old.service all) before after
 
 -- It is the connection that was held, where one was.

@@ -43,6 +43,8 @@ pub(crate) struct Application {
     pub(crate) is_withdrawn: bool,
     /// Whether nothing more of it is taken.
     pub(crate) is_over: bool,
+    /// What it did that the protocol doesn't allow, where that is why.
+    pub(crate) fault: Option<FrontFault>,
     /// How many requests it has begun.
     pub(crate) begun: u64,
     ghost bounded: { vec_len held ≤ MOST_HELD },
@@ -52,9 +54,10 @@ impl Application {
     ghost use Rattle.tds_front.specs.Rules as rules;
     ghost use Rattle.tds_packet.specs.declared.status.Reset.TheVariants.{Full, KeepTransaction};
     ghost use Rattle.tds_relay.specs.Bodies.{Body, body_in};
+    ghost use Rattle.tds_relay.specs.Faults.{why_of};
     ghost use Rattle.tds_relay.specs.Fronts.{end_of, puts, withdraws};
     ghost use Rattle.tds_front.specs.Bytes.{fed, new_front};
-    ghost use Rattle.tds_relay.specs.Hall.{AsksFor, IfOpen, IsHere, Open, acknowledged, asks_by, closes, hears};
+    ghost use Rattle.tds_relay.specs.Hall.{AsksFor, IfOpen, IsHere, Open, acknowledged, asks_by, closes_for, hears};
     ghost use Rattle.tds_relay.specs.Hall.{lets_go, move_stage};
     ghost use Rattle.tds_relay.specs.House.{hears_of_reset, is_said};
     ghost use Rattle.tds_relay.specs.Posts.{nothing, post_of};
@@ -75,6 +78,7 @@ impl Application {
             held: Vec::new(alloc),
             is_withdrawn: false,
             is_over: false,
+            fault: None,
             begun: 0,
         }
     }
@@ -219,13 +223,23 @@ impl Application {
         self.is_withdrawn = false;
     }
 
-    /// Nothing more of it is taken.
-    pub(crate) fn close(&mut self)
+    /// Nothing more of it is taken, for this. Whoever is to be closed already is so for what was first.
+    pub(crate) fn close(&mut self, why: Option<FrontFault>)
         ensures post { post_of self.new ≡ post_of self.old }
-        ensures end { end_of self.new ≡ closes (end_of self.old) }
+        ensures end { end_of self.new ≡ closes_for why (end_of self.old) }
         ensures tag { self.new.tag ≡ self.old.tag }
     {
-        self.is_over = true;
+        if !self.is_over {
+            self.is_over = true;
+            self.fault = why;
+        }
+    }
+
+    /// What it did that the protocol doesn't allow, where it is to be closed for that.
+    pub(crate) fn fault(&self) -> Option<FrontFault>
+        ensures { result ≡ why_of (Some (end_of self.now)) }
+    {
+        if self.is_over { self.fault } else { None }
     }
 
     /// Whether bytes of its request may be put, and its end: one has begun, or is whole.

@@ -1,9 +1,9 @@
 //! Who holds which connection of a service, and whose requests wait for one.
-ghost use Rattle.std.specs.Prelude.{◌≡◌, [], ℕ, IfOk, OnOk, OnErr, length, option_map};
+ghost use Rattle.std.specs.Prelude.{◌≡◌, [], ℕ, IfOk, OnOk, OnErr, length, option_copied, option_map};
 ghost use Rattle.tds_service.specs.Service.{Seat, is_open, seat_numbered};
 ghost use Rattle.tds_service.specs.Table.{place_of};
 ghost use Rattle.tds_relay.specs.Desk.{Serves, Unwaits, Waits, find_key, find_number, key_of, new_desk};
-ghost use Rattle.tds_relay.specs.Desk.{owes_reset};
+ghost use Rattle.tds_relay.specs.Desk.{fault_on, owes_reset};
 ghost use Rattle.tds_relay.specs.Hall.{is_in};
 ghost use Rattle.tds_relay.specs.Sparing.{AllHold};
 ghost use Rattle.tds_relay.specs.Ties.{Serving, Turns, desk_in};
@@ -16,11 +16,13 @@ mod leaving;
 mod lists;
 
 use crate::NoMemory;
+use crate::fault::Broken;
 use crate::link::COLUMNS;
 pub use coming::{Heard, What};
 pub use leaving::{Left, Renewed};
 use lists::{find_key, find_number, has_key, remove_key};
 use std::alloc::{AllocError, Global};
+use tds_listen::ListenFault;
 use tds_packet::PacketSize;
 use tds_service::{Place, Refusal, Service};
 use tds_wire::Features;
@@ -61,6 +63,8 @@ pub struct Desk {
     line: Vec<usize>,
     /// The text of a cleaning, of two bytes a unit.
     text: Vec<u8>,
+    /// The last connection that is closed for what its server said.
+    broken: Option<Broken>,
 }
 
 impl Desk {
@@ -85,6 +89,7 @@ impl Desk {
             holds: Vec::new(alloc),
             line: Vec::new(alloc),
             text: cleaning_text(alloc)?,
+            broken: None,
         })
     }
 
@@ -192,6 +197,23 @@ impl Desk {
         match self.service.owes_reset_on(number) {
             Some(owes) => owes,
             None => false,
+        }
+    }
+
+    /// What the server said on the connection of this number that no server may, where it is the last one that
+    /// is closed for that.
+    pub fn fault_on(&self, number: u64) -> Option<&ListenFault>
+        ensures { option_copied result ≡ fault_on number (desk_in self.now) }
+    {
+        match &self.broken {
+            Some(broken) => {
+                if broken.number == number {
+                    Some(&broken.fault)
+                } else {
+                    None
+                }
+            }
+            None => None,
         }
     }
 

@@ -9,6 +9,7 @@ ghost use Rattle.tds_relay.specs.Desk.{Desk, Event, desk_after, new_desk, turn, 
 ghost use Rattle.tds_relay.specs.Promises.{CaresFor, Each, IsAmong, IsHandedTo, LendsClean, LendsFirst};
 ghost use Rattle.tds_relay.specs.Promises.{NoneAstray, SaysOnce, TakesOne, comes_to_wait};
 ghost use Rattle.tds_front.specs.Exchanges.{place_after};
+ghost use Rattle.tds_front.specs.declared.fault.FrontFault.{FrontFault};
 ghost use Rattle.tds_front.specs.Serving.{IsLawful, Ready};
 ghost use Rattle.tds_front.specs.Passing.{EndsWhole, behind, towards};
 ghost use Rattle.tds_front.specs.declared.stage.Stage.TheVariants as stages;
@@ -20,6 +21,8 @@ ghost use Rattle.tds_relay.specs.Bounds.{waiting_in};
 ghost use Rattle.tds_relay.specs.declared.application.Application.{Application};
 ghost use Rattle.tds_relay.specs.declared.link.Link.{Link};
 ghost use Rattle.tds_relay.specs.declared.outgoing.Outgoing.{Outgoing};
+ghost use Rattle.tds_listen.specs.declared.fault.ListenFault.{ListenFault};
+ghost use Rattle.tds_relay.specs.Faults.{IsMet, IsMetOn};
 ghost use Rattle.tds_relay.specs.Fronting.{AnswersOnce, done_on, happened};
 ghost use Rattle.tds_relay.specs.Fronts.{house_in};
 ghost use Rattle.tds_relay.specs.Giving.{AreSaid, Gives, IsFrontOf, IsKept, ServersAnswerOnce, StaysAll};
@@ -186,8 +189,8 @@ pub fn request_goes_on(relay: &mut Relay, key: usize, said: &[u8]) -> Result<(),
 /// behind the others while its request waits, or put by the client of the connection that the application holds, and
 /// what goes out by that waits there, behind what waited; where the last of it has come, the end is put behind it.
 /// Before each piece and behind the last one a request that waits may be asked: then all that was kept of it is put
-/// so, once, by a client that begins a request of its kind. What is forgotten is nowhere then. Or the application is to
-/// be closed.
+/// so, once, by a client that begins a request of its kind. What is forgotten is nowhere then. By an attention that is
+/// handed on, what its client puts out for it waits there, once. Or the application is to be closed.
 pub fn body_goes_on(relay: &mut Relay, key: usize, said: &[u8]) -> Result<(), NoMemory>
     ensures { IsReached (desk_in relay.old.desk) → OnOk result (Carries key (house_in relay.old)
         said.now [] (body_of key relay.old) (body_of key relay.new) (house_in relay.new)) }
@@ -342,6 +345,14 @@ pub fn keeps_session()
 /// A relay's mode is what it was as it was made: no move changes it.
 pub fn keeps_mode()
     ensures { (h : Hall) (moves : List Move) → (moved_all h moves).desk.mode ≡ h.desk.mode }
+{}
+
+/// What is told of why an application is to be closed, or a connection, was met in a step of these, or before them.
+pub fn faults_are_met()
+    ensures application { (key : ℕ) (fault : FrontFault) (h : House) (steps : List Step)
+        → MayAll h steps → IsMet key fault h steps }
+    ensures connection { (number : ℕ) (fault : ListenFault) (h : House) (steps : List Step)
+        → MayAll h steps → IsMetOn number fault h steps }
 {}
 
 /// What goes out on a connection while it is open, and then what waits there, are what waited and what was put there, in

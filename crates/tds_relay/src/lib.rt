@@ -8,6 +8,7 @@
 
 mod application;
 mod desk;
+mod fault;
 pub mod laws;
 mod link;
 mod links;

@@ -6,7 +6,7 @@ use crate::NoMemory;
 use crate::link::Link;
 
 /// Where the connection of this number is among these.
-#[tactic(auto, using(crate::proofs::steps::Staying::within_is))]
+#[tactic(auto, using(crate::proofs::steps::Placed::within_is))]
 pub(crate) fn place_in(links: &[Link], number: u64) -> Option<usize>
     ensures is { result ≡ place_of number links.now }
     ensures within { IfSome result (λ place. place < length links.now) }

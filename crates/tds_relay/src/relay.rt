@@ -1,20 +1,19 @@
 //! The relay: who is there, and what whoever carries its bytes asks of it.
-ghost use Rattle.std.specs.Prelude.{◌≡◌, ◌≢◌, ◌+◌, ◌-◌, ◌≤◌, [], ℕ, Bool, IfOk, IfSome, None, OnOk, Some};
-ghost use Rattle.std.specs.Prelude.{drop, false, length, option_copied, option_map, true, vec_len};
+ghost use Rattle.std.specs.Prelude.{◌≡◌, ◌-◌, ◌≤◌, [], ℕ, Bool, IfOk, IfSome, None, OnOk, Some, false, length};
+ghost use Rattle.std.specs.Prelude.{option_copied, true, vec_len};
 ghost use Rattle.slab.specs.Slab.{get, slab_len};
 ghost use Rattle.tds_relay.specs.Asking.{IsUnderway};
-ghost use Rattle.tds_relay.specs.Bodies.{AskAsBefore, AskOn, body_of};
-ghost use Rattle.tds_relay.specs.Bounds.{most_for, waiting_for};
+ghost use Rattle.tds_relay.specs.Bodies.{AskAsBefore, body_of};
+ghost use Rattle.tds_relay.specs.Bounds.{waiting_for};
 ghost use Rattle.tds_relay.specs.Desk.{find_key, find_number, key_of, new_desk};
-ghost use Rattle.tds_relay.specs.Fronts.{Moved, MovedOn, ends_in, hall_in, house_in};
-ghost use Rattle.tds_relay.specs.Hall.{HasNoTransaction, IfOpen, IsAway, IsHere, MayPart, change_end, end_at, lets_go};
+ghost use Rattle.tds_relay.specs.Fronts.{Moved, ends_in, hall_in, house_in};
+ghost use Rattle.tds_relay.specs.Hall.{HasNoTransaction, IfOpen, IsAway, IsHere, MayPart, change_end, end_at};
+ghost use Rattle.tds_relay.specs.Hall.{lets_go};
 ghost use Rattle.tds_relay.specs.House.{Steps, new_house};
-ghost use Rattle.tds_relay.specs.Posts.{Enters, change, posts_in, unsent_of, without_first};
-ghost use Rattle.tds_relay.specs.Law.{waiting_on};
-ghost use Rattle.tds_relay.specs.Reads.{Sees, Stays, link_at, waits_on};
-ghost use Rattle.tds_relay.specs.Sparing.{AllRest, OthersRest, SendsOn};
-ghost use Rattle.tds_relay.specs.Ties.{Cause, CausesRequest, Goes, GoesOn, IsReached, Neither};
-ghost use Rattle.tds_relay.specs.Ties.{desk_in};
+ghost use Rattle.tds_relay.specs.Posts.{Enters, posts_in};
+ghost use Rattle.tds_relay.specs.Reads.{link_at};
+ghost use Rattle.tds_relay.specs.Sparing.{OthersRest};
+ghost use Rattle.tds_relay.specs.Ties.{Cause, CausesRequest, Goes, Neither, desk_in};
 ghost use Rattle.tds_relay.specs.Walkers.{AllStand, IsUnread};
 ghost use Rattle.tds_relay.specs.declared.application.Application.{Application};
 ghost use Rattle.tds_relay.specs.declared.link.TheConstants.{COLUMNS};
@@ -26,13 +25,16 @@ mod leaving;
 mod lending;
 mod places;
 mod putting;
+mod resuming;
+mod sending;
 mod stopping;
 
 use crate::NoMemory;
 use crate::application::Application;
 use crate::desk::{Desk, Mode};
+use crate::fault::Refused;
 use crate::link::Link;
-use crate::links::{forget_sent, place_in};
+use crate::links::place_in;
 use crate::order::Order;
 use crate::outgoing::{BESIDE, PIECE};
 pub use places::{Counts, Place, PlaceOn};
@@ -60,6 +62,8 @@ pub struct Relay {
     /// Where the desk puts what is to be sent on a connection.
     outbox: Vec<u8>,
     counts: Counts,
+    /// The last connection that is closed for the header of a packet.
+    refused: Option<Refused>,
 }
 
 impl Relay {
@@ -87,6 +91,7 @@ impl Relay {
             orders: Vec::new(alloc),
             outbox: Vec::new(alloc),
             counts: Counts::none(),
+            refused: None,
         })
     }
 
@@ -180,80 +185,6 @@ impl Relay {
         } else {
             room
         }
-    }
-
-    /// What is to be sent to an application.
-    pub fn unsent(&self, key: usize) -> &[u8]
-        ensures bounded { length result.now ≤ most_for (get self.now.applications key) }
-        ensures is { result.now ≡ unsent_of (get self.now.applications key) }
-    {
-        match self.applications.get(key) {
-            Some(application) => application.out.unsent(),
-            None => &[],
-        }
-    }
-
-    /// What is to be sent on a connection.
-    pub fn unsent_on(&self, number: u64) -> &[u8]
-        ensures bounded { length result.now ≤ 32767 + PIECE }
-        ensures is { result.now ≡ waiting_on number self.now.links.items }
-    {
-        match self.link(number) {
-            Some(link) => link.out.unsent(),
-            None => &[],
-        }
-    }
-
-    /// So many bytes of that were sent. Answers the tag of the connection that it holds, which may be read
-    /// again.
-    pub fn sent(&mut self, key: usize, count: usize) -> Option<usize>
-        ensures desk { self.new.desk ≡ self.old.desk }
-        ensures sent { posts_in self.new.applications
-            ≡ change key (without_first count) (posts_in self.old.applications) }
-        ensures ends { ends_in self.new.applications ≡ ends_in self.old.applications }
-        ensures steps { Steps Neither (house_in self.old) (house_in self.new) }
-        ensures links { self.new.links.items ≡ self.old.links.items }
-        ensures rest { AllRest self.old self.new }
-    {
-        self.forget_sent(key, count);
-        let hold = self.desk.hold_of(key)?;
-        self.link(hold.number)?.tag
-    }
-
-    /// So many bytes wait for an application no more.
-    #[tactic(auto, using(crate::proofs::steps::Posting::posts_changed, crate::proofs::steps::Posting::posts_nobody))]
-    fn forget_sent(&mut self, key: usize, count: usize)
-        ensures desk { self.new.desk ≡ self.old.desk }
-        ensures sent { posts_in self.new.applications
-            ≡ change key (without_first count) (posts_in self.old.applications) }
-        ensures ends { ends_in self.new.applications ≡ ends_in self.old.applications }
-        ensures links { self.new.links.items ≡ self.old.links.items }
-        ensures asks { AskAsBefore self.old.applications self.new.applications }
-    {
-        match self.applications.get_mut(key) {
-            Some(application) => application.out.sent(count),
-            None => {}
-        }
-    }
-
-    /// So many bytes of that were sent. Answers the tag of the application that holds it, which may be read
-    /// again.
-    pub fn sent_on(&mut self, number: u64, count: usize) -> Option<usize>
-        ensures desk { self.new.desk ≡ self.old.desk }
-        ensures kept { posts_in self.new.applications ≡ posts_in self.old.applications }
-        ensures ends { ends_in self.new.applications ≡ ends_in self.old.applications }
-        ensures read { Sees self.old.links.items self.new.links.items }
-        ensures sent { waits_on number self.new.links.items
-            ≡ option_map (drop count) (waits_on number self.old.links.items) }
-        ensures others { (other : ℕ) → other ≢ number
-            → waits_on other self.new.links.items ≡ waits_on other self.old.links.items }
-        ensures same { self.new.applications ≡ self.old.applications }
-    {
-        if !forget_sent(&mut self.links, number, count) {
-            return None;
-        }
-        let key = self.desk.key_on(number)?;
-        Some(self.applications.get(key)?.tag)
     }
 
     /// How many applications there are.
@@ -365,65 +296,6 @@ impl Relay {
         match self.desk.hold_of(key) {
             Some(_) => false,
             None => !self.desk.waits(key),
-        }
-    }
-
-    /// What the desk has to send on a connection waits there. One for which more would wait than may is
-    /// closed.
-    fn send_on(&mut self, number: u64) -> Result<(), NoMemory>
-        ensures goes { OnOk result (GoesOn (desk_in self.old.desk) (desk_in self.new.desk)) }
-        ensures kept { OnOk result (posts_in self.new.applications
-            ≡ posts_in self.old.applications) }
-        ensures moves { OnOk result (MovedOn (hall_in self.old) (hall_in self.new)) }
-        ensures read { OnOk result (Stays self.old.links.items self.new.links.items) }
-        ensures stand { OnOk result (AllStand self.old.desk.service
-            self.new.desk.service) }
-        ensures asks { OnOk result (AskOn self.old.applications self.new.applications) }
-        ensures sends { IsReached (desk_in self.old.desk)
-            → OnOk result (SendsOn number self.old self.new) }
-    {
-        let fits = self.fits_on(number)?;
-        if fits { Ok(()) } else { self.lose(number) }
-    }
-
-    /// Something is to be sent to an application. One for which more would wait than may is closed.
-    fn order_write(&mut self, key: usize) -> Result<(), NoMemory>
-        ensures desk { self.new.desk ≡ self.old.desk }
-        ensures kept { OnOk result (posts_in self.new.applications
-            ≡ posts_in self.old.applications) }
-        ensures moves { OnOk result (MovedOn (hall_in self.old) (hall_in self.new)) }
-        ensures links { OnOk result (self.new.links.items ≡ self.old.links.items) }
-        ensures asks { OnOk result (AskOn self.old.applications self.new.applications) }
-    {
-        let Some(application) = self.applications.get(key) else {
-            return Ok(());
-        };
-        if application.out.is_full() {
-            return self.end(key);
-        }
-        self.orders.push(Order::Write(application.tag))?;
-        Ok(())
-    }
-
-    /// Something is to be sent on a connection.
-    fn order_write_on(&mut self, number: u64) -> Result<(), NoMemory>
-        ensures desk { self.new.desk ≡ self.old.desk }
-        ensures kept { OnOk result (posts_in self.new.applications
-            ≡ posts_in self.old.applications) }
-        ensures ends { OnOk result (ends_in self.new.applications
-            ≡ ends_in self.old.applications) }
-        ensures links { OnOk result (self.new.links.items ≡ self.old.links.items) }
-        ensures asks { OnOk result (AskAsBefore self.old.applications self.new.applications) }
-    {
-        let Some(link) = self.link(number) else {
-            return Ok(());
-        };
-        match link.tag {
-            Some(tag) => {
-                self.orders.push(Order::Write(tag))?;
-                Ok(())
-            }
-            None => Ok(()),
         }
     }
 

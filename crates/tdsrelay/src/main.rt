@@ -2,16 +2,23 @@
 //! have. One thread.
 #![tactic(auto)]
 
-mod group;
-mod house;
-mod link;
-mod socket;
+mod changing;
+mod lines;
+mod program;
+mod telling;
+mod turns;
+mod watching;
 
-use house::House;
-use relay_settings::{Asked, RelayFault, read_words};
+use program::Program;
+use relay_settings::{Asked, MOST_SERVERS, RelayFault, Servers, SystemError, read_words};
 use std::env;
 use std::io::{self, Stderr};
+use std::net::TcpStream;
 use std::process::ExitCode;
+use std::time::Duration;
+
+/// For how many milliseconds each server is waited for at the start.
+const PATIENCE: u64 = 500;
 
 fn main(rt: HostRuntime) -> ExitCode {
     match run(&rt) {
@@ -38,23 +45,27 @@ fn answer(rt: &HostRuntime, fault: &RelayFault) -> u8 {
 fn run(rt: &HostRuntime) -> Result<(), RelayFault> {
     let words = given_words(rt).map_err(RelayFault::of_words)?;
     let asked = read_words(rt, rt.alloc(), words.as_slice())?;
-    let mut house = match House::new(rt, rt.alloc(), words, asked, rt.stderr()) {
-        Ok(house) => house,
-        Err(error) => return Err(RelayFault::Listen(asked.listen, error)),
+    let mut program = match Program::new(rt, rt.alloc(), words, asked, rt.stderr()) {
+        Ok(program) => program,
+        Err(error) => return Err(RelayFault::of_listener(asked.listen, error)),
     };
-    prepare(rt, &mut house, asked)?;
-    serve(rt, &mut house, asked)
+    prepare(rt, &mut program, asked)?;
+    serve(rt, &mut program, asked)
 }
 
 /// What it ends with, and where it tells what it does.
-fn prepare(rt: &HostRuntime, house: &mut House<Stderr>, asked: Asked) -> Result<(), RelayFault> {
+fn prepare(
+    rt: &HostRuntime,
+    program: &mut Program<Stderr>,
+    asked: Asked,
+) -> Result<(), RelayFault> {
     if asked.ends_with_input {
-        house.end_with_input().map_err(RelayFault::Input)?;
+        program.end_with_input().map_err(RelayFault::of_input)?;
     }
     if let Some(stats) = asked.stats {
-        let at = match house.tell_at(rt, stats) {
+        let at = match program.tell_at(rt, stats) {
             Ok(at) => at,
-            Err(error) => return Err(RelayFault::Listen(stats, error)),
+            Err(error) => return Err(RelayFault::of_listener(stats, error)),
         };
         let _ = eprintln!(rt; "telling at {at}");
     }
@@ -62,14 +73,28 @@ fn prepare(rt: &HostRuntime, house: &mut House<Stderr>, asked: Asked) -> Result<
 }
 
 /// Says where it serves, serves, and says how many applications it closed in the middle once it ends.
-fn serve(rt: &HostRuntime, house: &mut House<Stderr>, asked: Asked) -> Result<(), RelayFault> {
-    let address = house.address().map_err(RelayFault::Refused)?;
+fn serve(rt: &HostRuntime, program: &mut Program<Stderr>, asked: Asked) -> Result<(), RelayFault> {
+    let address = program.address().map_err(RelayFault::of_system)?;
     if let Some(server) = asked.servers.at(0) {
         let _ = eprintln!(rt; "relaying {address} to {server}");
     }
-    let open = house.serve(rt).map_err(RelayFault::Refused)?;
+    look_at_servers(rt, asked.servers);
+    let open = program.serve(rt).map_err(RelayFault::of_system)?;
     let _ = eprintln!(rt; "ended: applications {open}");
     Ok(())
+}
+
+/// Says which servers take no connection now. It serves all the same: each login dials anew.
+fn look_at_servers(rt: &HostRuntime, servers: Servers) {
+    let patience = Duration::from_millis(PATIENCE);
+    for place in 0..MOST_SERVERS {
+        if let Some(server) = servers.at(place) {
+            if let Err(error) = TcpStream::connect_timeout(rt, &server, patience) {
+                let error = SystemError::new(error);
+                let _ = eprintln!(rt; "server {server} takes no connection now: {error}");
+            }
+        }
+    }
 }
 
 /// The words of the command line, the program's name too.

@@ -9,7 +9,6 @@ mod line;
 mod packets;
 mod picture;
 mod table;
-mod texts;
 mod watch;
 mod words;
 

@@ -3,7 +3,7 @@
 use crate::drawn::Drawn;
 use crate::packets::{Packet, Says};
 use crate::table::put_finding;
-use crate::texts::word_of;
+use judge_words::word_of;
 use std::alloc::{AllocError, Global};
 use std::io;
 use tds_judge::{Direction, Finding};

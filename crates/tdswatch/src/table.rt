@@ -1,7 +1,7 @@
 //! What is printed.
 
-use crate::texts::{level_text, section_of, sentence_of, word_of};
 use crate::watch::{Row, Watch};
+use judge_words::{level_text, section_of, sentence_of, word_of};
 use std::alloc::AllocError;
 use std::fmt::Write;
 use std::io;

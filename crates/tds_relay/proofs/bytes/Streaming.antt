@@ -22,7 +22,8 @@ use Rattle.tds_relay.specs.Walkers.{AllStand, ReadsBy as WalksBy, ReadsOn, Walks
 use Rattle.tds_relay.proofs.bytes.Rereading.{walks_both, walks_hands, walks_makes, walks_none, walks_on}
 use Rattle.tds_relay.proofs.steps.Fronts.{each_both, no_moves}
 use Rattle.tds_relay.proofs.steps.Handed.{may_hand}
-use Rattle.tds_relay.proofs.steps.Staying.{IsAt, gone_open, is_at, is_nowhere, is_open_at, is_shut_at, stays_opens}
+use Rattle.tds_relay.proofs.steps.Placed.{IsAt, is_at, is_nowhere, is_open_at, is_shut_at}
+use Rattle.tds_relay.proofs.steps.Staying.{gone_open, stays_opens}
 use Rattle.tds_relay.proofs.steps.Stepping.{after_both, after_makes, caused_makes, makes_all, may_both, may_makes}
 use Rattle.tds_relay.proofs.bytes.Taking.{reads_gone, reads_less, reads_nothing, reads_packet, reads_stays}
 

@@ -59,8 +59,8 @@ module _ (max key : ℕ) (alone : Alone) (by : ByHistory) (judges : Judging) whe
       → Then max key events h stage p es
       → ((front : Front) (w : Bool) → (s : Stands max key events h front w) → Lawful s.place front.stage (passed key h moves)) → Lawful p stage (es ++ passed key h moves)
   lawful_next events h moves p stage es may stays one (Goes front w s leads) rest = lawful_more stage front.stage p s.place es (passed key h moves) leads one (rest front w s)
-  lawful_next events h moves p stage es may stays one (IsOver is) rest =
-      let none : passed key h moves ≡ [] = over_silent key h moves is may stays in
+  lawful_next events h moves p stage es may stays one (IsOver why is) rest =
+      let none : passed key h moves ≡ [] = over_silent why key h moves is may stays in
       let all : es ≡ es ++ passed key h moves = sym (append-nil es) ∙ ap (λ (xs : List Passed). es ++ xs) (sym none) in
       subst (λ (xs : List Passed). Lawful p stage xs) all one
 

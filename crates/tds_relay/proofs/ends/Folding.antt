@@ -11,6 +11,7 @@ use Rattle.tds_front.specs.Passing.{Event as Passed, behind, judged}
 use Rattle.tds_front.specs.Rules as rules
 use Rattle.tds_front.specs.Serving.{Place, Ready, IsLawful, behind_brought}
 use Rattle.tds_front.specs.Serving as serving
+use Rattle.tds_front.specs.declared.fault.FrontFault.{FrontFault}
 use Rattle.tds_service.specs.Line as line
 use Rattle.tds_service.specs.Line.{Line, Packet, new_line}
 use Rattle.tds_service.specs.History.{Done, acts_of, history, line_after}
@@ -149,17 +150,17 @@ may_each h (x ∷ xs) ys may = let more = may_each (moved h x) xs ys may.1 in ((
 
 next_place : (outs : ℕ → Bool) (d : Desk) (key : ℕ) (p : Place) (es : List Passed) (stage : Stage) (end : End) → Told outs d key stage p es end → (q : Place) × StoryOf outs d key q (Some end)
 next_place outs d key p es stage (Open front w asks) next = (next.place, next.standing)
-next_place outs d key p es stage Over next = (p, next)
+next_place outs d key p es stage (Over why) next = (p, next)
 
 pub step_story : (outs : ℕ → Bool) (d : Desk) (key : ℕ) (p : Place) (es : List Passed) (o o2 : Option End) → StepOf outs d key p es o o2 → (q : Place) × StoryOf outs d key q o2
 step_story outs d key p es None None s = (p, s)
 step_story outs d key p es None (Some (Open front w asks)) s = (Ready, s.0)
-step_story outs d key p es None (Some Over) s = absurd s
+step_story outs d key p es None (Some (Over why)) s = absurd s
 step_story outs d key p es (Some (Open front w asks)) None s = (p, s)
 step_story outs d key p es (Some (Open front w asks)) (Some end) s = next_place outs d key p es front.stage end s
-step_story outs d key p es (Some Over) None s = (p, s)
-step_story outs d key p es (Some Over) (Some (Open front w asks)) s = absurd s
-step_story outs d key p es (Some Over) (Some Over) s = (p, s)
+step_story outs d key p es (Some (Over why)) None s = (p, s)
+step_story outs d key p es (Some (Over why)) (Some (Open front w asks)) s = absurd s
+step_story outs d key p es (Some (Over was)) (Some (Over why)) s = (p, s)
 
 -- ---- What passes, by the end as it was
 
@@ -185,35 +186,35 @@ whose_nothing : (key : ℕ) (who : Option ℕ) → Rattle.tds_relay.specs.Behind
 whose_nothing key None = refl
 whose_nothing key (Some k) = if_nothing (k == key)
 
-over_passes : (key : ℕ) (h : Hall) (move : Move) → passes_by key h move (Some Over) ≡ []
-over_passes key h (hall.Does event) = refl
-over_passes key h (hall.Sends k deed) = if_nothing (k == key)
-over_passes key h (hall.LetsGo k gives way) = refl
-over_passes key h (hall.Loses n) = refl
-over_passes key h (hall.Replaces n) = refl
-over_passes key h (hall.Comes n part way) = whose_nothing key (whose h.desk n)
-over_passes key h (hall.Feeds k bytes) = if_nothing (k == key)
-over_passes key h (hall.Closes k) = refl
-over_passes key h (hall.Enters k ends) = refl
-over_passes key h (hall.Quits k gives way) = refl
+over_passes : (why : Option FrontFault) (key : ℕ) (h : Hall) (move : Move) → passes_by key h move (Some (Over why)) ≡ []
+over_passes why key h (hall.Does event) = refl
+over_passes why key h (hall.Sends k deed) = if_nothing (k == key)
+over_passes why key h (hall.LetsGo k gives way) = refl
+over_passes why key h (hall.Loses n) = refl
+over_passes why key h (hall.Replaces n) = refl
+over_passes why key h (hall.Comes n part way) = whose_nothing key (whose h.desk n)
+over_passes why key h (hall.Feeds k bytes) = if_nothing (k == key)
+over_passes why key h (hall.Closes k) = refl
+over_passes why key h (hall.Enters k ends) = refl
+over_passes why key h (hall.Quits k gives way) = refl
 
-goes_over : (ps : List Packet) → goes_on ps Over ≡ Over
-goes_over [] = refl
-goes_over (p ∷ ps) = refl
+goes_over : (why : Option FrontFault) (ps : List Packet) → goes_on ps (Over why) ≡ Over why
+goes_over why [] = refl
+goes_over why (p ∷ ps) = refl
 
-told_over : (what : Rattle.tds_relay.specs.declared.desk.coming.What.What) → told what Over ≡ Over
-told_over Rattle.tds_relay.specs.declared.desk.coming.What.TheVariants.Goes = refl
-told_over Rattle.tds_relay.specs.declared.desk.coming.What.TheVariants.Finished = refl
-told_over Rattle.tds_relay.specs.declared.desk.coming.What.TheVariants.Acknowledged = refl
-told_over Rattle.tds_relay.specs.declared.desk.coming.What.TheVariants.Closed = refl
+told_over : (why : Option FrontFault) (what : Rattle.tds_relay.specs.declared.desk.coming.What.What) → told what (Over why) ≡ Over why
+told_over why Rattle.tds_relay.specs.declared.desk.coming.What.TheVariants.Goes = refl
+told_over why Rattle.tds_relay.specs.declared.desk.coming.What.TheVariants.Finished = refl
+told_over why Rattle.tds_relay.specs.declared.desk.coming.What.TheVariants.Acknowledged = refl
+told_over why Rattle.tds_relay.specs.declared.desk.coming.What.TheVariants.Closed = refl
 
-if_over : (b : Bool) (by : End → End) → by Over ≡ Over → (if b then option_map by (Some Over) else Some Over) ≡ Some Over
-if_over true by e = ap (λ (x : End). Some x) e
-if_over false by e = refl
+if_over : (why : Option FrontFault) (b : Bool) (by : End → End) → by (Over why) ≡ Over why → (if b then option_map by (Some (Over why)) else Some (Over why)) ≡ Some (Over why)
+if_over why true by e = ap (λ (x : End). Some x) e
+if_over why false by e = refl
 
-whose_over : (key : ℕ) (who : Option ℕ) (by : End → End) → by Over ≡ Over → whose_by key who by (Some Over) ≡ Some Over
-whose_over key None by e = refl
-whose_over key (Some k) by e = if_over (k == key) by e
+whose_over : (why : Option FrontFault) (key : ℕ) (who : Option ℕ) (by : End → End) → by (Over why) ≡ Over why → whose_by key who by (Some (Over why)) ≡ Some (Over why)
+whose_over why key None by e = refl
+whose_over why key (Some k) by e = if_over why (k == key) by e
 
 quits_not : (key k : ℕ) (b : Bool) (o : Option End) → (k == key) ≡ b → key ≢ k → (if b then None else o) ≡ o
 quits_not key k true o e not = absurd (not (sym (eqb-true k key e)))
@@ -222,29 +223,29 @@ quits_not key k false o e not = refl
 entered_same : (key k : ℕ) (h : Hall) (ends : Ends) → hall.HasEntered k h.ends ends → key ≢ k → end_at ends key ≡ end_at h.ends key
 entered_same key k h ends entered not = entered.others_stay key not
 
-pub stays_over : (key : ℕ) (h : Hall) (move : Move) → MayMove h move → StaysIn key move → end_at h.ends key ≡ Some Over → end_by key h move (end_at h.ends key) ≡ Some Over
-stays_over key h (hall.Does event) may stays e = e
-stays_over key h (hall.Sends k deed) may stays e =
-    ap (λ (o : Option End). if k == key then option_map (goes_on (sent_by h.desk (desk.Does k deed))) o else o) e ∙ if_over (k == key) (goes_on (sent_by h.desk (desk.Does k deed))) (goes_over (sent_by h.desk (desk.Does k deed)))
-stays_over key h (hall.LetsGo k gives way) may stays e = ap (λ (o : Option End). if k == key then option_map lets_go o else o) e ∙ if_over (k == key) lets_go refl
-stays_over key h (hall.Loses n) may stays e =
-    ap (λ (o : Option End). whose_by key (holder h.desk n) closes o) e ∙ whose_over key (holder h.desk n) closes refl
-stays_over key h (hall.Replaces n) may stays e =
-    ap (λ (o : Option End). whose_by key (holder h.desk n) lets_go o) e ∙ whose_over key (holder h.desk n) lets_go refl
-stays_over key h (hall.Comes n part way) may stays e =
+pub stays_over : (why : Option FrontFault) (key : ℕ) (h : Hall) (move : Move) → MayMove h move → StaysIn key move → end_at h.ends key ≡ Some (Over why) → end_by key h move (end_at h.ends key) ≡ Some (Over why)
+stays_over why key h (hall.Does event) may stays e = e
+stays_over why key h (hall.Sends k deed) may stays e =
+    ap (λ (o : Option End). if k == key then option_map (goes_on (sent_by h.desk (desk.Does k deed))) o else o) e ∙ if_over why (k == key) (goes_on (sent_by h.desk (desk.Does k deed))) (goes_over why (sent_by h.desk (desk.Does k deed)))
+stays_over why key h (hall.LetsGo k gives way) may stays e = ap (λ (o : Option End). if k == key then option_map lets_go o else o) e ∙ if_over why (k == key) lets_go refl
+stays_over why key h (hall.Loses n) may stays e =
+    ap (λ (o : Option End). whose_by key (holder h.desk n) closes o) e ∙ whose_over why key (holder h.desk n) closes refl
+stays_over why key h (hall.Replaces n) may stays e =
+    ap (λ (o : Option End). whose_by key (holder h.desk n) lets_go o) e ∙ whose_over why key (holder h.desk n) lets_go refl
+stays_over why key h (hall.Comes n part way) may stays e =
     let by : End → End = told (what_in (done_by h.desk n part)) in
-    ap (λ (o : Option End). whose_by key (whose h.desk n) by o) e ∙ whose_over key (whose h.desk n) by (told_over (what_in (done_by h.desk n part)))
-stays_over key h (hall.Feeds k bytes) may stays e = ap (λ (o : Option End). if k == key then option_map (feeds bytes) o else o) e ∙ if_over (k == key) (feeds bytes) refl
-stays_over key h (hall.Closes k) may stays e = ap (λ (o : Option End). if k == key then option_map closes o else o) e ∙ if_over (k == key) closes refl
-stays_over key h (hall.Enters k ends) may stays e = entered_same key k h ends may stays ∙ e
-stays_over key h (hall.Quits k gives way) may stays e = quits_not key k (k == key) (end_at h.ends key) refl stays ∙ e
+    ap (λ (o : Option End). whose_by key (whose h.desk n) by o) e ∙ whose_over why key (whose h.desk n) by (told_over why (what_in (done_by h.desk n part)))
+stays_over why key h (hall.Feeds k bytes) may stays e = ap (λ (o : Option End). if k == key then option_map (feeds bytes) o else o) e ∙ if_over why (k == key) (feeds bytes) refl
+stays_over why key h (hall.Closes k) may stays e = ap (λ (o : Option End). if k == key then option_map closes o else o) e ∙ if_over why (k == key) closes refl
+stays_over why key h (hall.Enters k ends) may stays e = entered_same key k h ends may stays ∙ e
+stays_over why key h (hall.Quits k gives way) may stays e = quits_not key k (k == key) (end_at h.ends key) refl stays ∙ e
 
-pub over_silent : (key : ℕ) (h : Hall) (moves : List Move) → end_at h.ends key ≡ Some Over → MayMoveAll h moves → Stays key moves → passed key h moves ≡ []
-over_silent key h [] e may stays = refl
-over_silent key h (move ∷ moves) e may stays =
-    let none : passes key h move ≡ [] = sym (passes_is key h move) ∙ ap (passes_by key h move) e ∙ over_passes key h move in
-    let next : end_at (moved h move).ends key ≡ Some Over = end_behind_is key h move ∙ stays_over key h move may.0 stays.0 e in
-    ap (λ (es : List Passed). es ++ passed key (moved h move) moves) none ∙ over_silent key (moved h move) moves next may.1 stays.1
+pub over_silent : (why : Option FrontFault) (key : ℕ) (h : Hall) (moves : List Move) → end_at h.ends key ≡ Some (Over why) → MayMoveAll h moves → Stays key moves → passed key h moves ≡ []
+over_silent why key h [] e may stays = refl
+over_silent why key h (move ∷ moves) e may stays =
+    let none : passes key h move ≡ [] = sym (passes_is key h move) ∙ ap (passes_by key h move) e ∙ over_passes why key h move in
+    let next : end_at (moved h move).ends key ≡ Some (Over why) = end_behind_is key h move ∙ stays_over why key h move may.0 stays.0 e in
+    ap (λ (es : List Passed). es ++ passed key (moved h move) moves) none ∙ over_silent why key (moved h move) moves next may.1 stays.1
 
 -- one that is there stays there
 abbrev Is : Option End → Type 0

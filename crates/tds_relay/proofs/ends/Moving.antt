@@ -41,12 +41,12 @@ module _ (d : Desk) (key : ℕ) (outs outs2 : ℕ → Bool) (sound : Sound d) (s
   still_step : (p : Place) (o : Option End) → StoryOf outs d key p o → Still → StepOf outs2 d key p [] o o
   still_step p None s still = s
   still_step p (Some (Open front w asks)) s still = stays_next outs2 d key front.stage w p (same_outs front.stage w p still s)
-  still_step p (Some Over) s still = s
+  still_step p (Some (Over why)) s still = s
 
   closes_step : (p : Place) (o : Option End) → StoryOf outs d key p o → StepOf outs2 d key p [] o (option_map closes o)
   closes_step p None s = s
   closes_step p (Some (Open front w asks)) s = at_desk outs d key front.stage w p s
-  closes_step p (Some Over) s = s
+  closes_step p (Some (Over why)) s = s
 
   closes_if : (k : ℕ) (b : Bool) (p : Place) (o : Option End) → (k == key) ≡ b → StoryOf outs d key p o → Still → StepOf outs2 d key p [] o (if b then option_map closes o else o)
   closes_if k true p o e s still = closes_step p o s
@@ -84,7 +84,7 @@ module _ (d : Desk) (key : ℕ) (outs outs2 : ℕ → Bool) (sound : Sound d) (s
   feeds_step bytes p (Some (Open front w asks)) s judges known leaves =
       let j = judges front bytes in
       fed_next d key outs outs2 sound sit (stops_by (fed front bytes).brings) front.stage (fed front bytes).front w asks p (judged front.due bytes) (fed front bytes).brings refl j.0 j.1 known leaves s
-  feeds_step bytes p (Some Over) s judges known leaves = s
+  feeds_step bytes p (Some (Over why)) s judges known leaves = s
 
   append_calls : (xs : List (Call Token)) → xs ++ [] ≡ xs
   append_calls [] = refl

@@ -150,7 +150,7 @@ module _ (d : Desk) (key : ℕ) (sound : Sound d) (sit : AllSit d) where
 -- what an end is then
 abbrev pub Told : (ℕ → Bool) → Desk → ℕ → Stage → Place → List Passed → End → Type 0
 Told outs d key stage p es (Open front w asks) = Next outs d key stage p es front.stage w
-Told outs d key stage p es Over = AtDesk key d
+Told outs d key stage p es (Over why) = AtDesk key d
 
 module _ (d : Desk) (key : ℕ) (outs outs2 : ℕ → Bool) (sound : Sound d) (sit : AllSit d) where
   told_right : (k : HoldsOne key d) (part : Part Token) (way : Way) (stage : Stage) (p : Place) (es : List Passed) (end : End)
@@ -162,7 +162,7 @@ module _ (d : Desk) (key : ℕ) (outs outs2 : ℕ → Bool) (sound : Sound d) (s
     standing = inl (ours_hold d key outs outs2 sound sit (desk.Comes k.hold.number part way) k.hold k.seat (with_came k.seat part) (line.Come part ∷ []) front.stage w t.0 ours leaves t.1);
     leads = t.2;
   }
-  told_right k part way stage p es Over ours leaves t = inl (record { hold = k.hold; seat = with_came k.seat part; its = ours.its })
+  told_right k part way stage p es (Over why) ours leaves t = inl (record { hold = k.hold; seat = with_came k.seat part; its = ours.its })
 
   told_as : (k : HoldsOne key d) (part : Part Token) (way : Way) (front : Front) (w : Bool) (asks : Option Reset) (p : Place) → Tied front.stage w p k.seat.line.stage (outs k.hold.number)
       → Leaves d key outs outs2 sound sit (desk.Comes k.hold.number part way) → HeardAs k.seat.line.stage (is_end part.close) (turning k.seat.line (line.Come part))

@@ -23,7 +23,7 @@ use Rattle.tds_relay.proofs.ends.Tying.{Tied}
 
 abbrev pub EndTied : End → Stage → Place → List Event → line.Stage → Bool → Type 0
 EndTied (Open front w asks) stage p es l out = (q : Place) × Tied front.stage w q l out × Leads stage p es front.stage q
-EndTied Over stage p es l out = Unit {0}
+EndTied (Over why) stage p es l out = Unit {0}
 
 -- an end hears what its service answers
 abbrev EndHeard : Front → Bool → Option Reset → Place → Bool → Answer → line.Stage → Bool → Type 0

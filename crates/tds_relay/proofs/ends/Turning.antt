@@ -8,6 +8,7 @@ use Rattle.tds_front.specs.declared.front.Front.{Front}
 use Rattle.tds_front.specs.declared.stage.Stage.TheVariants as stages
 use Rattle.tds_front.specs.Passing.{Event as Passed}
 use Rattle.tds_front.specs.Serving.{Place, Ready}
+use Rattle.tds_front.specs.declared.fault.FrontFault.{FrontFault}
 use Rattle.tds_service.specs.Line.{Packet}
 use Rattle.tds_service.specs.Parts.{Part}
 use Rattle.tds_relay.specs.Desk as desk
@@ -30,17 +31,17 @@ use Rattle.tds_relay.proofs.ends.Ending.{whose_by}
 abbrev pub StoryOf : (ℕ → Bool) → Desk → ℕ → Place → Option End → Type 0
 StoryOf outs d key p None = Gone key d
 StoryOf outs d key p (Some (Open front w asks)) = Standing outs d key front.stage w p
-StoryOf outs d key p (Some Over) = AtDesk key d
+StoryOf outs d key p (Some (Over why)) = AtDesk key d
 
 abbrev pub StepOf : (ℕ → Bool) → Desk → ℕ → Place → List Passed → Option End → Option End → Type 0
 StepOf outs d key p es None None = Gone key d
 StepOf outs d key p es None (Some (Open front w asks)) = Standing outs d key front.stage w Ready × (front.stage ≡ stages.Quiet)
-StepOf outs d key p es None (Some Over) = ⊥
+StepOf outs d key p es None (Some (Over why)) = ⊥
 StepOf outs d key p es (Some (Open front w asks)) None = Gone key d
 StepOf outs d key p es (Some (Open front w asks)) (Some end) = Told outs d key front.stage p es end
-StepOf outs d key p es (Some Over) None = Gone key d
-StepOf outs d key p es (Some Over) (Some (Open front w asks)) = ⊥
-StepOf outs d key p es (Some Over) (Some Over) = AtDesk key d
+StepOf outs d key p es (Some (Over why)) None = Gone key d
+StepOf outs d key p es (Some (Over why)) (Some (Open front w asks)) = ⊥
+StepOf outs d key p es (Some (Over was)) (Some (Over why)) = AtDesk key d
 
 module _ (d : Desk) (key : ℕ) (outs outs2 : ℕ → Bool) (sound : Sound d) (sit : AllSit d) where
   abbrev Left : Event → Type 0
@@ -57,7 +58,7 @@ module _ (d : Desk) (key : ℕ) (outs outs2 : ℕ → Bool) (sound : Sound d) (s
   apart_step event p None s others once not left = stays_gone d key s event not
   apart_step event p (Some (Open front w asks)) s others once not left =
       stays_next outs2 (turn d event).desk key front.stage w p (apart_stands d key outs outs2 sound sit event front.stage w p s others once left)
-  apart_step event p (Some Over) s others once not left = desk_next d key sound sit event s once
+  apart_step event p (Some (Over why)) s others once not left = desk_next d key sound sit event s once
 
   -- ---- At the desk alone
 
@@ -69,11 +70,11 @@ module _ (d : Desk) (key : ℕ) (outs outs2 : ℕ → Bool) (sound : Sound d) (s
   waits_step p (Some (Open front w asks)) (inl k) away left = absurd (never_waits d key sound sit (record { hold = k.hold; seat = k.seat; its = k.its }) away.1)
   waits_step p (Some (Open front w asks)) (inr k) away left =
       stays_next outs2 (turn d (desk.Waits key)).desk key front.stage w p (lacks_stand d key outs outs2 sound sit (desk.Waits key) front.stage w p k (λ is. (away.1, away.2)))
-  waits_step p (Some Over) s away left = desk_next d key sound sit (desk.Waits key) s (λ is. (away.1, away.2))
+  waits_step p (Some (Over why)) s away left = desk_next d key sound sit (desk.Waits key) s (λ is. (away.1, away.2))
 
   deed_step : (deed : Deed) (p : Place) (o : Option End) → StoryOf outs d key p o → IsNotPut deed → MayDo deed o → Left (desk.Does key deed) → Behind (desk.Does key deed) p [] o o
   deed_step deed p None s not may left = stays_gone d key s (desk.Does key deed) tt
-  deed_step deed p (Some Over) s not may left = desk_next d key sound sit (desk.Does key deed) s tt
+  deed_step deed p (Some (Over why)) s not may left = desk_next d key sound sit (desk.Does key deed) s tt
   deed_step desk.Asks p (Some (Open front w asks)) s not may left =
       stays_next outs2 (turn d (desk.Does key desk.Asks)).desk key front.stage w p (asks_stand d key outs outs2 sound sit front.stage w p s left)
   deed_step desk.Stops p (Some (Open front w asks)) s not may left =
@@ -85,7 +86,7 @@ module _ (d : Desk) (key : ℕ) (outs outs2 : ℕ → Bool) (sound : Sound d) (s
   renews_step resumes p None s left = stays_gone d key s (desk.Renews key resumes) tt
   renews_step resumes p (Some (Open front w asks)) s left =
       stays_next outs2 (turn d (desk.Renews key resumes)).desk key front.stage w p (renews_stand d key outs outs2 sound sit resumes front.stage w p s left)
-  renews_step resumes p (Some Over) s left = desk_next d key sound sit (desk.Renews key resumes) s tt
+  renews_step resumes p (Some (Over why)) s left = desk_next d key sound sit (desk.Renews key resumes) s tt
 
   -- as of this application, or of another
   abbrev As : (ℕ → Event) → ℕ → Place → List Passed → Option End → Option End → Type 0
@@ -114,9 +115,9 @@ module _ (d : Desk) (key : ℕ) (outs outs2 : ℕ → Bool) (sound : Sound d) (s
 
   -- ---- Its request goes on
 
-  goes_over : (ps : List Packet) → Over ≡ goes_on ps Over
-  goes_over [] = refl
-  goes_over (p ∷ ps) = refl
+  goes_over : (why : Option FrontFault) (ps : List Packet) → Over why ≡ goes_on ps (Over why)
+  goes_over why [] = refl
+  goes_over why (p ∷ ps) = refl
 
   goes_open : (ps : List Packet) (front : Front) (w : Bool) (asks : Option Reset) → Open (record front { stage = went_by ps front.stage }) w asks ≡ goes_on ps (Open front w asks)
   goes_open [] front w asks = refl
@@ -131,8 +132,8 @@ module _ (d : Desk) (key : ℕ) (outs outs2 : ℕ → Bool) (sound : Sound d) (s
   sends_step : (deed : Deed) (p : Place) (o : Option End) → StoryOf outs d key p o → IsPut deed → MayDo deed o → Known d key outs outs2 sound sit → Left (desk.Does key deed)
       → Behind (desk.Does key deed) p (if_open o (λ front withdrawn. gone_on (sent_by d (desk.Does key deed)))) o (option_map (goes_on (sent_by d (desk.Does key deed))) o)
   sends_step deed p None s put may known left = stays_gone d key s (desk.Does key deed) tt
-  sends_step deed p (Some Over) s put may known left =
-      subst (λ (x : End). StepOf outs2 (turn d (desk.Does key deed)).desk key p [] (Some Over) (Some x)) (goes_over (sent_by d (desk.Does key deed))) (desk_next d key sound sit (desk.Does key deed) s tt)
+  sends_step deed p (Some (Over why)) s put may known left =
+      subst (λ (x : End). StepOf outs2 (turn d (desk.Does key deed)).desk key p [] (Some (Over why)) (Some x)) (goes_over why (sent_by d (desk.Does key deed))) (desk_next d key sound sit (desk.Does key deed) s tt)
   sends_step (desk.Puts count) p (Some (Open front w asks)) s put may known left =
       sent_step (desk.Puts count) front w asks p (puts_stand d key outs outs2 sound sit count front.stage w p s may known left)
   sends_step (desk.Ends count) p (Some (Open front w asks)) s put may known left =
@@ -157,7 +158,7 @@ module _ (d : Desk) (key : ℕ) (outs outs2 : ℕ → Bool) (sound : Sound d) (s
   lets_step gives way p None s may = stays_gone d key s (desk.Leaves key gives way) tt
   lets_step gives way p (Some (Open front w asks)) s may =
       stays_next outs2 (turn d (desk.Leaves key gives way)).desk key front.stage false p (lets_stand d key outs outs2 sound sit gives way front.stage w p s may)
-  lets_step gives way p (Some Over) s may = desk_next d key sound sit (desk.Leaves key gives way) s tt
+  lets_step gives way p (Some (Over why)) s may = desk_next d key sound sit (desk.Leaves key gives way) s tt
 
   pub lets_if : (k : ℕ) (gives : Bool) (way : Way) (b : Bool) (p : Place) (o : Option End) → (k == key) ≡ b → StoryOf outs d key p o → (k ≡ key → IfOpen IsHere o)
       → As (λ x. desk.Leaves x gives way) k p [] o (if b then option_map lets_go o else o)
@@ -168,18 +169,18 @@ module _ (d : Desk) (key : ℕ) (outs outs2 : ℕ → Bool) (sound : Sound d) (s
   unlost_step n p None s apart left = stays_gone d key s (desk.Loses n) tt
   unlost_step n p (Some (Open front w asks)) s apart left =
       stays_next outs2 (turn d (desk.Loses n)).desk key front.stage w p (unlost_stands d key outs outs2 sound sit n front.stage w p s apart left)
-  unlost_step n p (Some Over) s apart left = desk_next d key sound sit (desk.Loses n) s tt
+  unlost_step n p (Some (Over why)) s apart left = desk_next d key sound sit (desk.Loses n) s tt
 
   lost_step : (n : ℕ) (p : Place) (o : Option End) → StoryOf outs d key p o → Behind (desk.Loses n) p [] o (option_map closes o)
   lost_step n p None s = stays_gone d key s (desk.Loses n) tt
   lost_step n p (Some (Open front w asks)) s = desk_next d key sound sit (desk.Loses n) (at_desk outs d key front.stage w p s) tt
-  lost_step n p (Some Over) s = desk_next d key sound sit (desk.Loses n) s tt
+  lost_step n p (Some (Over why)) s = desk_next d key sound sit (desk.Loses n) s tt
 
   replaced_step : (n : ℕ) (p : Place) (o : Option End) → StoryOf outs d key p o → IfOpen IsHere o → holder d n ≡ Some key → Behind (desk.Loses n) p [] o (option_map lets_go o)
   replaced_step n p None s may mine = stays_gone d key s (desk.Loses n) tt
   replaced_step n p (Some (Open front w asks)) s may mine =
       stays_next outs2 (turn d (desk.Loses n)).desk key front.stage false p (replaced_stands d key outs outs2 sound sit n front.stage w p s may mine)
-  replaced_step n p (Some Over) s may mine = desk_next d key sound sit (desk.Loses n) s tt
+  replaced_step n p (Some (Over why)) s may mine = desk_next d key sound sit (desk.Loses n) s tt
 
   -- somebody's, who is this application or another
   not_some : (k : ℕ) (who : Option ℕ) → who ≡ Some k → (k == key) ≡ false → who ≡ Some key → ⊥
@@ -213,24 +214,24 @@ module _ (d : Desk) (key : ℕ) (outs outs2 : ℕ → Bool) (sound : Sound d) (s
   abbrev Heard : ℕ → Part Token → Option End → List Passed
   Heard n part o = if_open o (λ front withdrawn. unless_withdrawn withdrawn (said_in (done_by d n part)))
 
-  told_over : (what : Rattle.tds_relay.specs.declared.desk.coming.What.What) → Over ≡ told what Over
-  told_over Rattle.tds_relay.specs.declared.desk.coming.What.TheVariants.Goes = refl
-  told_over Rattle.tds_relay.specs.declared.desk.coming.What.TheVariants.Finished = refl
-  told_over Rattle.tds_relay.specs.declared.desk.coming.What.TheVariants.Acknowledged = refl
-  told_over Rattle.tds_relay.specs.declared.desk.coming.What.TheVariants.Closed = refl
+  told_over : (why : Option FrontFault) (what : Rattle.tds_relay.specs.declared.desk.coming.What.What) → Over why ≡ told what (Over why)
+  told_over why Rattle.tds_relay.specs.declared.desk.coming.What.TheVariants.Goes = refl
+  told_over why Rattle.tds_relay.specs.declared.desk.coming.What.TheVariants.Finished = refl
+  told_over why Rattle.tds_relay.specs.declared.desk.coming.What.TheVariants.Acknowledged = refl
+  told_over why Rattle.tds_relay.specs.declared.desk.coming.What.TheVariants.Closed = refl
 
   heard_step : (n : ℕ) (part : Part Token) (way : Way) (p : Place) (o : Option End) → StoryOf outs d key p o → whose d n ≡ Some key → Left (desk.Comes n part way)
       → Behind (desk.Comes n part way) p (Heard n part o) o (option_map (told (what_in (done_by d n part))) o)
   heard_step n part way p None s mine left = stays_gone d key s (desk.Comes n part way) tt
   heard_step n part way p (Some (Open front w asks)) s mine left = hears_stand d key outs outs2 sound sit n part way front w asks p s mine left
-  heard_step n part way p (Some Over) s mine left =
-      subst (λ (x : End). StepOf outs2 (turn d (desk.Comes n part way)).desk key p [] (Some Over) (Some x)) (told_over (what_in (done_by d n part))) (desk_next d key sound sit (desk.Comes n part way) s tt)
+  heard_step n part way p (Some (Over why)) s mine left =
+      subst (λ (x : End). StepOf outs2 (turn d (desk.Comes n part way)).desk key p [] (Some (Over why)) (Some x)) (told_over why (what_in (done_by d n part))) (desk_next d key sound sit (desk.Comes n part way) s tt)
 
   unheard_step : (n : ℕ) (part : Part Token) (way : Way) (p : Place) (o : Option End) → StoryOf outs d key p o → (whose d n ≡ Some key → ⊥) → Left (desk.Comes n part way) → Behind (desk.Comes n part way) p [] o o
   unheard_step n part way p None s apart left = stays_gone d key s (desk.Comes n part way) tt
   unheard_step n part way p (Some (Open front w asks)) s apart left =
       stays_next outs2 (turn d (desk.Comes n part way)).desk key front.stage w p (unheard_stands d key outs outs2 sound sit n part way front.stage w p s apart left)
-  unheard_step n part way p (Some Over) s apart left = desk_next d key sound sit (desk.Comes n part way) s tt
+  unheard_step n part way p (Some (Over why)) s apart left = desk_next d key sound sit (desk.Comes n part way) s tt
 
   comes_if : (n k : ℕ) (part : Part Token) (way : Way) (b : Bool) (p : Place) (o : Option End) → whose d n ≡ Some k → (k == key) ≡ b → StoryOf outs d key p o → Left (desk.Comes n part way)
       → Behind (desk.Comes n part way) p (if b then Heard n part o else []) o (if b then option_map (told (what_in (done_by d n part))) o else o)
@@ -247,7 +248,7 @@ module _ (d : Desk) (key : ℕ) (outs outs2 : ℕ → Bool) (sound : Sound d) (s
   quits_step : (gives : Bool) (way : Way) (p : Place) (o : Option End) → StoryOf outs d key p o → Behind (desk.Leaves key gives way) p [] o None
   quits_step gives way p None s = stays_gone d key s (desk.Leaves key gives way) tt
   quits_step gives way p (Some (Open front w asks)) s = quits_gone d key gives way sound (at_desk outs d key front.stage w p s)
-  quits_step gives way p (Some Over) s = quits_gone d key gives way sound s
+  quits_step gives way p (Some (Over why)) s = quits_gone d key gives way sound s
 
   pub quits_if : (k : ℕ) (gives : Bool) (way : Way) (b : Bool) (p : Place) (o : Option End) → (k == key) ≡ b → StoryOf outs d key p o → As (λ x. desk.Leaves x gives way) k p [] o (if b then None else o)
   quits_if k gives way true p o e s = own (λ x. desk.Leaves x gives way) k p [] o None e (λ left. quits_step gives way p o s)

@@ -6,6 +6,7 @@ use Rattle.tds_wire.specs.declared.told.Token.{Token}
 use Rattle.tds_service.specs.Parts.{Part}
 use Rattle.tds_service.specs.Service as calls
 use Rattle.tds_service.specs.Service.{Service, Call, Place, Leased, Seat, has_lease, has_number, lease_at, seat_numbered, step, service_after}
+use Rattle.tds_service.specs.History.{Done}
 use Rattle.tds_service.proofs.Tests.{above}
 use Rattle.tds_relay.specs.declared.desk.Hold.{Hold}
 use Rattle.tds_relay.specs.Desk as desk
@@ -262,11 +263,11 @@ module _ (d : Desk) (key : ℕ) (h : Hold) (c : Seat) (sound : Sound d) (sit : A
   settles_spares s m way (Some l) nm le = settles_of_spares s m l way (find_lease l d.holds) nm refl
   settles_spares s m way None nm le = cleaning_spares h.lease h.number m (suc s.given) way (later h.lease s.given le) nm
 
-  comes_by_pass : (m : ℕ) (part : Part Token) (s : Service) (way : Way) (o : Option ℕ) (hearing : Hearing) → (h.number == m) ≡ false → h.lease ≤ s.given
-      → P (desk.comes_by d (calls.Came m part) s m way o hearing)
-  comes_by_pass m part s way o desk.Goes e le = record { service = refl; spares = (e, tt); sole = its.sole; line = its.line }
-  comes_by_pass m part s way o desk.Settled e le = record { service = refl; spares = (e, settles_spares s m way o e le); sole = its.sole; line = its.line }
-  comes_by_pass m part s way o desk.Wrong e le = record { service = refl; spares = (e, (e, tt)); sole = without_others m e; line = its.line }
+  comes_by_pass : (m : ℕ) (part : Part Token) (s : Service) (way : Way) (o : Option ℕ) (dones : List (Done Token)) (hearing : Hearing) → (h.number == m) ≡ false → h.lease ≤ s.given
+      → P (desk.with_broken m dones (desk.comes_by d (calls.Came m part) s m way o hearing))
+  comes_by_pass m part s way o dones desk.Goes e le = record { service = refl; spares = (e, tt); sole = its.sole; line = its.line }
+  comes_by_pass m part s way o dones desk.Settled e le = record { service = refl; spares = (e, settles_spares s m way o e le); sole = its.sole; line = its.line }
+  comes_by_pass m part s way o dones desk.Wrong e le = record { service = refl; spares = (e, (e, tt)); sole = without_others m e; line = its.line }
 
   pub passes : (event : Event) → IsOthers key h.number event → P (turn d event)
   passes (desk.Waits other) e = rests_pass (d.line ++ other ∷ []) (line_other key other d.line e ∙ its.line)
@@ -278,5 +279,5 @@ module _ (d : Desk) (key : ℕ) (h : Hold) (c : Seat) (sound : Sound d) (sit : A
   passes (desk.Renews other resumes) e = renews_pass other resumes (find_key other d.holds) refl e
   passes (desk.Comes m part way) e =
       let heard = step {T = Token} d.service (calls.Came m part) in
-      comes_by_pass m part heard.service way (lease_at (seat_numbered m d.service.seats)) (desk.hearing heard.dones) e (rises (calls.Came m part))
+      comes_by_pass m part heard.service way (lease_at (seat_numbered m d.service.seats)) heard.dones (desk.hearing heard.dones) e (rises (calls.Came m part))
   passes (desk.Loses m) e = record { service = refl; spares = (e, tt); sole = without_others m e; line = its.line }

@@ -193,8 +193,9 @@ hears_right d key h c part way sound its right =
     let did = came_step d h c part its.there in
     let hearing : desk.hearing heard.dones ≡ heard_of c.line part = ap (λ (x : Step Token). desk.hearing x.dones) did in
     let l = (turning c.line (line.Come part)).line in
-    let t2 : Turn = moves d d.holds d.line (calls.Came h.number part ∷ []) in
-    let t : turn d (desk.Comes h.number part way) ≡ t2 = came_by d key h c part way heard.service (desk.hearing heard.dones) sound its (λ wrong. right (sym hearing ∙ wrong)) in
+    let t2 : Turn = desk.with_broken h.number heard.dones (moves d d.holds d.line (calls.Came h.number part ∷ [])) in
+    let t : turn d (desk.Comes h.number part way) ≡ t2 =
+    ap (desk.with_broken h.number heard.dones) (came_by d key h c part way heard.service (desk.hearing heard.dones) sound its (λ wrong. right (sym hearing ∙ wrong))) in
     let place = drained c.place l.stage in
     let c2 : Seat = with_came c part in
     let number = number_is d key h c sound its in
@@ -228,8 +229,12 @@ pub hears_wrong : (d : Desk) (key : ℕ) (h : Hold) (c : Seat) (part : Part Toke
 hears_wrong d key h c part way its wrong =
     let heard = step {T = Token} d.service (calls.Came h.number part) in
     let hearing : desk.hearing heard.dones ≡ heard_of c.line part = ap (λ (x : Step Token). desk.hearing x.dones) (came_step d h c part its.there) in
-    let t = wrong_by d h part way heard.service (desk.hearing heard.dones) (hearing ∙ wrong) in
-    subst (λ (x : Turn). Gone key x.desk) (sym t) (lost_gone d key h c (calls.Came h.number part ∷ calls.Lost h.number ∷ []) its)
+    let all : List (Call Token) = calls.Came h.number part ∷ calls.Lost h.number ∷ [] in
+    let t2 : Turn = desk.with_broken h.number heard.dones (moves d (without_number h.number d.holds) d.line all) in
+    let t : turn d (desk.Comes h.number part way) ≡ t2 = ap (desk.with_broken h.number heard.dones) (wrong_by d h part way heard.service (desk.hearing heard.dones) (hearing ∙ wrong)) in
+    let gone = lost_gone d key h c all its in
+    let gone2 : Gone key t2.desk = record { holds = gone.holds; waits = gone.waits } in
+    subst (λ (x : Turn). Gone key x.desk) (sym t) gone2
 
 pub loses_gone : (d : Desk) (key : ℕ) (h : Hold) (c : Seat) → Its d key h c → Gone key (turn d (desk.Loses h.number)).desk
 loses_gone d key h c its = lost_gone d key h c (calls.Lost h.number ∷ []) its

@@ -13,6 +13,7 @@ use Rattle.tds_service.specs.Line as line
 use Rattle.tds_service.specs.Line.{Line, Act, Stage, turn, comes, reads, skips, skips_to_end}
 use Rattle.tds_service.specs.Service as calls
 use Rattle.tds_service.specs.Service.{Service, Call, Reply, Step, Back, Place, Leased, Cleaning, Kept, Free, Draining, Seat, find_by, change_by, has_lease, has_number, holds, is_idle, is_clean, drained, lease_in, lease_at, rests_clean, clean_place, rests_cleaned, step, service_after, does, nothing}
+use Rattle.tds_service.specs.History.{Done}
 use Rattle.tds_relay.specs.Desk as desk
 use Rattle.tds_relay.specs.Desk.{Desk, Way, find_lease, without_number, moves, cleaning, frees, Hearing, Goes, Settled, Wrong, hearing_of, settles, settles_of, comes_by}
 use Rattle.tds_relay.specs.Promises.{Each, CaresFor, IsCaredFor}
@@ -215,6 +216,9 @@ comes_found d n part way c Wrong sound e fits =
     (lost_leaves s n any (CaresFor d.holds) (CaresFor (without_number n d.holds)) (step_rises d.service (calls.Came n part) sound.tidy).tidy.distinct phase
     (λ x other hx. numbered d.holds n x.number x.place x.line other hx))
 
+sound_broken : (n : ℕ) (dones : List (Done Token)) (t : desk.Turn) → Sound t.desk → Sound (desk.with_broken n dones t).desk
+sound_broken n dones t sound = record { tidy = sound.tidy; rising = sound.rising; cared = sound.cared }
+
 comes_by_found : (d : Desk) (n : ℕ) (part : Part Token) (way : Way) (o : Option Seat) → find_by (has_number n) d.service.seats ≡ o → Sound d → Sound (desk.comes d n part way).desk
 comes_by_found d n part way None e sound =
     let same : (step d.service (calls.Came n part)).service ≡ d.service = rw e refl in
@@ -227,9 +231,11 @@ comes_by_found d n part way (Some c) e sound =
     let a = (turn c.line (line.Come part)).answer in
     let lease : lease_at (find_by (has_number n) d.service.seats) ≡ lease_in c.place = ap lease_at e in
     let heard : desk.hearing (step d.service call).dones ≡ hearing_of a = rw e refl in
-    let goes : desk.comes d n part way ≡ comes_by d call s n way (lease_in c.place) (hearing_of a) =
-    ap (λ (l : Option ℕ). comes_by d call s n way l (desk.hearing (step d.service call).dones)) lease ∙ ap (λ (h : Hearing). comes_by d call s n way (lease_in c.place) h) heard in
-    subst (λ (t : desk.Turn). Sound t.desk) (sym goes) (comes_found d n part way c (hearing_of a) sound e (heard_as c.line part c.line.stage))
+    let dones = (step d.service call).dones in
+    let goes : desk.comes d n part way ≡ desk.with_broken n dones (comes_by d call s n way (lease_in c.place) (hearing_of a)) =
+    ap (λ (l : Option ℕ). desk.with_broken n dones (comes_by d call s n way l (desk.hearing dones))) lease
+    ∙ ap (λ (h : Hearing). desk.with_broken n dones (comes_by d call s n way (lease_in c.place) h)) heard in
+    subst (λ (t : desk.Turn). Sound t.desk) (sym goes) (sound_broken n dones (comes_by d call s n way (lease_in c.place) (hearing_of a)) (comes_found d n part way c (hearing_of a) sound e (heard_as c.line part c.line.stage)))
 
 pub comes_sound : (d : Desk) (n : ℕ) (part : Part Token) (way : Way) → Sound d → Sound (desk.comes d n part way).desk
 comes_sound d n part way sound = comes_by_found d n part way (find_by (has_number n) d.service.seats) refl sound

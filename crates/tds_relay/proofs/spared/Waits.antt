@@ -4,7 +4,8 @@ use Rattle.std.proofs.lemmas.Bool.{eqb-true}
 use Rattle.tds_relay.specs.declared.link.Link.{Link}
 use Rattle.tds_relay.specs.Posts.{Post, fits, post_in, put}
 use Rattle.tds_relay.specs.Reads.{FillsAt, link_at, place_of, waits_on, without_link}
-use Rattle.tds_relay.proofs.steps.Staying.{IsAt, fills_refl, is_at, is_nowhere}
+use Rattle.tds_relay.proofs.steps.Placed.{IsAt, is_at, is_nowhere}
+use Rattle.tds_relay.proofs.steps.Staying.{fills_refl}
 use Rattle.tds_relay.proofs.visits.Waiting.{put_fills, put_fits}
 
 abbrev waits_of : Link → List ℕ

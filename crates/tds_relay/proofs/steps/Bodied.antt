@@ -3,6 +3,7 @@ use Rattle.std.proofs.Common.{◌≡◌, ◌≢◌, ◌⊎◌, ◌∙◌, ℕ, B
 use Rattle.std.proofs.lemmas.Bool.Decides.{eqb_tells}
 use Rattle.std.proofs.lemmas.List.{get_or-set_other}
 use Rattle.std.specs.Prelude.{Result, Ok, Err, OnOk}
+use Rattle.tds_front.specs.declared.fault.FrontFault.{FrontFault}
 use Rattle.slab.specs.Slab.{Slab, get, with_value}
 use Rattle.tds_relay.specs.declared.application.Application.{Application}
 use Rattle.tds_relay.specs.declared.application.Asking.{Asking}
@@ -85,13 +86,13 @@ spared_starts a b (inr shut) = subst (Starts a) (sym shut) Closes
 
 -- ---- It is to be closed
 
-shut_by : (b : Bool) (end : End) (x : Body) → IsDeaf (Some (if b then Over else end)) → ¬ IsDeaf (Some end) → (if b then Closed else x) ≡ Closed
-shut_by true end x deaf not = refl
-shut_by false end x deaf not = absurd (not deaf)
+shut_by : (why : Option FrontFault) (b : Bool) (end : End) (x : Body) → IsDeaf (Some (if b then Over why else end)) → ¬ IsDeaf (Some end) → (if b then Closed else x) ≡ Closed
+shut_by why true end x deaf not = refl
+shut_by why false end x deaf not = absurd (not deaf)
 
 shut_in : (o : Option Application) (goes : Body) → IsDeaf (option_map end_of o) → body_in o goes ≡ Closed
 shut_in None goes deaf = refl
-shut_in (Some a) goes deaf = shut_by a.is_over (Open a.front a.is_withdrawn a.reset) (body_in (Some (record a { is_over = false })) goes) deaf (λ none. none)
+shut_in (Some a) goes deaf = shut_by a.fault a.is_over (Open a.front a.is_withdrawn a.reset) (body_in (Some (record a { is_over = false })) goes) deaf (λ none. none)
 
 pub shut : (s : Slab Application) (key : ℕ) (goes : Body) → IsDeaf (end_at (ends_in s) key) → body_in (get s key) goes ≡ Closed
 shut s key goes deaf = shut_in (get s key) goes (subst IsDeaf (end_is s key) deaf)

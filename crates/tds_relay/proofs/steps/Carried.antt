@@ -12,7 +12,7 @@ use Rattle.tds_relay.specs.Asking.{said_of}
 use Rattle.tds_relay.specs.Bodies.{AreFollowed, Body, Carries, Obeys, Starts, Stays, taken_of}
 use Rattle.tds_relay.specs.Desk.{Desk}
 use Rattle.tds_relay.specs.Fronts.{ClosesInstead, FedOn, IsFed, Moved, MovedOn, TakesBetween, given_by, hall_of_ends, house_with}
-use Rattle.tds_relay.specs.Hall.{End, Ends, Feeds, Hall, Move, Moves, Open, change_end, closes, end_at, moved}
+use Rattle.tds_relay.specs.Hall.{End, Ends, Feeds, Hall, Move, Moves, Open, change_end, closes, closes_for, end_at, moved}
 use Rattle.tds_relay.specs.House.{House, Step, Admits, Hands, Makes, Removes, Takes, Writes, after, after_all, owed, put_some}
 use Rattle.tds_relay.specs.Posts.{Posts, change}
 use Rattle.tds_relay.specs.Taking.{IsDeaf, count_by, left_by}
@@ -22,7 +22,7 @@ use Rattle.tds_relay.proofs.steps.Asked.{said_is}
 use Rattle.tds_relay.proofs.steps.Fed.{left_fed, waits_fed}
 use Rattle.tds_relay.proofs.steps.Fronts.{moves_closes, no_moves}
 use Rattle.tds_relay.proofs.steps.Stepping.{makes_all}
-use Rattle.tds_relay.proofs.steps.Told.{deaf_closed, tells_begin, tells_deaf, tells_moves, tells_takes}
+use Rattle.tds_relay.proofs.steps.Told.{deaf_closed, deaf_for, tells_begin, tells_deaf, tells_moves, tells_takes}
 
 -- ---- Steps one behind the other
 
@@ -100,14 +100,14 @@ carries_taken key old bytes left rest a b c h h1 ps1 front withdrawn asks opened
 -- ---- As it is done
 
 pub carries_refused : (key : ℕ) (old : House) (bytes left rest : List ℕ) (a b c : Body) (h : House) (h1 : Hall) (ps1 : Posts) (front : Front) (withdrawn : Bool) (asks : Option Reset) (fault : FrontFault) → end_at h.hall.ends key ≡ Some (Open front withdrawn asks)
-    → change key (put_some (owed left (end_at h.hall.ends key))) h.posts ≡ h.posts → moved h.hall (Feeds key left) ≡ hall_of_ends h.hall.desk (change_end key closes h.hall.ends) → (fed front left).brings ≡ Err fault
-    → Moved (Application key) (hall_of_ends h.hall.desk (change_end key closes h.hall.ends)) h1 → ps1 ≡ h.posts → Starts b c → Carries key old bytes left a b h → Carries key old bytes rest a c (record { hall = h1; posts = ps1 })
+    → change key (put_some (owed left (end_at h.hall.ends key))) h.posts ≡ h.posts → moved h.hall (Feeds key left) ≡ hall_of_ends h.hall.desk (change_end key (closes_for (Some fault)) h.hall.ends) → (fed front left).brings ≡ Err fault
+    → Moved (Application key) (hall_of_ends h.hall.desk (change_end key (closes_for (Some fault)) h.hall.ends)) h1 → ps1 ≡ h.posts → Starts b c → Carries key old bytes left a b h → Carries key old bytes rest a c (record { hall = h1; posts = ps1 })
 carries_refused key old bytes left rest a b c h h1 ps1 front withdrawn asks fault opened waits is says m kept s t =
-    let closed : Hall = hall_of_ends h.hall.desk (change_end key closes h.hall.ends) in
+    let closed : Hall = hall_of_ends h.hall.desk (change_end key (closes_for (Some fault)) h.hall.ends) in
     let moves : Moves (Application key) (moved h.hall (Feeds key left)) closed = subst (Moves (Application key) (moved h.hall (Feeds key left))) is (no_moves (Application key) (moved h.hall (Feeds key left))) in
     let stays : Obeys said.Nothing (taken_of left (end_at h.hall.ends key)) b b = record { mid = b; does = refl; starts = Stays } in
     carries_moved key old bytes rest a b c closed h1 h.posts ps1 m kept s
-    (carries_deaf key old (record { hall = closed; posts = h.posts }) bytes (left_by left (end_at h.hall.ends key)) rest a b (deaf_closed key h.hall.ends)
+    (carries_deaf key old (record { hall = closed; posts = h.posts }) bytes (left_by left (end_at h.hall.ends key)) rest a b (deaf_for (Some fault) key h.hall.ends)
     (carries_taken key old bytes left (left_by left (end_at h.hall.ends key)) a b b h closed h.posts front withdrawn asks opened refl waits moves
     (subst (λ (answer : Said). Obeys answer (taken_of left (end_at h.hall.ends key)) b b) (sym (said_is left (end_at h.hall.ends key) front withdrawn asks (Err fault) opened says)) stays) t))
 

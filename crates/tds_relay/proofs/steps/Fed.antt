@@ -15,7 +15,7 @@ use Rattle.tds_relay.specs.declared.application.Application.{Application}
 use Rattle.tds_relay.specs.Desk as desk
 use Rattle.tds_relay.specs.Desk.{Desk, Event, desk_after, turn}
 use Rattle.tds_relay.specs.Fronts.{IsFed, end_of, ends_in, given_by, hall_of_ends, withdraws}
-use Rattle.tds_relay.specs.Hall.{End, Ends, Feeds, IsThere, Open, Over, acknowledged, asks_by, change_end, closes, end_at, end_behind, event_if, feeds, hands_on, hears, moved, stops_by, stops_of, takes_back}
+use Rattle.tds_relay.specs.Hall.{End, Ends, Feeds, IsThere, Open, Over, acknowledged, asks_by, change_end, closes, closes_for, end_at, end_behind, event_if, feeds, hands_on, hears, moved, stops_by, stops_of, takes_back}
 use Rattle.tds_relay.specs.House.{owed, owed_by, put_some}
 use Rattle.tds_relay.specs.Posts.{Posts, change}
 use Rattle.tds_relay.specs.Ties.{Turns}
@@ -102,12 +102,12 @@ taken_back_is key d d1 before now behind bytes out out1 f t is =
 
 -- they are none of a client's, and it is closed by them
 pub refused_is : (key : ℕ) (d : Desk) (es : Ends) (bytes : List ℕ) (front : Front) (withdrawn : Bool) (asks : Option Reset) (fault : FrontFault) → end_at es key ≡ Some (Open front withdrawn asks) → (fed front bytes).brings ≡ Err fault
-    → moved (hall_of_ends d es) (Feeds key bytes) ≡ hall_of_ends d (change_end key closes es)
+    → moved (hall_of_ends d es) (Feeds key bytes) ≡ hall_of_ends d (change_end key (closes_for (Some fault)) es)
 refused_is key d es bytes front withdrawn asks fault was says =
-    same_hall (desk_after d (event_if (stops_of bytes (end_at es key)) (desk.Does key desk.Stops))) d (change_end key (feeds bytes) es) (change_end key closes es)
+    same_hall (desk_after d (event_if (stops_of bytes (end_at es key)) (desk.Does key desk.Stops))) d (change_end key (feeds bytes) es) (change_end key (closes_for (Some fault)) es)
     (ap (λ (b : Bool). desk_after d (event_if b (desk.Does key desk.Stops))) (sym (ap (stops_of bytes) was ∙ ap stops_by says)))
     (ap (λ (o : Option End). slice_set es key o)
-    (ap (option_map closes) was
+    (ap (option_map (closes_for (Some fault))) was
     ∙ sym (ap (option_map (feeds bytes)) was ∙ ap (λ (r : Result Fed FrontFault). Some (end_behind (fed front bytes).front withdrawn asks r)) says)))
 
 pub waits_refused : (key : ℕ) (es : Ends) (bytes : List ℕ) (front : Front) (withdrawn : Bool) (asks : Option Reset) (fault : FrontFault) (posts : Posts) → end_at es key ≡ Some (Open front withdrawn asks) → (fed front bytes).brings ≡ Err fault
@@ -117,12 +117,12 @@ waits_refused key es bytes front withdrawn asks fault posts was says =
     ∙ ap (λ (r : Result Fed FrontFault). change key (put_some (owed_by r)) posts) says ∙ nothing_put posts key
 
 -- whatever was said, it is closed
-pub closed_fed : (before now : Ends) (key : ℕ) (end was : End) → end_at before key ≡ Some was → now ≡ slice_set before key (Some end) → change_end key closes before ≡ change_end key closes now
-closed_fed before now key end was there is =
-    ap (λ (o : Option End). slice_set before key (option_map closes o)) there ∙ sym (set_twice before now key end was closes there is)
+pub closed_fed : (by : End → End) (before now : Ends) (key : ℕ) (end was : End) → by was ≡ by end → end_at before key ≡ Some was → now ≡ slice_set before key (Some end) → change_end key by before ≡ change_end key by now
+closed_fed by before now key end was same there is =
+    ap (λ (o : Option End). slice_set before key (option_map by o)) there ∙ ap (λ (e : End). slice_set before key (Some e)) same ∙ sym (set_twice before now key end was by there is)
 
 pub closed_as_fed : (key : ℕ) (before now : Ends) (bytes : List ℕ) (answer : Said) → IsFed key before now bytes answer → change_end key closes before ≡ change_end key closes now
-closed_as_fed key before now bytes answer f = closed_fed before now key (Open (fed f.front bytes).front f.withdrawn (asks_by answer f.asks)) (Open f.front f.withdrawn f.asks) f.was f.is
+closed_as_fed key before now bytes answer f = closed_fed closes before now key (Open (fed f.front bytes).front f.withdrawn (asks_by answer f.asks)) (Open f.front f.withdrawn f.asks) refl f.was f.is
 
 -- ---- As the code has it
 
@@ -133,7 +133,7 @@ pub ends_written : (s : Slab Application) (key : ℕ) (a : Application) → ends
 ends_written s key a = map-set (option_map end_of) s.slots key (Some a)
 
 pub end_open : (a : Application) → a.is_over ≡ false → end_of a ≡ Open a.front a.is_withdrawn a.reset
-end_open a over = ap (λ (b : Bool). if b then Over else Open a.front a.is_withdrawn a.reset) over
+end_open a over = ap (λ (b : Bool). if b then Over a.fault else Open a.front a.is_withdrawn a.reset) over
 
 abbrev pub is_fed : (key : ℕ) (s : Slab Application) (a b : Application) (bytes : List ℕ) (count : ℕ) (answer : Said) → Some a ≡ get s key → a.is_over ≡ false → b.is_over ≡ false
     → b.is_withdrawn ≡ a.is_withdrawn → b.reset ≡ asks_by answer a.reset → b.front ≡ (fed a.front bytes).front → Ok (record { count = count; said = answer }) ≡ (fed a.front bytes).brings → IsFed key (ends_in s) (ends_in (with_value s key b)) bytes answer
@@ -154,14 +154,14 @@ pub is_there : (s : Slab Application) (key : ℕ) (a : Application) → Some a �
 is_there s key a is = subst IsThere (sym (end_there s key a is)) tt
 
 -- its attention has the acknowledgement; or what it took back has
-pub acked_if : (over : Bool) (front : Front) (withdrawn : Bool) (asks : Option Reset) → withdrawn ≡ false
-    → (if over then Over else Open (record front { stage = rules.acknowledged front.stage }) withdrawn None) ≡ acknowledged (hears (if over then Over else Open front withdrawn asks))
-acked_if true front withdrawn asks e = refl
-acked_if false front true asks e = absurd (let u : ⊥ = cc in u)
-acked_if false front false asks e = refl
+pub acked_if : (why : Option FrontFault) (over : Bool) (front : Front) (withdrawn : Bool) (asks : Option Reset) → withdrawn ≡ false
+    → (if over then Over why else Open (record front { stage = rules.acknowledged front.stage }) withdrawn None) ≡ acknowledged (hears (if over then Over why else Open front withdrawn asks))
+acked_if why true front withdrawn asks e = refl
+acked_if why false front true asks e = absurd (let u : ⊥ = cc in u)
+acked_if why false front false asks e = refl
 
-pub resumed_if : (over : Bool) (front : Front) (withdrawn : Bool) (asks : Option Reset) → withdrawn ≡ true
-    → (if over then Over else Open front false asks) ≡ acknowledged (hears (if over then Over else Open front withdrawn asks))
-resumed_if true front withdrawn asks e = refl
-resumed_if false front true asks e = refl
-resumed_if false front false asks e = absurd (let u : ⊥ = cc in u)
+pub resumed_if : (why : Option FrontFault) (over : Bool) (front : Front) (withdrawn : Bool) (asks : Option Reset) → withdrawn ≡ true
+    → (if over then Over why else Open front false asks) ≡ acknowledged (hears (if over then Over why else Open front withdrawn asks))
+resumed_if why true front withdrawn asks e = refl
+resumed_if why false front true asks e = refl
+resumed_if why false front false asks e = absurd (let u : ⊥ = cc in u)

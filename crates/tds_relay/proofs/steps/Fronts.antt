@@ -8,6 +8,7 @@ use Rattle.tds_packet.specs.declared.status.Reset.TheVariants.{Full}
 use Rattle.tds_front.specs.declared.front.Front.{Front}
 use Rattle.tds_front.specs.declared.stage.Stage.{Stage}
 use Rattle.tds_front.specs.Bytes.{new_front}
+use Rattle.tds_front.specs.declared.fault.FrontFault.{FrontFault}
 use Rattle.tds_wire.specs.declared.told.Token.{Token}
 use Rattle.tds_service.specs.History.{Done}
 use Rattle.tds_service.specs.Line.{Answer}
@@ -18,7 +19,7 @@ use Rattle.tds_relay.specs.declared.desk.coming.What.{What}
 use Rattle.tds_relay.specs.Desk as desk
 use Rattle.tds_relay.specs.Desk.{Desk, Event, Way, turn}
 use Rattle.tds_relay.specs.Fronts.{IsWhat, LetsGoFirst, Moved, MovedOn, end_of, ends_in, hall_of_ends, told_by}
-use Rattle.tds_relay.specs.Hall.{CausesMove, Closes, Does, End, Ends, Hall, HasEntered, AsksFor, AsksToPart, IfAsked, IfOpen, IfWhose, IsHere, IsQuiet, LetsGo, MayPart, Loses, MayDoAlone, MayMove, MayMoveAll, Move, Moves, Open, Replaces, change_end, change_whose, closes, end_at, holder, lets_go, moved, moved_all, told, what_in, what_of}
+use Rattle.tds_relay.specs.Hall.{CausesMove, Closes, Does, End, Ends, Hall, HasEntered, Over, AsksFor, AsksToPart, IfAsked, IfOpen, IfWhose, IsHere, IsQuiet, LetsGo, MayPart, Loses, MayDoAlone, MayMove, MayMoveAll, Move, Moves, Open, Replaces, change_end, change_whose, closes, closes_for, end_at, holder, lets_go, moved, moved_all, told, what_in, what_of}
 use Rattle.tds_relay.specs.Promises.{Each}
 use Rattle.tds_relay.specs.Ties as causes
 use Rattle.tds_relay.specs.Ties.{Cause, Causes, Turns}
@@ -97,23 +98,24 @@ pub changed_not : (es : Ends) (key : ℕ) (f : End → End) → ((e : End) → f
 changed_not es key f same = sym (ap (λ (o : Option End). slice_set es key o) (map_id f same (end_at es key)) ∙ set-get_or es key None)
 
 -- one that is over or isn't there
-open_over : (P : Stage → Type 0) (o : Option End) → IfOpen P (option_map closes o)
-open_over P None = tt
-open_over P (Some e) = tt
+open_over : (P : Stage → Type 0) (why : Option FrontFault) (o : Option End) → IfOpen P (option_map (closes_for why) o)
+open_over P why None = tt
+open_over P why (Some (Open front withdrawn asks)) = tt
+open_over P why (Some (Over was)) = tt
 
 pub open_closed : (P : Stage → Type 0) (es : Ends) (key : ℕ) → IfOpen P (end_at (change_end key closes es) key)
-open_closed P es key = subst (IfOpen P) (sym (changed_at es key closes)) (open_over P (end_at es key))
+open_closed P es key = subst (IfOpen P) (sym (changed_at es key closes)) (open_over P None (end_at es key))
 
-asks_over : (reset : Reset) (o : Option End) → AsksFor reset (option_map closes o)
-asks_over reset None = tt
-asks_over reset (Some e) = tt
-
-asks_closed : (reset : Reset) (es : Ends) (key : ℕ) → AsksFor reset (end_at (change_end key closes es) key)
-asks_closed reset es key = subst (AsksFor reset) (sym (changed_at es key closes)) (asks_over reset (end_at es key))
+asks_over : (reset : Reset) (why : Option FrontFault) (o : Option End) → AsksFor reset (option_map (closes_for why) o)
+asks_over reset why None = tt
+asks_over reset why (Some (Open front withdrawn asks)) = tt
+asks_over reset why (Some (Over was)) = tt
 
 -- who is to be closed may be parted
-pub closed_parts : (d : Desk) (es : Ends) (key : ℕ) → MayPart (hall_of_ends d (change_end key closes es)) key
-closed_parts d es key = (open_closed IsHere es key, inl (asks_closed Full es key))
+pub closed_parts : (why : Option FrontFault) (d : Desk) (es : Ends) (key : ℕ) → MayPart (hall_of_ends d (change_end key (closes_for why) es)) key
+closed_parts why d es key =
+    let at = sym (changed_at es key (closes_for why)) in
+    (subst (IfOpen IsHere) at (open_over IsHere why (end_at es key)), inl (subst (AsksFor Full) at (asks_over Full why (end_at es key))))
 
 -- one that asks for this as its request has begun
 asks_at : (reset : Reset) (es : Ends) (key : ℕ) (front : Front) (withdrawn : Bool) → AsksFor reset (end_at (slice_set es key (Some (Open front withdrawn (Some reset)))) key)

@@ -127,7 +127,7 @@ pub to_closed : (what : What) (o : Option End) → closes what ≡ true → is_s
 to_closed what None e = refl
 to_closed what (Some (Open front true asks)) e = refl
 to_closed what (Some (Open front false asks)) e = ap not e
-to_closed what (Some Over) e = refl
+to_closed what (Some (Over why)) e = refl
 
 -- nobody has it
 pub to_nobody : (what : What) (who : Option ℕ) (es : Ends) → who ≡ None → is_said what (end_whose who es) ≡ false
@@ -145,7 +145,7 @@ end_whose_is s who key a its is = ap (λ (o : Option ℕ). end_whose o (ends_of 
 deaf : (what : What) (e : End) → is_said whats.Goes (Some e) ≡ false → is_said what (Some e) ≡ false
 deaf what (Open front true asks) h = refl
 deaf what (Open front false asks) h = absurd (let u : ⊥ = cc in u)
-deaf what Over h = refl
+deaf what (Over why) h = refl
 
 pub to_deaf : (what : What) (s : Slab Application) (who : Option ℕ) (key : ℕ) (a : Application) → who ≡ Some key → Some a ≡ get s key → is_said whats.Goes (Some (end_of a)) ≡ false
     → is_said what (end_whose who (ends_of s)) ≡ false
@@ -155,7 +155,7 @@ to_deaf what s who key a its is h = ap (is_said what) (end_whose_is s who key a 
 heard_by : (what : What) (e : End) → closes what ≡ false → is_said whats.Goes (Some e) ≡ true → is_said what (Some e) ≡ true
 heard_by what (Open front true asks) c h = absurd (let u : ⊥ = cc in u)
 heard_by what (Open front false asks) c h = ap not c
-heard_by what Over c h = absurd (let u : ⊥ = cc in u)
+heard_by what (Over why) c h = absurd (let u : ⊥ = cc in u)
 
 pub to_one : (what : What) (s : Slab Application) (who : Option ℕ) (key : ℕ) (a : Application) → closes what ≡ false → who ≡ Some key → Some a ≡ get s key → is_said whats.Goes (Some (end_of a)) ≡ true
     → is_said what (end_whose who (ends_of s)) ≡ true

@@ -19,7 +19,9 @@ use Rattle.tds_service.specs.Table.{Answers, Refuses, RefusesIn, StepsIn, answer
 use Rattle.tds_service.specs.declared.refusal.Refusal.{Refusal}
 use Rattle.tds_service.specs.declared.refusal.Refusal.TheVariants as refusals
 use Rattle.tds_service.specs.Ties.{AreBytes, Appends, sent_in}
+use Rattle.tds_listen.specs.declared.fault.ListenFault.{ListenFault}
 use Rattle.tds_relay.specs.declared.desk.Hold.{Hold}
+use Rattle.tds_relay.specs.declared.fault.Broken.{Broken}
 use Rattle.tds_relay.specs.Desk as desk
 use Rattle.tds_relay.specs.Desk.{Desk, Event, Turn, Way, find_key, holding, moves, turn, without_lease, cleaning, releasing, frees}
 use Rattle.tds_relay.specs.Ties.{Makes, Settles, Turns, lost_by, sent_along}
@@ -141,16 +143,28 @@ released_free s s1 new lease number n way before between after one others =
 
 -- ---- Turns
 
-pub turns_by : (d : Desk) (event : Event) (s : Service) (held : List Hold) (waiting : List ℕ) (all : List (Call Token)) (before after : List ℕ) → turn d event ≡ moves d held waiting all
-    → Makes all d.service s before after → Turns event d (record { mode = d.mode; service = s; holds = held; line = waiting }) before after
-turns_by d event s held waiting all before after is made = record {
-  desk_is = ap (λ (x : Service). let y : Desk = record { mode = d.mode; service = x; holds = held; line = waiting } in y) made.service_is ∙ ap (λ (t : Turn). t.desk) (sym is);
+-- so it moves, and this connection is the last that broke the rules
+abbrev moves_broken : Desk → List Hold → List ℕ → List (Call Token) → Option Broken → Turn
+moves_broken d held waiting all broken = record {
+  desk = record { mode = d.mode; service = service_after d.service all; holds = held; line = waiting; broken = broken };
+  calls = all;
+}
+
+turns_broken : (d : Desk) (event : Event) (s : Service) (held : List Hold) (waiting : List ℕ) (all : List (Call Token)) (broken : Option Broken) (before after : List ℕ)
+    → turn d event ≡ moves_broken d held waiting all broken → Makes all d.service s before after
+    → Turns event d (record { mode = d.mode; service = s; holds = held; line = waiting; broken = broken }) before after
+turns_broken d event s held waiting all broken before after is made = record {
+  desk_is = ap (λ (x : Service). let y : Desk = record { mode = d.mode; service = x; holds = held; line = waiting; broken = broken } in y) made.service_is ∙ ap (λ (t : Turn). t.desk) (sym is);
   bytes = subst (λ (t : Turn). Appends (sent_along d.service t.calls) before after) (sym is) made.bytes;
 }
 
+pub turns_by : (d : Desk) (event : Event) (s : Service) (held : List Hold) (waiting : List ℕ) (all : List (Call Token)) (before after : List ℕ) → turn d event ≡ moves d held waiting all
+    → Makes all d.service s before after → Turns event d (record { mode = d.mode; service = s; holds = held; line = waiting; broken = d.broken }) before after
+turns_by d event s held waiting all before after is made = turns_broken d event s held waiting all d.broken before after is made
+
 pub renewed : (d : Desk) (key : ℕ) (h : Hold) (s1 s2 : Service) (ticket lease number n1 n2 : ℕ) (had : Bool) (held : List Hold) → find_key key d.holds ≡ Some h
     → StepsIn (step {T = Token} d.service (calls.Keep h.lease)) s1 (calls.Ticket ticket) n1 [] [] → StepsIn (step {T = Token} s1 (calls.Resume ticket)) s2 (Lent lease number had) n2 [] []
-    → held ≡ without_lease h.lease d.holds ++ holding h.key lease number ∷ [] → Turns (desk.Renews key true) d (record { mode = d.mode; service = s2; holds = held; line = d.line }) [] []
+    → held ≡ without_lease h.lease d.holds ++ holding h.key lease number ∷ [] → Turns (desk.Renews key true) d (record { mode = d.mode; service = s2; holds = held; line = d.line; broken = d.broken }) [] []
 renewed d key h s1 s2 ticket lease number n1 n2 had held found one two is =
     let kept = step {T = Token} d.service (calls.Keep h.lease) in
     let lent : (step {T = Token} kept.service (calls.Resume ticket)).reply ≡ Lent lease number had = subst (λ (x : Service). (step {T = Token} x (calls.Resume ticket)).reply ≡ Lent lease number had) one.service_is two.reply_is in
@@ -160,7 +174,7 @@ renewed d key h s1 s2 ticket lease number n1 n2 had held found one two is =
     ap (λ (o : Option Hold). desk.renews d true o) found
     ∙ (ap (λ (r : Reply). desk.keeps_by d h true kept.service (desk.ticket_in r)) one.reply_is
     ∙ ap (λ (r : Reply). desk.renews_by d h ticket (desk.lent_in r) true) lent) in
-    subst (λ (hs : List Hold). Turns (desk.Renews key true) d (record { mode = d.mode; service = s2; holds = hs; line = d.line }) [] []) (sym is)
+    subst (λ (hs : List Hold). Turns (desk.Renews key true) d (record { mode = d.mode; service = s2; holds = hs; line = d.line; broken = d.broken }) [] []) (sym is)
     (turns_by d (desk.Renews key true) s2 more d.line all [] [] goes
     (makes_more (calls.Keep h.lease) (calls.Resume ticket ∷ []) d.service s1 s2 (calls.Ticket ticket) n1 [] [] [] one (makes_one (calls.Resume ticket) s1 s2 (Lent lease number had) n2 [] [] two)))
 
@@ -170,37 +184,63 @@ hearing_answers : (a : Answer) (dones : List (Done Token)) → answers_in dones 
 hearing_answers a [] e = absurd (let u : ⊥ = cc in u)
 hearing_answers a (x ∷ xs) e = let same : x.answer ≡ a = cc in ap desk.hearing_of same
 
+broken_answers : (n : ℕ) (a : Answer) (dones : List (Done Token)) (had : Option Broken) → answers_in dones ≡ a ∷ [] → desk.last_broken n dones had ≡ desk.broken_of n a had
+broken_answers n a [] had e = absurd (let u : ⊥ = cc in u)
+broken_answers n a (x ∷ xs) had e = let same : x.answer ≡ a = cc in ap (λ (y : Answer). desk.broken_of n y had) same
+
+not_broken : (n : ℕ) (a : Answer) (had : Option Broken) → desk.hearing_of a ≡ desk.Settled → desk.broken_of n a had ≡ had
+not_broken n (line.Finished request) had e = refl
+not_broken n (line.Acked request) had e = refl
+not_broken n (line.Fault fault) had e = absurd (let u : ⊥ = cc in u)
+not_broken n (line.Refused why) had e = refl
+not_broken n line.Marked had e = refl
+not_broken n (line.Asked request descriptor) had e = refl
+not_broken n line.Sent had e = refl
+not_broken n line.Nothing had e = refl
+not_broken n line.Already had e = refl
+not_broken n (line.Unsent request) had e = refl
+not_broken n (line.Stopped request) had e = refl
+not_broken n line.More had e = refl
+not_broken n line.Lost had e = refl
+
 pub came_settled : (d new : Desk) (n : ℕ) (part : Part Token) (way : Way) (s1 : Service) (lease : Option ℕ) (a : Answer) (out after : List ℕ)
     → StepsIn (step d.service (calls.Came n part)) s1 calls.Did n [] [] → Answers (calls.Came n part) d.service a → desk.hearing_of a ≡ desk.Settled
-    → lease_at (seat_numbered n d.service.seats) ≡ lease → Settles (desk.settles d.holds s1 n way lease) (record { mode = d.mode; service = s1; holds = d.holds; line = d.line }) new out after
+    → lease_at (seat_numbered n d.service.seats) ≡ lease → Settles (desk.settles d.holds s1 n way lease) (record { mode = d.mode; service = s1; holds = d.holds; line = d.line; broken = d.broken }) new out after
     → Turns (desk.Comes n part way) d new out after
 came_settled d new n part way s1 lease a out after one answers is holder settled =
     let heard = step {T = Token} d.service (calls.Came n part) in
     let call : Call Token = calls.Came n part in
     let all = desk.settles d.holds s1 n way lease in
-    let goes : turn d (desk.Comes n part way) ≡ moves d d.holds d.line (call ∷ all) =
+    let by : desk.comes_by d call heard.service n way (lease_at (seat_numbered n d.service.seats)) (desk.hearing heard.dones) ≡ moves d d.holds d.line (call ∷ all) =
     ap (λ (h : desk.Hearing). desk.comes_by d call heard.service n way (lease_at (seat_numbered n d.service.seats)) h) (hearing_answers a heard.dones answers ∙ is)
     ∙ (ap (λ (l : Option ℕ). desk.comes_by d call heard.service n way l desk.Settled) holder
     ∙ ap (λ (x : Service). desk.comes_by d call x n way lease desk.Settled) (sym one.service_is)) in
+    let goes : turn d (desk.Comes n part way) ≡ moves d d.holds d.line (call ∷ all) =
+    ap (desk.with_broken n heard.dones) by
+    ∙ ap (moves_broken d d.holds d.line (call ∷ all)) (broken_answers n a heard.dones d.broken answers ∙ not_broken n a d.broken is) in
     let others : Makes all s1 (service_after s1 all) out after = record { service_is = refl; bytes = settled.bytes } in
     subst (λ (x : Desk). Turns (desk.Comes n part way) d x out after) (sym settled.desk_is)
     (turns_by d (desk.Comes n part way) (service_after s1 all) d.holds d.line (call ∷ all) out after goes
     (made_at call all d.service s1 (service_after s1 all) calls.Did n out after one others))
 
 -- it has a fault, and the connection is lost
-pub came_wrong : (d new : Desk) (n : ℕ) (part : Part Token) (way : Way) (s1 : Service) (a : Answer) (out : List ℕ)
-    → StepsIn (step d.service (calls.Came n part)) s1 calls.Did n [] [] → Answers (calls.Came n part) d.service a → desk.hearing_of a ≡ desk.Wrong
-    → Turns (desk.Loses n) (record { mode = d.mode; service = s1; holds = d.holds; line = d.line }) new [] [] → Turns (desk.Comes n part way) d new out out
-came_wrong d new n part way s1 a out one answers is lost =
+pub came_wrong : (d lost : Desk) (n : ℕ) (part : Part Token) (way : Way) (s1 : Service) (fault : ListenFault) (out : List ℕ)
+    → StepsIn (step d.service (calls.Came n part)) s1 calls.Did n [] [] → Answers (calls.Came n part) d.service (line.Fault fault)
+    → Turns (desk.Loses n) (record { mode = d.mode; service = s1; holds = d.holds; line = d.line; broken = d.broken }) lost [] []
+    → Turns (desk.Comes n part way) d (record lost { broken = Some (record { number = n; fault = fault }) }) out out
+came_wrong d lost n part way s1 fault out one answers turns =
     let heard = step {T = Token} d.service (calls.Came n part) in
     let call : Call Token = calls.Came n part in
     let all : List (Call Token) = call ∷ calls.Lost n ∷ [] in
     let held = desk.without_number n d.holds in
     let s2 = lost_by s1 n in
-    let goes : turn d (desk.Comes n part way) ≡ moves d held d.line all =
-    ap (λ (h : desk.Hearing). desk.comes_by d call heard.service n way (lease_at (seat_numbered n d.service.seats)) h) (hearing_answers a heard.dones answers ∙ is) in
-    subst (λ (x : Desk). Turns (desk.Comes n part way) d x out out) (sym lost.desk_is)
-    (turns_by d (desk.Comes n part way) s2 held d.line all out out goes
+    let broken : Option Broken = Some (record { number = n; fault = fault }) in
+    let by : desk.comes_by d call heard.service n way (lease_at (seat_numbered n d.service.seats)) (desk.hearing heard.dones) ≡ moves d held d.line all =
+    ap (λ (h : desk.Hearing). desk.comes_by d call heard.service n way (lease_at (seat_numbered n d.service.seats)) h) (hearing_answers (line.Fault fault) heard.dones answers) in
+    let goes : turn d (desk.Comes n part way) ≡ moves_broken d held d.line all broken =
+    ap (desk.with_broken n heard.dones) by ∙ ap (moves_broken d held d.line all) (broken_answers n (line.Fault fault) heard.dones d.broken answers) in
+    subst (λ (x : Desk). Turns (desk.Comes n part way) d (record x { broken = broken }) out out) (sym turns.desk_is)
+    (turns_broken d (desk.Comes n part way) s2 held d.line all broken out out goes
     (made_at call (calls.Lost n ∷ []) d.service s1 s2 calls.Did n out out one (makes_lost s1 s2 n out refl)))
 
 came_nothing : (d : Desk) (n : ℕ) (part : Part Token) (way : Way) → seat_numbered n d.service.seats ≡ None → turn d (desk.Comes n part way) ≡ moves d d.holds d.line (calls.Came n part ∷ [])
@@ -245,9 +285,9 @@ pub unread : (s : services.Service) (n : ℕ) (bytes : List ℕ) (ends : Bool) (
 unread s n bytes ends refusal refused never = unread_by s.seats.items (service_in s) n bytes ends refusal refl (read_there (has_number n) s.seats.items) refused never
 
 pub settles_by : (d : Desk) (s : Service) (made all : List (Call Token)) (before after : List ℕ) → all ≡ made → Makes made d.service s before after
-    → Settles all d (record { mode = d.mode; service = s; holds = d.holds; line = d.line }) before after
+    → Settles all d (record { mode = d.mode; service = s; holds = d.holds; line = d.line; broken = d.broken }) before after
 settles_by d s made all before after is h = record {
-  desk_is = ap (λ (x : Service). let y : Desk = record { mode = d.mode; service = x; holds = d.holds; line = d.line } in y) (h.service_is ∙ ap (service_after d.service) (sym is));
+  desk_is = ap (λ (x : Service). let y : Desk = record { mode = d.mode; service = x; holds = d.holds; line = d.line; broken = d.broken } in y) (h.service_is ∙ ap (service_after d.service) (sym is));
   bytes = subst (λ (cs : List (Call Token)). Appends (sent_along d.service cs) before after) (sym is) h.bytes;
 }
 

@@ -29,7 +29,7 @@ went_twice (stages.Broken fault) = refl
 
 gone_twice : (e : End) → move_stage rules.went_on (move_stage rules.went_on e) ≡ move_stage rules.went_on e
 gone_twice (Open front withdrawn asks) = ap (λ (s : Stage). Open (record front { stage = s }) withdrawn asks) (went_twice front.stage)
-gone_twice Over = refl
+gone_twice (Over why) = refl
 
 gone_by : (bytes : List ℕ) (e : End) → move_stage rules.went_on (goes_by bytes e) ≡ move_stage rules.went_on e
 gone_by [] e = refl
@@ -81,7 +81,7 @@ begun true (stages.Broken fault) h = h
 begun_end : (whole : Bool) (o : Option End) → IfOpen (puts whole) o → IfOpen IsBegun o
 begun_end whole None h = tt
 begun_end whole (Some (Open front withdrawn asks)) h = begun whole front.stage h
-begun_end whole (Some Over) h = tt
+begun_end whole (Some (Over why)) h = tt
 
 whole_on : (stage : Stage) → IsWhole stage → IsWhole (rules.went_on stage)
 whole_on stages.Quiet h = h
@@ -94,8 +94,8 @@ whole_end : (packets : List Packet) (o : Option End) → IfOpen IsWhole o → If
 whole_end packets None h = tt
 whole_end [] (Some (Open front withdrawn asks)) h = h
 whole_end (p ∷ ps) (Some (Open front withdrawn asks)) h = whole_on front.stage h
-whole_end [] (Some Over) h = tt
-whole_end (p ∷ ps) (Some Over) h = tt
+whole_end [] (Some (Over why)) h = tt
+whole_end (p ∷ ps) (Some (Over why)) h = tt
 
 -- ---- What was put
 

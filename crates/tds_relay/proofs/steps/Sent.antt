@@ -70,7 +70,7 @@ found_by lease c x l xs false is e more =
     ap (λ (b : Bool). let o : Option Seat = if b then Some x else find_by (has_lease lease) (change_by (has_lease lease) (Some c.place) l xs) in o) is ∙ more e
 
 -- the one of the lease stays the lease's
-found_changed : (lease : ℕ) (c : Seat) (l : Line) (cs : List Seat) → find_by (has_lease lease) cs ≡ Some c → find_by (has_lease lease) (change_by (has_lease lease) (Some c.place) l cs) ≡ Some (with_line c l)
+pub found_changed : (lease : ℕ) (c : Seat) (l : Line) (cs : List Seat) → find_by (has_lease lease) cs ≡ Some c → find_by (has_lease lease) (change_by (has_lease lease) (Some c.place) l cs) ≡ Some (with_line c l)
 found_changed lease c l [] e = absurd (let u : ⊥ = cc in u)
 found_changed lease c l (x ∷ xs) e = found_by lease c x l xs (has_lease lease x) refl e (found_changed lease c l xs)
 
@@ -97,7 +97,7 @@ ended_sent s lease count did = acts_sent s lease (line.Send true) (Ends count) t
 -- ---- At the desk
 
 abbrev pub behind : Desk → Service → Desk
-behind d s = record { mode = d.mode; service = s; holds = d.holds; line = d.line }
+behind d s = record d { service = s }
 
 sends_on : (d : Desk) (s : Service) (key : ℕ) (h : Hold) (whole : Bool) → find_key key d.holds ≡ Some h → IsSent whole (stage_by s h.lease) → SendsOn whole (behind d s) key
 sends_on d s key h whole its sent = record { hold = h; its = its; sent = sent }

@@ -3,6 +3,7 @@ use Rattle.std.proofs.Common.{◌≡◌, ◌∙◌, ◌==◌, ◌++◌, ℕ, Boo
 use Rattle.std.proofs.lemmas.Bool.{eq-eqb}
 use Rattle.std.specs.Prelude.{Result, Ok, Err, OnOk, drop}
 use Rattle.tds_packet.specs.declared.status.Reset.{Reset}
+use Rattle.tds_front.specs.declared.fault.FrontFault.{FrontFault}
 use Rattle.tds_front.specs.declared.front.Front.{Front}
 use Rattle.tds_front.specs.declared.front.Said.{Said}
 use Rattle.tds_service.specs.Line.{Packet}
@@ -10,7 +11,7 @@ use Rattle.tds_relay.specs.Desk as desk
 use Rattle.tds_relay.specs.Desk.{Desk}
 use Rattle.tds_relay.specs.Fronts.{ClosesInstead, FedOn, IsFed, LetsGoFirst, Moved, MovedOn, TakesBetween, given_by, hall_of_ends, house_with}
 use Rattle.tds_relay.specs.Hall as hall
-use Rattle.tds_relay.specs.Hall.{End, Ends, Feeds, Hall, IsQuiet, Move, Moves, Open, Over, change_end, closes, end_at, ends_behind, goes_on, hands_on, holder, lets_go, moved, moved_all, sent_by, takes_back}
+use Rattle.tds_relay.specs.Hall.{End, Ends, Feeds, Hall, IsQuiet, Move, Moves, Open, Over, change_end, closes, closes_for, end_at, ends_behind, goes_on, hands_on, holder, lets_go, moved, moved_all, sent_by, takes_back}
 use Rattle.tds_relay.specs.House.{House, Step, Admits, CausesStep, Hands, Makes, MayAll, Removes, Steps, Takes, Writes, after, after_all, owed, put_some}
 use Rattle.tds_relay.specs.Posts.{Posts, change}
 use Rattle.tds_relay.specs.Promises.{Each}
@@ -38,30 +39,34 @@ none_taken key h (move ∷ moves) bytes = none_taken key (after h (Makes move)) 
 
 -- ---- Who is to be closed stays so
 
-deaf_if : (b : Bool) (by : End → End) (o : Option End) → by Over ≡ Over → IsDeaf o → IsDeaf (if b then option_map by o else o)
+-- it leaves such an end as it is
+abbrev IsFirm : (End → End) → Type 0
+IsFirm by = (why : Option FrontFault) → by (Over why) ≡ Over why
+
+deaf_if : (b : Bool) (by : End → End) (o : Option End) → IsFirm by → IsDeaf o → IsDeaf (if b then option_map by o else o)
 deaf_if true by None over d = tt
 deaf_if true by (Some (Open front w asks)) over d = absurd d
-deaf_if true by (Some Over) over d = subst (λ (e : End). IsDeaf (Some e)) (sym over) tt
+deaf_if true by (Some (Over why)) over d = subst (λ (e : End). IsDeaf (Some e)) (sym (over why)) tt
 deaf_if false by o over d = d
 
-deaf_changed : (es : Ends) (k key : ℕ) (by : End → End) → by Over ≡ Over → IsDeaf (end_at es key) → IsDeaf (end_at (change_end k by es) key)
+deaf_changed : (es : Ends) (k key : ℕ) (by : End → End) → IsFirm by → IsDeaf (end_at es key) → IsDeaf (end_at (change_end k by es) key)
 deaf_changed es k key by over d = subst IsDeaf (sym (changed_at End es k key by)) (deaf_if (k == key) by (end_at es key) over d)
 
-deaf_whose : (es : Ends) (who : Option ℕ) (key : ℕ) (by : End → End) → by Over ≡ Over → IsDeaf (end_at es key) → IsDeaf (end_at (hall.change_whose who by es) key)
+deaf_whose : (es : Ends) (who : Option ℕ) (key : ℕ) (by : End → End) → IsFirm by → IsDeaf (end_at es key) → IsDeaf (end_at (hall.change_whose who by es) key)
 deaf_whose es None key by over d = d
 deaf_whose es (Some k) key by over d = deaf_changed es k key by over d
 
-over_goes : (packets : List Packet) → goes_on packets Over ≡ Over
-over_goes [] = refl
-over_goes (packet ∷ packets) = refl
+over_goes : (packets : List Packet) → IsFirm (goes_on packets)
+over_goes [] why = refl
+over_goes (packet ∷ packets) why = refl
 
 deaf_moved : (key : ℕ) (h : Hall) (move : Move) → IsQuiet move → IsDeaf (end_at h.ends key) → IsDeaf (end_at (ends_behind h move) key)
 deaf_moved key h (hall.Does event) quiet d = d
 deaf_moved key h (hall.Sends k deed) quiet d = deaf_changed h.ends k key (goes_on (sent_by h.desk (desk.Does k deed))) (over_goes (sent_by h.desk (desk.Does k deed))) d
-deaf_moved key h (hall.LetsGo k gives way) quiet d = deaf_changed h.ends k key lets_go refl d
-deaf_moved key h (hall.Loses number) quiet d = deaf_whose h.ends (holder h.desk number) key closes refl d
-deaf_moved key h (hall.Replaces number) quiet d = deaf_whose h.ends (holder h.desk number) key lets_go refl d
-deaf_moved key h (hall.Closes k) quiet d = deaf_changed h.ends k key closes refl d
+deaf_moved key h (hall.LetsGo k gives way) quiet d = deaf_changed h.ends k key lets_go (λ why. refl) d
+deaf_moved key h (hall.Loses number) quiet d = deaf_whose h.ends (holder h.desk number) key closes (λ why. refl) d
+deaf_moved key h (hall.Replaces number) quiet d = deaf_whose h.ends (holder h.desk number) key lets_go (λ why. refl) d
+deaf_moved key h (hall.Closes k) quiet d = deaf_changed h.ends k key closes (λ why. refl) d
 deaf_moved key h (hall.Comes number part way) quiet d = absurd quiet
 deaf_moved key h (hall.Feeds k bytes) quiet d = absurd quiet
 deaf_moved key h (hall.Enters k ends) quiet d = absurd quiet
@@ -78,15 +83,19 @@ deaf_behind key old new m d = subst (λ (h : Hall). IsDeaf (end_at h.ends key)) 
 pub lets_go_deaf : (key : ℕ) (d : Desk) (es : Ends) (new : Hall) → IsDeaf (end_at es key) → LetsGoFirst key (hall_of_ends d es) new → IsDeaf (end_at new.ends key)
 lets_go_deaf key d es new deaf l =
     let mid : Hall = moved (hall_of_ends d es) (hall.LetsGo key l.0 l.1) in
-    deaf_behind key mid new (l.2 (Application key) mid (no_moves (Application key) mid)) (deaf_changed es key key lets_go refl deaf)
+    deaf_behind key mid new (l.2 (Application key) mid (no_moves (Application key) mid)) (deaf_changed es key key lets_go (λ why. refl) deaf)
 
-closed_deaf : (b : Bool) (o : Option End) → b ≡ true → IsDeaf (if b then option_map closes o else o)
-closed_deaf true None e = tt
-closed_deaf true (Some end) e = tt
-closed_deaf false o e = absurd (let u : ⊥ = cc in u)
+closed_deaf : (why : Option FrontFault) (b : Bool) (o : Option End) → b ≡ true → IsDeaf (if b then option_map (closes_for why) o else o)
+closed_deaf why true None e = tt
+closed_deaf why true (Some (Open front w asks)) e = tt
+closed_deaf why true (Some (Over was)) e = tt
+closed_deaf why false o e = absurd (let u : ⊥ = cc in u)
+
+pub deaf_for : (why : Option FrontFault) (key : ℕ) (es : Ends) → IsDeaf (end_at (change_end key (closes_for why) es) key)
+deaf_for why key es = subst IsDeaf (sym (changed_at End es key key (closes_for why))) (closed_deaf why (key == key) (end_at es key) (eq-eqb key key refl))
 
 pub deaf_closed : (key : ℕ) (es : Ends) → IsDeaf (end_at (change_end key closes es) key)
-deaf_closed key es = subst IsDeaf (sym (changed_at End es key key closes)) (closed_deaf (key == key) (end_at es key) (eq-eqb key key refl))
+deaf_closed key es = deaf_for None key es
 
 -- bytes were taken, and then it goes on
 pub fed_then : (key : ℕ) (d : Desk) (before now : Ends) (bytes : List ℕ) (answer : Said) (new : Hall) → takes_back answer ≡ false → hands_on answer ≡ false → IsFed key before now bytes answer
@@ -168,12 +177,12 @@ tells_takes key old bytes left rest h posts1 front withdrawn asks open_at left_i
 
 -- ---- As it is done
 
-pub tells_refused : (key : ℕ) (old : House) (bytes left rest : List ℕ) (h : House) (h1 : Hall) (ps1 : Posts) (front : Front) (withdrawn : Bool) (asks : Option Reset) → end_at h.hall.ends key ≡ Some (Open front withdrawn asks)
-    → change key (put_some (owed left (end_at h.hall.ends key))) h.posts ≡ h.posts → moved h.hall (Feeds key left) ≡ hall_of_ends h.hall.desk (change_end key closes h.hall.ends)
-    → Moved (Application key) (hall_of_ends h.hall.desk (change_end key closes h.hall.ends)) h1 → ps1 ≡ h.posts → Tells key old bytes left h → Tells key old bytes rest (record { hall = h1; posts = ps1 })
-tells_refused key old bytes left rest h h1 ps1 front withdrawn asks open_at waits is m kept t =
-    let closed : Hall = hall_of_ends h.hall.desk (change_end key closes h.hall.ends) in
-    let deaf : IsDeaf (end_at closed.ends key) = deaf_closed key h.hall.ends in
+pub tells_refused : (key : ℕ) (old : House) (bytes left rest : List ℕ) (h : House) (h1 : Hall) (ps1 : Posts) (front : Front) (withdrawn : Bool) (asks : Option Reset) (fault : FrontFault) → end_at h.hall.ends key ≡ Some (Open front withdrawn asks)
+    → change key (put_some (owed left (end_at h.hall.ends key))) h.posts ≡ h.posts → moved h.hall (Feeds key left) ≡ hall_of_ends h.hall.desk (change_end key (closes_for (Some fault)) h.hall.ends)
+    → Moved (Application key) (hall_of_ends h.hall.desk (change_end key (closes_for (Some fault)) h.hall.ends)) h1 → ps1 ≡ h.posts → Tells key old bytes left h → Tells key old bytes rest (record { hall = h1; posts = ps1 })
+tells_refused key old bytes left rest h h1 ps1 front withdrawn asks fault open_at waits is m kept t =
+    let closed : Hall = hall_of_ends h.hall.desk (change_end key (closes_for (Some fault)) h.hall.ends) in
+    let deaf : IsDeaf (end_at closed.ends key) = deaf_for (Some fault) key h.hall.ends in
     tells_moved key old bytes rest closed h1 h.posts ps1 m kept
     (tells_deaf key old (record { hall = closed; posts = h.posts }) bytes (left_by left (end_at h.hall.ends key)) rest deaf
     (subst (λ (x : Hall). Tells key old bytes (left_by left (end_at h.hall.ends key)) (record { hall = x; posts = h.posts })) is (tells_takes key old bytes left (left_by left (end_at h.hall.ends key)) h h.posts front withdrawn asks open_at refl waits t)))

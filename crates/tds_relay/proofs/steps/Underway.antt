@@ -42,7 +42,7 @@ pub none_deaf : (key : ℕ) (s : Slab Application) → get s key ≡ None → Is
 none_deaf key s none = subst IsDeaf (sym (end_is s key ∙ ap (option_map end_of) none)) tt
 
 pub over_deaf : (key : ℕ) (s : Slab Application) (a : Application) → Some a ≡ get s key → a.is_over ≡ true → IsDeaf (end_at (ends_in s) key)
-over_deaf key s a is over = subst IsDeaf (sym (end_there s key a is ∙ ap (λ (b : Bool). let o : Option End = Some (if b then Over else Open a.front a.is_withdrawn a.reset) in o) over)) tt
+over_deaf key s a is over = subst IsDeaf (sym (end_there s key a is ∙ ap (λ (b : Bool). let o : Option End = Some (if b then Over a.fault else Open a.front a.is_withdrawn a.reset) in o) over)) tt
 
 pub of_none : (whole : Bool) (links : List Link) (key : ℕ) (d : Desk) (s : Slab Application) → get s key ≡ None → IsUnderway whole links key (hall_of_ends d (ends_in s))
 of_none whole links key d s none = Closes (none_deaf key s none)

@@ -22,7 +22,7 @@ use Rattle.tds_relay.proofs.visits.Tellings.{wants_in}
 asked : (asks : Option Reset) (reset : Reset) (o : Option End) → AsksJust asks o → AsksFor reset o → (asks ≡ Some reset) ⊎ IsDeaf o
 asked asks reset None just is = inr tt
 asked asks reset (Some (Open front withdrawn its)) just is = inl (sym just ∙ is)
-asked asks reset (Some Over) just is = inr tt
+asked asks reset (Some (Over why)) just is = inr tt
 
 module _ (A B : Reset → Type 0) (leads : (reset : Reset) → A reset → B reset) (key : ℕ) (hold : Hold) (h : Hall) where
   either : (A Full ⊎ (A KeepTransaction × HasNoTransaction h.desk key)) → B Full ⊎ (B KeepTransaction × HasNoTransaction h.desk key)

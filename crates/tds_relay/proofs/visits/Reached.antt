@@ -9,6 +9,7 @@ use Rattle.tds_front.specs.declared.stage.Stage.TheVariants as stages
 use Rattle.tds_front.specs.Bytes.{fed}
 use Rattle.tds_front.specs.Passing.{Event as Passed, SaysOf, judged, stage_fed}
 use Rattle.tds_front.specs.Serving.{Place, Ready}
+use Rattle.tds_front.specs.declared.fault.FrontFault.{FrontFault}
 use Rattle.tds_service.specs.Service.{Seat, seat_numbered}
 use Rattle.tds_relay.specs.Behind.{StaysIn, events_along, passes}
 use Rattle.tds_relay.specs.Desk.{Desk, Event, new_desk}
@@ -38,7 +39,7 @@ pub record Stands (max key : ℕ) (events : List Event) (h : Hall) (front : Fron
 -- Behind what passed it is so again, where that leads, or over.
 pub data Then (max key : ℕ) (events : List Event) (h : Hall) (stage : Stage) (p : Place) (es : List Passed) : Type 0 where
   Goes : (front : Front) (w : Bool) → (s : Stands max key events h front w) → Leads stage p es front.stage s.place → Then max key events h stage p es
-  IsOver : end_at h.ends key ≡ Some Over → Then max key events h stage p es
+  IsOver : (why : Option FrontFault) → end_at h.ends key ≡ Some (Over why) → Then max key events h stage p es
 
 -- An application has entered, and its end is as at first.
 pub record Entered (max key : ℕ) (events : List Event) (h : Hall) : Type 0 where
@@ -107,7 +108,7 @@ module _ (max key : ℕ) (alone : Alone) (by : ByHistory) (judges : Judging) whe
   entered_by events h None None p es is same e there s = absurd there
   entered_by events h None (Some (Open front w asks)) p es is same e there s =
       record { front = front; w = w; stands = record { is = is; asks = asks; end_is = same; place = Ready; standing = s.0 }; quiet = s.1; ready = refl }
-  entered_by events h None (Some Over) p es is same e there s = absurd s
+  entered_by events h None (Some (Over why)) p es is same e there s = absurd s
   entered_by events h (Some end) o2 p es is same e there s = absurd (let u : ⊥ = cc in u)
 
   pub enters : (moves : List Move) (ends : Ends) → MayMoveAll (new_hall max) moves → HasEntered key (moved_all (new_hall max) moves).ends ends
@@ -127,7 +128,7 @@ module _ (max key : ℕ) (alone : Alone) (by : ByHistory) (judges : Judging) whe
       → StepOf (outs_of max events) h.desk key p es (Some (Open front w asks)) o2 → Then max key events h front.stage p es
   then_by events h p es front w asks None is same there s = absurd there
   then_by events h p es front w asks (Some (Open next v then)) is same there s = Goes next v (record { is = is; asks = then; end_is = same; place = s.place; standing = s.standing }) s.leads
-  then_by events h p es front w asks (Some Over) is same there s = IsOver same
+  then_by events h p es front w asks (Some (Over why)) is same there s = IsOver why same
 
   pub behind : (events : List Event) (h : Hall) (move : Move) (front : Front) (w : Bool) → (s : Stands max key events h front w) → MayMove h move → StaysIn key move
       → Then max key (events ++ events_of h move) (moved h move) front.stage s.place (passes key h move)

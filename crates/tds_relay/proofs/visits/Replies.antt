@@ -92,7 +92,7 @@ gone_said (line.Attention ∷ packets) stage begun = gone_said packets stage beg
 open_said : (o : Option End) (packets : List line.Packet) (stage : Stage) → Said stage (if_open o (λ front withdrawn. gone_on packets)) []
 open_said None packets stage begun = refl
 open_said (Some (Open front withdrawn asks)) packets stage begun = gone_said packets stage begun
-open_said (Some Over) packets stage begun = refl
+open_said (Some (Over why)) packets stage begun = refl
 
 if_said : (b : Bool) (es : List Passed) (stage : Stage) → Said stage es [] → Said stage (if b then es else []) []
 if_said true es stage s begun = s begun

@@ -8,6 +8,7 @@ use Rattle.tds_front.specs.declared.stage.Stage.TheVariants as stages
 use Rattle.tds_front.specs.Passing.{Event as Passed, towards}
 use Rattle.tds_front.specs.Serving.{Place}
 use Rattle.tds_packet.specs.declared.header.Header.{Header}
+use Rattle.tds_front.specs.declared.fault.FrontFault.{FrontFault}
 use Rattle.tds_relay.specs.Behind.{Stays, events_along, passed, passes}
 use Rattle.tds_relay.specs.Desk.{Event, whose}
 use Rattle.tds_relay.specs.Giving.{AreSaid, Given, StaysAll, Visit, given, given_all, given_in, happens_in, house_in, if_its, moves_in}
@@ -32,36 +33,36 @@ its_nothing key other o false e none = not_its key other o e
 not_handed : (manner : Manner) (header : Header) (content : List ℕ) → IsHanded false manner → handed manner header content ≡ None
 not_handed manner header content e = ap (λ (m : Manner). handed m header content) e
 
-hands_nothing : (key : ℕ) (h : House) (number : ℕ) (header : Header) (content : List ℕ) (manner : Manner) (what : Rattle.tds_relay.specs.declared.desk.coming.What.What) (who : Option ℕ)
-    → end_at h.hall.ends key ≡ Some Over → IsHanded (is_said what (end_whose who h.hall.ends)) manner → if_its key who (handed manner header content) ≡ []
-hands_nothing key h number header content manner what None e on = refl
-hands_nothing key h number header content manner what (Some other) e on =
+hands_nothing : (why : Option FrontFault) (key : ℕ) (h : House) (number : ℕ) (header : Header) (content : List ℕ) (manner : Manner) (what : Rattle.tds_relay.specs.declared.desk.coming.What.What) (who : Option ℕ)
+    → end_at h.hall.ends key ≡ Some (Over why) → IsHanded (is_said what (end_whose who h.hall.ends)) manner → if_its key who (handed manner header content) ≡ []
+hands_nothing why key h number header content manner what None e on = refl
+hands_nothing why key h number header content manner what (Some other) e on =
     its_nothing key other (handed manner header content) (other == key) refl
     (λ is. not_handed manner header content
-    (let at : end_at h.hall.ends other ≡ Some Over = ap (end_at h.hall.ends) is ∙ e in
+    (let at : end_at h.hall.ends other ≡ Some (Over why) = ap (end_at h.hall.ends) is ∙ e in
     subst (λ (o : Option End). IsHanded (is_said what o) manner) at on))
 
-over_given : (key : ℕ) (h : House) (step : Step) → MayStep h step → end_at h.hall.ends key ≡ Some Over → given key h step ≡ []
-over_given key h (Makes move) may e = refl
-over_given key h (Hands number header content part way manner) may e =
-    hands_nothing key h number header content manner (what_in (done_by h.hall.desk number part)) (whose h.hall.desk number) e may.handed_on
-over_given key h (Takes other bytes) may e =
+over_given : (why : Option FrontFault) (key : ℕ) (h : House) (step : Step) → MayStep h step → end_at h.hall.ends key ≡ Some (Over why) → given key h step ≡ []
+over_given why key h (Makes move) may e = refl
+over_given why key h (Hands number header content part way manner) may e =
+    hands_nothing why key h number header content manner (what_in (done_by h.hall.desk number part)) (whose h.hall.desk number) e may.handed_on
+over_given why key h (Takes other bytes) may e =
     its_nothing key other (owed bytes (end_at h.hall.ends other)) (other == key) refl (λ is. ap (owed bytes) (ap (end_at h.hall.ends) is ∙ e))
-over_given key h (Writes other count) may e = refl
-over_given key h (Admits other ends posts) may e = refl
-over_given key h (Removes other gives way) may e = refl
+over_given why key h (Writes other count) may e = refl
+over_given why key h (Admits other ends posts) may e = refl
+over_given why key h (Removes other gives way) may e = refl
 
 -- it stays over
-over_then : (key : ℕ) (h : Hall) (moves : List Move) → MayMoveAll h moves → Stays key moves → end_at h.ends key ≡ Some Over → end_at (moved_all h moves).ends key ≡ Some Over
-over_then key h [] may stays e = e
-over_then key h (move ∷ moves) may stays e =
-    over_then key (moved h move) moves may.1 stays.1 (end_behind_is key h move ∙ stays_over key h move may.0 stays.0 e)
+over_then : (why : Option FrontFault) (key : ℕ) (h : Hall) (moves : List Move) → MayMoveAll h moves → Stays key moves → end_at h.ends key ≡ Some (Over why) → end_at (moved_all h moves).ends key ≡ Some (Over why)
+over_then why key h [] may stays e = e
+over_then why key h (move ∷ moves) may stays e =
+    over_then why key (moved h move) moves may.1 stays.1 (end_behind_is key h move ∙ stays_over why key h move may.0 stays.0 e)
 
-over_all : (key : ℕ) (h : House) (steps : List Step) → MayAll h steps → StaysAll key steps → end_at h.hall.ends key ≡ Some Over → given_all key h steps ≡ []
-over_all key h [] may stays e = refl
-over_all key h (step ∷ steps) may stays e =
-    ap (λ (all : List Given). all ++ given_all key (after h step) steps) (over_given key h step may.0 e)
-    ∙ over_all key (after h step) steps may.1 stays.1 (over_then key h.hall (moves_of step) (may_step h step may.0) (stays_step key h step may.0 stays.0) e)
+over_all : (why : Option FrontFault) (key : ℕ) (h : House) (steps : List Step) → MayAll h steps → StaysAll key steps → end_at h.hall.ends key ≡ Some (Over why) → given_all key h steps ≡ []
+over_all why key h [] may stays e = refl
+over_all why key h (step ∷ steps) may stays e =
+    ap (λ (all : List Given). all ++ given_all key (after h step) steps) (over_given why key h step may.0 e)
+    ∙ over_all why key (after h step) steps may.1 stays.1 (over_then why key h.hall (moves_of step) (may_step h step may.0) (stays_step key h step may.0 stays.0) e)
 
 -- ---- Along steps
 
@@ -74,10 +75,10 @@ module _ (max key : ℕ) (alone : Alone) (by : ByHistory) (judges : Judging) whe
       let more : List Passed = passed key h2.hall (moves_in steps) in
       said_both stage es more all (given_all key h2 steps) first
       (subst (λ (s : Stage). Said s more (given_all key h2 steps)) (sym leads.stage_is) (rest front w stands))
-  said_next events h2 stage p es all steps may stays first rest (IsOver e) =
+  said_next events h2 stage p es all steps may stays first rest (IsOver why e) =
       let more : List Passed = passed key h2.hall (moves_in steps) in
-      let silent : more ≡ [] = over_silent key h2.hall (moves_in steps) e (may_moves h2 steps may) (stays_moves key h2 steps may stays) in
-      let nothing : given_all key h2 steps ≡ [] = over_all key h2 steps may stays e in
+      let silent : more ≡ [] = over_silent why key h2.hall (moves_in steps) e (may_moves h2 steps may) (stays_moves key h2 steps may stays) in
+      let nothing : given_all key h2 steps ≡ [] = over_all why key h2 steps may stays e in
       said_both stage es more all (given_all key h2 steps) first
       (subst (λ (gs : List Given). Said (stage_along stage es) more gs) (sym nothing) (subst (λ (xs : List Passed). Said (stage_along stage es) xs []) (sym silent) (λ begun. refl)))
 

@@ -44,14 +44,15 @@ Keeps by = (asks : Option Reset) (end : End) → AsksJust asks (Some end) → As
 goes_keeps : (packets : List Packet) → Keeps (goes_on packets)
 goes_keeps [] asks end at = at
 goes_keeps (packet ∷ packets) asks (Open front withdrawn is) at = at
-goes_keeps (packet ∷ packets) asks Over at = tt
+goes_keeps (packet ∷ packets) asks (Over why) at = tt
 
 lets_keeps : Keeps lets_go
 lets_keeps asks (Open front withdrawn is) at = at
-lets_keeps asks Over at = tt
+lets_keeps asks (Over why) at = tt
 
 closes_keeps : Keeps closes
-closes_keeps asks end at = tt
+closes_keeps asks (Open front withdrawn is) at = tt
+closes_keeps asks (Over why) at = tt
 
 map_keeps : (by : End → End) → Keeps by → (asks : Option Reset) (o : Option End) → AsksJust asks o → AsksJust asks (option_map by o)
 map_keeps by keeps asks None at = tt
@@ -118,19 +119,19 @@ handed_by owed asks false withdrawn is what (Whole tells) part front e on times 
 handed_by owed asks false withdrawn is what (Without tells bytes) part front e on times at = absurd (let u : ⊥ = cc in u)
 handed_by owed asks false withdrawn is what Withheld part front e on times at = nothing asks (Some (told what (Open front withdrawn is))) (withheld_leads what asks withdrawn is front e at)
 
-told_over : (what : What) → told what Over ≡ Over
-told_over whats.Goes = refl
-told_over whats.Finished = refl
-told_over whats.Acknowledged = refl
-told_over whats.Closed = refl
+told_over : (why : Option FrontFault) (what : What) → told what (Over why) ≡ Over why
+told_over why whats.Goes = refl
+told_over why whats.Finished = refl
+told_over why whats.Acknowledged = refl
+told_over why whats.Closed = refl
 
 handed_leads : (owed : Bool) (asks : Option Reset) (what : What) (manner : Manner) (part : Part Token) (o : Option End) → Handed owed asks what manner part o
 handed_leads owed asks what (Whole tells) part None on times at = absurd (let u : ⊥ = cc in u)
 handed_leads owed asks what (Without tells bytes) part None on times at = absurd (let u : ⊥ = cc in u)
 handed_leads owed asks what Withheld part None on times at = nothing asks None tt
-handed_leads owed asks what (Whole tells) part (Some Over) on times at = absurd (let u : ⊥ = cc in u)
-handed_leads owed asks what (Without tells bytes) part (Some Over) on times at = absurd (let u : ⊥ = cc in u)
-handed_leads owed asks what Withheld part (Some Over) on times at = nothing asks (Some (told what Over)) (subst (λ (e : End). AsksJust asks (Some e)) (sym (told_over what)) tt)
+handed_leads owed asks what (Whole tells) part (Some (Over why)) on times at = absurd (let u : ⊥ = cc in u)
+handed_leads owed asks what (Without tells bytes) part (Some (Over why)) on times at = absurd (let u : ⊥ = cc in u)
+handed_leads owed asks what Withheld part (Some (Over why)) on times at = nothing asks (Some (told what (Over why))) (subst (λ (e : End). AsksJust asks (Some e)) (sym (told_over why what)) tt)
 handed_leads owed asks what manner part (Some (Open front withdrawn is)) on times at = handed_by owed asks (is_said what (Some (Open front withdrawn is))) withdrawn is what manner part front refl on times at
 
 handed_if : (owed : Bool) (key k : ℕ) (b : Bool) (asks : Option Reset) (what : What) (manner : Manner) (part : Part Token) (o : Option End) → (k == key) ≡ b → (k ≡ key → Handed owed asks what manner part o) → AsksJust asks o
@@ -162,12 +163,12 @@ said_leads asks taken is front said.HandOn at = nothing asks (Some (Open front t
 
 fed_leads : (asks : Option Reset) (withdrawn : Bool) (is : Option Reset) (front : Front) (brings : Result Fed FrontFault) → is ≡ asks → Leads asks (asked brings) (Some (end_behind front withdrawn is brings))
 fed_leads asks withdrawn is front (Ok fed) at = said_leads asks _ is front fed.said at
-fed_leads asks withdrawn is front (Err fault) at = nothing asks (Some Over) tt
+fed_leads asks withdrawn is front (Err fault) at = nothing asks (Some (Over (Some fault))) tt
 
 bytes_lead : (asks : Option Reset) (bytes : List ℕ) (o : Option End) → AsksJust asks o → Leads asks (asked_in bytes o) (option_map (feeds bytes) o)
 bytes_lead asks bytes None at = nothing asks None tt
 bytes_lead asks bytes (Some (Open front withdrawn is)) at = fed_leads asks withdrawn is (fed front bytes).front (fed front bytes).brings at
-bytes_lead asks bytes (Some Over) at = nothing asks (Some Over) tt
+bytes_lead asks bytes (Some (Over why)) at = nothing asks (Some (Over why)) tt
 
 fed_if : (asks : Option Reset) (b : Bool) (bytes : List ℕ) (o : Option End) → AsksJust asks o → Leads asks (if b then asked_in bytes o else []) (if b then option_map (feeds bytes) o else o)
 fed_if asks true bytes o at = bytes_lead asks bytes o at

@@ -1,9 +1,10 @@
 //! What applications do with the connections that they hold.
-ghost use Rattle.std.specs.Prelude.{◌≡◌, ℕ, [], Some, IfOk, OnErr, false, true};
+ghost use Rattle.std.specs.Prelude.{◌≡◌, ℕ, [], Some, IfOk, OnErr, OnOk, false, true};
 ghost use Rattle.tds_client.specs.Session.{ClientSession};
 ghost use Rattle.tds_client.specs.Streams.{finished, put};
 ghost use Rattle.tds_service.specs.Table.{DoesAt, KeepsClients, Opens};
 ghost use Rattle.tds_relay.specs.Asking.{SendsOn};
+ghost use Rattle.tds_relay.specs.Bodies.{ClientStops};
 ghost use Rattle.tds_relay.specs.Desk.{Asks, Does, Ends, Puts, Stops, find_key};
 ghost use Rattle.tds_relay.specs.Sparing.{OthersHold};
 ghost use Rattle.tds_relay.specs.Ties.{Turns, desk_in};
@@ -95,6 +96,8 @@ impl Desk {
         ensures ok { IfOk result (λ done. Turns (Does key Stops)
             (desk_in self.old) (desk_in self.new) out.old.items out.new.items) }
         ensures whose { IfOk result (λ done. find_key key (desk_in self.old).holds ≡ Some done.0) }
+        ensures stops { OnOk result (ClientStops key self.old self.new out.old.items
+            out.new.items) }
         ensures err { OnErr result (desk_in self.new ≡ desk_in self.old) }
         ensures stand { AllStand self.old.service self.new.service }
         ensures others { OthersHold key self.old self.new }

@@ -11,6 +11,7 @@ use super::Desk;
 use super::leaving::{clean, forget};
 use super::lists::{find_lease, remove_number};
 use crate::NoMemory;
+use crate::fault::Broken;
 use std::alloc::AllocError;
 use tds_service::{Outcome, Refusal, Rest, Service};
 
@@ -113,8 +114,9 @@ impl Desk {
             Outcome::More => What::Goes,
             Outcome::Finished => self.settle(number, came.lease, What::Finished, out)?,
             Outcome::Acknowledged => self.settle(number, came.lease, What::Acknowledged, out)?,
-            Outcome::Fault(_) => {
+            Outcome::Fault(fault) => {
                 self.lose(number)?;
+                self.broken = Some(Broken { number, fault });
                 What::Closed
             }
         };

@@ -93,9 +93,12 @@ impl Relay {
         if application.is_over {
             return Ok(piece.len());
         }
-        let Ok(fed) = application.feed(piece) else {
-            self.expel(key)?;
-            return Ok(piece.len());
+        let fed = match application.feed(piece) {
+            Ok(fed) => fed,
+            Err(fault) => {
+                self.expel_for(key, Some(fault))?;
+                return Ok(piece.len());
+            }
         };
         let bytes = &piece[..fed.count];
         self.obey(key, bytes, fed.said)?;

@@ -1,27 +1,26 @@
 //! What comes on connections.
-ghost use Rattle.std.specs.Prelude.{◌≡◌, ◌+◌, ◌≤◌, ◌&&◌, ◌||◌, not, Bool, None, Some, drop, false, length, true};
-ghost use Rattle.std.specs.Prelude.{IfOk, IsNone, OnOk};
-ghost use Rattle.tds_packet.specs.declared.status.Reset.TheVariants.{KeepTransaction};
+ghost use Rattle.std.specs.Prelude.{◌≡◌, ◌+◌, ◌&&◌, not, None, Some, drop, false, length, true, IfOk, IsNone, OnOk};
 ghost use Rattle.tds_service.specs.Table.{reading_on};
-ghost use Rattle.tds_relay.specs.Fronts.{Moved, end_of, ends_in, hall_in, hall_of_ends, told_by};
-ghost use Rattle.tds_relay.specs.Fronts.{house_in, house_of, house_with};
-ghost use Rattle.tds_relay.specs.Hall.{AsksFor, IfWhose, MayPart, change_end, change_whose, end_at, holder, told};
-ghost use Rattle.tds_relay.specs.declared.desk.coming.What.TheVariants as whats;
+ghost use Rattle.tds_relay.specs.Faults.{IsHeaderOf};
+ghost use Rattle.tds_relay.specs.Fronts.{Moved, end_of, ends_in, hall_in, hall_of_ends, told_by, house_in, house_of};
+ghost use Rattle.tds_relay.specs.Fronts.{house_with};
+ghost use Rattle.tds_relay.specs.Hall.{change_end, change_whose, told};
 ghost use Rattle.tds_relay.specs.Handing.{Brings, HearsBy, Passes, news_for, fed};
 ghost use Rattle.tds_relay.specs.House.{Steps};
 ghost use Rattle.tds_relay.specs.Posts.{post_of, posts_in};
-ghost use Rattle.tds_relay.specs.Reads.{Comes, Continues, OpensOthers, Stays, StreamsAll, if_heard};
-ghost use Rattle.tds_relay.specs.Reads.{open_at, reader_at};
+ghost use Rattle.tds_relay.specs.Reads.{Comes, Continues, OpensOthers, Stays, StreamsAll, if_heard, open_at};
+ghost use Rattle.tds_relay.specs.Reads.{reader_at};
 ghost use Rattle.tds_relay.specs.Bounds.{IsRoom};
-ghost use Rattle.tds_relay.specs.Ties as causes;
-ghost use Rattle.tds_relay.specs.Ties.{Connection, Goes, GoesOn, NobodyWaits, desk_in};
+ghost use Rattle.tds_relay.specs.Ties.{Connection, Goes, NobodyWaits, desk_in};
 ghost use Rattle.tds_relay.specs.Walkers.{AllStand, HasRead, ReadsBy};
+ghost use Rattle.tds_relay.specs.declared.desk.coming.What.TheVariants as whats;
 
 use super::Relay;
 use super::asking::behind;
 use crate::NoMemory;
 use crate::application::{Application, Asking};
-use crate::desk::{Desk, Heard, Renewed, What};
+use crate::desk::{Desk, Heard, What};
+use crate::fault::Refused;
 use crate::link::{Answer, Link, News};
 use crate::links::place_in;
 use crate::reading::reads_packets;
@@ -89,6 +88,7 @@ impl Relay {
             applications,
             links,
             outbox,
+            refused,
             ..
         } = self;
         outbox.clear();
@@ -99,7 +99,7 @@ impl Relay {
         if !link.is_open {
             return Ok((piece.len(), Some(NOTHING)));
         }
-        hear_on(desk, applications, link, number, outbox, piece)
+        hear_on(desk, applications, link, refused, number, outbox, piece)
     }
 
     /// What came of a packet is done.
@@ -213,86 +213,6 @@ impl Relay {
             None => false,
         }
     }
-
-    /// The server has acknowledged that an application's request was taken back: its next one goes on.
-    fn resume(&mut self, number: u64, key: usize) -> Result<(), NoMemory>
-        ensures goes { OnOk result (Goes (Connection number)
-            (desk_in self.old.desk) (desk_in self.new.desk)) }
-        ensures kept { OnOk result (posts_in self.new.applications
-            ≡ posts_in self.old.applications) }
-        ensures moves { OnOk result (Moved (Connection number) (hall_in self.old)
-            (hall_in self.new)) }
-        ensures read { OnOk result (Stays self.old.links.items self.new.links.items) }
-        ensures stand { OnOk result (AllStand self.old.desk.service
-            self.new.desk.service) }
-    {
-        if self.asks_to_keep(key) {
-            self.keep(number, key)
-        } else {
-            self.start(key)
-        }
-    }
-
-    /// The application keeps its connection with its transaction, for a request that has waited.
-    #[tactic(auto, using(crate::proofs::steps::Reaching::reaches_turn))]
-    fn keep(&mut self, number: u64, key: usize) -> Result<(), NoMemory>
-        ensures goes { OnOk result (Goes (Connection number)
-            (desk_in self.old.desk) (desk_in self.new.desk)) }
-        ensures kept { OnOk result (posts_in self.new.applications
-            ≡ posts_in self.old.applications) }
-        ensures moves { OnOk result (AsksFor KeepTransaction
-            (end_at (ends_in self.old.applications) key)
-            → Moved (Connection number) (hall_in self.old) (hall_in self.new)) }
-        ensures read { OnOk result (Stays self.old.links.items self.new.links.items) }
-        ensures stand { OnOk result (AllStand self.old.desk.service
-            self.new.desk.service) }
-    {
-        match self.desk.renew(key)? {
-            Renewed::Kept(hold) => {
-                self.restart(hold.number);
-                self.start(key)
-            }
-            Renewed::NotKept => self.replace(number),
-            Renewed::Closed(number) => self.close(number, Some(key)),
-        }
-    }
-
-    /// The transaction that was to be kept has ended: the connection is closed, and its application waits
-    /// for another, if it may be parted from it.
-    #[tactic(auto, using(crate::proofs::steps::Reaching::reaches_turn))]
-    fn replace(&mut self, number: u64) -> Result<(), NoMemory>
-        ensures goes { OnOk result (Goes (Connection number)
-            (desk_in self.old.desk) (desk_in self.new.desk)) }
-        ensures kept { OnOk result (posts_in self.new.applications
-            ≡ posts_in self.old.applications) }
-        ensures moves { OnOk result (Moved (Connection number) (hall_in self.old)
-            (hall_in self.new)) }
-        ensures read { OnOk result (Stays self.old.links.items self.new.links.items) }
-        ensures stand { OnOk result (AllStand self.old.desk.service
-            self.new.desk.service) }
-    {
-        if !self.may_replace(number) {
-            return self.lose(number);
-        }
-        let holder = self.desk.lose(number)?;
-        let Some(key) = holder else {
-            return self.close_link(number);
-        };
-        self.let_go(key);
-        self.close_link(number)?;
-        self.wait(key)
-    }
-
-    /// Whether who holds the connection of this number may be parted from it.
-    fn may_replace(&self, number: u64) -> bool
-        ensures { result ≡ true → IfWhose (MayPart (hall_in self.now))
-            (holder (desk_in self.now.desk) number) }
-    {
-        match self.desk.key_on(number) {
-            Some(key) => self.may_part(key),
-            None => true,
-        }
-    }
 }
 
 const NOTHING: Heard = Heard {
@@ -305,6 +225,7 @@ fn hear_on(
     desk: &mut Desk,
     applications: &mut Slab<Application>,
     link: &mut Link,
+    refused: &mut Option<Refused>,
     number: u64,
     outbox: &mut Vec<u8>,
     piece: &[u8],
@@ -322,9 +243,15 @@ fn hear_on(
     ensures is_open { link.new.is_open ≡ link.old.is_open }
     ensures out { link.new.out ≡ link.old.out }
     ensures ends { OnOk result (ends_in applications.new ≡ ends_in applications.old) }
+    ensures refused { IfOk result (λ heard. IsHeaderOf number
+        (fed link.old.reader piece.now) heard.1 refused.old refused.new) }
 {
-    let Ok(count) = link.reader.feed(piece) else {
-        return Ok((piece.len(), None));
+    let count = match link.reader.feed(piece) {
+        Ok(count) => count,
+        Err(fault) => {
+            *refused = Some(Refused { number, fault });
+            return Ok((piece.len(), None));
+        }
     };
     reads_packets();
     let heard = hear_packet(desk, applications, link, number, outbox)?;

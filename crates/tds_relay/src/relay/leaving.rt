@@ -5,7 +5,7 @@ ghost use Rattle.tds_relay.specs.Bodies.{AskAsBefore, AskOn, Body, Closed, body_
 ghost use Rattle.tds_relay.specs.Desk.{Loses, find_number, key_of, turn};
 ghost use Rattle.tds_relay.specs.Fronts.{LetsGoFirst, Moved, MovedOn, ends_in, hall_in, hall_of_ends};
 ghost use Rattle.tds_relay.specs.Fronts.{house_in};
-ghost use Rattle.tds_relay.specs.Hall.{change_end, change_whose, closes, end_at};
+ghost use Rattle.tds_relay.specs.Hall.{change_end, change_whose, closes, closes_for, end_at};
 ghost use Rattle.tds_relay.specs.House.{Steps, StepsOn};
 ghost use Rattle.tds_relay.specs.Law.{closing};
 ghost use Rattle.tds_relay.specs.Posts.{posts_in};
@@ -20,6 +20,7 @@ use super::Relay;
 use crate::NoMemory;
 use crate::links::remove_link;
 use crate::order::Order;
+use tds_front::FrontFault;
 
 impl Relay {
     /// An application has ended, or was closed: its key is unknown from now on. What is underway of it is
@@ -57,7 +58,6 @@ impl Relay {
     }
 
     /// Nothing more of an application is taken, and it is to be closed. Its connection is given back.
-    #[tactic(auto, using(crate::proofs::steps::Reaching::reaches_left))]
     pub(super) fn expel(&mut self, key: usize) -> Result<(), NoMemory>
         ensures goes { OnOk result (Goes (Application key)
             (desk_in self.old.desk) (desk_in self.new.desk)) }
@@ -73,7 +73,28 @@ impl Relay {
         ensures others { IsReached (desk_in self.old.desk)
             → OnOk result (OthersRest key self.old self.new) }
     {
-        self.end(key)?;
+        self.expel_for(key, None)
+    }
+
+    /// The same of one that did what the protocol doesn't allow, or of any other.
+    #[tactic(auto, using(crate::proofs::steps::Reaching::reaches_left))]
+    pub(super) fn expel_for(&mut self, key: usize, why: Option<FrontFault>) -> Result<(), NoMemory>
+        ensures goes { OnOk result (Goes (Application key)
+            (desk_in self.old.desk) (desk_in self.new.desk)) }
+        ensures kept { OnOk result (posts_in self.new.applications
+            ≡ posts_in self.old.applications) }
+        ensures moves { OnOk result (Moved (Application key) (hall_of_ends (desk_in self.old.desk)
+            (change_end key (closes_for why) (ends_in self.old.applications)))
+            (hall_in self.new)) }
+        ensures over { OnOk result (IsDeaf (end_at (ends_in self.new.applications) key)) }
+        ensures read { OnOk result (Stays self.old.links.items self.new.links.items) }
+        ensures stand { OnOk result (AllStand self.old.desk.service
+            self.new.desk.service) }
+        ensures asks { OnOk result (AskOn self.old.applications self.new.applications) }
+        ensures others { IsReached (desk_in self.old.desk)
+            → OnOk result (OthersRest key self.old self.new) }
+    {
+        self.end_for(key, why)?;
         self.release(key)
     }
 
@@ -91,12 +112,29 @@ impl Relay {
         ensures ordered { OnOk result (self.new.orders.items
             ≡ closing (get self.old.applications key) self.old.orders.items) }
     {
+        self.end_for(key, None)
+    }
+
+    /// It is to be closed, for this where that is what it did.
+    fn end_for(&mut self, key: usize, why: Option<FrontFault>) -> Result<(), NoMemory>
+        ensures desk { self.new.desk ≡ self.old.desk }
+        ensures kept { OnOk result (posts_in self.new.applications
+            ≡ posts_in self.old.applications) }
+        ensures ends { OnOk result (ends_in self.new.applications
+            ≡ change_end key (closes_for why) (ends_in self.old.applications)) }
+        ensures links { OnOk result (self.new.links.items ≡ self.old.links.items) }
+        ensures asks { OnOk result (AskOn self.old.applications self.new.applications) }
+        ensures shuts { OnOk result ((goes : Body)
+            → body_in (get self.new.applications key) goes ≡ Closed) }
+        ensures ordered { OnOk result (self.new.orders.items
+            ≡ closing (get self.old.applications key) self.old.orders.items) }
+    {
         match self.applications.get_mut(key) {
             Some(application) => {
                 if application.is_over {
                     return Ok(());
                 }
-                application.close();
+                application.close(why);
                 self.orders.push(Order::Close(application.tag))?;
                 Ok(())
             }

@@ -1,12 +1,17 @@
 //! Where applications and connections are, for whoever tells an operator of it or sets time limits.
-ghost use Rattle.std.specs.Prelude.{◌≡◌, IfSome};
+ghost use Rattle.std.specs.Prelude.{◌≡◌, IfSome, option_copied};
 ghost use Rattle.slab.specs.Slab.{get};
+ghost use Rattle.tds_relay.specs.Desk.{fault_on};
+ghost use Rattle.tds_relay.specs.Faults.{header_fault_in, why_at};
+ghost use Rattle.tds_relay.specs.Fronts.{house_in};
 ghost use Rattle.tds_relay.specs.Places.{IsOn, Names, begun_in, held_by, open_on};
 ghost use Rattle.tds_relay.specs.Ties.{desk_in};
 
 use super::Relay;
 use crate::application::{Application, Asking};
-use tds_front::Stage;
+use tds_front::{FrontFault, Stage};
+use tds_listen::ListenFault;
+use tds_packet::PacketFault;
 use tds_service::Place as Seated;
 
 /// Where an application is.
@@ -88,6 +93,42 @@ impl Relay {
         match self.applications.get(key) {
             Some(application) => application.begun,
             None => 0,
+        }
+    }
+
+    /// What an application did that the protocol doesn't allow, where it is to be closed for that.
+    #[tactic(auto, using(crate::proofs::steps::Faults::why_there, crate::proofs::steps::Faults::why_nobody))]
+    pub fn fault_of(&self, key: usize) -> Option<FrontFault>
+        ensures { result ≡ why_at key (house_in self.now) }
+    {
+        match self.applications.get(key) {
+            Some(application) => application.fault(),
+            None => None,
+        }
+    }
+
+    /// What the server said on the connection of this number that no server may, where that is closed for it:
+    /// until another one is.
+    pub fn fault_on(&self, number: u64) -> Option<&ListenFault>
+        ensures { option_copied result ≡ fault_on number (desk_in self.now.desk) }
+    {
+        self.desk.fault_on(number)
+    }
+
+    /// The fault of the header of a packet that came on the connection of this number, where that is closed for
+    /// it: until another one is.
+    pub fn header_fault_on(&self, number: u64) -> Option<&PacketFault>
+        ensures { option_copied result ≡ header_fault_in number self.now.refused }
+    {
+        match &self.refused {
+            Some(refused) => {
+                if refused.number == number {
+                    Some(&refused.fault)
+                } else {
+                    None
+                }
+            }
+            None => None,
         }
     }
 

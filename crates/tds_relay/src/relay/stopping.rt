@@ -2,13 +2,14 @@
 ghost use Rattle.slab.specs.Slab.{get};
 ghost use Rattle.std.specs.Prelude.{◌≡◌, [], ℕ, IfSome, List, OnOk, true};
 ghost use Rattle.tds_front.specs.declared.front.Said.TheVariants.{Forget, HandOn};
-ghost use Rattle.tds_relay.specs.Bodies.{AskAsBefore, AskOn, Body, Nowhere, Starts, body_in};
+ghost use Rattle.tds_relay.specs.Bodies.{AskAsBefore, AskOn, Body, Halts, IsHalting, Nowhere, Starts};
+ghost use Rattle.tds_relay.specs.Bodies.{StopsOn, body_in, body_of};
 ghost use Rattle.tds_relay.specs.Desk.{Does, Stops, Unwaits};
 ghost use Rattle.tds_relay.specs.Fronts.{FedOn, Moved, MovedOn, ends_in, hall_in, hall_of_ends, withdraws};
 ghost use Rattle.tds_relay.specs.Hall.{Ends, IfOpen, IsHere, change_end, end_at};
 ghost use Rattle.tds_relay.specs.Posts.{acknowledgement, give, posts_in};
 ghost use Rattle.tds_relay.specs.Reads.{Stays};
-ghost use Rattle.tds_relay.specs.Ties.{Application, Goes, Turns, desk_in};
+ghost use Rattle.tds_relay.specs.Ties.{Application, Goes, GoesOn, Turns, desk_in};
 ghost use Rattle.tds_relay.specs.Walkers.{AllStand};
 
 use super::Relay;
@@ -121,6 +122,7 @@ impl Relay {
         ensures links { self.new.links.items ≡ self.old.links.items }
         ensures stand { AllStand self.old.desk.service self.new.desk.service }
         ensures asks { AskAsBefore self.old.applications self.new.applications }
+        ensures stops { IfSome result (λ number. IsHalting number key self.old self.new) }
     {
         self.outbox.clear();
         match self.desk.cancel(key, &mut self.outbox) {
@@ -179,13 +181,30 @@ impl Relay {
         ensures read { OnOk result (Stays self.old.links.items self.new.links.items) }
         ensures stand { OnOk result (AllStand self.old.desk.service
             self.new.desk.service) }
+        ensures body { OnOk result (Halts (body_of key self.old) (body_of key self.new)) }
     {
         match self.stop(key) {
             Some(number) => {
                 self.counts.cancels = self.counts.cancels.saturating_add(1);
-                self.send_on(number)
+                self.send_stop(key, number)
             }
             None => self.expel(key),
         }
+    }
+
+    /// What a cancel puts out waits on the connection of this number, which the application holds. Where more
+    /// would wait than may, both are closed.
+    fn send_stop(&mut self, key: usize, number: u64) -> Result<(), NoMemory>
+        ensures goes { OnOk result (GoesOn (desk_in self.old.desk) (desk_in self.new.desk)) }
+        ensures kept { OnOk result (posts_in self.new.applications
+            ≡ posts_in self.old.applications) }
+        ensures moves { OnOk result (MovedOn (hall_in self.old) (hall_in self.new)) }
+        ensures read { OnOk result (Stays self.old.links.items self.new.links.items) }
+        ensures stand { OnOk result (AllStand self.old.desk.service
+            self.new.desk.service) }
+        ensures sends { OnOk result (StopsOn number key self.old self.new) }
+    {
+        let fits = self.fits_on(number)?;
+        if fits { Ok(()) } else { self.fail(key, number) }
     }
 }

@@ -34,6 +34,8 @@ pub(crate) enum Wrong {
     Transaction,
     /// It came with another body than it was sent with, or in packets of another type.
     Body,
+    /// An application or a server broke the protocol, and the relay doesn't say how.
+    Untold,
     /// Nothing goes on.
     Stuck,
 }

@@ -3,7 +3,7 @@ use Rattle.tds_relay.specs.declared.link.Link.{Link}
 use Rattle.tds_relay.specs.Posts.{post_in}
 use Rattle.tds_relay.specs.Reads.{place_of}
 use Rattle.tds_relay.proofs.spared.Waits.{waits_same}
-use Rattle.tds_relay.proofs.steps.Staying.{opened_nowhere, opened_written}
+use Rattle.tds_relay.proofs.steps.Placed.{opened_nowhere, opened_written}
 use Rattle.tds_relay.proofs.links.set_open.Goals as goal
 
 pub returns-in_default-clause-opens : goal.returns-in_default-clause-opens

@@ -5,7 +5,7 @@ use super::looking::number_of;
 use crate::answers::ACKNOWLEDGED;
 use crate::packets::{ANSWER, ENDS, put_packet};
 use crate::random::Random;
-use crate::tally::{Tally, raise};
+use crate::tally::{Tally, Wrong, raise};
 use std::alloc::AllocError;
 
 impl Group {
@@ -48,6 +48,9 @@ impl Group {
         application.is_doomed = true;
         let key = application.key;
         self.relay.said(key, &[0x55; 8])?;
+        if self.relay.fault_of(key).is_none() {
+            tally.note(Wrong::Untold);
+        }
         self.settle(Some(key), tally)
     }
 
@@ -90,6 +93,11 @@ impl Group {
         raise(&mut tally.broken);
         self.doom(number);
         self.relay.came(number, bytes.as_slice())?;
+        let is_told = self.relay.fault_on(number).is_some()
+            || self.relay.header_fault_on(number).is_some();
+        if !is_told {
+            tally.note(Wrong::Untold);
+        }
         self.settle(None, tally)
     }
 

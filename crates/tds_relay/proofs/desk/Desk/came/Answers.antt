@@ -1,5 +1,5 @@
 use Rattle.std.proofs.Common.{◌≡◌, ◌∙◌, refl, sym, ap, subst, rules}
-use Rattle.std.specs.Prelude.{Option, None, ◌≢◌}
+use Rattle.std.specs.Prelude.{Option, Some, None, ◌≢◌}
 use Rattle.tds_wire.specs.Reading.{Reading}
 use Rattle.tds_service.specs.Line as line
 use Rattle.tds_service.specs.Packets.{packet_part}
@@ -52,7 +52,7 @@ returns-in-Err-clause-ok c =
     let d = desk_in c.args.self.now in
     let part = part_on (reading_on c.args.number c.args.self.now.service) c.args.bytes.now c.args.ends in
     let same : c.heard.new.self ≡ c.args.self.now.service = search rules in
-    let P : services.Service → Type 0 = λ s. Turns (Comes c.args.number part NotLent) d (record { mode = d.mode; service = service_in s; holds = d.holds; line = d.line }) c.args.out.now.items c.args.out.now.items in
+    let P : services.Service → Type 0 = λ s. Turns (Comes c.args.number part NotLent) d (record d { service = service_in s }) c.args.out.now.items c.args.out.now.items in
     ok_both c.unheard.result (c.in-Err.refusal ≢ refusals.Memory) (λ heard. heard.key ≡ None) _
     (λ never heard nobody. (
       NotLent,
@@ -139,9 +139,9 @@ returns-in_ok-lose-in-Fault-clause-ok c =
     let d = desk_in c.args.self.now in
     let came = c.in-Ok.ensures.ok in
     let answers = rw c.in-Fault.is at came.2.1.answers in
-    let P : Option Reading → Type 0 = λ o. Turns (Comes c.args.number (part_on o c.args.bytes.now c.args.ends) NotLent) d (desk_in c.lose.new.self) c.args.out.now.items c.args.out.now.items in (
+    let P : Option Reading → Type 0 = λ o. Turns (Comes c.args.number (part_on o c.args.bytes.now c.args.ends) NotLent) d (record (desk_in c.lose.new.self) { broken = Some (record { number = c.args.number; fault = c.in-Fault.fault }) }) c.args.out.now.items c.args.out.now.items in (
       NotLent,
       subst P (sym came.1)
-          (came_wrong d (desk_in c.lose.new.self) c.args.number (packet_part came.0 c.args.bytes.now c.args.ends) NotLent (service_in c.heard.new.self) (line.Fault _) c.args.out.now.items came.2.1.steps answers refl
+          (came_wrong d (desk_in c.lose.new.self) c.args.number (packet_part came.0 c.args.bytes.now c.args.ends) NotLent (service_in c.heard.new.self) c.in-Fault.fault c.args.out.now.items came.2.1.steps answers
           c.in_ok-lose-in-Fault.ensures.turns),
     )

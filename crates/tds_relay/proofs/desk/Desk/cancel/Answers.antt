@@ -2,6 +2,7 @@ use Rattle.std.proofs.Common.{refl, rules}
 use Rattle.tds_service.specs.Service as calls
 use Rattle.tds_relay.proofs.bytes.Walking.{keeps_stand}
 use Rattle.tds_relay.proofs.spared.Held.{deed_others, deed_same}
+use Rattle.tds_relay.proofs.steps.Halting.{client_stops}
 use Rattle.tds_relay.proofs.desk.Desk.cancel.Goals as goal
 
 pub returns-in-Ok-clause-stand : goal.returns-in-Ok-clause-stand
@@ -12,3 +13,7 @@ returns-in-Ok-clause-others c = deed_others c.args.self.now _ c.args.key c.in-So
 
 pub returns-in-Err-clause-others : goal.returns-in-Err-clause-others
 returns-in-Err-clause-others c = deed_same c.args.self.now _ c.args.key (search rules)
+
+pub returns-in-Ok-clause-stops : goal.returns-in-Ok-clause-stops
+returns-in-Ok-clause-stops c =
+    client_stops c.args.key c.in-Some.hold c.args.self.now (record c.args.self.now { service = c.cancel.new.self }) c.args.out.now.items c.cancel.new.out.items (search rules) refl c.in-Ok.ensures.ok.service_is c.in-Ok.ensures.ok.reply_is c.in-Ok.ensures.stops

@@ -4,7 +4,7 @@ use Rattle.tds_relay.specs.Ties.{Neither}
 use Rattle.tds_relay.proofs.steps.Fronts.{moves_does}
 use Rattle.tds_relay.proofs.steps.Reaching.{reaches_turn, reached_on}
 use Rattle.tds_relay.proofs.steps.Stepping.{no_steps, steps_moved}
-use Rattle.tds_relay.proofs.steps.Staying.{first_opens, none_there}
+use Rattle.tds_relay.proofs.steps.Placed.{first_opens, none_there}
 use Rattle.tds_relay.proofs.spared.Resting.{go_both, none_go, go_refl}
 use Rattle.tds_relay.proofs.relay.Relay.bring.Goals as goal
 

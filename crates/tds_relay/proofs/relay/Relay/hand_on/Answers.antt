@@ -8,6 +8,9 @@ use Rattle.tds_relay.proofs.steps.Reaching.{ok_more}
 use Rattle.tds_relay.proofs.steps.Told.{deaf_behind, deaf_closed}
 use Rattle.tds_relay.proofs.steps.Staying.{stays_from}
 use Rattle.tds_relay.proofs.bytes.Calls.{stand_on}
+use Rattle.tds_relay.specs.Bodies.{ByClosing, Halts, body_of, going_of}
+use Rattle.tds_relay.proofs.steps.Bodied.{shut}
+use Rattle.tds_relay.proofs.steps.Halting.{halted}
 use Rattle.tds_relay.proofs.relay.Relay.hand_on.Goals as goal
 
 pub returns-in-Some-clause-moves : goal.returns-in-Some-clause-moves
@@ -15,16 +18,16 @@ returns-in-Some-clause-moves c =
     let by = Application c.args.key in
     let now = ends_in c.args.self.now.applications in
     let d = desk_in c.args.self.now.desk in
-    ok_more c.send_on.result _ _
+    ok_more c.send_stop.result _ _
     (λ m before bytes f. inl (record {
       mid = hall_of_ends d before;
       first = no_moves by (hall_of_ends d before);
       same = refl;
-      next = subst (λ (h : Hall). Moves by h (hall_in c.send_on.new.self))
+      next = subst (λ (h : Hall). Moves by h (hall_in c.send_stop.new.self))
           (sym (handed_on_is c.args.key d (desk_in c.stop.new.self.desk) before now bytes _ _ f c.in-Some.ensures.some.2))
           (m by _ (moves_same by _ _ _ _ _ refl c.stop.ensures.ends (no_moves by (hall_of_ends (desk_in c.stop.new.self.desk) now))));
     }))
-    c.send_on.ensures.moves
+    c.send_stop.ensures.moves
 
 pub returns-in-None-clause-moves : goal.returns-in-None-clause-moves
 returns-in-None-clause-moves c =
@@ -46,13 +49,21 @@ returns-in-None-clause-moves c =
     c.expel.ensures.moves
 
 pub returns-in-Some-clause-read : goal.returns-in-Some-clause-read
-returns-in-Some-clause-read c = stays_from c.send_on.result _ _ _ c.stop.ensures.links c.send_on.ensures.read
+returns-in-Some-clause-read c = stays_from c.send_stop.result _ _ _ c.stop.ensures.links c.send_stop.ensures.read
 
 pub returns-in-None-clause-read : goal.returns-in-None-clause-read
 returns-in-None-clause-read c = stays_from c.expel.result _ _ _ c.stop.ensures.links c.expel.ensures.read
 
 pub returns-in-Some-clause-stand : goal.returns-in-Some-clause-stand
-returns-in-Some-clause-stand c = stand_on c.send_on.result _ _ _ c.stop.ensures.stand c.send_on.ensures.stand
+returns-in-Some-clause-stand c = stand_on c.send_stop.result _ _ _ c.stop.ensures.stand c.send_stop.ensures.stand
 
 pub returns-in-None-clause-stand : goal.returns-in-None-clause-stand
 returns-in-None-clause-stand c = stand_on c.expel.result _ _ _ c.stop.ensures.stand c.expel.ensures.stand
+
+pub returns-in-Some-clause-body : goal.returns-in-Some-clause-body
+returns-in-Some-clause-body c =
+    ok_more c.send_stop.result _ _ (λ s. halted c.args.key c.in-Some.number c.args.self.now c.stop.new.self c.send_stop.new.self c.in-Some.ensures.stops c.stop.ensures.links c.stop.ensures.asks s) c.send_stop.ensures.sends
+
+pub returns-in-None-clause-body : goal.returns-in-None-clause-body
+returns-in-None-clause-body c =
+    ok_more c.expel.result _ _ (λ d. subst (Halts (body_of c.args.key c.args.self.now)) (sym (shut c.expel.new.self.applications c.args.key (going_of c.args.key c.expel.new.self) d)) ByClosing) c.expel.ensures.over

@@ -7,7 +7,8 @@ use Rattle.tds_relay.specs.Posts.{post_in, posts_in}
 use Rattle.tds_relay.specs.Ties.{desk_in}
 use Rattle.tds_relay.specs.Reads.{bytes_on, place_of}
 use Rattle.tds_relay.proofs.bytes.Streaming.{hear_at, unheard, unopened}
-use Rattle.tds_relay.proofs.steps.Staying.{others_written, others_open, opens_refl}
+use Rattle.tds_relay.proofs.steps.Placed.{others_written}
+use Rattle.tds_relay.proofs.steps.Staying.{others_open, opens_refl}
 use Rattle.tds_relay.proofs.steps.Reaching.{ok_if}
 use Rattle.tds_relay.proofs.relay.Relay.hear.Goals as goal
 

@@ -1,7 +1,7 @@
 use Rattle.std.proofs.Common.{refl, ◌≡◌, ◌∙◌, List, None, Option, Some, ap, option_map, sym, subst}
 use Rattle.tds_relay.specs.declared.link.Link.{Link}
 use Rattle.tds_relay.specs.Reads.{open_of, place_of, seen_of, bytes_on}
-use Rattle.tds_relay.proofs.steps.Staying.{is_at, is_nowhere, is_shut_at}
+use Rattle.tds_relay.proofs.steps.Placed.{is_at, is_nowhere, is_shut_at}
 use Rattle.std.specs.Prelude.{IsSome}
 use Rattle.tds_relay.proofs.relay.Relay.is_open.Goals as goal
 

@@ -2,7 +2,7 @@ use Rattle.std.proofs.Common.{◌≡◌, ◌∙◌, List, None, Option, Some, ap
 use Rattle.std.specs.Prelude.{option_copied}
 use Rattle.tds_relay.specs.declared.link.Link.{Link}
 use Rattle.tds_relay.specs.Reads.{place_of}
-use Rattle.tds_relay.proofs.steps.Staying.{is_at, is_nowhere}
+use Rattle.tds_relay.proofs.steps.Placed.{is_at, is_nowhere}
 use Rattle.tds_relay.proofs.relay.Relay.link.Goals as goal
 
 pub returns-in_err-place : goal.returns-in_err-place

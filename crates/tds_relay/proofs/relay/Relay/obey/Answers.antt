@@ -126,4 +126,4 @@ returns-in_ok-forget-in-Acknowledge-clause-body c = ok_more c.acknowledge.result
     (forgot_on c.acknowledge.result c.forget-in-Acknowledge.new.self.applications c.acknowledge.new.self.applications c.args.key c.in_ok-forget-in-Acknowledge.ensures.body c.acknowledge.ensures.asks)
 
 pub returns-in-HandOn-clause-body : goal.returns-in-HandOn-clause-body
-returns-in-HandOn-clause-body c = ok_if c.hand_on.result _ (subst (λ (s : Said). Obeys s c.args.bytes.now (body_of c.args.key c.args.self.now) (body_of c.args.key c.hand_on.new.self)) (sym c.in-HandOn.is) (record { mid = body_of c.args.key c.hand_on.new.self; does = tt; starts = Stays }))
+returns-in-HandOn-clause-body c = ok_more c.hand_on.result _ _ (λ h. subst (λ (s : Said). Obeys s c.args.bytes.now (body_of c.args.key c.args.self.now) (body_of c.args.key c.hand_on.new.self)) (sym c.in-HandOn.is) (record { mid = body_of c.args.key c.hand_on.new.self; does = h; starts = Stays })) c.hand_on.ensures.body

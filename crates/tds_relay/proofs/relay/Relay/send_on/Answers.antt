@@ -1,8 +1,8 @@
-use Rattle.std.proofs.Common.{ap, inl, subst, sym}
+use Rattle.std.proofs.Common.{ap, inl, rules, subst, sym}
 use Rattle.tds_relay.specs.Ties.{desk_in, IsReached}
 use Rattle.tds_relay.proofs.steps.Fronts.{moves_same}
 use Rattle.tds_relay.proofs.steps.Reaching.{ok_more}
-use Rattle.tds_relay.proofs.steps.Staying.{stays_on}
+use Rattle.tds_relay.proofs.steps.Staying.{filled_by, gone_filled, stays_on}
 use Rattle.tds_relay.proofs.bytes.Calls.{stand_from}
 use Rattle.tds_relay.proofs.spared.Letting.{sent_all}
 use Rattle.tds_relay.specs.declared.desk.Desk as code
@@ -28,3 +28,9 @@ pub returns-else-fits-clause-sends : goal.returns-else-fits-clause-sends
 returns-else-fits-clause-sends c = λ reached.
     sent_all c.lose.result c.args.number c.args.self.now c.fits_on.new.self c.lose.new.self reached c.fits_on.ensures.desk c.in_ok-fits.ensures.asks c.in_ok-fits.ensures.others
     (c.lose.ensures.rests (subst (λ (d : code.Desk). IsReached (desk_in d)) (sym c.fits_on.ensures.desk) reached)) c.lose.ensures.shuts
+
+pub returns-then-fits-clause-puts : goal.returns-then-fits-clause-puts
+returns-then-fits-clause-puts c = filled_by c.args.self.now.outbox.items _ _ (c.in_ok-fits.ensures.waits (search rules))
+
+pub returns-else-fits-clause-puts : goal.returns-else-fits-clause-puts
+returns-else-fits-clause-puts c = ok_more c.lose.result _ _ (λ g. gone_filled c.args.self.now.outbox.items c.args.number _ c.lose.new.self.links.items g) c.lose.ensures.gone

@@ -25,3 +25,6 @@ returns-in-None-clause-stand c = λ n r h. c.in_ok-served.ensures.stand n r (c.l
 
 pub returns-in-None-clause-goes_on : goal.returns-in-None-clause-goes_on
 returns-in-None-clause-goes_on c = served_go _ _ _ c.line.invariant.goes c.line.invariant.going c.in_ok-served.ensures.holds refl refl
+
+pub returns-in-None-clause-goes : goal.returns-in-None-clause-goes
+returns-in-None-clause-goes c = λ by from h. reaches_turn by from _ _ _ _ _ c.in_ok-served.ensures.ok.0 tt (c.line.invariant.goes by from h)

@@ -1,4 +1,5 @@
-use Rattle.std.proofs.Common.{refl}
+use Rattle.std.proofs.Common.{List, ℕ, refl, rules, subst}
+use Rattle.tds_relay.specs.Bodies.{ClientStops}
 use Rattle.tds_relay.specs.Ties.{Application}
 use Rattle.tds_relay.proofs.steps.Fronts.{moves_does, moves_same}
 use Rattle.tds_relay.proofs.steps.Reaching.{reaches_turn}
@@ -21,3 +22,11 @@ returns-else-matches-clause-moves c = λ es here from h. moves_does (Application
 
 pub returns-in-Err-clause-moves : goal.returns-in-Err-clause-moves
 returns-in-Err-clause-moves c = λ es here from h. moves_same (Application c.args.key) from _ _ _ _ c.in-Err.ensures.err refl h
+
+pub returns-then-matches-clause-stops : goal.returns-then-matches-clause-stops
+returns-then-matches-clause-stops c = record {
+  hold = c.in-Ok.hold;
+  its = c.in-Ok.ensures.whose;
+  number_is = refl;
+  stops = subst (λ (xs : List ℕ). ClientStops c.args.key c.args.self.now.desk c.cancel.new.self xs c.cancel.new.out.items) (search rules) c.in-Ok.ensures.stops;
+}

@@ -1,6 +1,7 @@
 use Rattle.std.proofs.Common.{◌≡◌, ◌∙◌, Some, false, ap, refl, rules, sym, subst}
 use Rattle.std.specs.Prelude.{take}
 use Rattle.tds_relay.specs.Fronts.{end_of, ends_in, given_by, hall_in, house_in, hall_of_ends}
+use Rattle.tds_relay.specs.Hall.{closes_for}
 use Rattle.tds_relay.specs.Posts.{Posts, posts_in}
 use Rattle.tds_relay.specs.Ties.{Application, desk_in}
 use Rattle.tds_relay.proofs.steps.Fed.{closed_fed, end_open, end_there, ends_written, is_fed, refused_is, waits_refused}
@@ -16,20 +17,20 @@ use Rattle.tds_relay.proofs.steps.Bodied.{asks_kept, same_starts, shut_starts}
 use Rattle.tds_relay.proofs.steps.Carried.{carries_deaf, carries_fed, carries_moved, carries_refused}
 use Rattle.tds_relay.proofs.relay.Relay.take.Goals as goal
 
-pub returns-in_default-feed-clause-tells : goal.returns-in_default-feed-clause-tells
-returns-in_default-feed-clause-tells c = λ first bytes t.
+pub returns-in-Err-clause-tells : goal.returns-in-Err-clause-tells
+returns-in-Err-clause-tells c = λ first bytes t.
     let slab = c.args.self.now.applications in
     let a = c.in-Some.application.now in
     let es = ends_in slab in
     let here : a.is_over ≡ false = search rules in
     let was = end_there slab c.args.key a c.in-Some.ensures.value ∙ ap Some (end_open a here) in
-    let says = sym c.feed.ensures.brings ∙ c.in_default-feed.is in
-    tells_refused c.args.key first bytes c.args.piece.now _ (house_in c.args.self.now) (hall_in c.expel.new.self) _ a.front a.is_withdrawn a.reset was
+    let says = sym c.feed.ensures.brings ∙ c.in-Err.is in
+    tells_refused c.args.key first bytes c.args.piece.now _ (house_in c.args.self.now) (hall_in c.expel_for.new.self) _ a.front a.is_withdrawn a.reset _ was
     (waits_refused c.args.key es c.args.piece.now a.front a.is_withdrawn a.reset _ (posts_in slab) was says)
     (refused_is c.args.key (desk_in c.args.self.now.desk) es c.args.piece.now a.front a.is_withdrawn a.reset _ was says)
     (moved_same (Application c.args.key) _ _ _ _ _ refl
-    (sym (closed_fed es _ c.args.key _ (end_of a) (end_there slab c.args.key a c.in-Some.ensures.value) (ends_written slab c.args.key _))) c.in_ok-expel.ensures.moves)
-    (c.in_ok-expel.ensures.kept ∙ posts_kept slab c.args.key a _ c.in-Some.ensures.value c.feed.ensures.post) t
+    (sym (closed_fed (closes_for (Some c.in-Err.fault)) es _ c.args.key _ (end_of a) (ap (closes_for (Some c.in-Err.fault)) (end_open a here) ∙ sym (ap (closes_for (Some c.in-Err.fault)) (end_open c.feed.new.self (c.feed.ensures.over ∙ here)))) (end_there slab c.args.key a c.in-Some.ensures.value) (ends_written slab c.args.key _))) c.in_ok-expel_for-in-Err.ensures.moves)
+    (c.in_ok-expel_for-in-Err.ensures.kept ∙ posts_kept slab c.args.key a _ c.in-Some.ensures.value c.feed.ensures.post) t
 
 pub returns-clause-tells : goal.returns-clause-tells
 returns-clause-tells c = λ first bytes t.
@@ -42,21 +43,21 @@ returns-clause-tells c = λ first bytes t.
     c.feed.ensures.front (search rules)) refl
     (c.in_ok-obey.ensures.given ∙ ap (λ (ps : Posts). given_by c.args.key c.in-Ok.fed.said ps) (posts_kept slab c.args.key a _ c.in-Some.ensures.value c.feed.ensures.post)) t
 
-pub returns-in_default-feed-clause-asks : goal.returns-in_default-feed-clause-asks
-returns-in_default-feed-clause-asks c = λ first bytes t.
+pub returns-in-Err-clause-asks : goal.returns-in-Err-clause-asks
+returns-in-Err-clause-asks c = λ first bytes t.
     let slab = c.args.self.now.applications in
     let a = c.in-Some.application.now in
     let es = ends_in slab in
     let here : a.is_over ≡ false = search rules in
     let was = end_there slab c.args.key a c.in-Some.ensures.value ∙ ap Some (end_open a here) in
-    let says = sym c.feed.ensures.brings ∙ c.in_default-feed.is in
-    asks_refused c.args.key first bytes c.args.piece.now _ _ (house_in c.args.self.now) (hall_in c.expel.new.self) _ a.front a.is_withdrawn a.reset _ was
+    let says = sym c.feed.ensures.brings ∙ c.in-Err.is in
+    asks_refused c.args.key first bytes c.args.piece.now _ _ (house_in c.args.self.now) (hall_in c.expel_for.new.self) _ a.front a.is_withdrawn a.reset _ was
     (waits_refused c.args.key es c.args.piece.now a.front a.is_withdrawn a.reset _ (posts_in slab) was says)
     (refused_is c.args.key (desk_in c.args.self.now.desk) es c.args.piece.now a.front a.is_withdrawn a.reset _ was says) says
     (moved_same (Application c.args.key) _ _ _ _ _ refl
-    (sym (closed_fed es _ c.args.key _ (end_of a) (end_there slab c.args.key a c.in-Some.ensures.value) (ends_written slab c.args.key _))) c.in_ok-expel.ensures.moves)
-    (c.in_ok-expel.ensures.kept ∙ posts_kept slab c.args.key a _ c.in-Some.ensures.value c.feed.ensures.post)
-    (asks_links c.args.key first (house_in c.args.self.now) bytes c.args.piece.now _ _ (stays_opens _ _ c.in_ok-expel.ensures.read) t)
+    (sym (closed_fed (closes_for (Some c.in-Err.fault)) es _ c.args.key _ (end_of a) (ap (closes_for (Some c.in-Err.fault)) (end_open a here) ∙ sym (ap (closes_for (Some c.in-Err.fault)) (end_open c.feed.new.self (c.feed.ensures.over ∙ here)))) (end_there slab c.args.key a c.in-Some.ensures.value) (ends_written slab c.args.key _))) c.in_ok-expel_for-in-Err.ensures.moves)
+    (c.in_ok-expel_for-in-Err.ensures.kept ∙ posts_kept slab c.args.key a _ c.in-Some.ensures.value c.feed.ensures.post)
+    (asks_links c.args.key first (house_in c.args.self.now) bytes c.args.piece.now _ _ (stays_opens _ _ c.in_ok-expel_for-in-Err.ensures.read) t)
 
 pub returns-clause-asks : goal.returns-clause-asks
 returns-clause-asks c = λ first bytes t.
@@ -95,21 +96,21 @@ returns-then-application-clause-carries c = λ first bytes at t.
     (same_starts (body_of c.args.key c.args.self.now) (body_in (get (with_value slab c.args.key a) c.args.key) (going_of c.args.key c.args.self.now)) (asks_kept slab c.args.key a a c.in-Some.ensures.value (λ goes. refl) c.args.key (going_of c.args.key c.args.self.now)))
     (carries_deaf c.args.key first (house_in c.args.self.now) bytes c.args.piece.now _ at (body_of c.args.key c.args.self.now) (over_deaf c.args.key slab a c.in-Some.ensures.value (search rules)) t)
 
-pub returns-in_default-feed-clause-carries : goal.returns-in_default-feed-clause-carries
-returns-in_default-feed-clause-carries c = λ first bytes at t.
+pub returns-in-Err-clause-carries : goal.returns-in-Err-clause-carries
+returns-in-Err-clause-carries c = λ first bytes at t.
     let slab = c.args.self.now.applications in
     let a = c.in-Some.application.now in
     let es = ends_in slab in
     let here : a.is_over ≡ false = search rules in
     let was = end_there slab c.args.key a c.in-Some.ensures.value ∙ ap Some (end_open a here) in
-    let says = sym c.feed.ensures.brings ∙ c.in_default-feed.is in
-    carries_refused c.args.key first bytes c.args.piece.now _ at (body_of c.args.key c.args.self.now) (body_of c.args.key c.expel.new.self) (house_in c.args.self.now) (hall_in c.expel.new.self) _ a.front a.is_withdrawn a.reset _ was
+    let says = sym c.feed.ensures.brings ∙ c.in-Err.is in
+    carries_refused c.args.key first bytes c.args.piece.now _ at (body_of c.args.key c.args.self.now) (body_of c.args.key c.expel_for.new.self) (house_in c.args.self.now) (hall_in c.expel_for.new.self) _ a.front a.is_withdrawn a.reset _ was
     (waits_refused c.args.key es c.args.piece.now a.front a.is_withdrawn a.reset _ (posts_in slab) was says)
     (refused_is c.args.key (desk_in c.args.self.now.desk) es c.args.piece.now a.front a.is_withdrawn a.reset _ was says) says
     (moved_same (Application c.args.key) _ _ _ _ _ refl
-    (sym (closed_fed es _ c.args.key _ (end_of a) (end_there slab c.args.key a c.in-Some.ensures.value) (ends_written slab c.args.key _))) c.in_ok-expel.ensures.moves)
-    (c.in_ok-expel.ensures.kept ∙ posts_kept slab c.args.key a _ c.in-Some.ensures.value c.feed.ensures.post)
-    (shut_starts c.expel.new.self.applications c.args.key (body_of c.args.key c.args.self.now) (going_of c.args.key c.expel.new.self) c.in_ok-expel.ensures.over) t
+    (sym (closed_fed (closes_for (Some c.in-Err.fault)) es _ c.args.key _ (end_of a) (ap (closes_for (Some c.in-Err.fault)) (end_open a here) ∙ sym (ap (closes_for (Some c.in-Err.fault)) (end_open c.feed.new.self (c.feed.ensures.over ∙ here)))) (end_there slab c.args.key a c.in-Some.ensures.value) (ends_written slab c.args.key _))) c.in_ok-expel_for-in-Err.ensures.moves)
+    (c.in_ok-expel_for-in-Err.ensures.kept ∙ posts_kept slab c.args.key a _ c.in-Some.ensures.value c.feed.ensures.post)
+    (shut_starts c.expel_for.new.self.applications c.args.key (body_of c.args.key c.args.self.now) (going_of c.args.key c.expel_for.new.self) c.in_ok-expel_for-in-Err.ensures.over) t
 
 pub returns-clause-carries : goal.returns-clause-carries
 returns-clause-carries c = λ first bytes at t.

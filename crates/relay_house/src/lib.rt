@@ -1,0 +1,20 @@
+//! What a relay does with its sockets: logins on both sides, by which server, what its groups' cores say is
+//! to be done, and what follows where a socket ends.
+#![tactic(auto)]
+
+mod checking;
+mod dialing;
+mod ending;
+mod faults;
+mod group;
+mod house;
+mod logins;
+mod orders;
+mod pairs;
+mod reaching;
+mod sending;
+mod upstream;
+
+pub use group::{Group, Pair, Stage};
+pub use house::{House, relay_of};
+pub use upstream::Upstream;

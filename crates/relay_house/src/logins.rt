@@ -1,0 +1,250 @@
+//! What comes on sockets, and logins of applications.
+
+use crate::group::{Group, Pair, Stage};
+use crate::house::{House, relay_of};
+use relay_logins::{
+    Kind, Passed, REFUSED, SharedLogin, kind_of, leave_out_features, number_of, put_error,
+    put_saved, who_of,
+};
+use relay_sockets::{Cause, News, Role, Whose};
+use relay_status::raise;
+use std::io::{self, Write};
+use std::net::Net;
+use tds_packet::PacketSize;
+
+/// The most groups.
+const MOST_GROUPS: usize = 256;
+
+impl<W: Write + Drop> House<W> {
+    /// These bytes came on a socket, which isn't of somebody who asks what the relay does.
+    pub fn came<R: Net>(&mut self, rt: &R, key: usize, piece: &[u8]) -> io::Result<()> {
+        let House {
+            sockets,
+            groups,
+            journal,
+            ..
+        } = self;
+        let Some(socket) = sockets.get_mut(key) else {
+            return Ok(());
+        };
+        match socket.whose() {
+            Whose::Application(group, application) => {
+                if let Some(relay) = relay_of(groups, group) {
+                    relay.said(application, piece)?;
+                    socket.asks(relay.begun_by(application), journal.moment.micros);
+                }
+                self.obey(rt, group)
+            }
+            Whose::Connection(group, number) => self.heard(rt, group, number, piece),
+            Whose::Gate => self.passed(rt, key, piece),
+            Whose::First(group) => self.first_dialed(rt, key, group, piece),
+            Whose::Opening(group, number) => self.dialed(rt, key, group, number, piece),
+            Whose::Judged(_) => {
+                let why = Cause::Wrong("speaks before its login is answered");
+                self.ended(rt, key, why)
+            }
+            Whose::Leg(group) => self.leg_came(rt, key, group, piece),
+            Whose::Asker | Whose::Closing => Ok(()),
+        }
+    }
+
+    /// These bytes came on a connection that is logged in.
+    pub(crate) fn heard<R: Net>(
+        &mut self,
+        rt: &R,
+        group: usize,
+        number: u64,
+        piece: &[u8],
+    ) -> io::Result<()> {
+        if !piece.is_empty() {
+            if let Some(relay) = relay_of(&mut self.groups, group) {
+                relay.came(number, piece)?;
+            }
+        }
+        self.obey(rt, group)
+    }
+
+    // ---- An application's login
+
+    fn passed<R: Net>(&mut self, rt: &R, key: usize, piece: &[u8]) -> io::Result<()> {
+        let Some(socket) = self.sockets.get_mut(key) else {
+            return Ok(());
+        };
+        let Role::Gate(gate) = &mut socket.role else {
+            return Ok(());
+        };
+        let passed = gate.take(piece, &mut socket.out)?;
+        match passed {
+            Passed::More => self.send_or_close(rt, key),
+            Passed::Refused(why) => {
+                self.say_of("application", key, "is refused:", why);
+                self.dismiss(rt, key)
+            }
+            Passed::Login(message) => self.log_in(rt, key, message),
+        }
+    }
+
+    /// Its LOGIN7 has come.
+    fn log_in<R: Net>(&mut self, rt: &R, key: usize, mut message: Vec<u8>) -> io::Result<()> {
+        leave_out_features(self.alloc, &mut message)?;
+        self.name(key, &message)?;
+        match kind_of(message) {
+            Kind::Wrong(why) => self.refuse(rt, key, why),
+            Kind::Alone(login) => self.begin_alone(rt, key, login),
+            Kind::Shared(login) => match self.groups.join(&login) {
+                Some(group) => self.join(rt, key, group),
+                None => self.begin_group(rt, key, login),
+            },
+        }
+    }
+
+    /// An application is who its login says.
+    fn name(&mut self, key: usize, login: &[u8]) -> io::Result<()> {
+        let who = who_of(self.alloc, login)?;
+        if let Some(socket) = self.sockets.get_mut(key) {
+            socket.who = Some(who);
+        }
+        Ok(())
+    }
+
+    /// It joins a group: it waits for the judgement, or gets what the server answered the first one.
+    pub(crate) fn join<R: Net>(&mut self, rt: &R, key: usize, group: usize) -> io::Result<()> {
+        let House {
+            sockets,
+            groups,
+            ..
+        } = self;
+        let (Some(socket), Some(joined)) = (sockets.get_mut(key), groups.get_mut(group)) else {
+            return Ok(());
+        };
+        match &mut joined.stage {
+            Stage::Judged(waiting) => {
+                waiting.push(key)?;
+                socket.role = Role::Judged(group);
+                Ok(())
+            }
+            Stage::Open(relay, answer) => {
+                put_saved(&mut socket.out, answer)?;
+                socket.role = Role::Application(group, relay.enter(key)?);
+                raise(&mut self.journal.counts.let_in);
+                self.is_let_in(key, group)?;
+                self.send_or_close(rt, key)
+            }
+        }
+    }
+
+    /// A line about an application of a group.
+    fn is_let_in(&mut self, key: usize, group: usize) -> io::Result<()> {
+        if self.journal.is_logged {
+            let group = number_of(group);
+            let group = format!(in self.alloc; "{group}")?;
+            self.say_of("application", key, "is let in, group", group.as_str());
+        }
+        Ok(())
+    }
+
+    /// It is the first one of its kind: the server judges it, on a connection of its own.
+    fn begin_group<R: Net>(&mut self, rt: &R, key: usize, login: SharedLogin) -> io::Result<()> {
+        if let Some(why) = self.too_many(true) {
+            return self.refuse(rt, key, why);
+        }
+        let Some(begun) = self.group_with(key, login.message(), None)? else {
+            return Ok(());
+        };
+        let group = self.groups.begin(login, begun);
+        self.judge_first(rt, key, group)
+    }
+
+    /// It can't share.
+    fn begin_alone<R: Net>(&mut self, rt: &R, key: usize, login: Vec<u8>) -> io::Result<()> {
+        if let Some(why) = self.too_many(false) {
+            return self.refuse(rt, key, why);
+        }
+        let Some(begun) = self.group_with(key, &login, Some(Pair::of(key)))? else {
+            return Ok(());
+        };
+        let group = self.groups.begin_alone(login, begun);
+        self.judge_first(rt, key, group)
+    }
+
+    /// A group whose first application waits for the server's judgement of its login.
+    fn group_with(
+        &self,
+        key: usize,
+        login: &[u8],
+        pair: Option<Pair>,
+    ) -> io::Result<Option<Group>> {
+        let Some(size) = PacketSize::new(4_096) else {
+            return Ok(None);
+        };
+        let mut waiting = Vec::new(self.alloc);
+        waiting.push(key)?;
+        let user = who_of(self.alloc, login)?.user;
+        Ok(Some(Group::new(user, waiting, size, pair)))
+    }
+
+    /// A server is dialed for the first login of a group, if that found room.
+    fn judge_first<R: Net>(&mut self, rt: &R, key: usize, group: Option<usize>) -> io::Result<()> {
+        let Some(group) = group else {
+            return self.refuse(rt, key, "The relay has no memory.");
+        };
+        if let Some(socket) = self.sockets.get_mut(key) {
+            socket.role = Role::Judged(group);
+        }
+        self.upstream.begin();
+        if self.reach(rt, Whose::First(group), 0)? {
+            return Ok(());
+        }
+        self.missed(rt, Whose::First(group))
+    }
+
+    /// Why no more groups may be, if so.
+    fn too_many(&self, is_shared: bool) -> Option<&'static str> {
+        let (mut shared, mut alone): (usize, usize) = (0, 0);
+        for (_, entry) in self.groups.iter() {
+            if entry.value.inner.pair.is_some() {
+                alone = alone.saturating_add(1);
+            } else {
+                shared = shared.saturating_add(1);
+            }
+        }
+        if is_shared && shared >= MOST_GROUPS {
+            Some("The relay has as many different logins as it takes, 256.")
+        } else if !is_shared && alone >= self.asked.alone {
+            Some("The relay has as many logins that can't be shared as it takes (--alone).")
+        } else {
+            None
+        }
+    }
+
+    // ---- Refusals
+
+    /// It is told why it isn't let in, and closed.
+    fn refuse<R: Net>(&mut self, rt: &R, key: usize, why: &str) -> io::Result<()> {
+        self.put_refusal(key, why)?;
+        self.send_or_close(rt, key)
+    }
+
+    /// It is told why it isn't let in, and is to be closed then.
+    pub fn put_refusal(&mut self, key: usize, why: &str) -> io::Result<()> {
+        let alloc = self.alloc;
+        raise(&mut self.journal.counts.refused);
+        self.say_of("application", key, "is refused:", why);
+        let Some(socket) = self.sockets.get_mut(key) else {
+            return Ok(());
+        };
+        let whose = socket.whose();
+        put_error(alloc, &mut socket.out, REFUSED, why)?;
+        socket.role = Role::Closing;
+        self.let_go(whose)?;
+        Ok(self.sockets.report(key, News::Turn)?)
+    }
+
+    /// It is closed behind what waits for it.
+    pub fn dismiss<R: Net>(&mut self, rt: &R, key: usize) -> io::Result<()> {
+        if let Some(socket) = self.sockets.get_mut(key) {
+            socket.role = Role::Closing;
+        }
+        self.send_or_close(rt, key)
+    }
+}

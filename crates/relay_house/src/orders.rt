@@ -1,0 +1,115 @@
+//! What the relay says is to be done: sockets are written to, opened and closed.
+
+use crate::group::Group;
+use crate::house::{House, relay_of};
+use relay_logins::Groups;
+use relay_sockets::{News, Whose};
+use relay_status::sum;
+use std::io::{self, Write};
+use std::net::Net;
+use tds_relay::{Order, Place};
+
+impl<W: Write + Drop> House<W> {
+    /// Does what a group's relay says is to be done.
+    pub fn obey<R: Net>(&mut self, rt: &R, group: usize) -> io::Result<()> {
+        for _ in 0..u64::MAX {
+            let orders = match relay_of(&mut self.groups, group) {
+                Some(relay) => relay.orders(),
+                None => return Ok(()),
+            };
+            if orders.is_empty() {
+                break;
+            }
+            for order in orders.iter() {
+                self.follow_order(rt, group, *order)?;
+            }
+        }
+        self.forget_deserted(group);
+        Ok(())
+    }
+
+    fn follow_order<R: Net>(&mut self, rt: &R, group: usize, order: Order) -> io::Result<()> {
+        match order {
+            Order::Open(number) => self.open(rt, group, number),
+            Order::Write(key) => {
+                self.note_answer(key);
+                if self.send(key)? {
+                    Ok(())
+                } else {
+                    Ok(self.sockets.report(key, News::End)?)
+                }
+            }
+            Order::Close(key) => self.close(key),
+        }
+    }
+
+    /// Opens a connection, which logs in.
+    fn open<R: Net>(&mut self, rt: &R, group: usize, number: u64) -> io::Result<()> {
+        self.upstream.begin();
+        if self.reach(rt, Whose::Opening(group, number), 0)? {
+            return Ok(());
+        }
+        let why = self.upstream.sentence(self.alloc)?;
+        self.not_opened(group, number, why.as_str())
+    }
+
+    /// How long an application's request took, where it has its answer now.
+    fn note_answer(&mut self, key: usize) {
+        let House {
+            sockets,
+            groups,
+            journal,
+            ..
+        } = self;
+        let Some(socket) = sockets.get_mut(key) else {
+            return;
+        };
+        let (Some(asked), Whose::Application(group, application)) = (socket.asked, socket.whose())
+        else {
+            return;
+        };
+        let Some(relay) = relay_of(groups, group) else {
+            return;
+        };
+        if matches!(
+            relay.place_of(application),
+            Some(Place::Quiet | Place::Holding(_))
+        ) {
+            socket.asked = None;
+            let took = journal.moment.micros.saturating_sub(asked);
+            journal.requests.add(took);
+        }
+    }
+
+    /// Nobody is left of a group: it is forgotten, with its login.
+    pub fn forget_deserted(&mut self, group: usize) {
+        let is_deserted = match self.groups.get(group) {
+            Some(group) => group.is_deserted(),
+            None => false,
+        };
+        if is_deserted {
+            self.forget(group);
+        }
+    }
+
+    /// A group is no longer one. What it has done is counted.
+    pub(crate) fn forget(&mut self, group: usize) {
+        if let Some(gone) = self.groups.try_remove(group) {
+            let counts = &mut self.journal.counts;
+            counts.gone = sum(counts.gone, gone.done());
+        }
+    }
+
+    /// Closes a socket, behind what the system still takes of what waits for it. What the relay says
+    /// then is done by whoever calls.
+    fn close(&mut self, key: usize) -> io::Result<()> {
+        self.say_fault(key)?;
+        match self.take_out(key)? {
+            Some(whose) => {
+                let _ = self.part(whose, key)?;
+                Ok(())
+            }
+            None => Ok(()),
+        }
+    }
+}

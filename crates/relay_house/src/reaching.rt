@@ -1,0 +1,273 @@
+//! Which server is dialed for a login.
+
+use crate::group::Group;
+use crate::house::{House, relay_of};
+use mio::net::TcpStream;
+use relay_logins::{Groups, NOT_OPENED, Target, Way, put_error};
+use relay_settings::{MOST_SERVERS, SystemError, bit, is_reached_at};
+use relay_sockets::{Cause, Role, Whose};
+use relay_status::raise;
+use std::io::{self, Write};
+use std::net::{IpAddr, Ipv4Addr, Net, SocketAddr};
+
+/// How often a login goes to the server that another one has named.
+const MOST_HOPS: u8 = 4;
+
+impl<W: Write + Drop> House<W> {
+    /// Dials for this login the preferred one of the servers that weren't tried. False where there is none.
+    pub(crate) fn reach<R: Net>(&mut self, rt: &R, whose: Whose, tried: u8) -> io::Result<bool> {
+        let mut tried = tried;
+        for _ in 0..MOST_SERVERS {
+            let servers = self.asked.servers;
+            let Some(place) = servers.next(tried, &self.upstream.away, self.now()) else {
+                return Ok(false);
+            };
+            let Some(address) = servers.at(place) else {
+                return Ok(false);
+            };
+            tried |= bit(place);
+            let way = Way {
+                server: place,
+                tried,
+                hops: 0,
+            };
+            if self.connect(rt, whose, way, address)? {
+                return Ok(true);
+            }
+        }
+        Ok(false)
+    }
+
+    /// Connects there, and begins the login. False where it can't.
+    fn connect<R: Net>(
+        &mut self,
+        rt: &R,
+        whose: Whose,
+        way: Way,
+        address: SocketAddr,
+    ) -> io::Result<bool> {
+        let group = match whose {
+            Whose::First(group) | Whose::Opening(group, _) => group,
+            _ => return Ok(false),
+        };
+        let mut out = Vec::new(self.alloc);
+        let Some(dial) = self.groups.dial(self.alloc, group, way, &mut out)? else {
+            return Ok(false);
+        };
+        let stream = match TcpStream::connect(rt, address) {
+            Ok(stream) => stream,
+            Err(error) => {
+                let cause = Cause::Failed(SystemError::new(error));
+                self.upstream.fail(address, cause);
+                self.went_away(way, cause)?;
+                return Ok(false);
+            }
+        };
+        let now = self.now();
+        let role = match whose {
+            Whose::Opening(group, number) => Role::Opening(group, number, dial),
+            _ => Role::First(group, dial),
+        };
+        let Some(key) = self.sockets.take_in(stream, role, out, now)? else {
+            return Ok(false);
+        };
+        self.is_dialed(whose, key, address);
+        raise(&mut self.journal.counts.dialed);
+        if self.journal.is_logged {
+            let address = format!(in self.alloc; "{address}")?;
+            self.say_of("connection", key, "is dialed at", address.as_str());
+        }
+        Ok(true)
+    }
+
+    /// This socket is a login's connection from now on, at this address.
+    fn is_dialed(&mut self, whose: Whose, key: usize, address: SocketAddr) {
+        if let Some(socket) = self.sockets.get_mut(key) {
+            socket.dialed = Some(address);
+        }
+        match whose {
+            Whose::Opening(group, number) => {
+                if let Some(relay) = relay_of(&mut self.groups, group) {
+                    relay.opening(number, key);
+                }
+            }
+            Whose::First(group) => {
+                if let Some(group) = self.groups.get_mut(group) {
+                    if let Some(pair) = &mut group.pair {
+                        pair.connection = key;
+                    }
+                }
+            }
+            _ => {}
+        }
+    }
+
+    /// A server has failed: for some seconds others are preferred.
+    pub(crate) fn went_away(&mut self, way: Way, cause: Cause) -> io::Result<()> {
+        if way.hops > 0 {
+            return Ok(());
+        }
+        raise(&mut self.journal.counts.away);
+        let seconds = self.asked.limits.away;
+        let until = self.now().saturating_add(seconds.saturating_mul(1000));
+        self.upstream.is_away(way.server, until);
+        match self.asked.servers.at(way.server) {
+            Some(address) if self.journal.is_logged => {
+                let told = format!(in self.alloc; "server {address} {cause}")?;
+                self.journal.note(told.as_str());
+                Ok(())
+            }
+            _ => Ok(()),
+        }
+    }
+
+    /// The server says that a login is to go to another one, and so it does.
+    pub(crate) fn follow<R: Net>(
+        &mut self,
+        rt: &R,
+        key: usize,
+        whose: Whose,
+        target: &Target,
+    ) -> io::Result<()> {
+        let (host, port) = (target.host.as_str(), target.port);
+        let named = format!(in self.alloc; "{host}:{port}")?;
+        self.say_of("connection", key, "is told another server,", named.as_str());
+        let way = self.way_on(key);
+        let _ = self.take_out(key)?;
+        match self.goal_of(rt, way, target) {
+            Ok((way, address)) => self.follow_to(rt, whose, way, address),
+            Err(why) => {
+                let why = format!(in self.alloc; "The login is sent on to {named}: {why}.")?;
+                self.not_reached(rt, whose, why.as_str())
+            }
+        }
+    }
+
+    /// A login goes on at this address.
+    fn follow_to<R: Net>(
+        &mut self,
+        rt: &R,
+        whose: Whose,
+        way: Way,
+        address: SocketAddr,
+    ) -> io::Result<()> {
+        raise(&mut self.journal.counts.routed);
+        self.upstream.begin();
+        if self.connect(rt, whose, way, address)? {
+            return Ok(());
+        }
+        self.missed(rt, whose)
+    }
+
+    /// How and where a login goes on that is sent on to this server; or why it doesn't.
+    fn goal_of<R: Net>(
+        &self,
+        rt: &R,
+        way: Option<Way>,
+        target: &Target,
+    ) -> Result<(Way, SocketAddr), &'static str> {
+        let Some(way) = way else {
+            return Err("a login is sent on four times at most, and not behind a leg of it");
+        };
+        match address_of(rt, target) {
+            None => Err("the system's resolver knows no such name"),
+            Some(address) if is_reached_at(self.asked.listen, address) => {
+                Err("that is this relay itself")
+            }
+            Some(address) => Ok((way, address)),
+        }
+    }
+
+    /// How the login of this connection goes on at another server, if it may.
+    fn way_on(&self, key: usize) -> Option<Way> {
+        let dial = self.sockets.get(key)?.dial()?;
+        let way = dial.way;
+        if dial.has_legs || way.hops >= MOST_HOPS {
+            return None;
+        }
+        Some(Way {
+            hops: way.hops.saturating_add(1),
+            ..way
+        })
+    }
+
+    /// No server was reached for this login: why is what became of the last one.
+    pub(crate) fn missed<R: Net>(&mut self, rt: &R, whose: Whose) -> io::Result<()> {
+        let why = self.upstream.sentence(self.alloc)?;
+        self.not_reached(rt, whose, why.as_str())
+    }
+
+    /// No server was reached for this login, and this is why.
+    pub(crate) fn not_reached<R: Net>(
+        &mut self,
+        rt: &R,
+        whose: Whose,
+        why: &str,
+    ) -> io::Result<()> {
+        match whose {
+            Whose::First(group) => self.not_judged(group, why),
+            Whose::Opening(group, number) => {
+                self.not_opened(group, number, why)?;
+                self.obey(rt, group)
+            }
+            _ => Ok(()),
+        }
+    }
+
+    /// The connection of this number can't be opened: who waits for it is told so, and is to be closed.
+    pub(crate) fn not_opened(&mut self, group: usize, number: u64, why: &str) -> io::Result<()> {
+        let Some(relay) = relay_of(&mut self.groups, group) else {
+            return Ok(());
+        };
+        if let Some(key) = relay.sent_on(number, 0) {
+            self.tell_not_opened(key, why)?;
+        }
+        match relay_of(&mut self.groups, group) {
+            Some(relay) => Ok(relay.lost(number)?),
+            None => Ok(()),
+        }
+    }
+
+    /// An application is told that no connection can be opened, where nothing else waits for it.
+    fn tell_not_opened(&mut self, key: usize, why: &str) -> io::Result<()> {
+        raise(&mut self.journal.counts.not_served);
+        let what = "waits for a connection that can't be opened:";
+        self.say_of("socket", key, what, why);
+        let alloc = self.alloc;
+        let House {
+            sockets,
+            groups,
+            ..
+        } = self;
+        let Some(socket) = sockets.get_mut(key) else {
+            return Ok(());
+        };
+        if let Whose::Application(group, application) = socket.whose() {
+            if is_all_sent(groups, group, application) {
+                let told = format!(in alloc; "The relay could not open a connection. {why}")?;
+                put_error(alloc, &mut socket.out, NOT_OPENED, told.as_str())?;
+            }
+        }
+        Ok(())
+    }
+}
+
+/// Whether nothing waits for an application of a group.
+fn is_all_sent(groups: &mut Groups<Group>, group: usize, application: usize) -> bool {
+    match relay_of(groups, group) {
+        Some(relay) => relay.unsent(application).is_empty(),
+        None => true,
+    }
+}
+
+/// The address of a server that is named: the system's resolver is asked for it, where it is no address.
+fn address_of<R: Net>(rt: &R, target: &Target) -> Option<SocketAddr> {
+    if let Ok(address) = target.host.as_str().parse::<IpAddr>() {
+        return Some(SocketAddr::new(address, target.port));
+    }
+    let mut found = [SocketAddr::new(IpAddr::V4(Ipv4Addr::UNSPECIFIED), 0); 4];
+    match rt.lookup_host(target.host.as_str(), target.port, &mut found) {
+        Ok(count) if count > 0 => Some(found[0]),
+        _ => None,
+    }
+}

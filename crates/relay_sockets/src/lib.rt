@@ -1,0 +1,14 @@
+//! The sockets of a relay: what each is and what it is at, which have a turn, what is read and sent, and
+//! what a judge finds of that.
+#![tactic(auto)]
+
+mod ending;
+mod judging;
+mod link;
+mod socket;
+mod sockets;
+
+pub use ending::Cause;
+pub use link::{Came, Link, News};
+pub use socket::{Gone, Role, Seen, Socket, Whose};
+pub use sockets::{ROUND, Sockets};

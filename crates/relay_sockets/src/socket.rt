@@ -1,0 +1,275 @@
+//! A socket, and what it is.
+
+use crate::ending::Cause;
+use crate::link::Link;
+use relay_logins::{Dial, Gate, Leg, Way, Who};
+use relay_status::{Asker, At, Judged, Names, Role as Told};
+use std::io;
+use std::net::SocketAddr;
+use tds_judge::Finding;
+
+/// What a socket is.
+#[derive(Drop)]
+pub enum Role {
+    /// An application that logs in.
+    Gate(Gate),
+    /// An application whose login the server judges, and one that is asked for another leg of it.
+    Judged(usize),
+    Leg(usize, Leg),
+    /// The application of this key in a group.
+    Application(usize, usize),
+    /// The first connection of a group, which logs in.
+    First(usize, Dial),
+    /// The connection of this number in a group, which logs in; and which does.
+    Opening(usize, u64, Dial),
+    Connection(usize, u64),
+    /// Somebody who asks what the relay does.
+    Asker(Asker),
+    /// It is to be closed once what waits for it is sent.
+    Closing,
+}
+
+/// Whose a socket is, without what it keeps.
+#[derive(Clone, Copy)]
+pub enum Whose {
+    Gate,
+    Judged(usize),
+    Leg(usize),
+    Application(usize, usize),
+    First(usize),
+    Opening(usize, u64),
+    Connection(usize, u64),
+    Asker,
+    Closing,
+}
+
+/// What is known of a socket behind its end: what it was, where it was dialed, and how far its login had come.
+#[derive(Clone, Copy)]
+pub struct Gone {
+    pub whose: Whose,
+    pub dialed: Option<SocketAddr>,
+    pub way: Option<Way>,
+    /// Whether that login can't be begun anew.
+    pub has_legs: bool,
+}
+
+/// What a socket was seen to be at, and since when.
+#[derive(Clone, Copy)]
+pub struct Seen {
+    pub at: At,
+    /// What tells two of that apart: a request's number, or who holds a connection.
+    pub mark: u64,
+    /// The millisecond in which it was first seen there.
+    pub since: u64,
+}
+
+/// A socket.
+#[derive(Drop)]
+pub struct Socket {
+    pub number: u64,
+    /// Whether the log tells of it: not of those who ask what the relay does.
+    pub is_told: bool,
+    pub link: Link,
+    pub role: Role,
+    /// What is to be sent in a login, and to whoever asks what the relay does.
+    pub out: Vec<u8>,
+    /// Who an application says that it is, and where it is.
+    pub who: Option<Who>,
+    pub peer: Option<SocketAddr>,
+    /// Where a connection was dialed.
+    pub dialed: Option<SocketAddr>,
+    /// The millisecond in which it came, or was logged in.
+    pub born: u64,
+    pub seen: Seen,
+    /// The number of the connection that an application holds, or of who holds a connection, as it was when
+    /// that was asked for last.
+    pub partner: Option<u64>,
+    /// The place among all reports of the one since which bytes of it wait to be read.
+    pub order: u64,
+    /// Why it ends, as far as that is known.
+    pub cause: Option<Cause>,
+    /// Since when a connection is free that is being checked.
+    pub checked: Option<u64>,
+    /// A connection's process at the server, and the server's place in the list.
+    pub spid: u16,
+    pub server: usize,
+    /// An application's requests so far, and the microsecond in which the one began that has no answer yet.
+    pub begun: u64,
+    pub asked: Option<u64>,
+    /// Where judging is asked for.
+    pub judged: Option<Judged>,
+}
+
+impl Socket {
+    /// A socket that has come, or was dialed, in this millisecond.
+    pub fn new(number: u64, link: Link, role: Role, out: Vec<u8>, now: u64) -> Socket {
+        Socket {
+            number,
+            is_told: !matches!(role, Role::Asker(_)),
+            link,
+            role,
+            out,
+            who: None,
+            peer: None,
+            dialed: None,
+            born: now,
+            seen: Seen {
+                at: At::Other,
+                mark: 0,
+                since: now,
+            },
+            partner: None,
+            order: 0,
+            cause: None,
+            checked: None,
+            spid: 0,
+            server: 0,
+            begun: 0,
+            asked: None,
+            judged: None,
+        }
+    }
+
+    /// It is seen to be at this, in this millisecond. A check doesn't end the time of a free connection.
+    pub fn see(&mut self, at: At, mark: u64, now: u64) {
+        if self.seen.at == at && self.seen.mark == mark {
+            return;
+        }
+        let since = match (at, self.checked) {
+            (At::Free, Some(since)) => since,
+            _ => now,
+        };
+        if at != At::Cleaning {
+            self.checked = None;
+        }
+        self.seen = Seen { at, mark, since };
+    }
+
+    /// An application has begun so many requests, the newest one now where they are more than before.
+    pub fn asks(&mut self, begun: u64, precise: u64) {
+        if begun != self.begun {
+            self.begun = begun;
+            self.asked = Some(precise);
+        }
+    }
+
+    /// Sends what the system takes of these bytes, and answers how many.
+    pub fn send(
+        &mut self,
+        bytes: &[u8],
+        time: u64,
+        findings: &mut Vec<Finding>,
+    ) -> io::Result<usize> {
+        let count = self.link.send(bytes)?.min(bytes.len());
+        if let Some(judged) = &mut self.judged {
+            judged.take(false, time, &bytes[..count], findings)?;
+        }
+        Ok(count)
+    }
+
+    /// Sends what the system takes of what a login has to say. Whether that is all.
+    pub fn send_out(&mut self, time: u64, findings: &mut Vec<Finding>) -> io::Result<bool> {
+        let Socket {
+            link,
+            out,
+            judged,
+            ..
+        } = self;
+        if out.is_empty() {
+            return Ok(true);
+        }
+        let count = link.send(out.as_slice())?.min(out.len());
+        if let Some(judged) = judged {
+            judged.take(false, time, &out[..count], findings)?;
+        }
+        let left = out.len() - count;
+        out.copy_within(count.., 0);
+        out.truncate(left);
+        Ok(left == 0)
+    }
+
+    /// The login of a connection, while it goes on.
+    pub fn dial(&self) -> Option<&Dial> {
+        match &self.role {
+            Role::First(_, dial) => Some(dial),
+            Role::Opening(_, _, dial) => Some(dial),
+            _ => None,
+        }
+    }
+
+    /// It is logged in, and is this from now on.
+    pub fn becomes(&mut self, role: Role, now: u64) {
+        let (spid, server) = match self.dial() {
+            Some(dial) => (dial.spid, dial.way.server),
+            None => (0, 0),
+        };
+        self.spid = spid;
+        self.server = server;
+        self.role = role;
+        self.born = now;
+    }
+
+    /// What is known of it behind its end.
+    pub fn gone(&self) -> Gone {
+        let (way, has_legs) = match self.dial() {
+            Some(dial) => (Some(dial.way), dial.has_legs),
+            None => (None, false),
+        };
+        Gone {
+            whose: self.whose(),
+            dialed: self.dialed,
+            way,
+            has_legs,
+        }
+    }
+
+    /// What is told that it is.
+    pub fn told(&self) -> Told {
+        match &self.role {
+            Role::Gate(_) | Role::Judged(_) | Role::Leg(..) => Told::Coming,
+            Role::Application(..) => Told::Application,
+            Role::First(..) | Role::Opening(..) => Told::Dialed,
+            Role::Connection(..) => Told::Connection,
+            Role::Asker(_) | Role::Closing => Told::Other,
+        }
+    }
+
+    /// The group that it belongs to.
+    pub fn group(&self) -> Option<usize> {
+        match &self.role {
+            Role::Gate(_) | Role::Asker(_) | Role::Closing => None,
+            Role::Judged(group) | Role::Application(group, _) => Some(*group),
+            Role::Leg(group, _) => Some(*group),
+            Role::First(group, _) => Some(*group),
+            Role::Opening(group, _, _) => Some(*group),
+            Role::Connection(group, _) => Some(*group),
+        }
+    }
+
+    /// Who an application says that it is.
+    pub fn names(&self) -> Option<Names<'_>> {
+        let Some(who) = &self.who else {
+            return None;
+        };
+        Some(Names {
+            host: who.host.as_str(),
+            user: who.user.as_str(),
+            program: who.program.as_str(),
+        })
+    }
+
+    /// Whose it is.
+    pub fn whose(&self) -> Whose {
+        match &self.role {
+            Role::Gate(_) => Whose::Gate,
+            Role::Judged(group) => Whose::Judged(*group),
+            Role::Leg(group, _) => Whose::Leg(*group),
+            Role::Application(group, key) => Whose::Application(*group, *key),
+            Role::First(group, _) => Whose::First(*group),
+            Role::Opening(group, number, _) => Whose::Opening(*group, *number),
+            Role::Connection(group, number) => Whose::Connection(*group, *number),
+            Role::Asker(_) => Whose::Asker,
+            Role::Closing => Whose::Closing,
+        }
+    }
+}

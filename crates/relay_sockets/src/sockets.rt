@@ -1,0 +1,199 @@
+//! All sockets, by their keys.
+
+use crate::link::{Link, News};
+use crate::socket::{Role, Socket};
+use mio::net::{TcpListener, TcpStream};
+use mio::unix::SourceFd;
+use mio::{Events, Interest, Poll, Token};
+use relay_logins::{Entry, Table};
+use relay_status::raise;
+use std::alloc::{AllocError, Global};
+use std::net::{Net, SocketAddr};
+use std::time::Duration;
+use std::{io, mem};
+use tds_judge::Finding;
+
+/// The most applications and connections at a time.
+const MOST: usize = 11_024;
+
+/// The most reports of the system that are taken in a round.
+pub const ROUND: usize = 256;
+
+/// All sockets, and which of them are to have a turn.
+#[derive(Drop)]
+pub struct Sockets {
+    pub(crate) alloc: Global,
+    poll: Poll,
+    pub(crate) table: Table<Socket>,
+    /// The keys of those that are to have a turn.
+    waiting: Vec<usize>,
+    /// How many sockets there were.
+    opened: u64,
+    /// How many sockets were reported to have bytes while none of theirs waited.
+    reports: u64,
+    /// Whether both sides are judged.
+    pub is_judged: bool,
+    /// What was found and isn't told yet.
+    pub(crate) findings: Vec<Finding>,
+}
+
+impl Sockets {
+    /// No socket yet.
+    pub fn new<R: Net>(rt: &R, alloc: Global, is_judged: bool) -> io::Result<Sockets> {
+        Ok(Sockets {
+            alloc,
+            poll: Poll::new(rt)?,
+            table: Table::new(alloc),
+            waiting: Vec::new(alloc),
+            opened: 0,
+            reports: 0,
+            is_judged,
+            findings: Vec::new(alloc),
+        })
+    }
+
+    /// A listener at this address, which the system reports by this token.
+    pub fn listen<R: Net>(
+        &self,
+        rt: &R,
+        address: SocketAddr,
+        token: Token,
+    ) -> io::Result<TcpListener> {
+        let mut listener = TcpListener::bind(rt, address)?;
+        self.poll
+            .registry()
+            .register(&mut listener, token, Interest::READABLE)?;
+        Ok(listener)
+    }
+
+    /// From now on the system reports the end of standard input by this token. It is to be a pipe or a
+    /// socket: the system refuses a file. Nothing is read of it.
+    pub fn watch_input(&self, token: Token) -> io::Result<()> {
+        let mut input = SourceFd(&0);
+        self.poll
+            .registry()
+            .register(&mut input, token, Interest::READABLE)
+    }
+
+    /// Waits for the system's reports, for so many milliseconds at most, and not at all where a socket is to
+    /// have a turn.
+    pub fn wait(&mut self, events: &mut Events<Global>, longest: u64) -> io::Result<()> {
+        let longest = if self.waiting.is_empty() { longest } else { 0 };
+        self.poll.poll(events, Some(Duration::from_millis(longest)))
+    }
+
+    /// Whether a socket is to have a turn.
+    pub fn has_turns(&self) -> bool {
+        !self.waiting.is_empty()
+    }
+
+    /// The keys of those that are to have a turn; none is then.
+    pub fn take_turns(&mut self) -> Vec<usize> {
+        mem::replace(&mut self.waiting, Vec::new(self.alloc))
+    }
+
+    pub fn get(&self, key: usize) -> Option<&Socket> {
+        self.table.get(key)
+    }
+
+    pub fn get_mut(&mut self, key: usize) -> Option<&mut Socket> {
+        self.table.get_mut(key)
+    }
+
+    /// The same, with the list to which what is found of it is appended.
+    pub fn get_judged(&mut self, key: usize) -> Option<(&mut Socket, &mut Vec<Finding>)> {
+        let Sockets {
+            table,
+            findings,
+            ..
+        } = self;
+        match table.get_mut(key) {
+            Some(socket) => Some((socket, findings)),
+            None => None,
+        }
+    }
+
+    /// All of them.
+    pub fn iter(&self) -> slab::Iter<'_, Entry<Socket>> {
+        self.table.iter()
+    }
+
+    /// The keys of all.
+    pub fn keys(&self) -> Result<Vec<usize>, AllocError> {
+        let mut keys = Vec::new(self.alloc);
+        for (_, entry) in self.table.iter() {
+            keys.push(entry.key)?;
+        }
+        Ok(keys)
+    }
+
+    /// A socket is one no more.
+    pub fn try_remove(&mut self, key: usize) -> Option<Socket> {
+        self.table.try_remove(key)
+    }
+
+    /// The system reported a socket, or it has more to do: it is to have a turn.
+    pub fn report(&mut self, key: usize, news: News) -> Result<(), AllocError> {
+        let Sockets {
+            table,
+            waiting,
+            reports,
+            ..
+        } = self;
+        let Some(socket) = table.get_mut(key) else {
+            return Ok(());
+        };
+        if !matches!(news, News::Turn) && !socket.link.is_readable() {
+            raise(reports);
+            socket.order = *reports;
+        }
+        if socket.link.report(news) {
+            waiting.push(key)?;
+        }
+        Ok(())
+    }
+
+    /// A socket may be read on: it is to have a turn, where more may be there.
+    pub fn read_on(&mut self, key: usize) -> Result<(), AllocError> {
+        match self.table.get(key) {
+            Some(socket) if socket.link.is_readable() => self.report(key, News::Turn),
+            _ => Ok(()),
+        }
+    }
+
+    /// Takes a socket in, to which these bytes are to be sent, in this millisecond. One too many is closed at
+    /// once, and one that the system doesn't report.
+    pub fn take_in(
+        &mut self,
+        mut stream: TcpStream,
+        role: Role,
+        out: Vec<u8>,
+        now: u64,
+    ) -> io::Result<Option<usize>> {
+        let Some(key) = self.table.next_key() else {
+            return Ok(None);
+        };
+        if !self.is_reported(&mut stream, key) {
+            return Ok(None);
+        }
+        self.opened = self.opened.saturating_add(1);
+        let socket = Socket::new(self.opened, Link::new(stream), role, out, now);
+        if self.table.insert(socket).is_none() {
+            return Ok(None);
+        }
+        self.begin_judging(key)?;
+        Ok(Some(key))
+    }
+
+    /// Whether there is room for a socket, and the system reports it from now on.
+    fn is_reported(&self, stream: &mut TcpStream, key: usize) -> bool {
+        if self.table.len() >= MOST || stream.set_nodelay(true).is_err() {
+            return false;
+        }
+        let both = Interest::READABLE | Interest::WRITABLE;
+        self.poll
+            .registry()
+            .register(stream, Token(key), both)
+            .is_ok()
+    }
+}

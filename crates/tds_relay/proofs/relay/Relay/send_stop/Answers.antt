@@ -1,0 +1,26 @@
+use Rattle.std.proofs.Common.{ap, inl, inr, rules}
+use Rattle.tds_relay.specs.Ties.{desk_in}
+use Rattle.tds_relay.proofs.steps.Fronts.{moves_same}
+use Rattle.tds_relay.proofs.steps.Reaching.{ok_more}
+use Rattle.tds_relay.proofs.steps.Staying.{stays_on}
+use Rattle.tds_relay.proofs.bytes.Calls.{stand_from}
+use Rattle.tds_relay.proofs.relay.Relay.send_stop.Goals as goal
+
+pub returns-else-fits-clause-read : goal.returns-else-fits-clause-read
+returns-else-fits-clause-read c = stays_on c.fail.result _ _ _ c.in_ok-fits.ensures.read c.fail.ensures.read
+
+pub returns-then-fits-clause-moves : goal.returns-then-fits-clause-moves
+returns-then-fits-clause-moves c = λ by from h. moves_same by from _ _ _ _ (ap desk_in c.fits_on.ensures.desk) c.in_ok-fits.ensures.ends h
+
+pub returns-else-fits-clause-moves : goal.returns-else-fits-clause-moves
+returns-else-fits-clause-moves c =
+    ok_more c.fail.result _ _ (λ m by from h. m by from (moves_same by from _ _ _ _ (ap desk_in c.fits_on.ensures.desk) c.in_ok-fits.ensures.ends h)) c.fail.ensures.moves
+
+pub returns-else-fits-clause-stand : goal.returns-else-fits-clause-stand
+returns-else-fits-clause-stand c = stand_from c.fail.result _ _ _ c.fits_on.ensures.desk c.fail.ensures.stand
+
+pub returns-then-fits-clause-sends : goal.returns-then-fits-clause-sends
+returns-then-fits-clause-sends c = inr (c.fits_on.ensures.desk, c.in_ok-fits.ensures.asks, c.in_ok-fits.ensures.waits (search rules))
+
+pub returns-else-fits-clause-sends : goal.returns-else-fits-clause-sends
+returns-else-fits-clause-sends c = ok_more c.fail.result _ _ (λ d. inl d) c.fail.ensures.over

@@ -1,0 +1,115 @@
+-- What an attention puts out that is handed on: it waits once, behind what waited on its connection.
+use Rattle.std.proofs.Common.{◌≡◌, ◌⊎◌, ◌∙◌, ◌++◌, ℕ, Bool, true, false, List, [], ◌∷◌, Option, Some, None, inl, inr, refl, sym, ap, subst, option_map, if◌then◌else◌}
+use Rattle.std.specs.Prelude.{IsSome}
+use Rattle.slab.specs.Slab.{get}
+use Rattle.tds_client.specs.declared.fault.ClientRefusal.{ClientRefusal}
+use Rattle.tds_client.specs.Session.{ClientSession}
+use Rattle.tds_wire.specs.declared.told.Token.{Token}
+use Rattle.tds_service.specs.declared.seat.Seat as seats
+use Rattle.tds_service.specs.declared.service.Service as services
+use Rattle.tds_service.specs.Line as line
+use Rattle.tds_service.specs.Line.{Act, Line, turn}
+use Rattle.tds_service.specs.History.{line_after}
+use Rattle.tds_service.specs.Refusing.{refusal_in}
+use Rattle.tds_service.specs.Service as calls
+use Rattle.tds_service.specs.Service.{Did, Seat, Service, acts, acts_unless, find_by, has_lease, step}
+use Rattle.tds_service.specs.Table.{CancelsOut, client_by, client_of, seat_in, seats_in, service_in}
+use Rattle.tds_service.specs.Ties.{cancel_out}
+use Rattle.tds_relay.specs.declared.application.Application.{Application}
+use Rattle.tds_relay.specs.declared.application.Asking.{Asking}
+use Rattle.tds_relay.specs.declared.application.Asking.TheVariants as asking
+use Rattle.tds_relay.specs.declared.desk.Desk as desks
+use Rattle.tds_relay.specs.declared.desk.Hold.{Hold}
+use Rattle.tds_relay.specs.declared.link.Link.{Link}
+use Rattle.tds_relay.specs.declared.relay.Relay as code
+use Rattle.tds_relay.specs.Bodies.{AskAsBefore, Before, Body, ByClient, ByClosing, ClientStops, Closed, Halts, IsHalting, OfAstray, StopsOn, body_by, body_in, body_of, going, going_by, going_of}
+use Rattle.tds_relay.specs.Desk.{find_key}
+use Rattle.tds_relay.specs.Reads.{waits_on}
+use Rattle.tds_relay.proofs.steps.Bodied.{shut}
+use Rattle.tds_relay.proofs.steps.Going.{waits_behind}
+use Rattle.tds_relay.proofs.steps.Sent.{found_changed}
+
+-- ---- The client is there behind a cancel
+
+there_unless : (s : Service) (lease : ℕ) (c : Seat) (all : List (Act Token)) (why : Option ClientRefusal) → find_by (has_lease lease) s.seats ≡ Some c
+    → (acts_unless s (has_lease lease) c all why).reply ≡ Did → IsSome (find_by (has_lease lease) (acts_unless s (has_lease lease) c all why).service.seats)
+there_unless s lease c all (Some why) e did = absurd (let u : ⊥ = cc in u)
+there_unless s lease c all None e did = subst IsSome (sym (found_changed lease c (line_after c.line all) s.seats e)) refl
+
+there_by : (s : Service) (lease : ℕ) (o : Option Seat) → find_by (has_lease lease) s.seats ≡ o → (acts {T = Token} s (has_lease lease) line.Cancel (line.Cancel ∷ []) o).reply ≡ Did
+    → IsSome (find_by (has_lease lease) (acts {T = Token} s (has_lease lease) line.Cancel (line.Cancel ∷ []) o).service.seats)
+there_by s lease None e did = absurd (let u : ⊥ = cc in u)
+there_by s lease (Some c) e did = there_unless s lease c (line.Cancel ∷ []) (refusal_in (turn {T = Token} c.line line.Cancel).answer) e did
+
+client_either : (b : Bool) (x : seats.Seat) (test : Seat → Bool) (xs : List seats.Seat) → IsSome (if b then Some (seat_in x) else find_by test (seats_in xs))
+    → (IsSome (find_by test (seats_in xs)) → (s : ClientSession) × (client_by test xs ≡ Some s)) → (s : ClientSession) × ((if b then Some x.connection.client else client_by test xs) ≡ Some s)
+client_either true x test xs is more = (x.connection.client, refl)
+client_either false x test xs is more = more is
+
+client_there : (test : Seat → Bool) (cs : List seats.Seat) → IsSome (find_by test (seats_in cs)) → (s : ClientSession) × (client_by test cs ≡ Some s)
+client_there test [] is = absurd (let u : ⊥ = cc in u)
+client_there test (x ∷ xs) is = client_either (test (seat_in x)) x test xs is (client_there test xs)
+
+pub client_stops : (key : ℕ) (hold : Hold) (old new : desks.Desk) (before after : List ℕ) → find_key key old.holds.items ≡ Some hold → new.holds.items ≡ old.holds.items
+    → service_in new.service ≡ (step {T = Token} (service_in old.service) (calls.Cancel hold.lease)).service → (step {T = Token} (service_in old.service) (calls.Cancel hold.lease)).reply ≡ Did
+    → CancelsOut hold.lease old.service before after → ClientStops key old new before after
+client_stops key hold old new before after its same is did out =
+    let there = there_by (service_in old.service) hold.lease (find_by (has_lease hold.lease) (service_in old.service).seats) refl did in
+    let to = client_there (has_lease hold.lease) new.service.seats.items (subst (λ (s : Service). IsSome (find_by (has_lease hold.lease) s.seats)) (sym is) there) in
+    record {
+      hold = hold;
+      its = its;
+      same = same;
+      from = out.0;
+      to = to.0;
+      moves = record { was = out.1; is = to.1 };
+      appended = out.2;
+    }
+
+-- ---- And what goes out waits
+
+halts_by : (number : ℕ) (from to : ClientSession) (had : Option (List ℕ)) → Halts (going_by number (Some from) had) (going_by number (Some to) (option_map (λ (waits : List ℕ). waits ++ cancel_out from.stage) had))
+halts_by number from to None = OfAstray
+halts_by number from to (Some waits) = ByClient waits from
+
+halts_on : (key : ℕ) (old new : desks.Desk) (after : List ℕ) (ls ms : List Link) (hold : Hold) → find_key key old.holds.items ≡ Some hold → ClientStops key old new [] after
+    → waits_on hold.number ms ≡ option_map (λ (waits : List ℕ). waits ++ after) (waits_on hold.number ls) → Halts (going old.service ls (find_key key old.holds.items)) (going new.service ms (find_key key new.holds.items))
+halts_on key old new after ls ms hold its p waits =
+    let one : hold ≡ p.hold = (let u : Some hold ≡ Some p.hold = sym its ∙ p.its in cc) in
+    let out = cancel_out p.from.stage in
+    let waits_is : waits_on p.hold.number ms ≡ option_map (λ (xs : List ℕ). xs ++ out) (waits_on p.hold.number ls) =
+    subst (λ (h : Hold). waits_on h.number ms ≡ option_map (λ (xs : List ℕ). xs ++ out) (waits_on h.number ls)) one
+    (waits ∙ ap (λ (ys : List ℕ). option_map (λ (xs : List ℕ). xs ++ ys) (waits_on hold.number ls)) p.appended) in
+    let was : going old.service ls (find_key key old.holds.items) ≡ going_by p.hold.number (Some p.from) (waits_on p.hold.number ls) =
+    ap (going old.service ls) p.its ∙ ap (λ (o : Option ClientSession). going_by p.hold.number o (waits_on p.hold.number ls)) p.moves.was in
+    let is : going new.service ms (find_key key new.holds.items) ≡ going_by p.hold.number (Some p.to) (option_map (λ (xs : List ℕ). xs ++ out) (waits_on p.hold.number ls)) =
+    ap (λ (hs : List Hold). going new.service ms (find_key key hs)) p.same ∙ ap (going new.service ms) p.its
+    ∙ ap (λ (o : Option ClientSession). going_by p.hold.number o (waits_on p.hold.number ms)) p.moves.is ∙ ap (going_by p.hold.number (Some p.to)) waits_is in
+    subst (λ (b : Body). Halts b (going new.service ms (find_key key new.holds.items))) (sym was)
+    (subst (Halts (going_by p.hold.number (Some p.from) (waits_on p.hold.number ls))) (sym is) (halts_by p.hold.number p.from p.to (waits_on p.hold.number ls)))
+
+-- ---- Of an application
+
+halts_asked : (over : Bool) (a : Asking) (held : List ℕ) (g h : Body) → Halts g h → Halts (if over then Closed else body_by a held g) (if over then Closed else body_by a held h)
+halts_asked true a held g h s = ByClosing
+halts_asked false asking.Nothing held g h s = Before tt
+halts_asked false (asking.Waits kind whole) held g h s = Before tt
+halts_asked false asking.Goes held g h s = s
+
+halts_in : (o : Option Application) (g h : Body) → Halts g h → Halts (body_in o g) (body_in o h)
+halts_in None g h s = ByClosing
+halts_in (Some a) g h s = halts_asked a.is_over a.asking a.held.items g h s
+
+pub halted : (key number : ℕ) (old mid new : code.Relay) → IsHalting number key old mid → mid.links.items ≡ old.links.items → AskAsBefore old.applications mid.applications → StopsOn number key mid new
+    → Halts (body_of key old) (body_of key new)
+halted key number old mid new stopped links asks (inl deaf) = subst (Halts (body_of key old)) (sym (shut new.applications key (going_of key new) deaf)) ByClosing
+halted key number old mid new stopped links asks (inr (at, asked, waits)) =
+    let hold = stopped.hold in
+    let behind : waits_on hold.number new.links.items ≡ option_map (λ (xs : List ℕ). xs ++ mid.outbox.items) (waits_on hold.number old.links.items) =
+    subst (λ (n : ℕ). waits_on n new.links.items ≡ option_map (λ (xs : List ℕ). xs ++ mid.outbox.items) (waits_on n old.links.items)) stopped.number_is
+    (waits_behind number new.links.items mid.links.items old.links.items mid.outbox.items mid.outbox.items waits links refl) in
+    let goes : Halts (going_of key old) (going_of key new) =
+    subst (λ (d : desks.Desk). Halts (going_of key old) (going d.service new.links.items (find_key key d.holds.items))) (sym at)
+    (halts_on key old.desk mid.desk mid.outbox.items old.links.items new.links.items hold stopped.its stopped.stops behind) in
+    let same : body_of key new ≡ body_in (get old.applications key) (going_of key new) = asked key (going_of key new) ∙ asks key (going_of key new) in
+    subst (Halts (body_of key old)) (sym same) (halts_in (get old.applications key) (going_of key old) (going_of key new) goes)

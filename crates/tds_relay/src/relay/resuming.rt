@@ -1,0 +1,95 @@
+//! What an application that took its request back asks next, once the server has acknowledged that.
+ghost use Rattle.std.specs.Prelude.{◌≡◌, true, OnOk};
+ghost use Rattle.tds_packet.specs.declared.status.Reset.TheVariants.{KeepTransaction};
+ghost use Rattle.tds_relay.specs.Fronts.{Moved, ends_in, hall_in};
+ghost use Rattle.tds_relay.specs.Hall.{AsksFor, IfWhose, MayPart, end_at, holder};
+ghost use Rattle.tds_relay.specs.Posts.{posts_in};
+ghost use Rattle.tds_relay.specs.Reads.{Stays};
+ghost use Rattle.tds_relay.specs.Ties.{Connection, Goes, desk_in};
+ghost use Rattle.tds_relay.specs.Walkers.{AllStand};
+
+use super::Relay;
+use crate::NoMemory;
+use crate::desk::Renewed;
+
+impl Relay {
+    /// The server has acknowledged that an application's request was taken back: its next one goes on.
+    pub(super) fn resume(&mut self, number: u64, key: usize) -> Result<(), NoMemory>
+        ensures goes { OnOk result (Goes (Connection number)
+            (desk_in self.old.desk) (desk_in self.new.desk)) }
+        ensures kept { OnOk result (posts_in self.new.applications
+            ≡ posts_in self.old.applications) }
+        ensures moves { OnOk result (Moved (Connection number) (hall_in self.old)
+            (hall_in self.new)) }
+        ensures read { OnOk result (Stays self.old.links.items self.new.links.items) }
+        ensures stand { OnOk result (AllStand self.old.desk.service
+            self.new.desk.service) }
+    {
+        if self.asks_to_keep(key) {
+            self.keep(number, key)
+        } else {
+            self.start(key)
+        }
+    }
+
+    /// The application keeps its connection with its transaction, for a request that has waited.
+    #[tactic(auto, using(crate::proofs::steps::Reaching::reaches_turn))]
+    fn keep(&mut self, number: u64, key: usize) -> Result<(), NoMemory>
+        ensures goes { OnOk result (Goes (Connection number)
+            (desk_in self.old.desk) (desk_in self.new.desk)) }
+        ensures kept { OnOk result (posts_in self.new.applications
+            ≡ posts_in self.old.applications) }
+        ensures moves { OnOk result (AsksFor KeepTransaction
+            (end_at (ends_in self.old.applications) key)
+            → Moved (Connection number) (hall_in self.old) (hall_in self.new)) }
+        ensures read { OnOk result (Stays self.old.links.items self.new.links.items) }
+        ensures stand { OnOk result (AllStand self.old.desk.service
+            self.new.desk.service) }
+    {
+        match self.desk.renew(key)? {
+            Renewed::Kept(hold) => {
+                self.restart(hold.number);
+                self.start(key)
+            }
+            Renewed::NotKept => self.replace(number),
+            Renewed::Closed(number) => self.close(number, Some(key)),
+        }
+    }
+
+    /// The transaction that was to be kept has ended: the connection is closed, and its application waits
+    /// for another, if it may be parted from it.
+    #[tactic(auto, using(crate::proofs::steps::Reaching::reaches_turn))]
+    fn replace(&mut self, number: u64) -> Result<(), NoMemory>
+        ensures goes { OnOk result (Goes (Connection number)
+            (desk_in self.old.desk) (desk_in self.new.desk)) }
+        ensures kept { OnOk result (posts_in self.new.applications
+            ≡ posts_in self.old.applications) }
+        ensures moves { OnOk result (Moved (Connection number) (hall_in self.old)
+            (hall_in self.new)) }
+        ensures read { OnOk result (Stays self.old.links.items self.new.links.items) }
+        ensures stand { OnOk result (AllStand self.old.desk.service
+            self.new.desk.service) }
+    {
+        if !self.may_replace(number) {
+            return self.lose(number);
+        }
+        let holder = self.desk.lose(number)?;
+        let Some(key) = holder else {
+            return self.close_link(number);
+        };
+        self.let_go(key);
+        self.close_link(number)?;
+        self.wait(key)
+    }
+
+    /// Whether who holds the connection of this number may be parted from it.
+    fn may_replace(&self, number: u64) -> bool
+        ensures { result ≡ true → IfWhose (MayPart (hall_in self.now))
+            (holder (desk_in self.now.desk) number) }
+    {
+        match self.desk.key_on(number) {
+            Some(key) => self.may_part(key),
+            None => true,
+        }
+    }
+}

@@ -1,0 +1,156 @@
+//! What an operator changes while the relay runs: groups are paused and go on, settings are read again.
+
+use crate::program::Program;
+use relay_house::Group;
+use relay_settings::{Asked, read_words};
+use relay_sockets::{Role, Whose};
+use relay_status::put_answer;
+use std::fs::Files;
+use std::io::{self, Write};
+use std::mem;
+use std::net::Net;
+
+impl<W: Write + Drop> Program<W> {
+    /// Pauses a group: none of its applications is lent a connection, and free ones are closed. False where
+    /// there is no such group.
+    pub fn pause(&mut self, number: u64) -> bool {
+        let now = self.house.now();
+        match self.group_of_number(number) {
+            Some((_, group)) => {
+                group.goes_on = false;
+                if group.paused.is_none() {
+                    group.paused = Some(now);
+                }
+            }
+            None => return false,
+        }
+        self.house
+            .journal
+            .say("group", number, "is paused, by POST /pause");
+        true
+    }
+
+    /// A group is to go on behind this round's turns. False where there is no such group.
+    pub fn resume(&mut self, number: u64) -> io::Result<bool> {
+        let Some((key, group)) = self.group_of_number(number) else {
+            return Ok(false);
+        };
+        group.goes_on = true;
+        self.resumed.push(key)?;
+        self.house
+            .journal
+            .say("group", number, "goes on, by POST /resume");
+        Ok(true)
+    }
+
+    fn group_of_number(&mut self, number: u64) -> Option<(usize, &mut Group)> {
+        let key = self.house.groups.key_of(number)?;
+        let group = self.house.groups.get_mut(key)?;
+        Some((key, group))
+    }
+
+    /// The groups that are to go on do. All who were reported in this round have had their turns by now, so
+    /// that whoever is read from here on asks behind those who were kept.
+    pub fn go_on(&mut self) -> io::Result<()> {
+        if self.resumed.is_empty() {
+            return Ok(());
+        }
+        let resumed = mem::replace(&mut self.resumed, Vec::new(self.house.alloc));
+        for key in resumed.iter() {
+            if self.ends_pause(*key) {
+                self.read_all_of(*key)?;
+                self.house.forget_deserted(*key);
+            }
+        }
+        Ok(())
+    }
+
+    /// Ends a group's pause, where it is to go on still.
+    fn ends_pause(&mut self, key: usize) -> bool {
+        match self.house.groups.get_mut(key) {
+            Some(group) if group.goes_on => {
+                group.goes_on = false;
+                group.paused = None;
+                true
+            }
+            _ => false,
+        }
+    }
+
+    /// The applications of a group are read on, those first of which something has come first.
+    fn read_all_of(&mut self, key: usize) -> io::Result<()> {
+        let mut kept = Vec::new(self.house.alloc);
+        for (_, entry) in self.house.sockets.iter() {
+            if let Whose::Application(group, _) = entry.value.whose() {
+                if group == key {
+                    kept.push((entry.value.order, entry.key))?;
+                }
+            }
+        }
+        kept.sort_unstable();
+        for (_, socket) in kept.iter() {
+            self.house.sockets.read_on(*socket)?;
+        }
+        Ok(())
+    }
+
+    /// Reads the settings again for those who have asked for that. Where something is wrong, the old ones
+    /// stay.
+    pub fn reload<R: Net + Files>(&mut self, rt: &R) -> io::Result<()> {
+        if self.reloads.is_empty() {
+            return Ok(());
+        }
+        let asking = mem::replace(&mut self.reloads, Vec::new(self.house.alloc));
+        for key in asking.iter() {
+            self.reload_for(rt, *key)?;
+        }
+        Ok(())
+    }
+
+    fn reload_for<R: Net + Files>(&mut self, rt: &R, key: usize) -> io::Result<()> {
+        match read_words(rt, self.house.alloc, self.words.as_slice()) {
+            Ok(asked) => {
+                self.take_over(asked);
+                self.house
+                    .journal
+                    .note("the settings are read again, by POST /reload");
+                self.answer_reload(rt, key, "200 OK", "read again\n")
+            }
+            Err(fault) => {
+                let told = format!(in self.house.alloc; "{fault}\n")?;
+                self.house
+                    .journal
+                    .note("the settings stay, since POST /reload finds them wrong");
+                self.answer_reload(rt, key, "409 Conflict", told.as_str())
+            }
+        }
+    }
+
+    fn answer_reload<R: Net>(
+        &mut self,
+        rt: &R,
+        key: usize,
+        status: &str,
+        told: &str,
+    ) -> io::Result<()> {
+        let Some(socket) = self.house.sockets.get_mut(key) else {
+            return Ok(());
+        };
+        if !matches!(socket.role, Role::Asker(_)) {
+            return Ok(());
+        }
+        put_answer(&mut socket.out, status, "text/plain", told.as_bytes())?;
+        self.house.dismiss(rt, key)
+    }
+
+    /// These settings are the ones from now on. Where it listens and tells stays as it was.
+    fn take_over(&mut self, asked: Asked) {
+        let before = self.house.asked;
+        self.house.set(Asked {
+            listen: before.listen,
+            stats: before.stats,
+            ends_with_input: before.ends_with_input,
+            ..asked
+        });
+    }
+}

@@ -1,0 +1,153 @@
+//! What is told of each group and each socket.
+
+use crate::program::Program;
+use relay_house::Group;
+use relay_logins::number_of;
+use relay_settings::{Limits, lesser};
+use relay_sockets::{Socket, Whose};
+use relay_status::{
+    At, GroupLine, SocketLine, put_group, put_json_group, put_json_socket, put_socket,
+};
+use std::io::{self, Write};
+
+/// The most of a line that are told.
+const MOST_TOLD: usize = 100;
+
+impl<W: Write + Drop> Program<W> {
+    /// A group: its figures, a line for each socket of it, and the applications that wait, the first one first.
+    pub fn put_group(&self, body: &mut Vec<u8>, key: usize) -> io::Result<()> {
+        let Some(group) = self.house.groups.get(key) else {
+            return Ok(());
+        };
+        put_group(body, &self.line_of_group(key, group))?;
+        for (_, entry) in self.house.sockets.iter() {
+            if entry.value.group() == Some(key) {
+                put_socket(body, &self.line_of(entry.key, &entry.value))?;
+            }
+        }
+        if group.line().is_empty() {
+            return Ok(());
+        }
+        write!(body, "  the line: ")?;
+        self.put_numbers(body, key, group)?;
+        writeln!(body, "")
+    }
+
+    /// The applications whose login hasn't come yet, so that they are in no group.
+    pub fn put_coming(&self, body: &mut Vec<u8>) -> io::Result<()> {
+        let mut is_first = true;
+        for (_, entry) in self.house.sockets.iter() {
+            if let Whose::Gate = entry.value.whose() {
+                if is_first {
+                    write!(body, "\nin no group yet\n")?;
+                }
+                is_first = false;
+                put_socket(body, &self.line_of(entry.key, &entry.value))?;
+            }
+        }
+        Ok(())
+    }
+
+    pub fn put_json_sockets(&self, body: &mut Vec<u8>) -> io::Result<()> {
+        let mut is_first = true;
+        for (_, entry) in self.house.sockets.iter() {
+            if !is_first {
+                write!(body, ",")?;
+            }
+            is_first = false;
+            put_json_socket(body, &self.line_of(entry.key, &entry.value))?;
+        }
+        Ok(())
+    }
+
+    pub fn put_json_groups(&self, body: &mut Vec<u8>) -> io::Result<()> {
+        let mut is_first = true;
+        for (_, entry) in self.house.groups.iter() {
+            let (key, group) = (entry.key, &entry.value.inner);
+            if !is_first {
+                write!(body, ",")?;
+            }
+            is_first = false;
+            put_json_group(body, &self.line_of_group(key, group))?;
+            self.put_numbers(body, key, group)?;
+            write!(body, "]}}")?;
+        }
+        Ok(())
+    }
+
+    /// The numbers of those who wait in a group, the first one first.
+    fn put_numbers(&self, body: &mut Vec<u8>, key: usize, group: &Group) -> io::Result<()> {
+        let mut is_first = true;
+        for (application, _) in group.line().iter().zip(0..MOST_TOLD) {
+            if let Some(number) = self.number_in(key, *application) {
+                if !is_first {
+                    write!(body, ", ")?;
+                }
+                is_first = false;
+                write!(body, "{number}")?;
+            }
+        }
+        Ok(())
+    }
+
+    /// The number of an application of a group.
+    fn number_in(&self, group: usize, key: usize) -> Option<u64> {
+        for (_, entry) in self.house.sockets.iter() {
+            if let Whose::Application(of, application) = entry.value.whose() {
+                if of == group && application == key {
+                    return Some(entry.value.number);
+                }
+            }
+        }
+        None
+    }
+
+    fn line_of_group<'a>(&self, key: usize, group: &'a Group) -> GroupLine<'a> {
+        GroupLine {
+            number: number_of(key),
+            is_shared: group.pair.is_none(),
+            paused: match group.paused {
+                Some(since) => Some(self.seconds_since(since)),
+                None => None,
+            },
+            user: group.user.as_str(),
+            most: group.most,
+        }
+    }
+
+    fn line_of<'a>(&self, key: usize, socket: &'a Socket) -> SocketLine<'a> {
+        SocketLine {
+            role: socket.told(),
+            number: socket.number,
+            group: match socket.group() {
+                Some(key) => Some(number_of(key)),
+                None => None,
+            },
+            at: socket.seen.at,
+            seconds: self.seconds_since(socket.seen.since),
+            limit: limit_of(socket.seen.at, &self.limits_of(key)),
+            partner: socket.partner,
+            names: socket.names(),
+            peer: socket.peer,
+            spid: socket.spid,
+            server: socket.server,
+        }
+    }
+
+    fn seconds_since(&self, since: u64) -> u64 {
+        self.house.now().saturating_sub(since) / 1000
+    }
+}
+
+/// The seconds behind which what is at this is closed, 0 for none.
+fn limit_of(at: At, limits: &Limits) -> u64 {
+    match at {
+        At::Login | At::Other => limits.login,
+        At::Waiting | At::Opening | At::TakenBack => limits.wait,
+        At::Cancelling | At::Draining | At::Cleaning => limits.cancel,
+        At::Holding => limits.hold,
+        At::InTransaction => lesser(limits.transaction, limits.hold),
+        At::Free => limits.idle,
+        At::Quiet | At::Kept | At::Asking | At::Held => 0,
+    }
+}

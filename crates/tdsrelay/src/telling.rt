@@ -1,0 +1,280 @@
+//! What the relay tells whoever asks what it does: for a reader, as JSON, and for Prometheus.
+
+use crate::program::Program;
+use relay_house::{Group, House, relay_of};
+use relay_logins::number_of;
+use relay_sockets::{Cause, Role, Whose};
+use relay_status::{
+    At, FAR, Figures, NO_HTTP, PAGES, Page, put_answer, put_json_figures, put_metrics, put_server,
+    put_text_figures, put_user, put_users, sum,
+};
+use std::io::{self, Write};
+use std::net::Net;
+
+impl<W: Write + Drop> Program<W> {
+    /// Bytes of somebody who asks came.
+    pub fn asked_for<R: Net>(&mut self, rt: &R, key: usize, piece: &[u8]) -> io::Result<()> {
+        let page = match self.house.sockets.get_mut(key) {
+            Some(socket) => match &mut socket.role {
+                Role::Asker(asker) => asker.take(piece)?,
+                _ => None,
+            },
+            None => None,
+        };
+        let Some(page) = page else {
+            return Ok(());
+        };
+        if matches!(page, Page::Reload) {
+            // It is answered behind this round's turns.
+            self.reloads.push(key)?;
+            return Ok(());
+        }
+        let mut body = Vec::new(self.house.alloc);
+        let (status, kind) = self.put_page(rt, page, &mut body)?;
+        if let Some(socket) = self.house.sockets.get_mut(key) {
+            put_answer(&mut socket.out, status, kind, &body)?;
+        }
+        self.house.dismiss(rt, key)
+    }
+
+    /// Appends what was asked for. Answers the status and the kind of that.
+    fn put_page<R: Net>(
+        &mut self,
+        rt: &R,
+        page: Page,
+        body: &mut Vec<u8>,
+    ) -> io::Result<(&'static str, &'static str)> {
+        match page {
+            Page::Text => {
+                self.put_text(body)?;
+                Ok(("200 OK", "text/plain"))
+            }
+            Page::Json => {
+                self.put_json(body)?;
+                Ok(("200 OK", "application/json"))
+            }
+            Page::Metrics => {
+                self.put_metrics(body)?;
+                Ok(("200 OK", "text/plain; version=0.0.4"))
+            }
+            Page::Kill(group) => {
+                let is_there = self.kill(rt, group)?;
+                put_done(body, is_there, b"closed\n")
+            }
+            Page::Drain => {
+                self.end_soon("the relay is to end, by POST /drain");
+                put_done(body, true, b"ends\n")
+            }
+            Page::Pause(group) => put_done(body, self.pause(group), b"paused\n"),
+            Page::Resume(group) => put_done(body, self.resume(group)?, b"goes on\n"),
+            Page::Unknown | Page::Reload => put_refused(body, "404 Not Found", PAGES),
+            Page::Far => put_refused(body, "403 Forbidden", FAR),
+            Page::Wrong => put_refused(body, "400 Bad Request", NO_HTTP),
+        }
+    }
+
+    /// The figures in the form that Prometheus reads.
+    fn put_metrics(&mut self, body: &mut Vec<u8>) -> io::Result<()> {
+        self.see_all()?;
+        put_metrics(body, &self.figures())?;
+        self.house
+            .journal
+            .requests
+            .put_metrics(body, "tdsrelay_request_seconds")?;
+        self.house
+            .journal
+            .logins
+            .put_metrics(body, "tdsrelay_login_seconds")?;
+        self.put_users(body)
+    }
+
+    /// The applications and the connections of each user, for Prometheus.
+    fn put_users(&self, body: &mut Vec<u8>) -> io::Result<()> {
+        for (what, kind) in [("applications", true), ("connections", false)].iter() {
+            put_users(body, what)?;
+            for (_, entry) in self.house.groups.iter() {
+                let group = &entry.value.inner;
+                if self.is_first_of_user(entry.key, group) {
+                    let count = self.count_of(&group.user, *kind);
+                    put_user(body, what, group.user.as_str(), count)?;
+                }
+            }
+        }
+        Ok(())
+    }
+
+    /// Whether no group before this one is of the same user.
+    fn is_first_of_user(&self, key: usize, group: &Group) -> bool {
+        for (_, entry) in self.house.groups.iter() {
+            if entry.key < key && entry.value.inner.user == group.user {
+                return false;
+            }
+        }
+        true
+    }
+
+    /// How many applications or connections there are of a user.
+    fn count_of(&self, user: &String, of_applications: bool) -> u64 {
+        let mut count: u64 = 0;
+        for (_, entry) in self.house.groups.iter() {
+            let group = &entry.value.inner;
+            if group.user == *user {
+                let more = if of_applications {
+                    group.applications()
+                } else {
+                    group.connections()
+                };
+                count = count.saturating_add(more as u64);
+            }
+        }
+        count
+    }
+
+    /// Closes all applications and connections of a group. False where there is no such group.
+    fn kill<R: Net>(&mut self, rt: &R, number: u64) -> io::Result<bool> {
+        if self.house.groups.key_of(number).is_none() {
+            return Ok(false);
+        }
+        self.house
+            .journal
+            .say("group", number, "is closed, by POST /kill");
+        let mut keys = Vec::new(self.house.alloc);
+        for (_, entry) in self.house.sockets.iter() {
+            if let Some(group) = entry.value.group() {
+                if number_of(group) == number {
+                    keys.push(entry.key)?;
+                }
+            }
+        }
+        for key in keys.iter() {
+            self.house.ended(rt, *key, Cause::Own)?;
+        }
+        Ok(true)
+    }
+
+    /// What is there, and what was done.
+    fn figures(&self) -> Figures {
+        let mut figures = Figures::new(self.house.now() / 1000, self.house.journal.counts);
+        let now = self.house.now();
+        let House {
+            sockets,
+            groups,
+            ..
+        } = &self.house;
+        for (_, entry) in sockets.iter() {
+            let socket = &entry.value;
+            figures.add(socket.told(), socket.seen.at);
+            if matches!(socket.seen.at, At::Waiting | At::Opening | At::TakenBack) {
+                figures.waited(now.saturating_sub(socket.seen.since) / 1000);
+            }
+        }
+        for (_, entry) in groups.iter() {
+            let group = &entry.value.inner;
+            figures.done = sum(figures.done, group.done());
+            figures.add_group(group.pair.is_some(), group.is_paused());
+        }
+        figures
+    }
+
+    /// Notes of each socket what it is at now, and who is at its other end.
+    fn see_all(&mut self) -> io::Result<()> {
+        let keys = self.house.sockets.keys()?;
+        for key in keys.iter() {
+            let (at, mark) = self.at(*key);
+            let partner = self.partner_of(*key);
+            let now = self.house.now();
+            if let Some(socket) = self.house.sockets.get_mut(*key) {
+                socket.see(at, mark, now);
+                socket.partner = partner;
+            }
+        }
+        Ok(())
+    }
+
+    /// The number of the connection that an application holds, or of the application that holds one.
+    fn partner_of(&mut self, key: usize) -> Option<u64> {
+        let House {
+            sockets,
+            groups,
+            ..
+        } = &mut self.house;
+        // What is asked here says so, too, where nothing was sent.
+        let other = match sockets.get(key)?.whose() {
+            Whose::Application(group, application) => {
+                relay_of(groups, group)?.sent(application, 0)?
+            }
+            Whose::Opening(group, number) => relay_of(groups, group)?.sent_on(number, 0)?,
+            Whose::Connection(group, number) => relay_of(groups, group)?.sent_on(number, 0)?,
+            _ => return None,
+        };
+        Some(sockets.get(other)?.number)
+    }
+
+    fn put_text(&mut self, body: &mut Vec<u8>) -> io::Result<()> {
+        self.see_all()?;
+        write!(body, "tdsrelay 0.1.0\n")?;
+        self.put_servers(body)?;
+        write!(body, "\n")?;
+        put_text_figures(body, &self.figures())?;
+        self.house.journal.requests.put_text(body, "requests")?;
+        self.house
+            .journal
+            .logins
+            .put_text(body, "logins of connections")?;
+        for (_, entry) in self.house.groups.iter() {
+            self.put_group(body, entry.key)?;
+        }
+        self.put_coming(body)
+    }
+
+    /// The servers, and which of them have failed lately.
+    fn put_servers(&self, body: &mut Vec<u8>) -> io::Result<()> {
+        for (place, until) in self.house.upstream.away.iter().enumerate() {
+            if let Some(server) = self.house.asked.servers.at(place) {
+                put_server(body, place, server, *until > self.house.now())?;
+            }
+        }
+        Ok(())
+    }
+
+    fn put_json(&mut self, body: &mut Vec<u8>) -> io::Result<()> {
+        self.see_all()?;
+        put_json_figures(body, &self.figures())?;
+        write!(body, ",\"request_seconds\":")?;
+        self.house.journal.requests.put_json(body)?;
+        write!(body, ",\"login_seconds\":")?;
+        self.house.journal.logins.put_json(body)?;
+        write!(body, ",\"sockets\":[")?;
+        self.put_json_sockets(body)?;
+        write!(body, "],\"groups\":[")?;
+        self.put_json_groups(body)?;
+        writeln!(body, "]}}")
+    }
+}
+
+/// Says that something is done with a group, or that there is no such group.
+fn put_done(
+    body: &mut Vec<u8>,
+    is_there: bool,
+    done: &[u8],
+) -> io::Result<(&'static str, &'static str)> {
+    if is_there {
+        body.extend_from_slice(done)?;
+        return Ok(("200 OK", "text/plain"));
+    }
+    put_refused(
+        body,
+        "404 Not Found",
+        b"there is no such group; GET / shows those that are\n",
+    )
+}
+
+/// Says why nothing is done.
+fn put_refused(
+    body: &mut Vec<u8>,
+    status: &'static str,
+    why: &[u8],
+) -> io::Result<(&'static str, &'static str)> {
+    body.extend_from_slice(why)?;
+    Ok((status, "text/plain"))
+}

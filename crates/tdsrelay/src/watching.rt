@@ -1,0 +1,359 @@
+//! Time limits, and the end: what has lasted too long is closed.
+
+use crate::program::Program;
+use relay_house::{Group, House, relay_of};
+use relay_logins::{Groups, UNANSWERED, put_error};
+use relay_settings::{Limits, is_beyond};
+use relay_sockets::{Cause, Role, Whose};
+use relay_status::{At, raise};
+use std::io::{self, Write};
+use std::net::Net;
+use tds_relay::{Place, PlaceOn, Relay};
+
+/// What an application is told whose login no server answers.
+const SILENT: &str = "The server gave no answer in time.";
+
+/// Why something is closed.
+#[derive(Clone, Copy)]
+enum Why {
+    Login,
+    Wait,
+    Cancel,
+    Hold,
+    Transaction,
+    Idle,
+    Old,
+    /// Its group is paused.
+    Paused,
+    /// The relay ends.
+    End,
+}
+
+impl Why {
+    /// The log's words.
+    fn words(self) -> &'static str {
+        match self {
+            Why::Login => "has taken too long to log in",
+            Why::Wait => "has waited too long for a connection",
+            Why::Cancel => "has no acknowledgement of a cancel, or of a cleaning",
+            Why::Hold => "has held a connection too long and asked nothing",
+            Why::Transaction => "has left a transaction open too long and asked nothing",
+            Why::Idle => "was idle too long",
+            Why::Old => "is old enough",
+            Why::Paused => "is closed, since its group is paused",
+            Why::End => "is closed, since the relay ends",
+        }
+    }
+
+    /// What an application is told: an error's number (MS-TDS 2.2.7.10) and its sentence.
+    fn told(self) -> Option<(u32, &'static str)> {
+        match self {
+            Why::Wait => Some((50_101, "The relay had no connection free in time.")),
+            Why::Hold => Some((
+                50_102,
+                "The relay closes who holds a connection for long and asks nothing.",
+            )),
+            Why::End => Some((50_103, "The relay ends.")),
+            Why::Transaction => Some((
+                50_104,
+                "The relay closes who leaves a transaction open for long and asks nothing.",
+            )),
+            Why::Login | Why::Cancel | Why::Idle | Why::Old | Why::Paused => None,
+        }
+    }
+}
+
+impl<W: Write + Drop> Program<W> {
+    /// Closes what has lasted longer than its limit.
+    pub fn sweep<R: Net>(&mut self, rt: &R) -> io::Result<()> {
+        let keys = self.house.sockets.keys()?;
+        for key in keys.iter() {
+            self.sweep_one(rt, *key)?;
+        }
+        self.house.check_all(rt)
+    }
+
+    fn sweep_one<R: Net>(&mut self, rt: &R, key: usize) -> io::Result<()> {
+        if let Some(why) = self.look_at(key) {
+            self.end(rt, key, why)?;
+        }
+        // What made room for it may have been said of another one alone.
+        Ok(self.house.sockets.read_on(key)?)
+    }
+
+    /// Whether it is to end, and has no application left or has waited long enough for that.
+    pub fn has_ended(&self) -> bool {
+        match self.ending {
+            Some(since) => {
+                let lasted = self.house.now().saturating_sub(since);
+                self.applications() == 0 || is_beyond(self.house.asked.limits.drain, lasted)
+            }
+            None => false,
+        }
+    }
+
+    /// How many applications are logged in.
+    pub fn applications(&self) -> usize {
+        let mut count: usize = 0;
+        for (_, entry) in self.house.sockets.iter() {
+            if matches!(entry.value.role, Role::Application(..)) {
+                count = count.saturating_add(1);
+            }
+        }
+        count
+    }
+
+    /// Notes what a socket is at, and answers why it is to be closed, if it is.
+    fn look_at(&mut self, key: usize) -> Option<Why> {
+        let (at, mark) = self.at(key);
+        let (now, limits, is_ending) = (
+            self.house.now(),
+            self.limits_of(key),
+            self.ending.is_some(),
+        );
+        let is_paused = self.is_paused(key);
+        let socket = self.house.sockets.get_mut(key)?;
+        socket.see(at, mark, now);
+        let lasted = now.saturating_sub(socket.seen.since);
+        let age = now.saturating_sub(socket.born);
+        if is_ending && ends_at_once(at) {
+            return Some(Why::End);
+        }
+        if is_paused && at == At::Free {
+            return Some(Why::Paused);
+        }
+        why_late(at, lasted, age, &limits)
+    }
+
+    /// The limits of a socket. A server's share of a login's time is the smaller the more servers there are.
+    /// Who waits for their judgement is told what becomes of it, so has all their shares, and the times
+    /// from one look at limits to the next. A connection that isn't shared may be idle as long as its
+    /// application is there.
+    pub fn limits_of(&self, key: usize) -> Limits {
+        let mut limits = self.house.asked.limits;
+        let count = self.house.asked.servers.count();
+        let whose = match self.house.sockets.get(key) {
+            Some(socket) => socket.whose(),
+            None => return limits,
+        };
+        match whose {
+            Whose::First(_) | Whose::Opening(..) => {
+                if limits.login > 0 && count > 1 {
+                    limits.login = (limits.login / count).max(1);
+                }
+            }
+            Whose::Judged(_) if limits.login > 0 => {
+                limits.login = limits.login.saturating_add(count.saturating_mul(2));
+            }
+            Whose::Connection(group, _) if self.house.pair_of(group).is_some() => {
+                limits.idle = 0;
+                limits.life = 0;
+            }
+            _ => {}
+        }
+        limits
+    }
+
+    /// Whether the group of a socket that is a connection is paused.
+    fn is_paused(&self, key: usize) -> bool {
+        let Some(socket) = self.house.sockets.get(key) else {
+            return false;
+        };
+        match socket.whose() {
+            Whose::Connection(group, _) => match self.house.groups.get(group) {
+                Some(group) => group.is_paused(),
+                None => false,
+            },
+            _ => false,
+        }
+    }
+
+    /// What a socket is at, and what tells two of that apart.
+    pub fn at(&mut self, key: usize) -> (At, u64) {
+        let House {
+            sockets,
+            groups,
+            ..
+        } = &mut self.house;
+        let Some(socket) = sockets.get(key) else {
+            return (At::Other, 0);
+        };
+        match socket.whose() {
+            Whose::Gate | Whose::Leg(_) => (At::Login, 0),
+            Whose::Judged(_) => (At::Login, 1),
+            Whose::First(_) | Whose::Opening(..) => (At::Login, 0),
+            Whose::Asker | Whose::Closing => (At::Other, 0),
+            Whose::Application(group, application) => {
+                at_of(groups, group, application, socket.link.is_readable())
+            }
+            Whose::Connection(group, number) => match relay_of(groups, group) {
+                Some(relay) => at_on(relay.place_on(number)),
+                None => (At::Other, 0),
+            },
+        }
+    }
+
+    /// Closes it. An application is told why, where nothing else waits for it.
+    fn end<R: Net>(&mut self, rt: &R, key: usize, why: Why) -> io::Result<()> {
+        self.count(why);
+        self.house.say("socket", key, why.words());
+        let whose = match self.house.sockets.get(key) {
+            Some(socket) => socket.whose(),
+            None => return Ok(()),
+        };
+        match (whose, why) {
+            (Whose::Application(group, application), Why::Cancel) => {
+                self.give_up(rt, group, application)
+            }
+            (Whose::Application(group, application), _) => {
+                self.dismiss_from(rt, key, group, application, why)
+            }
+            (Whose::Judged(_), Why::Login) => self.house.put_refusal(key, SILENT),
+            (Whose::Leg(_), Why::Login) => self.house.put_refusal(key, UNANSWERED),
+            (_, Why::Login | Why::Cancel) => self.house.ended(rt, key, Cause::Silent),
+            _ => self.house.ended(rt, key, Cause::Own),
+        }
+    }
+
+    fn count(&mut self, why: Why) {
+        let counts = &mut self.house.journal.counts;
+        match why {
+            Why::Login => raise(&mut counts.late_logins),
+            Why::Wait => raise(&mut counts.late_waits),
+            Why::Cancel => raise(&mut counts.late_cancels),
+            Why::Hold => raise(&mut counts.late_holds),
+            Why::Transaction => raise(&mut counts.late_transactions),
+            Why::Idle => raise(&mut counts.idle),
+            Why::Old => raise(&mut counts.old),
+            Why::End | Why::Paused => {}
+        }
+    }
+
+    /// The connection on which an application's cancel isn't acknowledged is closed, and the application
+    /// with it.
+    fn give_up<R: Net>(&mut self, rt: &R, group: usize, application: usize) -> io::Result<()> {
+        if let Some(relay) = relay_of(&mut self.house.groups, group) {
+            if let Some(Place::Cancelling(number)) = relay.place_of(application) {
+                relay.lost(number)?;
+            }
+        }
+        self.house.obey(rt, group)
+    }
+
+    /// An application is taken out of its group and closed.
+    fn dismiss_from<R: Net>(
+        &mut self,
+        rt: &R,
+        key: usize,
+        group: usize,
+        application: usize,
+        why: Why,
+    ) -> io::Result<()> {
+        let alloc = self.house.alloc;
+        let House {
+            sockets,
+            groups,
+            ..
+        } = &mut self.house;
+        if let (Some(socket), Some(relay)) = (sockets.get_mut(key), relay_of(groups, group)) {
+            if let (true, Some((number, text))) = (
+                relay.unsent(application).is_empty(),
+                why.told(),
+            ) {
+                put_error(alloc, &mut socket.out, number, text)?;
+            }
+            socket.role = Role::Closing;
+        }
+        self.house.leave(group, application)?;
+        self.house.obey(rt, group)?;
+        self.house.let_go(Whose::Application(group, application))?;
+        self.house.dismiss(rt, key)
+    }
+}
+
+/// Whether an application or a login that is at this is closed once the relay is to end.
+fn ends_at_once(at: At) -> bool {
+    matches!(
+        at,
+        At::Login | At::Quiet | At::Kept | At::Holding | At::InTransaction | At::Waiting
+    )
+}
+
+/// What an application of a group is at, of which more may be there to read, and what tells two of that apart.
+fn at_of(
+    groups: &mut Groups<Group>,
+    group: usize,
+    application: usize,
+    has_more: bool,
+) -> (At, u64) {
+    let Some(group) = groups.get_mut(group) else {
+        return (At::Other, 0);
+    };
+    let is_kept = group.is_paused() && has_more;
+    let Some(relay) = group.relay() else {
+        return (At::Other, 0);
+    };
+    let at = match at_in(relay, application) {
+        At::Quiet if is_kept => At::Kept,
+        at => at,
+    };
+    (at, relay.begun_by(application))
+}
+
+/// What an application is at by its relay.
+fn at_in(relay: &Relay, application: usize) -> At {
+    match relay.place_of(application) {
+        Some(Place::Quiet) => At::Quiet,
+        Some(Place::Holding(number)) => match relay.is_open_on(number) {
+            Some(true) => At::InTransaction,
+            _ => At::Holding,
+        },
+        Some(Place::Waiting) => At::Waiting,
+        Some(Place::Opening(number)) => match relay.place_on(number) {
+            Some(PlaceOn::Held(_)) => At::TakenBack,
+            _ => At::Opening,
+        },
+        Some(Place::Asking(_)) => At::Asking,
+        Some(Place::Cancelling(_)) => At::Cancelling,
+        Some(Place::Over) => At::Other,
+        None => At::Other,
+    }
+}
+
+fn at_on(place: Option<PlaceOn>) -> (At, u64) {
+    match place {
+        Some(PlaceOn::Opening) => (At::Login, 0),
+        Some(PlaceOn::Free) => (At::Free, 0),
+        Some(PlaceOn::Held(key)) => (At::Held, key as u64),
+        Some(PlaceOn::Draining) => (At::Draining, 0),
+        Some(PlaceOn::Cleaning) => (At::Cleaning, 0),
+        None => (At::Other, 0),
+    }
+}
+
+/// Why what has lasted so many milliseconds is to be closed, if it is.
+fn why_late(at: At, lasted: u64, age: u64, limits: &Limits) -> Option<Why> {
+    match at {
+        At::Login | At::Other => limited(limits.login, lasted, Why::Login),
+        At::Waiting | At::Opening | At::TakenBack => limited(limits.wait, lasted, Why::Wait),
+        At::Cancelling | At::Draining | At::Cleaning => limited(limits.cancel, lasted, Why::Cancel),
+        At::Holding => limited(limits.hold, lasted, Why::Hold),
+        At::InTransaction => match limited(limits.transaction, lasted, Why::Transaction) {
+            Some(why) => Some(why),
+            None => limited(limits.hold, lasted, Why::Hold),
+        },
+        At::Free => match limited(limits.idle, lasted, Why::Idle) {
+            Some(why) => Some(why),
+            None => limited(limits.life, age, Why::Old),
+        },
+        At::Quiet | At::Kept | At::Asking | At::Held => None,
+    }
+}
+
+fn limited(limit: u64, lasted: u64, why: Why) -> Option<Why> {
+    if is_beyond(limit, lasted) {
+        Some(why)
+    } else {
+        None
+    }
+}
