@@ -3,7 +3,6 @@ package mssql
 import (
 	"context"
 	"database/sql/driver"
-	"io"
 	"sync"
 
 	tds "mouktelf"
@@ -13,10 +12,10 @@ import (
 // resets go out, which transaction is open, what of an answer is told, and where a cancel has ended. A cancel comes from
 // another goroutine than the one that reads, so it has a lock.
 type session struct {
-	lock      sync.Mutex
-	client    *tds.Client
-	transport io.Writer
-	refused   error // why the message that is being written was not begun
+	lock     sync.Mutex
+	client   *tds.Client
+	outgoing *tds.Outgoing
+	refused  error // why the message that is being written was not begun
 }
 
 // TDS_NOT_IDLE of tds.h
@@ -24,20 +23,20 @@ const notIdle = tds.Fault(31)
 
 func newSession(buf *tdsBuffer) (*session, error) {
 	client, err := tds.New(uint16(buf.PackageSize()))
-	return &session{client: client, transport: buf.transport}, err
+	s := &session{client: client}
+	s.outgoing = tds.NewOutgoing(buf.transport, &s.lock)
+	return s, err
 }
 
-// asks does one thing with the client, and sends what is to go out. Where that fails the connection is lost.
-func (s *session) asks(what func(client *tds.Client, out *[]byte) error) error {
-	s.lock.Lock()
-	defer s.lock.Unlock()
-	var out []byte
-	err := what(s.client, &out)
-	if len(out) == 0 {
-		return err
-	}
-	if _, failed := s.transport.Write(out); failed != nil {
-		s.client.Lost()
+// asks does one thing with the client, and sends what is to go out, in the order of the calls; no lock is held while it is written,
+// so that no cancel waits behind a write that stalls. Where that fails the connection is lost.
+func (s *session) asks(what func(client *tds.Client, out *[]byte) error) (err error) {
+	failed := s.outgoing.Do(func(out *[]byte) error {
+		err = what(s.client, out)
+		return nil
+	})
+	if failed != nil {
+		s.lost()
 		return failed
 	}
 	return err

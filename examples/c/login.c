@@ -1,5 +1,5 @@
-/* Over a socket: logs in to a server of the batch language (tdsserve), begins a transaction, is given rows, cancels a
- * batch in its middle, and commits.
+/* Over a socket: logs in to a server of the batch language (tdsserve, also with --real), begins a transaction, is given
+ * rows, cancels a batch in its middle, and commits. One thread calls and writes, so bytes go out in the order of the calls.
  *
  *     cc login.c $(pkg-config --cflags --libs mouktelf) && tdsserve 127.0.0.1:1433 & ./a.out 1433 */
 #include "../../c/mouktelf.h"
@@ -12,11 +12,17 @@
 #include <unistd.h>
 
 #define SIZE 4096
+enum { NBCROW = 0xD2, INTN = 0x26 };
 
-/* One connection: its socket, the client, the request's message, and the bytes that came and are no packet yet. */
+/* One connection: its socket, the client, the walk that it hears by, the request's message, the bytes that came and are no
+ * packet yet, and the data of the answer that it hears. */
 struct connection {
     int socket;
     struct tds_client client;
+    struct tds_wire walk;
+    struct tds_wire_memory memory;
+    uint8_t data[1 << 16];
+    size_t has, columns; /* how many, and where its COLMETADATA stands */
     uint8_t message[TDS_MESSAGE_MOST];
     size_t length;
     uint8_t came[2 * SIZE];
@@ -103,42 +109,52 @@ static void send_all(struct connection *c) {
     } while (answer == TDS_MORE);
 }
 
-static void show(const struct tds_token *token, const uint8_t *data) {
-    const uint8_t *at = data + token->start;
+/* The first value of a row, a whole number of four bytes: the walk says where rows stand, and values are the caller's to
+ * read (MS-TDS 2.2.7). */
+static int first_of(const uint8_t *columns, const uint8_t *row) {
+    size_t nulls = row[0] == NBCROW ? ((columns[1] | (size_t)columns[2] << 8) + 7) / 8 : 0;
     int32_t value;
+    memcpy(&value, row + 1 + nulls + (columns[9] == INTN), 4);
+    return (int)value;
+}
+
+static void show(struct connection *c, const struct tds_wire_token *token) {
     switch (token->kind) {
     case TDS_INFO:
         printf("info ");
-        for (size_t i = 0; i < (at[9] | (size_t)at[10] << 8); i++) putchar(at[11 + 2 * i]);
+        for (uint64_t i = 0; i < token->text.length; i += 2) putchar(c->data[token->text.start + i]);
         putchar('\n');
         break;
+    case TDS_COLMETADATA: c->columns = (size_t)token->start; break;
     case TDS_ROW:
-        memcpy(&value, at + 1, 4);
-        printf("row %d\n", (int)value);
-        break;
+    case NBCROW: printf("row %d\n", first_of(c->data + c->columns, c->data + token->start)); break;
     default: break;
     }
 }
 
-/* Takes packets until the request is settled, and shows what is told. */
+/* Hears packets until the request is settled, and shows what is told. */
 static void hear(struct connection *c, uint8_t wanted) {
-    uint8_t taken;
+    uint8_t heard;
+    c->has = 0;
     do {
         struct tds_packet packet = packet_of(c);
-        struct tds_cursor cursor = {0, c->client.columns};
-        struct tds_token tokens[16];
-        size_t count = 0;
-        uint8_t more = c->client.stage == TDS_READING ? TDS_OK : TDS_END;
-        taken = tds_client_take(&c->client, c->came, packet.length);
-        if (taken >= 20) stop("take", taken);
-        while (more == TDS_OK) {
-            more = tds_tokens_next(c->came + 8, packet.length - 8, &cursor, tokens, 16, &count);
-            for (size_t i = 0; i < count; i++) show(&tokens[i], c->came + 8);
-        }
+        struct tds_wire_token tokens[16] = {{0}};
+        const uint8_t *data = c->came + 8;
+        size_t left = packet.length - 8, taken = 0, count = 0;
+        if (c->has + left > sizeof c->data) stop("a long answer", (int)left);
+        memcpy(c->data + c->has, data, left);
+        c->has += left;
+        do {
+            heard = tds_client_hear(&c->client, &c->walk, &c->memory, data, left, packet.status & 1, &taken, tokens, 16, &count);
+            for (size_t i = 0; i < count; i++) show(c, &tokens[i]);
+            data += taken, left -= taken;
+        } while (heard == TDS_TELL);
+        if (heard >= 20) stop("hear", heard);
+        if (packet.status & 1) c->has = 0;
         drop(c, packet.length);
-    } while (taken == TDS_MORE);
-    expect("answer", taken, wanted);
-    puts(taken == TDS_FINISHED ? "finished" : "cancelled");
+    } while (heard == TDS_OK || heard == TDS_MORE);
+    expect("answer", heard, wanted);
+    puts(heard == TDS_FINISHED ? "finished" : "cancelled");
 }
 
 int main(int argc, char **argv) {
@@ -153,6 +169,7 @@ int main(int argc, char **argv) {
     if (connect(c.socket, (struct sockaddr *)&address, sizeof address) != 0) stop("connect", 0);
     log_in(&c);
     expect("new", tds_client_new(SIZE, &c.client), TDS_OK);
+    expect("walk", tds_wire_new(TDS_WIRE_MOST_COLUMNS, 0, 0, &c.walk, &c.memory), TDS_OK);
 
     expect("begin", tds_client_start_begin(&c.client, 0, c.message, sizeof c.message, &c.length), TDS_OK);
     send_all(&c);
