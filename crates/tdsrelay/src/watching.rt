@@ -33,13 +33,14 @@ impl Why {
     /// The log's words.
     fn words(self) -> &'static str {
         match self {
-            Why::Login => "has taken too long to log in",
-            Why::Wait => "has waited too long for a connection",
-            Why::Cancel => "has no acknowledgement of a cancel, or of a cleaning",
-            Why::Hold => "has held a connection too long and asked nothing",
-            Why::Transaction => "has left a transaction open too long and asked nothing",
-            Why::Idle => "was idle too long",
-            Why::Old => "is old enough",
+            Why::Login => "has taken too long to log in (--login)",
+            Why::Wait => "has waited too long for a connection (--wait)",
+            Why::Cancel => "has no acknowledgement of a cancel, or of a cleaning (--cancel)",
+            Why::Hold => "has held a connection too long and asked nothing (--hold)",
+            Why::Transaction =>
+                "has left a transaction open too long and asked nothing (--transaction)",
+            Why::Idle => "was idle too long (--idle)",
+            Why::Old => "is old enough (--life)",
             Why::Paused => "is closed, since its group is paused",
             Why::End => "is closed, since the relay ends",
         }
@@ -48,15 +49,15 @@ impl Why {
     /// What an application is told: an error's number (MS-TDS 2.2.7.10) and its sentence.
     fn told(self) -> Option<(u32, &'static str)> {
         match self {
-            Why::Wait => Some((50_101, "The relay had no connection free in time.")),
+            Why::Wait => Some((50_101, "The relay had no connection free in time (--wait).")),
             Why::Hold => Some((
                 50_102,
-                "The relay closes who holds a connection for long and asks nothing.",
+                "The relay closes who holds a connection for long and asks nothing (--hold).",
             )),
             Why::End => Some((50_103, "The relay ends.")),
             Why::Transaction => Some((
                 50_104,
-                "The relay closes who leaves a transaction open for long and asks nothing.",
+                "The relay closes who leaves a transaction open for long and asks nothing (--transaction).",
             )),
             Why::Login | Why::Cancel | Why::Idle | Why::Old | Why::Paused => None,
         }
