@@ -65,7 +65,8 @@ impl<W: Write + Drop> Program<W> {
         let mut house = House::new(rt, alloc, asked, log)?;
         let listener = house.sockets.listen(rt, asked.listen, LISTENER)?;
         // Where a port was asked for that is free, it is known now.
-        house.asked.listen = listener.local_addr()?;
+        let listen = listener.local_addr()?;
+        house.set(Asked { listen, ..asked });
         Ok(Program {
             house,
             words,
