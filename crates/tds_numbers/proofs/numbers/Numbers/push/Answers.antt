@@ -1,7 +1,7 @@
 use Rattle.std.proofs.Common.{◌<◌, length}
-use Rattle.tds_pool.specs.Table.{AreBelow}
-use Rattle.tds_pool.proofs.Tables.{table_push}
-use Rattle.tds_pool.proofs.numbers.Numbers.push.Goals as goal
+use Rattle.tds_numbers.specs.Table.{AreBelow}
+use Rattle.tds_numbers.proofs.Tables.{table_push}
+use Rattle.tds_numbers.proofs.numbers.Numbers.push.Goals as goal
 
 pub invariant_of-self-2 : goal.invariant_of-self-2
 invariant_of-self-2 c =

@@ -1,6 +1,6 @@
--- A table of numbers: each connection of a pool by its number, with the key under which the slab keeps it.
+-- A table of numbers: what has a number, as a connection, by it, with the key under which a slab keeps it.
 use Rattle.std.specs.Prelude.{ℕ, ◌<◌, ◌≤◌, ◌==◌, not, List, [], ◌∷◌, length, map, filter, slice_index, Option, Some, None, if◌then◌else◌}
-use Rattle.tds_pool.specs.declared.numbers.Entry.{Entry}
+use Rattle.tds_numbers.specs.declared.numbers.Entry.{Entry}
 
 -- the numbers in their order, and the number and the key at a place, counted from 0
 abbrev pub numbers : List Entry → List ℕ

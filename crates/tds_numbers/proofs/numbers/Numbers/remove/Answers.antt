@@ -1,7 +1,7 @@
 use Rattle.std.proofs.Common.{◌≡◌, ◌<◌, ◌∙◌, length, subst, sym}
-use Rattle.tds_pool.specs.Table.{IsTable, number_at, without}
-use Rattle.tds_pool.proofs.Tables.{removed, table_without}
-use Rattle.tds_pool.proofs.numbers.Numbers.remove.Goals as goal
+use Rattle.tds_numbers.specs.Table.{IsTable, number_at, without}
+use Rattle.tds_numbers.proofs.Tables.{removed, table_without}
+use Rattle.tds_numbers.proofs.numbers.Numbers.remove.Goals as goal
 
 pub invariant_of-self : goal.invariant_of-self
 invariant_of-self c =

@@ -1,9 +1,6 @@
 -- A search by halves.
-use Rattle.std.proofs.Common.{◌≡◌, ℕ, zero, suc, ◌+◌, ◌-◌, ◌*◌, ◌/◌, ◌^◌, ◌<◌, ◌≤◌, List, length, refl, sym, lt_trans, eq-or-lt_of_le, ⊎_elim, pow-suc, arith}
-use Rattle.tds_pool.specs.declared.numbers.Entry.{Entry}
-use Rattle.tds_pool.specs.Halving.{Halves, Lasts}
-use Rattle.tds_pool.specs.Table.{number_at, IsTable}
-use Rattle.tds_pool.proofs.Tables.{rises}
+use Rattle.std.proofs.Common.{◌≡◌, ℕ, zero, suc, ◌+◌, ◌-◌, ◌*◌, ◌/◌, ◌^◌, ◌<◌, ◌≤◌, refl, sym, lt_trans, eq-or-lt_of_le, ⊎_elim, pow-suc, arith}
+use Rattle.tds_numbers.specs.Halving.{Halves, Lasts}
 
 -- ---- What one step leaves
 
@@ -47,16 +44,12 @@ lasts_in_front most first steps more low high lt l is =
     let few : high < low + 2 ^ suc left.0 = rw left.1 at l.few in
     record { within = one.0; few = rw (sym one.1) (less_in_front low high left.0 lt few) }
 
-module _ (entries : List Entry) (number : ℕ) (table : IsTable entries) where
-  -- the numbers rise from place to place
-  up : (i j : ℕ) → i < j → j < length entries → number_at entries i < number_at entries j
-  up i j lt h = rises entries table.rising i j lt h
-
+module _ (count : ℕ) (at : ℕ → ℕ) (number : ℕ) (up : (i j : ℕ) → i < j → j < count → at i < at j) where
   -- the number is behind the middle
-  pub behind : (low high : ℕ) → low < high → Halves entries number low high → number_at entries (low + (high - low) / 2) < number
-      → Halves entries number (low + (high - low) / 2 + 1) high
+  pub behind : (low high : ℕ) → low < high → Halves count at number low high → at (low + (high - low) / 2) < number
+      → Halves count at number (low + (high - low) / 2 + 1) high
   behind low high lt h told =
-      let inside : low + (high - low) / 2 < length entries = omega (arith, lt, h.within) in record {
+      let inside : low + (high - low) / 2 < count = omega (arith, lt, h.within) in record {
         within = h.within;
         below = λ place le. ⊎_elim
             (λ (e : place ≡ low + (high - low) / 2). rw e told)
@@ -66,8 +59,8 @@ module _ (entries : List Entry) (number : ℕ) (table : IsTable entries) where
       }
 
   -- the number is in front of the middle
-  pub in_front : (low high : ℕ) → low < high → Halves entries number low high → number < number_at entries (low + (high - low) / 2)
-      → Halves entries number low (low + (high - low) / 2)
+  pub in_front : (low high : ℕ) → low < high → Halves count at number low high → number < at (low + (high - low) / 2)
+      → Halves count at number low (low + (high - low) / 2)
   in_front low high lt h told = record {
     within = omega (arith, lt, h.within);
     below = h.below;

@@ -4,8 +4,8 @@ use Rattle.std.proofs.Math.Dec.{eqb}
 use Rattle.std.proofs.lemmas.Bool.{eq-eqb}
 use Rattle.std.proofs.lemmas.Bool.Decides.{nat_tests}
 use Rattle.std.specs.Prelude.{◌≢◌, remove, IfSome, IfNone}
-use Rattle.tds_pool.specs.declared.numbers.Entry.{Entry}
-use Rattle.tds_pool.specs.Table.{number_at, key_at, key_of, without, AreBelow, AreAbove, AreRising, IsTable}
+use Rattle.tds_numbers.specs.declared.numbers.Entry.{Entry}
+use Rattle.tds_numbers.specs.Table.{number_at, key_at, key_of, without, AreBelow, AreAbove, AreRising, IsTable}
 
 -- ---- Numbers that rise
 
@@ -66,7 +66,7 @@ removed (e ∷ es) up (suc i) lt =
     ap (λ xs. e ∷ xs) (removed es up.1 i (omega (arith, lt)))
     ∙ sym (kept_by (eqb e.number (number_at es i)) e (without (number_at es i) es) (unlike_above e.number (number_at es i) (above_at e.number es up.0 i (omega (arith, lt)))))
 
-pub when_without : (b : Bool) (P : List Entry → Type 0) (x : Entry) (xs : List Entry) → P (x ∷ xs) → P xs → P (cond (not b) (x ∷ xs) xs)
+when_without : (b : Bool) (P : List Entry → Type 0) (x : Entry) (xs : List Entry) → P (x ∷ xs) → P xs → P (cond (not b) (x ∷ xs) xs)
 when_without true P x xs stays goes = goes
 when_without false P x xs stays goes = stays
 
@@ -78,7 +78,7 @@ rising_without : (n : ℕ) (es : List Entry) → AreRising es → AreRising (wit
 rising_without n [] up = tt
 rising_without n (e ∷ es) up = when_without (eqb e.number n) AreRising e (without n es) (above_without e.number n es up.0, rising_without n es up.1) (rising_without n es up.1)
 
-pub shorter : (n : ℕ) (es : List Entry) → length (without n es) ≤ length es
+shorter : (n : ℕ) (es : List Entry) → length (without n es) ≤ length es
 shorter n [] = omega arith
 shorter n (e ∷ es) = when_without (eqb e.number n) (λ xs. length xs ≤ suc (length es)) e (without n es) (omega (arith, shorter n es)) (omega (arith, shorter n es))
 
