@@ -3,9 +3,8 @@ ghost use Rattle.std.specs.Prelude.{◌≡◌, is_some, option_map};
 ghost use Rattle.tds_service.specs.Service.{Seat, is_open, seat_numbered};
 ghost use Rattle.tds_service.specs.Table.{place_of, service_in};
 
-use crate::place::{Place, Wanted};
+use crate::place::Place;
 use crate::service::Service;
-use crate::service::finding::find;
 
 impl Service {
     /// Who holds the connection of this number, if there is one.
@@ -13,7 +12,7 @@ impl Service {
         ensures { option_map place_of result ≡ option_map (λ (c : Seat). c.place)
             (seat_numbered number (service_in self.now).seats) }
     {
-        let index = find(&self.seats, Wanted::Number(number))?;
+        let index = self.find_number(number)?;
         Some(self.seats[index].place)
     }
 
@@ -24,7 +23,7 @@ impl Service {
             is_open c.line.heard.mark c.line.heard.descriptor)
             (seat_numbered number (service_in self.now).seats) }
     {
-        let index = find(&self.seats, Wanted::Number(number))?;
+        let index = self.find_number(number)?;
         Some(self.seats[index].connection.is_open())
     }
 
@@ -34,7 +33,7 @@ impl Service {
         ensures { result ≡ option_map (λ (c : Seat). is_some c.line.heard.mark)
             (seat_numbered number (service_in self.now).seats) }
     {
-        let index = find(&self.seats, Wanted::Number(number))?;
+        let index = self.find_number(number)?;
         Some(self.seats[index].connection.owes_reset())
     }
 }
