@@ -1,0 +1,4 @@
+mod Fields
+mod Passed
+mod Going
+mod Begun
