@@ -6,7 +6,7 @@ use Rattle.tds_wire.specs.declared.shape.Shape.{Shape}
 use Rattle.tds_wire.specs.Layout.{Read, Got, Short, Wrong, ◌>>=◌, bitmap}
 use Rattle.tds_rows.specs.declared.place.Place.{Place}
 use Rattle.tds_rows.specs.Places.{places, row_at}
-use Rattle.tds_rows.proofs.Fields.{one_got, one_short}
+use Rattle.tds_rows.proofs.Fronts.{one_got, one_short}
 
 abbrev pub AreBytes : List ℕ → Type 0
 AreBytes bytes = (i : ℕ) → get_or bytes i 0 < 256

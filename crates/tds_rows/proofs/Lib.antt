@@ -1,4 +1,6 @@
-mod Fields
+mod Fronts
 mod Passed
 mod Going
 mod Begun
+mod Loops
+mod Metadata

@@ -8,7 +8,7 @@ use Rattle.tds_wire.specs.declared.shape.Shape.TheVariants as shape
 use Rattle.tds_wire.specs.Layout.{Read, Got, Short, ◌>>=◌, one, two, four, run, long_value, parts, value, value_in_parts}
 use Rattle.tds_rows.specs.declared.place.Place.{Place}
 use Rattle.tds_rows.specs.Places.{closing, four_from, is_absent, lead, null_mark, place_of, two_from, value_at}
-use Rattle.tds_rows.proofs.Fields.{four_got, four_short, one_got, one_short, run_behind, run_cut, run_got, run_short, two_got, two_short}
+use Rattle.tds_rows.proofs.Fronts.{four_got, four_short, one_got, one_short, run_behind, run_cut, run_got, run_short, two_got, two_short}
 
 -- ---- Where it stands
 

@@ -1,14 +1,17 @@
 -- What a call found, as the definitions have it.
-use Rattle.std.specs.Prelude.{◌≡◌, ◌≤◌, ◌<◌, ℕ, List, map, take, drop, get_or, length, Option, Some, None, Result, Ok, Err}
+use Rattle.std.specs.Prelude.{◌≡◌, ◌≢◌, ◌-◌, ◌≤◌, ◌<◌, ℕ, List, map, take, drop, get_or, length, Option, Some, None, Result, Ok, Err}
 use Rattle.tds_wire.specs.declared.fault.WireFault.TheVariants as wire
+use Rattle.tds_wire.specs.declared.features.Features.{Features}
 use Rattle.tds_wire.specs.declared.shape.Shape.{Shape}
 use Rattle.tds_wire.specs.Layout.{Read, Got, Short, Wrong}
 use Rattle.tds_wire.specs.Memory.{shape_of}
 use Rattle.tds_rows.specs.declared.place.Place.{Place}
+use Rattle.tds_rows.specs.declared.place.Described.{Described}
 use Rattle.tds_rows.specs.declared.place.RowColumn.{RowColumn}
 use Rattle.tds_rows.specs.declared.place.RowFault.{RowFault}
 use Rattle.tds_rows.specs.declared.place.RowFault.TheVariants as fault
-use Rattle.tds_rows.specs.Places.{row_at}
+use Rattle.tds_rows.specs.Columns.{metadata_at}
+use Rattle.tds_rows.specs.Places.{row_at, two_from}
 
 -- ---- A value
 
@@ -39,3 +42,20 @@ Finds (Err fault.OtherToken) shapes bytes places = row_at shapes bytes ≡ Wrong
 Finds (Err fault.NoColumns) shapes bytes places = row_at shapes bytes ≡ Wrong wire.NoColumns (drop 1 bytes)
 Finds (Err fault.UnknownType) shapes bytes places = ⊥
 Finds (Err fault.NoRoom) shapes bytes places = length places < length shapes
+
+-- ---- Columns
+
+-- what is described, by how many columns are written
+abbrev pub written : Option ℕ → List RowColumn → Option (List RowColumn)
+written None columns = None
+written (Some n) columns = Some (take n columns)
+
+-- the columns that a COLMETADATA describes, and how many bytes it has; or why there is no such token
+abbrev pub Describes : Result Described RowFault → Features → List ℕ → List RowColumn → Type 0
+Describes (Ok d) features bytes columns =
+    (rest : List ℕ) × (metadata_at features bytes ≡ Got (written d.count columns) rest) × (d.length ≡ length bytes - length rest)
+Describes (Err fault.Short) features bytes columns = metadata_at features bytes ≡ Short
+Describes (Err fault.OtherToken) features bytes columns = metadata_at features bytes ≡ Wrong wire.UnknownToken (drop 1 bytes)
+Describes (Err fault.NoColumns) features bytes columns = ⊥
+Describes (Err fault.UnknownType) features bytes columns = (rest : List ℕ) × (metadata_at features bytes ≡ Wrong wire.UnknownType rest)
+Describes (Err fault.NoRoom) features bytes columns = (length columns < two_from 1 bytes) × (two_from 1 bytes ≢ 65535)

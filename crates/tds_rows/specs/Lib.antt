@@ -1,3 +1,6 @@
 pub mod Faults
 pub mod Places
+pub mod Reading
+pub mod Kinds
+pub mod Columns
 pub mod Finding

@@ -2,11 +2,16 @@
 //! bytes of a token that is whole. Nothing is copied, and no memory is taken: the caller hands in room.
 #![tactic(auto)]
 
+mod columns;
+mod fields;
+mod keys;
 mod numbers;
 mod parts;
 mod place;
 mod rows;
+mod types;
 mod values;
 
-pub use place::{Place, RowColumn, RowFault};
+pub use columns::columns_of;
+pub use place::{Described, Place, RowColumn, RowFault};
 pub use rows::row_places;

@@ -36,6 +36,15 @@ pub struct RowColumn {
     pub shape: Column,
 }
 
+/// What a COLMETADATA describes.
+#[derive(Clone, Copy, Debug, PartialEq, Eq)]
+pub struct Described {
+    /// How many columns; where it describes none, so that those that are known stay, nothing.
+    pub count: Option<usize>,
+    /// How many bytes the token has.
+    pub length: usize,
+}
+
 /// Why bytes are no such token.
 #[derive(Clone, Copy, Debug, PartialEq, Eq)]
 pub enum RowFault {

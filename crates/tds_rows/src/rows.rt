@@ -10,6 +10,7 @@ use crate::place::{Place, RowColumn, RowFault};
 use crate::values::column_value;
 
 const ROW: u8 = 0xD1;
+
 const NULL_ROW: u8 = 0xD2;
 
 /// Whether this column's bit of a null bitmap is set.
@@ -68,11 +69,7 @@ fn places_from(
 
 /// Of a ROW.
 #[inline(always)]
-fn plain_row(
-    columns: &[RowColumn],
-    bytes: &[u8],
-    places: &mut [Place],
-) -> Result<usize, RowFault>
+fn plain_row(columns: &[RowColumn], bytes: &[u8], places: &mut [Place]) -> Result<usize, RowFault>
     requires room { length columns.now ≤ length places.old }
     requires kind { IsKind 0xD1 bytes.now }
     ensures exact { Finds result (shapes_of columns.now) bytes.now places.new }
@@ -106,7 +103,14 @@ fn null_row(columns: &[RowColumn], bytes: &[u8], places: &mut [Place]) -> Result
     if bytes.len() - 1 < count {
         return Err(RowFault::Short);
     }
-    match places_from(true, &bytes[1..1 + count], 1 + count, columns, bytes, places) {
+    match places_from(
+        true,
+        &bytes[1..1 + count],
+        1 + count,
+        columns,
+        bytes,
+        places,
+    ) {
         Some(end) => Ok(end),
         None => Err(RowFault::Short),
     }

@@ -66,12 +66,23 @@ fn short_value(at: usize, bytes: &[u8]) -> Value
     let count = two_at(bytes, 0);
     let start = (at + 2) as u64;
     if count == 65_535 {
-        return Some((Place { start, length: 0, null: 1 }, 2));
+        return Some((
+            Place {
+                start,
+                length: 0,
+                null: 1,
+            },
+            2,
+        ));
     }
     if bytes.len() - 2 < count {
         return None;
     }
-    let place = Place { start, length: count as u64, null: 0 };
+    let place = Place {
+        start,
+        length: count as u64,
+        null: 0,
+    };
     Some((place, count + 2))
 }
 
@@ -87,7 +98,14 @@ fn long_value(at: usize, bytes: &[u8]) -> Value
     let count = four_at(bytes, 0);
     let start = (at + 4) as u64;
     if count == 4_294_967_295 {
-        return Some((Place { start, length: 0, null: 1 }, 4));
+        return Some((
+            Place {
+                start,
+                length: 0,
+                null: 1,
+            },
+            4,
+        ));
     }
     if bytes.len() - 4 < count {
         return None;
@@ -112,7 +130,14 @@ fn pointer_value(at: usize, bytes: &[u8]) -> Value
     let pointer = usize::from(bytes[0]);
     if pointer == 0 {
         let start = (at + 1) as u64;
-        return Some((Place { start, length: 0, null: 1 }, 1));
+        return Some((
+            Place {
+                start,
+                length: 0,
+                null: 1,
+            },
+            1,
+        ));
     }
     if bytes.len() < pointer + 13 {
         return None;
@@ -120,12 +145,23 @@ fn pointer_value(at: usize, bytes: &[u8]) -> Value
     let count = four_at(bytes, pointer + 9);
     let start = (at + pointer + 13) as u64;
     if count == 4_294_967_295 {
-        return Some((Place { start, length: 0, null: 1 }, pointer + 13));
+        return Some((
+            Place {
+                start,
+                length: 0,
+                null: 1,
+            },
+            pointer + 13,
+        ));
     }
     if bytes.len() - (pointer + 13) < count {
         return None;
     }
-    let place = Place { start, length: count as u64, null: 0 };
+    let place = Place {
+        start,
+        length: count as u64,
+        null: 0,
+    };
     Some((place, pointer + 13 + count))
 }
 
@@ -140,12 +176,23 @@ fn value_in_parts(at: usize, bytes: &[u8]) -> Value
     }
     let start = (at + 8) as u64;
     if is_absent(bytes) {
-        return Some((Place { start, length: 0, null: 1 }, 8));
+        return Some((
+            Place {
+                start,
+                length: 0,
+                null: 1,
+            },
+            8,
+        ));
     }
     let Some(length) = parts_length(&bytes[8..]) else {
         return None;
     };
-    let place = Place { start, length: (length - 4) as u64, null: 0 };
+    let place = Place {
+        start,
+        length: (length - 4) as u64,
+        null: 0,
+    };
     Some((place, length + 8))
 }
 

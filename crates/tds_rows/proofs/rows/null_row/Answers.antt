@@ -24,10 +24,12 @@ returns-in-Some-clause-exact c =
     let many : length (shapes_of c.args.columns.now) ≡ length c.args.columns.now = as_many c.args.columns.now in
     let some : (length c.args.columns.now == 0) ≡ false = search rules in
     let are : AreBytes c.args.bytes.now = λ i. omega (arith, c.type_inv.bytes i) in
-    let found = c.in-Some.ensures.exact in
-    (found.0, null_row_begun (shapes_of c.args.columns.now) ((length c.args.columns.now + 7) / 8) c.args.bytes.now c.requires.kind.1 (ap (λ (n : ℕ). n == 0) many ∙ some) are
-    (ap (λ (n : ℕ). (n + 7) / 8) (sym many)) (omega (arith, c.if-bytes-count.false, c.requires.kind.0))
-    ∙ (found.1 ∙ ap (λ (n : ℕ). Got (take n c.places_from.new.places) (drop c.in-Some.end c.args.bytes.now)) (sym many)))
+    let found = c.in-Some.ensures.exact in (
+      found.0,
+      null_row_begun (shapes_of c.args.columns.now) ((length c.args.columns.now + 7) / 8) c.args.bytes.now c.requires.kind.1 (ap (λ (n : ℕ). n == 0) many ∙ some) are
+          (ap (λ (n : ℕ). (n + 7) / 8) (sym many)) (omega (arith, c.if-bytes-count.false, c.requires.kind.0))
+          ∙ (found.1 ∙ ap (λ (n : ℕ). Got (take n c.places_from.new.places) (drop c.in-Some.end c.args.bytes.now)) (sym many)),
+    )
 
 pub returns-in-None-clause-exact : goal.returns-in-None-clause-exact
 returns-in-None-clause-exact c =

@@ -53,7 +53,9 @@ columns-preserved c =
 
 pub returns-clause-exact : goal.returns-clause-exact
 returns-clause-exact c =
-    let last : c.columns.column ≡ length c.args.columns.now = search rules in
-    (c.columns.invariant.done, sym c.columns.invariant.exact
-    ∙ (columns_end c.args.columns.now c.columns.column (take c.columns.column c.columns.places) c.args.with_nulls c.args.nulls.now c.columns.done (drop c.columns.done c.args.bytes.now) (omega (arith, last))
-    ∙ ap (λ (k : ℕ). Got (take k c.columns.places) (drop c.columns.done c.args.bytes.now)) last))
+    let last : c.columns.column ≡ length c.args.columns.now = search rules in (
+      c.columns.invariant.done,
+      sym c.columns.invariant.exact
+          ∙ (columns_end c.args.columns.now c.columns.column (take c.columns.column c.columns.places) c.args.with_nulls c.args.nulls.now c.columns.done (drop c.columns.done c.args.bytes.now) (omega (arith, last))
+          ∙ ap (λ (k : ℕ). Got (take k c.columns.places) (drop c.columns.done c.args.bytes.now)) last),
+    )

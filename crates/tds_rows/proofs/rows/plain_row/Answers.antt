@@ -16,9 +16,11 @@ pub returns-in-Some-clause-exact : goal.returns-in-Some-clause-exact
 returns-in-Some-clause-exact c =
     let many : length (shapes_of c.args.columns.now) ≡ length c.args.columns.now = as_many c.args.columns.now in
     let some : (length c.args.columns.now == 0) ≡ false = search rules in
-    let found = c.in-Some.ensures.exact in
-    (found.0, row_begun (shapes_of c.args.columns.now) c.args.bytes.now c.requires.kind.0 c.requires.kind.1 (ap (λ (n : ℕ). n == 0) many ∙ some)
-    ∙ (found.1 ∙ ap (λ (n : ℕ). Got (take n c.places_from.new.places) (drop c.in-Some.end c.args.bytes.now)) (sym many)))
+    let found = c.in-Some.ensures.exact in (
+      found.0,
+      row_begun (shapes_of c.args.columns.now) c.args.bytes.now c.requires.kind.0 c.requires.kind.1 (ap (λ (n : ℕ). n == 0) many ∙ some)
+          ∙ (found.1 ∙ ap (λ (n : ℕ). Got (take n c.places_from.new.places) (drop c.in-Some.end c.args.bytes.now)) (sym many)),
+    )
 
 pub returns-in-None-clause-exact : goal.returns-in-None-clause-exact
 returns-in-None-clause-exact c =

@@ -14,6 +14,8 @@ pub returns : goal.returns
 returns c =
     let n = c.from-count.result in
     let few : n + 1 ≤ length c.args.bytes.now = search rules in
-    let e : n ≡ get_or c.args.bytes.now 0 0 = c.from-count.ensures in
-    (few, stands shape.Byte c.args.at (n + 1) _ c.args.bytes.now few (byte_got (n + 1) c.args.bytes.now (omega (arith, e)) few)
-    refl (omega arith) (c.from.ensures ∙ (marks (n == 0) ∙ ap (λ k. null_mark (k == 0)) e)))
+    let e : n ≡ get_or c.args.bytes.now 0 0 = c.from-count.ensures in (
+      few,
+      stands shape.Byte c.args.at (n + 1) _ c.args.bytes.now few (byte_got (n + 1) c.args.bytes.now (omega (arith, e)) few)
+          refl (omega arith) (c.from.ensures ∙ (marks (n == 0) ∙ ap (λ k. null_mark (k == 0)) e)),
+    )

@@ -11,6 +11,8 @@ pub returns : goal.returns
 returns c =
     let n = c.from-length.result in
     let e : n ≡ c.args.count = c.from-length.ensures in
-    let few : n ≤ length c.args.bytes.now = search rules in
-    (few, rw e (stands (shape.Fixed c.args.count) c.args.at c.args.count _ c.args.bytes.now (omega (arith, e, few)) (fixed_got c.args.count c.args.bytes.now (omega (arith, e, few)))
-    (omega arith) (omega arith) (c.from.ensures ∙ marks (c.args.count == 0))))
+    let few : n ≤ length c.args.bytes.now = search rules in (
+      few,
+      rw e (stands (shape.Fixed c.args.count) c.args.at c.args.count _ c.args.bytes.now (omega (arith, e, few)) (fixed_got c.args.count c.args.bytes.now (omega (arith, e, few)))
+          (omega arith) (omega arith) (c.from.ensures ∙ marks (c.args.count == 0))),
+    )

@@ -31,6 +31,8 @@ returns c =
     let e : n ≡ four_from 0 c.args.bytes.now = c.four_at-count.ensures in
     let f : (four_from 0 c.args.bytes.now == 4294967295) ≡ false = search rules in
     let some : 4 ≤ length c.args.bytes.now = search rules in
-    let few : n + 4 ≤ length c.args.bytes.now = omega (arith, some, c.if-bytes-count.false) in
-    (few, stands shape.Long c.args.at (n + 4) _ c.args.bytes.now few (variant_got (n + 4) c.args.bytes.now some f (omega (arith, e)) few) refl (omega arith)
-    (c.from.ensures ∙ (marks (n == 0) ∙ (ap (λ k. null_mark (k == 0)) e ∙ or_false (four_from 0 c.args.bytes.now == 0) _ f))))
+    let few : n + 4 ≤ length c.args.bytes.now = omega (arith, some, c.if-bytes-count.false) in (
+      few,
+      stands shape.Long c.args.at (n + 4) _ c.args.bytes.now few (variant_got (n + 4) c.args.bytes.now some f (omega (arith, e)) few) refl (omega arith)
+          (c.from.ensures ∙ (marks (n == 0) ∙ (ap (λ k. null_mark (k == 0)) e ∙ or_false (four_from 0 c.args.bytes.now == 0) _ f))),
+    )

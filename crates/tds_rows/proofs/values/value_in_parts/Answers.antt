@@ -25,13 +25,15 @@ returns-in_default c =
     lacks shape.Parts c.args.at c.args.bytes.now (parts_short c.args.bytes.now some e (subst (λ (xs : List ℕ). parts (length xs) xs ≡ Short) t c.in_default.ensures.exact))
 
 pub returns : goal.returns
-returns c = 
+returns c =
     let bytes = c.args.bytes.now in
     let some : 8 ≤ length c.args.bytes.now = search rules in
     let e : is_absent shape.Parts c.args.bytes.now ≡ false = search rules in
     let t : take (length bytes - 8) (drop 8 bytes) ≡ drop 8 bytes = take_rest bytes 8 in
     let found : Ends tt (parts (length (drop 8 bytes)) (drop 8 bytes)) (drop 8 bytes) (Some c.in-Some.length)
-        = subst (λ (xs : List ℕ). Ends tt (parts (length xs) xs) xs (Some c.in-Some.length)) t c.in-Some.ensures.exact in
-    let few : c.in-Some.length + 8 ≤ length bytes = omega (arith, found.0, length-drop 8 bytes, some) in
-    (few, stands shape.Parts c.args.at (c.in-Some.length + 8) _ bytes few (parts_got (c.in-Some.length + 8) c.in-Some.length bytes some e found.1 (omega arith))
-    refl (rw e (omega arith)) (rw e refl))
+    = subst (λ (xs : List ℕ). Ends tt (parts (length xs) xs) xs (Some c.in-Some.length)) t c.in-Some.ensures.exact in
+    let few : c.in-Some.length + 8 ≤ length bytes = omega (arith, found.0, length-drop 8 bytes, some) in (
+      few,
+      stands shape.Parts c.args.at (c.in-Some.length + 8) _ bytes few (parts_got (c.in-Some.length + 8) c.in-Some.length bytes some e found.1 (omega arith))
+          refl (rw e (omega arith)) (rw e refl),
+    )
