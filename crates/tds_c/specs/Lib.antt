@@ -12,3 +12,4 @@ pub mod Wire
 pub mod WireTokens
 pub mod WireCalls
 pub mod Hearing
+pub mod Places

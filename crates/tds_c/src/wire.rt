@@ -6,6 +6,7 @@ ghost use Rattle.tds_c.specs.WireCalls.{Begins, Feeds, Restarts, Stands, Tells};
 mod due;
 mod fields;
 mod hearing;
+mod places;
 mod token;
 mod walk;
 mod whole;
