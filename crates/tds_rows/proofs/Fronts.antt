@@ -1,7 +1,7 @@
 -- Numbers and runs of bytes at the front of bytes.
-use Rattle.std.proofs.Common.{◌≡◌, ◌∙◌, ◌≤◌, ◌<◌, ℕ, zero, suc, ◌+◌, ◌-◌, ◌*◌, List, [], ◌∷◌, length, drop, get_or, refl, sym, ap, arith, rules}
+use Rattle.std.proofs.Common.{◌≡◌, ◌∙◌, ◌≤◌, ◌<◌, ℕ, zero, suc, ◌+◌, List, [], ◌∷◌, length, drop, get_or, refl, sym, ap, arith}
 use Rattle.std.proofs.lemmas.List.{drop-drop, length-drop, get_or-drop}
-use Rattle.tds_wire.specs.Layout.{Read, Got, Short, one, two, four, run}
+use Rattle.tds_wire.specs.Layout.{Got, Short, one, two, four, run}
 use Rattle.tds_rows.specs.Places.{four_from, two_from}
 
 pub one_got : (bytes : List ℕ) → 1 ≤ length bytes → one bytes ≡ Got (get_or bytes 0 0) (drop 1 bytes)

@@ -4,3 +4,4 @@ mod Going
 mod Begun
 mod Loops
 mod Metadata
+mod Laid

@@ -1,5 +1,5 @@
 -- How a COLMETADATA begins.
-use Rattle.std.proofs.Common.{◌≡◌, ◌∙◌, ◌==◌, ℕ, List, true, false, Err, length, drop, if◌then◌else◌, refl, ap}
+use Rattle.std.proofs.Common.{◌≡◌, ◌∙◌, ◌==◌, ℕ, List, false, Err, length, drop, if◌then◌else◌, refl, ap}
 use Rattle.std.specs.Prelude.{Option}
 use Rattle.tds_wire.specs.declared.fault.WireFault.TheVariants.{UnknownToken}
 use Rattle.tds_wire.specs.declared.features.Features.{Features}

@@ -1,11 +1,11 @@
 -- What the layout passes of a value, by its prefix.
-use Rattle.std.proofs.Common.{◌≡◌, ◌∙◌, ◌≤◌, ◌<◌, ℕ, zero, suc, ◌+◌, ◌-◌, ◌*◌, ◌==◌, ◌&&◌, Bool, true, false, List, [], ◌∷◌, length, drop, get_or, if◌then◌else◌, ◌⊎◌, inl, inr, refl, sym, ap, arith, rules}
+use Rattle.std.proofs.Common.{◌≡◌, ◌∙◌, ◌≤◌, ◌<◌, ℕ, zero, suc, ◌+◌, ◌-◌, ◌==◌, ◌&&◌, Bool, true, false, List, length, drop, get_or, if◌then◌else◌, ◌⊎◌, inl, inr, refl, sym, ap, arith}
 use mir.Val.{bool_byte}
 use Rattle.std.proofs.lemmas.Bool.{cases_lt}
 use Rattle.std.proofs.lemmas.List.{drop-drop, length-drop}
 use Rattle.tds_wire.specs.declared.shape.Shape.{Shape}
 use Rattle.tds_wire.specs.declared.shape.Shape.TheVariants as shape
-use Rattle.tds_wire.specs.Layout.{Read, Got, Short, ◌>>=◌, one, two, four, run, long_value, parts, value, value_in_parts}
+use Rattle.tds_wire.specs.Layout.{Read, Got, Short, ◌>>=◌, four, run, long_value, parts, value, value_in_parts}
 use Rattle.tds_rows.specs.declared.place.Place.{Place}
 use Rattle.tds_rows.specs.Places.{closing, four_from, is_absent, lead, null_mark, place_of, two_from, value_at}
 use Rattle.tds_rows.proofs.Fronts.{four_got, four_short, one_got, one_short, run_behind, run_cut, run_got, run_short, two_got, two_short}

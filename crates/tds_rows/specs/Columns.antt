@@ -1,5 +1,5 @@
 -- What a COLMETADATA says of its columns (MS-TDS 2.2.7.4): how far each field goes is what the layout of tds_wire passes of it.
-use Rattle.std.specs.Prelude.{ℕ, zero, suc, ◌+◌, ◌-◌, ◌*◌, ◌%◌, ◌==◌, ◌||◌, Bool, true, false, List, [], ◌∷◌, length, get_or, if◌then◌else◌, Option, Some, None}
+use Rattle.std.specs.Prelude.{ℕ, zero, suc, ◌+◌, ◌-◌, ◌*◌, ◌%◌, ◌==◌, ◌||◌, Bool, List, [], ◌∷◌, length, get_or, if◌then◌else◌, Option, Some, None}
 use Rattle.tds_wire.specs.declared.fault.WireFault.TheVariants.{UnknownToken}
 use Rattle.tds_wire.specs.declared.features.Features.{Features}
 use Rattle.tds_wire.specs.declared.shape.Shape.{Shape}

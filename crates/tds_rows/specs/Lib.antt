@@ -4,3 +4,4 @@ pub mod Reading
 pub mod Kinds
 pub mod Columns
 pub mod Finding
+pub mod Laws

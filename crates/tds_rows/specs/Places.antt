@@ -4,7 +4,7 @@ use Rattle.std.specs.Prelude.{ℕ, ◌+◌, ◌-◌, ◌*◌, ◌/◌, ◌==◌,
 use Rattle.tds_wire.specs.declared.fault.WireFault.TheVariants.{UnknownToken, NoColumns}
 use Rattle.tds_wire.specs.declared.shape.Shape.{Shape}
 use Rattle.tds_wire.specs.declared.shape.Shape.TheVariants as shape
-use Rattle.tds_wire.specs.Layout.{Read, Got, Short, Wrong, ◌>>=◌, one, value, bitmap, is_null}
+use Rattle.tds_wire.specs.Layout.{Read, Got, Wrong, ◌>>=◌, one, value, bitmap, is_null}
 use Rattle.tds_rows.specs.declared.place.Place.{Place}
 
 -- the numbers of two and four bytes from this one on, the lowest byte first

@@ -5,6 +5,7 @@
 mod columns;
 mod fields;
 mod keys;
+mod laws;
 mod numbers;
 mod parts;
 mod place;
@@ -13,5 +14,6 @@ mod types;
 mod values;
 
 pub use columns::columns_of;
+pub use laws::rows_are_those_of_the_layout;
 pub use place::{Described, Place, RowColumn, RowFault};
 pub use rows::row_places;

@@ -1,6 +1,6 @@
 //! The columns of a COLMETADATA, and where the values of a row stand.
 
-ghost use Rattle.std.specs.Prelude.{◌≡◌, ◌<◌, ℕ, Err, Result, drop, length};
+ghost use Rattle.std.specs.Prelude.{◌≡◌, ◌<◌, ℕ, Err, Result, drop, false, length};
 ghost use Rattle.tds_c.specs.Places.{TellsColumns, TellsRow};
 ghost use Rattle.tds_c.specs.Wire.{truth};
 ghost use Rattle.tds_rows.specs.Finding.{Describes, Finds, shapes_of};
@@ -12,11 +12,7 @@ use tds_rows::{Described, Place, RowColumn, RowFault, columns_of, row_places};
 use tds_wire::Features;
 
 /// The number of what was found of columns.
-fn tell_columns(
-    found: Result<Described, RowFault>,
-    count: &mut usize,
-    taken: &mut usize,
-) -> u8
+fn tell_columns(found: Result<Described, RowFault>, count: &mut usize, taken: &mut usize) -> u8
     ensures { TellsColumns found result count.new taken.new }
 {
     *count = 0;
@@ -50,7 +46,7 @@ pub extern "C" fn tds_columns(
     ensures { (found : Result AnyDescribed AnyFault)
         × TellsColumns found result count.new taken.new
         × Describes found (record { encryption = truth encryption; ranks = false })
-            bytes.now columns.new
+        bytes.now columns.new
         × (length columns.new ≡ length columns.old) }
 {
     let features = Features {

@@ -1,6 +1,6 @@
-use Rattle.std.proofs.Common.{rules, arith, ◌+◌, ◌-◌, ◌<◌, ◌≡◌, ◌≤◌, ◌++◌, ◌∷◌, [], ◌∙◌, ℕ, List, length, take, ap, refl, sym, subst}
+use Rattle.std.proofs.Common.{arith, ◌+◌, ◌-◌, ◌<◌, ◌≡◌, ◌++◌, ◌∷◌, [], ◌∙◌, ℕ, List, length, take, ap, refl, sym, subst}
 use Rattle.std.proofs.lemmas.List.{length-set, take_more_set}
-use Rattle.tds_wire.specs.Layout.{Read, Got, ◌>>=◌}
+use Rattle.tds_wire.specs.Layout.{Got}
 use Rattle.tds_rows.specs.declared.place.RowColumn.{RowColumn}
 use Rattle.tds_rows.specs.Columns.{all_described, described_at}
 use Rattle.tds_rows.specs.Reading.{Fails}

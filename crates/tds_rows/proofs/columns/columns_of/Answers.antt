@@ -1,6 +1,6 @@
-use Rattle.std.proofs.Common.{rules, ◌≡◌, ◌==◌, ◌∙◌, ℕ, List, false, length, ap, refl, sym, subst}
-use Rattle.tds_wire.specs.Layout.{◌>>=◌, two}
-use Rattle.tds_rows.specs.Columns.{listed, metadata_at}
+use Rattle.std.proofs.Common.{rules, ◌≡◌, ◌==◌, ◌∙◌, false, length, sym, subst}
+use Rattle.tds_wire.specs.Layout.{two}
+use Rattle.tds_rows.specs.Columns.{listed}
 use Rattle.tds_rows.specs.Reading.{Fails}
 use Rattle.tds_rows.proofs.Loops.{fails_on}
 use Rattle.tds_rows.proofs.Metadata.{counted_on, listed_on, no_byte, no_metadata, other_byte}

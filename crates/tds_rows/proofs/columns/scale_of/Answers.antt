@@ -1,4 +1,3 @@
-use Rattle.std.proofs.Common.{rules}
 use Rattle.tds_rows.proofs.columns.scale_of.Goals as goal
 
 pub returns-in-Info : goal.returns-in-Info

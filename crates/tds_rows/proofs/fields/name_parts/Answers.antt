@@ -1,5 +1,5 @@
-use Rattle.std.proofs.Common.{rules, arith, ◌≡◌, ◌<◌, ◌-◌, ◌∙◌, ℕ, ap, sym, subst}
-use Rattle.tds_wire.specs.Layout.{Read, ◌>>=◌, long_name, name_parts}
+use Rattle.std.proofs.Common.{rules, ◌≡◌, ◌-◌, ◌∙◌, ℕ, ap, sym, subst}
+use Rattle.tds_wire.specs.Layout.{◌>>=◌, long_name, name_parts}
 use Rattle.tds_rows.specs.Reading.{Fails}
 use Rattle.tds_rows.proofs.Loops.{fails_on, name_parts_on, name_parts_over}
 use Rattle.tds_rows.proofs.fields.name_parts.Goals as goal

@@ -1,4 +1,4 @@
-use Rattle.std.proofs.Common.{rules, ◌<◌, ◌≤◌, ◌∙◌, length, ap, sym}
+use Rattle.std.proofs.Common.{rules, ◌∙◌, ap, sym}
 use Rattle.std.proofs.lemmas.List.{take_rest}
 use Rattle.tds_wire.specs.Layout.{Got}
 use Rattle.tds_rows.proofs.Fronts.{run_got, run_short}

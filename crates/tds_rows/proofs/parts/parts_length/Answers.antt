@@ -1,4 +1,4 @@
-use Rattle.std.proofs.Common.{rules, arith, ◌+◌, ◌-◌, ◌<◌, ◌≡◌, ◌≤◌, ◌==◌, ◌||◌, ◌&&◌, ◌∙◌, ℕ, Bool, List, true, false, length, drop, take, get_or, ap, refl, sym, subst}
+use Rattle.std.proofs.Common.{rules, arith, ◌+◌, ◌≡◌, ◌≤◌, ◌==◌, ◌∙◌, ℕ, false, length, drop, ap, sym}
 use Rattle.tds_rows.specs.Places.{four_from}
 use Rattle.tds_rows.proofs.Passed.{part_cut, part_end, part_more, part_short, parts_zero}
 use Rattle.tds_wire.specs.Layout.{parts}

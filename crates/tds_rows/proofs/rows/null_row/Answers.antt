@@ -1,7 +1,6 @@
-use Rattle.std.proofs.Common.{rules, arith, ◌+◌, ◌-◌, ◌<◌, ◌≡◌, ◌≤◌, ◌==◌, ◌/◌, ◌∙◌, ℕ, Bool, List, true, false, length, drop, take, get_or, ap, refl, sym, subst, Option, Some, None}
+use Rattle.std.proofs.Common.{rules, arith, ◌+◌, ◌≡◌, ◌==◌, ◌/◌, ◌∙◌, ℕ, false, length, drop, take, ap, sym}
 use Rattle.tds_wire.specs.Layout.{Got}
-use Rattle.tds_rows.specs.Finding.{Ends, shapes_of}
-use Rattle.tds_rows.specs.Places.{places as places_of}
+use Rattle.tds_rows.specs.Finding.{shapes_of}
 use Rattle.tds_rows.proofs.Going.{as_many}
 use Rattle.tds_rows.proofs.Begun.{AreBytes, null_row_begun, null_row_cut, null_row_of_none}
 use Rattle.tds_rows.proofs.rows.null_row.Goals as goal

@@ -1,12 +1,9 @@
-use Rattle.std.proofs.Common.{rules, arith, ◌+◌, ◌-◌, ◌<◌, ◌≡◌, ◌≤◌, ◌==◌, ◌&&◌, ◌++◌, ◌∷◌, [], ◌∙◌, ℕ, Bool, List, true, false, length, drop, take, get_or, ap, refl, sym, subst, Option, Some, None}
-use Rattle.std.specs.Prelude.{set}
-use Rattle.std.proofs.lemmas.List.{drop-drop, drop-set-lt, length-drop, length-set, take_rest, take_more_set}
-use Rattle.tds_wire.specs.declared.shape.Shape.{Shape}
-use Rattle.tds_wire.specs.Layout.{Read, Got, Short}
+use Rattle.std.proofs.Common.{rules, arith, ◌+◌, ◌<◌, ◌≡◌, ◌++◌, ◌∷◌, [], ◌∙◌, ℕ, List, length, drop, take, ap, refl, sym, Some, None}
+use Rattle.std.proofs.lemmas.List.{drop-drop, drop-set-lt, length-drop, length-set, take_more_set}
+use Rattle.tds_wire.specs.Layout.{Got}
 use Rattle.tds_rows.specs.declared.place.Place.{Place}
-use Rattle.tds_rows.specs.declared.place.RowColumn.{RowColumn}
-use Rattle.tds_rows.specs.Finding.{Stands, shapes_of}
-use Rattle.tds_rows.specs.Places.{column_at, places}
+use Rattle.tds_rows.specs.Finding.{shapes_of}
+use Rattle.tds_rows.specs.Places.{places}
 use Rattle.tds_rows.proofs.Going.{column_lacks, column_step, columns_end, front_none, rest_stands, with_front}
 use Rattle.tds_rows.proofs.rows.places_from.Goals as goal
 

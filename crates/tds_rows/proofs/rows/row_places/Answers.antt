@@ -1,7 +1,5 @@
-use Rattle.std.proofs.Common.{rules, arith, ◌+◌, ◌-◌, ◌<◌, ◌≡◌, ◌≤◌, ◌==◌, ◌/◌, ◌∙◌, ℕ, Bool, List, true, false, length, drop, take, get_or, ap, refl, sym, subst, Option, Some, None}
-use Rattle.tds_wire.specs.Layout.{Got}
-use Rattle.tds_rows.specs.Finding.{Ends, shapes_of}
-use Rattle.tds_rows.specs.Places.{places as places_of}
+use Rattle.std.proofs.Common.{rules, arith, ◌<◌, length}
+use Rattle.tds_rows.specs.Finding.{shapes_of}
 use Rattle.tds_rows.proofs.Going.{as_many}
 use Rattle.tds_rows.proofs.Begun.{other_begun, row_none}
 use Rattle.tds_rows.proofs.rows.row_places.Goals as goal

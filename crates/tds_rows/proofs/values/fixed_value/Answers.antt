@@ -1,6 +1,5 @@
-use Rattle.std.proofs.Common.{rules, arith, ◌+◌, ◌-◌, ◌<◌, ◌≡◌, ◌≤◌, ◌==◌, ◌||◌, ◌&&◌, ◌∙◌, ℕ, Bool, true, false, length, drop, get_or, ap, refl, sym}
+use Rattle.std.proofs.Common.{rules, arith, ◌≡◌, ◌≤◌, ◌==◌, ◌∙◌, length}
 use Rattle.tds_wire.specs.declared.shape.Shape.TheVariants as shape
-use Rattle.tds_rows.specs.Places.{four_from, null_mark, two_from, is_absent}
 use Rattle.tds_rows.proofs.Passed.{fixed_got, fixed_short, lacks, marks, stands}
 use Rattle.tds_rows.proofs.values.fixed_value.Goals as goal
 

@@ -1,6 +1,6 @@
-use Rattle.std.proofs.Common.{rules, arith, ◌+◌, ◌-◌, ◌<◌, ◌≡◌, ◌≤◌, ◌==◌, ◌||◌, ◌&&◌, ◌∙◌, ℕ, Bool, true, false, length, drop, get_or, ap, refl, sym}
+use Rattle.std.proofs.Common.{rules, arith, ◌+◌, ◌≡◌, ◌≤◌, ◌==◌, ◌||◌, ◌∙◌, Bool, true, false, length, ap, refl}
 use Rattle.tds_wire.specs.declared.shape.Shape.TheVariants as shape
-use Rattle.tds_rows.specs.Places.{four_from, null_mark, two_from, is_absent}
+use Rattle.tds_rows.specs.Places.{four_from, null_mark}
 use Rattle.tds_rows.proofs.Passed.{lacks, marks, variant_got, variant_none, variant_null, variant_short, stands}
 use Rattle.tds_rows.proofs.values.long_value.Goals as goal
 

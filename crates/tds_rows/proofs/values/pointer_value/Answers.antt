@@ -1,7 +1,7 @@
-use Rattle.std.proofs.Common.{rules, arith, ◌+◌, ◌-◌, ◌<◌, ◌≡◌, ◌≤◌, ◌==◌, ◌||◌, ◌&&◌, ◌∙◌, ℕ, Bool, true, false, length, drop, get_or, ap, refl, sym}
+use Rattle.std.proofs.Common.{rules, arith, ◌+◌, ◌≡◌, ◌≤◌, ◌==◌, ◌∙◌, false, length, get_or, ap, refl}
 use Rattle.tds_wire.specs.declared.shape.Shape.TheVariants as shape
-use Rattle.tds_rows.specs.Places.{four_from, null_mark, two_from, is_absent}
-use Rattle.tds_rows.proofs.Passed.{lacks, marks, pointer_absent, pointer_cut, pointer_got, pointer_none, pointer_null, pointer_short, stands}
+use Rattle.tds_rows.specs.Places.{four_from}
+use Rattle.tds_rows.proofs.Passed.{lacks, pointer_absent, pointer_cut, pointer_got, pointer_none, pointer_null, pointer_short, stands}
 use Rattle.tds_rows.proofs.values.pointer_value.Goals as goal
 
 pub returns-then-is_empty : goal.returns-then-is_empty

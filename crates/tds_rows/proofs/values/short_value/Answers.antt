@@ -1,7 +1,7 @@
-use Rattle.std.proofs.Common.{rules, arith, ◌+◌, ◌-◌, ◌<◌, ◌≡◌, ◌≤◌, ◌==◌, ◌||◌, ◌&&◌, ◌∙◌, ℕ, Bool, true, false, length, drop, get_or, ap, refl, sym}
+use Rattle.std.proofs.Common.{rules, arith, ◌+◌, ◌≡◌, ◌≤◌, ◌==◌, false, length, refl}
 use Rattle.tds_wire.specs.declared.shape.Shape.TheVariants as shape
-use Rattle.tds_rows.specs.Places.{four_from, null_mark, two_from, is_absent}
-use Rattle.tds_rows.proofs.Passed.{lacks, marks, short_got, short_none, short_null, short_short, stands}
+use Rattle.tds_rows.specs.Places.{two_from}
+use Rattle.tds_rows.proofs.Passed.{lacks, short_got, short_none, short_null, short_short, stands}
 use Rattle.tds_rows.proofs.values.short_value.Goals as goal
 
 pub returns-then-bytes-lt2 : goal.returns-then-bytes-lt2

@@ -1,5 +1,5 @@
-use Rattle.std.proofs.Common.{rules, arith, ◌+◌, ◌-◌, ◌<◌, ◌≡◌, ◌≤◌, ◌==◌, ◌||◌, ◌&&◌, ◌∙◌, ℕ, Bool, List, true, false, length, drop, take, get_or, ap, refl, sym, subst}
-use Rattle.std.proofs.Common.{Some, None, Option}
+use Rattle.std.proofs.Common.{rules, arith, ◌+◌, ◌-◌, ◌≡◌, ◌≤◌, ℕ, List, true, false, length, drop, take, refl, subst}
+use Rattle.std.proofs.Common.{Some}
 use Rattle.std.proofs.lemmas.List.{length-drop, take_rest}
 use Rattle.tds_wire.specs.declared.shape.Shape.TheVariants as shape
 use Rattle.tds_wire.specs.Layout.{Short, parts}
