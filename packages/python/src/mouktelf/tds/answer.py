@@ -38,7 +38,8 @@ class Answer:
         self.messages: List[Message] = []
         self.outputs: List[bytes] = []
         self.return_status: Optional[int] = None
-        self.is_ended = self.is_dropped = self.is_cancelled = False
+        # It begins where it is asked.
+        self.is_ended, self.is_dropped, self.is_cancelled = True, False, False
         self.failure: Optional[Callable[[], errors.Error]] = None
         self._open: Optional[ResultSet] = None
         self._errors: List[Message] = []

@@ -26,6 +26,10 @@ def begin(isolation: int) -> bytes:
     return bytes((5, 0, isolation, 0))
 
 
+class Late(Exception):
+    """A deadline has passed."""
+
+
 Link = Union["Alone", "Leased", "Draining"]
 
 
@@ -86,10 +90,12 @@ class Leased:
 
 
 class Draining:
-    """The client of a connection in a table that nobody holds, until its cancel is acknowledged."""
+    """The client of a connection in a table that nobody holds, until its cancel is acknowledged. Then, before anybody is lent it, it
+    is lent to be cleaned, where it has to be: `cleaning`."""
 
-    def __init__(self, service: Service, number: int) -> None:
-        self._service, self._number = service, number
+    def __init__(self, service: Service, number: int, cleans: bool) -> None:
+        self._service, self._number, self._cleans = service, number, cleans
+        self.cleaning: Optional[Leased] = None
 
     def ask(self, kind: MessageKind, body: bytes) -> bytes:
         """Nobody asks here."""
@@ -101,8 +107,15 @@ class Draining:
 
     def hear(self, packet: bytes) -> Tuple[Did, List[Walked]]:
         """What one packet did; nobody is told of it."""
-        _, _, answer, tokens = self._service.hear(self._number, packet)
-        return answer, tokens
+        _, _, answer, _ = self._service.hear(self._number, packet)
+        if answer == Did.ACKNOWLEDGED:
+            self.is_free()
+        return answer, []
+
+    def is_free(self) -> None:
+        """The connection is free: it is lent to be cleaned, where that is wanted, or a transaction is open on it."""
+        if self._cleans or self.descriptor:
+            self.cleaning = Leased(self._service, self._service.clean(self._number).lease, self._number)
 
     def lost(self) -> None:
         """The connection is lost, and leaves the table."""
@@ -139,7 +152,7 @@ class Exchange:
         try:
             with self.outgoing:
                 packets = self.link.ask(kind, body)
-                self.current = answer
+                self.current, answer.is_ended = answer, False
                 self.outgoing.put(packets)
         except Fault as why:
             raise errors.InterfaceError(f"it can't be asked now: {why}") from why
@@ -159,6 +172,16 @@ class Exchange:
         except OSError as why:
             raise self.lost(f"nothing can be sent: {why}") from why
         return True
+
+    def seconds(self, until: Optional[float], most: float) -> float:
+        """How long may be waited now for what comes: up to a deadline (time.monotonic()), or that of a cancel that isn't acknowledged
+        yet. Where it has passed: Late, or the connection is lost."""
+        now, limit = time.monotonic(), self.cancel_until or until
+        if limit is not None and now >= limit:
+            if self.cancel_until:
+                raise self.lost(f"no cancel was acknowledged within {self.cancel_timeout:g} s")
+            raise Late
+        return most if limit is None else min(most, limit - now)
 
     def take(self, piece: bytes) -> None:
         """Hears what has come on the socket, of any length; none: the server has closed."""

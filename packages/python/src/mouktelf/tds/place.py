@@ -18,7 +18,6 @@ class Place:
     def __init__(self, spelling: Spelling) -> None:
         self._spelling = spelling
         self._answer, self._set, self._columns = Answer(), ResultSet(), None  # type: Answer, ResultSet, Optional[Columns]
-        self._answer.is_ended = True
         self._count: Optional[int] = None
         self._is_closed = False
 

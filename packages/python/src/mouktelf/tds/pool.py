@@ -9,7 +9,7 @@ from ..service import Lent, Rest
 from . import errors
 from .answer import Answer
 from .connection import Connection, transport_of
-from .exchange import Leased
+from .exchange import Draining, Leased
 from .session import Session
 from .spelling import log_in
 from .table import CLEANING, Line, Statistics, Table
@@ -42,9 +42,10 @@ class Pooled(Connection):
         return self
 
     def __exit__(self, kind: Optional[type], *rest: object) -> None:
-        """Commits, or rolls back where the block failed, and gives it back."""
+        """Commits and gives it back; where the block failed, what is open is rolled back as it is given back."""
         try:
-            super().__exit__(kind, *rest)
+            if kind is None:
+                super().__exit__(kind, *rest)
         finally:
             self.close()
 
@@ -120,12 +121,12 @@ class Pool:
         if underway:
             session.cancel(underway)
         with session.turn:
-            rest = self._table.give_back(session, lease, line)
+            rest, left = self._table.give_back(session, lease, line, self._cleans)
             if rest == Rest.DRAINING:
                 rest = self._drained(session)
             if rest == Rest.FREE and not session.is_clear:
                 rest = Rest.CLOSED
-        self._rests(line, rest)
+        self._rests(line, rest, left)
 
     def _drained(self, session: Session) -> Rest:
         session.current = session.current or Answer()
@@ -136,17 +137,16 @@ class Pool:
             pass
         return Rest.CLOSED if session.failure else Rest.FREE
 
-    def _rests(self, line: Line, rest: Rest) -> None:
+    def _rests(self, line: Line, rest: Rest, left: Draining) -> None:
         """What becomes of a connection that nobody holds any more."""
-        if rest == Rest.FREE and (self._cleans or self._table.needs_cleaning(line.number)):
-            rest = self._cleaned(line)
+        if left.cleaning and rest == Rest.FREE:
+            rest = self._cleaned(line, left.cleaning)
         if rest == Rest.FREE and not self._table.is_closed:
             self._table.wake()
         else:
             self._table.gone(line.number, False)
 
-    def _cleaned(self, line: Line) -> Rest:
-        link = self._table.clean(line.number)
+    def _cleaned(self, line: Line, link: Leased) -> Rest:
         try:
             self._session(link, line).run(MessageKind.BATCH, CLEANING, time.monotonic() + self._cancel_timeout)
             return Rest.FREE if self._table.is_clean(link) else Rest.CLOSED
@@ -165,8 +165,8 @@ class Pool:
 
     def abandon(self, ticket: int) -> None:
         """Gives up what was parked: its transaction is rolled back. The ticket is spent."""
-        ended = self._table.abandon(ticket)
-        self._rests(self._table.lines[ended.number], ended.rest)
+        number, rest, left = self._table.abandon(ticket)
+        self._rests(self._table.lines[number], rest, left)
 
     def statistics(self) -> Statistics:
         """How it stands, and what it has done."""

@@ -8,15 +8,11 @@ from ..client import MessageKind
 from ..outgoing import Outgoing
 from . import errors
 from .answer import Answer
-from .exchange import ROLL_BACK, Exchange, Link
+from .exchange import ROLL_BACK, Exchange, Late, Link
 from .transport import Transport
 
-# A wait looks so often, in seconds, whether another thread has cancelled meanwhile.
-_LOOK = 1.0
-
-
-class _Late(Exception):
-    """A deadline has passed."""
+# A wait looks so often, in seconds, whether somebody else has cancelled meanwhile.
+LOOK = 1.0
 
 
 class Session(Exchange):
@@ -53,8 +49,10 @@ class Session(Exchange):
             try:
                 while self.current:
                     self.read(until)
-            except _Late:
+            except Late:
                 raise errors.TimeoutError("the connection is busy with the answer of another cursor") from None
+            if self.failure:
+                raise self.failure()
             if self.owes_rollback:
                 self._roll_back()
 
@@ -64,7 +62,7 @@ class Session(Exchange):
             try:
                 while not (answer.is_ended or answer.is_cancelled or has_enough()):
                     self.read(until)
-            except _Late:
+            except Late:
                 if self.cancel(answer):
                     self.settle()
                     raise errors.TimeoutError("the request took too long, and was cancelled") from None
@@ -80,17 +78,12 @@ class Session(Exchange):
         try:
             while self.current is answer:
                 self.read(until)
-        except _Late:
+        except Late:
             raise self.lost(f"no rollback was answered within {self.cancel_timeout:g} s") from None
 
     def read(self, until: Optional[float]) -> None:
         """Takes what comes next. A cancel has a limit of its own."""
-        while True:
-            now, limit = time.monotonic(), self.cancel_until or until
-            if limit is not None and now >= limit:
-                if self.cancel_until:
-                    raise self.lost(f"no cancel was acknowledged within {self.cancel_timeout:g} s")
-                raise _Late
-            piece = self.transport.read(_LOOK if limit is None else min(_LOOK, limit - now))
-            if piece is not None:
-                return self.take(piece)
+        piece = None
+        while piece is None:
+            piece = self.transport.read(self.seconds(until, LOOK))
+        self.take(piece)

@@ -4,7 +4,7 @@ Nothing else of this package knows python-tds. It is asked by `pytds.connect` un
 taken over, and what it keeps of the connection is asked only how values are spelled. Tried with python-tds 1.11."""
 
 import struct
-from typing import Any, List, Mapping, NamedTuple, Sequence, Tuple
+from typing import Any, List, Mapping, NamedTuple, Optional, Sequence, Tuple
 
 from ..client import MessageKind
 from . import errors
@@ -174,3 +174,43 @@ def placed(operation: str, parameters: Any) -> Tuple[str, List[Tuple[str, Any]]]
         return operation % places, [it for it in pairs if it[1] is not None]
     except (TypeError, KeyError, ValueError) as why:
         raise errors.ProgrammingError(f"the parameters don't fit the text: {why}") from why
+
+
+class _Wants(Exception):
+    """The login goes on when more has come."""
+
+
+class _Replayed:
+    """What python-tds takes for a socket: it is given what came until now, and says what it would send."""
+
+    def __init__(self, came: bytes) -> None:
+        self.out, self._left = bytearray(), memoryview(came)
+
+    def sendall(self, data: bytes) -> None:
+        self.out += data
+
+    def recv_into(self, into: memoryview, size: int) -> int:
+        if not self._left:
+            raise _Wants
+        count = min(size, len(self._left))
+        into[:count], self._left = self._left[:count], self._left[count:]
+        return count
+
+    def setsockopt(self, *_: Any) -> None:
+        pass
+
+    def settimeout(self, _: Any) -> None:
+        pass
+
+    def close(self) -> None:
+        pass
+
+
+def logged_in_by(came: bytes, dsn: str, **how: Any) -> Tuple[bytes, Optional[LoggedIn]]:
+    """What a login without TLS, by a password, has sent once so much has come, from the first byte on; and the connection, where it is
+    logged in by that. It waits for nothing: python-tds is asked anew each time, and says the same."""
+    replayed = _Replayed(came)
+    try:
+        return bytes(replayed.out), log_in(dsn, 1, sock=replayed, disable_connect_retry=True, **how)
+    except _Wants:
+        return bytes(replayed.out), None

@@ -5,12 +5,11 @@ import collections
 import contextlib
 import threading
 import time
-from typing import Any, Callable, Deque, Dict, Iterator, NamedTuple, Optional
+from typing import Any, Callable, Deque, Dict, Iterator, NamedTuple, Optional, Tuple
 
-from ..client import MessageKind
 from ..fault import Fault
 from ..outgoing import Outgoing
-from ..service import Ended, Lent, Rest, Service
+from ..service import Lent, Rest, Service
 from . import errors
 from .exchange import Draining, Exchange, Leased
 from .spelling import Spelling
@@ -135,27 +134,18 @@ class Table:
             line.transport.close()
         self.wake()
 
-    def give_back(self, session: Exchange, lease: int, line: Line) -> Rest:
+    def give_back(self, session: Exchange, lease: int, line: Line, cleans: bool) -> Tuple[Rest, Draining]:
         """Ends a lease: what is underway is cancelled, and read by the same session, whose lease is over."""
-        rest = Rest.CLOSED
+        rest, left = Rest.CLOSED, Draining(self.service, line.number, cleans)
         with contextlib.suppress(Fault, OSError), line.outgoing as out:
             self.lent -= 1
             ended = self.service.give_back(lease)
-            session.link = Draining(self.service, line.number)
-            session.cancel_until = time.monotonic() + session.cancel_timeout
+            session.link, session.cancel_until = left, time.monotonic() + session.cancel_timeout
             out.put(ended.sends)
+            if ended.rest == Rest.FREE:
+                left.is_free()
             rest = ended.rest
-        return rest
-
-    def needs_cleaning(self, number: int) -> bool:
-        """Whether a free connection holds a transaction still."""
-        with self._calling() as service:
-            return service.connection(number).descriptor != 0
-
-    def clean(self, number: int) -> Leased:
-        """Lends a free connection to be cleaned."""
-        with self._calling() as service:
-            return Leased(service, service.clean(number).lease, number)
+        return rest, left
 
     def is_clean(self, link: Leased) -> bool:
         """Whether a cleaning has done what it is for."""
@@ -177,12 +167,15 @@ class Table:
             self.leases, self.lent, self.kept = self.leases + 1, self.lent + 1, self.kept - 1
             return lent
 
-    def abandon(self, ticket: int) -> Ended:
-        """Gives up what was kept."""
+    def abandon(self, ticket: int) -> Tuple[int, Rest, Draining]:
+        """Gives up what was kept: its number, and what is to be cleaned."""
         with self._calling() as service:
             ended = service.abandon(ticket)
             self.kept -= 1
-            return ended
+            left = Draining(service, ended.number, True)
+            if ended.rest == Rest.FREE:
+                left.is_free()
+            return ended.number, ended.rest, left
 
     def close(self) -> None:
         """Closes what is free; what is lent, where it is given back. Nobody is lent anything any more."""
