@@ -107,7 +107,7 @@ def pool_waits():
         with pool.connection() as connection:
             assert firsts(connection.cursor().execute("rows 2 1").fetchall()) == [2]
         assert pool.statistics().lost >= 2
-    with pool_of(server, most=1, login_timeout=1) as pool:
+    with pool_of(server, most=1) as pool:
         raises(tds.OperationalError, pool.connection)
         assert pool.statistics().lent == 0
     raises(tds.InterfaceError, pool.connection)

@@ -34,6 +34,8 @@ def log_in(dsn: str, timeout: float, **how: Any) -> LoggedIn:
     """Connects and logs in. `timeout` is in seconds, and `how` as of `pytds.connect`. Raises the errors of this package."""
     if how.get("use_mars") or how.get("pooling"):
         raise errors.NotSupportedError("there is no MARS; for a pool there is mouktelf.tds.Pool")
+    # By itself python-tds tries several times, and the first time gives a server a twelfth of the limit for each answer.
+    how.setdefault("disable_connect_retry", not (how.get("failover_partner") or how.get("load_balancer")))
     try:
         return taken_over(pytds.connect(dsn=dsn, autocommit=True, login_timeout=timeout, **how))
     except pytds.Error as why:
@@ -211,6 +213,6 @@ def logged_in_by(came: bytes, dsn: str, **how: Any) -> Tuple[bytes, Optional[Log
     logged in by that. It waits for nothing: python-tds is asked anew each time, and says the same."""
     replayed = _Replayed(came)
     try:
-        return bytes(replayed.out), log_in(dsn, 1, sock=replayed, disable_connect_retry=True, **how)
+        return bytes(replayed.out), log_in(dsn, 1, sock=replayed, **how)
     except _Wants:
         return bytes(replayed.out), None
