@@ -76,6 +76,28 @@ def others():
     print(count, "rows in packets of up to 32767")
 
 
-for part in (queries, parameters, databases, others):
+def sqlalchemy():
+    """An ORM's engine over the module's dialect, and over its pool."""
+    try:
+        from sqlalchemy import create_engine, exc, literal, pool, select, text
+        from sqlalchemy.dialects import registry
+    except ImportError:
+        return print("sqlalchemy: not installed")
+    registry.register("mssql.mouktelf", "mouktelf.tds.sqlalchemy", "Dialect")
+    told = []
+    with create_engine(f"mssql+mouktelf://a:b@127.0.0.1:{sys.argv[1]}/main").connect() as connection:
+        told.append(connection.execute(select(literal(5), literal("five"))).fetchall())
+    own = tds.Pool("127.0.0.1", port=int(sys.argv[1]), user="a", password="b", most=1)
+    engine = create_engine("mssql+mouktelf://", creator=own.connection, poolclass=pool.NullPool)
+    for query in ("select db_name()", "select * from sys.tables", "select @@trancount"):
+        try:
+            with engine.begin() as connection:
+                told.append(connection.execute(text(query)).scalar())
+        except exc.DBAPIError as error:
+            told.append(error.orig.number)
+    return print("sqlalchemy:", *told, own.statistics().opened)
+
+
+for part in (queries, parameters, databases, others, sqlalchemy):
     print("=", part.__name__, flush=True)
     part()

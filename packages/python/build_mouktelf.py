@@ -62,6 +62,7 @@ def wheel_of(library, platform, folder):
     info, tag = f"mouktelf-{said('version')}.dist-info", f"py3-none-{platform}"
     files[f"{info}/METADATA"], files[f"{info}/LICENCE"] = metadata(), bytes_of("LICENCE")
     files[f"{info}/WHEEL"] = f"Wheel-Version: 1.0\nGenerator: mouktelf\nRoot-Is-Purelib: false\nTag: {tag}\n".encode()
+    files[f"{info}/entry_points.txt"] = b"[sqlalchemy.dialects]\nmssql.mouktelf = mouktelf.tds.sqlalchemy:Dialect\n"
     rows = ""
     for name, data in sorted(files.items()):
         digest = base64.urlsafe_b64encode(hashlib.sha256(data).digest()).rstrip(b"=").decode()
