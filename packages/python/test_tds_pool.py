@@ -20,9 +20,21 @@ def pool_of(server, kind=tds.Pool, **more):
     return kind("127.0.0.1", **{"port": server.port, "user": "a", "password": "b", "autocommit": True, "timeout": 20, "wait": 20, **more})
 
 
+def stranger(cursor, first, count):
+    """Reads sets of 50 rows each, which begin at `first`, one behind another: whether a row is none of them. A cancel may come."""
+    told, place = firsts(cursor.fetchall()), 0
+    while told == [*range(first + place, first + place + 50)]:
+        place += 1
+        if not cursor.nextset():
+            return place != count
+        told = firsts(cursor.fetchall())
+    return True
+
+
 def pool_threads():
-    """Eight threads on three connections: each answer is its own asker's, also where some are cancelled or left in the middle."""
-    wrong, cancels = [], []
+    """Eight threads on three connections: each answer is its own asker's, also where some are left in the middle, or cancelled by
+    their own thread or another one at any time."""
+    wrong, cancels, told_so = [], [], []
 
     def work(place):
         chance = random.Random(place)
@@ -33,18 +45,24 @@ def pool_threads():
                 if cursor.execute("get a").return_value != 0 or connection.in_transaction:
                     wrong.append("a stranger's session")
                 cursor.execute(f"set a {first + 1};begin;" + ";".join(f"rows {first + it} 50" for it in range(20)))
-                told = firsts(cursor.fetchmany(chance.randrange(50)))
-                if told != [*range(first, first + len(told))]:
-                    wrong.append("a stranger's rows")
                 if chance.random() < 0.5:
+                    threading.Timer(chance.random() / 100, lambda it: cancels.append(it.cancel()), (cursor,)).start()
+                    try:
+                        if stranger(cursor, first, 20):
+                            wrong.append("a stranger's rows")
+                    except tds.Cancelled as why:
+                        told_so.append(why)
+                elif chance.random() < 0.5:
                     cancels.append(cursor.cancel())
-                if chance.random() < 0.5 and firsts(connection.cursor().execute(f"rows {first + 7} 2").fetchall()) != [first + 7, first + 8]:
+                other = connection.cursor().execute(f"rows {first + 7} 2")
+                if firsts(other.fetchall()) != [first + 7, first + 8]:
                     wrong.append("a stranger's rows behind a cancel")
 
     with Server() as server, pool_of(server, most=3) as pool:
+        threading.excepthook = lambda told: told.exc_type is tds.InterfaceError or wrong.append(repr(told.exc_value))
         run_all(work, 8)
         told = pool.statistics()
-        assert wrong == [] and any(cancels), wrong
+        assert wrong == [] and any(cancels) and told_so, (wrong, len(told_so))
         assert (told.open, told.lent, told.leases, told.opened, told.lost) == (3, 0, 320, 3, 0), told
         assert told.waits > 0 and told.cleaned > 0 and 0 < told.longest_wait < 20
 

@@ -3,7 +3,7 @@ to the answer of the request that asked. Threads and asyncio have the same (`ses
 
 import contextlib
 import time
-from typing import Callable, List, Optional, Tuple, Union
+from typing import Callable, Iterator, List, Optional, Tuple, Union
 
 from ..client import Answer as Did
 from ..client import Client, MessageKind, packets_of
@@ -145,32 +145,41 @@ class Exchange:
         self.owes_rollback = False
         self._size, self._came, self._descriptor = size, b"", 0
 
+    @contextlib.contextmanager
+    def _calling(self) -> Iterator[None]:
+        """A block of calls, and of what they give to be written. Where writing fails, or is cut off, the connection is lost."""
+        try:
+            with self.outgoing:
+                yield
+        except OSError as why:
+            raise self.lost(f"nothing can be sent: {why}") from why
+        except Exception:
+            raise
+        except BaseException:
+            self.lost("it was interrupted in the middle of what was to be sent")
+            raise
+
     def start(self, answer: Answer, kind: MessageKind, body: bytes) -> None:
         """Asks, where nothing is underway: from here on what comes is this answer's."""
         if self.failure:
             raise self.failure()
         try:
-            with self.outgoing:
+            with self._calling():
                 packets = self.link.ask(kind, body)
                 self.current, answer.is_ended = answer, False
                 self.outgoing.put(packets)
         except Fault as why:
             raise errors.InterfaceError(f"it can't be asked now: {why}") from why
-        except OSError as why:
-            raise self.lost(f"nothing can be sent: {why}") from why
 
     def cancel(self, answer: Answer) -> bool:
         """Cancels the request of this answer, where it is underway still: never another one's. From any thread."""
-        try:
-            with self.outgoing:
-                if self.current is not answer or answer.is_cancelled:
-                    return False
-                attention = self.link.cancel()[1]
-                self._descriptor, self.cancel_until = self.link.descriptor, time.monotonic() + self.cancel_timeout
-                answer.cancelled()
-                self.outgoing.put(attention)
-        except OSError as why:
-            raise self.lost(f"nothing can be sent: {why}") from why
+        with self._calling():
+            if self.current is not answer or answer.is_cancelled:
+                return False
+            attention = self.link.cancel()[1]
+            self._descriptor, self.cancel_until = self.link.descriptor, time.monotonic() + self.cancel_timeout
+            answer.cancelled()
+            self.outgoing.put(attention)
         return True
 
     def seconds(self, until: Optional[float], most: float) -> float:
@@ -190,12 +199,10 @@ class Exchange:
         try:
             packets, self._came = packets_of(self._came + piece, self._size)
             for packet in packets:
-                with self.outgoing:
+                with self._calling():
                     self._hear(packet)
         except Fault as why:
             raise self.lost(f"the server broke the protocol: {why}") from why
-        except OSError as why:
-            raise self.lost(f"nothing can be sent: {why}") from why
 
     def _hear(self, packet: bytes) -> None:
         did, tokens = self.link.hear(packet)

@@ -4,7 +4,7 @@ from typing import Any, List, Optional, Sequence, Tuple, Type
 
 from . import errors
 from .answer import Answer, ResultSet
-from .rows import Columns
+from .rows import Columns, readable
 from .spelling import Spelling, output
 
 Row = Tuple[Any, ...]
@@ -95,7 +95,7 @@ class Place:
         for name in names:
             if isinstance(found[name], output):
                 found[name] = found[name].value
-        for place, value in map(self._spelling.returned, self._answer.outputs):
+        for place, value in (readable(self._spelling.returned, it) for it in self._answer.outputs):
             if place < len(names):
                 found[names[place]] = value
         return found if is_mapping else list(found.values())

@@ -1,5 +1,6 @@
 """A pool of connections for threads, over the proved table of a service."""
 
+import contextlib
 import threading
 import time
 from typing import Any, Optional
@@ -34,7 +35,7 @@ class Pooled(Connection):
         session = self.session
         with session.turn:
             session.settle(self.until())
-            ticket = self._pool._table.keep(self._lease)
+            ticket = self._pool._table.keep(self._lease, self._line.number)
             self._is_closed = True
         return ticket
 
@@ -118,8 +119,9 @@ class Pool:
     def _take_back(self, session: Session, line: Line, lease: int) -> None:
         """A lease is over. Whoever reads for it in another thread is told that it is cancelled, and reads no more."""
         underway = session.current
-        if underway:
-            session.cancel(underway)
+        with contextlib.suppress(errors.ConnectionLost):
+            if underway:
+                session.cancel(underway)
         with session.turn:
             rest, left = self._table.give_back(session, lease, line, self._cleans)
             if rest == Rest.DRAINING:
@@ -130,11 +132,9 @@ class Pool:
 
     def _drained(self, session: Session) -> Rest:
         session.current = session.current or Answer()
-        try:
+        with contextlib.suppress(errors.Error):
             while session.current and not session.failure:
                 session.read(None)
-        except errors.Error:
-            pass
         return Rest.CLOSED if session.failure else Rest.FREE
 
     def _rests(self, line: Line, rest: Rest, left: Draining) -> None:
@@ -173,7 +173,7 @@ class Pool:
         return self._table.statistics()
 
     def close(self) -> None:
-        """Closes the connections that are free; the others, where they are given back."""
+        """Closes the connections that are free or parked; the others, where they are given back."""
         self._table.close()
 
     def __enter__(self) -> "Pool":

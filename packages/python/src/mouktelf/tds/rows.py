@@ -1,6 +1,6 @@
 """Columns and rows: what a COLMETADATA says, and values from the bytes of a row."""
 
-from typing import Any, Callable, List, Optional, Tuple
+from typing import Any, Callable, List, Tuple
 
 from . import errors
 from .spelling import Spelling
@@ -36,7 +36,7 @@ class Columns:
     """The columns of one result: `description` as PEP 249 has it, and `read`, which gives the values of a row's token."""
 
     def __init__(self, token: bytes, spelling: Spelling) -> None:
-        told = spelling.columns(token)
+        told = readable(spelling.columns, token)
         self.description = tuple(_described(*it) for it in told)
         self.read = _reader_of([it[1] for it in told], spelling)
 
@@ -50,15 +50,20 @@ def _reader_of(kinds: List[Any], spelling: Spelling) -> Read:
     reader, each, nulls = spelling.reader(b""), [it.read for it in kinds], (len(kinds) + 7) // 8
 
     def read(row: bytes) -> Tuple[Any, ...]:
-        try:
-            if row[0] != _NULLS:
-                reader.over(row, 1)
-                return tuple([it(reader) for it in each])
-            reader.over(row, 1 + nulls)
-            return tuple([None if row[1 + at // 8] >> at % 8 & 1 else it(reader) for at, it in enumerate(each)])
-        except (errors.Error, MemoryError):
-            raise
-        except Exception as why:
-            raise errors.DataError(f"a value that can't be read: {why}") from why
+        if row[0] != _NULLS:
+            reader.over(row, 1)
+            return tuple([it(reader) for it in each])
+        reader.over(row, 1 + nulls)
+        return tuple([None if row[1 + at // 8] >> at % 8 & 1 else it(reader) for at, it in enumerate(each)])
 
-    return read
+    return lambda row: readable(read, row)
+
+
+def readable(read: Callable[[bytes], Any], token: bytes) -> Any:
+    """What is read of a token. DataError where it can't be: the session is none the worse for it."""
+    try:
+        return read(token)
+    except (errors.Error, MemoryError):
+        raise
+    except Exception as why:
+        raise errors.DataError(f"a value or a type that can't be read: {why}") from why

@@ -56,8 +56,10 @@ class Table:
         # Who waits, the first one first: each a call that wakes it.
         self.waiting: Deque[Callable[[], object]] = collections.deque()
         self.is_closed = False
-        self.lent = self.kept = self.leases = self.waits = self.refused = self.opened = self.lost = self.cleaned = 0
+        self.lent = self.leases = self.waits = self.refused = self.opened = self.lost = self.cleaned = 0
         self.longest_wait = 0.0
+        # By ticket the number of what is parked.
+        self.kept: Dict[int, int] = {}
 
     @contextlib.contextmanager
     def _calling(self) -> Iterator[Service]:
@@ -153,35 +155,37 @@ class Table:
             self.cleaned += 1
             return service.cleaned(link.lease).rest == Rest.FREE
 
-    def keep(self, lease: int) -> int:
-        """Keeps a connection with its transaction: the ticket."""
+    def keep(self, lease: int, number: int) -> int:
+        """Keeps a lease's connection, of this number, with its transaction: the ticket."""
         with self._calling() as service:
             ticket = service.keep(lease)
-            self.lent, self.kept = self.lent - 1, self.kept + 1
+            self.lent, self.kept[ticket] = self.lent - 1, number
             return ticket
 
     def resume(self, ticket: int) -> Lent:
         """Lends what was kept."""
         with self._calling() as service:
             lent = service.resume(ticket)
-            self.leases, self.lent, self.kept = self.leases + 1, self.lent + 1, self.kept - 1
+            self.leases, self.lent = self.leases + 1, self.lent + 1
+            self.kept.pop(ticket, None)
             return lent
 
     def abandon(self, ticket: int) -> Tuple[int, Rest, Draining]:
         """Gives up what was kept: its number, and what is to be cleaned."""
         with self._calling() as service:
             ended = service.abandon(ticket)
-            self.kept -= 1
+            self.kept.pop(ticket, None)
             left = Draining(service, ended.number, True)
             if ended.rest == Rest.FREE:
                 left.is_free()
             return ended.number, ended.rest, left
 
     def close(self) -> None:
-        """Closes what is free; what is lent, where it is given back. Nobody is lent anything any more."""
+        """Closes what is free or parked; what is lent, where it is given back. Nobody is lent anything any more."""
         with self.lock:
             self.is_closed = True
-            free = [it for it in self.lines if not self.service.holder(it)]
+            free = [it for it in self.lines if not self.service.holder(it)] + [*self.kept.values()]
+            self.kept.clear()
         for number in free:
             self.gone(number, False)
         while self.waiting:
@@ -190,5 +194,5 @@ class Table:
     def statistics(self) -> Statistics:
         """How it stands now."""
         with self.lock:
-            return Statistics(len(self.lines), self.lent, self.kept, len(self.waiting), self.leases, self.waits, self.refused,
+            return Statistics(len(self.lines), self.lent, len(self.kept), len(self.waiting), self.leases, self.waits, self.refused,
                               self.opened, self.lost, self.cleaned, self.longest_wait)

@@ -1,6 +1,7 @@
 """A pool of connections for the tasks of one loop, over the proved table of a service. It has no thread."""
 
 import asyncio
+import contextlib
 import functools
 import time
 from typing import Any, Generator, Optional
@@ -34,7 +35,7 @@ class Pooled(Connection):
         session = self.session
         async with session.turn:
             await session.settle(self.until())
-            ticket = self._pool._table.keep(self._lease)
+            ticket = self._pool._table.keep(self._lease, self._line.number)
             self._is_closed = True
         return ticket
 
@@ -142,8 +143,9 @@ class Pool:
     async def _take_back(self, session: Session, line: Line, lease: int) -> None:
         """A lease is over. What has to be read then is read to its end, also where the task that gives it back is cancelled."""
         underway = session.current
-        if underway:
-            session.cancel(underway)
+        with contextlib.suppress(errors.ConnectionLost):
+            if underway:
+                session.cancel(underway)
         await asyncio.shield(asyncio.ensure_future(self._taken_back(session, line, lease)))
 
     async def _taken_back(self, session: Session, line: Line, lease: int) -> None:
@@ -157,11 +159,9 @@ class Pool:
 
     async def _drained(self, session: Session) -> Rest:
         session.current = session.current or Answer()
-        try:
+        with contextlib.suppress(errors.Error):
             while session.current and not session.failure:
                 await session.read(None)
-        except errors.Error:
-            pass
         return Rest.CLOSED if session.failure else Rest.FREE
 
     async def _rests(self, line: Line, rest: Rest, left: Draining) -> None:
@@ -200,7 +200,7 @@ class Pool:
         return self._table.statistics()
 
     async def close(self) -> None:
-        """Closes the connections that are free; the others, where they are given back."""
+        """Closes the connections that are free or parked; the others, where they are given back."""
         self._table.close()
 
     async def __aenter__(self) -> "Pool":
