@@ -26,10 +26,11 @@ class Transport:
         """Writes all of it. OSError where the peer takes nothing for `STALLS` seconds, or is gone."""
         left = memoryview(data)
         while left:
-            if not self._writable.poll(STALLS * 1000):
-                raise OSError(f"the server has taken nothing for {STALLS:.0f} s")
-            with contextlib.suppress(BlockingIOError):
+            try:
                 left = left[self._socket.send(left):]
+            except BlockingIOError:
+                if not self._writable.poll(STALLS * 1000):
+                    raise OSError(f"the server has taken nothing for {STALLS:.0f} s") from None
 
     def read(self, seconds: float) -> Optional[bytes]:
         """What has come, after at most so many seconds: empty where the peer has closed, None where nothing came."""
