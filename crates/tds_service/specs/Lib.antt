@@ -15,3 +15,4 @@ pub mod Spelling
 pub mod Sizes
 pub mod Beginning
 pub mod Rising
+pub mod Anew
