@@ -34,7 +34,8 @@ def said(key):
 def metadata():
     return (f"Metadata-Version: 2.1\nName: mouktelf\nVersion: {said('version')}\nSummary: {said('description')}\n"
             "License: none is chosen yet (LICENCE)\nLicense-File: LICENCE\nClassifier: Private :: Do Not Upload\n"
-            f"Requires-Python: {said('requires-python')}\nDescription-Content-Type: text/markdown\n\n").encode() + bytes_of("README.md")
+            f"Requires-Python: {said('requires-python')}\n"
+            "Provides-Extra: tds\nRequires-Dist: python-tds; extra == 'tds'\nDescription-Content-Type: text/markdown\n\n").encode() + bytes_of("README.md")
 
 
 def compiled(to):
@@ -53,13 +54,15 @@ def compiled(to):
 
 def wheel_of(library, platform, folder):
     """Writes the wheel of a library; a wheel is a zip, with a list of what is in it. Its name."""
-    names = [it for it in os.listdir(f"{HERE}/src/mouktelf") if it.endswith((".py", ".typed"))]
-    files = {f"mouktelf/{it}": bytes_of(f"src/mouktelf/{it}") for it in names}
+    places = [os.path.relpath(folder, f"{HERE}/src") for folder, _, _ in os.walk(f"{HERE}/src/mouktelf")]
+    names = [f"{place}/{it}" for place in places for it in os.listdir(f"{HERE}/src/{place}") if it.endswith((".py", ".typed"))]
+    files = {it: bytes_of(f"src/{it}") for it in names}
     with open(library, "rb") as it:
         files[f"mouktelf/{os.path.basename(library)}"] = it.read()
     info, tag = f"mouktelf-{said('version')}.dist-info", f"py3-none-{platform}"
     files[f"{info}/METADATA"], files[f"{info}/LICENCE"] = metadata(), bytes_of("LICENCE")
     files[f"{info}/WHEEL"] = f"Wheel-Version: 1.0\nGenerator: mouktelf\nRoot-Is-Purelib: false\nTag: {tag}\n".encode()
+    files[f"{info}/entry_points.txt"] = b"[sqlalchemy.dialects]\nmssql.mouktelf = mouktelf.tds.sqlalchemy:Dialect\n"
     rows = ""
     for name, data in sorted(files.items()):
         digest = base64.urlsafe_b64encode(hashlib.sha256(data).digest()).rstrip(b"=").decode()

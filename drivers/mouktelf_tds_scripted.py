@@ -1,0 +1,97 @@
+"""The DB-API module of packages/python where scripts put it into bad places: mouktelf_tds_scripted.py NAME=PORT.."""
+import sys
+
+from mouktelf import tds
+
+PORTS = dict(word.split("=") for word in sys.argv[1:])
+HOW = dict(user="a", password="b", login_timeout=5, timeout=5)
+
+
+def connect(name, **more):
+    print(name)
+    return tds.connect("127.0.0.1", port=int(PORTS[name]), **dict(HOW, autocommit=True, **more))
+
+
+def ask(cursor, text):
+    try:
+        cursor.execute(text)
+        sets = []
+        while True:
+            if cursor.description:
+                sets.append([row[0] for row in cursor.fetchall()])
+            if not cursor.nextset():
+                break
+        print(" ", text, "->", sets)
+    except tds.Error as error:
+        print(" ", text, "->", type(error).__name__, error)
+
+
+def cancelled(name):
+    connection = connect(name)
+    cursor = connection.cursor()
+    cursor.execute("rows 1 1;rows 5 1;rows 9 1")
+    print("  first", [row[0] for row in cursor.fetchall()])
+    cursor.cancel()
+    print("  cancelled")
+    try:
+        cursor.nextset()
+    except tds.Error as error:
+        print("  nextset ->", type(error).__name__, error)
+    ask(cursor, "rows 7 1")
+
+
+def times_out(name):
+    """A begin is cancelled by its limit, and crosses the cancel: the caller is told that it failed, so it is no more."""
+    connection = connect(name)
+    connection.timeout = 1
+    ask(connection.cursor(), "begin")
+    print("  in a transaction", connection.in_transaction)
+    ask(connection.cursor(), "commit")
+    ask(connection.cursor(), "commit")
+
+
+def request_times_out(name):
+    """The same of the begin that stands before a first statement."""
+    connection = connect(name)
+    connection.timeout, connection.autocommit = 1, False
+    ask(connection.cursor(), "rows 1 1")
+    print("  in a transaction", connection.in_transaction)
+    connection.autocommit = True
+    ask(connection.cursor(), "commit")
+
+
+def hands_over(name):
+    """The same in a pool of one connection: the next who is lent it commits nobody's work."""
+    print(name, "in a pool")
+    with tds.Pool("127.0.0.1", port=int(PORTS[name]), most=1, autocommit=True, **dict(HOW, timeout=1)) as pool:
+        with pool.connection() as connection:
+            ask(connection.cursor(), "begin")
+        with pool.connection() as connection:
+            ask(connection.cursor(), "commit")
+        print(" ", pool.statistics().opened, "connection,", pool.statistics().lost, "lost")
+
+
+def is_cut(name):
+    """A session that is gone isn't opened anew by itself; a pool opens another one."""
+    connection = connect(name)
+    ask(connection.cursor(), "rows 1 1")
+    ask(connection.cursor(), "rows 1 9")
+    ask(connection.cursor(), "rows 3 1")
+    with tds.Pool("127.0.0.1", port=int(PORTS[name]), most=1, autocommit=True, **HOW) as pool:
+        for text in ("rows 1 9", "rows 3 1"):
+            with pool.connection() as connection:
+                ask(connection.cursor(), text)
+
+
+def in_pieces(name):
+    connection = connect(name)
+    ask(connection.cursor(), "rows 1 3;say x;rows 5 1")
+
+
+cancelled("held")
+cancelled("crossed")
+times_out("begin_crossed")
+hands_over("begin_crossed")
+request_times_out("begin_request_crossed")
+is_cut("cut")
+in_pieces("split")

@@ -1,0 +1,101 @@
+"""Where a cursor stands in an answer. Threads and asyncio have the same; who waits is theirs."""
+
+from typing import Any, List, Optional, Sequence, Tuple, Type
+
+from . import errors
+from .answer import Answer, ResultSet
+from .rows import Columns, readable
+from .spelling import Spelling, output
+
+Row = Tuple[Any, ...]
+
+
+class Place:
+    """What PEP 249 has of a cursor besides its calls that wait."""
+
+    arraysize = 1
+
+    def __init__(self, spelling: Spelling) -> None:
+        self._spelling = spelling
+        self._answer, self._set, self._columns = Answer(), ResultSet(), None  # type: Answer, ResultSet, Optional[Columns]
+        self._count: Optional[int] = None
+        self._is_closed = False
+
+    @property
+    def description(self) -> Optional[Tuple[Row, ...]]:
+        """For each column its name, the code of its type, None, size, precision, scale, and whether it may be null. None: no rows."""
+        return self._columns.description if self._columns else None
+
+    @property
+    def rowcount(self) -> int:
+        """How many rows the server says that the statement gave or changed; -1 where it hasn't said yet, or doesn't."""
+        return self._set.count if self._count is None else self._count
+
+    @property
+    def messages(self) -> List[Tuple[Type[Exception], Exception]]:
+        """What the server told besides, since the last request: kind and exception of each ERROR and INFO."""
+        found = [errors.exception_of(it) for it in self._answer.messages]
+        return [(type(it), it) for it in found]
+
+    def setinputsizes(self, sizes: Any = None) -> None:
+        """Does nothing, as PEP 249 allows."""
+
+    def setoutputsize(self, size: Any = None, column: Any = None) -> None:
+        """Does nothing, as PEP 249 allows."""
+
+    def _restart(self) -> Answer:
+        """A new answer in the place of the one before, which nobody reads any more."""
+        if self._is_closed:
+            raise errors.InterfaceError("the cursor is closed")
+        self._answer.drop()
+        self._answer, self._set, self._columns, self._count = Answer(), ResultSet(), None, None
+        return self._answer
+
+    def _enter(self) -> Optional[bool]:
+        """Goes on to the next set that the answer has. Raises its error, where it is nothing else."""
+        answer = self._answer
+        self._columns = None
+        if not answer.sets:
+            self._set = ResultSet()
+            return None
+        self._set = answer.sets.popleft()
+        if self._set.columns:
+            self._columns = Columns(self._set.columns, self._spelling)
+        else:
+            self._raise_error()
+        return True
+
+    def _raise_error(self) -> None:
+        error, self._set.error = self._set.error, None
+        if error:
+            raise error
+
+    def _rows(self) -> ResultSet:
+        """The set whose rows are read."""
+        if self._answer.failure:
+            raise self._answer.failure()
+        if not self._columns:
+            raise errors.ProgrammingError("the last request has given no rows")
+        return self._set
+
+    def _read(self, rows: Sequence[bytes]) -> List[Row]:
+        return [*map(self._columns.read, rows)] if self._columns else []
+
+    def _taken(self, most: Optional[int] = None) -> List[Row]:
+        """The rows that are here, at most so many."""
+        rows = self._set.rows
+        count = len(rows) if most is None else min(most, len(rows))
+        return self._read([rows.popleft() for _ in range(count)])
+
+    def _with_outputs(self, parameters: Any) -> Any:
+        """A copy of a call's parameters, with what came of those that are outputs."""
+        is_mapping = hasattr(parameters, "items")
+        names = list(parameters) if is_mapping else range(len(parameters))
+        found = {name: parameters[name] for name in names}
+        for name in names:
+            if isinstance(found[name], output):
+                found[name] = found[name].value
+        for place, value in (readable(self._spelling.returned, it) for it in self._answer.outputs):
+            if place < len(names):
+                found[names[place]] = value
+        return found if is_mapping else list(found.values())

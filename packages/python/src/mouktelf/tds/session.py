@@ -1,0 +1,89 @@
+"""The session of one connection for threads: whoever waits for an answer reads the socket, one at a time."""
+
+import threading
+import time
+from typing import Callable, Optional
+
+from ..client import MessageKind
+from ..outgoing import Outgoing
+from . import errors
+from .answer import Answer
+from .exchange import ROLL_BACK, Exchange, Late, Link
+from .transport import Transport
+
+# A wait looks so often, in seconds, whether somebody else has cancelled meanwhile.
+LOOK = 1.0
+
+
+class Session(Exchange):
+    """Who has the `turn` may ask and read. Deadlines are by time.monotonic(), None for none."""
+
+    def __init__(self, link: Link, outgoing: Outgoing, size: int, transport: Transport, cancel_timeout: float) -> None:
+        super().__init__(link, outgoing, size, cancel_timeout)
+        self.turn = threading.RLock()
+        self.transport = transport
+
+    def close(self) -> None:
+        self.transport.close()
+
+    def ask(self, answer: Answer, kind: MessageKind, body: bytes, until: Optional[float]) -> None:
+        """Asks, behind what is underway."""
+        with self.turn:
+            self.settle(until)
+            self.start(answer, kind, body)
+
+    def run(self, kind: MessageKind, body: bytes, until: Optional[float]) -> Answer:
+        """Asks, and reads the whole answer. Raises the first error that it has."""
+        answer = Answer()
+        with self.turn:
+            self.ask(answer, kind, body, until)
+            self.wait(answer, lambda: False, until)
+        for error in (it.error for it in answer.sets if it.error):
+            raise error
+        return answer
+
+    def settle(self, until: Optional[float] = None) -> None:
+        """Reads what is underway to its end: into memory, for whoever asked it, or to a cancel's acknowledgement. Then nothing is on
+        its way, and no transaction is open that nobody was told of."""
+        with self.turn:
+            try:
+                while self.current:
+                    self.read(until)
+            except Late:
+                raise errors.TimeoutError("the connection is busy with the answer of another cursor") from None
+            if self.failure:
+                raise self.failure()
+            if self.owes_rollback:
+                self._roll_back()
+
+    def wait(self, answer: Answer, has_enough: Callable[[], object], until: Optional[float]) -> None:
+        """Reads until the answer has enough, or has ended. Where it takes too long it is cancelled, and its acknowledgement read."""
+        with self.turn:
+            try:
+                while not (answer.is_ended or answer.is_cancelled or has_enough()):
+                    self.read(until)
+            except Late:
+                if self.cancel(answer):
+                    self.settle()
+                    raise errors.TimeoutError("the request took too long, and was cancelled") from None
+            if answer.is_cancelled:
+                self.settle()
+            if answer.failure:
+                raise answer.failure()
+
+    def _roll_back(self) -> None:
+        self.owes_rollback = False
+        answer, until = Answer(), time.monotonic() + self.cancel_timeout
+        self.start(answer, MessageKind.TRANSACTION, ROLL_BACK)
+        try:
+            while self.current is answer:
+                self.read(until)
+        except Late:
+            raise self.lost(f"no rollback was answered within {self.cancel_timeout:g} s") from None
+
+    def read(self, until: Optional[float]) -> None:
+        """Takes what comes next. A cancel has a limit of its own."""
+        piece = None
+        while piece is None:
+            piece = self.transport.read(self.seconds(until, LOOK))
+        self.take(piece)

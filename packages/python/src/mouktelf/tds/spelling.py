@@ -1,0 +1,218 @@
+"""All that comes from python-tds, which the user installs: login, encryption, and the spelling of parameters and types.
+
+Nothing else of this package knows python-tds. It is asked by `pytds.connect` until a connection is logged in; then its socket is
+taken over, and what it keeps of the connection is asked only how values are spelled. Tried with python-tds 1.11."""
+
+import struct
+from typing import Any, List, Mapping, NamedTuple, Optional, Sequence, Tuple
+
+from ..client import MessageKind
+from . import errors
+
+try:
+    import pytds
+    from pytds import tds as _tds
+    from pytds import tds_base as _base
+except ImportError as why:
+    raise ImportError("mouktelf.tds wants python-tds: pip install python-tds, or Debian's package python3-tds") from why
+
+output, default, Binary = pytds.output, pytds.default, pytds.Binary
+_BY_NUMBER, _EXECUTE_SQL = 0xFFFF, 10
+
+
+class LoggedIn(NamedTuple):
+    """A connection that python-tds has logged in: its socket, the TLS over it (None where it is clear), the size of packets that
+    the login agreed on, and how values are spelled on it."""
+
+    socket: Any
+    tls: Any
+    size: int
+    spelling: "Spelling"
+
+
+def log_in(dsn: str, timeout: float, **how: Any) -> LoggedIn:
+    """Connects and logs in. `timeout` is in seconds, and `how` as of `pytds.connect`. Raises the errors of this package."""
+    if how.get("use_mars") or how.get("pooling"):
+        raise errors.NotSupportedError("there is no MARS; for a pool there is mouktelf.tds.Pool")
+    # By itself python-tds tries several times, and the first time gives a server a twelfth of the limit for each answer.
+    how.setdefault("disable_connect_retry", not (how.get("failover_partner") or how.get("load_balancer")))
+    try:
+        return taken_over(pytds.connect(dsn=dsn, autocommit=True, login_timeout=timeout, **how))
+    except pytds.Error as why:
+        raise _as_ours(why) from why
+    except OSError as why:
+        raise errors.OperationalError(f"no connection to {dsn}: {why}") from why
+
+
+def taken_over(connection: Any) -> LoggedIn:
+    """What python-tds has logged in. From here on it sends and reads nothing any more."""
+    inner = connection._conn
+    tls = getattr(inner.sock, "_tls_conn", None)
+    socket = inner.sock._transport if tls else inner.sock
+    return LoggedIn(socket, tls, inner.main_session._writer.bufsize, Spelling(inner.main_session))
+
+
+def _as_ours(why: Exception) -> errors.Error:
+    """An error of python-tds as one of this package."""
+    found = errors.named(type(why).__name__)(*why.args)
+    for name, theirs in (("number", "number"), ("state", "state"), ("severity", "severity"), ("line", "line"), ("text", "text"),
+                         ("server", "srvname"), ("procedure", "procname")):
+        setattr(found, name, getattr(why, theirs, getattr(errors.Error, name)))
+    return found
+
+
+class Spelling:
+    """How values are spelled on one connection, by what its login was told: version, collation."""
+
+    def __init__(self, session: Any) -> None:
+        self.session, self.inner = session, session._tds
+
+    def request(self, operation: str, parameters: Any) -> Tuple[MessageKind, bytes]:
+        """The request that a text is with its parameters: a batch without, else a call of `sp_executesql` (2.2.6.6)."""
+        text, values = placed(operation, parameters) if parameters else (operation, [])
+        if not values:
+            return MessageKind.BATCH, text.encode("utf-16-le", "surrogatepass")
+        told = [self._parameter(*it) for it in values]
+        declared = ",".join(f"{it.column_name} {it.type.get_declaration()}" for it in told)
+        front = [self._parameter("", text), self._parameter("", declared)]
+        return MessageKind.PROCEDURE, self._call(_EXECUTE_SQL, [*front, *told])
+
+    def procedure(self, name: str, parameters: Any) -> bytes:
+        """The body of a procedure's call by name, with the values of a sequence, or of a mapping of names."""
+        pairs = parameters.items() if isinstance(parameters, Mapping) else (("", it) for it in parameters)
+        return self._call(name, [self._parameter(*it) for it in pairs])
+
+    def _parameter(self, name: str, value: Any) -> Any:
+        try:
+            return self.session.make_param(name, Binary(value) if isinstance(value, (bytes, bytearray, memoryview)) else value)
+        except (pytds.Error, ValueError) as why:
+            raise errors.DataError(*why.args) from why
+
+    def _call(self, procedure: Any, parameters: Sequence[Any]) -> bytes:
+        into = _Body(self.session)
+        if isinstance(procedure, str):
+            name = procedure.encode("utf-16-le", "surrogatepass")
+            into.write(struct.pack("<H", len(name) // 2) + name)
+        else:
+            into.write(struct.pack("<HH", _BY_NUMBER, procedure))
+        into.write(bytes(2))
+        for it in parameters:
+            self._write(it, into)
+        return bytes(into.body)
+
+    def _write(self, parameter: Any, into: "_Body") -> None:
+        into.write_b_varchar(parameter.column_name)
+        into.put_byte(parameter.flags)
+        collation = self.inner.collation or pytds.collate.raw_collation
+        try:
+            serializer = parameter.choose_serializer(type_factory=self.inner.type_factory, collation=collation)
+            into.put_byte(serializer.type)
+            serializer.write_info(into)
+            serializer.write(into, parameter.value)
+        except (pytds.Error, ValueError, OverflowError, struct.error) as why:
+            raise errors.DataError(f"a value that its type can't spell: {parameter.value!r}") from why
+
+    def columns(self, token: bytes) -> List[Tuple[str, Any, int]]:
+        """The columns of a COLMETADATA (2.2.7.4), from its first byte: name, how its values are read, flags."""
+        reader, found = self.reader(token, 1), []
+        count = reader.get_usmallint()
+        for _ in range(0 if count == 0xFFFF else count):
+            column = _base.Column()
+            self._typed(column, reader)
+            found.append((reader.read_ucs2(reader.get_byte()), column.serializer, column.flags))
+        return found
+
+    def returned(self, token: bytes) -> Tuple[int, Any]:
+        """The place and the value of a RETURNVALUE (2.2.7.19)."""
+        reader, column = self.reader(token, 1), _base.Column()
+        place = reader.get_usmallint()
+        reader.read_ucs2(reader.get_byte())
+        reader.get_byte()
+        self._typed(column, reader)
+        return place, column.serializer.read(reader)
+
+    def _typed(self, column: Any, reader: Any) -> None:
+        column.column_usertype, column.flags = reader.get_uint(), reader.get_usmallint()
+        column.serializer = self.inner.type_factory.get_type_serializer(reader.get_byte()).from_stream(reader)
+
+    def reader(self, data: bytes, at: int = 0) -> "_Whole":
+        """A reader over bytes that are whole, from a place on."""
+        reader = _Whole(self.session)
+        reader.over(data, at)
+        return reader
+
+
+class _Body(_tds._TdsWriter):
+    """Takes what is spelled, in place of a socket."""
+
+    def __init__(self, session: Any) -> None:
+        super().__init__(session, 4096)
+        self.body = bytearray()
+
+    def write(self, data: bytes) -> None:
+        self.body += data
+
+
+class _Whole(_tds._TdsReader):
+    """Reads from whole tokens, in place of a socket."""
+
+    def over(self, data: bytes, at: int) -> None:
+        self._buf, self._pos, self._size = data, at, len(data)
+
+    def _read_packet(self) -> None:
+        raise errors.InternalError("a value goes over the end of its token")
+
+
+def placed(operation: str, parameters: Any) -> Tuple[str, List[Tuple[str, Any]]]:
+    """The text with a name in each place of a parameter, and the names with their values. Of None the text says NULL."""
+    if isinstance(parameters, Mapping):
+        names = {name: f"@{name}" for name in parameters}
+        places: Any = {name: "NULL" if value is None else names[name] for name, value in parameters.items()}
+        pairs = [(names[name], value) for name, value in parameters.items()]
+    else:
+        pairs = [(f"@P{place}", value) for place, value in enumerate(parameters, 1)]
+        places = tuple("NULL" if value is None else name for name, value in pairs)
+    try:
+        return operation % places, [it for it in pairs if it[1] is not None]
+    except (TypeError, KeyError, ValueError) as why:
+        raise errors.ProgrammingError(f"the parameters don't fit the text: {why}") from why
+
+
+class _Wants(Exception):
+    """The login goes on when more has come."""
+
+
+class _Replayed:
+    """What python-tds takes for a socket: it is given what came until now, and says what it would send."""
+
+    def __init__(self, came: bytes) -> None:
+        self.out, self._left = bytearray(), memoryview(came)
+
+    def sendall(self, data: bytes) -> None:
+        self.out += data
+
+    def recv_into(self, into: memoryview, size: int) -> int:
+        if not self._left:
+            raise _Wants
+        count = min(size, len(self._left))
+        into[:count], self._left = self._left[:count], self._left[count:]
+        return count
+
+    def setsockopt(self, *_: Any) -> None:
+        pass
+
+    def settimeout(self, _: Any) -> None:
+        pass
+
+    def close(self) -> None:
+        pass
+
+
+def logged_in_by(came: bytes, dsn: str, **how: Any) -> Tuple[bytes, Optional[LoggedIn]]:
+    """What a login without TLS, by a password, has sent once so much has come, from the first byte on; and the connection, where it is
+    logged in by that. It waits for nothing: python-tds is asked anew each time, and says the same."""
+    replayed = _Replayed(came)
+    try:
+        return bytes(replayed.out), log_in(dsn, 1, sock=replayed, **how)
+    except _Wants:
+        return bytes(replayed.out), None
