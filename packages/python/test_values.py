@@ -1,5 +1,5 @@
-"""10,000 random rows of all types: each value as it was made is what its bytes are read as, by `mouktelf.values` and, where it is
-installed, by python-tds. The bytes are written here, by MS-TDS 2.2.5.5.
+"""10,000 random rows of all types, a ROW or an NBCROW each: each value as it was made is what its bytes are read as, by `mouktelf.rows`
+and, where it is installed, by python-tds. The bytes are written here, by MS-TDS 2.2.5.5.
 
 usage: test_values.py [SEED]"""
 
@@ -10,7 +10,8 @@ import sys
 import uuid
 from decimal import Decimal
 
-from mouktelf.values import Type, codec_of, joined_parts, reader_of, ticks_of, value_of
+from mouktelf.rows import Columns
+from mouktelf.values import Type
 
 ROWS = 10_000
 DAY = 86_400 * 10 ** 7
@@ -265,35 +266,50 @@ def plain(it):
     return bytes(it) if isinstance(it, (bytearray, memoryview)) else it
 
 
+def described():
+    """The COLMETADATA of all columns."""
+    told = b"\x81" + little(len(COLUMNS), 2)
+    for index, (info, _, _, _) in enumerate(COLUMNS):
+        name = f"ä{index}".encode("utf-16-le")
+        told += little(index, 4) + little(9, 2) + info + bytes([len(name) // 2]) + name
+    return told
+
+
 def main(seed):
-    it, theirs = Random(seed), python_tds()
-    readers = [reader_of(column) for _, _, _, column in COLUMNS]
+    it, theirs, columns = Random(seed), python_tds(), Columns(described() + b"\xd1")
+    assert [(own.name, own.user_type, own.flags, own.type.kind) for own in columns] == [
+        (f"ä{index}", index, 9, column.kind) for index, (_, _, _, column) in enumerate(COLUMNS)]
     wrong = compared = nulls = 0
     for row in range(ROWS):
-        for index, (info, front, value, column) in enumerate(COLUMNS):
+        is_bits, places, found, plain_row, bits = it.random() < 0.3, [], [], b"", bytearray((len(COLUMNS) + 7) // 8)
+        made = []
+        for index, (_, front, value, _) in enumerate(COLUMNS):
             data, expected = (None, None) if front and it.random() < 0.05 else value(it)
-            if front == 4 and data is None:
-                expected = None
+            # Of these no bytes are null.
+            if front == 4 and not data:
+                data = expected = None
             sent, place = in_row(it, front, data)
-            own = place if front != 8 or place is None else joined_parts(place)
-            found = readers[index](own)
+            if is_bits and data is None:
+                bits[index // 8] |= 1 << index % 8
+            else:
+                plain_row += sent
+            made.append((sent, place, expected))
             nulls += data is None
-            if found != expected or type(found) is not type(expected) or value_of(column, own) != found:
+        token = (b"\xd2" + bits if is_bits else b"\xd1") + plain_row
+        places, found = columns.places(token + b"\xd1"), columns.values(token)
+        for index, (sent, place, expected) in enumerate(made):
+            (start, length, null), own, column = places[index], found[index], COLUMNS[index][3]
+            if null != (place is None) or token[start:start + length] != (place or b"") or own != expected or type(own) is not type(expected):
                 wrong += 1
-                print(f"row {row}, {column}: {sent.hex()} is {found!r}, and {expected!r} was sent")
+                print(f"row {row}, {column}: {sent.hex()} is {own!r}, and {expected!r} was sent")
             if theirs and theirs[0][index]:
                 other = plain(theirs[0][index].read(theirs[1](sent)))
                 compared += 1
-                if other != expected and not differs_there(column, own, other, expected):
+                if other != expected:
                     wrong += 1
                     print(f"row {row}, {column}: {sent.hex()} is {other!r} to python-tds, and {expected!r} was sent")
     print(f"values: {ROWS} rows of {len(COLUMNS)} columns, {nulls} nulls, {compared} compared with python-tds, {wrong} wrong")
     return bool(wrong)
-
-
-def differs_there(column, data, other, expected):
-    """What python-tds is known to do otherwise."""
-    return False
 
 
 if __name__ == "__main__":

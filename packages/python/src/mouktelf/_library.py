@@ -75,6 +75,13 @@ class WireToken(Structure):
     ]
 
 
+class ColumnValue(Structure):
+    _fields_ = [
+        ("name", WirePlace), ("size", c_uint32), ("user_type", c_uint32), ("flags", c_uint16), ("kind", c_uint8),
+        ("precision", c_uint8), ("scale", c_uint8), ("collation", c_uint8 * 5), ("shape", WireColumn),
+    ]
+
+
 class SeatValue(Structure):
     _fields_ = [
         ("client", ClientValue), ("number", c_uint64), ("holder", c_uint64), ("asked", c_uint64), ("place", c_uint8),
@@ -140,6 +147,8 @@ _CALLS = {
     "tds_wire_restart": (_WALK, _MEMORY),
     "tds_client_hear": (_CLIENT, _WALK, _MEMORY, _BYTES, c_size_t, c_uint8, _COUNT, _ROOM, c_size_t, _COUNT),
     "tds_tokens_next": (_BYTES, c_size_t, POINTER(Cursor), POINTER(TokenValue), c_size_t, _COUNT),
+    "tds_columns": (_BYTES, c_size_t, c_uint8, POINTER(ColumnValue), c_size_t, _COUNT, _COUNT),
+    "tds_row_places": (POINTER(ColumnValue), c_size_t, _BYTES, c_size_t, _ROOM, c_size_t, _COUNT),
     "tds_service_lease": (*_TABLE, _LENT),
     "tds_service_find": (*_TABLE, c_uint64, _COUNT),
     "tds_service_at": (*_TABLE, c_uint64, _COUNT),

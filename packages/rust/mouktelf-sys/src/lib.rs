@@ -139,6 +139,28 @@ pub struct WirePlace {
 
 #[repr(C)]
 #[derive(Clone, Copy, Default, Debug)]
+pub struct Column {
+    pub name: WirePlace,
+    pub size: u32,
+    pub user_type: u32,
+    pub flags: u16,
+    pub kind: u8,
+    pub precision: u8,
+    pub scale: u8,
+    pub collation: [u8; 5],
+    pub shape: WireColumn,
+}
+
+#[repr(C)]
+#[derive(Clone, Copy, Default, PartialEq, Eq, Debug)]
+pub struct RowPlace {
+    pub start: u64,
+    pub length: u64,
+    pub null: u8,
+}
+
+#[repr(C)]
+#[derive(Clone, Copy, Default, Debug)]
 pub struct WireToken {
     pub start: u64,
     pub length: u64,
@@ -185,6 +207,8 @@ extern "C" {
     pub fn tds_wire_next(walk: &mut Wire, memory: &mut WireMemory, bytes: *const u8, length: usize, count: &mut usize, token: &mut WireToken) -> u8;
     pub fn tds_wire_is_between(walk: &Wire, memory: &WireMemory) -> u8;
     pub fn tds_wire_restart(walk: &mut Wire, memory: &mut WireMemory) -> u8;
+    pub fn tds_columns(bytes: *const u8, length: usize, encryption: u8, columns: *mut Column, room: usize, count: &mut usize, taken: &mut usize) -> u8;
+    pub fn tds_row_places(columns: *const Column, count: usize, bytes: *const u8, length: usize, places: *mut RowPlace, room: usize, taken: &mut usize) -> u8;
     #[allow(clippy::too_many_arguments)]
     pub fn tds_client_hear(client: &mut Client, walk: &mut Wire, memory: &mut WireMemory, bytes: *const u8, length: usize, ends: u8, taken: &mut usize, tokens: *mut WireToken, room: usize, count: &mut usize) -> u8;
     #[cfg(feature = "play")]

@@ -6,6 +6,7 @@ mod fault;
 mod judge;
 mod login;
 mod outgoing;
+pub mod rows;
 mod service;
 mod streams;
 mod strict;

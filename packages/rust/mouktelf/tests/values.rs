@@ -1,6 +1,7 @@
 //! 10,000 random rows of all types: each value as it was made is what its bytes are read as. The bytes are written here, by MS-TDS
 //! 2.2.5.5. (packages/python/test_values.py compares the same with python-tds.)
 
+use mouktelf::rows::Columns;
 use mouktelf::values::{joined_parts, value_of, Day, Decimal, Type, Value};
 
 const ROWS: usize = 10_000;
@@ -177,6 +178,28 @@ fn values_are_what_was_made() {
         }
     }
     assert_eq!(value_of(&Type { kind: 0x26, ..Type::default() }, None), Value::Null);
+}
+
+/// By hand (MS-TDS 2.2.7.4, 2.2.7.17, 2.2.7.13): an INTN, a VARCHAR, an NVARCHAR(max) in two parts.
+#[test]
+fn rows_are_read() {
+    let token = [
+        &[0x81, 3, 0, 0, 0, 0, 0, 9, 0, 0x26, 4, 1, 0x6E, 0][..],
+        &[0, 0, 0, 0, 9, 0, 0xA7, 10, 0, 9, 4, 0, 0, 0, 1, 0x74, 0],
+        &[0, 0, 0, 0, 9, 0, 0xE7, 0xFF, 0xFF, 9, 4, 0, 0, 0, 1, 0x6D, 0],
+    ]
+    .concat();
+    let columns = Columns::of(&token, false).unwrap().unwrap();
+    assert_eq!(columns.columns().iter().map(|it| it.name.as_str()).collect::<String>(), "ntm");
+    let row = [&[0xD1, 4, 7, 0, 0, 0, 2, 0, 0x61, 0x80, 4, 0, 0, 0, 0, 0, 0, 0][..], &[2, 0, 0, 0, 0x78, 0, 2, 0, 0, 0, 0x79, 0, 0, 0, 0, 0]].concat();
+    let read = [Value::Integer(7), Value::Text("a€".into()), Value::Text("xy".into())];
+    assert_eq!(columns.values(&row).unwrap(), read);
+    assert_eq!(columns.values(&[0xD2, 0b110, 4, 9, 0, 0, 0]).unwrap(), [Value::Integer(9), Value::Null, Value::Null]);
+    let mut places = Vec::new();
+    assert_eq!(columns.places(&[&row[..], &[0xD1]].concat(), &mut places), Ok(row.len()));
+    assert_eq!(places.iter().map(|it| (it.start, it.length, it.null)).collect::<Vec<_>>(), [(2, 4, 0), (8, 2, 0), (18, 12, 0)]);
+    assert!(columns.values(&row[..20]).is_err());
+    assert!(Columns::of(&[0x81, 0xFF, 0xFF], false).unwrap().is_none());
 }
 
 #[test]

@@ -1,0 +1,39 @@
+package mouktelf
+
+import (
+	"encoding/hex"
+	"reflect"
+	"testing"
+)
+
+// By hand (MS-TDS 2.2.7.4, 2.2.7.17, 2.2.7.13): an INTN, a VARCHAR, an NVARCHAR(max) in two parts.
+func TestRows(t *testing.T) {
+	decode := func(text string) []byte {
+		data, err := hex.DecodeString(text)
+		if err != nil {
+			t.Fatal(err)
+		}
+		return data
+	}
+	columns, err := NewColumns(decode("81030000000000090026040"+"16E00"+"000000000900A70A000904000000017400"+"000000000900E7FFFF0904000000016D00"), false)
+	if err != nil || len(columns.Columns) != 3 {
+		t.Fatal(columns, err)
+	}
+	if it := columns.Columns[2]; it.Name != "m" || it.Kind != 0xE7 || !it.InParts || it.Collation != [5]byte{9, 4} {
+		t.Error(it)
+	}
+	places, row := make([]RowPlace, 3), decode("D1"+"0407000000"+"02006180"+"0400000000000000"+"020000007800"+"020000007900"+"00000000"+"D1")
+	taken, err := columns.Places(row, places)
+	if err != nil || taken != len(row)-1 || !reflect.DeepEqual(places, []RowPlace{{2, 4, false}, {8, 2, false}, {18, 12, false}}) {
+		t.Error(taken, places, err)
+	}
+	if taken, err = columns.Places(decode("D2060409000000"), places); err != nil || taken != 7 || places[0].Null || !places[1].Null || !places[2].Null {
+		t.Error(taken, places, err)
+	}
+	if _, err = columns.Places(row[:20], places); err != Fault(24) {
+		t.Error(err)
+	}
+	if same, err := NewColumns(decode("81FFFF"), false); same != nil || err != nil {
+		t.Error(same, err)
+	}
+}
