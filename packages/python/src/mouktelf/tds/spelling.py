@@ -12,7 +12,6 @@ from . import errors
 try:
     import pytds
     from pytds import tds as _tds
-    from pytds import tds_base as _base
 except ImportError as why:
     raise ImportError("mouktelf.tds wants python-tds: pip install python-tds, or Debian's package python3-tds") from why
 
@@ -112,35 +111,6 @@ class Spelling:
         except (pytds.Error, ValueError, OverflowError, struct.error) as why:
             raise errors.DataError(f"a value that its type can't spell: {parameter.value!r}") from why
 
-    def columns(self, token: bytes) -> List[Tuple[str, Any, int]]:
-        """The columns of a COLMETADATA (2.2.7.4), from its first byte: name, how its values are read, flags."""
-        reader, found = self.reader(token, 1), []
-        count = reader.get_usmallint()
-        for _ in range(0 if count == 0xFFFF else count):
-            column = _base.Column()
-            self._typed(column, reader)
-            found.append((reader.read_ucs2(reader.get_byte()), column.serializer, column.flags))
-        return found
-
-    def returned(self, token: bytes) -> Tuple[int, Any]:
-        """The place and the value of a RETURNVALUE (2.2.7.19)."""
-        reader, column = self.reader(token, 1), _base.Column()
-        place = reader.get_usmallint()
-        reader.read_ucs2(reader.get_byte())
-        reader.get_byte()
-        self._typed(column, reader)
-        return place, column.serializer.read(reader)
-
-    def _typed(self, column: Any, reader: Any) -> None:
-        column.column_usertype, column.flags = reader.get_uint(), reader.get_usmallint()
-        column.serializer = self.inner.type_factory.get_type_serializer(reader.get_byte()).from_stream(reader)
-
-    def reader(self, data: bytes, at: int = 0) -> "_Whole":
-        """A reader over bytes that are whole, from a place on."""
-        reader = _Whole(self.session)
-        reader.over(data, at)
-        return reader
-
 
 class _Body(_tds._TdsWriter):
     """Takes what is spelled, in place of a socket."""
@@ -151,16 +121,6 @@ class _Body(_tds._TdsWriter):
 
     def write(self, data: bytes) -> None:
         self.body += data
-
-
-class _Whole(_tds._TdsReader):
-    """Reads from whole tokens, in place of a socket."""
-
-    def over(self, data: bytes, at: int) -> None:
-        self._buf, self._pos, self._size = data, at, len(data)
-
-    def _read_packet(self) -> None:
-        raise errors.InternalError("a value goes over the end of its token")
 
 
 def placed(operation: str, parameters: Any) -> Tuple[str, List[Tuple[str, Any]]]:
