@@ -1,6 +1,6 @@
-"""A small server for test_tds.py, from MS-TDS alone: it calls nothing of this package. It lets everybody in, and answers some texts of
-tdsserve's batch language, a packet a statement: `rows A N`, `set K V`, `get K`, `say T`, `fail N`, `begin`, `commit`, `rollback`,
-`select 1`, `types`; `wait` waits for a cancel, `crossed` for one that the rest then passes, `deaf` hears none for two seconds, and `drop` closes."""
+"""A small server for the tests of mouktelf.tds, from MS-TDS alone: it calls nothing of this package. It lets everybody in, and answers
+some texts of tdsserve's batch language, a packet a statement: `rows A N`, `set K V`, `get K`, `say T`, `fail N`, `begin`, `commit`,
+`rollback`; `wait` waits for a cancel, `crossed` for one that the rest then passes, `deaf` hears none for two seconds, `drop` closes."""
 
 import contextlib
 import socket

@@ -82,7 +82,8 @@ def spelled():
     """A call of sp_executesql: its number, no options, the text, the declaration, the parameter (2.2.6.6, 2.2.5.4, 2.2.5.2.3)."""
     def long_text(text):
         data = text.encode("utf-16-le")
-        return (b"\0\0\xE7\xFF\xFF" + bytes.fromhex("0904D00034") + b"\xFE" + b"\xFF" * 7 + len(data).to_bytes(4, "little") + data + bytes(4))
+        front = b"\0\0\xE7\xFF\xFF" + bytes.fromhex("0904D00034") + b"\xFE" + b"\xFF" * 7
+        return front + len(data).to_bytes(4, "little") + data + bytes(4)
 
     front = b"\xFF\xFF\x0A\0\0\0"
     with Server() as server:
