@@ -1,6 +1,7 @@
 """A small server for the tests of mouktelf.tds, from MS-TDS alone: it calls nothing of this package. It lets everybody in, and answers
 some texts of tdsserve's batch language, a packet a statement: `rows A N`, `set K V`, `get K`, `say T`, `fail N`, `begin`, `commit`,
-`rollback`; `wait` waits for a cancel, `crossed` for one that the rest then passes, `deaf` hears none for two seconds, `drop` closes."""
+`rollback`; `wait` waits for a cancel, `crossed` for one that the rest then passes, `deaf` hears none for two seconds; `stray` is answered
+twice, and `drop` closes."""
 
 import contextlib
 import socket
@@ -129,6 +130,8 @@ class Peer:
                 break
         if not self.is_cancelled or is_crossed:
             self.link.sendall(packet(done(status) if answer or texts else b""))
+        if "stray" in texts:
+            self.link.sendall(packet(rows(99, 1)[:-13] + done()))
         if self.is_cancelled:
             self.is_cancelled = False
             self.link.sendall(packet(done(CANCELLED)))

@@ -269,6 +269,10 @@ def breaks():
         # A session that is gone isn't begun anew behind the caller's back.
         raises(tds.ConnectionLost, connection.cursor().execute, "rows 1 1")
         raises(tds.ConnectionLost, connection.commit)
+        # An answer that nobody asked for is nobody's.
+        cursor = connect(server).cursor().execute("stray")
+        time.sleep(0.2)
+        raises(tds.ConnectionLost, cursor.execute, "rows 1 1")
         connection = connect(server, cancel_timeout=0.2, timeout=0.2)
         raises(tds.ConnectionLost, connection.cursor().execute, "deaf")
 
