@@ -106,7 +106,7 @@ class Peer:
 
     def texts(self, kind, body):
         if kind == TRANSACTION:
-            return [{5: "begin", 7: "commit", 8: "rollback"}[body[0]]]
+            return [*self.server.before, {5: "begin", 7: "commit", 8: "rollback"}[body[0]]]
         if kind == CALL:
             return ["call"]
         return [it.strip() for it in body.decode("utf-16-le").split(";")]
@@ -177,10 +177,11 @@ class Peer:
 
 
 class Server:
-    """Serves on a free port of this machine, a thread a connection. `heard` has of each request its kind, status and descriptor."""
+    """Serves on a free port of this machine, a thread a connection. `heard` has of each request its kind, status and descriptor;
+    `before` is what stands before each transaction request."""
 
     def __init__(self, answers=()):
-        self.answers, self.heard, self.peers = dict(answers), [], []
+        self.answers, self.heard, self.peers, self.before = dict(answers), [], [], []
         self.socket = socket.create_server(("127.0.0.1", 0))
         self.port = self.socket.getsockname()[1]
         threading.Thread(target=self.accept, daemon=True).start()

@@ -231,6 +231,22 @@ def timeouts():
         assert cursor.fetchall() == [(1,)]
 
 
+def ends_time_out():
+    """A commit that is cancelled was done, or wasn't: what the server told behind the cancel counts."""
+    with Server() as server:
+        connection = connect(server, timeout=0.3, autocommit=False)
+        cursor = connection.cursor()
+        for text, is_open in (("wait", True), ("crossed", False)):
+            cursor.execute("rows 1 1")
+            server.before.append(text)
+            raises(tds.TimeoutError, connection.commit)
+            server.before.clear()
+            assert connection.in_transaction == is_open
+            connection.commit()
+            assert not connection.in_transaction
+        assert [it[2] for it in server.heard if it[0] == TRANSACTION] == [0, 1, 1, 0, 2]
+
+
 def shared():
     """Cursors and threads on one connection: what one hasn't read yet is kept for it."""
     with Server() as server, connect(server) as connection:
@@ -282,10 +298,10 @@ def procedures():
         cursor = connection.cursor()
         assert cursor.callproc("p", (1, tds.output(value=2))) == [1, 9]
         assert cursor.fetchall() == [(1,)] and cursor.return_value == 3
-        assert raises(tds.NotSupportedError, lambda: connect(server, use_mars=True))
+        raises(tds.NotSupportedError, lambda: connect(server, use_mars=True))
 
 
-PARTS = (first_steps, told_errors, spelled, types, transactions, cancels, timeouts, shared, breaks, procedures)
+PARTS = (first_steps, told_errors, spelled, types, transactions, cancels, timeouts, ends_time_out, shared, breaks, procedures)
 
 
 def run(parts, what):

@@ -17,6 +17,8 @@ except ImportError as why:
 
 output, default, Binary = pytds.output, pytds.default, pytds.Binary
 _BY_NUMBER, _EXECUTE_SQL = 0xFFFF, 10
+# What python-tds does with cursors, rows and connections of its own.
+_NOT_OURS = ("use_mars", "pooling", "use_tz", "as_dict", "row_strategy")
 
 
 class LoggedIn(NamedTuple):
@@ -30,17 +32,21 @@ class LoggedIn(NamedTuple):
 
 
 def log_in(dsn: str, timeout: float, **how: Any) -> LoggedIn:
-    """Connects and logs in. `timeout` is in seconds, and `how` as of `pytds.connect`. Raises the errors of this package."""
-    if how.get("use_mars") or how.get("pooling"):
-        raise errors.NotSupportedError("there is no MARS; for a pool there is mouktelf.tds.Pool")
+    """Connects and logs in. `timeout` is in seconds, for each step of it, and `how` as of `pytds.connect`. Raises the errors of this
+    package."""
+    for name in (it for it in _NOT_OURS if how.get(it)):
+        raise errors.NotSupportedError(f"{name} is python-tds's own; for a pool there is mouktelf.tds.Pool")
     # By itself python-tds tries several times, and the first time gives a server a twelfth of the limit for each answer.
     how.setdefault("disable_connect_retry", not (how.get("failover_partner") or how.get("load_balancer")))
+    dsn = how.pop("server", None) or dsn
     try:
         return taken_over(pytds.connect(dsn=dsn, autocommit=True, login_timeout=timeout, **how))
     except pytds.Error as why:
         raise _as_ours(why) from why
     except OSError as why:
         raise errors.OperationalError(f"no connection to {dsn}: {why}") from why
+    except ValueError as why:
+        raise errors.InterfaceError(*why.args) from why
 
 
 def taken_over(connection: Any) -> LoggedIn:
