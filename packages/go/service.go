@@ -213,22 +213,24 @@ func (service *Service) Cancel(lease uint64, out *[]byte) (Answer, error) {
 // Hear hears one packet on the connection of this number, whoever holds it, as Client.Hear: the lease that holds it and its request,
 // which are told what is appended. A connection that drained is free behind Acknowledged.
 func (service *Service) Hear(number uint64, packet []byte, told *[]Walked) (Answer, Whose, error) {
-	seat, err := service.seat(number)
+	_, err := service.seat(number)
 	if err == nil && len(packet) < 8 {
 		err = Fault(C.TDS_WANTS_BYTES)
 	}
 	if err != nil {
 		return 0, Whose{}, err
 	}
-	whose, drains, before := Whose{Request: uint64(seat.asked)}, seat.place == C.TDS_PLACE_DRAINING, len(*told)
-	if seat.place == C.TDS_PLACE_LENT || seat.place == C.TDS_PLACE_CLEANING {
-		whose.Lease = uint64(seat.holder)
+	found, walk, before := rooms.Get().(*room), service.walk(number), len(*told)
+	defer rooms.Put(found)
+	for data := packet[8:]; ; {
+		answer := C.tds_service_hear(&service.value, &service.seats[0], service.most(), C.uint64_t(number), &walk.value, &walk.memory,
+			at(data), C.size_t(len(data)), oneWhere(packet[1]&1 == 1), &found.taken, &found.tokens[0], atOnce, &found.count, &found.whose)
+		data = found.tells(data, told)
+		if answer != C.TDS_TELL {
+			is, err := walk.answer(answer)
+			return is, Whose{uint64(found.whose.lease), uint64(found.whose.request), len(*told) > before}, err
+		}
 	}
-	answer, err := hears(&seat.client, service.walk(number), packet[8:], packet[1]&1 == 1, told)
-	if whose.Told = len(*told) > before; drains && err == nil {
-		_, err = service.Drained(number)
-	}
-	return answer, whose, err
 }
 
 func (service *Service) seat(number uint64) (*C.struct_tds_seat, error) {

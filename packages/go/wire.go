@@ -110,6 +110,7 @@ const atOnce = 256
 type room struct {
 	tokens       [atOnce]C.struct_tds_wire_token
 	taken, count C.size_t
+	whose        C.struct_tds_whose
 }
 
 var rooms = sync.Pool{New: func() any { return &room{} }}
@@ -120,19 +121,30 @@ func hears(raw *C.struct_tds_client, walk *Walk, data []byte, ends bool, told *[
 	for {
 		answer := C.tds_client_hear(raw, &walk.value, &walk.memory, at(data), C.size_t(len(data)), oneWhere(ends), &found.taken,
 			&found.tokens[0], atOnce, &found.count)
-		for i := range found.tokens[:found.count] {
-			*told = append(*told, walked(&found.tokens[i]))
-		}
-		data = data[found.taken:]
-		switch {
-		case answer == C.TDS_OK:
-			return More, nil
-		case answer >= 20:
-			return 0, walk.fault(answer)
-		case answer != C.TDS_TELL:
-			return Answer(answer), nil
+		data = found.tells(data, told)
+		if answer != C.TDS_TELL {
+			return walk.answer(answer)
 		}
 	}
+}
+
+// tells appends what a call has told. It gives the data that are left.
+func (found *room) tells(data []byte, told *[]Walked) []byte {
+	for i := range found.tokens[:found.count] {
+		*told = append(*told, walked(&found.tokens[i]))
+	}
+	return data[found.taken:]
+}
+
+// answer is what the last of these calls says.
+func (walk *Walk) answer(number C.uint8_t) (Answer, error) {
+	switch {
+	case number == C.TDS_OK:
+		return More, nil
+	case number >= 20:
+		return 0, walk.fault(number)
+	}
+	return Answer(number), nil
 }
 
 // Walk is the walk that it hears by.

@@ -14,7 +14,8 @@ use Rattle.tds_client.specs.Parts.{parts_of, session_from, stage_from}
 use Rattle.tds_client.specs.Session.{ClientSession, Reading, unless_idle, with_stage}
 use Rattle.tds_c.specs.declared.client.TdsClient.{TdsClient}
 use Rattle.tds_c.specs.Calls.{value_of}
-use Rattle.tds_c.specs.Plain.{◌>>=◌, client_of, columns_from, columns_number, done_from, done_number, fault_from, have_room, kind_from, mark_from, mark_number, parts_from, plain_of, size_from, stage_from_number}
+use Rattle.tds_walk.specs.Wire.{◌>>=◌}
+use Rattle.tds_c.specs.Plain.{client_of, columns_from, columns_number, done_from, done_number, fault_from, have_room, kind_from, mark_from, mark_number, parts_from, plain_of, size_from, stage_from_number}
 use Rattle.tds_c.proofs.Joining.{parted}
 
 -- ---- The numbers of a client's value

@@ -2,9 +2,9 @@
 use Rattle.std.proofs.Common.{◌≡◌, ◌∙◌, ℕ, List, [], ◌∷◌, ◌++◌, length, Option, Some, None, Ok, refl, sym, ap, subst}
 use Rattle.tds_listen.specs.Hearing.{Move, next_heard}
 use Rattle.tds_wire.specs.declared.told.Token.{Token}
-use Rattle.tds_c.specs.declared.wire.token.TdsWireToken.{TdsWireToken}
-use Rattle.tds_c.specs.Hearing.{AllShow, HasHeard, HearsInTurn, Place, Puts, behind, told_in, with_told}
-use Rattle.tds_c.specs.WireTokens.{Shows}
+use Rattle.tds_walk.specs.declared.token.TdsWireToken.{TdsWireToken}
+use Rattle.tds_c.specs.Hearing.{HasHeard, HearsInTurn, Place, behind, told_in, with_told}
+use Rattle.tds_walk.specs.WireTokens.{AllShow, Puts, Shows}
 use Rattle.tds_c.proofs.Rooms.{written_on}
 
 in_turn_on : (first : Place) (moves : List Move) (place : Place) (move : Move) → HearsInTurn first moves place → next_heard place.session place.reading place.rest ≡ Ok move → HearsInTurn first (moves ++ move ∷ []) (behind move)

@@ -14,4 +14,3 @@ pub mod WholeMessages
 pub mod Hearing
 pub mod Ready
 pub mod Whole
-pub mod Walks

@@ -19,10 +19,12 @@ use Rattle.tds_wire.specs.Memory.{shape_of, shapes_of}
 use Rattle.tds_wire.specs.Reading.{IsReady, Reading, Sees, is_between, next_token, restarted}
 use Rattle.tds_wire.specs.Told.{added}
 use Rattle.tds_wire.specs.Whole.{IsNext, behind_whole}
-use Rattle.tds_c.specs.declared.wire.walk.TdsWire.{TdsWire}
-use Rattle.tds_c.specs.declared.wire.token.TdsWireToken.{TdsWireToken}
-use Rattle.tds_c.specs.Hearing.{HasHeard, Place, Puts, Ready, reading_from}
-use Rattle.tds_c.specs.Wire.{due_from, inside_from, refusal_from, truth, walk_from}
+use Rattle.tds_walk.specs.declared.walk.TdsWire.{TdsWire}
+use Rattle.tds_walk.specs.declared.token.TdsWireToken.{TdsWireToken}
+use Rattle.tds_c.specs.Hearing.{HasHeard, Place, Ready}
+use Rattle.tds_walk.specs.WireCalls.{reading_from}
+use Rattle.tds_walk.specs.WireTokens.{Puts}
+use Rattle.tds_walk.specs.Wire.{due_from, inside_from, refusal_from, truth, walk_from}
 use Rattle.tds_c.proofs.Hearing.{heard_on}
 
 pub in_some : {A : Type 0} (o : Option A) → IsSome o → (x : A) × (o ≡ Some x)

@@ -2,7 +2,7 @@
 use Rattle.std.proofs.Common.{◌≡◌, ℕ, ◌+◌, ◌<◌, List, [], ◌∷◌, ◌++◌, length, drop, get_or, slice_set, suc, sym, ◌∙◌, append_assoc, arith}
 use Rattle.std.proofs.lemmas.List.{length-append, set_at}
 use Rattle.std.proofs.Math.Seq.{drop-cons}
-use Rattle.tds_c.specs.Rooms.{HasRead}
+use Rattle.tds_walk.specs.Rooms.{HasRead}
 
 -- one more value stands at the front of what was there
 front_on : {A : Type 0} → (read before : List A) (x : A) (n : ℕ) → length read ≡ n → n < length before → slice_set (read ++ drop n before) n x ≡ read ++ x ∷ drop (suc n) before

@@ -3,7 +3,8 @@ use Rattle.std.proofs.Common.{◌≡◌, [], Option, None, Some, refl}
 use Rattle.tds_client.specs.Session.{ClientSession}
 use Rattle.tds_wire.specs.Reading.{Reading}
 use Rattle.tds_c.specs.declared.wire.hearing.Came.{Came}
-use Rattle.tds_c.specs.Hearing.{HearsAll, HearsBy, HearsFrom, Hearing, NothingDone, Ready, reading_from}
+use Rattle.tds_c.specs.Hearing.{HearsAll, HearsBy, HearsFrom, Hearing, NothingDone, Ready}
+use Rattle.tds_walk.specs.WireCalls.{reading_from}
 use Rattle.tds_c.specs.Plain.{client_of}
 use Rattle.tds_c.proofs.Ready.{at_ready, is_at_ready}
 

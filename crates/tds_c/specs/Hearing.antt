@@ -1,5 +1,5 @@
 -- What the export does by which a client hears the data of a packet in one call: token by token, as `tds_listen` has it.
-use Rattle.std.specs.Prelude.{◌≡◌, ◌≢◌, ◌≤◌, ◌<◌, ◌+◌, ℕ, List, [], ◌∷◌, Bool, true, false, length, drop, slice_set, Option, Some, None, IsSome, Result, Ok, Err}
+use Rattle.std.specs.Prelude.{◌≡◌, ◌≢◌, ◌≤◌, ◌+◌, ℕ, List, [], ◌∷◌, Bool, true, false, length, drop, Option, Some, None, IsSome, Result, Ok, Err}
 use Rattle.tds_client.specs.declared.fault.ClientFault.{ClientFault}
 use Rattle.tds_client.specs.Faults as client
 use Rattle.tds_client.specs.Machine.{tells}
@@ -12,21 +12,21 @@ use Rattle.tds_listen.specs.Hearing.{Both, Move, heard_end, next_heard}
 use Rattle.tds_wire.specs.declared.memory.Memory.{Memory}
 use Rattle.tds_wire.specs.declared.told.Token.{Token}
 use Rattle.tds_wire.specs.Faults as wire
-use Rattle.tds_wire.specs.Lent.{reading_of}
 use Rattle.tds_wire.specs.Reading.{Reading, restarted}
 use Rattle.tds_c.specs.declared.client.TdsClient.{TdsClient}
 use Rattle.tds_c.specs.declared.wire.hearing.Came.{Came}
 use Rattle.tds_c.specs.declared.wire.hearing.Came.TheVariants as came
 use Rattle.tds_c.specs.declared.wire.hearing.walked.Halt.{Halt}
 use Rattle.tds_c.specs.declared.wire.hearing.walked.Halt.TheVariants as halts
-use Rattle.tds_c.specs.declared.wire.token.TdsWireToken.{TdsWireToken}
-use Rattle.tds_c.specs.declared.wire.walk.TdsWire.{TdsWire}
+use Rattle.tds_walk.specs.declared.token.TdsWireToken.{TdsWireToken}
+use Rattle.tds_walk.specs.declared.walk.TdsWire.{TdsWire}
 use Rattle.tds_c.specs.Answers.{taken_number}
-use Rattle.tds_c.specs.Calls.{on, value_of}
+use Rattle.tds_c.specs.Calls.{value_of}
 use Rattle.tds_c.specs.Plain.{client_of}
-use Rattle.tds_c.specs.Rooms.{HasRead, Room}
-use Rattle.tds_c.specs.Wire.{inside_from, truth, walk_from}
-use Rattle.tds_c.specs.WireTokens.{Shows}
+use Rattle.tds_walk.specs.Rooms.{HasRead, Room}
+use Rattle.tds_walk.specs.Wire.{inside_from, truth}
+use Rattle.tds_walk.specs.WireCalls.{reading_from}
+use Rattle.tds_walk.specs.WireTokens.{AllShow}
 
 -- ---- The numbers
 
@@ -70,13 +70,6 @@ unfoldable pub told_in : List Move → List Token
 told_in [] = []
 told_in (move ∷ others) = with_told move.told (told_in others)
 
--- The values show these tokens.
-unfoldable pub AllShow : List TdsWireToken → List Token → Type 0
-AllShow [] [] = Unit {0}
-AllShow [] (token ∷ tokens) = ⊥
-AllShow (value ∷ values) [] = ⊥
-AllShow (value ∷ values) (token ∷ tokens) = Shows value token token.told × AllShow values tokens
-
 -- So far these moves were made, and what they tell stands at the front of the room.
 pub record HasHeard (first last : Place) (room : Room TdsWireToken) : Type 0 where
   pub moves : List Move
@@ -92,10 +85,6 @@ pub record State : Type 0 where
   pub client : TdsClient
   pub walk : TdsWire
   pub memory : Memory
-
--- The walker that the value is, beside its memory. None where it is no walk's.
-abbrev pub reading_from : TdsWire → Memory → Option Reading
-reading_from walk memory = on (λ w. reading_of w memory) (walk_from walk)
 
 -- Behind bytes that were refused it says which one.
 abbrev pub TellsFault : ListenFault → Reading → Type 0
@@ -154,15 +143,6 @@ HearsBy (Some s) (Some r) h is = HearsFrom (record { session = s; reading = r; r
 
 abbrev pub HearsAll : Hearing → Came → Type 0
 HearsAll h is = HearsBy (client_of h.before.client []) (reading_from h.before.walk h.before.memory) h is
-
--- ---- One token
-
--- A token that is told is written behind those before it.
-abbrev pub Puts : Option Token → Room TdsWireToken → ℕ → Type 0
-Puts None room count = (room.after ≡ room.before) × (room.count ≡ count)
-Puts (Some token) room count =
-    (value : TdsWireToken) × Shows value token token.told × (count < length room.before)
-    × (room.after ≡ slice_set room.before count value) × (room.count ≡ count + 1)
 
 -- ---- Where the walk is read out
 

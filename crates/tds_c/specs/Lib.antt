@@ -1,14 +1,9 @@
 pub mod Plain
 pub mod Answers
 pub mod Calls
-pub mod Rooms
 pub mod Packets
 pub mod Tokens
 pub mod Heard
 pub mod Streams
 pub mod Asking
-pub mod WireFields
-pub mod Wire
-pub mod WireTokens
-pub mod WireCalls
 pub mod Hearing

@@ -17,7 +17,7 @@ use Rattle.tds_c.specs.declared.client.TdsClient.{TdsClient}
 use Rattle.tds_c.specs.declared.packets.TdsPacket.{TdsPacket}
 use Rattle.tds_c.specs.Calls.{value_of}
 use Rattle.tds_c.specs.Plain.{client_of}
-use Rattle.tds_c.specs.Rooms.{HasRead, Room}
+use Rattle.tds_walk.specs.Rooms.{HasRead, Room}
 
 unfoldable pub direction_from : ℕ → Option Direction
 direction_from n = if n == 0 then Some ToServer else if n == 1 then Some ToClient else None

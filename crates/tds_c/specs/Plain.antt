@@ -18,13 +18,8 @@ use Rattle.tds_client.specs.declared.heard.FinalDone.TheVariants.{Awaited, Answe
 use Rattle.tds_client.specs.Faults.{fault_number}
 use Rattle.tds_client.specs.Parts.{session_from}
 use Rattle.tds_client.specs.Session.{ClientSession}
+use Rattle.tds_walk.specs.Wire.{◌>>=◌}
 use Rattle.tds_c.specs.declared.client.TdsClient.{TdsClient}
-
--- One part behind another: where the first is none, there is none.
-infixl 10 ◌>>=◌
-abbrev pub ◌>>=◌ : {A B : Type 0} → Option A → (A → Option B) → Option B
-(Some x) >>= f = f x
-None >>= f = None
 
 -- ---- A client's parts as numbers
 

@@ -17,7 +17,7 @@ use Rattle.tds_c.specs.declared.tokens.TdsCursor.{TdsCursor}
 use Rattle.tds_c.specs.declared.tokens.TdsRows.{TdsRows}
 use Rattle.tds_c.specs.declared.tokens.TdsToken.{TdsToken}
 use Rattle.tds_c.specs.Plain.{columns_from, columns_number}
-use Rattle.tds_c.specs.Rooms.{HasRead, Room}
+use Rattle.tds_walk.specs.Rooms.{HasRead, Room}
 
 -- A token was read, or the data are at their end.
 abbrev pub found_number : Option TdsToken → ℕ

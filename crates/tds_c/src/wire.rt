@@ -1,18 +1,11 @@
 //! Where each token of an answer ends: the exports of `include/tds_wire.h`.
 
-ghost use Rattle.std.specs.Prelude.{◌≡◌};
-ghost use Rattle.tds_c.specs.WireCalls.{Begins, Feeds, Restarts, Stands, Tells};
+ghost use Rattle.tds_walk.specs.WireCalls.{Begins, Feeds, Restarts, Stands};
 
-mod due;
-mod fields;
 mod hearing;
-mod token;
-mod walk;
-mod whole;
 
-use crate::wire::token::{TdsWireToken, shown};
-use crate::wire::walk::TdsWire;
-use tds_wire::{Features, Fed, LentWalk, Memory, Refusal};
+use tds_walk::{TdsWire, TdsWireToken, begin, is_between, next, restart};
+use tds_wire::Memory;
 
 /// A walk before the first token of an answer, with room for so many columns, at most 4,096. The
 /// others say whether the login acknowledged column encryption, and data classification of version
@@ -27,12 +20,7 @@ pub extern "C" fn tds_wire_new(
 ) -> u8
     ensures { Begins most encryption ranks walk.new memory.new result }
 {
-    let features = Features {
-        encryption: encryption != 0,
-        ranks: ranks != 0,
-    };
-    *walk = TdsWire::of(&LentWalk::new(memory, most, features));
-    0
+    begin(most, encryption, ranks, walk, memory)
 }
 
 /// Takes bytes of an answer's data up to the end of one token. 0 where one has ended, 1 where all
@@ -57,62 +45,7 @@ pub extern "C" fn tds_wire_next(
       answer = result;
     }) }
 {
-    let taken = walk.take_whole(memory, piece, token);
-    *count = taken;
-    if taken > 0 {
-        return 0;
-    }
-    feed(walk, memory, piece, count, token)
-}
-
-/// The same of any walk, and of any bytes.
-#[inline(never)]
-fn feed(
-    walk: &mut TdsWire,
-    memory: &mut Memory,
-    piece: &[u8],
-    count: &mut usize,
-    token: &mut TdsWireToken,
-) -> u8
-    requires { count.old ≡ 0 }
-    ensures { Feeds (record {
-      before = walk.old;
-      after = walk.new;
-      memory_before = memory.old;
-      memory_after = memory.new;
-      piece = piece.now;
-      count = count.new;
-      token_before = token.old;
-      token_after = token.new;
-      answer = result;
-    }) }
-{
-    let Some(mut lent) = walk.walk() else {
-        return 20;
-    };
-    let found = lent.feed(memory, piece);
-    *walk = TdsWire::of(&lent);
-    tell(found, count, token)
-}
-
-/// Tells what came of a piece.
-fn tell(found: Result<Fed, Refusal>, count: &mut usize, token: &mut TdsWireToken) -> u8
-    requires { count.old ≡ 0 }
-    ensures { Tells found count.new token.old token.new result }
-{
-    match found {
-        Ok(fed) => {
-            *count = fed.count;
-            match fed.token {
-                Some(ended) => {
-                    *token = shown(&ended);
-                    0
-                }
-                None => 1,
-            }
-        }
-        Err(refusal) => 70 + refusal.fault.number(),
-    }
+    next(walk, memory, piece, count, token)
 }
 
 /// Whether a message may end here: 1 between two tokens, 0 inside one or behind a fault, 20 where
@@ -121,23 +54,7 @@ fn tell(found: Result<Fed, Refusal>, count: &mut usize, token: &mut TdsWireToken
 pub extern "C" fn tds_wire_is_between(walk: &TdsWire, memory: &Memory) -> u8
     ensures { Stands walk.now memory.now result }
 {
-    memory.bounds();
-    if walk.is_ready() {
-        1
-    } else {
-        stands(walk, memory)
-    }
-}
-
-/// The same of any walk.
-#[inline(never)]
-fn stands(walk: &TdsWire, memory: &Memory) -> u8
-    ensures { Stands walk.now memory.now result }
-{
-    match walk.walk() {
-        Some(lent) => if lent.is_between(memory) { 1 } else { 0 },
-        None => 20,
-    }
+    is_between(walk, memory)
 }
 
 /// Begins anew before the first token of a message, with no columns. 0, or 20 where the value is no
@@ -146,23 +63,5 @@ fn stands(walk: &TdsWire, memory: &Memory) -> u8
 pub extern "C" fn tds_wire_restart(walk: &mut TdsWire, memory: &mut Memory) -> u8
     ensures { Restarts walk.old walk.new memory.old memory.new result }
 {
-    if walk.is_ready() {
-        walk.start = 0;
-        memory.count = 0;
-        return 0;
-    }
     restart(walk, memory)
-}
-
-/// The same of any walk.
-#[inline(never)]
-fn restart(walk: &mut TdsWire, memory: &mut Memory) -> u8
-    ensures { Restarts walk.old walk.new memory.old memory.new result }
-{
-    let Some(mut lent) = walk.walk() else {
-        return 20;
-    };
-    lent.restart(memory);
-    *walk = TdsWire::of(&lent);
-    0
 }

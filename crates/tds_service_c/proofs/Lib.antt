@@ -7,3 +7,4 @@ pub mod Puts
 pub mod Arrivals
 pub mod Hearings
 pub mod Leaving
+pub mod Comings

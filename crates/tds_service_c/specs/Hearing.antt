@@ -23,7 +23,7 @@ use Rattle.tds_service_c.specs.declared.answers.Stop.{Stop}
 use Rattle.tds_service_c.specs.declared.answers.Stop.TheVariants as stops
 use Rattle.tds_service_c.specs.declared.plain.TdsSeat.{TdsSeat}
 use Rattle.tds_service_c.specs.declared.plain.TdsWhose.{TdsWhose}
-use Rattle.tds_service_c.specs.declared.plain.TdsWireToken.{TdsWireToken}
+use Rattle.tds_walk.specs.declared.token.TdsWireToken.{TdsWireToken}
 use Rattle.tds_service_c.specs.Answers.{stop_number}
 use Rattle.tds_service_c.specs.Asking.{Turned}
 use Rattle.tds_service_c.specs.Calls.{Fits, Held, Stops}

@@ -7,3 +7,5 @@ pub mod Calls
 pub mod Asking
 pub mod OnSeat
 pub mod Hearing
+pub mod Packet
+pub mod ComesOn

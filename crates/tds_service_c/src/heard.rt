@@ -7,11 +7,12 @@ ghost use Rattle.tds_service_c.specs.Hearing.{ended_number, heard_number, is_cut
 
 use crate::answers::Stop;
 use crate::exports::fits;
-use crate::plain::{TdsSeat, TdsService, TdsWhose, TdsWireToken};
+use crate::plain::{TdsSeat, TdsService, TdsWhose};
 use crate::{coming, signs};
 use tds_client::Sign;
 use tds_listen::ListenFault;
 use tds_service::{Came, Outcome};
+use tds_walk::TdsWireToken;
 
 /// Why a connection is broken.
 fn broken_number(fault: &ListenFault) -> u8

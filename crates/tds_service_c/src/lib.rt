@@ -16,6 +16,7 @@ mod hearing;
 mod keeping;
 pub mod laws;
 mod lending;
+mod packet;
 mod plain;
 mod putting;
 mod requests;

@@ -76,39 +76,3 @@ pub struct TdsWhose {
     /// Its newest request.
     pub request: u64,
 }
-
-/// Bytes of a message: `struct tds_wire_place`.
-#[repr(C)]
-#[derive(Clone, Copy)]
-pub struct TdsWirePlace {
-    pub start: u64,
-    pub length: u64,
-}
-
-/// A token that ended, as `struct tds_wire_token` of `tds_wire.h`: what is told of it, and what is left
-/// alone.
-#[repr(C)]
-#[derive(Clone, Copy)]
-pub struct TdsWireToken {
-    pub start: u64,
-    pub length: u64,
-    /// The descriptors of an ENVCHANGE.
-    pub value: u64,
-    pub old_value: u64,
-    pub text: TdsWirePlace,
-    pub others: TdsWirePlace,
-    pub number: i32,
-    pub size: u32,
-    /// The status of a DONE.
-    pub status: u16,
-    pub command: u16,
-    /// Its first byte.
-    pub kind: u8,
-    /// 1 a DONE, 2 a transaction, 3 a reset's end, 10 unclear; any other number: nothing for a session.
-    pub told: u8,
-    /// The type of an ENVCHANGE.
-    pub change: u8,
-    pub state: u8,
-    pub severity: u8,
-    pub recoverable: u8,
-}

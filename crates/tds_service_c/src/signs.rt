@@ -5,9 +5,9 @@ ghost use Rattle.std.specs.Prelude.{◌≡◌};
 ghost use Rattle.tds_listen.specs.Signs as signs;
 ghost use Rattle.tds_service_c.specs.Hearing.{change_from, change_sign, done_from, done_sign, sign_at};
 
-use crate::plain::TdsWireToken;
 use tds_client::{DoneKind, Sign};
 use tds_token::EnvChange;
+use tds_walk::TdsWireToken;
 
 /// The change of this number (MS-TDS 2.2.7.9).
 #[tactic(auto, unfolding(crate::specs::Hearing::change_from))]

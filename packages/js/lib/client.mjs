@@ -197,8 +197,8 @@ export class Client {
 
   /** The same of a packet's data, behind its header, or of a piece of them; `ends` is bit 1 of the packet's status, with its last piece. */
   hearData(data, ends) {
-    const at = this.#at, walk = this.walk;
-    return hears(at, walk, data, ends);
+    const value = this.#value, { answer, tokens } = hears((...words) => calls.tds_client_hear(value, ...words), this.walk, data, ends);
+    return { answer, tokens };
   }
 
   /** Hears a token that a walk of your own has found, in place of `hear`. Whether the caller that asked is told of it: behind a cancel nobody is. */

@@ -3,15 +3,15 @@
 import { calls, memory } from "./calls.mjs";
 import { ATTENTION_MOST, CLIENT, COUNT, Client, HEADER, HELD, MessageKind, Stage, joined } from "./client.mjs";
 import { Fault, done, within } from "./fault.mjs";
-import { WALKED, Walk, hears } from "./wire.mjs";
+import { WALKED, WHOSE_AT, Walk, hears } from "./wire.mjs";
 
 // The sizes of the header's structs, and where their fields lie.
 const TABLE = { size: 32, last: 0, given: 8, count: 16, packetSize: 24 };
 const SEAT = { size: 72, number: 40, holder: 48, asked: 56, place: 64 };
 const ASKED = { size: 16, number: 0, request: 8 }, WHOSE = { size: 16, lease: 0, request: 8 }, FULL = 1, TELL = 10;
 const LENT = { size: 24, lease: 0, number: 8, had: 16 };
-// Where a seat is: lent, being cleaned, kept for a ticket, draining.
-const LENT_NOW = 1, CLEANING = 2, KEPT = 3, DRAINS = 4, MOST_SEATS = 1 << 20, OUT_OF_RANGE = 23, WANTS_BYTES = 24, NOT_NOW = 36;
+// Where a seat is: lent, being cleaned, kept for a ticket.
+const LENT_NOW = 1, KEPT = 3, MOST_SEATS = 1 << 20, OUT_OF_RANGE = 23, WANTS_BYTES = 24, NOT_NOW = 36;
 
 /**
  * Where a connection is that nobody holds any more: it may be lent again; it drains until its acknowledgement has come; or it is
@@ -172,13 +172,13 @@ export class Service {
    * ACKNOWLEDGED.
    */
   hear(number, packet) {
-    const key = id(number), seat = this.#seat("tds_service_at", key), view = memory.view(), place = view.getUint8(seat + SEAT.place);
+    const key = id(number);
+    this.#seat("tds_service_at", key);
     if (packet.length < HEADER) throw new Fault(WANTS_BYTES);
-    const lease = place === LENT_NOW || place === CLEANING ? view.getBigUint64(seat + SEAT.holder, true) : 0n;
-    const request = view.getBigUint64(seat + SEAT.asked, true), walk = this.#walkOf(key);
-    const heard = hears(this.#seat("tds_service_at", key), walk, packet.subarray(HEADER), packet[1] & 1);
-    if (place === DRAINS) this.drained(key);
-    return { ...heard, lease, request };
+    const table = [BigInt(this.#at), BigInt(this.#at + TABLE.size), BigInt(this.#most), key];
+    const { answer, tokens, at } = hears(
+      (...words) => calls.tds_service_hear(...table, ...words), this.#walkOf(key), packet.subarray(HEADER), packet[1] & 1, [WHOSE_AT]);
+    return { answer, tokens, ...whoseAt(at + WHOSE_AT) };
   }
 
   #walkOf(key) {

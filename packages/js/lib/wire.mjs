@@ -3,7 +3,9 @@
 import { calls, memory } from "./calls.mjs";
 import { FIRST_FAULT, Fault, Refused, within } from "./fault.mjs";
 
-const COUNT = 8, AT_ONCE = 256, TELL = 10, MORE = 1;
+const COUNT = 8, WHOSE = 16, AT_ONCE = 256, TELL = 10, MORE = 1;
+/** Where a table writes whose it is, in what `hears` lends. */
+export const WHOSE_AT = 2 * COUNT;
 /** Where a walk and its memory lie, for a client that hears by it. */
 export const BOTH = Symbol("both");
 
@@ -73,21 +75,21 @@ export class Walk {
 }
 
 /**
- * Lets the client that lies there hear what ends in these data, by this walk: {answer, tokens}. A packet goes in in one call for 256
- * tokens. A Fault has in `tokens` what was told before it.
+ * Hears what ends in these data by this walk: {answer, tokens}. `call` is that of a client or of a table, to which the words behind are
+ * handed, for 256 tokens at once; behind them come `more`. A Fault has in `tokens` what was told before it.
  */
-export function hears(client, walk, data, ends) {
-  const room = AT_ONCE * WALKED.size, at = memory.lend(2 * COUNT + room + data.length);
-  const found = at + 2 * COUNT, bytes = found + room, tokens = [], [value, own] = walk[BOTH];
+export function hears(call, walk, data, ends, more = []) {
+  const room = AT_ONCE * WALKED.size, at = memory.lend(2 * COUNT + WHOSE + room + data.length);
+  const found = at + 2 * COUNT + WHOSE, bytes = found + room, tokens = [], [value, own] = walk[BOTH];
   const [first, count, taken, most, last] = [BigInt(found), BigInt(at + COUNT), BigInt(at), BigInt(AT_ONCE), Number(ends)];
+  const behind = more.map(it => BigInt(at + it));
   memory.bytes(bytes, data.length).set(data);
   for (let passed = 0, answer = TELL; ;) {
-    answer = calls.tds_client_hear(
-      BigInt(client), value, own, BigInt(bytes + passed), BigInt(data.length - passed), last, taken, first, most, count);
+    answer = call(value, own, BigInt(bytes + passed), BigInt(data.length - passed), last, taken, first, most, count, ...behind);
     const view = memory.view();
     for (let place = 0, all = memory.count(at + COUNT); place < all; place++) tokens.push(walkedIn(view, found + place * WALKED.size));
     if (answer !== TELL) {
-      if (answer < FIRST_FAULT) return { answer: answer || MORE, tokens };
+      if (answer < FIRST_FAULT) return { answer: answer || MORE, tokens, at };
       throw Object.assign(walk.fault(answer), { tokens });
     }
     passed += memory.count(at);

@@ -5,10 +5,11 @@ ghost use Rattle.std.specs.Prelude.{◌≡◌, ◌≤◌, [], Some, drop, length
 ghost use Rattle.tds_client.specs.Parts.{session_from};
 ghost use Rattle.tds_wire.specs.Reading.{Reading};
 ghost use Rattle.tds_c.specs.declared.wire.hearing.Came.{Came as AnyCame};
-ghost use Rattle.tds_c.specs.declared.wire.token.TdsWireToken.{TdsWireToken as AnyShown};
-ghost use Rattle.tds_c.specs.Hearing.{HasHeard, HearsAll, HearsWhole, Place, Ready, StopsBehind, came_number, fault_number, reading_from};
-ghost use Rattle.tds_c.specs.Rooms.{Room};
-ghost use Rattle.tds_c.specs.Wire.{truth};
+ghost use Rattle.tds_walk.specs.declared.token.TdsWireToken.{TdsWireToken as AnyShown};
+ghost use Rattle.tds_c.specs.Hearing.{HasHeard, HearsAll, HearsWhole, Place, Ready, StopsBehind, came_number, fault_number};
+ghost use Rattle.tds_walk.specs.WireCalls.{reading_from};
+ghost use Rattle.tds_walk.specs.Rooms.{Room};
+ghost use Rattle.tds_walk.specs.Wire.{truth};
 
 mod listening;
 mod walked;
@@ -18,10 +19,9 @@ use crate::buffer::behind;
 use crate::client::TdsClient;
 use crate::wire::hearing::listening::{end_message, hear_token};
 use crate::wire::hearing::walked::hear_walked;
-use crate::wire::token::TdsWireToken;
-use crate::wire::walk::TdsWire;
 use tds_client::{ClientFault, ClientParts, Taken};
 use tds_listen::ListenFault;
+use tds_walk::{TdsWire, TdsWireToken};
 use tds_wire::{Memory, whole_token};
 
 /// What came of a packet's data.

@@ -148,6 +148,9 @@ _CALLS = {
     "tds_service_finish": (*_TABLE, c_uint64, _ROOM, c_size_t, _ROOM, c_size_t, _COUNT),
     "tds_service_cancel": (*_TABLE, c_uint64, _ROOM, c_size_t, _COUNT),
     "tds_service_came": (*_TABLE, c_uint64, POINTER(WireToken), POINTER(WhoseValue)),
+    "tds_service_hear": (
+        *_TABLE, c_uint64, _WALK, _MEMORY, _BYTES, c_size_t, c_uint8, _COUNT, _ROOM, c_size_t, _COUNT, POINTER(WhoseValue),
+    ),
     "tds_service_message_ended": (*_TABLE, c_uint64, c_uint8, POINTER(WhoseValue)),
     "tds_service_give_back": (*_TABLE, c_uint64, _ROOM, c_size_t, _COUNT, _NUMBER),
     "tds_service_drained": (*_TABLE, c_uint64),

@@ -2,11 +2,12 @@
 
 from ctypes import byref, c_char_p, c_size_t, c_uint8, c_uint16
 from enum import IntEnum
+from functools import partial
 from typing import List, NamedTuple, Optional, Tuple
 
 from ._library import LIBRARY, ClientValue, Packet
 from .fault import Fault
-from .wire import AT_ONCE, ROOM, Tells, Walk, Walked, address_of
+from .wire import Tells, Walk, Walked, hears
 
 _MESSAGE_MOST = 4022
 _NO_NEXT = 255
@@ -207,19 +208,8 @@ class Client:
 
     def _hear(self, data: bytes, at: int, ends: int) -> Heard:
         # It is `walk.tokens`, `heard` and `message_ended`, for 256 tokens in one call.
-        walk, room, told, answer = self.walk, ROOM, [], _TELL
-        first, client, both = address_of(data), byref(self._value), (byref(walk._value), byref(walk._memory))
-        taken, count = byref(room.taken), byref(room.count)
-        while answer == _TELL:
-            answer = LIBRARY.tds_client_hear(
-                client, *both, c_char_p(first + at), len(data) - at, ends, taken, room.tokens, AT_ONCE, count)
-            told += room.told(room.count.value)
-            at += room.taken.value
-        if answer < _FIRST_FAULT:
-            return Heard(Answer(answer or Answer.MORE), told)
-        fault = walk.fault(answer)
-        fault.tokens = told
-        raise fault
+        answer, told = hears(partial(LIBRARY.tds_client_hear, byref(self._value)), self.walk, data, at, ends)
+        return Heard(Answer(answer), told)
 
     def message_ended(self) -> Answer:
         """Hears that a message has ended, behind the packet whose status has bit 1: MORE, FINISHED or ACKNOWLEDGED."""

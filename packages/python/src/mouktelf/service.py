@@ -3,16 +3,17 @@
 from ctypes import byref, c_size_t, c_uint8, c_uint64
 from dataclasses import dataclass
 from enum import IntEnum
+from functools import partial
 from typing import Dict, List, NamedTuple, Optional, Tuple
 
 from ._library import LIBRARY, AskedValue, ClientValue, LentValue, SeatValue, ServiceValue, WhoseValue, WireToken
 from .client import Answer, Client, MessageKind
 from .fault import Fault
-from .wire import TOKEN, Walk, Walked
+from .wire import TOKEN, Walk, Walked, hears
 
-_FULL, _TELL, _FIRST_FAULT, _OUT_OF_RANGE, _NOT_NOW, _ATTENTION_MOST, _HEADER = 1, 10, 20, 23, 36, 16, 8
-# Where a seat is: lent, being cleaned, kept for a ticket, draining.
-_LENT, _CLEANING, _KEPT, _DRAINS = 1, 2, 3, 4
+_FULL, _TELL, _FIRST_FAULT, _OUT_OF_RANGE, _WANTS_BYTES, _NOT_NOW, _ATTENTION_MOST, _HEADER = 1, 10, 20, 23, 24, 36, 16, 8
+# Where a seat is: lent, being cleaned, kept for a ticket.
+_LENT, _CLEANING, _KEPT = 1, 2, 3
 
 
 class Rest(IntEnum):
@@ -169,12 +170,11 @@ class Service:
     def hear(self, number: int, packet: bytes) -> Came:
         """Hears one packet on the connection of this number, whoever holds it, as `Client.hear`; a connection that drained is free
         behind ACKNOWLEDGED."""
-        seat = self._seat(LIBRARY.tds_service_at, number)
-        lease, request, drains = seat.holder if seat.place in (_LENT, _CLEANING) else 0, seat.asked, seat.place == _DRAINS
-        heard = self.connection(number).hear(packet)
-        if drains:
-            self.drained(number)
-        return Came(lease, request, *heard)
+        if len(packet) < _HEADER:
+            raise Fault(_WANTS_BYTES)
+        whose, table = WhoseValue(), (byref(self._value), self._seats, self._most, _number(number))
+        answer, told = hears(partial(LIBRARY.tds_service_hear, *table), self.walk(number), bytes(packet), _HEADER, packet[1] & 1, byref(whose))
+        return Came(whose.lease, whose.request, Answer(answer), told)
 
     def logged_in(self, number: int, size: int, walk: Optional[Walk] = None) -> None:
         """The connection of this number, which is new, is logged in, and the login agreed on packets of this size; `walk` is the one

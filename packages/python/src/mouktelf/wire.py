@@ -6,12 +6,12 @@ from ctypes import byref, c_char_p, c_size_t, c_uint8, c_void_p, cast
 from enum import IntEnum
 from functools import partial
 from operator import itemgetter
-from typing import Iterator, NamedTuple, Optional, Tuple
+from typing import Iterator, List, NamedTuple, Optional, Tuple
 
 from ._library import LIBRARY, WireMemory, WireWalk
 from .fault import Fault, Refused
 
-_ENDED, _MORE = 0, 1
+_ENDED, _MORE, _TELL, _FIRST_FAULT = 0, 1, 10, 20
 AT_ONCE = 256
 # struct tds_wire_token, all of it.
 TOKEN = struct.Struct("=8QiIHH6B6x")
@@ -127,6 +127,23 @@ class Walk:
     def restart(self) -> None:
         """Begins anew, before the first token of the next message."""
         LIBRARY.tds_wire_restart(byref(self._value), byref(self._memory))
+
+
+def hears(call, walk: Walk, data: bytes, at: int, ends: int, *whose) -> Tuple[int, List[Walked]]:
+    """Lets a client or a table hear what ends in these data from a place on, by this walk and by `call`, in one call for 256 tokens:
+    what it answers, and the tokens that are told. A Fault has those that were told before it."""
+    room, told, answer = ROOM, [], _TELL
+    first, value, memory = address_of(data), byref(walk._value), byref(walk._memory)
+    taken, count = byref(room.taken), byref(room.count)
+    while answer == _TELL:
+        answer = call(value, memory, c_char_p(first + at), len(data) - at, ends, taken, room.tokens, AT_ONCE, count, *whose)
+        told += room.told(room.count.value)
+        at += room.taken.value
+    if answer < _FIRST_FAULT:
+        return answer or _MORE, told
+    fault = walk.fault(answer)
+    fault.tokens = told
+    raise fault
 
 
 def address_of(data: bytes) -> int:

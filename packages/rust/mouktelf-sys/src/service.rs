@@ -1,6 +1,6 @@
 //! The table of connections.
 
-use crate::{Client, WireToken};
+use crate::{Client, Wire, WireMemory, WireToken};
 
 #[repr(C)]
 #[derive(Clone, Copy, Default, Debug)]
@@ -55,6 +55,8 @@ extern "C" {
     pub fn tds_service_finish(service: &Service, seats: *mut Seat, most: usize, lease: u64, kept: *const u8, waiting: usize, out: *mut u8, room: usize, count: &mut usize) -> u8;
     pub fn tds_service_cancel(service: &Service, seats: *mut Seat, most: usize, lease: u64, out: *mut u8, room: usize, count: &mut usize) -> u8;
     pub fn tds_service_came(service: &Service, seats: *mut Seat, most: usize, number: u64, token: &WireToken, whose: &mut Whose) -> u8;
+    #[allow(clippy::too_many_arguments)]
+    pub fn tds_service_hear(service: &Service, seats: *mut Seat, most: usize, number: u64, walk: &mut Wire, memory: &mut WireMemory, bytes: *const u8, length: usize, ends: u8, taken: &mut usize, tokens: *mut WireToken, room: usize, count: &mut usize, whose: &mut Whose) -> u8;
     pub fn tds_service_message_ended(service: &Service, seats: *mut Seat, most: usize, number: u64, cut: u8, whose: &mut Whose) -> u8;
     #[allow(clippy::too_many_arguments)]
     pub fn tds_service_give_back(service: &mut Service, seats: *mut Seat, most: usize, lease: u64, out: *mut u8, room: usize, count: &mut usize, number: &mut u64) -> u8;

@@ -10,6 +10,7 @@ mod service;
 mod streams;
 mod strict;
 mod tokens;
+pub mod values;
 mod wire;
 
 use mouktelf_sys as raw;

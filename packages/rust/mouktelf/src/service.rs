@@ -1,6 +1,6 @@
 //! A table of connections that callers share, in front of any server: who holds each one, and what becomes of it.
 
-use crate::streams::hears;
+use crate::streams::{each_room, AT_ONCE};
 use crate::{raw, Cancelled, Client, Fault, MessageKind, Taken, Told, Walk, Walked};
 use std::collections::HashMap;
 use std::mem::take;
@@ -201,16 +201,16 @@ impl Service {
     /// request, which are told what is appended. A connection that drained is free behind `Acknowledged`.
     pub fn hear(&mut self, number: u64, packet: &[u8], told: &mut Vec<Walked>) -> Result<(Taken, Whose), Fault> {
         let (head, data) = packet.split_at(if packet.len() < 8 { return Err(Fault::NoPacket) } else { 8 });
-        let (index, before) = (self.at(number)?, told.len());
-        let seat = &mut self.seats[index];
-        let (lease, drains) = (matches!(seat.place, 1 | 2).then_some(seat.holder), seat.place == 4);
-        let mut whose = Whose { lease, request: seat.asked, is_told: false };
-        let taken = hears(&mut seat.client, self.walks.entry(number).or_default(), data, head[1] & 1 == 1, told)?;
-        whose.is_told = told.len() > before;
-        if drains {
-            self.drained(number)?;
-        }
-        Ok((taken, whose))
+        self.at(number)?;
+        let (before, ends, mut whose) = (told.len(), head[1] & 1, raw::Whose::default());
+        let (value, seats, most, walk) = (&self.value, self.seats.as_mut_ptr(), self.seats.len(), self.walks.entry(number).or_default());
+        let taken = each_room(data, told, |data, found, taken, count| {
+            // SAFETY: as in `lease`, and of one slice and one array more; walk and memory belong together.
+            unsafe {
+                raw::tds_service_hear(value, seats, most, number, &mut walk.value, &mut walk.memory, data.as_ptr(), data.len(), ends, taken, found.as_mut_ptr(), AT_ONCE, count, &mut whose)
+            }
+        })?;
+        Ok((taken, whose_of(whose, told.len() > before)))
     }
 
     /// The connection of this number, which is new, is logged in, and the login agreed on packets of this size; `walk` is the one

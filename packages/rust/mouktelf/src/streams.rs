@@ -4,7 +4,7 @@ use crate::wire::walked;
 use crate::{done, raw, Client, Fault, Taken, Walk, Walked};
 
 /// How many tokens are heard in one call of the library.
-const AT_ONCE: usize = 64;
+pub(crate) const AT_ONCE: usize = 64;
 
 /// Which message a request is.
 #[derive(Clone, Copy, PartialEq, Eq, Debug)]
@@ -118,14 +118,21 @@ impl Client {
 }
 
 /// `Walk::next`, `heard` and `message_ended` in one, for many tokens in one call.
-pub(crate) fn hears(raw: &mut raw::Client, walk: &mut Walk, mut data: &[u8], ends: bool, told: &mut Vec<Walked>) -> Result<Taken, Fault> {
+pub(crate) fn hears(raw: &mut raw::Client, walk: &mut Walk, data: &[u8], ends: bool, told: &mut Vec<Walked>) -> Result<Taken, Fault> {
+    each_room(data, told, |data, found, taken, count| {
+        // SAFETY: each pointer and length is that of one slice or array; walk and memory belong together.
+        unsafe {
+            raw::tds_client_hear(raw, &mut walk.value, &mut walk.memory, data.as_ptr(), data.len(), ends.into(), taken, found.as_mut_ptr(), AT_ONCE, count)
+        }
+    })
+}
+
+/// Hears all of these data by `call`, which has room for so many tokens: what it answers at last.
+pub(crate) fn each_room(mut data: &[u8], told: &mut Vec<Walked>, mut call: impl FnMut(&[u8], &mut [raw::WireToken; AT_ONCE], &mut usize, &mut usize) -> u8) -> Result<Taken, Fault> {
     let mut found = [raw::WireToken::default(); AT_ONCE];
     loop {
         let (mut taken, mut count) = (0, 0);
-        // SAFETY: each pointer and length is that of one slice or array; walk and memory belong together.
-        let answer = unsafe {
-            raw::tds_client_hear(raw, &mut walk.value, &mut walk.memory, data.as_ptr(), data.len(), ends.into(), &mut taken, found.as_mut_ptr(), AT_ONCE, &mut count)
-        };
+        let answer = call(data, &mut found, &mut taken, &mut count);
         told.extend(found[..count].iter().map(walked));
         data = &data[taken..];
         match answer {

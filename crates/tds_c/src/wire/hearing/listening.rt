@@ -10,11 +10,11 @@ ghost use Rattle.tds_listen.specs.Faults.{broken_at_end};
 ghost use Rattle.tds_listen.specs.Hearing.{heard_end, told_if};
 ghost use Rattle.tds_listen.specs.Signs.{sign_of};
 ghost use Rattle.tds_wire.specs.Reading.{Reading, is_between};
-ghost use Rattle.tds_c.specs.Hearing.{Puts};
+ghost use Rattle.tds_walk.specs.WireTokens.{Puts};
 
-use crate::wire::token::{TdsWireToken, put_shown};
 use tds_client::{ClientFault, ClientParts, Rules, StageParts, Taken};
 use tds_listen::{ListenFault, sign_of};
+use tds_walk::{TdsWireToken, put_shown};
 use tds_wire::Token;
 
 /// The connection is lost: the client is broken, unless it is broken already.

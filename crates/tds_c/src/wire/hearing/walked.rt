@@ -8,17 +8,18 @@ ghost use Rattle.tds_listen.specs.Hearing.{next_heard};
 ghost use Rattle.tds_wire.specs.Lent.{reading_of};
 ghost use Rattle.tds_wire.specs.Reading.{Reading};
 ghost use Rattle.tds_wire.specs.declared.told.Token.{Token as AnyToken};
-ghost use Rattle.tds_c.specs.Hearing.{HasHeard, HaltsBehind, HearsFrom, NothingDone, Place, Puts, StopsBehind, TellsFault, reading_from};
-ghost use Rattle.tds_c.specs.Wire.{truth};
+ghost use Rattle.tds_c.specs.Hearing.{HasHeard, HaltsBehind, HearsFrom, NothingDone, Place, StopsBehind, TellsFault};
+ghost use Rattle.tds_walk.specs.WireCalls.{reading_from};
+ghost use Rattle.tds_walk.specs.WireTokens.{Puts};
+ghost use Rattle.tds_walk.specs.Wire.{truth};
 
 use crate::buffer::behind;
 use crate::client::TdsClient;
 use crate::wire::hearing::Came;
 use crate::wire::hearing::listening::{end_message, hear_token, lose};
-use crate::wire::token::TdsWireToken;
-use crate::wire::walk::TdsWire;
 use tds_client::ClientParts;
 use tds_listen::ListenFault;
+use tds_walk::{TdsWire, TdsWireToken};
 use tds_wire::{LentWalk, Memory};
 
 /// Why no more tokens were heard, where no one is at fault.

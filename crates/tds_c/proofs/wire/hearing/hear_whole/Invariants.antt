@@ -1,7 +1,8 @@
 use Rattle.std.proofs.Common.{◌≡◌, ◌-◌, ◌≤◌, [], length, drop, Some}
 use Rattle.tds_client.specs.Parts.{session_from}
 use Rattle.tds_wire.specs.Reading.{Reading}
-use Rattle.tds_c.specs.Hearing.{HasHeard, Ready, reading_from}
+use Rattle.tds_c.specs.Hearing.{HasHeard, Ready}
+use Rattle.tds_walk.specs.WireCalls.{reading_from}
 use Rattle.tds_c.proofs.wire.hearing.hear_whole.Given as goal
 
 abbrev pub invariant-tokens : goal.invariant-tokens

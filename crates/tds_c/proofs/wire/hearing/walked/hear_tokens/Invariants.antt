@@ -1,7 +1,7 @@
 use Rattle.std.proofs.Common.{◌≡◌, ◌-◌, ◌≤◌, List, [], length, drop}
 use Rattle.tds_client.specs.Parts.{session_from}
 use Rattle.tds_wire.specs.Lent.{reading_of}
-use Rattle.tds_c.specs.declared.wire.token.TdsWireToken.{TdsWireToken}
+use Rattle.tds_walk.specs.declared.token.TdsWireToken.{TdsWireToken}
 use Rattle.tds_c.specs.Hearing.{HasHeard, Place}
 use Rattle.tds_c.proofs.wire.hearing.walked.hear_tokens.Given as goal
 

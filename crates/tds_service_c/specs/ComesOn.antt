@@ -1,0 +1,84 @@
+-- What comes on one seat, before it is put back in the table: what its client hears of a walk's findings, one after the other.
+use Rattle.std.specs.Prelude.{◌≡◌, ℕ, ◌≤◌, Bool, true, false, List, [], length, slice_set, Result, Ok, Err}
+use Rattle.tds_listen.specs.declared.fault.ListenFault.{ListenFault}
+use Rattle.tds_wire.specs.declared.told.Token.{Token}
+use Rattle.tds_wire.specs.Reading.{Found, Inside, Reading, Refuses, Sees}
+use Rattle.tds_service.specs.Line as line
+use Rattle.tds_service.specs.Line.{Answer, Stage}
+use Rattle.tds_service.specs.Parts.{Part}
+use Rattle.tds_service.specs.Service.{Service, drained, has_number, lease_in}
+use Rattle.tds_service.specs.Ties.{Hears, part_of}
+use Rattle.tds_walk.specs.declared.token.TdsWireToken.{TdsWireToken}
+use Rattle.tds_walk.specs.Rooms.{Room}
+use Rattle.tds_service_c.specs.declared.packet.Halt.TheVariants as halts
+use Rattle.tds_service_c.specs.declared.packet.walked.Pause.{Pause}
+use Rattle.tds_service_c.specs.declared.packet.walked.Pause.TheVariants as pauses
+use Rattle.tds_service_c.specs.declared.plain.TdsSeat.{TdsSeat}
+use Rattle.tds_service_c.specs.declared.plain.TdsService.{TdsService}
+use Rattle.tds_service_c.specs.Clients.{apart}
+use Rattle.tds_service_c.specs.Packet.{HasPassed, Now, Owner, Reached, PacketStops, now_at}
+use Rattle.tds_service_c.specs.Plain.{line_of, place_of, table_of, used}
+use Rattle.tds_service_c.specs.Table.{FirstMet}
+
+-- Its client hears a part, answers so, and these tokens are told; one that drains is put where it is then.
+pub record HeardOn (part : Part Token) (c z : TdsSeat) (answer : Answer) (tokens : List Token) : Type 0 where
+  pub hears : Hears part (line_of c) (line_of z) answer tokens
+  pub place_is : place_of z ≡ drained (place_of c) (line_of z).stage
+  pub number_is : z.number ≡ c.number
+  pub apart_is : apart z.client ≡ apart c.client
+
+-- What the walker finds next is heard on it; bytes that end no token are not.
+abbrev pub MovesOn : Found → (c z : TdsSeat) → Reading → List ℕ → List Token → Type 0
+MovesOn (Sees token r rest) c z reading left told = (reading ≡ r) × (left ≡ rest) × HeardOn (part_of (Sees token r rest)) c z line.More told
+MovesOn (Inside r) c z reading left told = (reading ≡ r) × (left ≡ []) × (z ≡ c) × (told ≡ [])
+MovesOn (Refuses refusal) c z reading left told = ⊥
+
+-- Its client is broken by that.
+abbrev pub BreaksOn : Found → (c z : TdsSeat) → ListenFault → Type 0
+BreaksOn (Sees token r rest) c z fault = HeardOn (part_of (Sees token r rest)) c z (line.Fault fault) []
+BreaksOn (Inside r) c z fault = ⊥
+BreaksOn (Refuses refusal) c z fault = HeardOn (part_of (Refuses refusal)) c z (line.Fault fault) []
+
+-- What stays, whatever comes.
+pub record KeptOn (c z : TdsSeat) : Type 0 where
+  pub number_is : z.number ≡ c.number
+  pub asked_is : z.asked ≡ c.asked
+  pub lease_is : lease_in (place_of z) ≡ lease_in (place_of c)
+  pub apart_is : apart z.client ≡ apart c.client
+
+abbrev pub is_reading : Stage → Bool
+is_reading line.Idle = false
+is_reading (line.Sending begun) = false
+is_reading line.Reading = true
+is_reading line.Cancelling = false
+is_reading (line.Broken fault) = false
+
+-- ---- Where it stands
+
+-- A table's array, and the first connection of a number in it.
+pub record Spot : Type 0 where
+  pub service : TdsService
+  pub seats : List TdsSeat
+  pub index : ℕ
+  pub number : ℕ
+
+pub record IsSpot (s : Spot) : Type 0 where
+  pub fits : s.service.count ≤ length s.seats
+  pub met : FirstMet (has_number s.number) (used s.service s.seats) s.index
+
+-- The table with this seat there.
+abbrev pub table_with : Spot → TdsSeat → Service
+table_with s c = table_of s.service (slice_set s.seats s.index c)
+
+abbrev pub owner_on : Spot → TdsSeat → Owner
+owner_on s c = record { number = s.number; lease = lease_in (place_of c); request = c.asked }
+
+-- Why no more tokens were heard: the machine and the walker stand there now, or are broken by what comes next.
+abbrev pub PausesAt : Owner → Reached → Now → Room TdsWireToken → Result Pause ListenFault → Type 0
+PausesAt o last now room (Ok pauses.Full) = PacketStops o last now false room halts.Full
+PausesAt o last now room (Ok pauses.Through) = (last.rest ≡ []) × (now ≡ now_at last)
+PausesAt o last now room (Err fault) = PacketStops o last now false room (halts.Broken fault)
+
+abbrev pub PausesBehind : Owner → Reached → List ℕ → Now → Room TdsWireToken → Result Pause ListenFault → Type 0
+PausesBehind o first rest now room result =
+    (last : Reached) × HasPassed o first last room × (last.rest ≡ rest) × PausesAt o last now room result

@@ -1,0 +1,15 @@
+use Rattle.std.proofs.Common.{rules}
+use Rattle.tds_walk.proofs.Walks.{IsReadyValue, stands_ready}
+use Rattle.tds_walk.proofs.calls.is_between.Goals as goal
+
+pub returns-then-is_ready : goal.returns-then-is_ready
+returns-then-is_ready c =
+    let p = c.args.walk.now in
+    let is : IsReadyValue p = record {
+      inside = c.is_ready.ensures.inside (search rules);
+      due = c.is_ready.ensures.due (search rules);
+      whole = c.is_ready.ensures.whole (search rules);
+      head = c.is_ready.ensures.head (search rules);
+      passed = c.is_ready.ensures.passed (search rules);
+    } in
+    stands_ready p c.args.memory.now is

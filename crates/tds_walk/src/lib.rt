@@ -1,0 +1,16 @@
+//! A walk over an answer's bytes, and each token that ends in them, as plain values: what crosses to C.
+//!
+//! `include/tds_wire.h` says what a caller of the exports owes; these stand in `tds_c`.
+#![tactic(auto)]
+
+mod calls;
+mod due;
+mod fields;
+mod token;
+mod walk;
+mod whole;
+
+pub use calls::{begin, is_between, next, restart};
+pub use due::TdsWireDue;
+pub use token::{TdsWirePlace, TdsWireToken, put_shown};
+pub use walk::{TdsWire, TdsWireInside, TdsWireRefusal};
