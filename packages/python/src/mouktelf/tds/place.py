@@ -4,7 +4,7 @@ from typing import Any, List, Optional, Sequence, Tuple, Type
 
 from . import errors
 from .answer import Answer, ResultSet
-from .rows import Columns, Row, readable, returned
+from .rows import Columns, Row, columns_of, readable, returned
 from .spelling import Spelling, output
 
 
@@ -58,7 +58,7 @@ class Place:
             return None
         self._set = answer.sets.popleft()
         if self._set.columns:
-            self._columns = Columns(self._set.columns)
+            self._columns = columns_of(self._set.columns)
         else:
             self._raise_error()
         return True

@@ -1,5 +1,6 @@
 """Columns and rows: what a COLMETADATA says, and values from the bytes of a row (MS-TDS 2.2.7.4, 2.2.7.20, 2.2.7.15)."""
 
+import functools
 from typing import Any, Callable, List, NamedTuple, Tuple
 
 from .. import values
@@ -75,6 +76,12 @@ class Columns:
             value, at = (None, at) if nulls >> place & 1 else take(row, at)
             found.append(value)
         return tuple(found)
+
+
+@functools.lru_cache(maxsize=256)
+def columns_of(token: bytes) -> Columns:
+    """The columns of a COLMETADATA: those of a query that is asked again are read once."""
+    return Columns(token)
 
 
 def returned(token: bytes) -> Tuple[int, Any]:
