@@ -76,7 +76,7 @@ function drains() {
   const lent = service.lease();
   assert.deepEqual([lent.number, lent.had, ask(service, lent.lease)], [1n, true, 9]);
   const came = service.hear(1n, RESET);
-  assert.deepEqual([came.answer, came.lease, came.tokens.map(it => it.kind)], [Answer.FINISHED, lent.lease, [0xe3, 0xfd]]);
+  assert.deepEqual([came.answer, came.lease, came.tokens.map(it => it.kind)], [Answer.FINISHED, lent.lease, [0xfd]]);
 }
 
 function kept() {

@@ -80,7 +80,7 @@ def drains():
     assert (lent.number, lent.had) == (1, True)
     assert ask(service, lent.lease)[1] == 9
     came = service.hear(1, RESET)
-    assert came[:3] == (lent.lease, 2, Answer.FINISHED) and [it.kind for it in came.tokens] == [0xE3, 0xFD]
+    assert came[:3] == (lent.lease, 2, Answer.FINISHED) and [it.kind for it in came.tokens] == [0xFD]
 
 
 def kept():

@@ -95,6 +95,30 @@ SEATS = """    size_t of_most = service->count < most ? service->count + 1 : mos
 """
 SEATS_BACK = "    for (size_t k = 0; k < of_most; k++) one_from_tds_seat(&seats[k], of_seats + {size} * k);\n"
 
+# Token by token too.
+BY_HAND["tds_service_hear"] = SEATS.format(size=72) + """    _Alignas(16) unsigned char of_service[32] = {0}, of_walk[104] = {0}, of_memory[8706] = {0}, of_whose[16] = {0};
+    _Alignas(16) unsigned char image[88] = {0}, done[8] = {0}, counted[8] = {0};
+    uint8_t answer;
+    *taken = *count = 0;
+    one_to_tds_service(of_service, service);
+    one_to_tds_wire(of_walk, walk);
+    one_to_tds_wire_memory(of_memory, memory);
+    one_to_tds_whose(of_whose, whose);
+    do {
+        answer = core_tds_service_hear(ONE_BYTES(of_service), ONE_BYTES(of_seats), of_most, number, ONE_BYTES(of_walk), ONE_BYTES(of_memory),
+                                       ONE_BYTES(bytes), length, ends, ONE_BYTES(done), ONE_BYTES(image), *count < room, ONE_BYTES(counted),
+                                       ONE_BYTES(of_whose));
+        *taken += (size_t)one_read64(ONE_BYTES(done));
+        bytes += (size_t)one_read64(ONE_BYTES(done)), length -= (size_t)one_read64(ONE_BYTES(done));
+        if (one_read64(ONE_BYTES(counted)) != 0) one_from_tds_wire_token(&tokens[(*count)++], image);
+    } while (answer == TDS_TELL && *count < room);
+""" + SEATS_BACK.format(size=72) + """    free(of_seats);
+    one_from_tds_wire(walk, of_walk);
+    one_from_tds_wire_memory(memory, of_memory);
+    one_from_tds_whose(whose, of_whose);
+    return answer;
+"""
+
 OPENING = """/* ---- The layer: the header's calls over the core above.
  *
  * The core sees memory as the proved build for x86-64 does: a pointer and a length have 8 bytes, a number its low byte

@@ -35,6 +35,24 @@ pub fn word_of(name: Name) -> &'static str {
         Name::TakenUp => "taken-up",
         Name::Encrypted => "encrypted",
         Name::NotTds => "not-tds",
+        _ => later_word(name),
+    }
+}
+
+/// Of those from 30 on.
+fn later_word(name: Name) -> &'static str {
+    match name {
+        Name::OtherVersion => "other-version",
+        Name::Compute => "compute",
+        Name::AnswerUnasked => "answer-unasked",
+        Name::LentWhileAnswering => "lent-while-answering",
+        Name::ResetUnasked => "reset-unasked",
+        Name::WrongChange => "wrong-change",
+        Name::NoneEnded => "none-ended",
+        Name::IgnoreUnended => "ignore-unended",
+        Name::WrongDirection => "wrong-direction",
+        Name::AcknowledgementNotLast => "acknowledgement-not-last",
+        _ => "",
     }
 }
 
@@ -70,6 +88,24 @@ pub fn section_of(name: Name) -> &'static str {
         Name::TakenUp => "2.2.3",
         Name::Encrypted => "2.2.6.5",
         Name::NotTds => "2.2.3",
+        _ => later_section(name),
+    }
+}
+
+/// Of those from 30 on.
+fn later_section(name: Name) -> &'static str {
+    match name {
+        Name::OtherVersion => "2.2.6.4",
+        Name::Compute => "2.2.7.1",
+        Name::AnswerUnasked => "3.3.5",
+        Name::LentWhileAnswering => "3.2.5",
+        Name::ResetUnasked => "2.2.7.9",
+        Name::WrongChange => "2.2.7.9",
+        Name::NoneEnded => "2.2.7.9",
+        Name::IgnoreUnended => "2.2.3.1.2",
+        Name::WrongDirection => "2.2.3.1.1",
+        Name::AcknowledgementNotLast => "2.2.7.6",
+        _ => "",
     }
 }
 
@@ -100,12 +136,31 @@ pub fn sentence_of(name: Name) -> &'static str {
         Name::WrongToken => "bytes of an answer that are no tokens",
         Name::PacketSize => "a packet is longer than the size that was agreed on",
         Name::WrongLength => "the Length of a packet is under 8",
-        Name::WrongAttention => "an attention with data, or without end of message",
+        Name::WrongAttention => "an attention with data, or of a status other than 01",
         Name::UnfinishedMessage => "a message begins before the end of the one before",
         Name::UnclearChange => "an ENVCHANGE can't be read",
         Name::TakenUp => "begun in its middle: judged from here on",
         Name::Encrypted => "encrypted from here on",
         Name::NotTds => "no TDS from here on",
+        _ => later_sentence(name),
+    }
+}
+
+/// Of those from 30 on.
+fn later_sentence(name: Name) -> &'static str {
+    match name {
+        Name::OtherVersion => "TDS before 7.2, or 8.0: not judged from here on",
+        Name::Compute => "COMPUTE: not judged from here on",
+        Name::AnswerUnasked => "an answer, and nothing is to be answered",
+        Name::LentWhileAnswering => "lent before an answer or an acknowledgement has come",
+        Name::ResetUnasked => "ENVCHANGE 18, and no reset is owed",
+        Name::WrongChange =>
+            "a begin inside another transaction or of none, or an end of another one",
+        Name::NoneEnded => "a commit or rollback, and no transaction is open",
+        Name::IgnoreUnended => "a packet that is to be ignored doesn't end its message",
+        Name::WrongDirection => "a packet of a type of the other direction",
+        Name::AcknowledgementNotLast => "an acknowledgement isn't the last token of its message",
+        _ => "",
     }
 }
 

@@ -7,3 +7,4 @@ pub mod Heard
 pub mod Streams
 pub mod Asking
 pub mod Hearing
+pub mod Places

@@ -3,6 +3,7 @@
 ghost use Rattle.tds_walk.specs.WireCalls.{Begins, Feeds, Restarts, Stands};
 
 mod hearing;
+mod places;
 
 use tds_walk::{TdsWire, TdsWireToken, begin, is_between, next, restart};
 use tds_wire::Memory;

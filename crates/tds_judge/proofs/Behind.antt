@@ -11,9 +11,9 @@ use Rattle.tds_wire.specs.declared.told.ChangeValue.{ChangeValue}
 use Rattle.tds_wire.specs.declared.told.ChangeValue.TheVariants as changes
 use Rattle.tds_wire.specs.declared.told.Told.{Told}
 use Rattle.tds_wire.specs.declared.told.Told.TheVariants as told
-use Rattle.tds_judge.specs.Breaches.{asked_last, gone_last, has_asked_since, has_begun, has_ended, idle_since, is_lent, is_over, is_twice, is_unheard, size_told}
-use Rattle.tds_judge.specs.History.{Said, asks_of, further, is_acknowledged, is_cleared, is_out, is_underway, last_told, talk_behind}
-use Rattle.tds_judge.specs.Talking.{descriptor_of, has_begun as begun_at, has_ended as ended_at, keeps, owed, talk_by}
+use Rattle.tds_judge.specs.Breaches.{agreed_last, asked_last, gone_last, has_begun, idle_since, is_dated, is_lent, is_other_shown, is_over, is_plain_answer, is_unheard, size_told}
+use Rattle.tds_judge.specs.History.{Said, asks_of, further, has_asked_since, has_ended, is_acknowledged, is_cleared, is_out, is_twice, is_underway, last_told, left_underway, talk_behind, course_of}
+use Rattle.tds_judge.specs.Talking.{begun_as, descriptor_of, has_begun as begun_at, has_ended as ended_at, keeps, owed, talk_by}
 
 -- the talk that a history makes
 abbrev pub talk_as : List Said → Talk
@@ -34,7 +34,10 @@ talk_as past = record {
   acknowledges = is_acknowledged past;
   borrowed = is_lent past;
   since = idle_since past;
+  agreed = agreed_last past;
   most = size_told past;
+  dated = is_dated past;
+  other = is_other_shown past;
 }
 
 abbrev behind_of : List Said → Spot → Event → Talk
@@ -50,15 +53,15 @@ and_false false = refl
 
 -- ---- Changes
 
-changed : (b : Bool) (t : Talk) (time new : ℕ)
-    → (if b then begun_at t time new else ended_at t time)
-    ≡ record t { transaction = if b then transactions.Told new else transactions.Told 0; begun = b; begun_unheard = b && t.attention; ended = if b then 0 else descriptor_of t.transaction; since = time }
-changed true t time new = refl
-changed false t time new = refl
+changed : (b : Bool) (t : Talk) (time type new : ℕ)
+    → (if b then begun_at t time type new else ended_at t time)
+    ≡ record t { transaction = if b then begun_as type new else transactions.Told 0; begun = b; begun_unheard = b && t.attention; ended = if b then 0 else descriptor_of t.transaction; since = time }
+changed true t time type new = refl
+changed false t time type new = refl
 
 cleared : (b : Bool) (t : Talk)
-    → (if b then record t { reset_done = true } else record t { reset_done = true; transaction = transactions.Told 0; begun_unheard = false })
-    ≡ record t { reset_done = true; transaction = if b then t.transaction else transactions.Told 0; begun_unheard = if b then t.begun_unheard else false }
+    → (if b then record t { reset_done = true; borrowed = false } else record t { reset_done = true; borrowed = false; transaction = transactions.Told 0; begun_unheard = false })
+    ≡ record t { reset_done = true; borrowed = false; transaction = if b then t.transaction else transactions.Told 0; begun_unheard = if b then t.begun_unheard else false }
 cleared true t = refl
 cleared false t = refl
 
@@ -78,11 +81,11 @@ plainly t = ap (λ (b : Bool). record t { acknowledges = b }) (sym (or-false t.a
 by_change : (past : List Said) (spot : Spot) (kind start length type : ℕ) (value : ChangeValue)
     → talk_by (talk_as past) spot.time (said_token kind start length (told.Change (record { kind = type; value = value })))
     ≡ behind_of past spot (said_token kind start length (told.Change (record { kind = type; value = value })))
-unfolding talk_by asked_last is_underway is_out is_twice has_asked_since has_ended asks_of is_cleared last_told has_begun is_unheard gone_last is_over is_acknowledged is_lent idle_since size_told
+unfolding talk_by asked_last course_of is_out is_twice is_dated is_other_shown asks_of is_cleared last_told has_begun is_unheard gone_last is_over is_acknowledged is_lent idle_since agreed_last size_told
 by_change past spot kind start length type (changes.Transaction new old) =
-    changed ((type == 8) || (type == 11)) (talk_as past) spot.time new
+    changed ((type == 8) || (type == 11)) (talk_as past) spot.time type new
     ∙ plainly (record (talk_as past) {
-      transaction = if (type == 8) || (type == 11) then transactions.Told new else transactions.Told 0;
+      transaction = if (type == 8) || (type == 11) then begun_as type new else transactions.Told 0;
       begun = (type == 8) || (type == 11);
       begun_unheard = ((type == 8) || (type == 11)) && is_out past;
       ended = if (type == 8) || (type == 11) then 0 else descriptor_of (last_told past);
@@ -92,16 +95,17 @@ by_change past spot kind start length type changes.ResetDone =
     cleared (keeps (owed (is_cleared past) (asks_of past))) (talk_as past)
     ∙ plainly (record (talk_as past) {
       reset_done = true;
+      borrowed = false;
       transaction = if keeps (owed (is_cleared past) (asks_of past)) then last_told past else transactions.Told 0;
       begun_unheard = if keeps (owed (is_cleared past) (asks_of past)) then is_unheard past else false;
     })
-by_change past spot kind start length type (changes.PacketSize size) = plainly (record (talk_as past) { most = size })
+by_change past spot kind start length type (changes.PacketSize size) = plainly (record (talk_as past) { agreed = size })
 by_change past spot kind start length type (changes.Values new old) = plainly (talk_as past)
 by_change past spot kind start length type changes.Other = plainly (talk_as past)
 
 by_token : (past : List Said) (spot : Spot) (kind start length : ℕ) (x : Told)
     → talk_by (talk_as past) spot.time (said_token kind start length x) ≡ behind_of past spot (said_token kind start length x)
-unfolding talk_by asked_last is_underway is_out is_twice has_asked_since has_ended asks_of is_cleared last_told has_begun is_unheard gone_last is_over is_acknowledged is_lent idle_since size_told
+unfolding talk_by asked_last course_of is_out is_twice is_dated is_other_shown asks_of is_cleared last_told has_begun is_unheard gone_last is_over is_acknowledged is_lent idle_since agreed_last size_told
 by_token past spot kind start length (told.Done done) = refl
 by_token past spot kind start length (told.Change change) = by_change past spot kind start length change.kind change.value
 by_token past spot kind start length (told.Message message) = plainly (talk_as past)
@@ -113,24 +117,35 @@ by_token past spot kind start length told.Other = plainly (talk_as past)
 
 -- ---- The end of an answer
 
-ends : (b : Bool) (t : Talk) (time : ℕ)
-    → (if b then record t { underway = false; attention = false; doubled = t.doubled && t.attention; late = false; ended_since = false; since = time }
-    else record t { underway = false; late = t.late && not t.ended_since; ended_since = true; since = time })
-    ≡ record t { underway = false; attention = t.attention && not b; doubled = if b then t.doubled && t.attention else t.doubled; late = not b && (t.late && not t.ended_since); ended_since = not b; since = time }
-ends true t time =
-    ap (λ (a : Bool). record t { underway = false; attention = a; doubled = t.doubled && t.attention; late = false; ended_since = false; since = time }) (sym (and_false t.attention))
-ends false t time =
-    ap (λ (a : Bool). record t { underway = false; attention = a; late = t.late && not t.ended_since; ended_since = true; since = time }) (sym (and_true t.attention))
+ends : (b cut : Bool) (t : Talk) (time : ℕ)
+    → (if b
+    then record t { underway = if t.attention then t.late else t.doubled && t.underway; attention = false; doubled = t.doubled && t.attention; late = false; ended_since = false; since = time; most = t.agreed }
+    else record t { underway = false; late = t.late && not t.ended_since; ended_since = true; since = time; most = t.agreed; other = t.other || cut })
+    ≡ record t {
+      underway = left_underway b t.attention t.late t.doubled t.underway;
+      attention = t.attention && not b;
+      doubled = if b then t.doubled && t.attention else t.doubled;
+      late = not b && (t.late && not t.ended_since);
+      ended_since = not b;
+      since = time;
+      most = t.agreed;
+      other = if b then t.other else t.other || cut;
+    }
+ends true cut t time =
+    ap (λ (a : Bool). record t { underway = if t.attention then t.late else t.doubled && t.underway; attention = a; doubled = t.doubled && t.attention; late = false; ended_since = false; since = time; most = t.agreed })
+    (sym (and_false t.attention))
+ends false cut t time =
+    ap (λ (a : Bool). record t { underway = false; attention = a; late = t.late && not t.ended_since; ended_since = true; since = time; most = t.agreed; other = t.other || cut }) (sym (and_true t.attention))
 
 -- ---- An event
 
 said_next : (past : List Said) (spot : Spot) (event : Event) → talk_by (talk_as past) spot.time event ≡ behind_of past spot event
-unfolding talk_by asked_last is_underway is_out is_twice has_asked_since has_ended asks_of is_cleared last_told has_begun is_unheard gone_last is_over is_acknowledged is_lent idle_since size_told
+unfolding talk_by asked_last course_of is_out is_twice is_dated is_other_shown asks_of is_cleared last_told has_begun is_unheard gone_last is_over is_acknowledged is_lent idle_since agreed_last size_told
 said_next past spot (events.Says token) = by_token past spot token.kind token.start token.length token.told
-said_next past spot (events.Answered whole) = ends (is_acknowledged past) (talk_as past) spot.time
+said_next past spot (events.Answered whole) = ends (is_acknowledged past) (is_plain_answer past && (not whole && not (is_dated past))) (talk_as past) spot.time
 said_next past spot _ = refl
 
 pub talk_is : (past : List Said) → talk_behind past ≡ talk_as past
-unfolding further asked_last is_underway is_out is_twice has_asked_since has_ended asks_of is_cleared last_told has_begun is_unheard gone_last is_over is_acknowledged is_lent idle_since size_told
+unfolding further asked_last course_of is_out is_twice is_dated is_other_shown asks_of is_cleared last_told has_begun is_unheard gone_last is_over is_acknowledged is_lent idle_since agreed_last size_told
 talk_is [] = refl
 talk_is (x ∷ past) = ap (λ (t : Talk). talk_by t x.spot.time x.event) (talk_is past) ∙ said_next past x.spot x.event

@@ -8,10 +8,11 @@ use Rattle.tds_judge.specs.declared.talk.Talk.{Talk}
 use Rattle.tds_judge.specs.Findings.{number_of}
 use Rattle.tds_judge.specs.Framing.{Run, steps}
 use Rattle.tds_judge.specs.History.{Said, Tells, found_in, further, talk_behind}
-use Rattle.tds_judge.specs.Talking.{talk_by, told_by}
+use Rattle.tds_judge.specs.Talking.{talk_by}
+use Rattle.tds_judge.specs.Noting.{told_by}
 use Rattle.tds_judge.specs.Told.{Breaks, has_breach, is_breach, is_breach_number, is_broken}
-use Rattle.tds_judge.proofs.Appended.{appended}
-use Rattle.tds_judge.proofs.Notes.{breach_told}
+use Rattle.tds_judge.proofs.Each.{breach_told}
+use Rattle.tds_judge.proofs.Notes.{appended}
 use Rattle.tds_judge.proofs.Telling.{steps_so}
 
 or_or : (a b c : Bool) → a || (b || c) ≡ (a || b) || c

@@ -8,7 +8,6 @@ use Rattle.tds_wire.specs.declared.fault.Refusal.{Refusal}
 use Rattle.tds_wire.specs.declared.fault.WireFault.{WireFault}
 use Rattle.tds_wire.specs.declared.told.Token.{Token}
 use Rattle.tds_wire.specs.Bytes.{Went, Over, Within, Failed, onward, standing, then_piece}
-use Rattle.tds_wire.specs.Faults.{fault_number}
 use Rattle.tds_wire.specs.Reading.{Reading, Found, Sees, Inside as Amid, Refuses, found_by, found_on, front_of, inside as inside_of, next_token, refusal_at, then_found}
 use Rattle.tds_judge.specs.declared.finding.Direction.{Direction}
 use Rattle.tds_judge.specs.declared.finding.Direction.TheVariants.{ToServer, ToClient}
@@ -18,9 +17,8 @@ use Rattle.tds_judge.specs.declared.frame.Due.TheVariants as due
 use Rattle.tds_judge.specs.declared.frame.Inside.{Inside}
 use Rattle.tds_judge.specs.declared.frame.Inside.TheVariants as inside
 use Rattle.tds_judge.specs.declared.judge.Judge.{Judge}
-use Rattle.tds_judge.specs.declared.talk.Ending.TheVariants as endings
 use Rattle.tds_judge.specs.declared.talk.Event.TheVariants as events
-use Rattle.tds_judge.specs.Framing.{Run, due_by, frame_by, inside_by, run_of, said, step, steps, stops}
+use Rattle.tds_judge.specs.Framing.{Run, due_by, frame_by, inside_by, refused_as, run_of, said, step, steps, stops}
 use Rattle.tds_judge.specs.Runs.{failed, passed, place, refused_after, spot_at}
 use Rattle.tds_judge.proofs.Folding.{steps-append}
 use Rattle.tds_judge.proofs.Walks.{AtMost, Fails, FailsLater, StaysOn, cut, fails_later, most_onward, sees_fewer, stays_on}
@@ -206,7 +204,7 @@ walks_over cuts t b k bytes j told r s left token d i w e few less =
 
 fault_one : (t b : ℕ) (j : Judge) (told : List Finding) (r : Reading) (left offset : ℕ) (refusal : Refusal) → next_token r (b ∷ []) ≡ Refuses refusal
     → step ToClient t b (run_of (reading j r left offset) told)
-    ≡ stops (spot_at offset t) (events.Stops endings.WrongToken (fault_number refusal.fault)) (run_of (reading j r left (min 18446744073709551615 (offset + 1))) told)
+    ≡ stops (spot_at offset t) (refused_as refusal) (run_of (reading j r left (min 18446744073709551615 (offset + 1))) told)
 unfolding step due_by inside_by
 fault_one t b j told r left offset refusal e = rw e refl
 
@@ -257,7 +255,7 @@ some_later u bytes rest h =
 
 abbrev failing : ℕ → Judge → List Finding → Reading → ℕ → ℕ → ℕ → Refusal → Run
 failing t j told r left offset n refusal =
-    stops (spot_at (place offset n) t) (events.Stops endings.WrongToken (fault_number refusal.fault)) (run_of (reading j r left (min 18446744073709551615 (offset + n))) told)
+    stops (spot_at (place offset n) t) (refused_as refusal) (run_of (reading j r left (min 18446744073709551615 (offset + n))) told)
 
 fault_on : (f : Found) (t b n : ℕ) (bytes : List ℕ) (j : Judge) (told : List Finding) (r : Reading) (left offset : ℕ) (refusal : Refusal) (h : Fails r (b ∷ bytes))
     → next_token r (b ∷ []) ≡ f → then_found f bytes ≡ Refuses refusal → suc n ≡ max 1 (length (b ∷ bytes) - length h.rest) → nat_lt 1 left ≡ true
@@ -270,7 +268,7 @@ fault_on (Refuses first) t b zero bytes j told r left offset refusal h e f count
     let same : first ≡ refusal = cc in
     let all : left - 0 ≡ left = omega arith in
     fault_one t b j told r left offset first e
-    ∙ (ap (λ (x : Refusal). stops (spot_at offset t) (events.Stops endings.WrongToken (fault_number x.fault)) (run_of (reading j r left (min 18446744073709551615 (offset + 1))) told)) same
+    ∙ (ap (λ (x : Refusal). stops (spot_at offset t) (refused_as x) (run_of (reading j r left (min 18446744073709551615 (offset + 1))) told)) same
     ∙ ap (λ (x : ℕ). failing t j told r x offset 1 refusal) (sym all))
 fault_on (Refuses first) t b (suc n) bytes j told r left offset refusal h e f count lt next = absurd (omega (arith, count, at_once r b bytes first h e))
 
@@ -290,9 +288,9 @@ fault_steps cuts t b (suc n) (c ∷ bytes) j told r left offset refusal h e coun
     fault_on (next_token r (b ∷ [])) t b (suc n) (c ∷ bytes) j told r left offset refusal h refl (cuts r (b ∷ []) (c ∷ bytes) ∙ e) count (lt-ltb 1 left (omega (arith, less)))
     (λ (u : Reading) (f : next_token u (c ∷ bytes) ≡ Refuses refusal) (g : Further u (c ∷ bytes) h.rest).
     fault_steps cuts t c n bytes j told u (left - 1) (min 18446744073709551615 (offset + 1)) refusal g.fails f (omega (arith, count, some_later u (c ∷ bytes) h.rest g, ap length g.rest)) (omega (arith, less))
-    ∙ (ap (λ (x : ℕ). stops (spot_at x t) (events.Stops endings.WrongToken (fault_number refusal.fault)) (run_of (reading j r (left - 1 - n) (min 18446744073709551615 (min 18446744073709551615 (offset + 1) + suc n))) told)) p
-    ∙ (ap (λ (x : ℕ). stops (spot_at (place offset (suc (suc n))) t) (events.Stops endings.WrongToken (fault_number refusal.fault)) (run_of (reading j r x (min 18446744073709551615 (min 18446744073709551615 (offset + 1) + suc n))) told)) k
-    ∙ ap (λ (x : ℕ). stops (spot_at (place offset (suc (suc n))) t) (events.Stops endings.WrongToken (fault_number refusal.fault)) (run_of (reading j r (left - suc n) x) told)) m)))
+    ∙ (ap (λ (x : ℕ). stops (spot_at x t) (refused_as refusal) (run_of (reading j r (left - 1 - n) (min 18446744073709551615 (min 18446744073709551615 (offset + 1) + suc n))) told)) p
+    ∙ (ap (λ (x : ℕ). stops (spot_at (place offset (suc (suc n))) t) (refused_as refusal) (run_of (reading j r x (min 18446744073709551615 (min 18446744073709551615 (offset + 1) + suc n))) told)) k
+    ∙ ap (λ (x : ℕ). stops (spot_at (place offset (suc (suc n))) t) (refused_as refusal) (run_of (reading j r (left - suc n) x) told)) m)))
 
 -- how many bytes lead to a fault, by what is told of it
 counts_by : (went : Went) (r : Reading) (piece : List ℕ) (refusal : Refusal) → AtMost (length piece) went → r.refused ≡ None → onward r.walk piece ≡ went → found_by r piece went ≡ Refuses refusal
@@ -314,15 +312,15 @@ counts r piece refusal whole e few =
 pub walks_to_fault : (cuts : Cuts) (t b n : ℕ) (bytes : List ℕ) (j : Judge) (told : List Finding) (r : Reading) (left : ℕ) (refusal : Refusal)
     → j.server.due ≡ due.Data left → j.server.inside ≡ inside.Walked → j.walker ≡ Some r → r.refused ≡ None → r.start + r.passed ≤ 9223372036854775808
     → next_token r (b ∷ bytes) ≡ Refuses refusal → length (b ∷ bytes) < left → left ≤ 65535 → suc n ≡ min (refused_after (r.start + r.passed) refusal) (length (b ∷ bytes))
-    → stops (spot_at (place j.server.offset (suc n)) t) (events.Stops endings.WrongToken (fault_number refusal.fault)) (run_of (failed left (suc n) j) told) ≡ steps ToClient t (b ∷ take n bytes) (run_of j told)
+    → stops (spot_at (place j.server.offset (suc n)) t) (refused_as refusal) (run_of (failed left (suc n) j) told) ≡ steps ToClient t (b ∷ take n bytes) (run_of j told)
 walks_to_fault cuts t b n bytes j told r left refusal d i w whole small e few most count =
     let so : reading j r left j.server.offset ≡ j = is_reading j r left d i w in
     let (h, c) = counts r (b ∷ bytes) refusal whole e (omega (arith, small, few, most)) in
     let less : suc n - 1 ≡ n = omega arith in
     sym (ap (λ (x : Judge). steps ToClient t (b ∷ take n bytes) (run_of x told)) (sym so)
     ∙ (fault_steps cuts t b n bytes j told r left j.server.offset refusal h e (omega (arith, c, count)) (omega (arith, count, few))
-    ∙ (ap (λ (x : Inside). stops (spot_at (place j.server.offset (suc n)) t) (events.Stops endings.WrongToken (fault_number refusal.fault)) (run_of (record j { server = record j.server { due = due.Data (left - n); inside = x; offset = min 18446744073709551615 (j.server.offset + suc n) } }) told)) (sym i)
-    ∙ ap (λ (x : ℕ). stops (spot_at (place j.server.offset (suc n)) t) (events.Stops endings.WrongToken (fault_number refusal.fault)) (run_of (record j { server = record j.server { due = due.Data (left - x); offset = min 18446744073709551615 (j.server.offset + suc n) } }) told)) (sym less))))
+    ∙ (ap (λ (x : Inside). stops (spot_at (place j.server.offset (suc n)) t) (refused_as refusal) (run_of (record j { server = record j.server { due = due.Data (left - n); inside = x; offset = min 18446744073709551615 (j.server.offset + suc n) } }) told)) (sym i)
+    ∙ ap (λ (x : ℕ). stops (spot_at (place j.server.offset (suc n)) t) (refused_as refusal) (run_of (record j { server = record j.server { due = due.Data (left - x); offset = min 18446744073709551615 (j.server.offset + suc n) } }) told)) (sym less))))
 
 -- ---- Runs, one behind the other
 

@@ -1,10 +1,13 @@
 -- A lawful conversation has no breach.
-use Rattle.std.proofs.Common.{Option, Some, None, subst, ◌≡◌, ◌∙◌, ◌%◌, ◌==◌, ◌&&◌, ◌||◌, not, nat_lt, Bool, true, false, ℕ, List, [], ◌∷◌, ◌++◌, refl, sym, ap}
+use Rattle.std.specs.Prelude.{if◌then◌else◌}
+use Rattle.std.proofs.Common.{Option, Some, None, subst, ◌≡◌, ◌∙◌, ◌==◌, ◌&&◌, ◌||◌, not, nat_lt, Bool, true, false, ℕ, List, [], ◌∷◌, ◌++◌, refl, sym, ap}
 use Rattle.tds_judge.specs.declared.finding.Direction.TheVariants.{ToServer}
 use Rattle.tds_judge.specs.declared.finding.Spot.{Spot}
 use Rattle.tds_judge.specs.declared.judge.Judge.{Judge}
 use Rattle.tds_judge.specs.declared.talk.Asked.{Asked}
 use Rattle.tds_judge.specs.declared.talk.Asked.TheVariants as asks
+use Rattle.tds_judge.specs.declared.talk.Ending.{Ending}
+use Rattle.tds_judge.specs.declared.talk.Ending.TheVariants as endings
 use Rattle.tds_judge.specs.declared.talk.Event.{Event}
 use Rattle.tds_judge.specs.declared.talk.Event.TheVariants as events
 use Rattle.tds_judge.specs.declared.talk.Reset.{Reset}
@@ -16,12 +19,12 @@ use Rattle.tds_wire.specs.declared.told.ChangeValue.TheVariants as changes
 use Rattle.tds_wire.specs.declared.told.Told.{Told}
 use Rattle.tds_wire.specs.declared.told.Told.TheVariants as told
 use Rattle.tds_wire.specs.declared.told.Token.{Token}
-use Rattle.tds_judge.specs.Breaches.{asked_last, final_by_token, gone_last, has_asked_since, has_ended, is_over, is_twice, is_unheard, size_told}
-use Rattle.tds_judge.specs.Conversation.{IsLawful, MayAnswer, MayAsk, MayAt, MayEnd, MayGreet, MayName, MaySay, MayStop, Names, Piece, Bytes, Lends, Closes, Place, Quiet, Greeting, Asking, Answering, Stopping, Skipping, begun_at, ended_at, forgotten_at, heard_at, left_by, left_by_change, place_by, place_of, piece_seen, seen, stopped_at}
+use Rattle.tds_judge.specs.Breaches.{asked_last, final_by_token, gone_last, is_dated, is_over, is_unheard, size_told}
+use Rattle.tds_judge.specs.Conversation.{IsLawful, MayAnswer, MayAsk, MayAt, MayEnd, MayGreet, MayLend, MayName, MaySay, MayStay, MayStop, Names, Piece, Bytes, Lends, Closes, Place, Quiet, Greeting, Asking, Answering, Stopping, Skipping, begun_at, ended_at, forgotten_at, heard_at, left_by, left_by_change, place_by, place_of, piece_seen, seen, stopped_at}
 use Rattle.tds_judge.specs.Framing.{Run, closed, closed_by, closing, event_by, event_said, run_of, spot_of}
-use Rattle.tds_judge.specs.History.{Said, Tells, cleared_by_change, cleared_by_token, further, asks_of, is_acknowledged, is_another, is_cleared, is_out, is_underway, last_told}
-use Rattle.tds_judge.specs.Talking.{acknowledges, is_asked, is_both, is_full, is_request, new_talk, reset_of}
-use Rattle.tds_judge.specs.Told.{has_breach, is_breach, is_broken}
+use Rattle.tds_judge.specs.History.{Said, Tells, cleared_by_change, cleared_by_token, further, asks_of, has_asked_since, has_ended, is_acknowledged, is_another, is_cleared, is_out, is_twice, is_underway, last_told, left_underway, course_of}
+use Rattle.tds_judge.specs.Talking.{acknowledges, changes_wrongly, ignores_early, is_asked, is_both, is_full, is_known, is_request, new_talk, reset_of}
+use Rattle.tds_judge.specs.Told.{breaks_rules, has_breach, is_breach, is_broken, is_judged}
 use Rattle.tds_wire.specs.Reading.{Reading}
 use Rattle.tds_judge.proofs.Breaking.{breaks_by}
 use Rattle.tds_judge.proofs.Telling.{on, said_so, same, steps_so, stopped_so}
@@ -32,8 +35,8 @@ use Rattle.tds_judge.proofs.Telling.{on, said_so, same, steps_so, stopped_so}
 -- reset done; a request was sent since the attention; what was asked last, and for which reset
 abbrev StandsBy : Place → (out underway acknowledged over cleared since : Bool) → Asked → Reset → Type 0
 StandsBy Quiet out underway acknowledged over cleared since asked reset = (out ≡ false) × (underway ≡ false)
-StandsBy Greeting out underway acknowledged over cleared since asked reset = (out ≡ false) × (asked ≡ asks.Login)
-StandsBy (Asking wanted) out underway acknowledged over cleared since asked reset = (out ≡ false) × (reset ≡ wanted) × (cleared ≡ false)
+StandsBy Greeting out underway acknowledged over cleared since asked reset = (out ≡ false) × (asked ≡ asks.Login) × (underway ≡ true)
+StandsBy (Asking wanted) out underway acknowledged over cleared since asked reset = (out ≡ false) × (reset ≡ wanted) × (cleared ≡ false) × (underway ≡ true)
 StandsBy (Answering left final) out underway acknowledged over cleared since asked reset =
     (out ≡ false) × (acknowledged ≡ false) × (over ≡ final) × (is_asked reset && not cleared ≡ is_asked left)
 StandsBy Stopping out underway acknowledged over cleared since asked reset = (out ≡ true) × (since ≡ false)
@@ -69,35 +72,41 @@ left_token _ asked cleared reset so = so
 
 -- ---- What is said moves it on
 
+-- nothing is left underway where no attention was out
+none_left : (acknowledged out since twice before : Bool) → out ≡ false → twice ≡ false → left_underway acknowledged out since twice before ≡ false
+none_left true out since twice before o t =
+    ap (λ (b : Bool). left_underway true b since twice before) o ∙ ap (λ (b : Bool). left_underway true false since b before) t
+none_left false out since twice before o t = refl
+
 asks_there : (place : Place) (past : List Said) (spot : Spot) (status : ℕ) → Stands place past → MayAsk place status → Stands (Asking (reset_of status)) (behind past spot (events.Request status))
-unfolding is_out is_cleared asks_of
-asks_there Quiet past spot status so may = (so.0, refl, refl)
+unfolding is_out is_cleared asks_of course_of
+asks_there Quiet past spot status so may = (so.0, refl, refl, refl)
 asks_there _ past spot status so may = absurd may
 
 greets_there : (place : Place) (past : List Said) (spot : Spot) → Stands place past → MayGreet place → Stands Greeting (behind past spot events.Login)
-unfolding is_out asked_last
-greets_there Quiet past spot so may = (so.0, refl)
-greets_there Greeting past spot so may = (so.0, refl)
+unfolding is_out asked_last course_of
+greets_there Quiet past spot so may = (so.0, refl, refl)
+greets_there Greeting past spot so may = (so.0, refl, refl)
 greets_there _ past spot so may = absurd may
 
 stops_there : (place : Place) (past : List Said) (spot : Spot) (size status : ℕ) → Stands place past → MayStop place → Stands (stopped_at place) (behind past spot (events.Attention size status))
-unfolding is_out is_acknowledged has_asked_since
+unfolding is_out course_of is_acknowledged
 stops_there Quiet past spot size status so may = (refl, refl)
 stops_there (Asking reset) past spot size status so may = (refl, refl)
 stops_there (Answering reset final) past spot size status so may = (refl, refl, so.1)
 stops_there _ past spot size status so may = absurd may
 
 forgets_there : (place : Place) (past : List Said) (spot : Spot) → Stands place past → Stands (forgotten_at place) (behind past spot events.Ignored)
-unfolding is_out is_underway is_acknowledged is_over is_cleared has_asked_since asked_last asks_of
+unfolding is_out course_of is_acknowledged is_over is_cleared asked_last asks_of
 forgets_there Quiet past spot so = (so.0, refl)
 forgets_there (Asking reset) past spot so = (so.0, refl)
-forgets_there Greeting past spot so = so
+forgets_there Greeting past spot so = (so.0, refl)
 forgets_there (Answering reset final) past spot so = so
 forgets_there Stopping past spot so = so
 forgets_there (Skipping done) past spot so = so
 
 answers_there : (place : Place) (past : List Said) (spot : Spot) → Stands place past → MayAnswer place → Stands (begun_at place) (behind past spot events.Answer)
-unfolding is_out is_acknowledged is_over is_cleared has_asked_since asked_last asks_of
+unfolding is_out course_of is_acknowledged is_over is_cleared asked_last asks_of
 answers_there Greeting past spot so may = so
 answers_there (Asking reset) past spot so may =
     (so.0, refl, refl, ap (λ (b : Bool). is_asked (asks_of past) && not b) so.2 ∙ (and_true (is_asked (asks_of past)) ∙ ap is_asked so.1))
@@ -105,7 +114,7 @@ answers_there Stopping past spot so may = (so.0, so.1, refl)
 answers_there _ past spot so may = absurd may
 
 says_there : (place : Place) (past : List Said) (spot : Spot) (token : Token) → Stands place past → MaySay place token → Stands (heard_at token place) (behind past spot (events.Says token))
-unfolding is_out is_acknowledged is_over is_cleared has_asked_since asked_last asks_of
+unfolding is_out course_of is_acknowledged is_over is_cleared asked_last asks_of
 says_there Greeting past spot token so may = so
 says_there (Answering reset final) past spot token so may = (
   so.0,
@@ -116,61 +125,90 @@ says_there (Answering reset final) past spot token so may = (
 says_there (Skipping done) past spot token so may = (so.0, so.1, ap (λ (b : Bool). b || acknowledges token) so.2)
 says_there _ past spot token so may = absurd may
 
-ends_there : (place : Place) (past : List Said) (spot : Spot) (whole : Bool) → Stands place past → MayEnd place whole → Stands (ended_at place) (behind past spot (events.Answered whole))
-unfolding is_out is_underway is_acknowledged is_over is_cleared has_asked_since asked_last asks_of
-ends_there Greeting past spot whole so may = (ap (λ (b : Bool). b && not (is_acknowledged past)) so.0, refl)
-ends_there (Answering reset final) past spot whole so may = (ap (λ (b : Bool). b && not (is_acknowledged past)) so.0, refl)
-ends_there (Skipping true) past spot whole so may =
-    (ap (λ (b : Bool). is_out past && not b) so.2 ∙ and_false (is_out past), refl)
-ends_there (Skipping false) past spot whole so may = (
+ends_there : (place : Place) (past : List Said) (spot : Spot) (whole : Bool) → is_twice past ≡ false → Stands place past → MayEnd place whole → Stands (ended_at place) (behind past spot (events.Answered whole))
+unfolding is_out course_of is_acknowledged is_over is_cleared asked_last asks_of
+ends_there Greeting past spot whole once so may = (
+  ap (λ (b : Bool). b && not (is_acknowledged past)) so.0,
+  none_left (is_acknowledged past) (is_out past) (has_asked_since past) (is_twice past) (is_underway past) so.0 once,
+)
+ends_there (Answering reset final) past spot whole once so may = (
+  ap (λ (b : Bool). b && not (is_acknowledged past)) so.0,
+  none_left (is_acknowledged past) (is_out past) (has_asked_since past) (is_twice past) (is_underway past) so.0 once,
+)
+ends_there (Skipping true) past spot whole once so may = (
+  ap (λ (b : Bool). is_out past && not b) so.2 ∙ and_false (is_out past),
+  ap (λ (b : Bool). left_underway b (is_out past) (has_asked_since past) (is_twice past) (is_underway past)) so.2
+      ∙ (ap (λ (b : Bool). left_underway true b (has_asked_since past) (is_twice past) (is_underway past)) so.0 ∙ so.1),
+)
+ends_there (Skipping false) past spot whole once so may = (
   ap (λ (b : Bool). is_out past && not b) so.2 ∙ (and_true (is_out past) ∙ so.0),
   ap (λ (b : Bool). not (is_acknowledged past) && (b && not (has_ended past))) so.1 ∙ and_false (not (is_acknowledged past)),
 )
-ends_there _ past spot whole so may = absurd may
+ends_there _ past spot whole once so may = absurd may
 
-goes : (place : Place) (past : List Said) (spot : Spot) (event : Event) → Stands place past
+-- no second attention is out
+once_ended : (acknowledged out twice : Bool) → twice ≡ false → (if acknowledged then twice && out else twice) ≡ false
+once_ended true out twice once = ap (λ (b : Bool). b && out) once
+once_ended false out twice once = once
+
+once_stopped : (place : Place) (past : List Said) → is_twice past ≡ false → Stands place past → MayStop place → is_twice past || is_out past ≡ false
+once_stopped Quiet past once so may = ap (λ (b : Bool). b || is_out past) once ∙ so.0
+once_stopped (Asking reset) past once so may = ap (λ (b : Bool). b || is_out past) once ∙ so.0
+once_stopped (Answering reset final) past once so may = ap (λ (b : Bool). b || is_out past) once ∙ so.0
+once_stopped _ past once so may = absurd may
+
+stays_once : (place : Place) (past : List Said) (spot : Spot) (event : Event) → is_twice past ≡ false → Stands place past
+    → MayAt place (last_told past) (size_told past) event → is_twice (behind past spot event) ≡ false
+unfolding is_twice
+stays_once place past spot (events.Attention size status) once so may = once_stopped place past once so may.0
+stays_once place past spot (events.Answered whole) once so may = once_ended (is_acknowledged past) (is_out past) (is_twice past) once
+stays_once place past spot _ once so may = once
+
+goes : (place : Place) (past : List Said) (spot : Spot) (event : Event) → is_twice past ≡ false → Stands place past
     → MayAt place (last_told past) (size_told past) event → Stands (place_by event place) (behind past spot event)
-unfolding is_out is_underway is_acknowledged is_over is_cleared has_asked_since asked_last asks_of
-goes place past spot (events.Packet size) so may = so
-goes place past spot events.Unfinished so may = so
-goes place past spot (events.Request status) so may = asks_there place past spot status so may
-goes place past spot events.Login so may = greets_there place past spot so may
-goes place past spot (events.Attention size status) so may = stops_there place past spot size status so may.0
-goes place past spot (events.Later status) so may = so
-goes place past spot (events.Names descriptor) so may = so
-goes place past spot events.Ignored so may = forgets_there place past spot so
-goes place past spot events.Answer so may = answers_there place past spot so may
-goes place past spot (events.Says token) so may = says_there place past spot token so may
-goes place past spot (events.Answered whole) so may = ends_there place past spot whole so may
-goes place past spot events.TakenUp so may = so
-goes place past spot (events.Stops ending value) so may = so
-goes place past spot events.Borrowed so may = so
-goes place past spot events.Closed so may = so
+unfolding is_out course_of is_acknowledged is_over is_cleared asked_last asks_of
+goes place past spot (events.Packet size) once so may = so
+goes place past spot events.Unfinished once so may = so
+goes place past spot (events.Request status) once so may = asks_there place past spot status so may
+goes place past spot events.Login once so may = greets_there place past spot so may
+goes place past spot (events.Attention size status) once so may = stops_there place past spot size status so may.0
+goes place past spot (events.Later status) once so may = so
+goes place past spot (events.Names descriptor) once so may = so
+goes place past spot events.Ignored once so may = forgets_there place past spot so
+goes place past spot events.Answer once so may = answers_there place past spot so may
+goes place past spot (events.Says token) once so may = says_there place past spot token so may.0
+goes place past spot (events.Answered whole) once so may = ends_there place past spot whole once so may
+goes place past spot events.TakenUp once so may = so
+goes place past spot (events.Stops ending value) once so may = so
+goes place past spot events.Borrowed once so may = so
+goes place past spot events.Closed once so may = so
 
-lawful_stands : (past : List Said) → IsLawful past → Stands (place_of past) past
-unfolding IsLawful place_of is_out is_underway
-lawful_stands [] lawful = (refl, refl)
-lawful_stands (x ∷ past) lawful = goes (place_of past) past x.spot x.event (lawful_stands past lawful.0) lawful.1
+lawful_stands : (past : List Said) → IsLawful past → Stands (place_of past) past × (is_twice past ≡ false)
+unfolding IsLawful place_of is_out course_of is_twice
+lawful_stands [] lawful = ((refl, refl), refl)
+lawful_stands (x ∷ past) lawful =
+    let (so, once) = lawful_stands past lawful.0 in
+    (goes (place_of past) past x.spot x.event once so lawful.1, stays_once (place_of past) past x.spot x.event once so lawful.1)
 
 -- ---- No breach
 
-no_asking : (place : Place) (past : List Said) (status : ℕ) → Stands place past → MayAsk place status → is_breach past (events.Request status) ≡ false
+no_asking : (place : Place) (past : List Said) (status : ℕ) → Stands place past → MayAsk place status → breaks_rules past (events.Request status) ≡ false
 no_asking Quiet past status so may =
-    ap (λ (b : Bool). b || ((is_underway past && not b) || (is_both (reset_of status) || false))) so.0
-    ∙ (ap (λ (b : Bool). (b && true) || (is_both (reset_of status) || false)) so.1
-    ∙ ap (λ (b : Bool). b || false) may)
+    ap (λ (b : Bool). b || ((is_underway past && not b) || (is_both (reset_of status) || (ignores_early status || false)))) so.0
+    ∙ (ap (λ (b : Bool). (b && true) || (is_both (reset_of status) || (ignores_early status || false))) so.1
+    ∙ (ap (λ (b : Bool). b || (ignores_early status || false)) may.0 ∙ ap (λ (b : Bool). b || false) may.1))
 no_asking _ past status so may = absurd may
 
-no_stop : (place : Place) (past : List Said) (size status : ℕ) → Stands place past → MayStop place → size ≡ 8 → status % 2 ≡ 1 → is_breach past (events.Attention size status) ≡ false
+no_stop : (place : Place) (past : List Said) (size status : ℕ) → Stands place past → MayStop place → size ≡ 8 → status ≡ 1 → breaks_rules past (events.Attention size status) ≡ false
 no_stop Quiet past size status so may eight ends =
-    ap (λ (b : Bool). b || ((not (size == 8) || not (status % 2 == 1)) || false)) so.0
-    ∙ (ap (λ (n : ℕ). (not (n == 8) || not (status % 2 == 1)) || false) eight ∙ ap (λ (n : ℕ). not (n == 1) || false) ends)
+    ap (λ (b : Bool). b || ((not (size == 8) || not (status == 1)) || false)) so.0
+    ∙ (ap (λ (n : ℕ). (not (n == 8) || not (status == 1)) || false) eight ∙ ap (λ (n : ℕ). not (n == 1) || false) ends)
 no_stop (Asking reset) past size status so may eight ends =
-    ap (λ (b : Bool). b || ((not (size == 8) || not (status % 2 == 1)) || false)) so.0
-    ∙ (ap (λ (n : ℕ). (not (n == 8) || not (status % 2 == 1)) || false) eight ∙ ap (λ (n : ℕ). not (n == 1) || false) ends)
+    ap (λ (b : Bool). b || ((not (size == 8) || not (status == 1)) || false)) so.0
+    ∙ (ap (λ (n : ℕ). (not (n == 8) || not (status == 1)) || false) eight ∙ ap (λ (n : ℕ). not (n == 1) || false) ends)
 no_stop (Answering reset final) past size status so may eight ends =
-    ap (λ (b : Bool). b || ((not (size == 8) || not (status % 2 == 1)) || false)) so.0
-    ∙ (ap (λ (n : ℕ). (not (n == 8) || not (status % 2 == 1)) || false) eight ∙ ap (λ (n : ℕ). not (n == 1) || false) ends)
+    ap (λ (b : Bool). b || ((not (size == 8) || not (status == 1)) || false)) so.0
+    ∙ (ap (λ (n : ℕ). (not (n == 8) || not (status == 1)) || false) eight ∙ ap (λ (n : ℕ). not (n == 1) || false) ends)
 no_stop _ past size status so may eight ends = absurd may
 
 either_way : (p q : Bool) → p || q ≡ true → not p && not q ≡ false
@@ -182,81 +220,107 @@ not_another : (last : Transaction) (reset : Reset) (descriptor : ℕ) → Names 
 not_another transactions.Unknown reset descriptor names = refl
 not_another (transactions.Told last) reset descriptor names = either_way (last == descriptor) (is_full reset && (descriptor == 0)) names
 
-no_name : (place : Place) (past : List Said) (descriptor : ℕ) → Stands place past → MayName place (last_told past) descriptor → is_breach past (events.Names descriptor) ≡ false
+no_name : (place : Place) (past : List Said) (descriptor : ℕ) → Stands place past → MayName place (last_told past) descriptor → breaks_rules past (events.Names descriptor) ≡ false
 no_name (Asking reset) past descriptor so may =
     ap (λ (b : Bool). b || ((b && is_unheard past) || ((b && (not (gone_last past == 0) && (gone_last past == descriptor))) || false)))
     (ap (λ (r : Reset). is_another (last_told past) r descriptor) so.1 ∙ not_another (last_told past) reset descriptor may)
 no_name _ past descriptor so may = absurd may
 
-no_saying : (place : Place) (past : List Said) (token : Token) → Stands place past → MaySay place token → is_breach past (events.Says token) ≡ false
+no_saying : (place : Place) (past : List Said) (token : Token) → Stands place past → MaySay place token
+    → acknowledges token && (is_request (asked_last past) && (not (is_out past) && not (is_twice past))) ≡ false
 no_saying Greeting past token so may =
-    ap (λ (a : Asked). (acknowledges token && (is_request a && (not (is_out past) && not (is_twice past)))) || false) so.1
-    ∙ ap (λ (b : Bool). b || false) (and_false (acknowledges token))
-no_saying (Answering reset final) past token so may =
-    ap (λ (b : Bool). (b && (is_request (asked_last past) && (not (is_out past) && not (is_twice past)))) || false) may
+    ap (λ (a : Asked). acknowledges token && (is_request a && (not (is_out past) && not (is_twice past)))) so.1 ∙ and_false (acknowledges token)
+no_saying (Answering reset final) past token so may = ap (λ (b : Bool). b && (is_request (asked_last past) && (not (is_out past) && not (is_twice past)))) may
 no_saying (Skipping done) past token so may =
-    ap (λ (b : Bool). (acknowledges token && (is_request (asked_last past) && (not b && not (is_twice past)))) || false) so.0
-    ∙ (ap (λ (b : Bool). (acknowledges token && b) || false) (and_false (is_request (asked_last past)))
-    ∙ ap (λ (b : Bool). b || false) (and_false (acknowledges token)))
+    ap (λ (b : Bool). acknowledges token && (is_request (asked_last past) && (not b && not (is_twice past)))) so.0
+    ∙ (ap (λ (b : Bool). acknowledges token && b) (and_false (is_request (asked_last past))) ∙ and_false (acknowledges token))
 no_saying _ past token so may = absurd may
 
 -- of an answer that isn't plain
 abbrev plain_by : Asked → Bool → Bool → Bool
 plain_by asked out acknowledged = is_request asked && (not out && not acknowledged)
 
-abbrev ending_by : (plain whole over owed ignored : Bool) → Bool
-ending_by plain whole over owed ignored = (plain && not whole) || ((plain && (whole && not over)) || ((plain && (over && owed)) || (ignored || false)))
+abbrev ending_by : (plain whole dated over owed ignored : Bool) → Bool
+ending_by plain whole dated over owed ignored =
+    (plain && (not whole && dated)) || ((plain && (whole && not over)) || ((plain && (over && owed)) || (ignored || false)))
 
 fits_by : (p q : Bool) → (p || not q) ≡ true → not p && q ≡ false
 fits_by true q so = refl
 fits_by false false so = refl
 fits_by false true so = sym so
 
-all_false : (b : Bool) → ending_by b true true false false ≡ false
-all_false true = refl
-all_false false = refl
+all_false : (b dated : Bool) → ending_by b true dated true false false ≡ false
+all_false true dated = refl
+all_false false dated = refl
 
 fits : (most size : ℕ) → ((most == 0) || not (nat_lt most size)) ≡ true → not (most == 0) && nat_lt most size ≡ false
 fits most size so = fits_by (most == 0) (nat_lt most size) so
 
-no_ending : (place : Place) (past : List Said) (whole : Bool) → Stands place past → MayEnd place whole → is_breach past (events.Answered whole) ≡ false
+no_ending : (place : Place) (past : List Said) (whole : Bool) → Stands place past → MayEnd place whole → breaks_rules past (events.Answered whole) ≡ false
 no_ending Greeting past whole so may =
-    ap (λ (a : Asked). ending_by (plain_by a (is_out past) (is_acknowledged past)) whole (is_over past) (is_asked (asks_of past) && not (is_cleared past))
+    ap (λ (a : Asked). ending_by (plain_by a (is_out past) (is_acknowledged past)) whole (is_dated past) (is_over past) (is_asked (asks_of past) && not (is_cleared past))
     (is_out past && (not (is_acknowledged past) && (has_asked_since past && has_ended past)))) so.1
     ∙ ap (λ (b : Bool). (b && (not (is_acknowledged past) && (has_asked_since past && has_ended past))) || false) so.0
 no_ending (Answering resets.None true) past true so may =
-    ap (λ (b : Bool). ending_by (plain_by (asked_last past) (is_out past) (is_acknowledged past)) true b (is_asked (asks_of past) && not (is_cleared past))
+    ap (λ (b : Bool). ending_by (plain_by (asked_last past) (is_out past) (is_acknowledged past)) true (is_dated past) b (is_asked (asks_of past) && not (is_cleared past))
     (is_out past && (not (is_acknowledged past) && (has_asked_since past && has_ended past)))) so.2
-    ∙ (ap (λ (b : Bool). ending_by (plain_by (asked_last past) (is_out past) (is_acknowledged past)) true true b
+    ∙ (ap (λ (b : Bool). ending_by (plain_by (asked_last past) (is_out past) (is_acknowledged past)) true (is_dated past) true b
     (is_out past && (not (is_acknowledged past) && (has_asked_since past && has_ended past)))) so.3
-    ∙ (ap (λ (b : Bool). ending_by (plain_by (asked_last past) (is_out past) (is_acknowledged past)) true true false
+    ∙ (ap (λ (b : Bool). ending_by (plain_by (asked_last past) (is_out past) (is_acknowledged past)) true (is_dated past) true false
     (b && (not (is_acknowledged past) && (has_asked_since past && has_ended past)))) so.0
-    ∙ all_false (plain_by (asked_last past) (is_out past) (is_acknowledged past))))
+    ∙ all_false (plain_by (asked_last past) (is_out past) (is_acknowledged past)) (is_dated past)))
 no_ending (Skipping done) past whole so may =
-    ap (λ (b : Bool). ending_by (plain_by (asked_last past) b (is_acknowledged past)) whole (is_over past) (is_asked (asks_of past) && not (is_cleared past))
+    ap (λ (b : Bool). ending_by (plain_by (asked_last past) b (is_acknowledged past)) whole (is_dated past) (is_over past) (is_asked (asks_of past) && not (is_cleared past))
     (is_out past && (not (is_acknowledged past) && (has_asked_since past && has_ended past)))) so.0
-    ∙ (ap (λ (b : Bool). ending_by b whole (is_over past) (is_asked (asks_of past) && not (is_cleared past))
+    ∙ (ap (λ (b : Bool). ending_by b whole (is_dated past) (is_over past) (is_asked (asks_of past) && not (is_cleared past))
     (is_out past && (not (is_acknowledged past) && (has_asked_since past && has_ended past)))) (and_false (is_request (asked_last past)))
     ∙ (ap (λ (b : Bool). (is_out past && (not (is_acknowledged past) && (b && has_ended past))) || false) so.1
     ∙ (ap (λ (b : Bool). (is_out past && b) || false) (and_false (not (is_acknowledged past)))
     ∙ ap (λ (b : Bool). b || false) (and_false (is_out past)))))
 no_ending _ past whole so may = absurd may
 
-no_breach : (place : Place) (past : List Said) (event : Event) → Stands place past → MayAt place (last_told past) (size_told past) event → is_breach past event ≡ false
+no_answer : (place : Place) (past : List Said) → Stands place past → MayAnswer place → breaks_rules past events.Answer ≡ false
+no_answer Greeting past so may =
+    ap (λ (b : Bool). (is_known (asked_last past) && (not b && (not (is_out past) && not (is_twice past)))) || false) so.2
+    ∙ ap (λ (b : Bool). b || false) (and_false (is_known (asked_last past)))
+no_answer (Asking reset) past so may =
+    ap (λ (b : Bool). (is_known (asked_last past) && (not b && (not (is_out past) && not (is_twice past)))) || false) so.3
+    ∙ ap (λ (b : Bool). b || false) (and_false (is_known (asked_last past)))
+no_answer Stopping past so may =
+    ap (λ (b : Bool). (is_known (asked_last past) && (not (is_underway past) && (not b && not (is_twice past)))) || false) so.0
+    ∙ (ap (λ (b : Bool). (is_known (asked_last past) && b) || false) (and_false (not (is_underway past)))
+    ∙ ap (λ (b : Bool). b || false) (and_false (is_known (asked_last past))))
+no_answer _ past so may = absurd may
+
+no_loan : (place : Place) (past : List Said) → Stands place past → MayLend place → breaks_rules past events.Borrowed ≡ false
+no_loan Quiet past so may =
+    ap (λ (b : Bool). (b || (is_underway past && is_request (asked_last past))) || false) so.0
+    ∙ ap (λ (b : Bool). (b && is_request (asked_last past)) || false) so.1
+no_loan _ past so may = absurd may
+
+no_stay : (past : List Said) (ending : Ending) (value : ℕ) → MayStay ending → breaks_rules past (events.Stops ending value) ≡ false
+no_stay past endings.WrongToken value may = absurd may
+no_stay past endings.WrongLength value may = absurd may
+no_stay past endings.WrongDirection value may = absurd may
+no_stay past _ value may = refl
+
+no_breach : (place : Place) (past : List Said) (event : Event) → Stands place past → MayAt place (last_told past) (size_told past) event → breaks_rules past event ≡ false
 no_breach place past (events.Packet size) so may = ap (λ (b : Bool). b || false) (fits (size_told past) size may)
 no_breach place past events.Unfinished so may = absurd may
 no_breach place past (events.Request status) so may = no_asking place past status so may
 no_breach place past events.Login so may = refl
 no_breach place past (events.Attention size status) so may = no_stop place past size status so may.0 may.1 may.2
-no_breach place past (events.Later status) so may = ap (λ (r : Reset). is_asked r || false) may
+no_breach place past (events.Later status) so may =
+    ap (λ (r : Reset). is_asked r || (ignores_early status || false)) may.0 ∙ ap (λ (b : Bool). b || false) may.1
 no_breach place past (events.Names descriptor) so may = no_name place past descriptor so may
 no_breach place past events.Ignored so may = refl
-no_breach place past events.Answer so may = refl
-no_breach place past (events.Says token) so may = no_saying place past token so may
+no_breach place past events.Answer so may = no_answer place past so may
+no_breach place past (events.Says token) so may =
+    ap (λ (b : Bool). b || (changes_wrongly (last_told past) token || false)) (no_saying place past token so may.0) ∙ ap (λ (b : Bool). b || false) may.1
 no_breach place past (events.Answered whole) so may = no_ending place past whole so may
 no_breach place past events.TakenUp so may = refl
-no_breach place past (events.Stops ending value) so may = absurd may
-no_breach place past events.Borrowed so may = refl
+no_breach place past (events.Stops ending value) so may = no_stay past ending value may
+no_breach place past events.Borrowed so may = no_loan place past so may
 no_breach place past events.Closed so may = refl
 
 both_false : (p q : Bool) → p ≡ false → q ≡ false → p || q ≡ false
@@ -267,7 +331,9 @@ unfolding IsLawful is_broken
 not_broken past [] lawful = refl
 not_broken past (x ∷ later) lawful =
     both_false (is_broken past later) (is_breach (later ++ past) x.event) (not_broken past later lawful.0)
-    (no_breach (place_of (later ++ past)) (later ++ past) x.event (lawful_stands (later ++ past) lawful.0) lawful.1)
+    (ap (λ (b : Bool). is_judged (later ++ past) && b)
+    (no_breach (place_of (later ++ past)) (later ++ past) x.event (lawful_stands (later ++ past) lawful.0).0 lawful.1)
+    ∙ and_false (is_judged (later ++ past)))
 
 -- ---- Whatever is handed in
 

@@ -1,12 +1,10 @@
 pub mod Folding
-pub mod Kept
-pub mod Found
 pub mod Telling
-pub mod Appended
 pub mod Walks
 pub mod InRuns
 pub mod Behind
 pub mod Notes
+pub mod Each
 pub mod Breaking
 pub mod Lawful
 pub mod Conversations

@@ -1,5 +1,6 @@
 -- A token that says nothing, before the final DONE, changes nothing.
-use Rattle.std.proofs.Common.{◌≡◌, ◌&&◌, not, Bool, true, false, ℕ, List, sym, ap, subst}
+use Rattle.std.proofs.Common.{◌≡◌, ◌&&◌, ◌||◌, not, Bool, true, false, ℕ, List, refl, sym, ap, subst}
+use Rattle.std.specs.Prelude.{if◌then◌else◌}
 use Rattle.tds_judge.specs.declared.finding.Finding.{Finding}
 use Rattle.tds_judge.specs.declared.finding.Name.TheVariants as names
 use Rattle.tds_judge.specs.declared.finding.Spot.{Spot}
@@ -10,16 +11,26 @@ use Rattle.tds_wire.specs.declared.told.Told.TheVariants as told
 use Rattle.tds_wire.specs.declared.told.Token.{Token}
 use Rattle.tds_judge.specs.Findings.{noted}
 use Rattle.tds_judge.specs.Framing.{run_of, said}
-use Rattle.tds_judge.specs.Talking.{is_request, talk_by, told_by}
+use Rattle.tds_judge.specs.Talking.{is_request, talk_by}
+use Rattle.tds_judge.specs.Noting.{told_by}
 
 abbrev token_of : ℕ → ℕ → ℕ → Told → Token
 token_of kind start length x = record { kind = kind; start = start; length = length; told = x }
+
+either_way : (b : Bool) (xs ys : List Finding) → xs ≡ ys → xs ≡ (if b then xs else ys)
+either_way true xs ys so = refl
+either_way false xs ys so = so
 
 other_mute : (spot : Spot) (kind start length : ℕ) (j : Judge) (xs : List Finding) → j.talk.is_final ≡ false
     → run_of j xs ≡ said spot (events.Says (token_of kind start length told.Other)) (run_of j xs)
 unfolding told_by talk_by
 other_mute spot kind start length j xs final =
-    ap (λ (b : Bool). run_of j (noted xs spot (b && (is_request j.talk.asked && (not j.talk.attention && true))) names.TokenAfterFinalDone kind)) (sym final)
+    ap (run_of j)
+    (either_way j.talk.other xs
+    (noted (noted xs spot (j.talk.is_final && (is_request j.talk.asked && (not j.talk.attention && true))) names.TokenAfterFinalDone kind)
+    spot ((j.talk.is_final && j.talk.acknowledges) || false) names.AcknowledgementNotLast kind)
+    (ap (λ (b : Bool). noted (noted xs spot (b && (is_request j.talk.asked && (not j.talk.attention && true))) names.TokenAfterFinalDone kind)
+    spot ((b && j.talk.acknowledges) || false) names.AcknowledgementNotLast kind) (sym final)))
 
 pub mute : (spot : Spot) (token : Token) (j : Judge) (xs : List Finding) → token.told ≡ told.Other → j.talk.is_final ≡ false
     → run_of j xs ≡ said spot (events.Says token) (run_of j xs)

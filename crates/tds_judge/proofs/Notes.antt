@@ -1,42 +1,42 @@
--- Which findings an event gives, behind a history.
-use Rattle.std.proofs.Common.{◌≡◌, ◌∙◌, ◌-◌, ◌%◌, ◌==◌, ◌&&◌, ◌||◌, not, nat_lt, Bool, true, false, ℕ, List, [], ◌∷◌, ◌++◌, refl, sym, ap}
+-- What an event notes, as a list.
+use Rattle.std.proofs.Common.{◌≡◌, ◌∙◌, ◌-◌, ◌==◌, ◌&&◌, ◌||◌, not, nat_lt, Bool, true, false, ℕ, List, [], ◌∷◌, ◌++◌, refl, sym, ap, append_assoc, append-nil}
+use Rattle.std.specs.Prelude.{if◌then◌else◌}
 use Rattle.std.proofs.Math.Bool.{or-false}
 use Rattle.tds_judge.specs.declared.finding.Finding.{Finding}
 use Rattle.tds_judge.specs.declared.finding.Name.{Name}
 use Rattle.tds_judge.specs.declared.finding.Name.TheVariants as names
 use Rattle.tds_judge.specs.declared.finding.Spot.{Spot}
-use Rattle.tds_judge.specs.declared.talk.Ending.TheVariants as endings
 use Rattle.tds_judge.specs.declared.talk.Event.{Event}
 use Rattle.tds_judge.specs.declared.talk.Event.TheVariants as events
 use Rattle.tds_judge.specs.declared.talk.Limits.{Limits}
 use Rattle.tds_judge.specs.declared.talk.Talk.{Talk}
 use Rattle.tds_judge.specs.Findings.{noted, number_of}
 use Rattle.tds_judge.specs.History.{Said, is_found, talk_behind}
-use Rattle.tds_judge.specs.Talking.{descriptor_of, ending_name, is_asked, is_behind, is_both, is_full, is_idle_long, is_plain, is_request, is_unasked, is_unclear, names_wrongly, reset_of, told_by}
-use Rattle.tds_judge.specs.Told as breaches
-use Rattle.tds_judge.specs.Told.{has_breach, is_breach, is_breach_number}
+use Rattle.tds_judge.specs.Talking.{changes_wrongly, descriptor_of, ended_descriptor, ignores_early, is_asked, is_both, is_full, is_plain, is_request, is_short, is_unclear, reset_of}
+use Rattle.tds_judge.specs.Noting.{ends_by_compute, ends_by_direction, ends_by_length, ends_by_protocol, ends_by_tls, ends_by_token, ends_by_version, is_behind, is_idle_long, ends_in_vain, goes_on_acknowledged, resets_unasked, is_unasked, is_unawaited, names_wrongly, told_by, told_here}
+use Rattle.tds_judge.specs.Told.{has_breach, is_breach_number, is_judged}
 use Rattle.tds_judge.proofs.Behind.{talk_as, talk_is}
 
 -- ---- What is noted, as a list
 
-record Note : Type 0 where
-  is : Bool
-  name : Name
-  value : ℕ
+pub record Note : Type 0 where
+  pub is : Bool
+  pub name : Name
+  pub value : ℕ
 
-abbrev note : Bool → Name → ℕ → Note
+abbrev pub note : Bool → Name → ℕ → Note
 note is name value = record { is = is; name = name; value = value }
 
-abbrev put : List Finding → Spot → List Note → List Finding
+abbrev pub put : List Finding → Spot → List Note → List Finding
 put xs spot [] = xs
 put xs spot (n ∷ notes) = put (noted xs spot n.is n.name n.value) spot notes
 
 -- a finding with such a number is among these, and is noted among these
-abbrev among : (ℕ → Bool) → List Finding → Bool
+abbrev pub among : (ℕ → Bool) → List Finding → Bool
 among p [] = false
 among p (finding ∷ others) = p (number_of finding.name) || among p others
 
-abbrev any : (ℕ → Bool) → List Note → Bool
+abbrev pub any : (ℕ → Bool) → List Note → Bool
 any p [] = false
 any p (n ∷ notes) = (p (number_of n.name) && n.is) || any p notes
 
@@ -72,13 +72,13 @@ found_among : (n : ℕ) (xs : List Finding) → is_found n xs ≡ among (λ (m :
 found_among n [] = refl
 found_among n (x ∷ xs) = ap (λ (b : Bool). (number_of x.name == n) || b) (found_among n xs)
 
-breach_among : (xs : List Finding) → has_breach xs ≡ among is_breach_number xs
+pub breach_among : (xs : List Finding) → has_breach xs ≡ among is_breach_number xs
 breach_among [] = refl
 breach_among (x ∷ xs) = ap (λ (b : Bool). is_breach_number (number_of x.name) || b) (breach_among xs)
 
 -- ---- What an event notes
 
-abbrev notes_of : Limits → Talk → Spot → Event → List Note
+abbrev pub notes_of : Limits → Talk → Spot → Event → List Note
 notes_of limits t spot (events.Packet size) = note (not (t.most == 0) && nat_lt t.most size) names.PacketSize size ∷ []
 notes_of limits t spot events.Unfinished = note true names.UnfinishedMessage 0 ∷ []
 notes_of limits t spot (events.Request status) =
@@ -89,10 +89,12 @@ notes_of limits t spot (events.Request status) =
     ∷ note (is_asked (reset_of status) && (is_asked t.reset && t.reset_done)) names.ResetTwice 0
     ∷ note (t.borrowed && not (is_asked (reset_of status))) names.SessionReusedWithoutReset 0
     ∷ note (is_idle_long limits t spot.time) names.IdleInTransaction (spot.time - t.since)
+    ∷ note (ignores_early status) names.IgnoreUnended status
     ∷ []
 notes_of limits t spot (events.Attention size status) =
-    note t.attention names.SecondAttention 0 ∷ note (not (size == 8) || not (status % 2 == 1)) names.WrongAttention size ∷ []
-notes_of limits t spot (events.Later status) = note (is_asked (reset_of status)) names.ResetOnLaterPacket status ∷ []
+    note t.attention names.SecondAttention 0 ∷ note (not (size == 8) || not (status == 1)) names.WrongAttention size ∷ []
+notes_of limits t spot (events.Later status) =
+    note (is_asked (reset_of status)) names.ResetOnLaterPacket status ∷ note (ignores_early status) names.IgnoreUnended status ∷ []
 notes_of limits t spot (events.Names descriptor) =
     note (names_wrongly t descriptor) names.WrongDescriptor (descriptor_of t.transaction)
     ∷ note (names_wrongly t descriptor && t.begun_unheard) names.CancelledBeginKept (descriptor_of t.transaction)
@@ -102,15 +104,31 @@ notes_of limits t spot (events.Says token) =
     note (is_unasked t token) names.AcknowledgementUnasked 0
     ∷ note (is_behind t token) names.TokenAfterFinalDone token.kind
     ∷ note (is_unclear token) names.UnclearChange token.kind
+    ∷ note (is_short token && not t.dated) names.OtherVersion 0
+    ∷ note (resets_unasked t token) names.ResetUnasked 0
+    ∷ note (changes_wrongly t.transaction token) names.WrongChange (descriptor_of t.transaction)
+    ∷ note (ends_in_vain t token) names.NoneEnded (ended_descriptor token)
+    ∷ note (goes_on_acknowledged t token) names.AcknowledgementNotLast token.kind
     ∷ []
 notes_of limits t spot (events.Answered whole) =
-    note (is_plain t && not whole) names.CutToken 0
+    note (is_plain t && (not whole && t.dated)) names.CutToken 0
+    ∷ note (is_plain t && (not whole && not t.dated)) names.OtherVersion 0
     ∷ note (is_plain t && (whole && not t.is_final)) names.NoFinalDone 0
     ∷ note (is_plain t && (t.is_final && (is_asked t.reset && not t.reset_done))) names.ResetUnanswered 0
     ∷ note (t.attention && (not t.acknowledges && (t.late && t.ended_since))) names.AttentionIgnored 0
     ∷ []
 notes_of limits t spot events.TakenUp = note true names.TakenUp 0 ∷ []
-notes_of limits t spot (events.Stops ending value) = note true (ending_name ending) value ∷ []
+notes_of limits t spot (events.Stops ending value) =
+    note (ends_by_token ending t.dated) names.WrongToken value
+    ∷ note (ends_by_version ending t.dated) names.OtherVersion value
+    ∷ note (ends_by_length ending) names.WrongLength value
+    ∷ note (ends_by_tls ending) names.Encrypted value
+    ∷ note (ends_by_protocol ending) names.NotTds value
+    ∷ note (ends_by_compute ending) names.Compute value
+    ∷ note (ends_by_direction ending) names.WrongDirection value
+    ∷ []
+notes_of limits t spot events.Answer = note (is_unawaited t) names.AnswerUnasked 0 ∷ []
+notes_of limits t spot events.Borrowed = note (t.attention || (t.underway && is_request t.asked)) names.LentWhileAnswering 0 ∷ []
 notes_of limits t spot events.Closed =
     note (t.underway && is_request t.asked) names.AnswerUnread 0
     ∷ note (is_idle_long limits t spot.time) names.IdleInTransaction (spot.time - t.since)
@@ -118,272 +136,47 @@ notes_of limits t spot events.Closed =
     ∷ []
 notes_of limits t spot _ = []
 
-told_is : (limits : Limits) (t : Talk) (spot : Spot) (event : Event) → told_by [] limits t spot event ≡ put [] spot (notes_of limits t spot event)
+pub told_is : (xs : List Finding) (limits : Limits) (t : Talk) (spot : Spot) (event : Event) → told_here xs limits t spot event ≡ put xs spot (notes_of limits t spot event)
+told_is xs limits t spot (events.Packet size) = refl
+told_is xs limits t spot _ = refl
+
+-- where it is judged
+among_if : (p : ℕ → Bool) (other : Bool) (xs : List Finding) → among p (if other then [] else xs) ≡ not other && among p xs
+among_if p true xs = refl
+among_if p false xs = refl
+
+pub among_told : (p : ℕ → Bool) (limits : Limits) (past : List Said) (spot : Spot) (event : Event)
+    → among p (told_by [] limits (talk_behind past) spot event) ≡ is_judged past && any p (notes_of limits (talk_as past) spot event)
 unfolding told_by
-told_is limits t spot (events.Packet size) = refl
-told_is limits t spot _ = refl
-
-among_told : (p : ℕ → Bool) (limits : Limits) (past : List Said) (spot : Spot) (event : Event)
-    → among p (told_by [] limits (talk_behind past) spot event) ≡ any p (notes_of limits (talk_as past) spot event)
 among_told p limits past spot event =
-    ap (λ (t : Talk). among p (told_by [] limits t spot event)) (talk_is past)
-    ∙ (ap (among p) (told_is limits (talk_as past) spot event) ∙ among_put p (notes_of limits (talk_as past) spot event) [] spot)
+    ap (λ (t : Talk). among p (if t.other then [] else told_here [] limits t spot event)) (talk_is past)
+    ∙ (among_if p (talk_as past).other (told_here [] limits (talk_as past) spot event)
+    ∙ ap (λ (b : Bool). is_judged past && b) (ap (among p) (told_is [] limits (talk_as past) spot event) ∙ among_put p (notes_of limits (talk_as past) spot event) [] spot))
 
-found_told : (n : ℕ) (limits : Limits) (past : List Said) (spot : Spot) (event : Event)
-    → is_found n (told_by [] limits (talk_behind past) spot event) ≡ any (λ (m : ℕ). m == n) (notes_of limits (talk_as past) spot event)
+pub found_told : (n : ℕ) (limits : Limits) (past : List Said) (spot : Spot) (event : Event)
+    → is_found n (told_by [] limits (talk_behind past) spot event) ≡ is_judged past && any (λ (m : ℕ). m == n) (notes_of limits (talk_as past) spot event)
 found_told n limits past spot event = found_among n (told_by [] limits (talk_behind past) spot event) ∙ among_told (λ (m : ℕ). m == n) limits past spot event
 
--- ---- Each finding
+-- ---- What is noted stands behind what was found
 
-ignored_by : (limits : Limits) (past : List Said) (spot : Spot) (event : Event) → any (λ (m : ℕ). m == 3) (notes_of limits (talk_as past) spot event) ≡ breaches.is_attention_ignored past event
-ignored_by limits past spot (events.Answered whole) = or-false (breaches.is_attention_ignored past (events.Answered whole))
-ignored_by limits past spot (events.Stops endings.WrongToken value) = refl
-ignored_by limits past spot (events.Stops endings.WrongLength value) = refl
-ignored_by limits past spot (events.Stops endings.Encrypted value) = refl
-ignored_by limits past spot (events.Stops endings.NotTds value) = refl
-ignored_by limits past spot _ = refl
+noted_more : (xs ys : List Finding) (spot : Spot) (is : Bool) (name : Name) (value : ℕ) → noted (xs ++ ys) spot is name value ≡ xs ++ noted ys spot is name value
+noted_more xs ys spot true name value = append_assoc xs ys ((record { name = name; value = value; spot = spot }) ∷ [])
+noted_more xs ys spot false name value = refl
 
-pub ignored_told : (limits : Limits) (past : List Said) (spot : Spot) (event : Event) → is_found 3 (told_by [] limits (talk_behind past) spot event) ≡ breaches.is_attention_ignored past event
-ignored_told limits past spot event = found_told 3 limits past spot event ∙ ignored_by limits past spot event
+put_more : (notes : List Note) (xs ys : List Finding) (spot : Spot) → put (xs ++ ys) spot notes ≡ xs ++ put ys spot notes
+put_more [] xs ys spot = refl
+put_more (n ∷ notes) xs ys spot =
+    ap (λ (zs : List Finding). put zs spot notes) (noted_more xs ys spot n.is n.name n.value) ∙ put_more notes xs (noted ys spot n.is n.name n.value) spot
 
-unasked_by : (limits : Limits) (past : List Said) (spot : Spot) (event : Event) → any (λ (m : ℕ). m == 4) (notes_of limits (talk_as past) spot event) ≡ breaches.is_acknowledgement_unasked past event
-unasked_by limits past spot (events.Says token) = or-false (breaches.is_acknowledgement_unasked past (events.Says token))
-unasked_by limits past spot (events.Stops endings.WrongToken value) = refl
-unasked_by limits past spot (events.Stops endings.WrongLength value) = refl
-unasked_by limits past spot (events.Stops endings.Encrypted value) = refl
-unasked_by limits past spot (events.Stops endings.NotTds value) = refl
-unasked_by limits past spot _ = refl
+put_behind : (notes : List Note) (xs : List Finding) (spot : Spot) → put xs spot notes ≡ xs ++ put [] spot notes
+put_behind notes xs spot = ap (λ (zs : List Finding). put zs spot notes) (sym (append-nil xs)) ∙ put_more notes xs [] spot
 
-pub unasked_told : (limits : Limits) (past : List Said) (spot : Spot) (event : Event) → is_found 4 (told_by [] limits (talk_behind past) spot event) ≡ breaches.is_acknowledgement_unasked past event
-unasked_told limits past spot event = found_told 4 limits past spot event ∙ unasked_by limits past spot event
+appended_if : (other : Bool) (xs ys zs : List Finding) → ys ≡ xs ++ zs → (if other then xs else ys) ≡ xs ++ (if other then [] else zs)
+appended_if true xs ys zs so = sym (append-nil xs)
+appended_if false xs ys zs so = so
 
-unread_by : (limits : Limits) (past : List Said) (spot : Spot) (event : Event) → any (λ (m : ℕ). m == 6) (notes_of limits (talk_as past) spot event) ≡ breaches.is_answer_unread past event
-unread_by limits past spot events.Closed = or-false (breaches.is_answer_unread past events.Closed)
-unread_by limits past spot (events.Stops endings.WrongToken value) = refl
-unread_by limits past spot (events.Stops endings.WrongLength value) = refl
-unread_by limits past spot (events.Stops endings.Encrypted value) = refl
-unread_by limits past spot (events.Stops endings.NotTds value) = refl
-unread_by limits past spot _ = refl
-
-pub unread_told : (limits : Limits) (past : List Said) (spot : Spot) (event : Event) → is_found 6 (told_by [] limits (talk_behind past) spot event) ≡ breaches.is_answer_unread past event
-unread_told limits past spot event = found_told 6 limits past spot event ∙ unread_by limits past spot event
-
-kept_by : (limits : Limits) (past : List Said) (spot : Spot) (event : Event) → any (λ (m : ℕ). m == 7) (notes_of limits (talk_as past) spot event) ≡ breaches.is_cancelled_begin_kept past event
-kept_by limits past spot (events.Names descriptor) = or-false (breaches.is_cancelled_begin_kept past (events.Names descriptor))
-kept_by limits past spot (events.Stops endings.WrongToken value) = refl
-kept_by limits past spot (events.Stops endings.WrongLength value) = refl
-kept_by limits past spot (events.Stops endings.Encrypted value) = refl
-kept_by limits past spot (events.Stops endings.NotTds value) = refl
-kept_by limits past spot _ = refl
-
-pub kept_told : (limits : Limits) (past : List Said) (spot : Spot) (event : Event) → is_found 7 (told_by [] limits (talk_behind past) spot event) ≡ breaches.is_cancelled_begin_kept past event
-kept_told limits past spot event = found_told 7 limits past spot event ∙ kept_by limits past spot event
-
-ended_by : (limits : Limits) (past : List Said) (spot : Spot) (event : Event) → any (λ (m : ℕ). m == 9) (notes_of limits (talk_as past) spot event) ≡ breaches.is_ended_unheard past event
-ended_by limits past spot (events.Names descriptor) = or-false (breaches.is_ended_unheard past (events.Names descriptor))
-ended_by limits past spot (events.Stops endings.WrongToken value) = refl
-ended_by limits past spot (events.Stops endings.WrongLength value) = refl
-ended_by limits past spot (events.Stops endings.Encrypted value) = refl
-ended_by limits past spot (events.Stops endings.NotTds value) = refl
-ended_by limits past spot _ = refl
-
-pub ended_told : (limits : Limits) (past : List Said) (spot : Spot) (event : Event) → is_found 9 (told_by [] limits (talk_behind past) spot event) ≡ breaches.is_ended_unheard past event
-ended_told limits past spot event = found_told 9 limits past spot event ∙ ended_by limits past spot event
-
-open_reset_by : (limits : Limits) (past : List Said) (spot : Spot) (event : Event) → any (λ (m : ℕ). m == 10) (notes_of limits (talk_as past) spot event) ≡ breaches.is_reset_in_transaction past event
-open_reset_by limits past spot (events.Request status) = or-false (breaches.is_reset_in_transaction past (events.Request status))
-open_reset_by limits past spot (events.Stops endings.WrongToken value) = refl
-open_reset_by limits past spot (events.Stops endings.WrongLength value) = refl
-open_reset_by limits past spot (events.Stops endings.Encrypted value) = refl
-open_reset_by limits past spot (events.Stops endings.NotTds value) = refl
-open_reset_by limits past spot _ = refl
-
-pub open_reset_told : (limits : Limits) (past : List Said) (spot : Spot) (event : Event) → is_found 10 (told_by [] limits (talk_behind past) spot event) ≡ breaches.is_reset_in_transaction past event
-open_reset_told limits past spot event = found_told 10 limits past spot event ∙ open_reset_by limits past spot event
-
-idle_by : (limits : Limits) (past : List Said) (spot : Spot) (event : Event) → any (λ (m : ℕ). m == 11) (notes_of limits (talk_as past) spot event) ≡ breaches.is_idle limits past spot event
-idle_by limits past spot (events.Request status) = refl
-idle_by limits past spot events.Closed = or-false (breaches.is_idle_at limits past spot.time)
-idle_by limits past spot (events.Stops endings.WrongToken value) = refl
-idle_by limits past spot (events.Stops endings.WrongLength value) = refl
-idle_by limits past spot (events.Stops endings.Encrypted value) = refl
-idle_by limits past spot (events.Stops endings.NotTds value) = refl
-idle_by limits past spot _ = refl
-
-pub idle_told : (limits : Limits) (past : List Said) (spot : Spot) (event : Event) → is_found 11 (told_by [] limits (talk_behind past) spot event) ≡ breaches.is_idle limits past spot event
-idle_told limits past spot event = found_told 11 limits past spot event ∙ idle_by limits past spot event
-
-left_by : (limits : Limits) (past : List Said) (spot : Spot) (event : Event) → any (λ (m : ℕ). m == 12) (notes_of limits (talk_as past) spot event) ≡ breaches.is_transaction_left past event
-left_by limits past spot events.Closed = or-false (breaches.is_transaction_left past events.Closed)
-left_by limits past spot (events.Stops endings.WrongToken value) = refl
-left_by limits past spot (events.Stops endings.WrongLength value) = refl
-left_by limits past spot (events.Stops endings.Encrypted value) = refl
-left_by limits past spot (events.Stops endings.NotTds value) = refl
-left_by limits past spot _ = refl
-
-pub left_told : (limits : Limits) (past : List Said) (spot : Spot) (event : Event) → is_found 12 (told_by [] limits (talk_behind past) spot event) ≡ breaches.is_transaction_left past event
-left_told limits past spot event = found_told 12 limits past spot event ∙ left_by limits past spot event
-
-later_by : (limits : Limits) (past : List Said) (spot : Spot) (event : Event) → any (λ (m : ℕ). m == 13) (notes_of limits (talk_as past) spot event) ≡ breaches.is_late_reset event
-later_by limits past spot (events.Later status) = or-false (breaches.is_late_reset (events.Later status))
-later_by limits past spot (events.Stops endings.WrongToken value) = refl
-later_by limits past spot (events.Stops endings.WrongLength value) = refl
-later_by limits past spot (events.Stops endings.Encrypted value) = refl
-later_by limits past spot (events.Stops endings.NotTds value) = refl
-later_by limits past spot _ = refl
-
-pub later_told : (limits : Limits) (past : List Said) (spot : Spot) (event : Event) → is_found 13 (told_by [] limits (talk_behind past) spot event) ≡ breaches.is_late_reset event
-later_told limits past spot event = found_told 13 limits past spot event ∙ later_by limits past spot event
-
-unanswered_by : (limits : Limits) (past : List Said) (spot : Spot) (event : Event) → any (λ (m : ℕ). m == 15) (notes_of limits (talk_as past) spot event) ≡ breaches.is_reset_unanswered past event
-unanswered_by limits past spot (events.Answered whole) = or-false (breaches.is_reset_unanswered past (events.Answered whole))
-unanswered_by limits past spot (events.Stops endings.WrongToken value) = refl
-unanswered_by limits past spot (events.Stops endings.WrongLength value) = refl
-unanswered_by limits past spot (events.Stops endings.Encrypted value) = refl
-unanswered_by limits past spot (events.Stops endings.NotTds value) = refl
-unanswered_by limits past spot _ = refl
-
-pub unanswered_told : (limits : Limits) (past : List Said) (spot : Spot) (event : Event) → is_found 15 (told_by [] limits (talk_behind past) spot event) ≡ breaches.is_reset_unanswered past event
-unanswered_told limits past spot event = found_told 15 limits past spot event ∙ unanswered_by limits past spot event
-
-twice_by : (limits : Limits) (past : List Said) (spot : Spot) (event : Event) → any (λ (m : ℕ). m == 16) (notes_of limits (talk_as past) spot event) ≡ breaches.is_reset_twice past event
-twice_by limits past spot (events.Request status) = or-false (breaches.is_reset_twice past (events.Request status))
-twice_by limits past spot (events.Stops endings.WrongToken value) = refl
-twice_by limits past spot (events.Stops endings.WrongLength value) = refl
-twice_by limits past spot (events.Stops endings.Encrypted value) = refl
-twice_by limits past spot (events.Stops endings.NotTds value) = refl
-twice_by limits past spot _ = refl
-
-pub twice_told : (limits : Limits) (past : List Said) (spot : Spot) (event : Event) → is_found 16 (told_by [] limits (talk_behind past) spot event) ≡ breaches.is_reset_twice past event
-twice_told limits past spot event = found_told 16 limits past spot event ∙ twice_by limits past spot event
-
-reused_by : (limits : Limits) (past : List Said) (spot : Spot) (event : Event) → any (λ (m : ℕ). m == 17) (notes_of limits (talk_as past) spot event) ≡ breaches.is_reused past event
-reused_by limits past spot (events.Request status) = or-false (breaches.is_reused past (events.Request status))
-reused_by limits past spot (events.Stops endings.WrongToken value) = refl
-reused_by limits past spot (events.Stops endings.WrongLength value) = refl
-reused_by limits past spot (events.Stops endings.Encrypted value) = refl
-reused_by limits past spot (events.Stops endings.NotTds value) = refl
-reused_by limits past spot _ = refl
-
-pub reused_told : (limits : Limits) (past : List Said) (spot : Spot) (event : Event) → is_found 17 (told_by [] limits (talk_behind past) spot event) ≡ breaches.is_reused past event
-reused_told limits past spot event = found_told 17 limits past spot event ∙ reused_by limits past spot event
-
-behind_by : (limits : Limits) (past : List Said) (spot : Spot) (event : Event) → any (λ (m : ℕ). m == 18) (notes_of limits (talk_as past) spot event) ≡ breaches.is_behind_end past event
-behind_by limits past spot (events.Says token) = or-false (breaches.is_behind_end past (events.Says token))
-behind_by limits past spot (events.Stops endings.WrongToken value) = refl
-behind_by limits past spot (events.Stops endings.WrongLength value) = refl
-behind_by limits past spot (events.Stops endings.Encrypted value) = refl
-behind_by limits past spot (events.Stops endings.NotTds value) = refl
-behind_by limits past spot _ = refl
-
-pub behind_told : (limits : Limits) (past : List Said) (spot : Spot) (event : Event) → is_found 18 (told_by [] limits (talk_behind past) spot event) ≡ breaches.is_behind_end past event
-behind_told limits past spot event = found_told 18 limits past spot event ∙ behind_by limits past spot event
-
-endless_by : (limits : Limits) (past : List Said) (spot : Spot) (event : Event) → any (λ (m : ℕ). m == 19) (notes_of limits (talk_as past) spot event) ≡ breaches.is_without_end past event
-endless_by limits past spot (events.Answered whole) = or-false (breaches.is_without_end past (events.Answered whole))
-endless_by limits past spot (events.Stops endings.WrongToken value) = refl
-endless_by limits past spot (events.Stops endings.WrongLength value) = refl
-endless_by limits past spot (events.Stops endings.Encrypted value) = refl
-endless_by limits past spot (events.Stops endings.NotTds value) = refl
-endless_by limits past spot _ = refl
-
-pub endless_told : (limits : Limits) (past : List Said) (spot : Spot) (event : Event) → is_found 19 (told_by [] limits (talk_behind past) spot event) ≡ breaches.is_without_end past event
-endless_told limits past spot event = found_told 19 limits past spot event ∙ endless_by limits past spot event
-
-cut_by : (limits : Limits) (past : List Said) (spot : Spot) (event : Event) → any (λ (m : ℕ). m == 20) (notes_of limits (talk_as past) spot event) ≡ breaches.is_cut_token past event
-cut_by limits past spot (events.Answered whole) = or-false (breaches.is_cut_token past (events.Answered whole))
-cut_by limits past spot (events.Stops endings.WrongToken value) = refl
-cut_by limits past spot (events.Stops endings.WrongLength value) = refl
-cut_by limits past spot (events.Stops endings.Encrypted value) = refl
-cut_by limits past spot (events.Stops endings.NotTds value) = refl
-cut_by limits past spot _ = refl
-
-pub cut_told : (limits : Limits) (past : List Said) (spot : Spot) (event : Event) → is_found 20 (told_by [] limits (talk_behind past) spot event) ≡ breaches.is_cut_token past event
-cut_told limits past spot event = found_told 20 limits past spot event ∙ cut_by limits past spot event
-
-token_by : (limits : Limits) (past : List Said) (spot : Spot) (event : Event) → any (λ (m : ℕ). m == 21) (notes_of limits (talk_as past) spot event) ≡ breaches.is_wrong_token event
-token_by limits past spot (events.Stops endings.WrongToken value) = refl
-token_by limits past spot (events.Stops endings.WrongLength value) = refl
-token_by limits past spot (events.Stops endings.Encrypted value) = refl
-token_by limits past spot (events.Stops endings.NotTds value) = refl
-token_by limits past spot _ = refl
-
-pub token_told : (limits : Limits) (past : List Said) (spot : Spot) (event : Event) → is_found 21 (told_by [] limits (talk_behind past) spot event) ≡ breaches.is_wrong_token event
-token_told limits past spot event = found_told 21 limits past spot event ∙ token_by limits past spot event
-
-size_by : (limits : Limits) (past : List Said) (spot : Spot) (event : Event) → any (λ (m : ℕ). m == 22) (notes_of limits (talk_as past) spot event) ≡ breaches.is_wrong_size past event
-size_by limits past spot (events.Packet size) = or-false (breaches.is_wrong_size past (events.Packet size))
-size_by limits past spot (events.Stops endings.WrongToken value) = refl
-size_by limits past spot (events.Stops endings.WrongLength value) = refl
-size_by limits past spot (events.Stops endings.Encrypted value) = refl
-size_by limits past spot (events.Stops endings.NotTds value) = refl
-size_by limits past spot _ = refl
-
-pub size_told : (limits : Limits) (past : List Said) (spot : Spot) (event : Event) → is_found 22 (told_by [] limits (talk_behind past) spot event) ≡ breaches.is_wrong_size past event
-size_told limits past spot event = found_told 22 limits past spot event ∙ size_by limits past spot event
-
-length_by : (limits : Limits) (past : List Said) (spot : Spot) (event : Event) → any (λ (m : ℕ). m == 23) (notes_of limits (talk_as past) spot event) ≡ breaches.is_wrong_length event
-length_by limits past spot (events.Stops endings.WrongToken value) = refl
-length_by limits past spot (events.Stops endings.WrongLength value) = refl
-length_by limits past spot (events.Stops endings.Encrypted value) = refl
-length_by limits past spot (events.Stops endings.NotTds value) = refl
-length_by limits past spot _ = refl
-
-pub length_told : (limits : Limits) (past : List Said) (spot : Spot) (event : Event) → is_found 23 (told_by [] limits (talk_behind past) spot event) ≡ breaches.is_wrong_length event
-length_told limits past spot event = found_told 23 limits past spot event ∙ length_by limits past spot event
-
-attention_by : (limits : Limits) (past : List Said) (spot : Spot) (event : Event) → any (λ (m : ℕ). m == 24) (notes_of limits (talk_as past) spot event) ≡ breaches.is_wrong_attention event
-attention_by limits past spot (events.Attention size status) = or-false (breaches.is_wrong_attention (events.Attention size status))
-attention_by limits past spot (events.Stops endings.WrongToken value) = refl
-attention_by limits past spot (events.Stops endings.WrongLength value) = refl
-attention_by limits past spot (events.Stops endings.Encrypted value) = refl
-attention_by limits past spot (events.Stops endings.NotTds value) = refl
-attention_by limits past spot _ = refl
-
-pub attention_told : (limits : Limits) (past : List Said) (spot : Spot) (event : Event) → is_found 24 (told_by [] limits (talk_behind past) spot event) ≡ breaches.is_wrong_attention event
-attention_told limits past spot event = found_told 24 limits past spot event ∙ attention_by limits past spot event
-
-unfinished_by : (limits : Limits) (past : List Said) (spot : Spot) (event : Event) → any (λ (m : ℕ). m == 25) (notes_of limits (talk_as past) spot event) ≡ breaches.is_unfinished_message event
-unfinished_by limits past spot (events.Stops endings.WrongToken value) = refl
-unfinished_by limits past spot (events.Stops endings.WrongLength value) = refl
-unfinished_by limits past spot (events.Stops endings.Encrypted value) = refl
-unfinished_by limits past spot (events.Stops endings.NotTds value) = refl
-unfinished_by limits past spot _ = refl
-
-pub unfinished_told : (limits : Limits) (past : List Said) (spot : Spot) (event : Event) → is_found 25 (told_by [] limits (talk_behind past) spot event) ≡ breaches.is_unfinished_message event
-unfinished_told limits past spot event = found_told 25 limits past spot event ∙ unfinished_by limits past spot event
-
-unclear_by : (limits : Limits) (past : List Said) (spot : Spot) (event : Event) → any (λ (m : ℕ). m == 26) (notes_of limits (talk_as past) spot event) ≡ breaches.is_unclear_change event
-unclear_by limits past spot (events.Says token) = or-false (breaches.is_unclear_change (events.Says token))
-unclear_by limits past spot (events.Stops endings.WrongToken value) = refl
-unclear_by limits past spot (events.Stops endings.WrongLength value) = refl
-unclear_by limits past spot (events.Stops endings.Encrypted value) = refl
-unclear_by limits past spot (events.Stops endings.NotTds value) = refl
-unclear_by limits past spot _ = refl
-
-pub unclear_told : (limits : Limits) (past : List Said) (spot : Spot) (event : Event) → is_found 26 (told_by [] limits (talk_behind past) spot event) ≡ breaches.is_unclear_change event
-unclear_told limits past spot event = found_told 26 limits past spot event ∙ unclear_by limits past spot event
-
-taken_up_by : (limits : Limits) (past : List Said) (spot : Spot) (event : Event) → any (λ (m : ℕ). m == 27) (notes_of limits (talk_as past) spot event) ≡ breaches.is_taken_up event
-taken_up_by limits past spot (events.Stops endings.WrongToken value) = refl
-taken_up_by limits past spot (events.Stops endings.WrongLength value) = refl
-taken_up_by limits past spot (events.Stops endings.Encrypted value) = refl
-taken_up_by limits past spot (events.Stops endings.NotTds value) = refl
-taken_up_by limits past spot _ = refl
-
-pub taken_up_told : (limits : Limits) (past : List Said) (spot : Spot) (event : Event) → is_found 27 (told_by [] limits (talk_behind past) spot event) ≡ breaches.is_taken_up event
-taken_up_told limits past spot event = found_told 27 limits past spot event ∙ taken_up_by limits past spot event
-
--- ---- All breaches
-
-breach_by : (limits : Limits) (past : List Said) (spot : Spot) (event : Event) → any is_breach_number (notes_of limits (talk_as past) spot event) ≡ is_breach past event
-breach_by limits past spot (events.Stops endings.WrongToken value) = refl
-breach_by limits past spot (events.Stops endings.WrongLength value) = refl
-breach_by limits past spot (events.Stops endings.Encrypted value) = refl
-breach_by limits past spot (events.Stops endings.NotTds value) = refl
-breach_by limits past spot _ = refl
-
-pub breach_told : (limits : Limits) (past : List Said) (spot : Spot) (event : Event) → has_breach (told_by [] limits (talk_behind past) spot event) ≡ is_breach past event
-breach_told limits past spot event =
-    breach_among (told_by [] limits (talk_behind past) spot event)
-    ∙ (among_told is_breach_number limits past spot event ∙ breach_by limits past spot event)
+pub appended : (xs : List Finding) (limits : Limits) (t : Talk) (spot : Spot) (event : Event) → told_by xs limits t spot event ≡ xs ++ told_by [] limits t spot event
+unfolding told_by
+appended xs limits t spot event =
+    appended_if t.other xs (told_here xs limits t spot event) (told_here [] limits t spot event)
+    (told_is xs limits t spot event ∙ (put_behind (notes_of limits t spot event) xs spot ∙ ap (λ (zs : List Finding). xs ++ zs) (sym (told_is [] limits t spot event))))

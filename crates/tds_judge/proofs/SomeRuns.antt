@@ -2,9 +2,8 @@
 use Rattle.std.proofs.Common.{◌≡◌, ◌∙◌, ◌≤◌, ◌<◌, ℕ, zero, suc, ◌+◌, true, false, List, [], ◌∷◌, length, take, drop, get_or, Option, Some, None, refl, sym, ap, arith}
 use Rattle.std.proofs.Math.Seq.{take-length}
 use Rattle.std.proofs.lemmas.List.{length-take-le}
-use Rattle.tds_wire.specs.declared.fault.WireFault.{WireFault}
+use Rattle.tds_wire.specs.declared.fault.Refusal.{Refusal}
 use Rattle.tds_wire.specs.declared.told.Token.{Token}
-use Rattle.tds_wire.specs.Faults.{fault_number}
 use Rattle.tds_wire.specs.Reading.{Reading, Sees, Inside as Amid, next_token}
 use Rattle.tds_judge.specs.declared.finding.Direction.{Direction}
 use Rattle.tds_judge.specs.declared.finding.Direction.TheVariants.{ToClient}
@@ -12,9 +11,8 @@ use Rattle.tds_judge.specs.declared.finding.Finding.{Finding}
 use Rattle.tds_judge.specs.declared.frame.Due.TheVariants as due
 use Rattle.tds_judge.specs.declared.frame.Inside.TheVariants as inside
 use Rattle.tds_judge.specs.declared.judge.Judge.{Judge}
-use Rattle.tds_judge.specs.declared.talk.Ending.TheVariants as endings
 use Rattle.tds_judge.specs.declared.talk.Event.TheVariants as events
-use Rattle.tds_judge.specs.Framing.{Run, frame_by, run_of, said, step, steps, stopped_by, stops}
+use Rattle.tds_judge.specs.Framing.{Run, frame_by, refused_as, run_of, said, step, steps, stopped_by, stops}
 use Rattle.tds_judge.specs.Runs.{IsRefused, failed, passed, place, spot_at}
 use Rattle.tds_judge.proofs.InRuns.{Cuts, skips, stopped, walks_over, walks_to_fault, walks_within}
 
@@ -44,14 +42,14 @@ some_over cuts t zero bytes j told r s left token d i w e some few less = absurd
 some_over cuts t (suc n) [] j told r s left token d i w e some few less = absurd (omega (arith, few))
 some_over cuts t (suc n) (b ∷ bytes) j told r s left token d i w e some few less = walks_over cuts t b n bytes j told r s left token d i w e (omega (arith, few)) (omega (arith, few, less))
 
-pub some_to_fault : (cuts : Cuts) (t n : ℕ) (bytes : List ℕ) (j : Judge) (told : List Finding) (r : Reading) (left : ℕ) (fault : WireFault) (h : IsRefused n r bytes) → h.refusal.fault ≡ fault
+pub some_to_fault : (cuts : Cuts) (t n : ℕ) (bytes : List ℕ) (j : Judge) (told : List Finding) (r : Reading) (left : ℕ) (refusal : Refusal) (h : IsRefused n r bytes) → h.refusal ≡ refusal
     → j.server.due ≡ due.Data left → j.server.inside ≡ inside.Walked → j.walker ≡ Some r → r.refused ≡ None → r.start + r.passed ≤ 9223372036854775808
     → 0 < length bytes → length bytes < left → left ≤ 65535
-    → stops (spot_at (place j.server.offset n) t) (events.Stops endings.WrongToken (fault_number fault)) (run_of (failed left n j) told) ≡ steps ToClient t (take n bytes) (run_of j told)
-some_to_fault cuts t n [] j told r left fault h same d i w whole small some few most = absurd (omega (arith, some))
-some_to_fault cuts t zero (b ∷ bytes) j told r left fault h same d i w whole small some few most = absurd (omega (arith, h.after))
-some_to_fault cuts t (suc n) (b ∷ bytes) j told r left fault h same d i w whole small some few most =
-    ap (λ (f : WireFault). stops (spot_at (place j.server.offset (suc n)) t) (events.Stops endings.WrongToken (fault_number f)) (run_of (failed left (suc n) j) told)) (sym same)
+    → stops (spot_at (place j.server.offset n) t) (refused_as refusal) (run_of (failed left n j) told) ≡ steps ToClient t (take n bytes) (run_of j told)
+some_to_fault cuts t n [] j told r left refusal h same d i w whole small some few most = absurd (omega (arith, some))
+some_to_fault cuts t zero (b ∷ bytes) j told r left refusal h same d i w whole small some few most = absurd (omega (arith, h.after))
+some_to_fault cuts t (suc n) (b ∷ bytes) j told r left refusal h same d i w whole small some few most =
+    ap (λ (x : Refusal). stops (spot_at (place j.server.offset (suc n)) t) (refused_as x) (run_of (failed left (suc n) j) told)) (sym same)
     ∙ walks_to_fault cuts t b n bytes j told r left h.refusal d i w whole small h.refuses few most h.after
 
 pub some_skipped : (walker : Option Reading) (d : Direction) (t n : ℕ) (bytes : List ℕ) (j : Judge) (told : List Finding) (left : ℕ) → j.walker ≡ walker → stopped_by walker ≡ false

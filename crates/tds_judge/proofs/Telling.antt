@@ -17,10 +17,10 @@ use Rattle.tds_judge.specs.declared.talk.Event.{Event}
 use Rattle.tds_judge.specs.declared.talk.Event.TheVariants as events
 use Rattle.tds_judge.specs.declared.talk.Limits.{Limits}
 use Rattle.tds_judge.specs.declared.talk.Talk.{Talk}
-use Rattle.tds_wire.specs.Faults.{fault_number}
 use Rattle.tds_wire.specs.Reading.{Reading, Found, Sees, Inside as Amid, Refuses, next_token}
-use Rattle.tds_judge.specs.Talking.{talk_by, told_by}
-use Rattle.tds_judge.specs.Framing.{Run, begins, begun_by, counted, counted_by, due_by, event_of, fault_of, fits_prefix, frame_of, framed, goes_on, head_of, head_taken, headed, headed_by, inside_by, inside_of, is_plausible, is_tls, is_walked, later_by, lost, message_over, moved, named_if, named_with, opened, opened_frame, over, over_by, prefixed, read_by, restarted_by, said, shifted, slid, slid_frame, spot_of, step, step_by, steps, stops, taken_up, walked, walked_by}
+use Rattle.tds_judge.specs.Talking.{talk_by}
+use Rattle.tds_judge.specs.Noting.{told_by}
+use Rattle.tds_judge.specs.Framing.{Run, answer_begun, begins, begun_by, counted, counted_by, due_by, event_of, fault_of, fits_prefix, frame_of, framed, goes_on, head_of, head_taken, headed, headed_by, inside_by, inside_of, is_judged_version, is_plausible, is_tls, is_walked, is_whole, later_by, lost, message_over, moved, named_if, named_with, opened, opened_frame, over, over_by, prefixed, read_by, restarted_by, said, shifted, slid, slid_frame, spot_of, step, step_by, steps, stops, taken_up, walked, walked_by, refused_as, versioned, versioned_if}
 use Rattle.tds_judge.specs.History.{Said, Tells, found_in, further}
 
 further_more : (later earlier : List Said) (t : Talk) → further later (further earlier t) ≡ further (later ++ earlier) t
@@ -78,7 +78,8 @@ framed_so ToClient f a = nothing a (framed ToClient f a) refl refl refl
 
 message_so : (d : Direction) (spot : Spot) (f : Frame) (a : Run) → Tells a (message_over d spot f a)
 message_so ToServer spot f a = either a (said spot events.Ignored a) a (f.status / 2 % 2 == 1) (said_so spot events.Ignored a) (same a)
-message_so ToClient spot f a = said_so spot _ a
+message_so ToClient spot f a =
+    either a a (said spot (events.Answered (is_whole f.inside a.judge.walker)) a) (f.kind == 18) (same a) (said_so spot (events.Answered (is_whole f.inside a.judge.walker)) a)
 
 over_so_by : (part : Part) (spot : Spot) (f : Frame) (a : Run) → Tells a (over_by part spot f a)
 over_so_by parts.Lost spot f a = same a
@@ -113,16 +114,19 @@ lost_so spot value a =
     (stopped_so spot (events.Stops endings.Encrypted 0) a)
     (either a (slid spot value a) (stops spot (events.Stops endings.NotTds 0) a) (nat_lt spot.offset 1048575) (slid_so spot value a) (stopped_so spot (events.Stops endings.NotTds 0) a))
 
+answer_so : (spot : Spot) (head : Head) (a : Run) → Tells a (answer_begun spot head a)
+answer_so spot head a = either a a (said spot events.Answer a) (head.kind == 18) (same a) (said_so spot events.Answer a)
+
 begun_so : (d : Direction) (spot : Spot) (head : Head) (a : Run) → Tells a (begun_by d spot head a)
 begun_so ToServer spot head a =
     let b = said spot (event_of head) a in
     on a b (opened spot parts.Within (inside_of head.kind) head b) (said_so spot (event_of head) a) (opened_so spot parts.Within (inside_of head.kind) head b)
 begun_so ToClient spot head a =
     let r : Run = record { judge = record a.judge { walker = restarted_by a.judge.walker }; told = a.told } in
-    let b = said spot events.Answer r in
+    let b = answer_begun spot head r in
     let i = if is_walked head a then inside.Walked else inside.Skipped in
     on a r (opened spot parts.Within i head b) (nothing a r refl refl refl)
-    (on r b (opened spot parts.Within i head b) (said_so spot events.Answer r) (opened_so spot parts.Within i head b))
+    (on r b (opened spot parts.Within i head b) (answer_so spot head r) (opened_so spot parts.Within i head b))
 
 begins_so : (spot : Spot) (head : Head) (a : Run) → Tells a (begins spot head a)
 unfolding begins
@@ -181,13 +185,25 @@ prefixed_so spot place fits value a =
     either a (framed spot.direction f a) (named_if fits spot value b) (nat_lt place 17) (framed_so spot.direction f a)
     (on a b (named_if fits spot value b) (framed_so spot.direction g a) (named_so fits spot value b))
 
+versioned_so_by : (judged : Bool) (spot : Spot) (byte : ℕ) (a : Run) → Tells a (versioned_if judged spot byte a)
+versioned_so_by true spot byte a = same a
+versioned_so_by false spot byte a = stopped_so spot (events.Stops endings.OtherVersion byte) a
+
+versioned_so : (spot : Spot) (place byte : ℕ) (a : Run) → Tells a (versioned spot place byte a)
+versioned_so spot place byte a =
+    let f = record (frame_of spot.direction a) { inside = inside.Version (place + 1) } in
+    let g = record (frame_of spot.direction a) { inside = inside.Skipped } in
+    let b = framed spot.direction g a in
+    either a (framed spot.direction f a) (versioned_if (is_judged_version byte) spot byte b) (nat_lt place 7) (framed_so spot.direction f a)
+    (on a b (versioned_if (is_judged_version byte) spot byte b) (framed_so spot.direction g a) (versioned_so_by (is_judged_version byte) spot byte b))
+
 read_so : (r : Reading) (a : Run) → Tells a (read_by r a)
 read_so r a = nothing a (read_by r a) refl refl refl
 
 found_so : (found : Found) (spot : Spot) (a : Run) → Tells a (walked_by found spot a)
 found_so (Sees token r rest) spot a = on a (read_by r a) (said spot (events.Says token) (read_by r a)) (read_so r a) (said_so spot (events.Says token) (read_by r a))
 found_so (Amid r) spot a = read_so r a
-found_so (Refuses refusal) spot a = stopped_so spot (events.Stops endings.WrongToken (fault_number refusal.fault)) a
+found_so (Refuses refusal) spot a = stopped_so spot (refused_as refusal) a
 
 walked_so : (o : Option Reading) (spot : Spot) (byte : ℕ) (a : Run) → Tells a (walked o spot byte a)
 walked_so None spot byte a = same a
@@ -198,6 +214,7 @@ unfolding inside_by
 inside_so inside.Skipped spot byte a = same a
 inside_so (inside.Prefix place fits value) spot byte a = prefixed_so spot place (fits && fits_prefix place byte) (named_with place value byte) a
 inside_so inside.Walked spot byte a = walked_so a.judge.walker spot byte a
+inside_so (inside.Version place) spot byte a = versioned_so spot place byte a
 
 counted_so : (o : Option Reading) (spot : Spot) (left : ℕ) (a : Run) → Tells a (counted_by o spot left a)
 counted_so None spot left a = same a

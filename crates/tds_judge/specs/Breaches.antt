@@ -11,7 +11,7 @@ use Rattle.tds_wire.specs.declared.told.ChangeValue.TheVariants as changes
 use Rattle.tds_wire.specs.declared.told.Told.{Told}
 use Rattle.tds_wire.specs.declared.told.Told.TheVariants as told
 use Rattle.tds_judge.specs.History.{Said, is_acknowledged, is_out, is_underway, last_told, owed_of}
-use Rattle.tds_judge.specs.Talking.{descriptor_of, keeps}
+use Rattle.tds_judge.specs.Talking.{descriptor_of, is_asked, is_long, is_request, keeps, reset_of}
 
 -- ---- The answer that comes, and its request
 
@@ -39,7 +39,7 @@ unfoldable pub is_over : List Said → Bool
 is_over [] = false
 is_over (x ∷ past) = final_by x.event (is_over past)
 
--- the packet size that was agreed on; 0 where it isn't known
+-- the packet size that was told last; 0 where none was
 abbrev pub size_by_change : ChangeValue → ℕ → ℕ
 size_by_change (changes.PacketSize size) before = size
 size_by_change _ before = before
@@ -52,52 +52,71 @@ abbrev pub size_by : Event → ℕ → ℕ
 size_by (events.Says token) before = size_by_token token.told before
 size_by _ before = before
 
+unfoldable pub agreed_last : List Said → ℕ
+agreed_last [] = 0
+agreed_last (x ∷ past) = size_by x.event (agreed_last past)
+
+-- the packet size that counts: what was told last when an answer ended
+abbrev pub most_by : Event → ℕ → ℕ → ℕ
+most_by (events.Answered whole) agreed before = agreed
+most_by _ agreed before = before
+
 unfoldable pub size_told : List Said → ℕ
 size_told [] = 0
-size_told (x ∷ past) = size_by x.event (size_told past)
+size_told (x ∷ past) = most_by x.event (agreed_last past) (size_told past)
 
--- the next request is the first one of a new borrower
+-- A new borrower has the connection, and no reset was heard of since (2.2.7.9, type 18). A request that asks for none is told once.
+abbrev pub lent_by_change : ChangeValue → Bool → Bool
+lent_by_change changes.ResetDone before = false
+lent_by_change _ before = before
+
+abbrev pub lent_by_token : Told → Bool → Bool
+lent_by_token (told.Change change) before = lent_by_change change.value before
+lent_by_token _ before = before
+
 abbrev pub lent_by : Event → Bool → Bool
 lent_by events.Borrowed before = true
-lent_by (events.Request status) before = false
+lent_by (events.Request status) before = before && is_asked (reset_of status)
+lent_by (events.Says token) before = lent_by_token token.told before
 lent_by _ before = before
 
 unfoldable pub is_lent : List Said → Bool
 is_lent [] = false
 is_lent (x ∷ past) = lent_by x.event (is_lent past)
 
--- ---- Attentions (2.2.1.7)
+-- the answer to a request that wasn't cancelled
+abbrev pub is_plain_answer : List Said → Bool
+is_plain_answer past = is_request (asked_last past) && (not (is_out past) && not (is_acknowledged past))
 
--- two attentions were out at once, and the second acknowledgement is still to come
-abbrev pub twice_by : Event → Bool → Bool → Bool → Bool
-twice_by (events.Attention size status) acknowledged out before = before || out
-twice_by (events.Answered whole) acknowledged out before = if acknowledged then before && out else before
-twice_by _ acknowledged out before = before
+-- ---- Versions
 
-unfoldable pub is_twice : List Said → Bool
-is_twice [] = false
-is_twice (x ∷ past) = twice_by x.event (is_acknowledged past) (is_out past) (is_twice past)
+-- TDS 7.2 or later was shown: by ALL_HEADERS (2.2.5.3), or by a DONE of 13 bytes (2.2.7.6)
+abbrev pub dated_by_token : Told → Bool → Bool
+dated_by_token (told.Done done) before = before || is_long done
+dated_by_token _ before = before
 
--- since the attention that is out, the answer of its request has ended
-abbrev pub ended_by : Event → Bool → Bool → Bool → Bool
-ended_by (events.Attention size status) acknowledged underway before = not underway
-ended_by (events.Answered whole) acknowledged underway before = not acknowledged
-ended_by _ acknowledged underway before = before
+abbrev pub dated_by : Event → Bool → Bool
+dated_by (events.Names descriptor) before = true
+dated_by (events.Says token) before = dated_by_token token.told before
+dated_by _ before = before
 
-unfoldable pub has_ended : List Said → Bool
-has_ended [] = false
-has_ended (x ∷ past) = ended_by x.event (is_acknowledged past) (is_underway past) (has_ended past)
+unfoldable pub is_dated : List Said → Bool
+is_dated [] = false
+is_dated (x ∷ past) = dated_by x.event (is_dated past)
 
--- a request was sent while the attention is out, and its own answer hasn't ended
-abbrev pub asked_since_by : Event → Bool → Bool → Bool → Bool → Bool
-asked_since_by (events.Request status) acknowledged out ended before = out
-asked_since_by (events.Attention size status) acknowledged out ended before = false
-asked_since_by (events.Answered whole) acknowledged out ended before = not acknowledged && (before && not ended)
-asked_since_by _ acknowledged out ended before = before
+-- An earlier one, before that: a DONE isn't one of 13 bytes, or the answer to a request ends inside a token.
+abbrev pub other_by_token : Told → Bool → Bool → Bool
+other_by_token (told.Done done) dated before = before || (not dated && not (is_long done))
+other_by_token _ dated before = before
 
-unfoldable pub has_asked_since : List Said → Bool
-has_asked_since [] = false
-has_asked_since (x ∷ past) = asked_since_by x.event (is_acknowledged past) (is_out past) (has_ended past) (has_asked_since past)
+abbrev pub other_by : Event → (dated plain acknowledged before : Bool) → Bool
+other_by (events.Says token) dated plain acknowledged before = other_by_token token.told dated before
+other_by (events.Answered whole) dated plain acknowledged before = if acknowledged then before else before || (plain && (not whole && not dated))
+other_by _ dated plain acknowledged before = before
+
+unfoldable pub is_other_shown : List Said → Bool
+is_other_shown [] = false
+is_other_shown (x ∷ past) = other_by x.event (is_dated past) (is_plain_answer past) (is_acknowledged past) (is_other_shown past)
 
 -- ---- Transactions (2.2.7.9)
 

@@ -1,7 +1,9 @@
 -- Lawful conversations: one exchange behind the other, in the order in which somebody on the way sees both directions (MS-TDS 3.2.5, 3.3.5).
 -- That an attention is seen before the end of the answer that it stops, or behind it, is lawful both.
-use Rattle.std.specs.Prelude.{◌≡◌, ℕ, ◌%◌, ◌==◌, ◌&&◌, ◌||◌, not, nat_lt, Bool, true, false, List, [], ◌∷◌}
+use Rattle.std.specs.Prelude.{◌≡◌, ℕ, ◌==◌, ◌&&◌, ◌||◌, not, nat_lt, Bool, true, false, List, [], ◌∷◌}
 use Rattle.tds_judge.specs.declared.finding.Direction.{Direction}
+use Rattle.tds_judge.specs.declared.talk.Ending.{Ending}
+use Rattle.tds_judge.specs.declared.talk.Ending.TheVariants as endings
 use Rattle.tds_judge.specs.declared.talk.Event.{Event}
 use Rattle.tds_judge.specs.declared.talk.Event.TheVariants as events
 use Rattle.tds_judge.specs.declared.talk.Reset.{Reset}
@@ -16,7 +18,7 @@ use Rattle.tds_wire.specs.declared.told.Token.{Token}
 use Rattle.tds_judge.specs.Breaches.{final_by_token, size_told}
 use Rattle.tds_judge.specs.Framing.{Run, closed, event_said, steps}
 use Rattle.tds_judge.specs.History.{Said, last_told}
-use Rattle.tds_judge.specs.Talking.{acknowledges, is_both, is_full, reset_of}
+use Rattle.tds_judge.specs.Talking.{acknowledges, changes_wrongly, ignores_early, is_both, is_full, reset_of}
 
 -- Where a conversation is.
 pub data Place : Type 0 where
@@ -66,6 +68,7 @@ stopped_at place = Stopping
 -- what the server is to ignore isn't answered (2.2.3.1.2)
 abbrev pub forgotten_at : Place → Place
 forgotten_at (Asking reset) = Quiet
+forgotten_at Greeting = Quiet
 forgotten_at place = place
 
 abbrev pub place_by : Event → Place → Place
@@ -84,9 +87,9 @@ place_of (x ∷ past) = place_by x.event (place_of past)
 
 -- ---- What may be said there
 
--- A request is begun where nothing is awaited, with one reset bit at most (2.2.3.1.2).
+-- A request is begun where nothing is awaited, with one reset bit at most; what is to be ignored ends its message (2.2.3.1.2).
 abbrev pub MayAsk : Place → ℕ → Type 0
-MayAsk Quiet status = is_both (reset_of status) ≡ false
+MayAsk Quiet status = (is_both (reset_of status) ≡ false) × (ignores_early status ≡ false)
 MayAsk _ status = ⊥
 
 -- A login is of several messages (2.2.6).
@@ -118,7 +121,7 @@ MayAnswer (Asking reset) = Unit {0}
 MayAnswer Stopping = Unit {0}
 MayAnswer _ = ⊥
 
--- The answer to a request acknowledges no attention (2.2.7.6).
+-- The answer to a request acknowledges no attention (2.2.7.6). None begins a transaction inside another one, or ends another one (2.2.7.9).
 abbrev pub MaySay : Place → Token → Type 0
 MaySay Greeting token = Unit {0}
 MaySay (Answering reset final) token = acknowledges token ≡ false
@@ -132,22 +135,34 @@ MayEnd (Answering resets.None true) true = Unit {0}
 MayEnd (Skipping acknowledged) whole = Unit {0}
 MayEnd _ whole = ⊥
 
+-- It is lent where nothing is awaited.
+abbrev pub MayLend : Place → Type 0
+MayLend Quiet = Unit {0}
+MayLend _ = ⊥
+
+-- Encryption, other versions, other protocols and COMPUTE aren't judged; they are lawful.
+abbrev pub MayStay : Ending → Type 0
+MayStay endings.WrongToken = ⊥
+MayStay endings.WrongLength = ⊥
+MayStay endings.WrongDirection = ⊥
+MayStay _ = Unit {0}
+
 -- by the transaction and the packet size that were told last; 0 where no size was
 abbrev pub MayAt : Place → Transaction → ℕ → Event → Type 0
 MayAt place last most (events.Packet size) = ((most == 0) || not (nat_lt most size)) ≡ true
 MayAt place last most events.Unfinished = ⊥
 MayAt place last most (events.Request status) = MayAsk place status
 MayAt place last most events.Login = MayGreet place
-MayAt place last most (events.Attention size status) = MayStop place × (size ≡ 8) × (status % 2 ≡ 1)
-MayAt place last most (events.Later status) = reset_of status ≡ resets.None
+MayAt place last most (events.Attention size status) = MayStop place × (size ≡ 8) × (status ≡ 1)
+MayAt place last most (events.Later status) = (reset_of status ≡ resets.None) × (ignores_early status ≡ false)
 MayAt place last most (events.Names descriptor) = MayName place last descriptor
 MayAt place last most events.Ignored = Unit {0}
 MayAt place last most events.Answer = MayAnswer place
-MayAt place last most (events.Says token) = MaySay place token
+MayAt place last most (events.Says token) = MaySay place token × (changes_wrongly last token ≡ false)
 MayAt place last most (events.Answered whole) = MayEnd place whole
 MayAt place last most events.TakenUp = Unit {0}
-MayAt place last most (events.Stops ending value) = ⊥
-MayAt place last most events.Borrowed = Unit {0}
+MayAt place last most (events.Stops ending value) = MayStay ending
+MayAt place last most events.Borrowed = MayLend place
 MayAt place last most events.Closed = Unit {0}
 
 abbrev pub May : List Said → Event → Type 0

@@ -37,12 +37,22 @@ number_of names.UnclearChange = 26
 number_of names.TakenUp = 27
 number_of names.Encrypted = 28
 number_of names.NotTds = 29
+number_of names.OtherVersion = 30
+number_of names.Compute = 31
+number_of names.AnswerUnasked = 32
+number_of names.LentWhileAnswering = 33
+number_of names.ResetUnasked = 34
+number_of names.WrongChange = 35
+number_of names.NoneEnded = 36
+number_of names.IgnoreUnended = 37
+number_of names.WrongDirection = 38
+number_of names.AcknowledgementNotLast = 39
 
 abbrev pub is_risk : ℕ → Bool
-is_risk n = (n == 6) || (n == 10) || (n == 11) || (n == 12) || (n == 17) || (n == 18) || (n == 26)
+is_risk n = (n == 6) || (n == 10) || (n == 11) || (n == 12) || (n == 17) || (n == 18) || (n == 26) || (n == 36) || (n == 39)
 
 abbrev pub is_note : ℕ → Bool
-is_note n = (n == 16) || (n == 27) || (n == 28) || (n == 29)
+is_note n = (n == 16) || (n == 27) || (n == 28) || (n == 29) || (n == 30) || (n == 31) || (n == 34)
 
 -- what isn't a risk or a note is a breach of MS-TDS
 abbrev pub level_of : ℕ → Level
@@ -50,7 +60,7 @@ level_of n = if is_risk n then Risk else if is_note n then Note else Breach
 
 -- the judging of the connection ends with it
 abbrev pub ends_judging : ℕ → Bool
-ends_judging n = (n == 21) || (n == 23) || (n == 28) || (n == 29)
+ends_judging n = (n == 21) || (n == 23) || (n == 28) || (n == 29) || (n == 30) || (n == 31) || (n == 38)
 
 -- the findings so far, and this one where it is
 abbrev pub noted : List Finding → Spot → Bool → Name → ℕ → List Finding

@@ -17,7 +17,9 @@ use Rattle.tds_judge.specs.declared.talk.Ending.TheVariants as endings
 use Rattle.tds_judge.specs.declared.talk.Event.{Event}
 use Rattle.tds_judge.specs.declared.talk.Event.TheVariants as events
 use Rattle.tds_judge.specs.declared.talk.Limits.{Limits}
-use Rattle.tds_judge.specs.Talking.{new_talk, talk_by, told_by}
+use Rattle.tds_judge.specs.Talking.{new_talk, talk_by}
+use Rattle.tds_judge.specs.Noting.{told_by}
+use Rattle.tds_wire.specs.declared.fault.Refusal.{Refusal}
 use Rattle.tds_wire.specs.Faults.{fault_number}
 use Rattle.tds_wire.specs.Reading.{IsReady, Reading, Found, Sees, Inside as Amid, Refuses, is_between, next_token, restarted}
 
@@ -48,10 +50,15 @@ is_plausible direction head = is_kind direction head.kind && not (nat_lt head.si
 abbrev pub is_tls : Head → Bool
 is_tls head = ((head.kind == 20) || (head.kind == 21) || (head.kind == 22) || (head.kind == 23)) && (head.status == 3)
 
+abbrev pub other_way : Direction → Direction
+other_way ToServer = ToClient
+other_way ToClient = ToServer
+
 abbrev pub fault_of : Direction → Head → Event
 fault_of direction head =
     if is_tls head then events.Stops endings.Encrypted 0
     else if is_kind direction head.kind then events.Stops endings.WrongLength head.size
+    else if is_plausible (other_way direction) head then events.Stops endings.WrongDirection head.kind
     else events.Stops endings.NotTds head.kind
 
 abbrev pub event_of : Head → Event
@@ -63,7 +70,7 @@ event_of head =
 -- ---- ALL_HEADERS (MS-TDS 2.2.5.3): a total length in 4 bytes, the header's own in 4, its type in 2, and the descriptor in 8
 
 abbrev pub inside_of : ℕ → Inside
-inside_of kind = if (kind == 1) || (kind == 3) || (kind == 14) then inside.Prefix 0 true 0 else inside.Skipped
+inside_of kind = if (kind == 1) || (kind == 3) || (kind == 14) then inside.Prefix 0 true 0 else if kind == 16 then inside.Version 0 else inside.Skipped
 
 abbrev pub fits_prefix : ℕ → ℕ → Bool
 fits_prefix place byte =
@@ -122,13 +129,14 @@ stops spot event run = said spot event (record { judge = record run.judge { walk
 abbrev pub is_whole : Inside → Option Reading → Bool
 is_whole inside.Skipped walker = true
 is_whole (inside.Prefix place fits value) walker = true
+is_whole (inside.Version place) walker = true
 is_whole inside.Walked None = true
 is_whole inside.Walked (Some r) = is_between r
 
 -- a message whose beginning was seen ends
 abbrev pub message_over : Direction → Spot → Frame → Run → Run
 message_over ToServer spot f run = if f.status / 2 % 2 == 1 then said spot events.Ignored run else run
-message_over ToClient spot f run = said spot (events.Answered (is_whole f.inside run.judge.walker)) run
+message_over ToClient spot f run = if f.kind == 18 then run else said spot (events.Answered (is_whole f.inside run.judge.walker)) run
 
 abbrev pub over_by : Part → Spot → Frame → Run → Run
 over_by parts.Lost spot f run = run
@@ -173,11 +181,15 @@ abbrev pub restarted_by : Option Reading → Option Reading
 restarted_by None = None
 restarted_by (Some r) = Some (restarted r)
 
+-- A message of that type to the client is one of TLS's handshake, of which there are as many as it needs (2.2.6.5).
+abbrev pub answer_begun : Spot → Head → Run → Run
+answer_begun spot head run = if head.kind == 18 then run else said spot events.Answer run
+
 abbrev pub begun_by : Direction → Spot → Head → Run → Run
 begun_by ToServer spot head run = opened spot parts.Within (inside_of head.kind) head (said spot (event_of head) run)
 begun_by ToClient spot head run =
     opened spot parts.Within (if is_walked head run then inside.Walked else inside.Skipped) head
-    (said spot events.Answer (record { judge = record run.judge { walker = restarted_by run.judge.walker }; told = run.told }))
+    (answer_begun spot head (record { judge = record run.judge { walker = restarted_by run.judge.walker }; told = run.told }))
 
 -- a message begins
 unfoldable pub begins : Spot → Head → Run → Run
@@ -231,13 +243,33 @@ prefixed spot place fits value run =
     then framed spot.direction (record (frame_of spot.direction run) { inside = inside.Prefix (place + 1) fits value }) run
     else named_if fits spot value (framed spot.direction (record (frame_of spot.direction run) { inside = inside.Skipped }) run)
 
+-- LOGIN7 has its length in 4 bytes, then its version, whose highest byte comes last: 72 to 74 (MS-TDS 2.2.6.4)
+abbrev pub is_judged_version : ℕ → Bool
+is_judged_version byte = (byte == 0x72) || (byte == 0x73) || (byte == 0x74)
+
+abbrev pub versioned_if : Bool → Spot → ℕ → Run → Run
+versioned_if judged spot byte run = if judged then run else stops spot (events.Stops endings.OtherVersion byte) run
+
+abbrev pub versioned : Spot → ℕ → ℕ → Run → Run
+versioned spot place byte run =
+    if nat_lt place 7
+    then framed spot.direction (record (frame_of spot.direction run) { inside = inside.Version (place + 1) }) run
+    else versioned_if (is_judged_version byte) spot byte (framed spot.direction (record (frame_of spot.direction run) { inside = inside.Skipped }) run)
+
 abbrev pub read_by : Reading → Run → Run
 read_by r run = record { judge = record run.judge { walker = Some r }; told = run.told }
+
+-- ALTMETADATA and ALTROW (COMPUTE, 2.2.7.1 and 2.2.7.2) aren't read; all else that is refused is no token
+abbrev pub refused_as : Refusal → Event
+refused_as refusal =
+    if (fault_number refusal.fault == 1) && ((refusal.byte == 0x88) || (refusal.byte == 0xD3))
+    then events.Stops endings.Compute refusal.byte
+    else events.Stops endings.WrongToken (fault_number refusal.fault)
 
 abbrev pub walked_by : Found → Spot → Run → Run
 walked_by (Sees token r rest) spot run = said spot (events.Says token) (read_by r run)
 walked_by (Amid r) spot run = read_by r run
-walked_by (Refuses refusal) spot run = stops spot (events.Stops endings.WrongToken (fault_number refusal.fault)) run
+walked_by (Refuses refusal) spot run = stops spot (refused_as refusal) run
 
 abbrev pub walked : Option Reading → Spot → ℕ → Run → Run
 walked None spot byte run = run
@@ -247,6 +279,7 @@ unfoldable pub inside_by : Inside → Spot → ℕ → Run → Run
 inside_by inside.Skipped spot byte run = run
 inside_by (inside.Prefix place fits value) spot byte run = prefixed spot place (fits && fits_prefix place byte) (named_with place value byte) run
 inside_by inside.Walked spot byte run = walked run.judge.walker spot byte run
+inside_by (inside.Version place) spot byte run = versioned spot place byte run
 
 abbrev pub counted_by : Option Reading → Spot → ℕ → Run → Run
 counted_by None spot left run = run

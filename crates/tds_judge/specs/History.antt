@@ -16,7 +16,8 @@ use Rattle.tds_wire.specs.declared.told.Told.{Told}
 use Rattle.tds_wire.specs.declared.told.Told.TheVariants as told
 use Rattle.tds_judge.specs.Findings.{number_of}
 use Rattle.tds_judge.specs.Framing.{Run}
-use Rattle.tds_judge.specs.Talking.{acknowledges, descriptor_of, is_both, is_full, is_told, keeps, new_talk, owed, reset_of, talk_by, told_by}
+use Rattle.tds_judge.specs.Talking.{acknowledges, begun_as, descriptor_of, is_both, is_full, is_told, keeps, new_talk, owed, reset_of, talk_by}
+use Rattle.tds_judge.specs.Noting.{told_by}
 
 -- where and when something was said, and what
 pub record Said : Type 0 where
@@ -97,29 +98,77 @@ unfoldable pub is_out : List Said → Bool
 is_out [] = false
 is_out (x ∷ past) = out_by x.event (is_acknowledged past) (is_out past)
 
+-- two attentions were out at once, and the second acknowledgement is still to come
+abbrev pub twice_by : Event → Bool → Bool → Bool → Bool
+twice_by (events.Attention size status) acknowledged out before = before || out
+twice_by (events.Answered whole) acknowledged out before = if acknowledged then before && out else before
+twice_by _ acknowledged out before = before
+
+unfoldable pub is_twice : List Said → Bool
+is_twice [] = false
+is_twice (x ∷ past) = twice_by x.event (is_acknowledged past) (is_out past) (is_twice past)
+
 -- ---- Requests
 
--- A request is underway until an answer ends, or the request itself is to be ignored.
-abbrev pub underway_by : Event → Bool → Bool
-underway_by (events.Request status) before = true
-underway_by events.Login before = true
-underway_by (events.Answered whole) before = false
-underway_by events.Ignored before = false
-underway_by (events.Attention size status) before = before
-underway_by events.Answer before = before
-underway_by (events.Says token) before = before
-underway_by (events.Packet size) before = before
-underway_by events.Unfinished before = before
-underway_by (events.Later status) before = before
-underway_by (events.Names descriptor) before = before
-underway_by events.TakenUp before = before
-underway_by (events.Stops ending value) before = before
-underway_by events.Borrowed before = before
-underway_by events.Closed before = before
+-- A request is underway until an answer ends, or the request itself is to be ignored. An acknowledgement ends the request before the attention,
+-- and leaves underway what was asked since; the second of two acknowledgements ends nothing.
+abbrev pub left_underway : (acknowledged out since twice before : Bool) → Bool
+left_underway acknowledged out since twice before = if acknowledged then (if out then since else twice && before) else false
 
-unfoldable pub is_underway : List Said → Bool
-is_underway [] = false
-is_underway (x ∷ past) = underway_by x.event (is_underway past)
+abbrev pub underway_by : Event → (acknowledged out since twice before : Bool) → Bool
+underway_by (events.Request status) acknowledged out since twice before = true
+underway_by events.Login acknowledged out since twice before = true
+underway_by (events.Answered whole) acknowledged out since twice before = left_underway acknowledged out since twice before
+underway_by events.Ignored acknowledged out since twice before = false
+underway_by (events.Attention size status) acknowledged out since twice before = before
+underway_by events.Answer acknowledged out since twice before = before
+underway_by (events.Says token) acknowledged out since twice before = before
+underway_by (events.Packet size) acknowledged out since twice before = before
+underway_by events.Unfinished acknowledged out since twice before = before
+underway_by (events.Later status) acknowledged out since twice before = before
+underway_by (events.Names descriptor) acknowledged out since twice before = before
+underway_by events.TakenUp acknowledged out since twice before = before
+underway_by (events.Stops ending value) acknowledged out since twice before = before
+underway_by events.Borrowed acknowledged out since twice before = before
+underway_by events.Closed acknowledged out since twice before = before
+
+-- since the attention that is out, the answer of its request has ended
+abbrev pub ended_by : Event → (acknowledged underway before : Bool) → Bool
+ended_by (events.Attention size status) acknowledged underway before = not underway
+ended_by (events.Answered whole) acknowledged underway before = not acknowledged
+ended_by _ acknowledged underway before = before
+
+-- a request was sent while the attention is out, and its own answer hasn't ended
+abbrev pub asked_since_by : Event → (acknowledged out ended before : Bool) → Bool
+asked_since_by (events.Request status) acknowledged out ended before = out
+asked_since_by (events.Attention size status) acknowledged out ended before = false
+asked_since_by (events.Answered whole) acknowledged out ended before = not acknowledged && (before && not ended)
+asked_since_by _ acknowledged out ended before = before
+
+pub record Course : Type 0 where
+  pub underway : Bool
+  pub ended : Bool
+  pub since : Bool
+
+abbrev pub course_by : Event → (acknowledged out twice : Bool) → Course → Course
+course_by event acknowledged out twice t = record {
+  underway = underway_by event acknowledged out t.since twice t.underway;
+  ended = ended_by event acknowledged t.underway t.ended;
+  since = asked_since_by event acknowledged out t.ended t.since;
+}
+
+unfoldable pub course_of : List Said → Course
+course_of [] = record { underway = false; ended = false; since = false }
+course_of (x ∷ past) = course_by x.event (is_acknowledged past) (is_out past) (is_twice past) (course_of past)
+
+abbrev pub is_underway : List Said → Bool
+is_underway past = (course_of past).underway
+
+abbrev pub has_ended : List Said → Bool
+has_ended past = (course_of past).ended
+
+abbrev pub has_asked_since : List Said → Bool
+has_asked_since past = (course_of past).since
 
 -- what the newest request asks for
 abbrev pub asks_by : Event → Reset → Reset
@@ -170,7 +219,7 @@ owed_of past = owed (is_cleared past) (asks_of past)
 
 -- 8 has begun, 11 is enlisted; all others end it
 abbrev pub last_by_type : ℕ → ℕ → Transaction
-last_by_type type new = if (type == 8) || (type == 11) then transactions.Told new else transactions.Told 0
+last_by_type type new = if (type == 8) || (type == 11) then begun_as type new else transactions.Told 0
 
 abbrev pub last_by_change : ℕ → ChangeValue → Reset → Transaction → Transaction
 last_by_change type (changes.Transaction new old) owes before = last_by_type type new

@@ -1,5 +1,6 @@
 pub mod Findings
 pub mod Talking
+pub mod Noting
 pub mod Framing
 pub mod History
 pub mod Breaches

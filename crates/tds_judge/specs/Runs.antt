@@ -24,7 +24,7 @@ pub record IsRefused (n : ℕ) (r : Reading) (piece : List ℕ) : Type 0 where
 abbrev pub IsWent : Went → Reading → Reading → List ℕ → Type 0
 IsWent went.Inside r s piece = next_token r piece ≡ Inside s
 IsWent (went.Ends n token) r s piece = (next_token r piece ≡ Sees token s (drop n piece)) × (0 < n) × (n ≤ length piece)
-IsWent (went.Fails n fault) r s piece = (h : IsRefused n r piece) × (h.refusal.fault ≡ fault)
+IsWent (went.Fails n refusal) r s piece = (h : IsRefused n r piece) × (h.refusal ≡ refusal)
 
 -- so many bytes of data have gone by, fewer than are left
 abbrev pub passed : Direction → ℕ → ℕ → Judge → Judge

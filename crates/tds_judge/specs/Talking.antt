@@ -1,16 +1,9 @@
--- What both ends of a connection have said, what more is said, and what is wrong with it.
-use Rattle.std.specs.Prelude.{ℕ, ◌-◌, ◌/◌, ◌%◌, ◌==◌, ◌&&◌, ◌||◌, not, nat_lt, Bool, true, false, List, if◌then◌else◌}
-use Rattle.tds_judge.specs.declared.finding.Finding.{Finding}
-use Rattle.tds_judge.specs.declared.finding.Name.{Name}
-use Rattle.tds_judge.specs.declared.finding.Name.TheVariants as names
-use Rattle.tds_judge.specs.declared.finding.Spot.{Spot}
+-- What both ends of a connection have said, and what more is said.
+use Rattle.std.specs.Prelude.{ℕ, ◌/◌, ◌%◌, ◌==◌, ◌&&◌, ◌||◌, not, nat_lt, Bool, true, false, if◌then◌else◌}
 use Rattle.tds_judge.specs.declared.talk.Asked.{Asked}
 use Rattle.tds_judge.specs.declared.talk.Asked.TheVariants as asks
-use Rattle.tds_judge.specs.declared.talk.Ending.{Ending}
-use Rattle.tds_judge.specs.declared.talk.Ending.TheVariants as endings
 use Rattle.tds_judge.specs.declared.talk.Event.{Event}
 use Rattle.tds_judge.specs.declared.talk.Event.TheVariants as events
-use Rattle.tds_judge.specs.declared.talk.Limits.{Limits}
 use Rattle.tds_judge.specs.declared.talk.Reset.{Reset}
 use Rattle.tds_judge.specs.declared.talk.Reset.TheVariants as resets
 use Rattle.tds_judge.specs.declared.talk.Talk.{Talk}
@@ -18,10 +11,10 @@ use Rattle.tds_judge.specs.declared.talk.Transaction.{Transaction}
 use Rattle.tds_judge.specs.declared.talk.Transaction.TheVariants as transactions
 use Rattle.tds_wire.specs.declared.told.ChangeValue.{ChangeValue}
 use Rattle.tds_wire.specs.declared.told.ChangeValue.TheVariants as changes
+use Rattle.tds_wire.specs.declared.told.Done.{Done}
 use Rattle.tds_wire.specs.declared.told.Told.{Told}
 use Rattle.tds_wire.specs.declared.told.Told.TheVariants as told
 use Rattle.tds_wire.specs.declared.told.Token.{Token}
-use Rattle.tds_judge.specs.Findings.{noted}
 
 -- ---- Words
 
@@ -65,6 +58,12 @@ is_request asks.Unknown = false
 is_request asks.Login = false
 is_request asks.Request = true
 
+-- something was sent to the server
+abbrev pub is_known : Asked → Bool
+is_known asks.Unknown = false
+is_known asks.Login = true
+is_known asks.Request = true
+
 abbrev pub descriptor_of : Transaction → ℕ
 descriptor_of transactions.Unknown = 0
 descriptor_of (transactions.Told descriptor) = descriptor
@@ -86,6 +85,91 @@ told_acknowledges told.Other = false
 abbrev pub acknowledges : Token → Bool
 acknowledges token = told_acknowledges token.told
 
+-- a packet that is to be ignored, and doesn't end its message (MS-TDS 2.2.3.1.2)
+abbrev pub ignores_early : ℕ → Bool
+ignores_early status = (status / 2 % 2 == 1) && not (status % 2 == 1)
+
+-- a DONE that says that more come (MS-TDS 2.2.7.6)
+abbrev pub told_more : Told → Bool
+told_more (told.Done done) = done.status % 2 == 1
+told_more (told.Change change) = false
+told_more (told.Message message) = false
+told_more (told.ReturnStatus value) = false
+told_more (told.SessionState state) = false
+told_more told.Unclear = false
+told_more told.Other = false
+
+abbrev pub says_more : Token → Bool
+says_more token = told_more token.told
+
+-- ---- Changes (MS-TDS 2.2.7.9)
+
+-- what is so of a change, and of no other token
+abbrev pub of_change : Told → (ℕ → ChangeValue → Bool) → Bool
+of_change (told.Done done) is = false
+of_change (told.Change change) is = is change.kind change.value
+of_change (told.Message message) is = false
+of_change (told.ReturnStatus value) is = false
+of_change (told.SessionState state) is = false
+of_change told.Unclear is = false
+of_change told.Other is = false
+
+-- what is so of a transaction's change, by its new and its old value
+abbrev pub of_both : ChangeValue → (ℕ → ℕ → Bool) → Bool
+of_both (changes.Transaction new old) is = is new old
+of_both changes.ResetDone is = false
+of_both (changes.PacketSize size) is = false
+of_both (changes.Values new old) is = false
+of_both changes.Other is = false
+
+abbrev pub is_reset_done : ChangeValue → Bool
+is_reset_done (changes.Transaction new old) = false
+is_reset_done changes.ResetDone = true
+is_reset_done (changes.PacketSize size) = false
+is_reset_done (changes.Values new old) = false
+is_reset_done changes.Other = false
+
+-- type 18
+abbrev pub tells_reset : Token → Bool
+tells_reset token = of_change token.told (λ type value. is_reset_done value)
+
+-- 9 committed, 10 rolled back, 17 ended: the old value is the descriptor
+abbrev pub ends_old : ℕ → Bool
+ends_old type = (type == 9) || (type == 10) || (type == 17)
+
+-- 8 begins one inside another or without a descriptor, or another one ends than was told last
+abbrev pub changes_wrongly : Transaction → Token → Bool
+changes_wrongly last token = of_change token.told (λ type value. of_both value (λ new old.
+    if (type == 8) || (type == 11) then (type == 8) && ((new == 0) || (not (descriptor_of last == 0) && not (descriptor_of last == new)))
+    else ends_old type && (not (descriptor_of last == 0) && not (descriptor_of last == old))))
+
+-- one ends, and it was told that none is open
+abbrev pub ends_none : Transaction → Token → Bool
+ends_none last token = of_change token.told (λ type value. of_both value (λ new old. ends_old type && (is_told last && (descriptor_of last == 0))))
+
+abbrev pub old_of : ChangeValue → ℕ
+old_of (changes.Transaction new old) = old
+old_of changes.ResetDone = 0
+old_of (changes.PacketSize size) = 0
+old_of (changes.Values new old) = 0
+old_of changes.Other = 0
+
+abbrev pub told_old : Told → ℕ
+told_old (told.Done done) = 0
+told_old (told.Change change) = old_of change.value
+told_old (told.Message message) = 0
+told_old (told.ReturnStatus value) = 0
+told_old (told.SessionState state) = 0
+told_old told.Unclear = 0
+told_old told.Other = 0
+
+abbrev pub ended_descriptor : Token → ℕ
+ended_descriptor token = told_old token.told
+
+-- Type 11 has its descriptor as the old value by its table, and as the new one by what clients do: none is known from there on.
+abbrev pub begun_as : ℕ → ℕ → Transaction
+begun_as type new = if type == 11 then transactions.Unknown else transactions.Told new
+
 -- an ENVCHANGE whose fields don't fit its length
 abbrev pub unclear_by : ℕ → Told → Bool
 unclear_by kind (told.Done done) = false
@@ -99,18 +183,28 @@ unclear_by kind told.Other = false
 abbrev pub is_unclear : Token → Bool
 is_unclear token = unclear_by token.kind token.told
 
--- why the judging ends
-abbrev pub ending_name : Ending → Name
-ending_name endings.WrongToken = names.WrongToken
-ending_name endings.WrongLength = names.WrongLength
-ending_name endings.Encrypted = names.Encrypted
-ending_name endings.NotTds = names.NotTds
+-- A DONE of TDS 7.2 has 8 bytes of a count, one of an earlier version 4 (MS-TDS 2.2.7.6): then the next token's first byte, which is never 0,
+-- stands in the upper half.
+abbrev pub is_long : Done → Bool
+is_long done = nat_lt done.count 4294967296
+
+abbrev pub told_short : Told → Bool
+told_short (told.Done done) = not (is_long done)
+told_short (told.Change change) = false
+told_short (told.Message message) = false
+told_short (told.ReturnStatus value) = false
+told_short (told.SessionState state) = false
+told_short told.Unclear = false
+told_short told.Other = false
+
+abbrev pub is_short : Token → Bool
+is_short token = told_short token.told
 
 -- ---- What a request asks for
 
 abbrev pub begins_request : Talk → ℕ → Talk
 begins_request t status =
-    record t { asked = asks.Request; underway = true; late = t.attention; reset = reset_of status; reset_done = false; begun = false; borrowed = false }
+    record t { asked = asks.Request; underway = true; late = t.attention; reset = reset_of status; reset_done = false; begun = false; borrowed = t.borrowed && is_asked (reset_of status) }
 
 abbrev pub begins_login : Talk → Talk
 begins_login t = record t { asked = asks.Login; underway = true; reset = resets.None; reset_done = false; begun = false; transaction = transactions.Told 0 }
@@ -125,51 +219,9 @@ cancels t = record t {
   begun_unheard = t.begun_unheard || (t.begun && t.underway);
 }
 
--- in a transaction, with nothing asked for since longer than the limit
-abbrev pub is_idle_long : Limits → Talk → ℕ → Bool
-is_idle_long limits t time =
-    not (descriptor_of t.transaction == 0) && (not t.underway && (not (limits.idle == 0) && nat_lt limits.idle (time - t.since)))
-
--- of the attention, and of the answer before
-abbrev pub turn_noted : List Finding → Talk → Spot → List Finding
-turn_noted xs t spot =
-    noted (noted xs spot t.attention names.AttentionUnanswered 0) spot (t.underway && not t.attention) names.RequestWhileAnswering 0
-
--- of the reset bits
-abbrev pub reset_noted : List Finding → Talk → Spot → ℕ → List Finding
-reset_noted xs t spot status =
-    noted
-    (noted
-    (noted
-    (noted xs spot (is_both (reset_of status)) names.BothResets status)
-    spot (is_full (reset_of status) && not (descriptor_of t.transaction == 0)) names.ResetEndsTransaction (descriptor_of t.transaction))
-    spot (is_asked (reset_of status) && (is_asked t.reset && t.reset_done)) names.ResetTwice 0)
-    spot (t.borrowed && not (is_asked (reset_of status))) names.SessionReusedWithoutReset 0
-
-abbrev pub request_noted : List Finding → Limits → Talk → Spot → ℕ → List Finding
-request_noted xs limits t spot status =
-    noted (reset_noted (turn_noted xs t spot) t spot status) spot (is_idle_long limits t spot.time) names.IdleInTransaction (spot.time - t.since)
-
-abbrev pub attention_noted : List Finding → Talk → Spot → ℕ → ℕ → List Finding
-attention_noted xs t spot size status =
-    noted (noted xs spot t.attention names.SecondAttention 0) spot (not (size == 8) || not (status % 2 == 1)) names.WrongAttention size
-
--- another transaction than was told last, but none is named where a full reset is asked for
-abbrev pub names_wrongly : Talk → ℕ → Bool
-names_wrongly t descriptor =
-    is_told t.transaction && (not (descriptor_of t.transaction == descriptor) && not (is_full t.reset && (descriptor == 0)))
-
-abbrev pub names_noted : List Finding → Talk → Spot → ℕ → List Finding
-names_noted xs t spot descriptor =
-    noted
-    (noted
-    (noted xs spot (names_wrongly t descriptor) names.WrongDescriptor (descriptor_of t.transaction))
-    spot (names_wrongly t descriptor && t.begun_unheard) names.CancelledBeginKept (descriptor_of t.transaction))
-    spot (names_wrongly t descriptor && (not (t.ended == 0) && (t.ended == descriptor))) names.TransactionEndedUnheard descriptor
-
 -- why a descriptor is wrong is told once
 abbrev pub has_named : Talk → Talk
-has_named t = record t { begun_unheard = false; ended = 0 }
+has_named t = record t { begun_unheard = false; ended = 0; dated = true }
 
 -- ---- What an answer says
 
@@ -177,12 +229,17 @@ abbrev pub begins_answer : Talk → Talk
 begins_answer t = record t { is_final = false; acknowledges = false }
 
 -- of the three kinds of DONE the last decides
-abbrev pub is_done : Talk → ℕ → Talk
-is_done t status = record t { is_final = not (status % 2 == 1); acknowledges = t.acknowledges || (status / 32 % 2 == 1) }
+abbrev pub is_done : Talk → Done → Talk
+is_done t done = record t {
+  is_final = not (done.status % 2 == 1);
+  acknowledges = t.acknowledges || (done.status / 32 % 2 == 1);
+  other = t.other || (not t.dated && not (is_long done));
+  dated = t.dated || is_long done;
+}
 
-abbrev pub has_begun : Talk → ℕ → ℕ → Talk
-has_begun t time descriptor =
-    record t { transaction = transactions.Told descriptor; begun = true; begun_unheard = t.attention; ended = 0; since = time }
+abbrev pub has_begun : Talk → ℕ → ℕ → ℕ → Talk
+has_begun t time type descriptor =
+    record t { transaction = begun_as type descriptor; begun = true; begun_unheard = t.attention; ended = 0; since = time }
 
 abbrev pub has_ended : Talk → ℕ → Talk
 has_ended t time =
@@ -190,18 +247,18 @@ has_ended t time =
 
 -- 8 has begun, and 11 is enlisted; 9 is committed, 10 rolled back, 12 defected, 17 has ended (MS-TDS 2.2.7.9)
 abbrev pub transaction_changed : Talk → ℕ → ℕ → ℕ → Talk
-transaction_changed t time type new = if (type == 8) || (type == 11) then has_begun t time new else has_ended t time
+transaction_changed t time type new = if (type == 8) || (type == 11) then has_begun t time type new else has_ended t time
 
 -- 18: the reset has ended the transaction, but for one that keeps it. One that no bit asked for is a full one (`sp_reset_connection`).
 abbrev pub is_reset : Talk → Talk
 is_reset t =
-    if keeps (owed t.reset_done t.reset) then record t { reset_done = true }
-    else record t { reset_done = true; transaction = transactions.Told 0; begun_unheard = false }
+    if keeps (owed t.reset_done t.reset) then record t { reset_done = true; borrowed = false }
+    else record t { reset_done = true; borrowed = false; transaction = transactions.Told 0; begun_unheard = false }
 
 abbrev pub change_heard : Talk → ℕ → ℕ → ChangeValue → Talk
 change_heard t time type (changes.Transaction new old) = transaction_changed t time type new
 change_heard t time type changes.ResetDone = is_reset t
-change_heard t time type (changes.PacketSize size) = record t { most = size }
+change_heard t time type (changes.PacketSize size) = record t { agreed = size }
 change_heard t time type (changes.Values new old) = t
 change_heard t time type changes.Other = t
 
@@ -210,7 +267,7 @@ abbrev pub unclear_heard : Talk → Bool → Talk
 unclear_heard t unclear = if unclear then record t { transaction = transactions.Unknown } else t
 
 abbrev pub told_heard : Talk → ℕ → ℕ → Told → Talk
-told_heard t time kind (told.Done done) = is_done t done.status
+told_heard t time kind (told.Done done) = is_done t done
 told_heard t time kind (told.Change change) = change_heard t time change.kind change.value
 told_heard t time kind (told.Message message) = t
 told_heard t time kind (told.ReturnStatus value) = t
@@ -221,76 +278,28 @@ told_heard t time kind told.Other = t
 abbrev pub token_heard : Talk → ℕ → Token → Talk
 token_heard t time token = told_heard t time token.kind token.told
 
--- nobody asked for the acknowledgement
-abbrev pub is_unasked : Talk → Token → Bool
-is_unasked t token = acknowledges token && (is_request t.asked && (not t.attention && not t.doubled))
-
-abbrev pub is_behind : Talk → Token → Bool
-is_behind t token = t.is_final && (is_request t.asked && (not t.attention && not (acknowledges token)))
-
-abbrev pub token_noted : List Finding → Talk → Spot → Token → List Finding
-token_noted xs t spot token =
-    noted
-    (noted
-    (noted xs spot (is_unasked t token) names.AcknowledgementUnasked 0)
-    spot (is_behind t token) names.TokenAfterFinalDone token.kind)
-    spot (is_unclear token) names.UnclearChange token.kind
-
--- ---- The end of an answer
-
-abbrev pub ends_answer : Talk → ℕ → Talk
-ends_answer t time =
-    if t.acknowledges
-    then record t { underway = false; attention = false; doubled = t.doubled && t.attention; late = false; ended_since = false; since = time }
-    else record t { underway = false; late = t.late && not t.ended_since; ended_since = true; since = time }
+-- ---- The beginning and the end of an answer
 
 -- an answer to a request that wasn't cancelled
 abbrev pub is_plain : Talk → Bool
 is_plain t = is_request t.asked && (not t.attention && not t.acknowledges)
 
-abbrev pub answer_noted : List Finding → Talk → Spot → Bool → List Finding
-answer_noted xs t spot whole =
-    noted
-    (noted
-    (noted
-    (noted xs spot (is_plain t && not whole) names.CutToken 0)
-    spot (is_plain t && (whole && not t.is_final)) names.NoFinalDone 0)
-    spot (is_plain t && (t.is_final && (is_asked t.reset && not t.reset_done))) names.ResetUnanswered 0)
-    spot (t.attention && (not t.acknowledges && (t.late && t.ended_since))) names.AttentionIgnored 0
-
-abbrev pub close_noted : List Finding → Limits → Talk → Spot → List Finding
-close_noted xs limits t spot =
-    noted
-    (noted
-    (noted xs spot (t.underway && is_request t.asked) names.AnswerUnread 0)
-    spot (is_idle_long limits t spot.time) names.IdleInTransaction (spot.time - t.since))
-    spot (not (descriptor_of t.transaction == 0)) names.TransactionLeftByClose (descriptor_of t.transaction)
-
-abbrev pub size_noted : List Finding → Talk → Spot → ℕ → List Finding
-size_noted xs t spot size = noted xs spot (not (t.most == 0) && nat_lt t.most size) names.PacketSize size
-
-abbrev pub later_noted : List Finding → Spot → ℕ → List Finding
-later_noted xs spot status = noted xs spot (is_asked (reset_of status)) names.ResetOnLaterPacket status
+-- An acknowledgement leaves underway what was asked since the attention; the second of two what is asked.
+abbrev pub ends_answer : Talk → ℕ → Bool → Talk
+ends_answer t time whole =
+    if t.acknowledges
+    then record t {
+      underway = if t.attention then t.late else t.doubled && t.underway;
+      attention = false;
+      doubled = t.doubled && t.attention;
+      late = false;
+      ended_since = false;
+      since = time;
+      most = t.agreed;
+    }
+    else record t { underway = false; late = t.late && not t.ended_since; ended_since = true; since = time; most = t.agreed; other = t.other || (is_plain t && (not whole && not t.dated)) }
 
 -- ---- What is said
-
--- what is found, behind what was found so far
-unfoldable pub told_by : List Finding → Limits → Talk → Spot → Event → List Finding
-told_by xs limits t spot (events.Packet size) = size_noted xs t spot size
-told_by xs limits t spot events.Unfinished = noted xs spot true names.UnfinishedMessage 0
-told_by xs limits t spot (events.Request status) = request_noted xs limits t spot status
-told_by xs limits t spot events.Login = xs
-told_by xs limits t spot (events.Attention size status) = attention_noted xs t spot size status
-told_by xs limits t spot (events.Later status) = later_noted xs spot status
-told_by xs limits t spot (events.Names descriptor) = names_noted xs t spot descriptor
-told_by xs limits t spot events.Ignored = xs
-told_by xs limits t spot events.Answer = xs
-told_by xs limits t spot (events.Says token) = token_noted xs t spot token
-told_by xs limits t spot (events.Answered whole) = answer_noted xs t spot whole
-told_by xs limits t spot events.TakenUp = noted xs spot true names.TakenUp 0
-told_by xs limits t spot (events.Stops ending value) = noted xs spot true (ending_name ending) value
-told_by xs limits t spot events.Borrowed = xs
-told_by xs limits t spot events.Closed = close_noted xs limits t spot
 
 -- and what has been said then
 unfoldable pub talk_by : Talk → ℕ → Event → Talk
@@ -304,7 +313,7 @@ talk_by t time (events.Names descriptor) = has_named t
 talk_by t time events.Ignored = record t { underway = false }
 talk_by t time events.Answer = begins_answer t
 talk_by t time (events.Says token) = token_heard t time token
-talk_by t time (events.Answered whole) = ends_answer t time
+talk_by t time (events.Answered whole) = ends_answer t time whole
 talk_by t time events.TakenUp = t
 talk_by t time (events.Stops ending value) = t
 talk_by t time events.Borrowed = record t { borrowed = true }
@@ -329,5 +338,8 @@ new_talk = record {
   acknowledges = false;
   borrowed = false;
   since = 0;
+  agreed = 0;
   most = 0;
+  dated = false;
+  other = false;
 }

@@ -1,18 +1,18 @@
 -- Where each finding stands: what is so of the event that it stands at, by what was said before, the newest first.
-use Rattle.std.specs.Prelude.{◌≡◌, ℕ, ◌-◌, ◌%◌, ◌==◌, ◌&&◌, ◌||◌, not, nat_lt, Bool, true, false, List, [], ◌∷◌, ◌++◌}
+use Rattle.std.specs.Prelude.{◌≡◌, ℕ, ◌-◌, ◌==◌, ◌&&◌, ◌||◌, not, nat_lt, Bool, true, false, List, [], ◌∷◌, ◌++◌}
 use Rattle.tds_judge.specs.declared.finding.Finding.{Finding}
 use Rattle.tds_judge.specs.declared.finding.Spot.{Spot}
 use Rattle.tds_judge.specs.declared.talk.Ending.{Ending}
-use Rattle.tds_judge.specs.declared.talk.Ending.TheVariants as endings
 use Rattle.tds_judge.specs.declared.talk.Event.{Event}
 use Rattle.tds_judge.specs.declared.talk.Event.TheVariants as events
 use Rattle.tds_judge.specs.declared.talk.Limits.{Limits}
 use Rattle.tds_wire.specs.declared.told.Token.{Token}
-use Rattle.tds_judge.specs.Breaches.{asked_last, gone_last, has_asked_since, has_ended, idle_since, is_lent, is_over, is_twice, is_unheard, size_told}
+use Rattle.tds_judge.specs.Breaches.{asked_last, gone_last, idle_since, is_dated, is_lent, is_other_shown, is_over, is_plain_answer, is_unheard, size_told}
 use Rattle.tds_judge.specs.Framing.{Run}
 use Rattle.tds_judge.specs.Findings.{is_note, is_risk, number_of}
-use Rattle.tds_judge.specs.History.{Said, Tells, asks_of, is_acknowledged, is_another, is_attention_unanswered, is_both_resets, is_cleared, is_out, is_request_while_answering, is_second_attention, is_underway, is_wrong_descriptor, last_told, of_names, of_request}
-use Rattle.tds_judge.specs.Talking.{acknowledges, descriptor_of, is_asked, is_full, is_request, is_unclear, reset_of}
+use Rattle.tds_judge.specs.History.{Said, Tells, asks_of, has_asked_since, has_ended, is_acknowledged, is_another, is_attention_unanswered, is_both_resets, is_cleared, is_out, is_request_while_answering, is_second_attention, is_twice, is_underway, is_wrong_descriptor, last_told, of_names, of_request, owed_of}
+use Rattle.tds_judge.specs.Talking.{acknowledges, changes_wrongly, descriptor_of, ends_none, says_more, ignores_early, is_asked, is_full, is_known, is_request, is_short, is_unclear, reset_of, tells_reset}
+use Rattle.tds_judge.specs.Noting.{ends_by_compute, ends_by_direction, ends_by_length, ends_by_token, ends_by_version}
 
 -- ---- What is so of one kind of event, and of nothing else
 
@@ -28,6 +28,12 @@ abbrev pub of_later : Event → (ℕ → Bool) → Bool
 of_later (events.Later status) is = is status
 of_later _ is = false
 
+-- where a request's packet begins, by its status
+abbrev pub of_status : Event → (ℕ → Bool) → Bool
+of_status (events.Request status) is = is status
+of_status (events.Later status) is = is status
+of_status _ is = false
+
 abbrev pub of_token : Event → (Token → Bool) → Bool
 of_token (events.Says token) is = is token
 of_token _ is = false
@@ -40,6 +46,16 @@ of_answer _ is = false
 abbrev pub of_ending : Event → (Ending → Bool) → Bool
 of_ending (events.Stops ending value) is = is ending
 of_ending _ is = false
+
+-- where an answer begins
+abbrev pub of_begin : Event → Bool → Bool
+of_begin events.Answer is = is
+of_begin _ is = false
+
+-- where the connection is lent
+abbrev pub of_loan : Event → Bool → Bool
+of_loan events.Borrowed is = is
+of_loan _ is = false
 
 abbrev pub of_close : Event → Bool → Bool
 of_close events.Closed is = is
@@ -64,9 +80,9 @@ abbrev pub is_acknowledgement_unasked : List Said → Event → Bool
 is_acknowledgement_unasked past event =
     of_token event (λ token. acknowledges token && (is_request (asked_last past) && (not (is_out past) && not (is_twice past))))
 
--- one packet, without data, that ends its message
+-- one packet, without data, whose status says nothing but that it ends its message
 abbrev pub is_wrong_attention : Event → Bool
-is_wrong_attention event = of_attention_as event (λ size status. not (size == 8) || not (status % 2 == 1))
+is_wrong_attention event = of_attention_as event (λ size status. not (size == 8) || not (status == 1))
 
 -- ---- Transactions
 
@@ -76,6 +92,14 @@ is_cancelled_begin_kept past event = of_names event (λ descriptor. is_another (
 abbrev pub is_ended_unheard : List Said → Event → Bool
 is_ended_unheard past event =
     of_names event (λ descriptor. is_another (last_told past) (asks_of past) descriptor && (not (gone_last past == 0) && (gone_last past == descriptor)))
+
+-- one begins inside another or without a descriptor, or another one ends than was told last (2.2.7.9)
+abbrev pub is_wrong_change : List Said → Event → Bool
+is_wrong_change past event = of_token event (changes_wrongly (last_told past))
+
+-- one ends, and none is open; behind a reset the end of what it ended may be told
+abbrev pub is_none_ended : List Said → Event → Bool
+is_none_ended past event = of_token event (λ token. ends_none (last_told past) token && not (is_cleared past))
 
 abbrev pub is_open : List Said → Bool
 is_open past = not (descriptor_of (last_told past) == 0)
@@ -103,11 +127,19 @@ is_reset_twice past event = of_request event (λ status. is_asked (reset_of stat
 abbrev pub is_reused : List Said → Event → Bool
 is_reused past event = of_request event (λ status. is_lent past && not (is_asked (reset_of status)))
 
+-- a reset is told done, and none is to be
+abbrev pub is_reset_unasked : List Said → Event → Bool
+is_reset_unasked past event = of_token event (λ token. tells_reset token && (is_request (asked_last past) && not (is_asked (owed_of past))))
+
+-- lent while an answer isn't read, or an attention isn't acknowledged
+abbrev pub is_lent_early : List Said → Event → Bool
+is_lent_early past event = of_loan event (is_out past || (is_underway past && is_request (asked_last past)))
+
 -- ---- Answers
 
--- the answer to a request that wasn't cancelled
-abbrev pub is_plain_answer : List Said → Bool
-is_plain_answer past = is_request (asked_last past) && (not (is_out past) && not (is_acknowledged past))
+-- an answer begins, and no request, no login and no attention awaits one
+abbrev pub is_answer_unasked : List Said → Event → Bool
+is_answer_unasked past event = of_begin event (is_known (asked_last past) && (not (is_underway past) && (not (is_out past) && not (is_twice past))))
 
 abbrev pub is_reset_unanswered : List Said → Event → Bool
 is_reset_unanswered past event = of_answer event (λ whole. is_plain_answer past && (is_over past && (is_asked (asks_of past) && not (is_cleared past))))
@@ -116,11 +148,15 @@ abbrev pub is_without_end : List Said → Event → Bool
 is_without_end past event = of_answer event (λ whole. is_plain_answer past && (whole && not (is_over past)))
 
 abbrev pub is_cut_token : List Said → Event → Bool
-is_cut_token past event = of_answer event (λ whole. is_plain_answer past && not whole)
+is_cut_token past event = of_answer event (λ whole. is_plain_answer past && (not whole && is_dated past))
 
 abbrev pub is_behind_end : List Said → Event → Bool
 is_behind_end past event =
     of_token event (λ token. is_over past && (is_request (asked_last past) && (not (is_out past) && not (acknowledges token))))
+
+-- a token behind an acknowledgement in its message, or an acknowledgement that says that more come (2.2.7.6)
+abbrev pub is_not_last : List Said → Event → Bool
+is_not_last past event = of_token event (λ token. (is_over past && is_acknowledged past) || (acknowledges token && says_more token))
 
 abbrev pub is_unclear_change : Event → Bool
 is_unclear_change event = of_token event is_unclear
@@ -133,31 +169,52 @@ is_answer_unread past event = of_close event (is_underway past && is_request (as
 abbrev pub is_wrong_size : List Said → Event → Bool
 is_wrong_size past event = of_packet event (λ size. not (size_told past == 0) && nat_lt (size_told past) size)
 
-abbrev pub ends_by_token : Ending → Bool
-ends_by_token endings.WrongToken = true
-ends_by_token _ = false
+abbrev pub is_wrong_token : List Said → Event → Bool
+is_wrong_token past event = of_ending event (λ ending. ends_by_token ending (is_dated past))
 
-abbrev pub ends_by_length : Ending → Bool
-ends_by_length endings.WrongLength = true
-ends_by_length _ = false
+-- ---- What isn't judged
 
-abbrev pub is_wrong_token : Event → Bool
-is_wrong_token event = of_ending event ends_by_token
+-- A version before 7.2, or 8.0: LOGIN7's; or, where none of 7.2 to 7.4 was shown, a DONE isn't one of 13 bytes, the answer to a request ends inside
+-- a token, or bytes of an answer are no token.
+abbrev pub is_other_version : List Said → Event → Bool
+is_other_version past event =
+    of_token event (λ token. is_short token && not (is_dated past))
+    || (of_answer event (λ whole. is_plain_answer past && (not whole && not (is_dated past)))
+    || of_ending event (λ ending. ends_by_version ending (is_dated past)))
+
+abbrev pub is_compute : Event → Bool
+is_compute event = of_ending event ends_by_compute
+
+-- nothing is found behind another version
+abbrev pub is_judged : List Said → Bool
+is_judged past = not (is_other_shown past)
+
+-- a packet to ignore ends its message (2.2.3.1.2)
+abbrev pub is_ignore_unended : Event → Bool
+is_ignore_unended event = of_status event ignores_early
+
+-- a packet of a type of the other direction (2.2.3.1.1)
+abbrev pub is_wrong_direction : Event → Bool
+is_wrong_direction event = of_ending event ends_by_direction
 
 abbrev pub is_wrong_length : Event → Bool
 is_wrong_length event = of_ending event ends_by_length
 
 -- ---- All breaches of MS-TDS
 
-abbrev pub is_breach : List Said → Event → Bool
-is_breach past event =
+abbrev pub breaks_rules : List Said → Event → Bool
+breaks_rules past event =
     is_second_attention past event || (is_wrong_attention event
     || (is_attention_unanswered past event || (is_request_while_answering past event || (is_both_resets past event
     || (is_wrong_descriptor past event || (is_cancelled_begin_kept past event || (is_ended_unheard past event
     || (is_acknowledgement_unasked past event
     || (is_cut_token past event || (is_without_end past event || (is_reset_unanswered past event || (is_attention_ignored past event
-    || (is_late_reset event || (is_wrong_token event || (is_wrong_size past event
-    || (is_wrong_length event || is_unfinished_message event))))))))))))))))
+    || (is_late_reset event || (is_wrong_token past event || (is_wrong_size past event
+    || (is_wrong_length event || (is_wrong_direction event || (is_ignore_unended event || (is_answer_unasked past event || (is_wrong_change past event
+    || (is_lent_early past event || is_unfinished_message event)))))))))))))))))))))
+
+abbrev pub is_breach : List Said → Event → Bool
+is_breach past event = is_judged past && breaks_rules past event
 
 -- a finding of level breach is among these
 abbrev pub is_breach_number : ℕ → Bool

@@ -5,7 +5,7 @@ ghost use Rattle.tds_judge.specs.Framing as framing;
 ghost use Rattle.tds_judge.specs.Framing.{run_of};
 
 use crate::finding::{Direction, Finding, Spot};
-use crate::frame::{Due, Inside, fits_prefix, named_with, shifted};
+use crate::frame::{Due, Inside, fits_prefix, named_with, refused, shifted};
 use crate::judge::Judge;
 use crate::talk::{Ending, Event};
 
@@ -35,6 +35,28 @@ impl Judge {
         }
     }
 
+    /// A byte of LOGIN7 has come, up to its version's last.
+    fn read_version(&mut self, out: &mut Vec<Finding>, spot: Spot, place: u8, byte: u8)
+        requires { vec_len out.old + 8 ≤ vec_capacity out.old }
+        ensures run { (run_of self.new out.new.items)
+            ≡ framing.versioned spot place byte (run_of self.old out.old.items) }
+        ensures few { vec_len out.new ≤ vec_len out.old + 8 }
+        ensures capacity { vec_capacity out.new ≡ vec_capacity out.old }
+    {
+        let mut frame = self.frame(spot.direction);
+        if place < 7 {
+            frame.inside = Inside::Version { place: place + 1 };
+            self.put_frame(spot.direction, frame);
+        } else {
+            frame.inside = Inside::Skipped;
+            self.put_frame(spot.direction, frame);
+            if !(byte == 0x72 || byte == 0x73 || byte == 0x74) {
+                let version = u64::from(byte);
+                self.stop(out, spot, Event::Stops(Ending::OtherVersion, version));
+            }
+        }
+    }
+
     /// The walker reads a byte.
     fn walk(&mut self, out: &mut Vec<Finding>, spot: Spot, byte: u8)
         requires { vec_len out.old + 8 ≤ vec_capacity out.old }
@@ -52,10 +74,7 @@ impl Judge {
                     self.say(out, spot, Event::Says(token));
                 }
             }
-            Err(refusal) => {
-                let number = u64::from(refusal.fault.number());
-                self.stop(out, spot, Event::Stops(Ending::WrongToken, number));
-            }
+            Err(refusal) => self.stop(out, spot, refused(&refusal)),
         }
     }
 
@@ -75,6 +94,7 @@ impl Judge {
                 self.read_prefix(out, spot, place, fits, named_with(place, value, byte));
             }
             Inside::Walked => self.walk(out, spot, byte),
+            Inside::Version { place } => self.read_version(out, spot, place, byte),
         }
     }
 

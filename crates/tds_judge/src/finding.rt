@@ -1,6 +1,6 @@
 //! What a judge finds.
 
-ghost use Rattle.std.specs.Prelude.{◌≡◌, ◌≤◌, ◌<◌, ◌+◌, vec_len, vec_capacity};
+ghost use Rattle.std.specs.Prelude.{◌≡◌, ◌≤◌, ◌<◌, ◌+◌, nat_lt, true, vec_len, vec_capacity};
 ghost use Rattle.tds_judge.specs.Findings.{ends_judging, level_of, noted, number_of};
 
 /// Which way bytes go.
@@ -81,6 +81,28 @@ pub enum Name {
     Encrypted,
     /// 29: the bytes are no TDS. The judging ends.
     NotTds,
+    /// 30: TDS before 7.2, or 8.0. With it: the highest byte of LOGIN7's version, or 0. The judging ends.
+    OtherVersion,
+    /// 31: ALTMETADATA or ALTROW. With it: the token's first byte. The judging ends.
+    Compute,
+    /// 32: an answer begins, and nothing is to be answered.
+    AnswerUnasked,
+    /// 33: the connection is lent while an answer isn't read, or an attention isn't acknowledged.
+    LentWhileAnswering,
+    /// 34: ENVCHANGE 18, and no reset is to be told.
+    ResetUnasked,
+    /// 35: a transaction begins inside another one or without a descriptor, or another one ends than was
+    /// told last. With it: the one that was told last.
+    WrongChange,
+    /// 36: a transaction ends, and none is open. With it: the one that ends.
+    NoneEnded,
+    /// 37: a packet that is to be ignored doesn't end its message. With it: the status.
+    IgnoreUnended,
+    /// 38: a packet of a type of the other direction. With it: the type. The judging ends.
+    WrongDirection,
+    /// 39: a token behind an acknowledgement in its message, or an acknowledgement that says that more come.
+    /// With it: the token's first byte.
+    AcknowledgementNotLast,
 }
 
 /// How much a finding weighs.
@@ -104,7 +126,7 @@ pub struct Finding {
 }
 
 impl Name {
-    /// The finding's number, 1 to 29.
+    /// The finding's number, 1 to 39.
     pub fn number(self) -> u8
         ensures { result ≡ number_of self }
     {
@@ -138,6 +160,26 @@ impl Name {
             Name::TakenUp => 27,
             Name::Encrypted => 28,
             Name::NotTds => 29,
+            _ => self.later_number(),
+        }
+    }
+
+    /// The number of one of those from 30 on.
+    fn later_number(self) -> u8
+        ensures { nat_lt 29 (number_of self) ≡ true → result ≡ number_of self }
+    {
+        match self {
+            Name::OtherVersion => 30,
+            Name::Compute => 31,
+            Name::AnswerUnasked => 32,
+            Name::LentWhileAnswering => 33,
+            Name::ResetUnasked => 34,
+            Name::WrongChange => 35,
+            Name::NoneEnded => 36,
+            Name::IgnoreUnended => 37,
+            Name::WrongDirection => 38,
+            Name::AcknowledgementNotLast => 39,
+            _ => 0,
         }
     }
 
@@ -146,8 +188,8 @@ impl Name {
         ensures { result ≡ level_of (number_of self) }
     {
         match self.number() {
-            6 | 10 | 11 | 12 | 17 | 18 | 26 => Level::Risk,
-            16 | 27 | 28 | 29 => Level::Note,
+            6 | 10 | 11 | 12 | 17 | 18 | 26 | 36 | 39 => Level::Risk,
+            16 | 27 | 28 | 29 | 30 | 31 | 34 => Level::Note,
             _ => Level::Breach,
         }
     }
@@ -159,7 +201,7 @@ impl Name {
         ensures { result ≡ ends_judging (number_of self) }
     {
         match self.number() {
-            21 | 23 | 28 | 29 => true,
+            21 | 23 | 28 | 29 | 30 | 31 | 38 => true,
             _ => false,
         }
     }

@@ -5,6 +5,7 @@ ghost use Rattle.tds_judge.specs.Framing as framing;
 
 use crate::finding::Direction;
 use crate::talk::{Ending, Event};
+use tds_wire::Refusal;
 
 /// What comes next.
 #[derive(Clone, Copy)]
@@ -36,6 +37,8 @@ pub enum Inside {
     Prefix { place: u8, fits: bool, value: u64 },
     /// The walker reads it.
     Walked,
+    /// The version in LOGIN7 is read (MS-TDS 2.2.6.4): so many bytes have come.
+    Version { place: u8 },
 }
 
 /// Where a direction is: what comes next, the type of its message, the status of its packet, and how
@@ -76,6 +79,8 @@ fn inside_of(kind: u8) -> Inside
             fits: true,
             value: 0,
         }
+    } else if kind == 16 {
+        Inside::Version { place: 0 }
     } else {
         Inside::Skipped
     }
@@ -98,6 +103,17 @@ fn is_kind(direction: Direction, kind: u8) -> bool
                 || kind == 18
         }
         Direction::ToClient => kind == 4 || kind == 18,
+    }
+}
+
+impl Direction {
+    fn other(self) -> Direction
+        ensures { result ≡ framing.other_way self }
+    {
+        match self {
+            Direction::ToServer => Direction::ToClient,
+            Direction::ToClient => Direction::ToServer,
+        }
     }
 }
 
@@ -137,6 +153,8 @@ impl Head {
             Event::Stops(Ending::Encrypted, 0)
         } else if is_kind(direction, self.kind) {
             Event::Stops(Ending::WrongLength, u64::from(self.size))
+        } else if is_kind(direction.other(), self.kind) && self.size >= 8 {
+            Event::Stops(Ending::WrongDirection, u64::from(self.kind))
         } else {
             Event::Stops(Ending::NotTds, u64::from(self.kind))
         }
@@ -208,6 +226,17 @@ pub fn fits_prefix(place: u8, byte: u8) -> bool
         byte == 0
     } else {
         true
+    }
+}
+
+/// Why the judging ends at bytes that the walker refuses: ALTMETADATA or ALTROW, or no token.
+pub fn refused(refusal: &Refusal) -> Event
+    ensures { result ≡ framing.refused_as refusal.now }
+{
+    if refusal.fault.number() == 1 && (refusal.byte == 0x88 || refusal.byte == 0xD3) {
+        Event::Stops(Ending::Compute, u64::from(refusal.byte))
+    } else {
+        Event::Stops(Ending::WrongToken, u64::from(refusal.fault.number()))
     }
 }
 

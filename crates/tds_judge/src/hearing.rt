@@ -1,11 +1,12 @@
 //! What has been said, when more is said.
 
 ghost use Rattle.std.specs.Prelude.{◌≡◌, ◌≤◌, ◌<◌, ◌+◌, vec_len, vec_capacity};
+ghost use Rattle.tds_judge.specs.Noting as noting;
 ghost use Rattle.tds_judge.specs.Talking as talking;
 
 use crate::finding::{Finding, Spot};
-use crate::talk::{Asked, Event, Limits, Reset, Talk, Transaction};
-use tds_wire::{ChangeValue, Token, Told};
+use crate::talk::{Asked, Event, Limits, Reset, Talk, Transaction, is_long};
+use tds_wire::{ChangeValue, Done, Token, Told};
 
 impl Talk {
     /// Before anything was seen.
@@ -29,7 +30,10 @@ impl Talk {
             acknowledges: false,
             borrowed: false,
             since: 0,
+            agreed: 0,
             most: 0,
+            dated: false,
+            other: false,
         }
     }
 
@@ -42,7 +46,7 @@ impl Talk {
         self.reset = Reset::of(status);
         self.reset_done = false;
         self.begun = false;
-        self.borrowed = false;
+        self.borrowed = self.borrowed && self.reset.is_asked();
     }
 
     fn begin_login(&mut self)
@@ -70,7 +74,7 @@ impl Talk {
         ensures { self.new ≡ talking.transaction_changed self.old time kind new }
     {
         if kind == 8 || kind == 11 {
-            self.transaction = Transaction::Told(new);
+            self.transaction = Transaction::begun(kind, new);
             self.begun = true;
             self.begun_unheard = self.attention;
             self.ended = 0;
@@ -84,7 +88,7 @@ impl Talk {
     }
 
     /// What is still to be told done of what was asked for.
-    fn owed(&self) -> Reset
+    pub fn owed(&self) -> Reset
         ensures { result ≡ talking.owed self.now.reset_done self.now.reset }
     {
         if self.reset_done {
@@ -99,6 +103,7 @@ impl Talk {
     {
         let keeps = self.owed().keeps();
         self.reset_done = true;
+        self.borrowed = false;
         if !keeps {
             self.transaction = Transaction::Told(0);
             self.begun_unheard = false;
@@ -111,23 +116,26 @@ impl Talk {
         match value {
             ChangeValue::Transaction { new, old: _ } => self.change_transaction(time, kind, new),
             ChangeValue::ResetDone => self.end_reset(),
-            ChangeValue::PacketSize(size) => self.most = size,
+            ChangeValue::PacketSize(size) => self.agreed = size,
             ChangeValue::Values { .. } | ChangeValue::Other => {}
         }
     }
 
-    fn hear_done(&mut self, status: u16)
-        ensures { self.new ≡ talking.is_done self.old status }
+    fn hear_done(&mut self, done: Done)
+        ensures { self.new ≡ talking.is_done self.old done }
     {
-        self.is_final = status % 2 != 1;
-        self.acknowledges = self.acknowledges || status / 32 % 2 == 1;
+        let long = is_long(done);
+        self.is_final = done.status % 2 != 1;
+        self.acknowledges = self.acknowledges || done.status / 32 % 2 == 1;
+        self.other = self.other || (!self.dated && !long);
+        self.dated = self.dated || long;
     }
 
     fn hear_token(&mut self, time: u64, token: &Token)
         ensures { self.new ≡ talking.token_heard self.old time token.now }
     {
         match token.told {
-            Told::Done(done) => self.hear_done(done.status),
+            Told::Done(done) => self.hear_done(done),
             Told::Change(change) => self.hear_change(time, change.kind, change.value),
             Told::Unclear => {
                 if token.kind == 0xE3 {
@@ -141,17 +149,24 @@ impl Talk {
         }
     }
 
-    fn end_answer(&mut self, time: u64)
-        ensures { self.new ≡ talking.ends_answer self.old time }
+    fn end_answer(&mut self, time: u64, whole: bool)
+        ensures { self.new ≡ talking.ends_answer self.old time whole }
     {
-        self.underway = false;
         self.since = time;
+        self.most = self.agreed;
         if self.acknowledges {
+            self.underway = if self.attention {
+                self.late
+            } else {
+                self.doubled && self.underway
+            };
             self.doubled = self.doubled && self.attention;
             self.attention = false;
             self.late = false;
             self.ended_since = false;
         } else {
+            self.other = self.other || (self.is_plain() && !whole && !self.dated);
+            self.underway = false;
             self.late = self.late && !self.ended_since;
             self.ended_since = true;
         }
@@ -168,6 +183,7 @@ impl Talk {
             Event::Names(_) => {
                 self.begun_unheard = false;
                 self.ended = 0;
+                self.dated = true;
             }
             Event::Ignored => self.underway = false,
             Event::Answer => {
@@ -175,7 +191,7 @@ impl Talk {
                 self.acknowledges = false;
             }
             Event::Says(token) => self.hear_token(time, &token),
-            Event::Answered(_) => self.end_answer(time),
+            Event::Answered(whole) => self.end_answer(time, whole),
             Event::Borrowed => self.borrowed = true,
             Event::Packet(_) | Event::Unfinished | Event::Later(_) => {}
             Event::TakenUp | Event::Stops(_, _) | Event::Closed => {}
@@ -186,7 +202,7 @@ impl Talk {
     pub fn hear(&mut self, out: &mut Vec<Finding>, limits: &Limits, spot: Spot, event: Event)
         requires { vec_len out.old + 8 ≤ vec_capacity out.old }
         ensures items { out.new.items
-            ≡ talking.told_by out.old.items limits.now self.old spot event }
+            ≡ noting.told_by out.old.items limits.now self.old spot event }
         ensures talk { self.new ≡ talking.talk_by self.old spot.time event }
         ensures few { vec_len out.new ≤ vec_len out.old + 8 }
         ensures capacity { vec_capacity out.new ≡ vec_capacity out.old }

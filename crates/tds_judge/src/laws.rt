@@ -1,15 +1,15 @@
 //! What follows from the definitions alone. Each function does nothing when it runs: its contract is
 //! the law.
 
-ghost use Rattle.std.specs.Prelude.{◌≡◌, ◌++◌, ℕ, List, [], false};
+ghost use Rattle.std.specs.Prelude.{◌≡◌, ◌&&◌, ◌++◌, ℕ, List, [], false};
 ghost use Rattle.tds_judge.specs.Conversation.{IsLawful, Piece, seen};
 ghost use Rattle.tds_judge.specs.Framing.{IsNew, Run, run_of, steps};
 ghost use Rattle.tds_judge.specs.History.{Said, is_attention_unanswered, is_both_resets, is_found};
 ghost use Rattle.tds_judge.specs.History.{is_request_while_answering, is_second_attention};
 ghost use Rattle.tds_judge.specs.History.{Tells, is_wrong_descriptor, talk_behind};
-ghost use Rattle.tds_judge.specs.Talking.{told_by};
+ghost use Rattle.tds_judge.specs.Noting.{told_by};
 ghost use Rattle.tds_judge.specs.Told as told;
-ghost use Rattle.tds_judge.specs.Told.{Breaks, has_breach, is_breach, is_broken};
+ghost use Rattle.tds_judge.specs.Told.{Breaks, has_breach, is_breach, is_broken, is_judged};
 ghost use Rattle.tds_judge.specs.declared.finding.Direction.{Direction};
 ghost use Rattle.tds_judge.specs.declared.finding.Finding.{Finding};
 ghost use Rattle.tds_judge.specs.declared.finding.Spot.{Spot};
@@ -44,19 +44,19 @@ pub fn findings_are_appended()
 pub fn breaches_are_told()
     ensures second { (limits : Limits) (past : List Said) (spot : Spot) (event : Event)
         → is_found 1 (told_by [] limits (talk_behind past) spot event)
-        ≡ is_second_attention past event }
+        ≡ is_judged past && is_second_attention past event }
     ensures unanswered { (limits : Limits) (past : List Said) (spot : Spot) (event : Event)
         → is_found 2 (told_by [] limits (talk_behind past) spot event)
-        ≡ is_attention_unanswered past event }
+        ≡ is_judged past && is_attention_unanswered past event }
     ensures answering { (limits : Limits) (past : List Said) (spot : Spot) (event : Event)
         → is_found 5 (told_by [] limits (talk_behind past) spot event)
-        ≡ is_request_while_answering past event }
+        ≡ is_judged past && is_request_while_answering past event }
     ensures descriptor { (limits : Limits) (past : List Said) (spot : Spot) (event : Event)
         → is_found 8 (told_by [] limits (talk_behind past) spot event)
-        ≡ is_wrong_descriptor past event }
+        ≡ is_judged past && is_wrong_descriptor past event }
     ensures both { (limits : Limits) (past : List Said) (spot : Spot) (event : Event)
         → is_found 14 (told_by [] limits (talk_behind past) spot event)
-        ≡ is_both_resets past event }
+        ≡ is_judged past && is_both_resets past event }
 {}
 
 /// Behind any history, these stand exactly where `specs/Told` says: an attention that is ignored, an
@@ -64,13 +64,16 @@ pub fn breaches_are_told()
 pub fn attentions_are_told()
     ensures ignored { (limits : Limits) (past : List Said) (spot : Spot) (event : Event)
         → is_found 3 (told_by [] limits (talk_behind past) spot event)
-        ≡ told.is_attention_ignored past event }
+        ≡ is_judged past && told.is_attention_ignored past event }
     ensures unasked { (limits : Limits) (past : List Said) (spot : Spot) (event : Event)
         → is_found 4 (told_by [] limits (talk_behind past) spot event)
-        ≡ told.is_acknowledgement_unasked past event }
+        ≡ is_judged past && told.is_acknowledgement_unasked past event }
     ensures wrong { (limits : Limits) (past : List Said) (spot : Spot) (event : Event)
         → is_found 24 (told_by [] limits (talk_behind past) spot event)
-        ≡ told.is_wrong_attention event }
+        ≡ is_judged past && told.is_wrong_attention event }
+    ensures last { (limits : Limits) (past : List Said) (spot : Spot) (event : Event)
+        → is_found 39 (told_by [] limits (talk_behind past) spot event)
+        ≡ is_judged past && told.is_not_last past event }
 {}
 
 /// And these: a request that doesn't name the transaction that a cancelled answer began, one that names a
@@ -78,19 +81,25 @@ pub fn attentions_are_told()
 pub fn transactions_are_told()
     ensures kept { (limits : Limits) (past : List Said) (spot : Spot) (event : Event)
         → is_found 7 (told_by [] limits (talk_behind past) spot event)
-        ≡ told.is_cancelled_begin_kept past event }
+        ≡ is_judged past && told.is_cancelled_begin_kept past event }
     ensures ended { (limits : Limits) (past : List Said) (spot : Spot) (event : Event)
         → is_found 9 (told_by [] limits (talk_behind past) spot event)
-        ≡ told.is_ended_unheard past event }
+        ≡ is_judged past && told.is_ended_unheard past event }
     ensures open_reset { (limits : Limits) (past : List Said) (spot : Spot) (event : Event)
         → is_found 10 (told_by [] limits (talk_behind past) spot event)
-        ≡ told.is_reset_in_transaction past event }
+        ≡ is_judged past && told.is_reset_in_transaction past event }
     ensures idle { (limits : Limits) (past : List Said) (spot : Spot) (event : Event)
         → is_found 11 (told_by [] limits (talk_behind past) spot event)
-        ≡ told.is_idle limits past spot event }
+        ≡ is_judged past && told.is_idle limits past spot event }
     ensures left { (limits : Limits) (past : List Said) (spot : Spot) (event : Event)
         → is_found 12 (told_by [] limits (talk_behind past) spot event)
-        ≡ told.is_transaction_left past event }
+        ≡ is_judged past && told.is_transaction_left past event }
+    ensures changed { (limits : Limits) (past : List Said) (spot : Spot) (event : Event)
+        → is_found 35 (told_by [] limits (talk_behind past) spot event)
+        ≡ is_judged past && told.is_wrong_change past event }
+    ensures none { (limits : Limits) (past : List Said) (spot : Spot) (event : Event)
+        → is_found 36 (told_by [] limits (talk_behind past) spot event)
+        ≡ is_judged past && told.is_none_ended past event }
 {}
 
 /// And these: a reset bit on a later packet, a reset that isn't answered, one behind another, and a new
@@ -98,16 +107,22 @@ pub fn transactions_are_told()
 pub fn resets_are_told()
     ensures later { (limits : Limits) (past : List Said) (spot : Spot) (event : Event)
         → is_found 13 (told_by [] limits (talk_behind past) spot event)
-        ≡ told.is_late_reset event }
+        ≡ is_judged past && told.is_late_reset event }
     ensures unanswered { (limits : Limits) (past : List Said) (spot : Spot) (event : Event)
         → is_found 15 (told_by [] limits (talk_behind past) spot event)
-        ≡ told.is_reset_unanswered past event }
+        ≡ is_judged past && told.is_reset_unanswered past event }
     ensures twice { (limits : Limits) (past : List Said) (spot : Spot) (event : Event)
         → is_found 16 (told_by [] limits (talk_behind past) spot event)
-        ≡ told.is_reset_twice past event }
+        ≡ is_judged past && told.is_reset_twice past event }
     ensures reused { (limits : Limits) (past : List Said) (spot : Spot) (event : Event)
         → is_found 17 (told_by [] limits (talk_behind past) spot event)
-        ≡ told.is_reused past event }
+        ≡ is_judged past && told.is_reused past event }
+    ensures early { (limits : Limits) (past : List Said) (spot : Spot) (event : Event)
+        → is_found 33 (told_by [] limits (talk_behind past) spot event)
+        ≡ is_judged past && told.is_lent_early past event }
+    ensures told_unasked { (limits : Limits) (past : List Said) (spot : Spot) (event : Event)
+        → is_found 34 (told_by [] limits (talk_behind past) spot event)
+        ≡ is_judged past && told.is_reset_unasked past event }
 {}
 
 /// And these: an answer that isn't read, a token behind the final DONE, an answer without one, one that
@@ -115,19 +130,22 @@ pub fn resets_are_told()
 pub fn answers_are_told()
     ensures unread { (limits : Limits) (past : List Said) (spot : Spot) (event : Event)
         → is_found 6 (told_by [] limits (talk_behind past) spot event)
-        ≡ told.is_answer_unread past event }
+        ≡ is_judged past && told.is_answer_unread past event }
+    ensures unasked { (limits : Limits) (past : List Said) (spot : Spot) (event : Event)
+        → is_found 32 (told_by [] limits (talk_behind past) spot event)
+        ≡ is_judged past && told.is_answer_unasked past event }
     ensures behind { (limits : Limits) (past : List Said) (spot : Spot) (event : Event)
         → is_found 18 (told_by [] limits (talk_behind past) spot event)
-        ≡ told.is_behind_end past event }
+        ≡ is_judged past && told.is_behind_end past event }
     ensures endless { (limits : Limits) (past : List Said) (spot : Spot) (event : Event)
         → is_found 19 (told_by [] limits (talk_behind past) spot event)
-        ≡ told.is_without_end past event }
+        ≡ is_judged past && told.is_without_end past event }
     ensures cut { (limits : Limits) (past : List Said) (spot : Spot) (event : Event)
         → is_found 20 (told_by [] limits (talk_behind past) spot event)
-        ≡ told.is_cut_token past event }
+        ≡ is_judged past && told.is_cut_token past event }
     ensures unclear { (limits : Limits) (past : List Said) (spot : Spot) (event : Event)
         → is_found 26 (told_by [] limits (talk_behind past) spot event)
-        ≡ told.is_unclear_change event }
+        ≡ is_judged past && told.is_unclear_change event }
 {}
 
 /// And these: bytes that are no token, a packet above the size, a Length that none can have, a message
@@ -135,22 +153,34 @@ pub fn answers_are_told()
 pub fn packets_are_told()
     ensures token { (limits : Limits) (past : List Said) (spot : Spot) (event : Event)
         → is_found 21 (told_by [] limits (talk_behind past) spot event)
-        ≡ told.is_wrong_token event }
+        ≡ is_judged past && told.is_wrong_token past event }
     ensures size { (limits : Limits) (past : List Said) (spot : Spot) (event : Event)
         → is_found 22 (told_by [] limits (talk_behind past) spot event)
-        ≡ told.is_wrong_size past event }
+        ≡ is_judged past && told.is_wrong_size past event }
     ensures length { (limits : Limits) (past : List Said) (spot : Spot) (event : Event)
         → is_found 23 (told_by [] limits (talk_behind past) spot event)
-        ≡ told.is_wrong_length event }
+        ≡ is_judged past && told.is_wrong_length event }
     ensures unfinished { (limits : Limits) (past : List Said) (spot : Spot) (event : Event)
         → is_found 25 (told_by [] limits (talk_behind past) spot event)
-        ≡ told.is_unfinished_message event }
+        ≡ is_judged past && told.is_unfinished_message event }
     ensures taken_up { (limits : Limits) (past : List Said) (spot : Spot) (event : Event)
         → is_found 27 (told_by [] limits (talk_behind past) spot event)
-        ≡ told.is_taken_up event }
+        ≡ is_judged past && told.is_taken_up event }
+    ensures version { (limits : Limits) (past : List Said) (spot : Spot) (event : Event)
+        → is_found 30 (told_by [] limits (talk_behind past) spot event)
+        ≡ is_judged past && told.is_other_version past event }
+    ensures compute { (limits : Limits) (past : List Said) (spot : Spot) (event : Event)
+        → is_found 31 (told_by [] limits (talk_behind past) spot event)
+        ≡ is_judged past && told.is_compute event }
+    ensures ignore { (limits : Limits) (past : List Said) (spot : Spot) (event : Event)
+        → is_found 37 (told_by [] limits (talk_behind past) spot event)
+        ≡ is_judged past && told.is_ignore_unended event }
+    ensures direction { (limits : Limits) (past : List Said) (spot : Spot) (event : Event)
+        → is_found 38 (told_by [] limits (talk_behind past) spot event)
+        ≡ is_judged past && told.is_wrong_direction event }
 {}
 
-/// Behind any history, an event gives a finding of level breach exactly where it is one of the eighteen
+/// Behind any history, an event gives a finding of level breach exactly where it is one of the 23
 /// breaches by what was said before: no other alarm, and no silence.
 pub fn alarms_are_exact()
     ensures { (limits : Limits) (past : List Said) (spot : Spot) (event : Event)

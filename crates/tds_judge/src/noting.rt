@@ -1,16 +1,20 @@
 //! What is wrong with what is said next.
 
 ghost use Rattle.std.specs.Prelude.{◌≡◌, ◌≤◌, ◌<◌, ◌+◌, vec_len, vec_capacity};
+ghost use Rattle.tds_judge.specs.Noting as noting;
 ghost use Rattle.tds_judge.specs.Talking as talking;
 
 use crate::finding::{Finding, Name, Spot, note};
-use crate::talk::{Event, Limits, Reset, Talk, acknowledges, is_unclear};
+use crate::talk::{
+    Ending, Event, Limits, Reset, Talk, acknowledges, ended_by, goes_on, ignores_early, is_short,
+    is_unclear, tells_reset,
+};
 use tds_wire::Token;
 
 impl Talk {
     fn note_turn(&self, out: &mut Vec<Finding>, spot: Spot)
         requires { vec_len out.old + 2 ≤ vec_capacity out.old }
-        ensures items { out.new.items ≡ talking.turn_noted out.old.items self.now spot }
+        ensures items { out.new.items ≡ noting.turn_noted out.old.items self.now spot }
         ensures few { vec_len out.new ≤ vec_len out.old + 2 }
         ensures capacity { vec_capacity out.new ≡ vec_capacity out.old }
     {
@@ -21,7 +25,7 @@ impl Talk {
 
     fn note_reset(&self, out: &mut Vec<Finding>, spot: Spot, status: u8)
         requires { vec_len out.old + 4 ≤ vec_capacity out.old }
-        ensures items { out.new.items ≡ talking.reset_noted out.old.items self.now spot status }
+        ensures items { out.new.items ≡ noting.reset_noted out.old.items self.now spot status }
         ensures few { vec_len out.new ≤ vec_len out.old + 4 }
         ensures capacity { vec_capacity out.new ≡ vec_capacity out.old }
     {
@@ -43,7 +47,7 @@ impl Talk {
     }
 
     fn is_idle_long(&self, limits: &Limits, time: u64) -> bool
-        ensures { result ≡ talking.is_idle_long limits.now self.now time }
+        ensures { result ≡ noting.is_idle_long limits.now self.now time }
     {
         self.transaction.descriptor() != 0
             && !self.underway
@@ -54,7 +58,7 @@ impl Talk {
     fn note_request(&self, out: &mut Vec<Finding>, limits: &Limits, spot: Spot, status: u8)
         requires { vec_len out.old + 8 ≤ vec_capacity out.old }
         ensures items { out.new.items
-            ≡ talking.request_noted out.old.items limits.now self.now spot status }
+            ≡ noting.request_noted out.old.items limits.now self.now spot status }
         ensures few { vec_len out.new ≤ vec_len out.old + 8 }
         ensures capacity { vec_capacity out.new ≡ vec_capacity out.old }
     {
@@ -63,22 +67,24 @@ impl Talk {
         let idle = self.is_idle_long(limits, spot.time);
         let long = spot.time.saturating_sub(self.since);
         note(out, spot, idle, Name::IdleInTransaction, long);
+        let early = ignores_early(status);
+        note(out, spot, early, Name::IgnoreUnended, u64::from(status));
     }
 
     fn note_attention(&self, out: &mut Vec<Finding>, spot: Spot, size: u16, status: u8)
         requires { vec_len out.old + 2 ≤ vec_capacity out.old }
         ensures items { out.new.items
-            ≡ talking.attention_noted out.old.items self.now spot size status }
+            ≡ noting.attention_noted out.old.items self.now spot size status }
         ensures few { vec_len out.new ≤ vec_len out.old + 2 }
         ensures capacity { vec_capacity out.new ≡ vec_capacity out.old }
     {
         note(out, spot, self.attention, Name::SecondAttention, 0);
-        let wrong = size != 8 || status % 2 != 1;
+        let wrong = size != 8 || status != 1;
         note(out, spot, wrong, Name::WrongAttention, u64::from(size));
     }
 
     fn names_wrongly(&self, descriptor: u64) -> bool
-        ensures { result ≡ talking.names_wrongly self.now descriptor }
+        ensures { result ≡ noting.names_wrongly self.now descriptor }
     {
         self.transaction.is_told()
             && self.transaction.descriptor() != descriptor
@@ -88,7 +94,7 @@ impl Talk {
     fn note_names(&self, out: &mut Vec<Finding>, spot: Spot, descriptor: u64)
         requires { vec_len out.old + 3 ≤ vec_capacity out.old }
         ensures items { out.new.items
-            ≡ talking.names_noted out.old.items self.now spot descriptor }
+            ≡ noting.names_noted out.old.items self.now spot descriptor }
         ensures few { vec_len out.new ≤ vec_len out.old + 3 }
         ensures capacity { vec_capacity out.new ≡ vec_capacity out.old }
     {
@@ -101,11 +107,37 @@ impl Talk {
         note(out, spot, dead, Name::TransactionEndedUnheard, descriptor);
     }
 
-    fn note_token(&self, out: &mut Vec<Finding>, spot: Spot, token: &Token)
-        requires { vec_len out.old + 3 ≤ vec_capacity out.old }
+    /// What is still to be told done of what was asked for is none, and a reset is told done.
+    fn is_reset_unasked(&self, token: &Token) -> bool
+        ensures { result ≡ noting.resets_unasked self.now token.now }
+    {
+        tells_reset(token) && self.asked.is_request() && !self.owed().is_asked()
+    }
+
+    fn note_change(&self, out: &mut Vec<Finding>, spot: Spot, token: &Token)
+        requires { vec_len out.old + 4 ≤ vec_capacity out.old }
         ensures items { out.new.items
-            ≡ talking.token_noted out.old.items self.now spot token.now }
-        ensures few { vec_len out.new ≤ vec_len out.old + 3 }
+            ≡ noting.change_noted out.old.items self.now spot token.now }
+        ensures few { vec_len out.new ≤ vec_len out.old + 4 }
+        ensures capacity { vec_capacity out.new ≡ vec_capacity out.old }
+    {
+        let unasked = self.is_reset_unasked(token);
+        let wrong = self.transaction.is_changed_wrongly(token);
+        let none = self.transaction.is_ended_in_vain(token) && !self.reset_done;
+        let more = (self.is_final && self.acknowledges) || (acknowledges(token) && goes_on(token));
+        let open = self.transaction.descriptor();
+        note(out, spot, unasked, Name::ResetUnasked, 0);
+        note(out, spot, wrong, Name::WrongChange, open);
+        note(out, spot, none, Name::NoneEnded, ended_by(token));
+        let kind = u64::from(token.kind);
+        note(out, spot, more, Name::AcknowledgementNotLast, kind);
+    }
+
+    fn note_token(&self, out: &mut Vec<Finding>, spot: Spot, token: &Token)
+        requires { vec_len out.old + 8 ≤ vec_capacity out.old }
+        ensures items { out.new.items
+            ≡ noting.token_noted out.old.items self.now spot token.now }
+        ensures few { vec_len out.new ≤ vec_len out.old + 8 }
         ensures capacity { vec_capacity out.new ≡ vec_capacity out.old }
     {
         let acknowledges = acknowledges(token);
@@ -113,29 +145,42 @@ impl Talk {
         let unasked = acknowledges && plain && !self.doubled;
         let behind = self.is_final && plain && !acknowledges;
         let kind = u64::from(token.kind);
+        let old = is_short(token) && !self.dated;
         note(out, spot, unasked, Name::AcknowledgementUnasked, 0);
         note(out, spot, behind, Name::TokenAfterFinalDone, kind);
         note(out, spot, is_unclear(token), Name::UnclearChange, kind);
+        note(out, spot, old, Name::OtherVersion, 0);
+        self.note_change(out, spot, token);
     }
 
-    fn is_plain(&self) -> bool
+    /// Whether nothing is to be answered.
+    fn is_unawaited(&self) -> bool
+        ensures { result ≡ noting.is_unawaited self.now }
+    {
+        self.asked.is_known() && !self.underway && !self.attention && !self.doubled
+    }
+
+    /// Whether an answer is that to a request which wasn't cancelled.
+    pub fn is_plain(&self) -> bool
         ensures { result ≡ talking.is_plain self.now }
     {
         self.asked.is_request() && !self.attention && !self.acknowledges
     }
 
     fn note_answered(&self, out: &mut Vec<Finding>, spot: Spot, whole: bool)
-        requires { vec_len out.old + 4 ≤ vec_capacity out.old }
+        requires { vec_len out.old + 5 ≤ vec_capacity out.old }
         ensures items { out.new.items
-            ≡ talking.answer_noted out.old.items self.now spot whole }
-        ensures few { vec_len out.new ≤ vec_len out.old + 4 }
+            ≡ noting.answer_noted out.old.items self.now spot whole }
+        ensures few { vec_len out.new ≤ vec_len out.old + 5 }
         ensures capacity { vec_capacity out.new ≡ vec_capacity out.old }
     {
         let plain = self.is_plain();
+        let cut = plain && !whole;
         let open = plain && whole && !self.is_final;
         let unreset = plain && self.is_final && self.reset.is_asked() && !self.reset_done;
         let ignored = self.attention && !self.acknowledges && self.late && self.ended_since;
-        note(out, spot, plain && !whole, Name::CutToken, 0);
+        note(out, spot, cut && self.dated, Name::CutToken, 0);
+        note(out, spot, cut && !self.dated, Name::OtherVersion, 0);
         note(out, spot, open, Name::NoFinalDone, 0);
         note(out, spot, unreset, Name::ResetUnanswered, 0);
         note(out, spot, ignored, Name::AttentionIgnored, 0);
@@ -144,7 +189,7 @@ impl Talk {
     fn note_closed(&self, out: &mut Vec<Finding>, limits: &Limits, spot: Spot)
         requires { vec_len out.old + 3 ≤ vec_capacity out.old }
         ensures items { out.new.items
-            ≡ talking.close_noted out.old.items limits.now self.now spot }
+            ≡ noting.close_noted out.old.items limits.now self.now spot }
         ensures few { vec_len out.new ≤ vec_len out.old + 3 }
         ensures capacity { vec_capacity out.new ≡ vec_capacity out.old }
     {
@@ -157,12 +202,45 @@ impl Talk {
         note(out, spot, open != 0, Name::TransactionLeftByClose, open);
     }
 
-    /// Appends what is wrong with what is said now.
-    #[tactic(auto, unfolding(crate::specs::Talking::told_by))]
+    fn note_stopped(&self, out: &mut Vec<Finding>, spot: Spot, ending: Ending, value: u64)
+        requires { vec_len out.old + 2 ≤ vec_capacity out.old }
+        ensures items { out.new.items
+            ≡ noting.stop_noted out.old.items self.now spot ending value }
+        ensures few { vec_len out.new ≤ vec_len out.old + 2 }
+        ensures capacity { vec_capacity out.new ≡ vec_capacity out.old }
+    {
+        match ending {
+            Ending::WrongToken => {
+                note(out, spot, self.dated, Name::WrongToken, value);
+                note(out, spot, !self.dated, Name::OtherVersion, value);
+            }
+            Ending::WrongLength => note(out, spot, true, Name::WrongLength, value),
+            Ending::Encrypted => note(out, spot, true, Name::Encrypted, value),
+            Ending::NotTds => note(out, spot, true, Name::NotTds, value),
+            Ending::OtherVersion => note(out, spot, true, Name::OtherVersion, value),
+            Ending::Compute => note(out, spot, true, Name::Compute, value),
+            Ending::WrongDirection => note(out, spot, true, Name::WrongDirection, value),
+        }
+    }
+
+    /// Appends what is wrong with what is said now. Of another version nothing is.
+    #[tactic(auto, unfolding(crate::specs::Noting::told_by))]
     pub fn note_event(&self, out: &mut Vec<Finding>, limits: &Limits, spot: Spot, event: Event)
         requires { vec_len out.old + 8 ≤ vec_capacity out.old }
         ensures items { out.new.items
-            ≡ talking.told_by out.old.items limits.now self.now spot event }
+            ≡ noting.told_by out.old.items limits.now self.now spot event }
+        ensures few { vec_len out.new ≤ vec_len out.old + 8 }
+        ensures capacity { vec_capacity out.new ≡ vec_capacity out.old }
+    {
+        if !self.other {
+            self.note_said(out, limits, spot, event);
+        }
+    }
+
+    fn note_said(&self, out: &mut Vec<Finding>, limits: &Limits, spot: Spot, event: Event)
+        requires { vec_len out.old + 8 ≤ vec_capacity out.old }
+        ensures items { out.new.items
+            ≡ noting.told_here out.old.items limits.now self.now spot event }
         ensures few { vec_len out.new ≤ vec_len out.old + 8 }
         ensures capacity { vec_capacity out.new ≡ vec_capacity out.old }
     {
@@ -176,15 +254,22 @@ impl Talk {
             Event::Attention(size, status) => self.note_attention(out, spot, size, status),
             Event::Later(status) => {
                 let asks = Reset::of(status).is_asked();
+                let unended = ignores_early(status);
                 note(out, spot, asks, Name::ResetOnLaterPacket, u64::from(status));
+                note(out, spot, unended, Name::IgnoreUnended, u64::from(status));
             }
             Event::Names(descriptor) => self.note_names(out, spot, descriptor),
             Event::Says(token) => self.note_token(out, spot, &token),
             Event::Answered(whole) => self.note_answered(out, spot, whole),
             Event::TakenUp => note(out, spot, true, Name::TakenUp, 0),
-            Event::Stops(ending, value) => note(out, spot, true, ending.name(), value),
+            Event::Stops(ending, value) => self.note_stopped(out, spot, ending, value),
             Event::Closed => self.note_closed(out, limits, spot),
-            Event::Login | Event::Ignored | Event::Answer | Event::Borrowed => {}
+            Event::Answer => note(out, spot, self.is_unawaited(), Name::AnswerUnasked, 0),
+            Event::Borrowed => {
+                let busy = self.attention || (self.underway && self.asked.is_request());
+                note(out, spot, busy, Name::LentWhileAnswering, 0);
+            }
+            Event::Login | Event::Ignored => {}
         }
     }
 }

@@ -25,8 +25,10 @@ impl Judge {
                 }
             }
             Direction::ToClient => {
-                let whole = self.is_whole(frame.inside);
-                self.say(out, spot, Event::Answered(whole));
+                if frame.kind != 18 {
+                    let whole = self.is_whole(frame.inside);
+                    self.say(out, spot, Event::Answered(whole));
+                }
             }
         }
     }
@@ -144,7 +146,9 @@ impl Judge {
                     Inside::Skipped
                 };
                 self.restart();
-                self.say(out, spot, Event::Answer);
+                if head.kind != 18 {
+                    self.say(out, spot, Event::Answer);
+                }
                 self.open(out, spot, Part::Within, inside, head);
             }
         }

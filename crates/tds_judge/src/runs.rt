@@ -10,15 +10,13 @@ ghost use Rattle.tds_judge.specs.declared.finding.Direction.TheVariants.{ToClien
 ghost use Rattle.tds_judge.specs.declared.frame.Due.TheVariants as dues;
 ghost use Rattle.tds_judge.specs.declared.frame.Inside.TheVariants as insides;
 ghost use Rattle.tds_judge.specs.declared.talk.Event.TheVariants as events;
-ghost use Rattle.tds_judge.specs.declared.talk.Ending.TheVariants as endings;
-ghost use Rattle.tds_wire.specs.Faults.{fault_number};
 
 use crate::finding::{Direction, Finding, Spot};
-use crate::frame::{Due, Inside};
+use crate::frame::{Due, Inside, refused};
 use crate::judge::Judge;
-use crate::talk::{Ending, Event};
+use crate::talk::Event;
 use crate::walker::Went;
-use tds_wire::{Token, Told, WireFault, cuts_do_not_matter};
+use tds_wire::{Refusal, Token, Told, cuts_do_not_matter};
 
 impl Judge {
     /// So many bytes of data have gone by, fewer than are left.
@@ -72,13 +70,13 @@ impl Judge {
         spot: Spot,
         left: u16,
         count: u16,
-        fault: WireFault,
+        refusal: Refusal,
     )
         requires some { 0 < count }
         requires few { count < left }
         requires room { vec_len out.old + 8 ≤ vec_capacity out.old }
         ensures run { (run_of self.new out.new.items)
-            ≡ framing.stops spot (events.Stops endings.WrongToken (fault_number fault))
+            ≡ framing.stops spot (framing.refused_as refusal)
             (run_of (runs.failed left count self.old) out.old.items) }
         ensures few { vec_len out.new ≤ vec_len out.old + 8 }
         ensures capacity { vec_capacity out.new ≡ vec_capacity out.old }
@@ -87,8 +85,7 @@ impl Judge {
             left: left - (count - 1),
         };
         self.server.offset = self.server.offset.saturating_add(u64::from(count));
-        let number = u64::from(fault.number());
-        self.stop(out, spot, Event::Stops(Ending::WrongToken, number));
+        self.stop(out, spot, refused(&refusal));
     }
 
     /// The walker reads a run of data, up to the end of one token: how many bytes of it.
@@ -124,9 +121,9 @@ impl Judge {
                 self.end_run(out, spot, left, count as u16, token);
                 count
             }
-            Went::Fails(count, fault) => {
+            Went::Fails(count, refusal) => {
                 let spot = self.spot_of_last(time, count as u16);
-                self.fail_run(out, spot, left, count as u16, fault);
+                self.fail_run(out, spot, left, count as u16, refusal);
                 count
             }
         }

@@ -3,8 +3,7 @@
 ghost use Rattle.std.specs.Prelude.{◌≡◌};
 ghost use Rattle.tds_judge.specs.Talking as talking;
 
-use crate::finding::Name;
-use tds_wire::{Features, Token, Told};
+use tds_wire::{ChangeValue, Done, Features, Token, Told};
 
 /// What a judge goes by.
 #[derive(Clone, Copy)]
@@ -55,6 +54,9 @@ pub enum Ending {
     WrongLength,
     Encrypted,
     NotTds,
+    OtherVersion,
+    Compute,
+    WrongDirection,
 }
 
 /// What is said on a connection.
@@ -121,8 +123,13 @@ pub struct Talk {
     pub borrowed: bool,
     /// When the last answer ended, or a transaction began or ended.
     pub since: u64,
-    /// The packet size that was agreed on; 0 where it isn't known.
+    /// The packet size that was told last, and the one that counts, behind the answer that told it; 0 where
+    /// it isn't known.
+    pub agreed: u32,
     pub most: u32,
+    /// TDS 7.2 or later was shown; or what can only be of an earlier version.
+    pub dated: bool,
+    pub other: bool,
 }
 
 impl Reset {
@@ -176,20 +183,6 @@ impl Reset {
     }
 }
 
-impl Ending {
-    /// The finding that tells it.
-    pub fn name(self) -> Name
-        ensures { result ≡ talking.ending_name self }
-    {
-        match self {
-            Ending::WrongToken => Name::WrongToken,
-            Ending::WrongLength => Name::WrongLength,
-            Ending::Encrypted => Name::Encrypted,
-            Ending::NotTds => Name::NotTds,
-        }
-    }
-}
-
 impl Asked {
     pub fn is_request(self) -> bool
         ensures { result ≡ talking.is_request self }
@@ -197,6 +190,15 @@ impl Asked {
         match self {
             Asked::Request => true,
             _ => false,
+        }
+    }
+
+    pub fn is_known(self) -> bool
+        ensures { result ≡ talking.is_known self }
+    {
+        match self {
+            Asked::Unknown => false,
+            _ => true,
         }
     }
 }
@@ -239,5 +241,121 @@ pub fn is_unclear(token: &Token) -> bool
     match token.told {
         Told::Unclear => token.kind == 0xE3,
         _ => false,
+    }
+}
+
+/// Whether a DONE can be one of 13 bytes: of one of nine, as before TDS 7.2, the next token's first byte
+/// stands in the upper half of its count.
+pub fn is_long(done: Done) -> bool
+    ensures { result ≡ talking.is_long done }
+{
+    done.count < 4_294_967_296
+}
+
+/// Whether the token is a DONE of before TDS 7.2.
+pub fn is_short(token: &Token) -> bool
+    ensures { result ≡ talking.is_short token.now }
+{
+    match token.told {
+        Told::Done(done) => !is_long(done),
+        _ => false,
+    }
+}
+
+/// Whether a packet is to be ignored and doesn't end its message (MS-TDS 2.2.3.1.2).
+pub fn ignores_early(status: u8) -> bool
+    ensures { result ≡ talking.ignores_early status }
+{
+    status / 2 % 2 == 1 && status % 2 != 1
+}
+
+/// Whether the token is a DONE that says that more come.
+pub fn goes_on(token: &Token) -> bool
+    ensures { result ≡ talking.says_more token.now }
+{
+    match token.told {
+        Told::Done(done) => done.status % 2 == 1,
+        _ => false,
+    }
+}
+
+/// Whether the token tells that a reset was done.
+pub fn tells_reset(token: &Token) -> bool
+    ensures { result ≡ talking.tells_reset token.now }
+{
+    match token.told {
+        Told::Change(change) => match change.value {
+            ChangeValue::ResetDone => true,
+            _ => false,
+        },
+        _ => false,
+    }
+}
+
+/// Which transaction the token ends, or 0.
+pub fn ended_by(token: &Token) -> u64
+    ensures { result ≡ talking.ended_descriptor token.now }
+{
+    match token.told {
+        Told::Change(change) => match change.value {
+            ChangeValue::Transaction { new: _, old } => old,
+            _ => 0,
+        },
+        _ => 0,
+    }
+}
+
+/// Whether an ENVCHANGE of this type ends a transaction whose descriptor is its old value.
+fn ends(kind: u8) -> bool
+    ensures { result ≡ talking.ends_old kind }
+{
+    kind == 9 || kind == 10 || kind == 17
+}
+
+impl Transaction {
+    /// Whether the token begins another transaction inside this one, or none, or ends another one.
+    pub fn is_changed_wrongly(self, token: &Token) -> bool
+        ensures { result ≡ talking.changes_wrongly self token.now }
+    {
+        let open = self.descriptor();
+        match token.told {
+            Told::Change(change) => match change.value {
+                ChangeValue::Transaction { new, old } => {
+                    if change.kind == 8 || change.kind == 11 {
+                        change.kind == 8 && (new == 0 || (open != 0 && open != new))
+                    } else {
+                        ends(change.kind) && open != 0 && open != old
+                    }
+                }
+                _ => false,
+            },
+            _ => false,
+        }
+    }
+
+    /// Whether the token ends one, and it was told that none is open.
+    pub fn is_ended_in_vain(self, token: &Token) -> bool
+        ensures { result ≡ talking.ends_none self token.now }
+    {
+        match token.told {
+            Told::Change(change) => match change.value {
+                ChangeValue::Transaction { .. } => {
+                    ends(change.kind) && self.is_told() && self.descriptor() == 0
+                }
+                _ => false,
+            },
+            _ => false,
+        }
+    }
+
+    /// What an ENVCHANGE that begins one tells. Which value of a type 11 is its descriptor is read in two ways.
+    pub fn begun(kind: u8, new: u64) -> Transaction
+        ensures { result ≡ talking.begun_as kind new }
+    {
+        if kind == 11 {
+            Transaction::Unknown
+        } else {
+            Transaction::Told(new)
+        }
     }
 }

@@ -8,7 +8,7 @@ ghost use Rattle.tds_judge.specs.Runs.{IsWent};
 use crate::NoMemory;
 use std::alloc::Global;
 use std::marker::Model;
-use tds_wire::{Features, Fed, LentWalk, Memory, Refusal, Token, WireFault};
+use tds_wire::{Features, Fed, LentWalk, Memory, Refusal, Token};
 
 /// Walks over the tokens of an answer's messages (MS-TDS 2.2.7).
 #[derive(Drop)]
@@ -34,7 +34,7 @@ pub enum Went {
     /// So many bytes of it lead up to the end of this token.
     Ends(usize, Token),
     /// The last of so many bytes of it is refused.
-    Fails(usize, WireFault),
+    Fails(usize, Refusal),
 }
 
 /// Places up to here are counted.
@@ -99,7 +99,7 @@ impl Walker {
             },
             Err(refusal) => {
                 let count = refusal.at.saturating_add(1).saturating_sub(before).max(1);
-                Went::Fails((count as usize).min(piece.len()), refusal.fault)
+                Went::Fails((count as usize).min(piece.len()), refusal)
             }
         }
     }

@@ -17,10 +17,10 @@ use Rattle.tds_service.specs.History.{done_by, history}
 use Rattle.tds_judge.specs.declared.talk.Event.TheVariants as events
 use Rattle.tds_judge.specs.declared.talk.Transaction.{Transaction}
 use Rattle.tds_judge.specs.declared.talk.Transaction.TheVariants as transactions
-use Rattle.tds_judge.specs.Breaches.{size_told}
+use Rattle.tds_judge.specs.Breaches.{agreed_last, size_told}
 use Rattle.tds_judge.specs.Conversation.{IsLawful, MayAsk, MayName, MayStop, Names, Place, Asking, forgotten_at, place_of, stopped_at, Skipping}
 use Rattle.tds_judge.specs.History.{Said, asks_of, is_cleared, last_told}
-use Rattle.tds_judge.specs.Talking.{is_both, reset_of}
+use Rattle.tds_judge.specs.Talking.{ignores_early, is_both, reset_of}
 use Rattle.tds_judge.specs.Told.{is_broken}
 use Rattle.tds_judged.specs.Seen.{named_by, sees_outs, AllBehindLogin, AreBehindLogin, ComesBehindLogin, Eye, Watch, conversation, seen, sees, sees_begin, sees_come, sees_done, sees_names, sees_packet, status, unless_lost, watch_by}
 use Rattle.tds_lawful.specs.Answering.{IsNoFault, NoFault, UnlessLost}
@@ -38,7 +38,7 @@ Moves eye n stage h w past act =
 -- ---- Marks, and asking
 
 knows_marked : (h : Heard) (mark : Option Reset) (past : List Said) → Knows h past → Knows (record h { mark = mark }) past
-knows_marked h mark past k = record { lawful = k.lawful; size = k.size; last = k.last }
+knows_marked h mark past k = record { lawful = k.lawful; agreed = k.agreed; size = k.size; last = k.last }
 
 mark_moves : (eye : Eye) (n : ℕ) (stage : Stage) (h : Heard) (w : Watch) (past : List Said) (reset : Reset)
     → Knows h past → At stage w.begun w.named h past → Moves eye n stage h w past (line.Mark reset)
@@ -67,6 +67,15 @@ reset_read (Some Full) false = refl
 reset_read (Some KeepTransaction) true = refl
 reset_read (Some KeepTransaction) false = refl
 
+-- none of them is to be ignored
+ends_read : (mark : Option Reset) (last : Bool) → ignores_early (status mark last) ≡ false
+ends_read None true = refl
+ends_read None false = refl
+ends_read (Some Full) true = refl
+ends_read (Some Full) false = refl
+ends_read (Some KeepTransaction) true = refl
+ends_read (Some KeepTransaction) false = refl
+
 one_reset : (mark : Option Reset) → is_both (as_reset mark) ≡ false
 one_reset None = refl
 one_reset (Some Full) = refl
@@ -84,11 +93,12 @@ names_last (Some KeepTransaction) (transactions.Told last) descriptor is = same_
 -- the descriptor is seen or not
 names_by : (b : Bool) (eye : Eye) (h : Heard) (named : ℕ) (past : List Said) → named ≡ header_descriptor h.mark h.descriptor → Knows h past → Asked h past
     → Knows h (if b then sees eye past (events.Names named) else past) × Asked h (if b then sees eye past (events.Names named) else past)
-unfolding IsLawful size_told last_told place_of asks_of is_cleared
+unfolding IsLawful agreed_last size_told last_told place_of asks_of is_cleared
 names_by false eye h named past is k a = (k, a)
 names_by true eye h named past is k a = (
   record {
     lawful = (k.lawful, subst (λ (p : Place). MayName p (last_told past) named) (sym a.place) (subst (Names (last_told past) (as_reset h.mark)) (sym is) (names_last h.mark (last_told past) h.descriptor k.last)));
+    agreed = k.agreed;
     size = k.size;
     last = k.last;
   },
@@ -97,11 +107,12 @@ names_by true eye h named past is k a = (
 
 begins_sent : (eye : Eye) (h : Heard) (named : ℕ) (past : List Said) (last : Bool) → named ≡ header_descriptor h.mark h.descriptor → Knows h past → Rests h past
     → Knows h (sees_names eye named (sees eye past (events.Request (status h.mark last)))) × Asked h (sees_names eye named (sees eye past (events.Request (status h.mark last))))
-unfolding IsLawful size_told last_told place_of asks_of is_cleared
+unfolding IsLawful agreed_last size_told last_told place_of asks_of is_cleared
 begins_sent eye h named past last is k a =
     names_by (eye.headers (sees eye past (events.Request (status h.mark last)))) eye h named (sees eye past (events.Request (status h.mark last))) is
     (record {
-      lawful = (k.lawful, subst (λ (p : Place). MayAsk p (status h.mark last)) (sym a.place) (ap is_both (reset_read h.mark last) ∙ one_reset h.mark));
+      lawful = (k.lawful, subst (λ (p : Place). MayAsk p (status h.mark last)) (sym a.place) (ap is_both (reset_read h.mark last) ∙ one_reset h.mark, ends_read h.mark last));
+      agreed = k.agreed;
       size = k.size;
       last = k.last;
     })
@@ -109,9 +120,9 @@ begins_sent eye h named past last is k a =
 
 later_sent : (eye : Eye) (h : Heard) (past : List Said) (last : Bool) → Knows h past → Asked h past
     → Knows h (sees eye past (events.Later (status None last))) × Asked h (sees eye past (events.Later (status None last)))
-unfolding IsLawful size_told last_told place_of asks_of is_cleared
+unfolding IsLawful agreed_last size_told last_told place_of asks_of is_cleared
 later_sent eye h past last k a = (
-  record { lawful = (k.lawful, reset_read None last); size = k.size; last = k.last },
+  record { lawful = (k.lawful, (reset_read None last, ends_read None last)); agreed = k.agreed; size = k.size; last = k.last },
   record { place = a.place; owes = a.owes; done = a.done },
 )
 
@@ -149,9 +160,10 @@ abbrev attends : Eye → List Said → List Said
 attends eye past = sees eye (sees eye past (events.Packet 8)) (events.Attention 8 1)
 
 attention_known : (eye : Eye) (h : Heard) (past : List Said) → MayStop (place_of past) → Knows h past → Knows h (attends eye past)
-unfolding IsLawful size_told last_told place_of
+unfolding IsLawful agreed_last size_told last_told place_of
 attention_known eye h past may k = record {
   lawful = ((k.lawful, ap (λ (n : ℕ). (n == 0) || not (nat_lt n 8)) k.size), (may, refl, refl));
+  agreed = k.agreed;
   size = k.size;
   last = k.last;
 }
@@ -160,10 +172,10 @@ abbrev ignores : Eye → List Said → List Said
 ignores eye past = sees eye (sees eye (sees_packet eye past) (events.Later 3)) events.Ignored
 
 ignored_known : (eye : Eye) (h : Heard) (past : List Said) → Knows h past → Knows h (ignores eye past)
-unfolding IsLawful size_told last_told place_of
+unfolding IsLawful agreed_last size_told last_told place_of
 ignored_known eye h past k =
     let k' = packet_seen eye h past k in
-    record { lawful = ((k'.lawful, refl), tt); size = k.size; last = k.last }
+    record { lawful = ((k'.lawful, (refl, refl)), tt); agreed = k.agreed; size = k.size; last = k.last }
 
 -- an attention behind a request whose answer hasn't begun, behind one that is ignored, and inside an answer
 stop_asked : (eye : Eye) (h : Heard) (past : List Said) → Knows h past → Asked h past → Knows h (attends eye past) × Stops h (attends eye past)
@@ -304,9 +316,9 @@ all_lawful eye l w past (act ∷ acts) plain stands well =
     well.1
 
 pub starts : Stands line.new_line (record { named = 0; begun = false }) []
-unfolding IsLawful size_told last_told place_of
+unfolding IsLawful agreed_last size_told last_told place_of
 starts = record {
-  knows = record { lawful = tt; size = refl; last = tt };
+  knows = record { lawful = tt; agreed = refl; size = refl; last = tt };
   at = (refl, record { place = refl; done = refl });
 }
 

@@ -1,5 +1,5 @@
 -- What a client hears of a token without a fault, and where a conversation is behind it.
-use Rattle.std.proofs.Common.{◌≡◌, ◌∙◌, ◌*◌, ◌/◌, ◌%◌, ◌<◌, ◌==◌, ◌||◌, not, ℕ, zero, suc, Bool, true, false, refl, sym, ap, subst, arith}
+use Rattle.std.proofs.Common.{◌≡◌, ◌∙◌, ◌*◌, ◌/◌, ◌%◌, ◌<◌, ◌==◌, ◌&&◌, ◌||◌, not, ℕ, zero, suc, Bool, true, false, refl, sym, ap, subst, arith}
 use Rattle.std.specs.Prelude.{Option, Some, None, Result, Ok, Err, IfOk, if◌then◌else◌}
 use Rattle.std.proofs.lemmas.Nat.Bits.{and_high}
 use Rattle.std.proofs.lemmas.Nat.{and_mask}
@@ -22,6 +22,7 @@ use Rattle.tds_wire.specs.declared.told.ChangeValue.TheVariants as changes
 use Rattle.tds_wire.specs.declared.told.Done.{Done}
 use Rattle.tds_wire.specs.declared.told.Told.{Told}
 use Rattle.tds_wire.specs.declared.told.Told.TheVariants as told
+use Rattle.tds_wire.specs.declared.told.Token.{Token}
 use Rattle.tds_judge.specs.declared.talk.Reset.{Reset as Asks}
 use Rattle.tds_judge.specs.declared.talk.Reset.TheVariants as resets
 use Rattle.tds_judge.specs.declared.talk.Transaction.{Transaction}
@@ -29,7 +30,7 @@ use Rattle.tds_judge.specs.declared.talk.Transaction.TheVariants as transactions
 use Rattle.tds_judge.specs.Breaches.{final_by_token, size_by_token}
 use Rattle.tds_judge.specs.Conversation.{left_by}
 use Rattle.tds_judge.specs.History.{cleared_by_token, last_by_token}
-use Rattle.tds_judge.specs.Talking.{keeps, owed as still_owed, told_acknowledges}
+use Rattle.tds_judge.specs.Talking.{begun_as, changes_wrongly, descriptor_of, ends_old, keeps, owed as still_owed, told_acknowledges}
 use Rattle.tds_judged.specs.Tokens.{TellsNoSize}
 
 -- ---- In the judge's words
@@ -59,10 +60,14 @@ abbrev pub IsLast : Transaction → ℕ → Type 0
 IsLast transactions.Unknown descriptor = Unit {0}
 IsLast (transactions.Told last) descriptor = last ≡ descriptor
 
+abbrev token_as : ℕ → Told → Token
+token_as kind x = record { kind = kind; start = 0; length = 0; told = x }
+
 -- what a token leaves
 pub record Follows (cancelling : Bool) (h : Heard) (kind : ℕ) (x : Told) (owed : Asks) (before : Transaction) (next : Heard) : Type 0 where
   pub left : left_by x (as_reset h.mark) ≡ as_reset next.mark
   pub last : IsLast (last_by_token kind x owed before) next.descriptor
+  pub change : changes_wrongly before (token_as kind x) ≡ false
   pub acknowledged : is_acknowledged h.done || told_acknowledges x ≡ is_acknowledged next.done
   pub reads : cancelling ≡ false → NotAcknowledged h.done
       → (told_acknowledges x ≡ false) × (final_by_token x (is_final h.done) ≡ is_final next.done) × NotAcknowledged next.done
@@ -156,6 +161,7 @@ done_follows : (a cancelling : Bool) (h : Heard) (kind : ℕ) (d : Done) (owed :
 done_follows true true h kind d owed last is a = record {
   left = refl;
   last = is;
+  change = refl;
   acknowledged = ap (λ (b : Bool). is_acknowledged h.done || b) a ∙ or_true (is_acknowledged h.done);
   reads = λ no none. absurd (true_not no);
 }
@@ -165,6 +171,7 @@ done_follows false cancelling h kind d owed last is a =
     record {
       left = refl;
       last = is;
+      change = refl;
       acknowledged = ap (λ (b : Bool). is_acknowledged h.done || b) a ∙ (or_false (is_acknowledged h.done) ∙ stays h.done d.status);
       reads = λ no none. (a, (behind none).0, (behind none).1);
     }
@@ -173,11 +180,12 @@ done_follows false cancelling h kind d owed last is a =
 
 unchanged : (cancelling : Bool) (h : Heard) (kind : ℕ) (x : Told) (owed : Asks) (last : Transaction)
     → left_by x (as_reset h.mark) ≡ as_reset h.mark → IsLast (last_by_token kind x owed last) h.descriptor
-    → told_acknowledges x ≡ false → final_by_token x (is_final h.done) ≡ is_final h.done
+    → told_acknowledges x ≡ false → final_by_token x (is_final h.done) ≡ is_final h.done → changes_wrongly last (token_as kind x) ≡ false
     → Follows cancelling h kind x owed last h
-unchanged cancelling h kind x owed last left is a final = record {
+unchanged cancelling h kind x owed last left is a final change = record {
   left = left;
   last = is;
+  change = change;
   acknowledged = ap (λ (b : Bool). is_acknowledged h.done || b) a ∙ or_false (is_acknowledged h.done);
   reads = λ no none. (a, final, none);
 }
@@ -185,42 +193,86 @@ unchanged cancelling h kind x owed last left is a final = record {
 abbrev Moves : Heard → ℕ → Heard → Type 0
 Moves h descriptor next = next ≡ record h { descriptor = descriptor }
 
-begun_so : (h : Heard) (new : ℕ) (a b : Bool) → IfOk (changed h (Begin new) (if a then None else if b then Some new else None)) (λ next. Moves h new next)
-begun_so h new true b = tt
-begun_so h new false true = refl
-begun_so h new false false = tt
+-- what a change that is no fault says: a begin isn't of descriptor 0, and both stand where none is known, or the same
+abbrev Fits : Bool → Heard → ℕ → ℕ → Type 0
+Fits true h new old = ((new == 0) ≡ false) × ((h.descriptor == 0) || (h.descriptor == new) ≡ true)
+Fits false h new old = (h.descriptor == 0) || (h.descriptor == old) ≡ true
 
-commit_so : (h : Heard) (old : ℕ) (b : Bool) → IfOk (changed h (Commit old) (if b then Some 0 else None)) (λ next. Moves h 0 next)
-commit_so h old true = refl
+begun_so : (h : Heard) (new : ℕ) (z full b : Bool)
+    → IfOk (changed h (Begin new) (if z || full then None else if b then Some new else None)) (λ next. Moves h new next × ((z ≡ false) × (b ≡ true)))
+begun_so h new true full b = tt
+begun_so h new false true b = tt
+begun_so h new false false true = (refl, (refl, refl))
+begun_so h new false false false = tt
+
+commit_so : (h : Heard) (old : ℕ) (b : Bool) → IfOk (changed h (Commit old) (if b then Some 0 else None)) (λ next. Moves h 0 next × (b ≡ true))
+commit_so h old true = (refl, refl)
 commit_so h old false = tt
 
-rollback_so : (h : Heard) (old : ℕ) (b : Bool) → IfOk (changed h (Rollback old) (if b then Some 0 else None)) (λ next. Moves h 0 next)
-rollback_so h old true = refl
+rollback_so : (h : Heard) (old : ℕ) (b : Bool) → IfOk (changed h (Rollback old) (if b then Some 0 else None)) (λ next. Moves h 0 next × (b ≡ true))
+rollback_so h old true = (refl, refl)
 rollback_so h old false = tt
 
 placed_so : (h : Heard) (new old : ℕ) (p q : Bool)
-    → IfOk (place_change h (if p then Begin new else if q then Commit old else Rollback old)) (λ next. Moves h (if p then new else 0) next)
+    → IfOk (place_change h (if p then Begin new else if q then Commit old else Rollback old)) (λ next. Moves h (if p then new else 0) next × Fits p h new old)
 unfolding place_change
-placed_so h new old true q = begun_so h new ((new == 0) || is_full_mark h.mark) ((h.descriptor == 0) || (h.descriptor == new))
+placed_so h new old true q = begun_so h new (new == 0) (is_full_mark h.mark) ((h.descriptor == 0) || (h.descriptor == new))
 placed_so h new old false true = commit_so h old ((h.descriptor == 0) || (h.descriptor == old))
 placed_so h new old false false = rollback_so h old ((h.descriptor == 0) || (h.descriptor == old))
 
-last_moved : (p : Bool) (new : ℕ) → IsLast (if p then transactions.Told new else transactions.Told 0) (if p then new else 0)
-last_moved true new = refl
-last_moved false new = refl
+either_way : (p q : Bool) → p || q ≡ true → not p && not q ≡ false
+either_way true q so = refl
+either_way false true so = refl
+either_way false false so = sym so
+
+and_none : (b : Bool) → b && false ≡ false
+and_none true = refl
+and_none false = refl
+
+-- so it changes nothing wrongly
+begins_well : (a : Bool) (last : Transaction) (descriptor new : ℕ) → IsLast last descriptor → (new == 0) ≡ false → (descriptor == 0) || (descriptor == new) ≡ true
+    → a && ((new == 0) || (not (descriptor_of last == 0) && not (descriptor_of last == new))) ≡ false
+begins_well a transactions.Unknown descriptor new is some fits = ap (λ (b : Bool). a && (b || false)) some ∙ and_none a
+begins_well a (transactions.Told last) descriptor new is some fits =
+    ap (λ (b : Bool). a && (b || (not (last == 0) && not (last == new)))) some
+    ∙ (ap (λ (d : ℕ). a && (not (d == 0) && not (d == new))) is
+    ∙ (ap (λ (b : Bool). a && b) (either_way (descriptor == 0) (descriptor == new) fits) ∙ and_none a))
+
+ends_well : (a : Bool) (last : Transaction) (descriptor old : ℕ) → IsLast last descriptor → (descriptor == 0) || (descriptor == old) ≡ true
+    → a && (not (descriptor_of last == 0) && not (descriptor_of last == old)) ≡ false
+ends_well a transactions.Unknown descriptor old is fits = and_none a
+ends_well a (transactions.Told last) descriptor old is fits =
+    ap (λ (d : ℕ). a && (not (d == 0) && not (d == old))) is
+    ∙ (ap (λ (b : Bool). a && b) (either_way (descriptor == 0) (descriptor == old) fits) ∙ and_none a)
+
+moves_well : (p a e : Bool) (last : Transaction) (h : Heard) (new old : ℕ) → IsLast last h.descriptor → Fits p h new old
+    → (if p then a && ((new == 0) || (not (descriptor_of last == 0) && not (descriptor_of last == new)))
+    else e && (not (descriptor_of last == 0) && not (descriptor_of last == old))) ≡ false
+moves_well true a e last h new old is fits = begins_well a last h.descriptor new is fits.0 fits.1
+moves_well false a e last h new old is fits = ends_well e last h.descriptor old is fits
+
+begun_last : (b : Bool) (new : ℕ) → IsLast (if b then transactions.Unknown else transactions.Told new) new
+begun_last true new = tt
+begun_last false new = refl
+
+last_moved : (p : Bool) (type new : ℕ) → IsLast (if p then begun_as type new else transactions.Told 0) (if p then new else 0)
+last_moved true type new = begun_last (type == 11) new
+last_moved false type new = refl
 
 pub if_ok : {A E : Type 0} {P Q : A → Type 0} (r : Result A E) → ((x : A) → P x → Q x) → IfOk r P → IfOk r Q
 if_ok (Ok x) so is = so x is
 if_ok (Err e) so is = tt
 
 moves_follow : (cancelling : Bool) (h : Heard) (kind : ℕ) (type new old : ℕ) (owed : Asks) (last : Transaction) (next : Heard)
-    → Moves h (if (type == 8) || (type == 11) then new else 0) next
+    → IsLast last h.descriptor
+    → Moves h (if (type == 8) || (type == 11) then new else 0) next × Fits ((type == 8) || (type == 11)) h new old
     → Follows cancelling h kind (told.Change (record { kind = type; value = changes.Transaction new old })) owed last next
-moves_follow cancelling h kind type new old owed last next is =
-    subst (λ (x : Heard). Follows cancelling h kind (told.Change (record { kind = type; value = changes.Transaction new old })) owed last x) (sym is)
+moves_follow cancelling h kind type new old owed last next known both =
+    subst (λ (x : Heard). Follows cancelling h kind (told.Change (record { kind = type; value = changes.Transaction new old })) owed last x) (sym both.0)
     (record {
       left = refl;
-      last = last_moved ((type == 8) || (type == 11)) new;
+      last = last_moved ((type == 8) || (type == 11)) type new;
+      change = moves_well ((type == 8) || (type == 11)) (type == 8) (ends_old type) last h new old known both.1;
       acknowledged = or_false (is_acknowledged h.done);
       reads = λ no none. (refl, refl, none);
     })
@@ -232,18 +284,21 @@ reset_follows : (cancelling : Bool) (mark : Option Reset) (descriptor : ℕ) (do
 reset_follows cancelling None descriptor done kind type owed last owes is = record {
   left = refl;
   last = subst (λ (r : Asks). IsLast (if keeps r then last else transactions.Told 0) 0) (sym owes) refl;
+  change = refl;
   acknowledged = or_false (is_acknowledged done);
   reads = λ no none. (refl, refl, none);
 }
 reset_follows cancelling (Some Full) descriptor done kind type owed last owes is = record {
   left = refl;
   last = subst (λ (r : Asks). IsLast (if keeps r then last else transactions.Told 0) 0) (sym owes) refl;
+  change = refl;
   acknowledged = or_false (is_acknowledged done);
   reads = λ no none. (refl, refl, none);
 }
 reset_follows cancelling (Some KeepTransaction) descriptor done kind type owed last owes is = record {
   left = refl;
   last = subst (λ (r : Asks). IsLast (if keeps r then last else transactions.Told 0) descriptor) (sym owes) is;
+  change = refl;
   acknowledged = or_false (is_acknowledged done);
   reads = λ no none. (refl, refl, none);
 }
@@ -253,15 +308,15 @@ change_follows : (cancelling : Bool) (h : Heard) (kind type : ℕ) (value : Chan
     → IfOk (any_sign cancelling h (change_sign type value)) (λ next. Follows cancelling h kind (told.Change (record { kind = type; value = value })) owed last next)
 unfolding transaction_change place_change
 change_follows cancelling h kind type (changes.Transaction new old) owed last size owes is =
-    if_ok (place_change h (transaction_change type new old)) (moves_follow cancelling h kind type new old owed last)
+    if_ok (place_change h (transaction_change type new old)) (λ next so. moves_follow cancelling h kind type new old owed last next is so)
     (placed_so h new old ((type == 8) || (type == 11)) (type == 9))
 change_follows cancelling h kind type changes.ResetDone owed last size owes is =
     reset_follows cancelling h.mark h.descriptor h.done kind type owed last owes is
 change_follows cancelling h kind type (changes.PacketSize n) owed last size owes is = absurd (size tt)
 change_follows cancelling h kind type (changes.Values new old) owed last size owes is =
-    unchanged cancelling h kind (told.Change (record { kind = type; value = changes.Values new old })) owed last refl is refl refl
+    unchanged cancelling h kind (told.Change (record { kind = type; value = changes.Values new old })) owed last refl is refl refl refl
 change_follows cancelling h kind type changes.Other owed last size owes is =
-    unchanged cancelling h kind (told.Change (record { kind = type; value = changes.Other })) owed last refl is refl refl
+    unchanged cancelling h kind (told.Change (record { kind = type; value = changes.Other })) owed last refl is refl refl refl
 
 -- an ENVCHANGE that can't be read is a fault
 unclear_follows : (b cancelling : Bool) (h : Heard) (kind : ℕ) (owed : Asks) (last : Transaction) → (kind == 0xE3) ≡ b
@@ -271,7 +326,7 @@ unfolding place_change
 unclear_follows true cancelling h kind owed last is at = tt
 unclear_follows false cancelling h kind owed last is at =
     unchanged cancelling h kind told.Unclear owed last refl
-    (subst (λ (b : Bool). IsLast (if b then transactions.Unknown else last) h.descriptor) (sym is) at) refl refl
+    (subst (λ (b : Bool). IsLast (if b then transactions.Unknown else last) h.descriptor) (sym is) at) refl refl refl
 
 -- ---- Any token
 
@@ -286,11 +341,11 @@ follows cancelling h kind (told.Done d) owed last size plain owes is =
     (sym (same_done kind d.status plain)))
     (done_follows (d.status / 32 % 2 == 1) cancelling h kind d owed last is refl)
 follows cancelling h kind (told.Change change) owed last size plain owes is = change_follows cancelling h kind change.kind change.value owed last size owes is
-follows cancelling h kind (told.Message m) owed last size plain owes is = unchanged cancelling h kind (told.Message m) owed last refl is refl refl
-follows cancelling h kind (told.ReturnStatus n) owed last size plain owes is = unchanged cancelling h kind (told.ReturnStatus n) owed last refl is refl refl
-follows cancelling h kind (told.SessionState s) owed last size plain owes is = unchanged cancelling h kind (told.SessionState s) owed last refl is refl refl
+follows cancelling h kind (told.Message m) owed last size plain owes is = unchanged cancelling h kind (told.Message m) owed last refl is refl refl refl
+follows cancelling h kind (told.ReturnStatus n) owed last size plain owes is = unchanged cancelling h kind (told.ReturnStatus n) owed last refl is refl refl refl
+follows cancelling h kind (told.SessionState s) owed last size plain owes is = unchanged cancelling h kind (told.SessionState s) owed last refl is refl refl refl
 follows cancelling h kind told.Unclear owed last size plain owes is = unclear_follows (kind == 0xE3) cancelling h kind owed last refl is
-follows cancelling h kind told.Other owed last size plain owes is = unchanged cancelling h kind told.Other owed last refl is refl refl
+follows cancelling h kind told.Other owed last size plain owes is = unchanged cancelling h kind told.Other owed last refl is refl refl refl
 
 no_size_change : (value : ChangeValue) (type : ℕ) → TellsNoSize (told.Change (record { kind = type; value = value })) → size_by_token (told.Change (record { kind = type; value = value })) 0 ≡ 0
 no_size_change (changes.PacketSize n) type size = absurd (size tt)

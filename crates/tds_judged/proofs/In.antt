@@ -54,12 +54,12 @@ abbrev answer_frame : Bool → Frame → Frame
 answer_frame true s = record s { due = due.Head 0 0; part = parts.Between; inside = inside.Walked }
 answer_frame false s = record s { due = due.Head 0 0; part = parts.Within; inside = inside.Walked }
 
-over_answer : (base : Base) (o t : ℕ) (ends : Bool) (c s : Frame) (r : Reading) (past : List Said) → (s.status % 2 == 1) ≡ ends
+over_answer : (base : Base) (o t : ℕ) (ends : Bool) (c s : Frame) (r : Reading) (past : List Said) → (s.status % 2 == 1) ≡ ends → (s.kind == 18) ≡ false
     → (behind : List Said) × Follows (ended_by ends r) past behind
     × (over (server_spot o t) (run_at base c (record s { part = parts.Within; inside = inside.Walked }) r past) ≡ run_at base c (answer_frame ends s) r behind)
 unfolding over further found_in
-over_answer base o t true c s r past e = (says (server_spot o t) (events.Answered (is_between r)) past, (server_spot o t, refl), rw e refl)
-over_answer base o t false c s r past e = (past, refl, rw e refl)
+over_answer base o t true c s r past e k = (says (server_spot o t) (events.Answered (is_between r)) past, (server_spot o t, refl), rw (e, k) refl)
+over_answer base o t false c s r past e k = (past, refl, rw e refl)
 
 opened_more : (base : Base) (o t : ℕ) (head : Head) (c s : Frame) (r : Reading) (past : List Said) → (head.size == 8) ≡ false
     → opened (server_spot o t) parts.Within inside.Walked head (run_at base c s r past) ≡ run_at base c (opened_frame s parts.Within inside.Walked head) r past
@@ -92,7 +92,7 @@ reads cuts base o t ends status id [] c s r u past all e is stop =
     let nothing : all.tokens ≡ [] = ap (λ (x : Tokens). x.tokens) (sym is ∙ none r) in
     let stays : Stands r ≡ Stands u = ap (λ (x : Tokens). x.stop) (sym (none r) ∙ is) ∙ stop in
     let same : r ≡ u = cc in
-    let (behind, follows, ended) = over_answer base o t ends c there u past e in
+    let (behind, follows, ended) = over_answer base o t ends c there u past e refl in
     record {
       frame = there;
       behind = behind;
@@ -109,7 +109,7 @@ reads cuts base o t ends status id (b ∷ bytes) c s r u past all e is stop =
     let more : (8 + length (b ∷ bytes) == 8) ≡ false = ne_eqb (8 + length (b ∷ bytes)) 8 (λ (q : 8 + length (b ∷ bytes) ≡ 8). omega (arith, q)) in
     let n : length (b ∷ bytes) ≡ 8 + length (b ∷ bytes) - 8 = omega arith in
     let w = walks cuts base t (8 + length (b ∷ bytes) - 8) s.offset b bytes c there r u past all is stop n in
-    let (behind, follows, ended) = over_answer base (last_of s.offset b bytes) t ends c (walking there 1 (on s.offset (b ∷ bytes))) u w.behind e in
+    let (behind, follows, ended) = over_answer base (last_of s.offset b bytes) t ends c (walking there 1 (on s.offset (b ∷ bytes))) u w.behind e refl in
     record {
       frame = walking there 1 (on s.offset (b ∷ bytes));
       behind = behind;

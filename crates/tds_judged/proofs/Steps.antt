@@ -19,7 +19,7 @@ use Rattle.tds_service.specs.Line as line
 use Rattle.tds_service.specs.Line.{Act, Answer, Line, Stage, Idle, Sending, Reading, Cancelling, Broken, Turn, reads, skips, turn}
 use Rattle.tds_judge.specs.declared.talk.Event.TheVariants as events
 use Rattle.tds_judge.specs.declared.talk.Reset.{Reset as Asks}
-use Rattle.tds_judge.specs.Breaches.{final_by_token, size_by_token, size_told}
+use Rattle.tds_judge.specs.Breaches.{agreed_last, final_by_token, size_by_token, size_told}
 use Rattle.tds_judge.specs.Conversation.{IsLawful, MayAnswer, MayEnd, MaySay, Place, Quiet, Asking, Answering, Stopping, Skipping, begun_at, ended_at, heard_at, left_by, place_of}
 use Rattle.tds_judge.specs.History.{Said, asks_of, is_cleared, last_told, owed_of}
 use Rattle.tds_judged.specs.Seen.{AreBehindLogin, Eye, IsBehindLogin, Watch, sees, sees_begin, sees_close, sees_items, sees_packet}
@@ -31,6 +31,7 @@ use Rattle.tds_judged.proofs.Hears.{IsLast, NotAcknowledged, as_reset, follows, 
 -- whatever is underway
 pub record Knows (h : Heard) (past : List Said) : Type 0 where
   pub lawful : IsLawful past
+  pub agreed : agreed_last past ≡ 0
   pub size : size_told past ≡ 0
   pub last : IsLast (last_told past) h.descriptor
 
@@ -79,9 +80,10 @@ pub record Stands (l : Line) (w : Watch) (past : List Said) : Type 0 where
 -- ---- Packets change nothing but that they are seen
 
 pub packet_seen : (eye : Eye) (h : Heard) (past : List Said) → Knows h past → Knows h (sees_packet eye past)
-unfolding IsLawful size_told last_told
+unfolding IsLawful agreed_last size_told last_told
 packet_seen eye h past k = record {
   lawful = (k.lawful, ap (λ (n : ℕ). (n == 0) || not (nat_lt n (eye.length past))) k.size);
+  agreed = k.agreed;
   size = k.size;
   last = k.last;
 }
@@ -90,14 +92,15 @@ packet_seen eye h past k = record {
 
 item_reads : (eye : Eye) (h : Heard) (past : List Said) (item : Item Token) → IsBehindLogin item → Knows h past → Answers h past
     → IfOk (any_sign false h item.sign) (λ next. Knows next (sees eye past (events.Says item.token)) × Answers next (sees eye past (events.Says item.token)))
-unfolding IsLawful size_told last_told place_of asks_of is_cleared
+unfolding IsLawful agreed_last size_told last_told place_of asks_of is_cleared
 item_reads eye h past item plain k a =
     subst (λ (s : Sign). IfOk (any_sign false h s) (λ next. Knows next (sees eye past (events.Says item.token)) × Answers next (sees eye past (events.Says item.token)))) (sym plain.sign)
     (if_ok (any_sign false h (sign_of item.token)) (λ next f.
     let done = f.reads refl a.done in (
       record {
-        lawful = (k.lawful, subst (λ (p : Place). MaySay p item.token) (sym a.place) done.0);
-        size = ap (size_by_token item.token.told) k.size ∙ no_size item.token.told plain.size;
+        lawful = (k.lawful, (subst (λ (p : Place). MaySay p item.token) (sym a.place) done.0, f.change));
+        agreed = ap (size_by_token item.token.told) k.agreed ∙ no_size item.token.told plain.size;
+        size = k.size;
         last = f.last;
       },
       record {
@@ -110,13 +113,14 @@ item_reads eye h past item plain k a =
 
 item_skips : (eye : Eye) (h : Heard) (past : List Said) (item : Item Token) → IsBehindLogin item → Knows h past → Skips h past
     → IfOk (any_sign true h item.sign) (λ next. Knows next (sees eye past (events.Says item.token)) × Skips next (sees eye past (events.Says item.token)))
-unfolding IsLawful size_told last_told place_of asks_of is_cleared
+unfolding IsLawful agreed_last size_told last_told place_of asks_of is_cleared
 item_skips eye h past item plain k a =
     subst (λ (s : Sign). IfOk (any_sign true h s) (λ next. Knows next (sees eye past (events.Says item.token)) × Skips next (sees eye past (events.Says item.token)))) (sym plain.sign)
     (if_ok (any_sign true h (sign_of item.token)) (λ next f. (
       record {
-        lawful = (k.lawful, subst (λ (p : Place). MaySay p item.token) (sym a.place) tt);
-        size = ap (size_by_token item.token.told) k.size ∙ no_size item.token.told plain.size;
+        lawful = (k.lawful, (subst (λ (p : Place). MaySay p item.token) (sym a.place) tt, f.change));
+        agreed = ap (size_by_token item.token.told) k.agreed ∙ no_size item.token.told plain.size;
+        size = k.size;
         last = f.last;
       },
       record { place = ap (heard_at item.token) a.place ∙ ap Skipping f.acknowledged; owes = owed_behind item.token.told (is_cleared past) (asks_of past) ∙ (ap (left_by item.token.told) a.owes ∙ f.left) },
@@ -146,10 +150,10 @@ items_skip eye h past (item ∷ items) plain k a =
 
 pub reading_begins : (eye : Eye) (begun : Bool) (named : ℕ) (h : Heard) (past : List Said) → Knows h past → At Reading begun named h past
     → Knows h (sees_begin eye begun past) × Answers h (sees_begin eye begun past)
-unfolding IsLawful size_told last_told place_of asks_of is_cleared
+unfolding IsLawful agreed_last size_told last_told place_of asks_of is_cleared
 reading_begins eye true named h past k a = (k, a)
 reading_begins eye false named h past k a = (
-  record { lawful = (k.lawful, subst MayAnswer (sym a.place) tt); size = k.size; last = k.last },
+  record { lawful = (k.lawful, subst MayAnswer (sym a.place) tt); agreed = k.agreed; size = k.size; last = k.last },
   record {
     place = ap begun_at a.place ∙ ap (λ (d : FinalDone). Answering (as_reset h.mark) (is_final d)) (sym a.done);
     owes = a.owes;
@@ -159,10 +163,10 @@ reading_begins eye false named h past k a = (
 
 pub skipping_begins : (eye : Eye) (begun : Bool) (named : ℕ) (h : Heard) (past : List Said) → Knows h past → At Cancelling begun named h past
     → Knows h (sees_begin eye begun past) × Skips h (sees_begin eye begun past)
-unfolding IsLawful size_told last_told place_of asks_of is_cleared
+unfolding IsLawful agreed_last size_told last_told place_of asks_of is_cleared
 skipping_begins eye true named h past k a = (k, a)
 skipping_begins eye false named h past k a = (
-  record { lawful = (k.lawful, subst MayAnswer (sym a.place) tt); size = k.size; last = k.last },
+  record { lawful = (k.lawful, subst MayAnswer (sym a.place) tt); agreed = k.agreed; size = k.size; last = k.last },
   record { place = ap begun_at a.place ∙ ap (λ (d : FinalDone). Skipping (is_acknowledged d)) (sym a.done); owes = a.owes },
 )
 
@@ -175,10 +179,10 @@ AfterRead true h past = Knows h past × (place_of past ≡ Quiet)
 read_ends : (eye : Eye) (descriptor : ℕ) (mark : Option Reset) (done : FinalDone) (past : List Said)
     → Knows (record { descriptor = descriptor; mark = mark; done = done }) past → Answers (record { descriptor = descriptor; mark = mark; done = done }) past
     → IfOk (close_part false Ends (record { descriptor = descriptor; mark = mark; done = done })) (λ next. AfterRead true next (sees eye past (events.Answered true)))
-unfolding IsLawful size_told last_told place_of
+unfolding IsLawful agreed_last size_told last_told place_of
 read_ends eye descriptor mark Awaited past k a = tt
 read_ends eye descriptor None Answered past k a =
-    (record { lawful = (k.lawful, subst (λ (p : Place). MayEnd p true) (sym a.place) tt); size = k.size; last = k.last }, ap ended_at a.place)
+    (record { lawful = (k.lawful, subst (λ (p : Place). MayEnd p true) (sym a.place) tt); agreed = k.agreed; size = k.agreed; last = k.last }, ap ended_at a.place)
 read_ends eye descriptor (Some reset) Answered past k a = tt
 read_ends eye descriptor mark Acknowledged past k a = absurd a.done
 
@@ -195,9 +199,9 @@ AfterSkip true h past = Knows h past × (place_of past ≡ ended_at (Skipping (i
 
 skip_ends : (eye : Eye) (whole : Bool) (h : Heard) (past : List Said) → Knows h past → Skips h past
     → AfterSkip true h (sees eye past (events.Answered whole))
-unfolding IsLawful size_told last_told place_of asks_of is_cleared
+unfolding IsLawful agreed_last size_told last_told place_of asks_of is_cleared
 skip_ends eye whole h past k a =
-    (record { lawful = (k.lawful, subst (λ (p : Place). MayEnd p whole) (sym a.place) tt); size = k.size; last = k.last }, ap ended_at a.place, a.owes)
+    (record { lawful = (k.lawful, subst (λ (p : Place). MayEnd p whole) (sym a.place) tt); agreed = k.agreed; size = k.agreed; last = k.last }, ap ended_at a.place, a.owes)
 
 skip_may : (eye : Eye) (whole : Bool) (done : FinalDone) (h : Heard) (past : List Said) → Knows h past → Skips h past
     → IfOk (close_by true (may_end Any true done) h) (λ next. AfterSkip true next (sees eye past (events.Answered whole)))
@@ -235,7 +239,7 @@ abbrev watching : ℕ → Bool → Watch
 watching named begun = record { named = named; begun = begun }
 
 still : (h : Heard) (past : List Said) (done : FinalDone) → Knows h past → Knows (with_done h done) past
-still h past done k = record { lawful = k.lawful; size = k.size; last = k.last }
+still h past done k = record { lawful = k.lawful; agreed = k.agreed; size = k.size; last = k.last }
 
 pub reads_stand : (l : Line) (part : Part Token) (named : ℕ) (past : List Said) (ends : Bool) (until : Heard) (r : Result Heard ListenFault)
     → IfOk r (λ next. AfterRead ends next past) → IsNoFault (reads l part ends until r).answer

@@ -1,5 +1,3 @@
-pub mod Halves
-pub mod Tables
 pub mod Seats
 pub mod Taken
 pub mod Results

@@ -6,7 +6,7 @@ use Rattle.std.proofs.lemmas.Bool.Decides.{eqb_tells}
 use Rattle.std.proofs.lemmas.List.{get_or-set_same, get_or-set_other}
 use Rattle.std.specs.Prelude.{slice_index_or, ◌≢◌, option_map, ◌==◌, ◌&&◌, IfNone, IfSome, IsSome, is_some, drop}
 use Rattle.slab.specs.Slab.{Slab, get, with_value, Updates}
-use Rattle.tds_pool.specs.declared.numbers.Entry.{Entry}
+use Rattle.tds_numbers.specs.declared.numbers.Entry.{Entry}
 use Rattle.tds_pool.specs.declared.seat.Seat.{Seat}
 use Rattle.tds_pool.specs.declared.lease.Turn.{Turn}
 use Rattle.tds_pool.specs.declared.seat.Place.{Place}
@@ -14,7 +14,7 @@ use Rattle.tds_pool.specs.Calls.{only, standing}
 use Rattle.tds_pool.specs.Connections.{PoolState, Connection, shown, connections, numbered, changed, taken_out, with_client, number_under, connection_of, seat_or_none, reseated, Agree, IsPool}
 use Rattle.tds_client.specs.Session.{ClientSession}
 use Rattle.tds_pool.specs.Lends.{with_client_under, with_client_numbered, key_or_zero}
-use Rattle.tds_pool.specs.Table.{key_of, key_at, number_at}
+use Rattle.tds_numbers.specs.Table.{key_of, key_at, number_at}
 
 pub some_same : {A : Type 0} (a b : A) → Some a ≡ Some b → a ≡ b
 some_same a b h = ap (seen a) h where

@@ -5,14 +5,21 @@ use Rattle.std.proofs.lemmas.Bool.{eq-eqb}
 use Rattle.std.proofs.lemmas.Bool.Decides.{nat_tests, eqb_tells}
 use Rattle.std.specs.Prelude.{◌≢◌, option_map}
 use Rattle.slab.specs.Slab.{Slab, get, Updates}
-use Rattle.tds_pool.specs.declared.numbers.Entry.{Entry}
+use Rattle.tds_numbers.specs.declared.numbers.Entry.{Entry}
 use Rattle.tds_pool.specs.declared.seat.Seat.{Seat}
 use Rattle.tds_pool.specs.Connections.{PoolState, Connection, shown, connections, numbered, taken_out, number_under, connection_of, seat_or_none, Agree, IsPool}
-use Rattle.tds_pool.specs.Table.{key_of, without, AreBelow}
+use Rattle.tds_numbers.specs.Table.{key_of, without, AreBelow}
 use Rattle.tds_pool.proofs.Seats.{some_same, agree_of, taken, passed}
-use Rattle.tds_pool.proofs.Tables.{shorter, when_without}
 
 -- ---- Taking out
+
+when_without : (b : Bool) (P : List Entry → Type 0) (x : Entry) (xs : List Entry) → P (x ∷ xs) → P xs → P (cond (not b) (x ∷ xs) xs)
+when_without true P x xs stays goes = goes
+when_without false P x xs stays goes = stays
+
+shorter : (n : ℕ) (es : List Entry) → length (without n es) ≤ length es
+shorter n [] = omega arith
+shorter n (e ∷ es) = when_without (eqb e.number n) (λ xs. length xs ≤ suc (length es)) e (without n es) (omega (arith, shorter n es)) (omega (arith, shorter n es))
 
 -- another number keeps its key
 key_without : (n m : ℕ) (es : List Entry) → m ≢ n → key_of (without n es) m ≡ key_of es m

@@ -3,12 +3,12 @@ use Rattle.std.specs.Prelude.{◌≡◌, ℕ, suc, ◌+◌, ◌==◌, ◌≤◌,
 use Rattle.std.specs.List.{find}
 use Rattle.slab.specs.Slab.{Slab, get, with_value}
 use Rattle.tds_client.specs.Session.{ClientSession, new_session}
-use Rattle.tds_pool.specs.declared.numbers.Entry.{Entry}
+use Rattle.tds_numbers.specs.declared.numbers.Entry.{Entry}
 use Rattle.tds_pool.specs.declared.lease.Turn.{Turn}
 use Rattle.tds_pool.specs.declared.seat.Place.{Place}
 use Rattle.tds_pool.specs.declared.seat.Place.TheVariants.{Free}
 use Rattle.tds_pool.specs.declared.seat.Seat.{Seat}
-use Rattle.tds_pool.specs.Table.{key_of, AreBelow}
+use Rattle.tds_numbers.specs.Table.{key_of, AreBelow}
 
 -- A pool: its name, how many connections it may have, their packet size, the last number that was used, the table of
 -- numbers, and the slab that keeps the connections. What a caller speaks of are its connections.

@@ -4,7 +4,7 @@ use Rattle.std.specs.Borrow.{LendsIf, Fml, MutBor}
 use Rattle.slab.specs.Slab.{get}
 use Rattle.tds_client.specs.Session.{ClientSession}
 use Rattle.tds_pool.specs.Connections.{PoolState, reseated, seat_or_none}
-use Rattle.tds_pool.specs.Table.{key_of}
+use Rattle.tds_numbers.specs.Table.{key_of}
 use Rattle.tds_pool.specs.contracts.pool.Pool.{the_row}
 use Rattle.tds_client.specs.contracts.client.Client.{the_row as client_row}
 

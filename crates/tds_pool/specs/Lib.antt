@@ -1,5 +1,3 @@
-pub mod Table
-pub mod Halving
 pub mod Connections
 pub mod Calls
 pub mod History

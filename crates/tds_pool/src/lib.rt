@@ -4,18 +4,12 @@
 
 mod answers;
 mod clients;
-mod finding;
 pub mod laws;
 mod lease;
-mod numbers;
 mod pool;
 mod seat;
-mod steps;
 
 pub use answers::{GivenBack, Opened, PoolRefusal};
-pub use finding::place_of;
 pub use lease::{Lease, StoredLease, StoredTicket, Ticket, Turn};
-pub use numbers::{Entry, Numbers};
 pub use pool::Pool;
 pub use seat::Place;
-pub use steps::Steps;

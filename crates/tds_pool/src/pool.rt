@@ -15,12 +15,12 @@ mod seats;
 mod service;
 mod storing;
 
-use crate::numbers::{MOST, Numbers};
 use crate::seat::Seat;
 use slab::Slab;
 use std::alloc::Global;
 use std::marker::Model;
 use tds_client::Client;
+use tds_numbers::{MOST, Numbers};
 use tds_packet::PacketSize;
 
 /// The most connections that `Pool::new` makes a pool for.

@@ -29,3 +29,4 @@ pub mod Leases
 pub mod Spent
 pub mod Owned
 pub mod Owners
+pub mod Rising

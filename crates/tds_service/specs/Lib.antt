@@ -14,3 +14,5 @@ pub mod Newest
 pub mod Spelling
 pub mod Sizes
 pub mod Beginning
+pub mod Rising
+pub mod Anew

@@ -7,13 +7,25 @@ ghost use Rattle.tds_service.specs.Ties.{line_in};
 
 use crate::connection::Connection;
 use crate::place::{Place, Rest, Wanted};
+use std::cmp::Ordering;
+use std::sync::ledger::Ledger;
 use tds_client::ClientState;
+use tds_numbers::{Numbered, Steps};
 
 #[derive(Drop)]
 pub(crate) struct Seat {
     pub(crate) number: u64,
     pub(crate) place: Place,
     pub(crate) connection: Connection,
+}
+
+impl Numbered for Seat {
+    ghost its = { λ c. c.number };
+
+    fn tell<L: Ledger>(&self, number: u64, steps: &mut Steps<L>) -> Ordering {
+        steps.tick();
+        self.number.cmp(&number)
+    }
 }
 
 impl Seat {

@@ -1,5 +1,6 @@
 //! The service.
-ghost use Rattle.std.specs.Prelude.{◌≤◌};
+ghost use Rattle.std.specs.Prelude.{◌≤◌, suc};
+ghost use Rattle.tds_service.specs.Rising.{RiseFrom, RiseFrom-prop, numbers_in};
 
 mod asking;
 mod coming;
@@ -29,4 +30,6 @@ pub struct Service {
     given: u64,
     seats: Vec<Seat>,
     ghost columns: { most ≤ 4096 },
+    ghost rising: { RiseFrom 0 (numbers_in
+        seats.items) (suc last) } by { RiseFrom-prop 0 (numbers_in seats.items) (suc last) },
 }

@@ -532,7 +532,7 @@ uint8_t tds_client_hear(struct tds_client *client, struct tds_wire *walk, struct
  *    tds_service_find, each time.
  * No call takes memory, and each is proved to be the service's call of the same name (of Rattle's
  * crate tds_service) on the table that the values are; tds_service_came, _heard_change, _heard_done,
- * _heard_other and _message_ended are its call `came`. From 20 on nothing was done and nothing changed,
+ * _heard_other, _message_ended and _hear are its call `came`. From 20 on nothing was done and nothing changed,
  * but for 61 to 76, which break the client.
  */
 
@@ -664,6 +664,19 @@ uint8_t tds_service_heard_other(const struct tds_service *service, struct tds_se
  * acknowledgement is still to come. */
 uint8_t tds_service_message_ended(const struct tds_service *service, struct tds_seat *seats, size_t most,
                                   uint64_t number, uint8_t cut, struct tds_whose *whose);
+
+/* All that in one call, for the data of a packet of an answer (type 04, behind its header) that came on the
+ * connection of this number, or for those of them that are left: of each token that ends there the table
+ * hears what it says, as by tds_service_came, and those that its caller is told of are written to the front
+ * of `tokens`, `count` of them; all are the request's that is written to `whose`. `taken`, `ends` and the
+ * answers are those of tds_client_hear (tds_wire.h): TDS_TELL, TDS_OK, and where the message ends
+ * TDS_FINISHED, TDS_ACKNOWLEDGED, TDS_MORE. Behind 61 to 76 the connection is broken, and the tokens before
+ * were heard: tds_service_lost. The walk is the connection's own; where it is none, TDS_WIRE_NO_WALK (20). */
+uint8_t tds_service_hear(const struct tds_service *service, struct tds_seat *seats, size_t most,
+                         uint64_t number, struct tds_wire *walk, struct tds_wire_memory *memory,
+                         const uint8_t *bytes, size_t length, uint8_t ends, size_t *taken,
+                         struct tds_wire_token *tokens, size_t room, size_t *count,
+                         struct tds_whose *whose);
 
 /* ---- The end of a lease */
 

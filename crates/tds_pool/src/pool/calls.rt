@@ -9,13 +9,12 @@ ghost use Rattle.tds_packet.specs.declared.status.Reset.TheVariants.{KeepTransac
 ghost use Rattle.tds_pool.specs.declared.seat.Place.TheVariants.{Kept};
 ghost use Rattle.tds_pool.specs.Connections.{connections, Connection, SameRest, numbered, at_place, taken_out, with_client};
 ghost use Rattle.tds_pool.specs.declared.seat.Seat.{Seat};
-ghost use Rattle.tds_pool.specs.Table.{key_of};
+ghost use Rattle.tds_numbers.specs.Table.{key_of};
 ghost use Rattle.tds_pool.specs.Lends.{LendsClient, LendsNumbered, with_client_under, with_client_numbered};
 ghost use Rattle.tds_pool.specs.Calls.{lent_to, kept_for, refuses_keep, refuses_resume, lent_again, abandoned, drained, given_back, given_back_bytes, IsAsked};
 
 use crate::answers::{GivenBack, PoolRefusal};
 use crate::clients::check_open;
-use crate::finding::place_of;
 use crate::lease::{Lease, Ticket};
 use crate::pool::Pool;
 use crate::seat::Place;

@@ -10,13 +10,13 @@ ghost use Rattle.tds_packet.specs.declared.kind.Kind.TheVariants.{Answer};
 ghost use Rattle.tds_pool.specs.Cleaning.{carried, client_at, is_cleaned};
 ghost use Rattle.tds_pool.specs.Connections.{connections, Connection, SameRest, numbered, with_client};
 ghost use Rattle.tds_pool.specs.Lends.{LendsNumbered, with_client_numbered};
-ghost use Rattle.tds_pool.specs.Table.{key_of};
+ghost use Rattle.tds_numbers.specs.Table.{key_of};
 ghost use Rattle.tds_pool.specs.declared.seat.Seat.{Seat};
 
-use crate::finding::place_of;
 use crate::pool::Pool;
 use crate::seat::Place;
 use tds_client::{Client, ClientFault, ClientRefusal, Sent, Taken};
+use tds_numbers::place_of;
 use tds_packet::PacketRef;
 use tds_token::Token;
 

@@ -4,7 +4,7 @@ ghost use Rattle.slab.specs.Slab.{get};
 ghost use Rattle.tds_client.specs.Sending.{cancelled};
 ghost use Rattle.tds_pool.specs.declared.answers.PoolRefusal.{PoolRefusal};
 ghost use Rattle.tds_pool.specs.Connections.{connections, connection_of, numbered, SameRest};
-ghost use Rattle.tds_pool.specs.Table.{number_at};
+ghost use Rattle.tds_numbers.specs.Table.{number_at};
 ghost use Rattle.tds_pool.specs.Calls.{IsAsked, IsRefusal, unless_idle, is_held, held_one, taken_back, taken_back_bytes, free_one, refuses_clean, cleaning, not_cleaned, cleaned, looked_at_clean};
 
 use crate::answers::{GivenBack, PoolRefusal};

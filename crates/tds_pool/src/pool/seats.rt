@@ -7,7 +7,7 @@ ghost use Rattle.tds_pool.specs.declared.lease.Lease.{Lease};
 ghost use Rattle.tds_pool.specs.declared.lease.Ticket.{Ticket};
 ghost use Rattle.tds_pool.specs.declared.lease.Turn.{Turn};
 ghost use Rattle.tds_pool.specs.declared.seat.Place.{Place};
-ghost use Rattle.tds_pool.specs.Table.{key_of, key_at, number_at};
+ghost use Rattle.tds_numbers.specs.Table.{key_of, key_at, number_at};
 ghost use Rattle.tds_pool.specs.Connections.{connections, connection_of, numbered, at_place, ended_at, with_client, taken_out, SameRest};
 ghost use Rattle.tds_pool.specs.declared.answers.PoolRefusal.{PoolRefusal};
 ghost use Rattle.tds_pool.specs.Lends.{with_client_under};
@@ -15,10 +15,10 @@ ghost use Rattle.tds_pool.specs.Calls.{standing, lent_to, kept_for, lent_again, 
 
 use crate::answers::{GivenBack, PoolRefusal};
 use crate::clients::{self, mark, resting_place};
-use crate::finding::place_of;
 use crate::lease::{Lease, Ticket, Turn};
 use crate::pool::Pool;
 use crate::seat::{Place, Seat};
+use tds_numbers::place_of;
 use tds_packet::Reset;
 
 /// Whether a connection is lent for this turn.

@@ -9,6 +9,7 @@ ghost use Rattle.tds_service.specs.Refusing.{refusal_in};
 ghost use Rattle.tds_service.specs.Service as calls;
 ghost use Rattle.tds_service.specs.Service.{has_number};
 ghost use Rattle.tds_service.specs.Beginning.{MakesAlike};
+ghost use Rattle.tds_service.specs.Rising.{numbers_in};
 ghost use Rattle.tds_service.specs.Sizes.{KeepsSize, sizes_in};
 ghost use Rattle.tds_service.specs.Table.{Answers, DoesAt, Keeps, KeepsClients, Opens, Refuses};
 ghost use Rattle.tds_service.specs.Table.{RefusedBy, Steps, CancelsOut};
@@ -44,6 +45,7 @@ fn ask_at(seats: &mut [Seat], index: usize, kind: MessageKind) -> Result<Asked, 
     ensures keeps { (n : ℕ) → reading_by (has_number n) seats.new
         ≡ reading_by (has_number n) seats.old }
     ensures sizes { sizes_in seats.new ≡ sizes_in seats.old }
+    ensures numbers { numbers_in seats.new ≡ numbers_in seats.old }
 {
     let seat = &mut seats[index];
     match seat.connection.ask(kind) {
@@ -72,6 +74,7 @@ fn put_at(seats: &mut [Seat], index: usize, bytes: &[u8], out: &mut Vec<u8>) -> 
     ensures keeps { (n : ℕ) → reading_by (has_number n) seats.new
         ≡ reading_by (has_number n) seats.old }
     ensures sizes { sizes_in seats.new ≡ sizes_in seats.old }
+    ensures numbers { numbers_in seats.new ≡ numbers_in seats.old }
 {
     let seat = &mut seats[index];
     match seat.connection.put(bytes, out) {
@@ -97,6 +100,7 @@ fn finish_at(seats: &mut [Seat], index: usize, out: &mut Vec<u8>) -> Result<u64,
     ensures keeps { (n : ℕ) → reading_by (has_number n) seats.new
         ≡ reading_by (has_number n) seats.old }
     ensures sizes { sizes_in seats.new ≡ sizes_in seats.old }
+    ensures numbers { numbers_in seats.new ≡ numbers_in seats.old }
 {
     let seat = &mut seats[index];
     match seat.connection.finish(out) {
@@ -125,6 +129,7 @@ fn cancel_at(
     ensures keeps { (n : ℕ) → reading_by (has_number n) seats.new
         ≡ reading_by (has_number n) seats.old }
     ensures sizes { sizes_in seats.new ≡ sizes_in seats.old }
+    ensures numbers { numbers_in seats.new ≡ numbers_in seats.old }
 {
     let seat = &mut seats[index];
     match seat.connection.cancel(out) {

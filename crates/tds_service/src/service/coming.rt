@@ -10,6 +10,7 @@ ghost use Rattle.tds_service.specs.Packets.{Reads, noted, outcome_answer, packet
 ghost use Rattle.tds_service.specs.Service as calls;
 ghost use Rattle.tds_service.specs.Service.{drained, find_by, has_number, lease_in};
 ghost use Rattle.tds_service.specs.Beginning.{MakesAlike};
+ghost use Rattle.tds_service.specs.Rising.{numbers_in};
 ghost use Rattle.tds_service.specs.Sizes.{KeepsSize, sizes_in};
 ghost use Rattle.tds_service.specs.Table.{Comes, ComesUntold, KeepsClientsOff, KeepsOthers, ReadsAt};
 ghost use Rattle.tds_service.specs.Table.{Refuses, place_of};
@@ -18,11 +19,9 @@ ghost use Rattle.tds_service.specs.Ties.{Hears, line_in};
 
 use crate::hearing::hear_packet;
 use crate::outcome::Came;
-use crate::place::Wanted;
 use crate::refusal::Refusal;
 use crate::seat::Seat;
 use crate::service::Service;
-use crate::service::finding::find;
 use tds_wire::Token;
 
 /// Makes room for what may be told of so many bytes, where an answer is being read and the caller
@@ -81,6 +80,7 @@ fn came_at(
     ensures err { OnErr result (seats.new ≡ seats.old) }
     ensures untold { OnErr result (told.new.items ≡ told.old.items) }
     ensures sizes { sizes_in seats.new ≡ sizes_in seats.old }
+    ensures numbers { numbers_in seats.new ≡ numbers_in seats.old }
 {
     let seat = &mut seats[index];
     if let Err(refusal) = make_room(seat, bytes.len(), tells, told) {
@@ -129,7 +129,7 @@ impl Service {
         ensures sizes { KeepsSize self.old self.new }
         ensures makes { MakesAlike self.old self.new }
     {
-        match find(&self.seats, Wanted::Number(number)) {
+        match self.find_number(number) {
             Some(index) => came_at(&mut self.seats, index, bytes, ends, tells, told),
             None => Err(Refusal::Unknown),
         }

@@ -6,6 +6,7 @@ ghost use Rattle.tds_service.specs.Refusing.{refusal_in};
 ghost use Rattle.tds_service.specs.Service as calls;
 ghost use Rattle.tds_service.specs.Service.{clean_place, has_number, may_keep, rests};
 ghost use Rattle.tds_service.specs.Beginning.{MakesAlike};
+ghost use Rattle.tds_service.specs.Rising.{RiseFrom, numbers_in};
 ghost use Rattle.tds_service.specs.Sizes.{KeepsSize, sizes_in};
 ghost use Rattle.tds_service.specs.Table.{IsAt, Keeps, KeepsBy, KeepsClients, KeepsClientsOff};
 ghost use Rattle.tds_service.specs.Table.{KeepsOthers, Refuses, Steps, CancelsOut, client_of};
@@ -64,6 +65,7 @@ fn rest_at(seats: &mut [Seat], index: usize) -> (u64, Rest)
     ensures keeps { (n : ℕ) → reading_by (has_number n) seats.new
         ≡ reading_by (has_number n) seats.old }
     ensures sizes { sizes_in seats.new ≡ sizes_in seats.old }
+    ensures numbers { numbers_in seats.new ≡ numbers_in seats.old }
 {
     let seat = &mut seats[index];
     let rest = seat.rest();
@@ -89,6 +91,7 @@ fn give_back_at(seats: &mut [Seat], index: usize, out: &mut Vec<u8>) -> Result<(
     ensures keeps { (n : ℕ) → reading_by (has_number n) seats.new
         ≡ reading_by (has_number n) seats.old }
     ensures sizes { sizes_in seats.new ≡ sizes_in seats.old }
+    ensures numbers { numbers_in seats.new ≡ numbers_in seats.old }
 {
     let seat = &mut seats[index];
     match cancel_any(&mut seat.connection, out) {
@@ -117,6 +120,7 @@ fn cleaned_at(seats: &mut [Seat], index: usize) -> Result<(u64, Rest), Refusal>
     ensures keeps { (n : ℕ) → reading_by (has_number n) seats.new
         ≡ reading_by (has_number n) seats.old }
     ensures sizes { sizes_in seats.new ≡ sizes_in seats.old }
+    ensures numbers { numbers_in seats.new ≡ numbers_in seats.old }
 {
     let seat = &mut seats[index];
     match seat.clean_rest() {
@@ -143,6 +147,7 @@ fn keep_at(seats: &mut [Seat], index: usize, ticket: u64) -> Result<u64, Refusal
     ensures keeps { (n : ℕ) → reading_by (has_number n) seats.new
         ≡ reading_by (has_number n) seats.old }
     ensures sizes { sizes_in seats.new ≡ sizes_in seats.old }
+    ensures numbers { numbers_in seats.new ≡ numbers_in seats.old }
 {
     let seat = &mut seats[index];
     if seat.is_idle() && seat.connection.is_open() {
@@ -156,7 +161,9 @@ fn keep_at(seats: &mut [Seat], index: usize, ticket: u64) -> Result<u64, Refusal
 /// Takes a connection out that is to be closed.
 fn close(seats: &mut Vec<Seat>, index: usize, rest: Rest)
     requires { index < length seats.old.items }
-    ensures { seats.new.items ≡ without_closed rest index seats.old.items }
+    ensures items { seats.new.items ≡ without_closed rest index seats.old.items }
+    ensures rising { (top : ℕ) → RiseFrom 0 (numbers_in seats.old.items) top
+        → RiseFrom 0 (numbers_in seats.new.items) top }
 {
     match rest {
         Rest::Free => {}
@@ -279,7 +286,7 @@ impl Service {
         ensures sizes { KeepsSize self.old self.new }
         ensures makes { MakesAlike self.old self.new }
     {
-        match find(&self.seats, Wanted::Number(number)) {
+        match self.find_number(number) {
             Some(index) => {
                 self.seats.remove(index);
                 Ok(())

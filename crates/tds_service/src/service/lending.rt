@@ -6,6 +6,7 @@ ghost use Rattle.tds_service.specs.Line as line;
 ghost use Rattle.tds_service.specs.Service as calls;
 ghost use Rattle.tds_service.specs.Service.{has_number, is_lendable, opens};
 ghost use Rattle.tds_service.specs.Beginning.{BeginsAt, MakesAlike};
+ghost use Rattle.tds_service.specs.Rising.{numbers_in};
 ghost use Rattle.tds_service.specs.Sizes.{KeepsSize, sizes_in};
 ghost use Rattle.tds_service.specs.Table.{Keeps, KeepsClients, Opened, Refuses, RefusesIn};
 ghost use Rattle.tds_service.specs.Table.{Steps, reading_by, seat_in, service_in};
@@ -52,6 +53,7 @@ fn lend_at(seats: &mut [Seat], index: usize, place: Place, reset: Reset) -> Resu
     ensures keeps { (n : ℕ) → reading_by (has_number n) seats.new
         ≡ reading_by (has_number n) seats.old }
     ensures sizes { sizes_in seats.new ≡ sizes_in seats.old }
+    ensures numbers { numbers_in seats.new ≡ numbers_in seats.old }
 {
     let seat = &mut seats[index];
     match seat.connection.mark(reset) {
@@ -78,6 +80,7 @@ fn clean_at(seats: &mut [Seat], index: usize, lease: u64) -> Result<u64, Refusal
     ensures keeps { (n : ℕ) → reading_by (has_number n) seats.new
         ≡ reading_by (has_number n) seats.old }
     ensures sizes { sizes_in seats.new ≡ sizes_in seats.old }
+    ensures numbers { numbers_in seats.new ≡ numbers_in seats.old }
 {
     if seats[index].is_wanted(Wanted::Lendable) {
         lend_at(seats, index, Place::Cleaning(lease), Reset::Full)
@@ -215,7 +218,7 @@ impl Service {
         ensures makes { MakesAlike self.old self.new }
     {
         let lease = self.next_given()?;
-        match find(&self.seats, Wanted::Number(number)) {
+        match self.find_number(number) {
             Some(index) => match clean_at(&mut self.seats, index, lease) {
                 Ok(number) => {
                     self.given = lease;

@@ -1,11 +1,11 @@
 //! What whoever watches a service may know of a connection.
 ghost use Rattle.std.specs.Prelude.{◌≡◌, is_some, option_map};
+ghost use Rattle.tds_service.specs.Anew.{begins_anew};
 ghost use Rattle.tds_service.specs.Service.{Seat, is_open, seat_numbered};
 ghost use Rattle.tds_service.specs.Table.{place_of, service_in};
 
-use crate::place::{Place, Wanted};
+use crate::place::Place;
 use crate::service::Service;
-use crate::service::finding::find;
 
 impl Service {
     /// Who holds the connection of this number, if there is one.
@@ -13,7 +13,7 @@ impl Service {
         ensures { option_map place_of result ≡ option_map (λ (c : Seat). c.place)
             (seat_numbered number (service_in self.now).seats) }
     {
-        let index = find(&self.seats, Wanted::Number(number))?;
+        let index = self.find_number(number)?;
         Some(self.seats[index].place)
     }
 
@@ -24,7 +24,7 @@ impl Service {
             is_open c.line.heard.mark c.line.heard.descriptor)
             (seat_numbered number (service_in self.now).seats) }
     {
-        let index = find(&self.seats, Wanted::Number(number))?;
+        let index = self.find_number(number)?;
         Some(self.seats[index].connection.is_open())
     }
 
@@ -34,7 +34,17 @@ impl Service {
         ensures { result ≡ option_map (λ (c : Seat). is_some c.line.heard.mark)
             (seat_numbered number (service_in self.now).seats) }
     {
-        let index = find(&self.seats, Wanted::Number(number))?;
+        let index = self.find_number(number)?;
         Some(self.seats[index].connection.owes_reset())
+    }
+
+    /// Whether the next request on the connection of this number begins a session there: it asks for a full
+    /// reset, or is the first one (MS-TDS 2.2.3.1.2).
+    pub fn begins_anew_on(&self, number: u64) -> Option<bool>
+        ensures { result ≡ option_map (λ (c : Seat). begins_anew c.line)
+            (seat_numbered number (service_in self.now).seats) }
+    {
+        let index = self.find_number(number)?;
+        Some(self.seats[index].connection.begins_anew())
     }
 }

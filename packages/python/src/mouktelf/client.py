@@ -7,7 +7,7 @@ from typing import List, NamedTuple, Optional, Tuple
 
 from ._library import LIBRARY, ClientValue, Packet
 from .fault import Fault
-from .wire import Tells, Walk, Walked, hears
+from .wire import Tells, Walk, Walked, address_of, hears
 
 _MESSAGE_MOST = 4022
 _NO_NEXT = 255

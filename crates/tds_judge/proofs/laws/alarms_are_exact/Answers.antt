@@ -1,4 +1,4 @@
-use Rattle.tds_judge.proofs.Notes.{breach_told}
+use Rattle.tds_judge.proofs.Each.{breach_told}
 use Rattle.tds_judge.proofs.laws.alarms_are_exact.Goals as goal
 
 pub returns : goal.returns

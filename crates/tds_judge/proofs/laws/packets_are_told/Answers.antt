@@ -1,4 +1,4 @@
-use Rattle.tds_judge.proofs.Notes.{length_told, size_told, taken_up_told, token_told, unfinished_told}
+use Rattle.tds_judge.proofs.Each.{compute_told, direction_told, ignore_told, length_told, size_told, taken_up_told, token_told, unfinished_told, version_told}
 use Rattle.tds_judge.proofs.laws.packets_are_told.Goals as goal
 
 pub returns-clause-token : goal.returns-clause-token
@@ -15,3 +15,15 @@ returns-clause-unfinished c limits past spot event = unfinished_told limits past
 
 pub returns-clause-taken_up : goal.returns-clause-taken_up
 returns-clause-taken_up c limits past spot event = taken_up_told limits past spot event
+
+pub returns-clause-version : goal.returns-clause-version
+returns-clause-version c limits past spot event = version_told limits past spot event
+
+pub returns-clause-compute : goal.returns-clause-compute
+returns-clause-compute c limits past spot event = compute_told limits past spot event
+
+pub returns-clause-ignore : goal.returns-clause-ignore
+returns-clause-ignore c limits past spot event = ignore_told limits past spot event
+
+pub returns-clause-direction : goal.returns-clause-direction
+returns-clause-direction c limits past spot event = direction_told limits past spot event

@@ -1,4 +1,4 @@
-use Rattle.tds_judge.proofs.Notes.{ended_told, idle_told, kept_told, left_told, open_reset_told}
+use Rattle.tds_judge.proofs.Each.{changed_told, ended_told, idle_told, kept_told, left_told, none_told, open_reset_told}
 use Rattle.tds_judge.proofs.laws.transactions_are_told.Goals as goal
 
 pub returns-clause-kept : goal.returns-clause-kept
@@ -15,3 +15,9 @@ returns-clause-idle c limits past spot event = idle_told limits past spot event
 
 pub returns-clause-left : goal.returns-clause-left
 returns-clause-left c limits past spot event = left_told limits past spot event
+
+pub returns-clause-changed : goal.returns-clause-changed
+returns-clause-changed c limits past spot event = changed_told limits past spot event
+
+pub returns-clause-none : goal.returns-clause-none
+returns-clause-none c limits past spot event = none_told limits past spot event

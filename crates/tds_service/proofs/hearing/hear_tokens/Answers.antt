@@ -1,14 +1,13 @@
-use Rattle.std.proofs.Common.{◌≡◌, ◌∙◌, ◌≤◌, ◌<◌, ◌+◌, ◌-◌, ◌++◌, List, [], length, take, drop, refl, sym, ap, subst, arith, rules}
+use Rattle.std.proofs.Common.{◌≡◌, ◌∙◌, ◌≤◌, ◌<◌, ◌-◌, ◌++◌, List, [], length, take, drop, refl, ap, subst, arith, rules}
 use Rattle.tds_wire.specs.declared.told.Token.{Token}
 use Rattle.tds_wire.specs.Reading.{next_token}
 use Rattle.tds_service.specs.declared.connection.Connection.{Connection}
 use Rattle.tds_service.specs.Line as line
 use Rattle.tds_service.specs.Line.{Line}
 use Rattle.tds_service.specs.Parts.{told}
-use Rattle.tds_service.specs.Packets.{HeardSome, noted}
 use Rattle.tds_service.specs.Ties.{Hears, Stands, line_in, items_of, part_of}
-use Rattle.tds_service.proofs.Packeting.{one_more_at, fault_at, within_at, moves_at, none_yet, all_heard, front_is}
-use Rattle.tds_service.proofs.Noting.{noted_fits, noted_still_fits, noted_more, none_noted}
+use Rattle.tds_service.proofs.Packeting.{one_more_at, fault_at, within_at, moves_at}
+use Rattle.tds_service.proofs.Noting.{noted_fits, noted_still_fits, noted_more}
 use Rattle.tds_service.proofs.hearing.hear_tokens.Goals as goal
 
 -- ---- A token that stands whole

@@ -1,13 +1,11 @@
 use Rattle.std.proofs.Common.{◌∙◌, ap, refl, sym, arith}
 use Rattle.tds_judge.proofs.SomeRuns.{all_stopped, one_step, some_over, some_to_fault, some_within}
-use Rattle.tds_judge.specs.Framing.{run_of, said, steps, stops}
+use Rattle.tds_judge.specs.Framing.{refused_as, run_of, said, steps, stops}
 use Rattle.tds_judge.specs.Runs.{failed, passed}
 use Rattle.tds_judge.specs.declared.finding.Direction.TheVariants.{ToClient}
 use Rattle.tds_judge.specs.declared.finding.Spot.{Spot}
 use Rattle.tds_judge.specs.declared.judge.Judge.{Judge}
-use Rattle.tds_judge.specs.declared.talk.Ending.TheVariants as endings
 use Rattle.tds_judge.specs.declared.talk.Event.TheVariants as events
-use Rattle.tds_wire.specs.Faults.{fault_number}
 use Rattle.std.specs.Prelude.{Option, Some, take}
 use Rattle.tds_wire.specs.Reading.{Reading}
 use Rattle.tds_judge.proofs.judge.Judge.walk_run.Goals as goal
@@ -39,6 +37,6 @@ returns-in-Ends-clause-run c =
 pub returns-in-Fails-clause-run : goal.returns-in-Fails-clause-run
 returns-in-Fails-clause-run c =
     let p = c.fail_run.ensures.run in let (h, same) = c.in-Fails.ensures in let s = c.spot_of_last-spot-in-Fails.ensures in let x = c.if-not-takes_runs.ensures in
-    p ∙ (ap (λ (x : Spot). stops x (events.Stops endings.WrongToken (fault_number c.in-Fails.fault)) (run_of (failed c.args.left c.in-Fails.count (record c.args.self.now { walker = Some c.walk.new.self })) c.args.out.now.items)) s
-    ∙ some_to_fault c.cuts_do_not_matter.ensures c.args.time c.in-Fails.count c.args.run.now c.args.self.now c.args.out.now.items c.in-Some.walker c.args.left c.in-Fails.fault h same
+    p ∙ (ap (λ (x : Spot). stops x (refused_as c.in-Fails.refusal) (run_of (failed c.args.left c.in-Fails.count (record c.args.self.now { walker = Some c.walk.new.self })) c.args.out.now.items)) s
+    ∙ some_to_fault c.cuts_do_not_matter.ensures c.args.time c.in-Fails.count c.args.run.now c.args.self.now c.args.out.now.items c.in-Some.walker c.args.left c.in-Fails.refusal h same
     c.requires.due c.requires.inside c.in-Some.is (x.whole refl) (x.counted refl) c.requires.some c.requires.few (omega arith))

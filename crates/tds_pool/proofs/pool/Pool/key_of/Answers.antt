@@ -1,6 +1,6 @@
 use Rattle.std.proofs.Common.{◌≡◌, ◌∙◌, None, Some, ap, sym}
 use Rattle.tds_pool.specs.Fields.{state_of}
-use Rattle.tds_pool.specs.Table.{key_of}
+use Rattle.tds_numbers.specs.Table.{key_of}
 use Rattle.tds_pool.proofs.Seats.{absent_shown, absent_writes, client_numbered, writes_numbered}
 use Rattle.tds_pool.proofs.pool.Pool.key_of.Goals as goal
 

@@ -1,7 +1,7 @@
 use Rattle.std.proofs.Common.{◌≡◌, ◌<◌, ◌∙◌, length, sym, ap, None, Some}
 use Rattle.slab.specs.Slab.{get}
 use Rattle.tds_pool.specs.Fields.{state_of}
-use Rattle.tds_pool.specs.Table.{key_at}
+use Rattle.tds_numbers.specs.Table.{key_at}
 use Rattle.tds_pool.proofs.Seats.{none_at, number_here, numbered_here, next_shown}
 use Rattle.tds_pool.proofs.pool.Pool.seat_at.Goals as goal
 

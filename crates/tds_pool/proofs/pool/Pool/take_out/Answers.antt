@@ -2,7 +2,7 @@ use Rattle.std.proofs.Common.{◌<◌, ◌∙◌, None, ap, length}
 use Rattle.tds_pool.specs.Connections.{connections, numbered}
 use Rattle.slab.specs.Slab.{Updates}
 use Rattle.tds_pool.specs.Fields.{state_of}
-use Rattle.tds_pool.specs.Table.{key_at, number_at}
+use Rattle.tds_numbers.specs.Table.{key_at, number_at}
 use Rattle.tds_pool.proofs.Seats.{key_here}
 use Rattle.tds_pool.proofs.Taken.{pool_without, connections_without, gone}
 use Rattle.tds_pool.proofs.pool.Pool.take_out.Goals as goal

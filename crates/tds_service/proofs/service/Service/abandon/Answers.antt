@@ -20,7 +20,7 @@ returns-in-Some-clause-ok c =
     let rest = c.rest_at-number.result.1 in
     let news = c.rest_at-number.new.seats in
     let len : length news ≡ c.args.self.now.seats.len = first_of (omega arith, search rules) in
-    let closed = c.close.ensures ∙ ap (without_closed rest index) (with_items_is c.args.self.now.seats news len) in
+    let closed = c.close.ensures.items ∙ ap (without_closed rest index) (with_items_is c.args.self.now.seats news len) in
     let did = rests_here old (has_ticket c.args.ticket) [] rest (Back (rest_of rest)) items c.deref_mut.result.now news c.close.new.seats.items index here k.0 refl c.deref_mut.ensures.value k.1 closed k.2 k.4 k.6 in
     let new = with_seats old (seats_in c.close.new.seats.items) in
     subst (λ (x : Option Seat). StepsIn (abandons old (has_ticket c.args.ticket) x) new (Back (rest_of rest)) c.rest_at-number.result.0 [] []) (sym found)
@@ -37,7 +37,7 @@ returns-in-Some-clause-keeps c =
     let rest = c.rest_at-number.result.1 in
     let news = c.rest_at-number.new.seats in
     let len : length news ≡ c.args.self.now.seats.len = first_of (omega arith, search rules) in
-    let closed = c.close.ensures ∙ ap (without_closed rest index) (with_items_is c.args.self.now.seats news len) in
+    let closed = c.close.ensures.items ∙ ap (without_closed rest index) (with_items_is c.args.self.now.seats news len) in
     keeps_resting rest c.rest_at-number.result.0 c.args.self.now _ (has_ticket c.args.ticket) lent news index here k.0 c.deref_mut.ensures.value k.1 closed k.3 c.rest_at-number.ensures.keeps
 
 pub returns-in-Some-clause-clients : goal.returns-in-Some-clause-clients
@@ -51,7 +51,7 @@ returns-in-Some-clause-clients c = λ l.
     let items_are = with_items_is c.args.self.now.seats news len in
     let k = c.rest_at-number.ensures.rests here.seat here.at_lent in
     let rest = c.rest_at-number.result.1 in
-    stays_resting l rest (has_ticket c.args.ticket) items _ lent news index here k.0 c.deref_mut.ensures.value k.1 (c.close.ensures ∙ ap (without_closed rest index) items_are) k.6
+    stays_resting l rest (has_ticket c.args.ticket) items _ lent news index here k.0 c.deref_mut.ensures.value k.1 (c.close.ensures.items ∙ ap (without_closed rest index) items_are) k.6
     (kept_held l c.args.ticket (place_of here.seat.place) (meets_here (has_ticket c.args.ticket) items lent index here))
 
 pub returns-in-Some-clause-sizes : goal.returns-in-Some-clause-sizes
@@ -60,5 +60,5 @@ returns-in-Some-clause-sizes c =
     let rest = c.rest_at-number.result.1 in
     let news = c.rest_at-number.new.seats in
     let len : length news ≡ c.args.self.now.seats.len = first_of (omega arith, search rules) in
-    let closed = c.close.ensures ∙ ap (without_closed rest index) (with_items_is c.args.self.now.seats news len) in
+    let closed = c.close.ensures.items ∙ ap (without_closed rest index) (with_items_is c.args.self.now.seats news len) in
     keeps_sizes_resting rest index c.args.self.now _ c.deref_mut.result.now news c.deref_mut.ensures.value closed c.rest_at-number.ensures.sizes refl

@@ -1,4 +1,4 @@
-use Rattle.std.proofs.Common.{◌≡◌, ◌∙◌, Bool, true, false, List, [], length, refl, sym, ap, subst, arith, rules}
+use Rattle.std.proofs.Common.{◌≡◌, ◌∙◌, true, List, [], length, refl, sym, ap, subst, arith, rules}
 use Rattle.std.proofs.lemmas.List.{with_items_is}
 use Rattle.std.proofs.lemmas.Result.{IfOk-weaker}
 use Rattle.tds_service.specs.declared.refusal.Refusal.{Refusal}
@@ -22,7 +22,7 @@ returns-in-Some-clause-ok c =
     let items = c.args.self.now.seats.items in
     let index = c.in-Some.index in
     let news = c.came_at.new.seats in
-    let here = here_in (has_number c.args.number) items c.deref.result.now c.deref_mut.result.now index c.deref.ensures.value c.deref_mut.ensures.value c.in-Some.ensures.first in
+    let here = here_in (has_number c.args.number) items items c.deref_mut.result.now index refl c.deref_mut.ensures.value c.in-Some.ensures.first in
     let len : length news ≡ c.args.self.now.seats.len = first_of (omega arith, search rules) in
     let items_are = with_items_is c.args.self.now.seats news len in
     IfOk-weaker c.came_at.result _ _
@@ -47,7 +47,7 @@ returns-in-Some-clause-reads c =
     let index = c.in-Some.index in
     let news = c.came_at.new.seats in
     let lent = c.deref_mut.result.now in
-    let here = here_in (has_number c.args.number) items c.deref.result.now lent index c.deref.ensures.value c.deref_mut.ensures.value c.in-Some.ensures.first in
+    let here = here_in (has_number c.args.number) items items lent index refl c.deref_mut.ensures.value c.in-Some.ensures.first in
     let len : length news ≡ c.args.self.now.seats.len = first_of (omega arith, search rules) in
     let items_are = with_items_is c.args.self.now.seats news len in
     IfOk-weaker c.came_at.result _ _
@@ -66,7 +66,7 @@ returns-in-Some-clause-refused c =
     let old = service_in c.args.self.now in
     let items = c.args.self.now.seats.items in
     let index = c.in-Some.index in
-    let here = here_in (has_number c.args.number) items c.deref.result.now c.deref_mut.result.now index c.deref.ensures.value c.deref_mut.ensures.value c.in-Some.ensures.first in
+    let here = here_in (has_number c.args.number) items items c.deref_mut.result.now index refl c.deref_mut.ensures.value c.in-Some.ensures.first in
     on_err c.came_at.result _ _
     (λ refusal h r. subst (λ (x : Refusal). RefusesIn old (hears old (has_number c.args.number) (packet_part r c.args.bytes.now c.args.ends) (find_by (has_number c.args.number) old.seats)) x) (sym h.0)
     (wants_memory old c.args.number (packet_part r c.args.bytes.now c.args.ends) items c.deref_mut.result.now index here refl))
@@ -76,7 +76,7 @@ pub returns-in-Some-clause-memory : goal.returns-in-Some-clause-memory
 returns-in-Some-clause-memory c =
     let items = c.args.self.now.seats.items in
     let index = c.in-Some.index in
-    let here = here_in (has_number c.args.number) items c.deref.result.now c.deref_mut.result.now index c.deref.ensures.value c.deref_mut.ensures.value c.in-Some.ensures.first in
+    let here = here_in (has_number c.args.number) items items c.deref_mut.result.now index refl c.deref_mut.ensures.value c.in-Some.ensures.first in
     on_err c.came_at.result _ _
     (λ refusal h e. subst ReadsAt (sym (found_here (has_number c.args.number) items c.deref_mut.result.now index here)) (h.2 here.seat here.at_lent))
     c.came_at.ensures.refused
@@ -87,7 +87,7 @@ returns-in-Some-clause-others c = λ n r other e.
     let index = c.in-Some.index in
     let news = c.came_at.new.seats in
     let lent = c.deref_mut.result.now in
-    let here = here_in (has_number c.args.number) items c.deref.result.now lent index c.deref.ensures.value c.deref_mut.ensures.value c.in-Some.ensures.first in
+    let here = here_in (has_number c.args.number) items items lent index refl c.deref_mut.ensures.value c.in-Some.ensures.first in
     let len : length news ≡ c.args.self.now.seats.len = first_of (omega arith, search rules) in
     let is = same_number here.seat.number c.args.number (meets_here (has_number c.args.number) items lent index here) in
     ap (reading_by (has_number n)) (with_items_is c.args.self.now.seats news len)
@@ -99,7 +99,7 @@ returns-in-Some-clause-clients c =
     let index = c.in-Some.index in
     let lent = c.deref_mut.result.now in
     let news = c.came_at.new.seats in
-    let here = here_in (has_number c.args.number) items c.deref.result.now lent index c.deref.ensures.value c.deref_mut.ensures.value c.in-Some.ensures.first in
+    let here = here_in (has_number c.args.number) items items lent index refl c.deref_mut.ensures.value c.in-Some.ensures.first in
     let len : length news ≡ c.args.self.now.seats.len = first_of (omega arith, search rules) in
     let items_are = with_items_is c.args.self.now.seats news len in
     on_done c.came_at.result _ _

@@ -21,7 +21,7 @@ returns-in-Ok-clause-ok c =
     let index = c.in-Some.index in
     let lease = c.in_ok-lease.lease in
     let news = c.clean_at.new.seats in
-    let here = here_in (has_number c.args.number) items c.deref.result.now c.deref_mut.result.now index c.deref.ensures.value c.deref_mut.ensures.value c.in-Some.ensures.first in
+    let here = here_in (has_number c.args.number) items items c.deref_mut.result.now index refl c.deref_mut.ensures.value c.in-Some.ensures.first in
     let len : length news ≡ c.args.self.now.seats.len = first_of (omega arith, search rules) in
     let items_are = with_items_is c.args.self.now.seats news len in
     let k = c.in-Ok.ensures.ok here.seat here.at_lent in
@@ -41,7 +41,7 @@ returns-in-Err-clause-refused c =
     let old = service_in c.args.self.now in
     let items = c.args.self.now.seats.items in
     let index = c.in-Some.index in
-    let here = here_in (has_number c.args.number) items c.deref.result.now c.deref_mut.result.now index c.deref.ensures.value c.deref_mut.ensures.value c.in-Some.ensures.first in
+    let here = here_in (has_number c.args.number) items items c.deref_mut.result.now index refl c.deref_mut.ensures.value c.in-Some.ensures.first in
     let found = found_here (has_number c.args.number) items c.deref_mut.result.now index here in
     subst (λ (r : Refusal). RefusesIn old (cleans old (has_number c.args.number) (find_by (has_number c.args.number) old.seats)) r) (sym c.in-Err.ensures.refused.0)
     (subst (λ (x : Option Seat). RefusesIn old (cleans old (has_number c.args.number) x) refusals.NotNow) (sym found)
@@ -53,7 +53,7 @@ returns-in-Ok-clause-clients c =
     let index = c.in-Some.index in
     let lent = c.deref_mut.result.now in
     let news = c.clean_at.new.seats in
-    let here = here_in (has_number c.args.number) items c.deref.result.now lent index c.deref.ensures.value c.deref_mut.ensures.value c.in-Some.ensures.first in
+    let here = here_in (has_number c.args.number) items items lent index refl c.deref_mut.ensures.value c.in-Some.ensures.first in
     let len : length news ≡ c.args.self.now.seats.len = first_of (omega arith, search rules) in
     let items_are = with_items_is c.args.self.now.seats news len in
     let k = c.in-Ok.ensures.ok here.seat here.at_lent in

@@ -20,7 +20,7 @@ returns-in-Ok-clause-ok c =
     let rest = c.in-Ok.rest in
     let before = c.args.out.now.items in
     let after = c.give_back_at.new.out.items in
-    let did = rests_there at k.0 rest c.close.new.seats.items (line.Cancel ∷ []) (Back (rest_of rest)) k.1 (closed_there at c.in-Ok.rest c.close.new.seats.items c.close.ensures) k.2 k.4.line_is k.6 in
+    let did = rests_there at k.0 rest c.close.new.seats.items (line.Cancel ∷ []) (Back (rest_of rest)) k.1 (closed_there at c.in-Ok.rest c.close.new.seats.items c.close.ensures.items) k.2 k.4.line_is k.6 in
     let new = with_seats old (seats_in c.close.new.seats.items) in
     subst (λ (x : Option Seat). StepsIn (gives_back old test x) new (Back (rest_of rest)) c.in-Ok.number before after)
     (sym (found_there at))
@@ -48,15 +48,15 @@ pub returns-in-Ok-clause-keeps : goal.returns-in-Ok-clause-keeps
 returns-in-Ok-clause-keeps c =
     let at = reached_at (has_lease c.args.lease) c.args.self.now c.give_back_at.new.seats c.deref.ensures.value c.deref_mut.ensures.value c.in-Some.ensures.first (first_of (omega arith, search rules)) in
     let k = c.in-Ok.ensures.ok at.here.seat at.here.at_lent in
-    reads_there at k.0 c.in-Ok.rest c.in-Ok.number _ k.1 (closed_there at c.in-Ok.rest c.close.new.seats.items c.close.ensures) k.3 c.give_back_at.ensures.keeps
+    reads_there at k.0 c.in-Ok.rest c.in-Ok.number _ k.1 (closed_there at c.in-Ok.rest c.close.new.seats.items c.close.ensures.items) k.3 c.give_back_at.ensures.keeps
 
 pub returns-in-Ok-clause-clients : goal.returns-in-Ok-clause-clients
 returns-in-Ok-clause-clients c =
     let at = reached_at (has_lease c.args.lease) c.args.self.now c.give_back_at.new.seats c.deref.ensures.value c.deref_mut.ensures.value c.in-Some.ensures.first (first_of (omega arith, search rules)) in
     let k = c.in-Ok.ensures.ok at.here.seat at.here.at_lent in
-    clients_resting_there c.args.lease at k.0 c.in-Ok.rest c.close.new.seats.items k.1 (closed_there at c.in-Ok.rest c.close.new.seats.items c.close.ensures) k.6
+    clients_resting_there c.args.lease at k.0 c.in-Ok.rest c.close.new.seats.items k.1 (closed_there at c.in-Ok.rest c.close.new.seats.items c.close.ensures.items) k.6
 
 pub returns-in-Ok-clause-sizes : goal.returns-in-Ok-clause-sizes
 returns-in-Ok-clause-sizes c =
     let at = reached_at (has_lease c.args.lease) c.args.self.now c.give_back_at.new.seats c.deref.ensures.value c.deref_mut.ensures.value c.in-Some.ensures.first (first_of (omega arith, search rules)) in
-    sizes_resting_there at c.in-Ok.rest _ (closed_there at c.in-Ok.rest c.close.new.seats.items c.close.ensures) c.give_back_at.ensures.sizes refl
+    sizes_resting_there at c.in-Ok.rest _ (closed_there at c.in-Ok.rest c.close.new.seats.items c.close.ensures.items) c.give_back_at.ensures.sizes refl

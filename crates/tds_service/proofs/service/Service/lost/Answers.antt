@@ -1,8 +1,9 @@
-use Rattle.std.proofs.Common.{◌∙◌, List, [], ◌∷◌, refl, sym, ap, subst}
+use Rattle.std.proofs.Common.{suc, ◌∙◌, List, [], ◌∷◌, refl, sym, ap, subst}
 use Rattle.std.specs.Prelude.{Option, None}
 use Rattle.tds_service.specs.declared.seat.Seat as code
 use Rattle.tds_service.specs.Line as line
 use Rattle.tds_service.specs.Line.{Line}
+use Rattle.tds_service.specs.Rising.{RiseFrom, numbers_in}
 use Rattle.tds_service.specs.Service.{Seat, Back, loses, has_number}
 use Rattle.tds_service.specs.Table.{StepsIn, reading_by, service_in, seats_in}
 use Rattle.tds_service.specs.Ties.{line_in}
@@ -11,6 +12,7 @@ use Rattle.tds_service.proofs.Tables.{with_seats, here_in, found_here, meets_her
 use Rattle.tds_service.proofs.Keeping.{keeps_taken}
 use Rattle.tds_service.proofs.Holding.{off_gone}
 use Rattle.tds_service.proofs.Sizing.{keeps_sizes_taken}
+use Rattle.tds_service.proofs.Rising.{taken}
 use Rattle.tds_service.proofs.service.Service.lost.Goals as goal
 
 pub returns-in-Some-clause-ok : goal.returns-in-Some-clause-ok
@@ -18,7 +20,7 @@ returns-in-Some-clause-ok c =
     let old = service_in c.args.self.now in
     let items = c.args.self.now.seats.items in
     let index = c.in-Some.index in
-    let here = here_in (has_number c.args.number) items c.deref.result.now items index c.deref.ensures.value refl c.in-Some.ensures.first in
+    let here = here_in (has_number c.args.number) items items items index refl refl c.in-Some.ensures.first in
     let found = found_here (has_number c.args.number) items items index here in
     let gone = does_gone old old.given (has_number c.args.number) (line.Lose ∷ []) (Back None) items index here.seat refl here.first in
     let is = ap (λ (cs : List code.Seat). with_seats old (seats_in cs)) c.remove.ensures.by_index.2 in
@@ -34,7 +36,7 @@ pub returns-in-Some-clause-keeps : goal.returns-in-Some-clause-keeps
 returns-in-Some-clause-keeps c = λ n r other e.
     let items = c.args.self.now.seats.items in
     let index = c.in-Some.index in
-    let here = here_in (has_number c.args.number) items c.deref.result.now items index c.deref.ensures.value refl c.in-Some.ensures.first in
+    let here = here_in (has_number c.args.number) items items items index refl refl c.in-Some.ensures.first in
     let is = ap (λ (x : code.Seat). x.number) (sym here.at) ∙ same_number here.seat.number c.args.number (meets_here (has_number c.args.number) items items index here) in
     ap (reading_by (has_number n)) c.remove.ensures.by_index.2
     ∙ (keeps_taken n here.seat items index here.first.within (λ f. other (f ∙ is)) ∙ e)
@@ -43,8 +45,13 @@ pub returns-in-Some-clause-clients : goal.returns-in-Some-clause-clients
 returns-in-Some-clause-clients c =
     let items = c.args.self.now.seats.items in
     let index = c.in-Some.index in
-    let here = here_in (has_number c.args.number) items c.deref.result.now items index c.deref.ensures.value refl c.in-Some.ensures.first in
+    let here = here_in (has_number c.args.number) items items items index refl refl c.in-Some.ensures.first in
     off_gone c.args.number items _ items index here c.remove.ensures.by_index.2
 
 pub returns-in-Some-clause-sizes : goal.returns-in-Some-clause-sizes
 returns-in-Some-clause-sizes c = keeps_sizes_taken c.in-Some.index c.args.self.now _ c.remove.ensures.by_index.2 refl
+
+pub invariant_of-self-clause-rising : goal.invariant_of-self-clause-rising
+invariant_of-self-clause-rising c =
+    let s = c.args.self.now in
+    subst (λ (cs : List code.Seat). RiseFrom 0 (numbers_in cs) (suc s.last)) (sym c.remove.ensures.by_index.2) (taken 0 s.seats.items c.in-Some.index (suc s.last) s.rising)

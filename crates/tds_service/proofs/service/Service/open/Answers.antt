@@ -4,6 +4,7 @@ use Rattle.tds_client.specs.Session.{ClientSession}
 use Rattle.tds_service.specs.declared.seat.Seat as code
 use Rattle.tds_service.specs.declared.place.Place.TheVariants as places
 use Rattle.tds_service.specs.Line as line
+use Rattle.tds_service.specs.Rising.{RiseFrom, numbers_in}
 use Rattle.tds_service.specs.Service.{Service, Seat, Leased, has_lease, has_number}
 use Rattle.tds_service.specs.Table.{client_by, reading_by, seat_in, seats_in}
 use Rattle.tds_service.specs.Ties.{line_in}
@@ -11,6 +12,7 @@ use Rattle.tds_service.proofs.Tables.{length_in, seats_added}
 use Rattle.tds_service.proofs.Keeping.{keeps_added, reads_added}
 use Rattle.tds_service.proofs.Holding.{kept_added, other_held}
 use Rattle.tds_service.proofs.Sizing.{keeps_sizes_added}
+use Rattle.tds_service.proofs.Rising.{added}
 use Rattle.tds_service.proofs.service.Service.open.Goals as goal
 
 pub returns-clause-ok : goal.returns-clause-ok
@@ -69,3 +71,13 @@ returns-clause-begins c = λ none.
           ∙ reads_added (has_number (s.last + 1)) new items none same,
       c.in-Ok.ensures.begins,
     )
+
+pub invariant_of-self-2-clause-rising : goal.invariant_of-self-2-clause-rising
+invariant_of-self-2-clause-rising c =
+    let s = c.args.self.now in
+    let items = s.seats.items in
+    let next : s.last + 1 ≡ suc s.last = omega arith in
+    let new : code.Seat = record { number = s.last + 1; place = places.Leased c.args.lease; connection = c.in-Ok.connection } in
+    subst (λ (n : ℕ). RiseFrom 0 (numbers_in c.push_reserved.new.self.items) (suc n)) (sym next)
+    (subst (λ (cs : List code.Seat). RiseFrom 0 (numbers_in cs) (suc (suc s.last))) (sym (c.push_reserved.ensures.items ∙ ap (λ (cs : List code.Seat). cs ++ new ∷ []) c.reserve.ensures.items))
+    (added 0 items new (suc s.last) s.rising next))

@@ -8,5 +8,5 @@ pub returns : goal.returns
 returns c =
     let items = c.args.self.now.seats.items in
     let index = c.in_ok-index.index in
-    let here = here_in (has_number c.args.number) items c.deref.result.now items index c.deref.ensures.value refl c.in_ok-index.ensures.first in
+    let here = here_in (has_number c.args.number) items items items index refl refl c.in_ok-index.ensures.first in
     ap (option_map (λ (seat : Seat). seat.place)) (sym (is_found_at (has_number c.args.number) items index c.index.result.now here.first c.index.ensures))

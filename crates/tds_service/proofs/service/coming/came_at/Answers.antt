@@ -3,6 +3,7 @@ use Rattle.tds_service.specs.declared.connection.Connection.{Connection}
 use Rattle.tds_service.specs.declared.seat.Seat.{Seat}
 use Rattle.tds_service.proofs.Keeping.{keeps_other}
 use Rattle.tds_service.proofs.Tables.{same_get}
+use Rattle.tds_service.proofs.Rising.{numbers_set}
 use Rattle.tds_service.proofs.Sizing.{sizes_set}
 use Rattle.tds_service.proofs.service.coming.came_at.Goals as goal
 
@@ -14,3 +15,6 @@ returns-clause-others c = λ n s e other.
 pub returns-clause-sizes : goal.returns-clause-sizes
 returns-clause-sizes c =
     sizes_set c.index-seats-index.result _ c.args.seats.now c.args.index c.requires (ap (λ (x : Connection). x.client.size) c.settle.ensures.1 ∙ c.hear_packet-outcome.ensures.size)
+
+pub returns-clause-numbers : goal.returns-clause-numbers
+returns-clause-numbers c = numbers_set c.index-seats-index.result _ c.args.seats.now c.args.index c.requires c.settle.ensures.0

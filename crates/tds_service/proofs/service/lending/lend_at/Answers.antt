@@ -4,6 +4,7 @@ use Rattle.tds_service.specs.Line as line
 use Rattle.tds_service.specs.Ties.{Does, line_in}
 use Rattle.tds_service.proofs.Tables.{same_get}
 use Rattle.tds_service.proofs.Keeping.{keeps_set}
+use Rattle.tds_service.proofs.Rising.{numbers_set}
 use Rattle.tds_service.proofs.Sizing.{sizes_set}
 use Rattle.tds_service.proofs.service.lending.lend_at.Goals as goal
 
@@ -23,3 +24,6 @@ returns-in-Ok-clause-keeps c = λ n. keeps_set n c.index-seats-index.result _ c.
 
 pub returns-in-Ok-clause-sizes : goal.returns-in-Ok-clause-sizes
 returns-in-Ok-clause-sizes c = sizes_set c.index-seats-index.result _ c.args.seats.now c.args.index c.requires c.mark.ensures.size
+
+pub returns-in-Ok-clause-numbers : goal.returns-in-Ok-clause-numbers
+returns-in-Ok-clause-numbers c = numbers_set c.index-seats-index.result _ c.args.seats.now c.args.index c.requires refl

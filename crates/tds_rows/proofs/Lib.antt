@@ -1,0 +1,7 @@
+mod Fronts
+mod Passed
+mod Going
+mod Begun
+mod Loops
+mod Metadata
+mod Laid

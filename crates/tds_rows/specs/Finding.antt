@@ -1,0 +1,61 @@
+-- What a call found, as the definitions have it.
+use Rattle.std.specs.Prelude.{◌≡◌, ◌≢◌, ◌-◌, ◌≤◌, ◌<◌, ℕ, List, map, take, drop, get_or, length, Option, Some, None, Result, Ok, Err}
+use Rattle.tds_wire.specs.declared.fault.WireFault.TheVariants as wire
+use Rattle.tds_wire.specs.declared.features.Features.{Features}
+use Rattle.tds_wire.specs.declared.shape.Shape.{Shape}
+use Rattle.tds_wire.specs.Layout.{Read, Got, Short, Wrong}
+use Rattle.tds_wire.specs.Memory.{shape_of}
+use Rattle.tds_rows.specs.declared.place.Place.{Place}
+use Rattle.tds_rows.specs.declared.place.Described.{Described}
+use Rattle.tds_rows.specs.declared.place.RowColumn.{RowColumn}
+use Rattle.tds_rows.specs.declared.place.RowFault.{RowFault}
+use Rattle.tds_rows.specs.declared.place.RowFault.TheVariants as fault
+use Rattle.tds_rows.specs.Columns.{metadata_at}
+use Rattle.tds_rows.specs.Places.{row_at, two_from}
+
+-- ---- A value
+
+-- a value of so many bytes, at this place, or the bytes end first
+abbrev pub Stands : Read Place → List ℕ → Option (Place × ℕ) → Type 0
+Stands read bytes (Some found) = (found.1 ≤ length bytes) × (read ≡ Got found.0 (drop found.1 bytes))
+Stands read bytes None = read ≡ Short
+
+-- so many bytes are passed, or the bytes end first
+abbrev pub Ends : {A : Type 0} → A → Read A → List ℕ → Option ℕ → Type 0
+Ends x read bytes (Some n) = (n ≤ length bytes) × (read ≡ Got x (drop n bytes))
+Ends x read bytes None = read ≡ Short
+
+-- ---- A row
+
+-- bytes begin with this one
+abbrev pub IsKind : ℕ → List ℕ → Type 0
+IsKind kind bytes = (0 < length bytes) × (get_or bytes 0 0 ≡ kind)
+
+unfoldable pub shapes_of : List RowColumn → List Shape
+shapes_of columns = map (λ (c : RowColumn). shape_of c.shape) columns
+
+-- the values of all columns, and how many bytes the row has; or why there is no such row
+abbrev pub Finds : Result ℕ RowFault → List Shape → List ℕ → List Place → Type 0
+Finds (Ok n) shapes bytes places = (n ≤ length bytes) × (row_at shapes bytes ≡ Got (take (length shapes) places) (drop n bytes))
+Finds (Err fault.Short) shapes bytes places = row_at shapes bytes ≡ Short
+Finds (Err fault.OtherToken) shapes bytes places = row_at shapes bytes ≡ Wrong wire.UnknownToken (drop 1 bytes)
+Finds (Err fault.NoColumns) shapes bytes places = row_at shapes bytes ≡ Wrong wire.NoColumns (drop 1 bytes)
+Finds (Err fault.UnknownType) shapes bytes places = ⊥
+Finds (Err fault.NoRoom) shapes bytes places = length places < length shapes
+
+-- ---- Columns
+
+-- what is described, by how many columns are written
+abbrev pub written : Option ℕ → List RowColumn → Option (List RowColumn)
+written None columns = None
+written (Some n) columns = Some (take n columns)
+
+-- the columns that a COLMETADATA describes, and how many bytes it has; or why there is no such token
+abbrev pub Describes : Result Described RowFault → Features → List ℕ → List RowColumn → Type 0
+Describes (Ok d) features bytes columns =
+    (rest : List ℕ) × (metadata_at features bytes ≡ Got (written d.count columns) rest) × (d.length ≡ length bytes - length rest)
+Describes (Err fault.Short) features bytes columns = metadata_at features bytes ≡ Short
+Describes (Err fault.OtherToken) features bytes columns = metadata_at features bytes ≡ Wrong wire.UnknownToken (drop 1 bytes)
+Describes (Err fault.NoColumns) features bytes columns = ⊥
+Describes (Err fault.UnknownType) features bytes columns = (rest : List ℕ) × (metadata_at features bytes ≡ Wrong wire.UnknownType rest)
+Describes (Err fault.NoRoom) features bytes columns = (length columns < two_from 1 bytes) × (two_from 1 bytes ≢ 65535)

@@ -1,0 +1,87 @@
+-- Where the values of a row stand (MS-TDS 2.2.5.2, 2.2.7.15, 2.2.7.19). How far a value goes is what the layout of tds_wire passes of it; of
+-- these bytes the first ones are its prefix, and the last ones may close it.
+use Rattle.std.specs.Prelude.{ℕ, ◌+◌, ◌-◌, ◌*◌, ◌/◌, ◌==◌, ◌&&◌, ◌||◌, Bool, true, false, List, [], ◌∷◌, length, get_or, if◌then◌else◌}
+use Rattle.tds_wire.specs.declared.fault.WireFault.TheVariants.{UnknownToken, NoColumns}
+use Rattle.tds_wire.specs.declared.shape.Shape.{Shape}
+use Rattle.tds_wire.specs.declared.shape.Shape.TheVariants as shape
+use Rattle.tds_wire.specs.Layout.{Read, Got, Wrong, ◌>>=◌, one, value, bitmap, is_null}
+use Rattle.tds_rows.specs.declared.place.Place.{Place}
+
+-- the numbers of two and four bytes from this one on, the lowest byte first
+abbrev pub two_from : ℕ → List ℕ → ℕ
+two_from at bytes = get_or bytes at 0 + 256 * get_or bytes (at + 1) 0
+
+abbrev pub four_from : ℕ → List ℕ → ℕ
+four_from at bytes = get_or bytes at 0 + 256 * get_or bytes (at + 1) 0 + 65536 * get_or bytes (at + 2) 0 + 16777216 * get_or bytes (at + 3) 0
+
+-- The bytes before a value's own: its count; a text pointer behind its count, with a timestamp and the value's count; the length of a value
+-- in parts.
+abbrev pub lead : Shape → List ℕ → ℕ
+lead (shape.Fixed n) bytes = 0
+lead shape.Byte bytes = 1
+lead shape.Short bytes = 2
+lead shape.Long bytes = 4
+lead shape.Pointer bytes = if get_or bytes 0 0 == 0 then 1 else get_or bytes 0 0 + 13
+lead shape.Parts bytes = 8
+
+-- Whether a value is null, by its prefix: NULLTYPE always is; a count of 0 in one byte, and of a variant; all ones in two, four and eight
+-- bytes; no text pointer.
+abbrev pub is_absent : Shape → List ℕ → Bool
+is_absent (shape.Fixed n) bytes = n == 0
+is_absent shape.Byte bytes = get_or bytes 0 0 == 0
+is_absent shape.Short bytes = two_from 0 bytes == 65535
+is_absent shape.Long bytes = (four_from 0 bytes == 0) || (four_from 0 bytes == 4294967295)
+is_absent shape.Pointer bytes = (get_or bytes 0 0 == 0) || (four_from (get_or bytes 0 0 + 9) bytes == 4294967295)
+is_absent shape.Parts bytes = (four_from 0 bytes == 4294967295) && (four_from 4 bytes == 4294967295)
+
+-- the empty part behind a value in parts
+abbrev pub closing : Shape → Bool → ℕ
+closing (shape.Fixed n) absent = 0
+closing shape.Byte absent = 0
+closing shape.Short absent = 0
+closing shape.Long absent = 0
+closing shape.Pointer absent = 0
+closing shape.Parts absent = if absent then 0 else 4
+
+abbrev pub null_mark : Bool → ℕ
+null_mark absent = if absent then 1 else 0
+
+-- the place of a value of which the layout passes so many of these bytes
+abbrev pub place_of : ℕ → Shape → List ℕ → ℕ → Place
+place_of at s bytes passed = record {
+  start = at + lead s bytes;
+  length = passed - (lead s bytes + closing s (is_absent s bytes));
+  null = null_mark (is_absent s bytes);
+}
+
+-- a value that begins here in its row
+abbrev pub value_at : ℕ → Shape → List ℕ → Read Place
+value_at at s bytes = value s bytes >>= λ u rest. Got (place_of at s bytes (length bytes - length rest)) rest
+
+-- one whose bit is set in a null bitmap has no bytes
+abbrev pub no_value : ℕ → Place
+no_value at = record { start = at; length = 0; null = 1 }
+
+abbrev pub column_at : Bool → ℕ → Shape → List ℕ → Read Place
+column_at true at s bytes = Got (no_value at) bytes
+column_at false at s bytes = value_at at s bytes
+
+-- the values of a row from this column on
+unfoldable pub places : Bool → List ℕ → ℕ → List Shape → ℕ → List ℕ → Read (List Place)
+places with_nulls nulls i [] at bytes = Got [] bytes
+places with_nulls nulls i (s ∷ others) at bytes = column_at (with_nulls && is_null nulls i) at s bytes >>= λ p rest.
+    places with_nulls nulls (i + 1) others (at + (length bytes - length rest)) rest >>= λ ps more. Got (p ∷ ps) more
+
+-- behind the first byte of a ROW, and of an NBCROW
+abbrev pub row_behind : List Shape → List ℕ → Read (List Place)
+row_behind shapes bytes = places false [] 0 shapes 1 bytes
+
+abbrev pub null_row_behind : List Shape → List ℕ → Read (List Place)
+null_row_behind shapes bytes = bitmap ((length shapes + 7) / 8) [] bytes >>= λ bits rest. places true bits 0 shapes (1 + (length shapes + 7) / 8) rest
+
+-- the values of the row that bytes begin with
+unfoldable pub row_at : List Shape → List ℕ → Read (List Place)
+row_at shapes bytes = one bytes >>= λ byte rest.
+    if byte == 0xD1 then (if length shapes == 0 then Wrong NoColumns rest else row_behind shapes rest)
+    else if byte == 0xD2 then (if length shapes == 0 then Wrong NoColumns rest else null_row_behind shapes rest)
+    else Wrong UnknownToken rest

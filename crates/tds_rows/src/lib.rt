@@ -1,0 +1,19 @@
+//! Where each value of a row stands (MS-TDS 2.2.7.15, 2.2.7.19), and what the columns are (2.2.7.4), in the
+//! bytes of a token that is whole. Nothing is copied, and no memory is taken: the caller hands in room.
+#![tactic(auto)]
+
+mod columns;
+mod fields;
+mod keys;
+mod laws;
+mod numbers;
+mod parts;
+mod place;
+mod rows;
+mod types;
+mod values;
+
+pub use columns::columns_of;
+pub use laws::rows_are_those_of_the_layout;
+pub use place::{Described, Place, RowColumn, RowFault};
+pub use rows::row_places;

@@ -1,0 +1,148 @@
+//! The values of a row.
+
+ghost use Rattle.std.specs.Prelude.{◌≡◌, ◌≤◌, ◌<◌, ◌+◌, ◌*◌, ◌&&◌, Err, drop, length, take, true};
+ghost use Rattle.tds_rows.specs.Finding.{Ends, Finds, IsKind, shapes_of};
+ghost use Rattle.tds_rows.specs.Places.{places as places_of};
+ghost use Rattle.tds_rows.specs.declared.place.RowFault.TheVariants as faults;
+ghost use Rattle.tds_wire.specs.Layout.{is_null};
+
+use crate::place::{Place, RowColumn, RowFault};
+use crate::values::column_value;
+
+const ROW: u8 = 0xD1;
+
+const NULL_ROW: u8 = 0xD2;
+
+/// Whether this column's bit of a null bitmap is set.
+#[inline(always)]
+fn is_null(nulls: &[u8], column: usize) -> bool
+    requires { column < 8 * length nulls.now }
+    ensures { result ≡ is_null nulls.now column }
+{
+    nulls[column / 8] >> (column % 8) & 1 == 1
+}
+
+/// The same where a row may have no null bitmap.
+#[inline(always)]
+fn is_skipped(with_nulls: bool, nulls: &[u8], column: usize) -> bool
+    requires { with_nulls ≡ true → column < 8 * length nulls.now }
+    ensures { result ≡ (with_nulls && is_null nulls.now column) }
+{
+    with_nulls && is_null(nulls, column)
+}
+
+/// The values of a row whose first one begins at this byte of it: where the row ends. Nothing where the
+/// bytes end first.
+#[inline(always)]
+fn places_from(
+    with_nulls: bool,
+    nulls: &[u8],
+    start: usize,
+    columns: &[RowColumn],
+    bytes: &[u8],
+    places: &mut [Place],
+) -> Option<usize>
+    requires room { length columns.now ≤ length places.old }
+    requires start { start ≤ length bytes.now }
+    requires nulls { with_nulls ≡ true → length columns.now ≤ 8 * length nulls.now }
+    ensures exact { Ends (take (length columns.now) places.new)
+        (places_of with_nulls nulls.now 0 (shapes_of columns.now) start (drop start bytes.now))
+        bytes.now result }
+    ensures room { length places.new ≡ length places.old }
+    ensures others { drop (length columns.now) places.new
+        ≡ drop (length columns.now) places.old }
+{
+    let mut done = start;
+    let mut column = 0usize;
+    'columns: while column < columns.len() {
+        let skipped = is_skipped(with_nulls, nulls, column);
+        let shape = columns[column].shape;
+        let Some((place, length)) = column_value(skipped, shape, done, &bytes[done..]) else {
+            return None;
+        };
+        places[column] = place;
+        done += length;
+        column += 1;
+    }
+    Some(done)
+}
+
+/// Of a ROW.
+#[inline(always)]
+fn plain_row(columns: &[RowColumn], bytes: &[u8], places: &mut [Place]) -> Result<usize, RowFault>
+    requires room { length columns.now ≤ length places.old }
+    requires kind { IsKind 0xD1 bytes.now }
+    ensures exact { Finds result (shapes_of columns.now) bytes.now places.new }
+    ensures room { length places.new ≡ length places.old }
+    ensures others { drop (length columns.now) places.new
+        ≡ drop (length columns.now) places.old }
+{
+    if columns.is_empty() {
+        return Err(RowFault::NoColumns);
+    }
+    match places_from(false, &[], 1, columns, bytes, places) {
+        Some(end) => Ok(end),
+        None => Err(RowFault::Short),
+    }
+}
+
+/// Of an NBCROW.
+#[inline(always)]
+fn null_row(columns: &[RowColumn], bytes: &[u8], places: &mut [Place]) -> Result<usize, RowFault>
+    requires room { length columns.now ≤ length places.old }
+    requires kind { IsKind 0xD2 bytes.now }
+    ensures exact { Finds result (shapes_of columns.now) bytes.now places.new }
+    ensures room { length places.new ≡ length places.old }
+    ensures others { drop (length columns.now) places.new
+        ≡ drop (length columns.now) places.old }
+{
+    if columns.is_empty() {
+        return Err(RowFault::NoColumns);
+    }
+    let count = (columns.len() + 7) / 8;
+    if bytes.len() - 1 < count {
+        return Err(RowFault::Short);
+    }
+    match places_from(
+        true,
+        &bytes[1..1 + count],
+        1 + count,
+        columns,
+        bytes,
+        places,
+    ) {
+        Some(end) => Ok(end),
+        None => Err(RowFault::Short),
+    }
+}
+
+/// Where each value stands in the row that bytes begin with, a ROW or an NBCROW: how many bytes the row has.
+/// The place of each column's value is written to the front of `places`. It takes no memory.
+///
+/// # Errors
+///
+/// Where the bytes are no such row, what is wrong; then any of those places may be written.
+pub fn row_places(
+    columns: &[RowColumn],
+    bytes: &[u8],
+    places: &mut [Place],
+) -> Result<usize, RowFault>
+    ensures exact { Finds result (shapes_of columns.now) bytes.now places.new }
+    ensures room { length places.old < length columns.now → result ≡ Err faults.NoRoom }
+    // There are as many as before, and those behind the columns stay.
+    ensures length { length places.new ≡ length places.old }
+    ensures others { drop (length columns.now) places.new
+        ≡ drop (length columns.now) places.old }
+{
+    if places.len() < columns.len() {
+        return Err(RowFault::NoRoom);
+    }
+    if bytes.is_empty() {
+        return Err(RowFault::Short);
+    }
+    match bytes[0] {
+        ROW => plain_row(columns, bytes, places),
+        NULL_ROW => null_row(columns, bytes, places),
+        _ => Err(RowFault::OtherToken),
+    }
+}
