@@ -9,10 +9,12 @@ pub mod Going
 pub mod Halting
 pub mod Handed
 pub mod Made
+pub mod Naming
 pub mod Placed
 pub mod Posting
 pub mod Putting
 pub mod Reaching
+pub mod Renaming
 pub mod Resets
 pub mod Seen
 pub mod Sent

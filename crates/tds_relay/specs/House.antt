@@ -211,7 +211,7 @@ MayStep h (Makes move) = MayMove h.hall move × IsQuiet move
 MayStep h (Hands number header content part way manner) = MayHand h number header content part manner
 MayStep h (Takes key bytes) = Unit {0}
 MayStep h (Writes key count) = Unit {0}
-MayStep h (Admits key ends posts) = HasEntered key h.hall.ends ends × (size : ℕ) × waiting.Enters size key h.posts posts
+MayStep h (Admits key ends posts) = HasEntered key h.hall.ends ends × (size : ℕ) × (tag : ℕ) × waiting.Enters size tag key h.posts posts
 MayStep h (Removes key gives way) = Unit {0}
 
 abbrev pub MayAll : House → List Step → Type 0

@@ -22,4 +22,5 @@ pub mod Sparing
 pub mod Taking
 pub mod Telling
 pub mod Ties
+pub mod Told
 pub mod Walkers

@@ -6,15 +6,21 @@ use Rattle.tds_packet.specs.Layout.{header_bytes, status_of}
 use Rattle.tds_relay.specs.declared.application.Application.{Application}
 use Rattle.tds_relay.specs.declared.outgoing.Outgoing.{Outgoing}
 
--- The bytes that wait for one application, whose packets have this size; and whether something didn't fit behind them: then nothing
--- more is put there.
+-- The bytes that wait for one application, whose packets have this size; what whoever carries them calls it; and whether something didn't fit
+-- behind them: then nothing more is put there.
 pub record Post : Type 0 where
+  pub tag : Option ℕ
   pub size : ℕ
   pub bytes : List ℕ
   pub is_full : Bool
 
+-- nothing waits, for nobody yet
 abbrev pub nothing : ℕ → Post
-nothing size = record { size = size; bytes = []; is_full = false }
+nothing size = record { tag = None; size = size; bytes = []; is_full = false }
+
+-- it is called so
+abbrev pub tagged : ℕ → Post → Post
+tagged tag p = record { tag = Some tag; size = p.size; bytes = p.bytes; is_full = p.is_full }
 
 -- at most as many bytes wait as a packet has, and 8,192
 abbrev pub fits : Post → List ℕ → Bool
@@ -23,12 +29,12 @@ fits p bytes = not p.is_full && nat_le (length p.bytes + length bytes) (p.size +
 -- these bytes are put behind those that wait, all of them or none
 unfoldable pub put : List ℕ → Post → Post
 put bytes p =
-    if fits p bytes then record { size = p.size; bytes = p.bytes ++ bytes; is_full = false }
-    else record { size = p.size; bytes = p.bytes; is_full = true }
+    if fits p bytes then record { tag = p.tag; size = p.size; bytes = p.bytes ++ bytes; is_full = false }
+    else record { tag = p.tag; size = p.size; bytes = p.bytes; is_full = true }
 
 -- so many of them are sent
 abbrev pub without_first : ℕ → Post → Post
-without_first count p = record { size = p.size; bytes = drop count p.bytes; is_full = p.is_full }
+without_first count p = record { tag = p.tag; size = p.size; bytes = drop count p.bytes; is_full = p.is_full }
 
 -- ---- Of all applications, by their keys
 
@@ -46,10 +52,10 @@ change key by posts = slice_set posts key (option_map by (post_at posts key))
 abbrev pub give : ℕ → List ℕ → Posts → Posts
 give key bytes posts = change key (put bytes) posts
 
--- An application has come by a key that nobody had: nothing waits for it, and for the others what did.
-pub record Enters (size key : ℕ) (old new : Posts) : Type 0 where
+-- An application has come by a key that nobody had, and is called so: nothing waits for it, and for the others what did.
+pub record Enters (size tag key : ℕ) (old new : Posts) : Type 0 where
   pub was_free : post_at old key ≡ None
-  pub nothing_waits : post_at new key ≡ Some (nothing size)
+  pub nothing_waits : post_at new key ≡ Some (tagged tag (nothing size))
   pub others_stay : (other : ℕ) → other ≢ key → post_at new other ≡ post_at old other
 
 -- ---- What the relay says itself
@@ -74,13 +80,20 @@ put_news false p = p
 -- ---- As the code has them
 
 abbrev pub post_in : Outgoing → Post
-post_in o = record { size = o.size; bytes = drop o.sent o.bytes.items; is_full = o.is_full }
+post_in o = record { tag = None; size = o.size; bytes = drop o.sent o.bytes.items; is_full = o.is_full }
 
 abbrev pub post_of : Application → Post
-post_of a = post_in a.out
+post_of a = tagged a.tag (post_in a.out)
 
 abbrev pub posts_in : Slab Application → Posts
 posts_in s = map (option_map post_of) s.slots
+
+-- what whoever carries their bytes calls applications, by their keys
+abbrev pub names_of : Posts → List (Option (Option ℕ))
+names_of posts = map (option_map (λ (p : Post). p.tag)) posts
+
+abbrev pub names_in : Slab Application → List (Option (Option ℕ))
+names_in s = names_of (posts_in s)
 
 -- what of it is still to be sent
 abbrev pub unsent_of : Option Application → List ℕ

@@ -1,5 +1,5 @@
 -- What comes on connections: whole packets, one behind the other, and the beginning of one.
-use Rattle.std.specs.Prelude.{◌≡◌, ◌≢◌, ◌⊎◌, ℕ, suc, ◌==◌, not, Bool, IfSome, List, [], ◌∷◌, ◌++◌, Option, Some, None, filter, option_map, if◌then◌else◌}
+use Rattle.std.specs.Prelude.{◌≡◌, ◌≢◌, ◌⊎◌, ℕ, suc, ◌==◌, not, Bool, true, false, IfSome, List, [], ◌∷◌, ◌++◌, Option, Some, None, filter, option_map, if◌then◌else◌}
 use Rattle.std.specs.List.{AllByRecursion}
 use Rattle.tds_packet.specs.Layout.{header_bytes}
 use Rattle.tds_packet.specs.Reading.{Reading, joined, with_taken}
@@ -39,12 +39,12 @@ reader_of l = l.reader
 abbrev pub reader_at : ℕ → List Link → Option Reading
 reader_at number ls = option_map reader_of (link_at number ls)
 
--- with whether it is open
+-- with whether it is open, and what whoever carries its bytes calls it, once there is something
 abbrev pub Seen : Type 0
-Seen = Reading × Bool
+Seen = Reading × Bool × Option ℕ
 
 abbrev pub seen_of : Link → Seen
-seen_of l = (l.reader, l.is_open)
+seen_of l = (l.reader, l.is_open, l.tag)
 
 abbrev pub seen_at : ℕ → List Link → Option Seen
 seen_at number ls = option_map seen_of (link_at number ls)
@@ -90,6 +90,20 @@ abbrev pub StaysAt : {A : Type 0} → Option A → Option A → Type 0
 StaysAt old None = Unit {0}
 StaysAt old (Some new) = old ≡ Some new
 
+-- Another is there that is yet to be opened, and has no name.
+abbrev pub IsToOpen : Seen → Type 0
+IsToOpen seen = (seen.1 ≡ false) × (seen.2 ≡ None)
+
+-- The connection is open or not, and is called so; or it is there no more, or another is.
+abbrev pub IsCalled : Bool → Option ℕ → Option Seen → Type 0
+IsCalled is_open tag None = Unit {0}
+IsCalled is_open tag (Some seen) = ((seen.1 ≡ is_open) × (seen.2 ≡ tag)) ⊎ IsToOpen seen
+
+-- It is called as it was.
+abbrev pub CalledAt : Option Seen → Option Seen → Type 0
+CalledAt None new = IsCalled false None new
+CalledAt (Some old) new = IsCalled old.1 old.2 new
+
 -- Wherever it was so on one, it is.
 abbrev pub Sees : List Link → List Link → Type 0
 Sees old new = (number : ℕ) (had : Option Seen) → StaysAt had (seen_at number old) → StaysAt had (seen_at number new)
@@ -100,24 +114,41 @@ pub record Stays (old new : List Link) : Type 0 where
   pub fills : (number : ℕ) → FillsAt (waits_on number old) (waits_on number new)
 
 -- Each connection that is open was so, with the same of a packet, and what waited there waits still. Others may be there that are yet to be
--- opened.
+-- opened. Each is called as it was.
 pub record Opens (old new : List Link) : Type 0 where
   pub opens : (number : ℕ) → StaysAt (open_at number old) (open_at number new)
   pub fills : (number : ℕ) → FillsAt (open_waits number old) (open_waits number new)
+  pub called : (number : ℕ) → CalledAt (seen_at number old) (seen_at number new)
 
--- Of the one of this number that it was open, and what waited there, alone.
+-- Of the one of this number that it was open, what waited there, and what it is called, alone.
 pub record OpensOthers (number : ℕ) (old new : List Link) : Type 0 where
   pub opens : (other : ℕ) → other ≢ number → StaysAt (open_at other old) (open_at other new)
   pub fills : (other : ℕ) → FillsAt (open_waits other old) (open_waits other new)
+  pub called : (other : ℕ) → CalledAt (seen_at other old) (seen_at other new)
 
 -- what has come of a packet on each that is open when the one of this number is opened
 abbrev pub opened_at : ℕ → ℕ → List Link → Option Reading
 opened_at number other ls = if other == number then reader_at other ls else open_at other ls
 
+-- with that it is
+abbrev pub with_open : Seen → Seen
+with_open seen = (seen.0, true, seen.2)
+
+abbrev pub opened_seen : ℕ → ℕ → List Link → Option Seen
+opened_seen number other ls = if other == number then option_map with_open (seen_at other ls) else seen_at other ls
+
+-- and what is seen when that one is called so
+abbrev pub with_tag : ℕ → Seen → Seen
+with_tag tag seen = (seen.0, seen.1, Some tag)
+
+abbrev pub named_seen : ℕ → ℕ → ℕ → List Link → Option Seen
+named_seen tag number other ls = if other == number then option_map (with_tag tag) (seen_at other ls) else seen_at other ls
+
 -- The one of this number is opened, with what its reader had, and what waited there.
 pub record OpensOne (number : ℕ) (old new : List Link) : Type 0 where
   pub opens : (other : ℕ) → StaysAt (opened_at number other old) (open_at other new)
   pub fills : (other : ℕ) → FillsAt (if_open (opened_at number other old) (waits_on other old)) (open_waits other new)
+  pub called : (other : ℕ) → CalledAt (opened_seen number other old) (seen_at other new)
 
 -- One has come that is open, with nothing of a packet, and no other is open; or none has.
 abbrev pub OpensFirst : Option ℕ → List Link → List Link → Type 0

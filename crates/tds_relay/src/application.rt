@@ -53,20 +53,23 @@ pub(crate) struct Application {
 impl Application {
     ghost use Rattle.tds_front.specs.Rules as rules;
     ghost use Rattle.tds_packet.specs.declared.status.Reset.TheVariants.{Full, KeepTransaction};
-    ghost use Rattle.tds_relay.specs.Bodies.{Body, body_in};
+    ghost use Rattle.tds_relay.specs.Bodies.{Body, Nowhere, body_in};
     ghost use Rattle.tds_relay.specs.Faults.{why_of};
     ghost use Rattle.tds_relay.specs.Fronts.{end_of, puts, withdraws};
     ghost use Rattle.tds_front.specs.Bytes.{fed, new_front};
     ghost use Rattle.tds_relay.specs.Hall.{AsksFor, IfOpen, IsHere, Open, acknowledged, asks_by, closes_for, hears};
     ghost use Rattle.tds_relay.specs.Hall.{lets_go, move_stage};
     ghost use Rattle.tds_relay.specs.House.{hears_of_reset, is_said};
-    ghost use Rattle.tds_relay.specs.Posts.{nothing, post_of};
+    ghost use Rattle.tds_relay.specs.Posts.{tagged, nothing, post_of};
+    ghost use Rattle.tds_relay.specs.Told.{own_room, room_to_keep};
     ghost use Rattle.tds_relay.specs.declared.desk.coming.What.TheVariants.{Goes};
 
     pub(crate) fn new(alloc: Global, tag: usize, size: PacketSize) -> Application
         ensures size { result.out.size ≡ size }
-        ensures post { post_of result ≡ nothing size }
+        ensures post { post_of result ≡ tagged tag (nothing size) }
         ensures end { end_of result ≡ Open (new_front size) false None }
+        ensures nothing { ((goes : Body) → body_in (Some result) goes ≡ Nowhere)
+            × (result.begun ≡ 0) }
     {
         Application {
             alloc,
@@ -124,7 +127,8 @@ impl Application {
     /// How many bytes of it may be read, so that what is kept of them may be, and what they are answered
     /// here. An attention for what the server has is answered there.
     pub(crate) fn room(&self) -> usize
-        ensures { result ≤ PIECE }
+        ensures most { result ≤ PIECE }
+        ensures is { result ≡ own_room self.now }
     {
         let room = self.room_to_keep().min(PIECE);
         match self.front.stage() {
@@ -136,7 +140,8 @@ impl Application {
     /// How many more bytes of its request may be kept: no more than fit on a connection to which nothing is
     /// to be sent.
     fn room_to_keep(&self) -> usize
-        ensures { result ≤ MOST_HELD - vec_len self.now.held }
+        ensures most { result ≤ MOST_HELD - vec_len self.now.held }
+        ensures is { result ≡ room_to_keep self.now }
     {
         let most = self.out.most().saturating_sub(BESIDE).min(MOST_HELD);
         most.saturating_sub(self.held.len())

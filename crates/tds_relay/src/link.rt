@@ -1,5 +1,5 @@
 //! A connection to the server, as the relay knows it beside its service.
-ghost use Rattle.std.specs.Prelude.{◌≡◌, ◌++◌, [], ℕ, List, IfOk, OnOk, false, if◌then◌else◌};
+ghost use Rattle.std.specs.Prelude.{◌≡◌, ◌++◌, [], ℕ, List, None, IfOk, OnOk, false, if◌then◌else◌};
 ghost use Rattle.tds_relay.specs.Cutting.{IsAnew};
 ghost use Rattle.tds_packet.specs.declared.kind.Direction.TheVariants.{ToClient};
 
@@ -57,6 +57,7 @@ impl Link {
         ensures closed { IfOk result (λ link. link.is_open ≡ false) }
         ensures number { IfOk result (λ link. link.number ≡ number) }
         ensures unread { IfOk result (λ link. link.reader.taken ≡ []) }
+        ensures unnamed { IfOk result (λ link. link.tag ≡ None) }
     {
         let answer = Answer {
             alloc,

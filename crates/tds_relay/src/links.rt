@@ -1,6 +1,8 @@
 //! The connections by their numbers.
 ghost use Rattle.std.specs.Prelude.{◌≡◌, ◌≢◌, ◌<◌, ◌++◌, ℕ, List, IfOk, IfSome, drop, length, option_map, true};
-ghost use Rattle.tds_relay.specs.Reads.{Sees, Stays, open_at, opened_at, place_of, without_link, waits_on};
+ghost use Rattle.tds_relay.specs.Reads.{Sees, Stays, named_seen, open_at, opened_at, opened_seen, place_of};
+ghost use Rattle.tds_relay.specs.Reads.{seen_at, waits_on, without_link};
+ghost use Rattle.tds_relay.specs.Told.{is_there};
 
 use crate::NoMemory;
 use crate::link::Link;
@@ -58,9 +60,9 @@ pub(crate) fn restart(links: &mut Vec<Link>, number: u64)
 }
 
 /// Whoever carries a connection's bytes calls it so.
-#[tactic(auto, using(crate::proofs::steps::Staying::stays_written, crate::proofs::steps::Staying::stays_refl))]
 pub(crate) fn set_tag(links: &mut Vec<Link>, number: u64, tag: usize)
-    ensures read { Stays links.old.items links.new.items }
+    ensures named { (other : ℕ)
+        → seen_at other links.new.items ≡ named_seen tag number other links.old.items }
     ensures waits { (other : ℕ)
         → waits_on other links.new.items ≡ waits_on other links.old.items }
 {
@@ -77,6 +79,7 @@ pub(crate) fn forget_sent(links: &mut Vec<Link>, number: u64, count: usize) -> b
     ensures read { Sees links.old.items links.new.items }
     ensures others { (other : ℕ) → other ≢ number
         → waits_on other links.new.items ≡ waits_on other links.old.items }
+    ensures found { result ≡ is_there number links.old.items }
     ensures fewer { waits_on number links.new.items
         ≡ option_map (drop count) (waits_on number links.old.items) }
 {
@@ -92,6 +95,8 @@ pub(crate) fn forget_sent(links: &mut Vec<Link>, number: u64, count: usize) -> b
 pub(crate) fn set_open(links: &mut Vec<Link>, number: u64)
     ensures opens { (other : ℕ)
         → open_at other links.new.items ≡ opened_at number other links.old.items }
+    ensures seen { (other : ℕ)
+        → seen_at other links.new.items ≡ opened_seen number other links.old.items }
     ensures waits { (other : ℕ)
         → waits_on other links.new.items ≡ waits_on other links.old.items }
 {

@@ -1,8 +1,8 @@
 //! What is to be sent to an application, or on a connection.
-ghost use Rattle.std.specs.Prelude.{◌≡◌, ◌+◌, ◌-◌, ◌<◌, ◌≤◌, ◌++◌, [], false, drop, length, vec_len, OnErr, OnOk};
-ghost use Rattle.std.specs.Prelude.{if◌then◌else◌};
+ghost use Rattle.std.specs.Prelude.{◌≡◌, ◌+◌, ◌-◌, ◌*◌, ◌/◌, ◌<◌, ◌≤◌, ◌++◌, [], false, drop, length, vec_len};
+ghost use Rattle.std.specs.Prelude.{OnErr, OnOk, if◌then◌else◌};
 ghost use Rattle.tds_packet.specs.Layout.{header_bytes};
-ghost use Rattle.tds_relay.specs.declared.outgoing.TheConstants.{PIECE};
+ghost use Rattle.tds_relay.specs.declared.outgoing.TheConstants.{ACKNOWLEDGED, ATTENTION, PIECE};
 
 use crate::NoMemory;
 use std::alloc::Global;
@@ -94,7 +94,10 @@ impl Outgoing {
     }
 
     /// How many bytes of attentions may be read, so that their acknowledgements fit here.
-    pub(crate) fn attentions(&self) -> usize {
+    pub(crate) fn attentions(&self) -> usize
+        ensures { result ≡ ATTENTION
+            * (((self.now.size + PIECE) - waiting_in self.now) / ACKNOWLEDGED) }
+    {
         let acknowledgements = self.room() / ACKNOWLEDGED;
         ATTENTION * acknowledgements
     }

@@ -1,19 +1,21 @@
 //! The relay: who is there, and what whoever carries its bytes asks of it.
 ghost use Rattle.std.specs.Prelude.{◌≡◌, ◌-◌, ◌≤◌, [], ℕ, Bool, IfOk, IfSome, None, OnOk, Some, false, length};
-ghost use Rattle.std.specs.Prelude.{option_copied, true, vec_len};
+ghost use Rattle.std.specs.Prelude.{IsSome, option_copied, true, vec_len};
 ghost use Rattle.slab.specs.Slab.{get, slab_len};
 ghost use Rattle.tds_relay.specs.Asking.{IsUnderway};
-ghost use Rattle.tds_relay.specs.Bodies.{AskAsBefore, body_of};
+ghost use Rattle.tds_relay.specs.Bodies.{AskAsBefore, Nowhere, body_of};
 ghost use Rattle.tds_relay.specs.Bounds.{waiting_for};
 ghost use Rattle.tds_relay.specs.Desk.{find_key, find_number, key_of, new_desk};
 ghost use Rattle.tds_relay.specs.Fronts.{Moved, ends_in, hall_in, house_in};
 ghost use Rattle.tds_relay.specs.Hall.{HasNoTransaction, IfOpen, IsAway, IsHere, MayPart, change_end, end_at};
 ghost use Rattle.tds_relay.specs.Hall.{lets_go};
 ghost use Rattle.tds_relay.specs.House.{Steps, new_house};
+ghost use Rattle.tds_relay.specs.Places.{begun_in, holder};
 ghost use Rattle.tds_relay.specs.Posts.{Enters, posts_in};
-ghost use Rattle.tds_relay.specs.Reads.{link_at};
+ghost use Rattle.tds_relay.specs.Reads.{link_at, waits_on};
 ghost use Rattle.tds_relay.specs.Sparing.{OthersRest};
 ghost use Rattle.tds_relay.specs.Ties.{Cause, CausesRequest, Goes, Neither, desk_in};
+ghost use Rattle.tds_relay.specs.Told.{TellsTheSame, least_for, room_at, room_behind};
 ghost use Rattle.tds_relay.specs.Walkers.{AllStand, IsUnread};
 ghost use Rattle.tds_relay.specs.declared.application.Application.{Application};
 ghost use Rattle.tds_relay.specs.declared.link.TheConstants.{COLUMNS};
@@ -107,11 +109,14 @@ impl Relay {
         ensures desk { self.new.desk ≡ self.old.desk }
         ensures size { IfOk result (λ key. IfSome (get self.new.applications key)
             (λ (a : Application). a.out.size ≡ self.old.size)) }
-        ensures posts { IfOk result (λ key. Enters self.old.size key
+        ensures posts { IfOk result (λ key. Enters self.old.size tag key
             (posts_in self.old.applications) (posts_in self.new.applications)) }
         ensures steps { OnOk result (Steps Neither (house_in self.old) (house_in self.new)) }
         ensures links { self.new.links.items ≡ self.old.links.items }
         ensures others { IfOk result (λ key. OthersRest key self.old self.new) }
+        ensures nothing { IfOk result (λ key. (body_of key self.new ≡ Nowhere)
+            × (begun_in (get self.new.applications key) ≡ 0)) }
+        ensures tells { TellsTheSame self.old self.new }
     {
         let application = Application::new(self.alloc, tag, self.size);
         let Ok(key) = self.applications.insert(application) else {
@@ -129,6 +134,7 @@ impl Relay {
         ensures same { self.new.applications ≡ self.old.applications }
         ensures body { (key : ℕ) → body_of key self.new ≡ body_of key self.old }
         ensures are { (result.items ≡ self.old.orders.items) × (self.new.orders.items ≡ []) }
+        ensures tells { TellsTheSame self.old self.new }
     {
         mem::replace(&mut self.orders, Vec::new(self.alloc))
     }
@@ -136,7 +142,8 @@ impl Relay {
     /// How many bytes of an application may be read now, at most 8,192: so many that what goes on of them
     /// fits on its connection, and what they are answered here fits with what waits for it.
     pub fn room(&self, key: usize) -> usize
-        ensures { result ≤ PIECE }
+        ensures most { result ≤ PIECE }
+        ensures is { result ≡ room_at key self.now }
     {
         let Some(application) = self.applications.get(key) else {
             return 0;
@@ -153,7 +160,8 @@ impl Relay {
 
     /// How many bytes may be read that go out on a connection.
     fn room_to(&self, number: u64) -> usize
-        ensures { result ≤ PIECE }
+        ensures most { result ≤ PIECE }
+        ensures is { result ≡ room_behind (waits_on number self.now.links.items) }
     {
         match self.link(number) {
             Some(link) => link.out.piece().saturating_sub(BESIDE),
@@ -168,6 +176,8 @@ impl Relay {
         ensures fits { (key : ℕ)
             → key_of (find_number number (desk_in self.now.desk).holds) ≡ Some key
             → result ≤ PIECE - waiting_for (get self.now.applications key) }
+        ensures least { IsSome (link_at number self.now.links.items)
+            → least_for (holder (desk_in self.now.desk) number) self.now ≤ result }
     {
         let Some(link) = self.link(number) else {
             return 0;

@@ -1,5 +1,5 @@
 ghost use Rattle.std.specs.Prelude.{◌≡◌, ◌≤◌, ◌<◌, ◌+◌, ℕ, List, [], Ok, Err, IfOk, IfErr, OnOk, OnErr};
-ghost use Rattle.std.specs.Prelude.{◌++◌, drop, is_some, length, Bool, true, false, None, Some};
+ghost use Rattle.std.specs.Prelude.{◌++◌, drop, length, Bool, true, false, None, Some};
 ghost use Rattle.tds_client.specs.Sending.{Does as ClientDoes, IsRefusal};
 ghost use Rattle.tds_client.specs.Session.{new_session, state_of, unless_idle};
 ghost use Rattle.tds_client.specs.Streams.{finished, opened, put};
@@ -7,16 +7,15 @@ ghost use Rattle.tds_wire.specs.Reading.{next_token, restarted};
 ghost use Rattle.tds_wire.specs.declared.told.Token.{Token};
 ghost use Rattle.tds_service.specs.Packets.{awaiting, noted};
 ghost use Rattle.tds_service.specs.Parts.{Part, told};
-ghost use Rattle.tds_service.specs.Anew.{begins_anew};
 ghost use Rattle.tds_service.specs.Line as line;
 ghost use Rattle.tds_service.specs.Ties.{Does, DoesAll, Hears, Stands, answer_to, asked_answer};
 ghost use Rattle.tds_service.specs.Ties.{cancel_answer, end_at, finishing, line_in, listed, part_of};
 ghost use Rattle.tds_service.specs.Refusing.{refusal_in};
-ghost use Rattle.tds_service.specs.Service.{is_clean, is_open};
 ghost use Rattle.tds_service.specs.Beginning.{Begins};
 ghost use Rattle.tds_service.specs.Sizes.{Sized};
 ghost use Rattle.tds_service.specs.Ties.{items_of, putting, cancel_out, taken_answer};
 
+mod owing;
 mod whole;
 
 use std::alloc::Global;
@@ -71,46 +70,6 @@ impl Connection {
         ensures { result ≡ self.now.asked }
     {
         self.asked
-    }
-
-    /// Whether a transaction is open, and no full reset is about to end it.
-    pub(crate) fn is_open(&self) -> bool
-        ensures { result ≡ is_open (line_in self.now).heard.mark (line_in self.now).heard.descriptor }
-    {
-        match self.client.reset_mark() {
-            Some(Reset::Full) => false,
-            Some(Reset::KeepTransaction) => self.client.descriptor() > 0,
-            None => self.client.descriptor() > 0,
-        }
-    }
-
-    /// Whether the news of a reset is owed.
-    pub(crate) fn owes_reset(&self) -> bool
-        ensures { result ≡ is_some (line_in self.now).heard.mark }
-    {
-        self.client.reset_mark().is_some()
-    }
-
-    /// Whether its next request begins a session: it asks for a full reset, or is the first one here.
-    pub(crate) fn begins_anew(&self) -> bool
-        ensures { result ≡ begins_anew (line_in self.now) }
-    {
-        match self.client.reset_mark() {
-            Some(Reset::Full) => true,
-            Some(Reset::KeepTransaction) => self.asked == 0,
-            None => self.asked == 0,
-        }
-    }
-
-    /// Whether no reset is owed, and no transaction is open.
-    pub(crate) fn is_clean(&self) -> bool
-        ensures { result
-            ≡ is_clean (line_in self.now).heard.mark (line_in self.now).heard.descriptor }
-    {
-        match self.client.reset_mark() {
-            Some(_) => false,
-            None => self.client.descriptor() == 0,
-        }
     }
 
     /// Lets the next request ask for this reset (MS-TDS 2.2.3.1.2). Of two the stronger one stays.

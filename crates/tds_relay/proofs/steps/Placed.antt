@@ -5,6 +5,7 @@ use Rattle.std.proofs.lemmas.Bool.{eqb-false, eqb-true}
 use Rattle.tds_packet.specs.Reading.{Reading}
 use Rattle.tds_relay.specs.declared.link.Link.{Link}
 use Rattle.tds_relay.specs.Reads.{FillsAt, Opens, OpensFirst, OpensOthers, StaysAt, Stays, bytes_on, if_open, link_at, open_at, open_of, open_waits, opened_at, place_from, place_of, reader_at, reader_of, seen_at, seen_of}
+use Rattle.tds_relay.proofs.steps.Naming.{written_called}
 use Rattle.tds_relay.proofs.steps.Staying.{at_refl, fills_refl, shut, either_reader, opens_both, stays_opens, waits_of}
 
 -- ---- Where one is
@@ -80,12 +81,12 @@ is_open_at number ls l is is_open =
 pub is_shut_at : (number : ℕ) (ls : List Link) (l : Link) → link_at number ls ≡ Some l → l.is_open ≡ false → open_at number ls ≡ None
 is_shut_at number ls l is closed = ap (λ (o : Option Link). open_of (option_map seen_of o)) is ∙ shut l closed
 
-differs_by : (b : Bool) (n other : ℕ) → (n == other) ≡ b → n ≢ other → (n == other) ≡ false
+pub differs_by : (b : Bool) (n other : ℕ) → (n == other) ≡ b → n ≢ other → (n == other) ≡ false
 differs_by true n other e differs = absurd (differs (eqb-true n other e))
 differs_by false n other e differs = e
 
 -- the others are as they were where it is written back
-other_seen : (ls : List Link) (i : ℕ) (d m : Link) (other : ℕ) → m.number ≡ (slice_index_or ls i d).number → ((slice_index_or ls i d).number == other) ≡ false → seen_at other (slice_set ls i m) ≡ seen_at other ls
+pub other_seen : (ls : List Link) (i : ℕ) (d m : Link) (other : ℕ) → m.number ≡ (slice_index_or ls i d).number → ((slice_index_or ls i d).number == other) ≡ false → seen_at other (slice_set ls i m) ≡ seen_at other ls
 other_seen [] i d m other same differs = refl
 other_seen (x ∷ xs) zero d m other same differs =
     ap (λ (k : ℕ). option_map seen_of (if k == other then Some m else link_at other xs)) same
@@ -125,11 +126,12 @@ written_fills (x ∷ xs) (suc i) d m number is_open bytes n =
 
 -- bytes come on it
 pub others_written : (number : ℕ) (ls : List Link) (place : ℕ) (d m : Link) → place_of number ls ≡ Some place → m.number ≡ (slice_index_or ls place d).number
-    → m.is_open ≡ (slice_index_or ls place d).is_open → bytes_on m ≡ bytes_on (slice_index_or ls place d) → OpensOthers number ls (slice_set ls place m)
-others_written number ls place d m is same is_open bytes = record {
+    → m.is_open ≡ (slice_index_or ls place d).is_open → m.tag ≡ (slice_index_or ls place d).tag → bytes_on m ≡ bytes_on (slice_index_or ls place d) → OpensOthers number ls (slice_set ls place m)
+others_written number ls place d m is same is_open tag bytes = record {
   opens = λ other differs.
       subst (λ (o : Option Reading). StaysAt (open_at other ls) o) (sym (other_open number other ls place d m (is_at number ls place is) same (λ e. differs (sym e)))) (at_refl (open_at other ls));
   fills = λ other. written_fills ls place d m same is_open bytes other;
+  called = λ other. written_called ls place d m same (is_open, tag) other;
 }
 
 opened_by : (b : Bool) (number other : ℕ) (ls : List Link) (place : ℕ) (d m : Link) → (other == number) ≡ b → IsAt number ls place → m.number ≡ (slice_index_or ls place d).number

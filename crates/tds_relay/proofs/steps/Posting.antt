@@ -3,7 +3,7 @@ use Rattle.std.proofs.Common.{◌≡◌, ◌∙◌, ℕ, Option, Some, None, ap,
 use Rattle.slab.specs.Slab.{Slab, Updates, get, with_value}
 use Rattle.std.specs.Prelude.{Result, Ok, Err, OnOk, OnSome, IfNone}
 use Rattle.tds_relay.specs.declared.application.Application.{Application}
-use Rattle.tds_relay.specs.Posts.{Enters, Post, Posts, change, nothing, post_at, post_of, posts_in}
+use Rattle.tds_relay.specs.Posts.{Enters, Post, Posts, tagged, change, nothing, post_at, post_of, posts_in}
 use Rattle.tds_relay.proofs.steps.Seen.{seen_changed, seen_is, seen_kept, seen_new, seen_nobody, seen_others, seen_quit}
 
 -- an application is written back of which the same waits
@@ -33,8 +33,8 @@ pub quits_is : (s s1 : Slab Application) (key : ℕ) (r : Option Application) �
 quits_is s s1 key r is slots absent = seen_quit post_of s s1 key r is slots absent
 
 -- an application has come
-pub enters_is : (s s1 : Slab Application) (size key : ℕ) (a : Application) → get s key ≡ None → Updates s s1 key (Some a) → post_of a ≡ nothing size → Enters size key (posts_in s) (posts_in s1)
-enters_is s s1 size key a none updates is = record {
+pub enters_is : (s s1 : Slab Application) (size tag key : ℕ) (a : Application) → get s key ≡ None → Updates s s1 key (Some a) → post_of a ≡ tagged tag (nothing size) → Enters size tag key (posts_in s) (posts_in s1)
+enters_is s s1 size tag key a none updates is = record {
   was_free = post_is s key ∙ ap (option_map post_of) none;
   nothing_waits = seen_new post_of s s1 key a updates ∙ ap Some is;
   others_stay = λ other apart. seen_others post_of s s1 key other a updates apart;

@@ -4,7 +4,8 @@ use Rattle.std.specs.Prelude.{Result, Ok, Err, OnOk}
 use Rattle.std.proofs.lemmas.Bool.{eqb-true}
 use Rattle.tds_packet.specs.Reading.{Reading}
 use Rattle.tds_relay.specs.declared.link.Link.{Link}
-use Rattle.tds_relay.specs.Reads.{FillsAt, FillsBy, Opens, OpensOne, OpensOthers, Seen, Sees, StaysAt, Stays, bytes_on, if_open, link_at, open_at, open_of, open_waits, opened_at, reader_at, reader_of, seen_at, seen_of, waits_on, without_link}
+use Rattle.tds_relay.proofs.steps.Naming.{called_both, called_refl, called_stays, pushed_called}
+use Rattle.tds_relay.specs.Reads.{CalledAt, FillsAt, FillsBy, Opens, OpensOne, OpensOthers, Seen, Sees, StaysAt, Stays, bytes_on, if_open, link_at, open_at, open_of, open_waits, opened_at, opened_seen, reader_at, reader_of, seen_at, seen_of, waits_on, without_link}
 
 pub at_refl : {A : Type 0} (o : Option A) → StaysAt o o
 at_refl None = tt
@@ -198,12 +199,17 @@ filled_by out had now e = subst (FillsBy out had) (sym e) (put_filled out had)
 -- ---- One is to be opened
 
 pub opens_refl : (ls : List Link) → Opens ls ls
-opens_refl ls = record { opens = λ number. at_refl (open_at number ls); fills = λ number. fills_refl (open_waits number ls) }
+opens_refl ls = record {
+  opens = λ number. at_refl (open_at number ls);
+  fills = λ number. fills_refl (open_waits number ls);
+  called = λ number. called_refl (seen_at number ls);
+}
 
 pub opens_both : (ls ms ns : List Link) → Opens ls ms → Opens ms ns → Opens ls ns
 opens_both ls ms ns h k = record {
   opens = λ number. at_both (open_at number ls) (open_at number ms) (open_at number ns) (h.opens number) (k.opens number);
   fills = λ number. fills_both (open_waits number ls) (open_waits number ms) (open_waits number ns) (h.fills number) (k.fills number);
+  called = λ number. called_both (seen_at number ls) (seen_at number ms) (seen_at number ns) (h.called number) (k.called number);
 }
 
 -- of what stays open
@@ -217,6 +223,7 @@ stays_opens ls ms stays =
     record {
       opens = same;
       fills = λ number. open_fills (open_at number ls) (open_at number ms) (waits_on number ls) (waits_on number ms) (same number) (stays.fills number);
+      called = λ number. called_stays (seen_at number ls) (seen_at number ms) (stays.seen number (seen_at number ls) (at_refl (seen_at number ls)));
     }
 
 -- one more
@@ -239,12 +246,12 @@ pushed_fills : (ls : List Link) (l : Link) → l.is_open ≡ false → (number :
 pushed_fills [] l closed number = fills_one (l.number == number) l closed
 pushed_fills (x ∷ xs) l closed number = fills_behind (x.number == number) x (link_at number xs) (link_at number (xs ++ l ∷ [])) (pushed_fills xs l closed number)
 
-pub opens_pushed : (ls : List Link) (l : Link) → l.is_open ≡ false → Opens ls (ls ++ l ∷ [])
-opens_pushed ls l closed = record { opens = pushed_open ls l closed; fills = pushed_fills ls l closed }
+pub opens_pushed : (ls : List Link) (l : Link) → l.is_open ≡ false → l.tag ≡ None → Opens ls (ls ++ l ∷ [])
+opens_pushed ls l closed unnamed = record { opens = pushed_open ls l closed; fills = pushed_fills ls l closed; called = pushed_called ls l closed unnamed }
 
-pub opens_by_push : (ls ms ns : List Link) (l : Link) → ms ≡ ls → ns ≡ ms ++ l ∷ [] → l.is_open ≡ false → Opens ls ns
-opens_by_push ls ms ns l same pushed closed =
-    subst (λ (xs : List Link). Opens ls xs) (sym (pushed ∙ ap (λ (xs : List Link). xs ++ l ∷ []) same)) (opens_pushed ls l closed)
+pub opens_by_push : (ls ms ns : List Link) (l : Link) → ms ≡ ls → ns ≡ ms ++ l ∷ [] → l.is_open ≡ false → l.tag ≡ None → Opens ls ns
+opens_by_push ls ms ns l same pushed closed unnamed =
+    subst (λ (xs : List Link). Opens ls xs) (sym (pushed ∙ ap (λ (xs : List Link). xs ++ l ∷ []) same)) (opens_pushed ls l closed unnamed)
 
 pub opens_on : {A E : Type 0} (r : Result A E) (ls ms ns : List Link) → Stays ls ms → OnOk r (Stays ms ns) → OnOk r (Opens ls ns)
 opens_on (Ok x) ls ms ns h k = stays_opens ls ns (stays_both ls ms ns h k)
@@ -257,25 +264,28 @@ opens_served (Err e) ls ms ns h k = tt
 
 -- one is opened
 pub opens_one_served : {A E : Type 0} (r : Result A E) (number : ℕ) (ls ks ms ns : List Link) → ((other : ℕ) → open_at other ks ≡ opened_at number other ls)
-    → ((other : ℕ) → waits_on other ks ≡ waits_on other ls) → Stays ks ms → OnOk r (Opens ms ns) → OnOk r (OpensOne number ls ns)
-opens_one_served (Ok x) number ls ks ms ns opened waits h k =
+    → ((other : ℕ) → waits_on other ks ≡ waits_on other ls) → ((other : ℕ) → seen_at other ks ≡ opened_seen number other ls) → Stays ks ms → OnOk r (Opens ms ns)
+    → OnOk r (OpensOne number ls ns)
+opens_one_served (Ok x) number ls ks ms ns opened waits seen h k =
     let both = opens_both ks ms ns (stays_opens ks ms h) k in
     record {
       opens = λ other. subst (λ (o : Option Reading). StaysAt o (open_at other ns)) (opened other) (both.opens other);
       fills = λ other.
           subst (λ (o : Option Reading). FillsAt (if_open o (waits_on other ls)) (open_waits other ns)) (opened other)
           (subst (λ (w : Option (List ℕ)). FillsAt (if_open (open_at other ks) w) (open_waits other ns)) (waits other) (both.fills other));
+      called = λ other. subst (λ (o : Option Seen). CalledAt o (seen_at other ns)) (seen other) (both.called other);
     }
-opens_one_served (Err e) number ls ks ms ns opened waits h k = tt
+opens_one_served (Err e) number ls ks ms ns opened waits seen h k = tt
 
 -- all but one
 pub others_open : (number : ℕ) (ls ms : List Link) → Opens ls ms → OpensOthers number ls ms
-others_open number ls ms opens = record { opens = λ other differs. opens.opens other; fills = opens.fills }
+others_open number ls ms opens = record { opens = λ other differs. opens.opens other; fills = opens.fills; called = opens.called }
 
 pub others_both : (number : ℕ) (ls ms ns : List Link) → OpensOthers number ls ms → OpensOthers number ms ns → OpensOthers number ls ns
 others_both number ls ms ns h k = record {
   opens = λ other differs. at_both (open_at other ls) (open_at other ms) (open_at other ns) (h.opens other differs) (k.opens other differs);
   fills = λ other. fills_both (open_waits other ls) (open_waits other ms) (open_waits other ns) (h.fills other) (k.fills other);
+  called = λ other. called_both (seen_at other ls) (seen_at other ms) (seen_at other ns) (h.called other) (k.called other);
 }
 
 pub others_stay : (number : ℕ) (ls ms ns : List Link) → OpensOthers number ls ms → Stays ms ns → OpensOthers number ls ns

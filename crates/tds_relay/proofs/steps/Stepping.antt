@@ -98,10 +98,10 @@ steps_same by from d d1 es es1 ps ps1 same ends kept s = subst (Steps by from) (
 
 -- ---- Applications that come and go
 
-pub steps_enters : (from : House) (d : Desk) (es es1 : Ends) (ps ps1 : Posts) (key size : ℕ) → HasEntered key es es1 → Enters size key ps ps1
+pub steps_enters : (from : House) (d : Desk) (es es1 : Ends) (ps ps1 : Posts) (key size tag : ℕ) → HasEntered key es es1 → Enters size tag key ps ps1
     → Steps causes.Neither from (house_with d es ps) → Steps causes.Neither from (house_with d es1 ps1)
-steps_enters from d es es1 ps ps1 key size entered waits s =
-    steps_one causes.Neither from (house_with d es ps) (Admits key es1 ps1) (entered, size, waits) (refl, tt) s
+steps_enters from d es es1 ps ps1 key size tag entered waits s =
+    steps_one causes.Neither from (house_with d es ps) (Admits key es1 ps1) (entered, size, tag, waits) (refl, tt) s
 
 -- one is there no more, and what it held is let go
 pub steps_quits : (key : ℕ) (from : House) (d : Desk) (es es1 : Ends) (ps ps1 : Posts) (new : Hall) → es1 ≡ slice_set es key None → ps1 ≡ slice_set ps key None → LetsGoFirst key (hall_of_ends d es1) new

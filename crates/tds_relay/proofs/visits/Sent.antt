@@ -9,7 +9,7 @@ use Rattle.tds_relay.specs.Giving.{Given, Gives, IsFrontOf, StaysAll, StaysBy, V
 use Rattle.tds_relay.specs.Hall.{end_at}
 use Rattle.tds_relay.specs.House.{House, Step, Makes, Hands, Takes, Writes, Admits, Removes, MayAll, MayStep, Steps, after, after_all, change_whose, handed, owed, put_all, put_some}
 use Rattle.tds_relay.specs.Ties.{Cause}
-use Rattle.tds_relay.specs.Posts.{Post, Posts, change, nothing, post_at, without_first}
+use Rattle.tds_relay.specs.Posts.{Post, Posts, tagged, change, nothing, post_at, without_first}
 use Rattle.tds_relay.proofs.steps.Slots.{changed_at, cleared_at}
 use Rattle.tds_relay.proofs.visits.Replies.{gives, its, not_its}
 use Rattle.tds_relay.proofs.visits.Stays.{came}
@@ -62,7 +62,7 @@ goes_step key h (Makes move) p may stays is = goes_same p (post_at h.posts key) 
 goes_step key h (Hands number header content part way manner) p may stays is = goes_whose key (whose h.hall.desk number) (handed manner header content) h.posts p is
 goes_step key h (Takes other bytes) p may stays is = goes_to key other (owed bytes (end_at h.hall.ends other)) h.posts p is
 goes_step key h (Writes other count) p may stays is = writes key other count h.posts p is
-goes_step key h (Admits other ends posts) p may stays is = goes_same p (post_at posts key) (may.2.others_stay key stays ∙ is)
+goes_step key h (Admits other ends posts) p may stays is = goes_same p (post_at posts key) (may.3.others_stay key stays ∙ is)
 goes_step key h (Removes other gives way) p may stays is = goes_same p (post_at (after h (Removes other gives way)).posts key) (cleared_at Post h.posts other key stays ∙ is)
 
 -- ---- Along steps
@@ -102,5 +102,5 @@ gives_by by old new s = record { steps = s.steps; are = s.are; may = s.may; caus
 pub sent_visit : (max key : ℕ) (v : Visit max key) → IsFrontOf (joined (pieces_of (given_in v))) (sent_in v) (waits_in v)
 sent_visit max key v =
     let c = came max key v in
-    let is : post_at (house_in v).posts key ≡ Some (nothing c.may_come.1) = ap (λ (h : House). post_at h.posts key) c.house_is ∙ c.may_come.2.nothing_waits in
-    kept_along key (house_in v) v.since (nothing c.may_come.1) c.may_since v.stays is
+    let is : post_at (house_in v).posts key ≡ Some (tagged c.may_come.2 (nothing c.may_come.1)) = ap (λ (h : House). post_at h.posts key) c.house_is ∙ c.may_come.3.nothing_waits in
+    kept_along key (house_in v) v.since (tagged c.may_come.2 (nothing c.may_come.1)) c.may_since v.stays is

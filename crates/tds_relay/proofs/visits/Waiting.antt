@@ -20,10 +20,10 @@ record IsPut (pieces : List (List ℕ)) (p q : Post) : Type 0 where
   whole : q.is_full ≡ false → rest ≡ []
 
 abbrev kept_post : Post → Bool → Post
-kept_post p full = record { size = p.size; bytes = p.bytes; is_full = full }
+kept_post p full = record { tag = p.tag; size = p.size; bytes = p.bytes; is_full = full }
 
 abbrev put_post : List ℕ → Post → Post
-put_post bytes p = record { size = p.size; bytes = p.bytes ++ bytes; is_full = false }
+put_post bytes p = record { tag = p.tag; size = p.size; bytes = p.bytes ++ bytes; is_full = false }
 
 pub put_fits : (bytes : List ℕ) (p : Post) → fits p bytes ≡ true → put bytes p ≡ put_post bytes p
 unfolding put

@@ -9,7 +9,7 @@ ghost use Rattle.tds_relay.specs.Bodies.{body_of, last_of};
 ghost use Rattle.tds_relay.specs.Fronts.{FedOn, Moved, ends_in, given_by, hall_in, house_in};
 ghost use Rattle.tds_relay.specs.Hall.{AsksFor, AsksToPart, IfAsked, end_at};
 ghost use Rattle.tds_relay.specs.House.{Steps};
-ghost use Rattle.tds_relay.specs.Posts.{posts_in};
+ghost use Rattle.tds_relay.specs.Posts.{names_in, posts_in};
 ghost use Rattle.tds_relay.specs.Reads.{Opens, Stays};
 ghost use Rattle.tds_relay.specs.Taking.{Tells, TellsOn};
 ghost use Rattle.tds_relay.specs.Ties.{Application, Goes, IsReached, NobodyWaits, desk_in};
@@ -28,6 +28,8 @@ impl Relay {
     pub fn said(&mut self, key: usize, piece: &[u8]) -> Result<(), NoMemory>
         ensures goes { OnOk result (Goes (Application key)
             (desk_in self.old.desk) (desk_in self.new.desk)) }
+        ensures names { OnOk result (names_in self.new.applications
+            ≡ names_in self.old.applications) }
         ensures steps { OnOk result (Steps (Application key) (house_in self.old)
             (house_in self.new)) }
         ensures tells { OnOk result (Tells key (house_in self.old) piece.now []
@@ -51,6 +53,8 @@ impl Relay {
     fn take_all(&mut self, key: usize, piece: &[u8]) -> Result<(), NoMemory>
         ensures goes { OnOk result (Goes (Application key)
             (desk_in self.old.desk) (desk_in self.new.desk)) }
+        ensures names { OnOk result (names_in self.new.applications
+            ≡ names_in self.old.applications) }
         ensures tells { OnOk result (Tells key (house_in self.old) piece.now []
             (house_in self.new)) }
         ensures asks { OnOk result (Asks key (house_in self.old) piece.now []
@@ -77,6 +81,8 @@ impl Relay {
     fn take(&mut self, key: usize, piece: &[u8]) -> Result<usize, NoMemory>
         ensures goes { OnOk result (Goes (Application key)
             (desk_in self.old.desk) (desk_in self.new.desk)) }
+        ensures names { OnOk result (names_in self.new.applications
+            ≡ names_in self.old.applications) }
         ensures tells { IfOk result (λ count. TellsOn key piece.now (drop count piece.now)
             (house_in self.old) (house_in self.new)) }
         ensures asks { IfOk result (λ count. AsksOn key piece.now (drop count piece.now)

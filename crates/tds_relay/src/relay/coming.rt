@@ -7,7 +7,7 @@ ghost use Rattle.tds_relay.specs.Fronts.{house_with};
 ghost use Rattle.tds_relay.specs.Hall.{change_end, change_whose, told};
 ghost use Rattle.tds_relay.specs.Handing.{Brings, HearsBy, Passes, news_for, fed};
 ghost use Rattle.tds_relay.specs.House.{Steps};
-ghost use Rattle.tds_relay.specs.Posts.{post_of, posts_in};
+ghost use Rattle.tds_relay.specs.Posts.{names_in, post_of, posts_in};
 ghost use Rattle.tds_relay.specs.Reads.{Comes, Continues, OpensOthers, Stays, StreamsAll, if_heard, open_at};
 ghost use Rattle.tds_relay.specs.Reads.{reader_at};
 ghost use Rattle.tds_relay.specs.Bounds.{IsRoom};
@@ -32,6 +32,8 @@ impl Relay {
     pub fn came(&mut self, number: u64, piece: &[u8]) -> Result<(), NoMemory>
         ensures goes { OnOk result (Goes (Connection number)
             (desk_in self.old.desk) (desk_in self.new.desk)) }
+        ensures names { OnOk result (names_in self.new.applications
+            ≡ names_in self.old.applications) }
         ensures steps { OnOk result (Steps (Connection number) (house_in self.old)
             (house_in self.new)) }
         ensures served { OnOk result (NobodyWaits (desk_in self.new.desk)) }
@@ -49,6 +51,8 @@ impl Relay {
     fn hear_all(&mut self, number: u64, piece: &[u8]) -> Result<(), NoMemory>
         ensures goes { OnOk result (Goes (Connection number)
             (desk_in self.old.desk) (desk_in self.new.desk)) }
+        ensures names { OnOk result (names_in self.new.applications
+            ≡ names_in self.old.applications) }
         ensures streams { OnOk result (StreamsAll number (open_at number self.old.links.items)
             (house_in self.old) self.old.desk.service piece.now
             (open_at number self.new.links.items) (house_in self.new) self.new.desk.service) }
@@ -72,6 +76,8 @@ impl Relay {
     fn hear(&mut self, number: u64, piece: &[u8]) -> Result<(usize, Option<Heard>), NoMemory>
         ensures goes { OnOk result (Goes (Connection number)
             (desk_in self.old.desk) (desk_in self.new.desk)) }
+        ensures names { OnOk result (names_in self.new.applications
+            ≡ names_in self.old.applications) }
         ensures ends { OnOk result (ends_in self.new.applications
             ≡ ends_in self.old.applications) }
         ensures continues { IfOk result (λ heard. Continues number piece.now
@@ -233,6 +239,7 @@ fn hear_on(
     requires { link.old.is_open ≡ true }
     ensures goes { OnOk result (Goes (Connection number) (desk_in desk.old)
         (desk_in desk.new)) }
+    ensures names { OnOk result (names_in applications.new ≡ names_in applications.old) }
     ensures hears { IfOk result (λ heard. HearsBy number (reading_on number desk.old.service)
         link.old link.new piece.now heard.0 heard.1 (house_of desk.old applications.old)
         (house_with (desk_in desk.new) (told_by heard.1 (ends_in applications.old))
@@ -242,6 +249,7 @@ fn hear_on(
     ensures number { link.new.number ≡ link.old.number }
     ensures is_open { link.new.is_open ≡ link.old.is_open }
     ensures out { link.new.out ≡ link.old.out }
+    ensures tag { link.new.tag ≡ link.old.tag }
     ensures ends { OnOk result (ends_in applications.new ≡ ends_in applications.old) }
     ensures refused { IfOk result (λ heard. IsHeaderOf number
         (fed link.old.reader piece.now) heard.1 refused.old refused.new) }
@@ -269,6 +277,7 @@ fn hear_packet(
 ) -> Result<Heard, NoMemory>
     ensures goes { OnOk result (Goes (Connection number) (desk_in desk.old)
         (desk_in desk.new)) }
+    ensures names { OnOk result (names_in applications.new ≡ names_in applications.old) }
     ensures brings { IfOk result (λ heard. Brings number (reading_on number desk.old.service)
         link.old.answer link.old.reader heard (house_of desk.old applications.old)
         (house_with (desk_in desk.new) (told_by (Some heard) (ends_in applications.old))
@@ -279,6 +288,7 @@ fn hear_packet(
     ensures number { link.new.number ≡ link.old.number }
     ensures is_open { link.new.is_open ≡ link.old.is_open }
     ensures out { link.new.out ≡ link.old.out }
+    ensures tag { link.new.tag ≡ link.old.tag }
     ensures ends { OnOk result (ends_in applications.new ≡ ends_in applications.old) }
 {
     let Some(packet) = link.reader.packet() else {

@@ -1,5 +1,5 @@
 //! Applications that leave, and connections that are lost.
-ghost use Rattle.std.specs.Prelude.{◌≡◌, ◌≢◌, ℕ, None, OnOk, Some};
+ghost use Rattle.std.specs.Prelude.{◌≡◌, ◌≢◌, ℕ, None, OnOk, Some, slice_set};
 ghost use Rattle.slab.specs.Slab.{get};
 ghost use Rattle.tds_relay.specs.Bodies.{AskAsBefore, AskOn, Body, Closed, body_in};
 ghost use Rattle.tds_relay.specs.Desk.{Loses, find_number, key_of, turn};
@@ -8,7 +8,7 @@ ghost use Rattle.tds_relay.specs.Fronts.{house_in};
 ghost use Rattle.tds_relay.specs.Hall.{change_end, change_whose, closes, closes_for, end_at};
 ghost use Rattle.tds_relay.specs.House.{Steps, StepsOn};
 ghost use Rattle.tds_relay.specs.Law.{closing};
-ghost use Rattle.tds_relay.specs.Posts.{posts_in};
+ghost use Rattle.tds_relay.specs.Posts.{names_in, posts_in};
 ghost use Rattle.tds_relay.specs.Reads.{Opens, Stays, reader_at, waits_on};
 ghost use Rattle.tds_relay.specs.Sparing.{AllGo, AllRest, OthersRest};
 ghost use Rattle.tds_relay.specs.Taking.{IsDeaf};
@@ -30,6 +30,8 @@ impl Relay {
         ensures left { OnOk result (Leaving key (desk_in self.old.desk) (desk_in self.new.desk)) }
         ensures steps { OnOk result (Steps (Application key) (house_in self.old)
             (house_in self.new)) }
+        ensures names { OnOk result (names_in self.new.applications
+            ≡ slice_set (names_in self.old.applications) key None) }
         ensures served { OnOk result (NobodyWaits (desk_in self.new.desk)) }
         ensures opens { OnOk result (Opens self.old.links.items self.new.links.items) }
         ensures stand { OnOk result (AllStand self.old.desk.service
@@ -47,6 +49,8 @@ impl Relay {
         ensures lost { OnOk result (GoesOn (turn (desk_in self.old.desk) (Loses number)).desk
             (desk_in self.new.desk)) }
         ensures steps { OnOk result (StepsOn (house_in self.old) (house_in self.new)) }
+        ensures names { OnOk result (names_in self.new.applications
+            ≡ names_in self.old.applications) }
         ensures served { OnOk result (NobodyWaits (desk_in self.new.desk)) }
         ensures opens { OnOk result (Opens self.old.links.items self.new.links.items) }
         ensures stand { OnOk result (AllStand self.old.desk.service

@@ -1,5 +1,5 @@
 //! Connections that are lent to those who wait, opened, and asked.
-ghost use Rattle.std.specs.Prelude.{◌≡◌, ◌≢◌, ◌⊎◌, ◌++◌, [], ℕ, Bool, IfOk, IsSome, List, None, OnOk, Some};
+ghost use Rattle.std.specs.Prelude.{◌≡◌, ◌≢◌, ◌⊎◌, ◌++◌, [], ℕ, Bool, IfOk, IfSome, IsSome, List, None, OnOk, Some};
 ghost use Rattle.std.specs.Prelude.{false, option_map, true};
 ghost use Rattle.slab.specs.Slab.{get};
 ghost use Rattle.tds_packet.specs.declared.status.Reset.TheVariants.{KeepTransaction};
@@ -9,13 +9,15 @@ ghost use Rattle.tds_relay.specs.Desk.{find_number, key_of};
 ghost use Rattle.tds_relay.specs.Fronts.{MovedOn, ends_in, hall_in, house_in};
 ghost use Rattle.tds_relay.specs.Hall.{AsksFor, end_at};
 ghost use Rattle.tds_relay.specs.House.{Steps, StepsOn};
-ghost use Rattle.tds_relay.specs.Posts.{posts_in};
-ghost use Rattle.tds_relay.specs.Reads.{Opens, OpensFirst, OpensOne, Stays, open_at, opened_at, waits_on};
+ghost use Rattle.tds_relay.specs.Posts.{names_in, posts_in};
+ghost use Rattle.tds_relay.specs.Reads.{IsCalled, Opens, OpensFirst, OpensOne, Stays, named_seen, open_at};
+ghost use Rattle.tds_relay.specs.Reads.{opened_at, opened_seen, seen_at, waits_on};
 ghost use Rattle.tds_relay.specs.Sparing.{AllGo, AllRest, IsHeldBack, IsUnkept, OthersRest};
 ghost use Rattle.tds_relay.specs.Sparing.{StartsOn};
 ghost use Rattle.tds_relay.specs.Taking.{IsDeaf};
 ghost use Rattle.tds_relay.specs.Ties.{Goes, GoesOn, IsReached, Neither, NobodyWaits};
 ghost use Rattle.tds_relay.specs.Ties.{desk_in};
+ghost use Rattle.tds_relay.specs.Told.{TellsTheSame};
 ghost use Rattle.tds_relay.specs.Walkers.{AllStand};
 
 use super::Relay;
@@ -36,6 +38,10 @@ impl Relay {
         ensures steps { OnOk result (Steps Neither (house_in self.old) (house_in self.new)) }
         ensures opens { IfOk result (λ number.
             OpensFirst number self.old.links.items self.new.links.items) }
+        ensures named { IfOk result (λ brought. IfSome brought (λ number.
+            IsCalled true (Some tag) (seen_at number self.new.links.items))) }
+        ensures names { OnOk result (names_in self.new.applications
+            ≡ names_in self.old.applications) }
         ensures stand { OnOk result (AllStand self.old.desk.service
             self.new.desk.service) }
         ensures goes_on { OnOk result (AllGo self.old self.new) }
@@ -63,6 +69,7 @@ impl Relay {
         ensures closed { IfOk result (λ link. link.is_open ≡ false) }
         ensures number { IfOk result (λ link. link.number ≡ number) }
         ensures unread { IfOk result (λ link. link.reader.taken ≡ []) }
+        ensures unnamed { IfOk result (λ link. link.tag ≡ None) }
     {
         Link::new(self.alloc, number, self.size, self.features)
     }
@@ -72,8 +79,12 @@ impl Relay {
         ensures desk { self.new.desk ≡ self.old.desk }
         ensures kept { posts_in self.new.applications ≡ posts_in self.old.applications }
         ensures ends { ends_in self.new.applications ≡ ends_in self.old.applications }
-        ensures read { Stays self.old.links.items self.new.links.items }
+        ensures named { (other : ℕ) → seen_at other self.new.links.items
+            ≡ named_seen tag number other self.old.links.items }
+        ensures waits { (other : ℕ) → waits_on other self.new.links.items
+            ≡ waits_on other self.old.links.items }
         ensures rest { AllRest self.old self.new }
+        ensures tells { TellsTheSame self.old self.new }
     {
         set_tag(&mut self.links, number, tag);
     }
@@ -84,6 +95,8 @@ impl Relay {
         ensures steps { OnOk result (StepsOn (house_in self.old) (house_in self.new)) }
         ensures served { OnOk result (NobodyWaits (desk_in self.new.desk)) }
         ensures opens { OnOk result (OpensOne number self.old.links.items self.new.links.items) }
+        ensures names { OnOk result (names_in self.new.applications
+            ≡ names_in self.old.applications) }
         ensures stand { OnOk result (AllStand self.old.desk.service
             self.new.desk.service) }
         ensures goes_on { OnOk result (AllGo self.old self.new) }
@@ -102,6 +115,8 @@ impl Relay {
         ensures ends { ends_in self.new.applications ≡ ends_in self.old.applications }
         ensures opens { (other : ℕ) → open_at other self.new.links.items
             ≡ opened_at number other self.old.links.items }
+        ensures seen { (other : ℕ) → seen_at other self.new.links.items
+            ≡ opened_seen number other self.old.links.items }
         ensures waits { (other : ℕ) → waits_on other self.new.links.items
             ≡ waits_on other self.old.links.items }
         ensures same { AllRest self.old self.new }

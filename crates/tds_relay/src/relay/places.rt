@@ -1,11 +1,12 @@
 //! Where applications and connections are, for whoever tells an operator of it or sets time limits.
-ghost use Rattle.std.specs.Prelude.{◌≡◌, IfSome, option_copied};
+ghost use Rattle.std.specs.Prelude.{◌≡◌, option_copied};
 ghost use Rattle.slab.specs.Slab.{get};
 ghost use Rattle.tds_relay.specs.Desk.{fault_on};
 ghost use Rattle.tds_relay.specs.Faults.{header_fault_in, why_at};
 ghost use Rattle.tds_relay.specs.Fronts.{house_in};
-ghost use Rattle.tds_relay.specs.Places.{IsOn, Names, begun_in, held_by, open_on};
+ghost use Rattle.tds_relay.specs.Places.{begun_in, held_by, open_on};
 ghost use Rattle.tds_relay.specs.Ties.{desk_in};
+ghost use Rattle.tds_relay.specs.Told.{has_cancelled, held_place, place_on, place_with, told_place, unheld_place};
 
 use super::Relay;
 use crate::application::{Application, Asking};
@@ -76,7 +77,8 @@ impl Counts {
 impl Relay {
     /// Where the application of this key is, if there is one.
     pub fn place_of(&self, key: usize) -> Option<Place>
-        ensures { IfSome result (Names (held_by (desk_in self.now.desk) key)) }
+        ensures { result ≡ told_place (held_by (desk_in self.now.desk) key)
+            (get self.now.applications key) }
     {
         let application = self.applications.get(key)?;
         let number = match self.desk.hold_of(key) {
@@ -134,7 +136,7 @@ impl Relay {
 
     /// Where the connection of this number is, if there is one.
     pub fn place_on(&self, number: u64) -> Option<PlaceOn>
-        ensures { IfSome result (IsOn (desk_in self.now.desk) number) }
+        ensures { result ≡ place_on (desk_in self.now.desk) self.now.links.items number }
     {
         let link = self.link(number)?;
         if !link.is_open {
@@ -175,17 +177,50 @@ impl Relay {
 
 /// Where an application is that holds the connection of this number, or none.
 fn where_is(application: &Application, number: Option<u64>) -> Place
-    ensures { Names number result }
+    ensures { result ≡ place_with number application.now }
 {
     if application.is_over {
         return Place::Over;
     }
-    match (number, application.asking, application.front.stage()) {
-        (None, Asking::Waits { .. }, _) => Place::Waiting,
-        (None, _, _) => Place::Quiet,
-        (Some(number), Asking::Waits { .. }, _) => Place::Opening(number),
-        (Some(number), _, Stage::Stopping) => Place::Cancelling(number),
-        (Some(number), Asking::Goes, _) => Place::Asking(number),
-        (Some(number), Asking::Nothing, _) => Place::Holding(number),
+    match number {
+        Some(number) => held(number, stops(application.front.stage()), application.asking),
+        None => unheld(application.asking),
+    }
+}
+
+/// Whether a cancel was handed on, and isn't acknowledged.
+fn stops(stage: Stage) -> bool
+    ensures { result ≡ has_cancelled stage }
+{
+    match stage {
+        Stage::Quiet => false,
+        Stage::Receiving { .. } => false,
+        Stage::Underway { .. } => false,
+        Stage::Stopping => true,
+        Stage::Broken(_) => false,
+    }
+}
+
+/// Where an application is that holds no connection.
+fn unheld(asking: Asking) -> Place
+    ensures { result ≡ unheld_place asking }
+{
+    match asking {
+        Asking::Nothing => Place::Quiet,
+        Asking::Waits { .. } => Place::Waiting,
+        Asking::Goes => Place::Quiet,
+    }
+}
+
+/// Where one is that holds the connection of this number.
+fn held(number: u64, stops: bool, asking: Asking) -> Place
+    ensures { result ≡ held_place number stops asking }
+{
+    match (asking, stops) {
+        (Asking::Waits { .. }, _) => Place::Opening(number),
+        (Asking::Nothing, true) => Place::Cancelling(number),
+        (Asking::Nothing, false) => Place::Holding(number),
+        (Asking::Goes, true) => Place::Cancelling(number),
+        (Asking::Goes, false) => Place::Asking(number),
     }
 }

@@ -1,5 +1,5 @@
 //! What waits for applications and on connections, and is sent.
-ghost use Rattle.std.specs.Prelude.{◌≡◌, ◌≢◌, ◌+◌, ◌≤◌, ℕ, OnOk, drop, length, option_map};
+ghost use Rattle.std.specs.Prelude.{◌≡◌, ◌≢◌, ◌+◌, ◌≤◌, ℕ, None, OnOk, drop, if◌then◌else◌, length, option_map};
 ghost use Rattle.slab.specs.Slab.{get};
 ghost use Rattle.tds_relay.specs.Bodies.{AskAsBefore, AskOn};
 ghost use Rattle.tds_relay.specs.Bounds.{most_for};
@@ -10,6 +10,7 @@ ghost use Rattle.tds_relay.specs.Law.{waiting_on};
 ghost use Rattle.tds_relay.specs.Reads.{FillsBy, Sees, Stays, waits_on};
 ghost use Rattle.tds_relay.specs.Sparing.{AllRest, SendsOn};
 ghost use Rattle.tds_relay.specs.Ties.{GoesOn, IsReached, Neither, desk_in};
+ghost use Rattle.tds_relay.specs.Told.{TellsTheSame, held_name, holder_name, is_there};
 ghost use Rattle.tds_relay.specs.Walkers.{AllStand};
 ghost use Rattle.tds_relay.specs.declared.outgoing.TheConstants.{PIECE};
 
@@ -51,6 +52,8 @@ impl Relay {
         ensures steps { Steps Neither (house_in self.old) (house_in self.new) }
         ensures links { self.new.links.items ≡ self.old.links.items }
         ensures rest { AllRest self.old self.new }
+        ensures whose { result ≡ held_name key self.old }
+        ensures tells { TellsTheSame self.old self.new }
     {
         self.forget_sent(key, count);
         let hold = self.desk.hold_of(key)?;
@@ -66,6 +69,7 @@ impl Relay {
         ensures ends { ends_in self.new.applications ≡ ends_in self.old.applications }
         ensures links { self.new.links.items ≡ self.old.links.items }
         ensures asks { AskAsBefore self.old.applications self.new.applications }
+        ensures tells { TellsTheSame self.old self.new }
     {
         match self.applications.get_mut(key) {
             Some(application) => application.out.sent(count),
@@ -85,6 +89,9 @@ impl Relay {
         ensures others { (other : ℕ) → other ≢ number
             → waits_on other self.new.links.items ≡ waits_on other self.old.links.items }
         ensures same { self.new.applications ≡ self.old.applications }
+        ensures whose { result ≡ (if is_there number self.old.links.items
+            then holder_name number self.old else None) }
+        ensures tells { TellsTheSame self.old self.new }
     {
         if !forget_sent(&mut self.links, number, count) {
             return None;

@@ -1,8 +1,10 @@
-use Rattle.std.proofs.Common.{List, ap, drop, sym, ◌∙◌}
+use Rattle.std.proofs.Common.{List, Option, ap, drop, sym, ◌∙◌}
+use Rattle.std.specs.Prelude.{is_some}
 use Rattle.tds_relay.specs.declared.link.Link.{Link}
 use Rattle.tds_relay.specs.Posts.{Post, post_in}
 use Rattle.tds_relay.specs.Reads.{place_of, seen_of}
 use Rattle.tds_relay.proofs.spared.Waits.{none_waits, one_waits, others_wait}
+use Rattle.tds_relay.proofs.steps.Placed.{is_at, is_nowhere}
 use Rattle.tds_relay.proofs.steps.Staying.{sees_written}
 use Rattle.tds_relay.proofs.links.forget_sent.Goals as goal
 
@@ -28,3 +30,12 @@ pub returns-in_default-clause-fewer : goal.returns-in_default-clause-fewer
 returns-in_default-clause-fewer c =
     none_waits (drop c.args.count) c.args.number c.args.links.now.items
     (ap (λ (ls : List Link). place_of c.args.number ls) (sym c.deref.ensures.value) ∙ sym c.place_in.ensures.is ∙ c.in_default.is)
+
+pub returns-in_default-clause-found : goal.returns-in_default-clause-found
+returns-in_default-clause-found c =
+    sym (ap (λ (o : Option Link). is_some o) (is_nowhere c.args.number c.args.links.now.items (ap (λ (ls : List Link). place_of c.args.number ls) (sym c.deref.ensures.value) ∙ sym c.place_in.ensures.is ∙ c.in_default.is)))
+
+pub returns-clause-found : goal.returns-clause-found
+returns-clause-found c =
+    sym (ap (λ (o : Option Link). is_some o)
+    ((is_at c.args.number c.args.links.now.items c.in-Some.place (ap (λ (ls : List Link). place_of c.args.number ls) (sym c.deref.ensures.value) ∙ sym c.place_in.ensures.is ∙ c.in-Some.is)).found c.index_mut-link.result.now))

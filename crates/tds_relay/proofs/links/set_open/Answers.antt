@@ -1,9 +1,12 @@
-use Rattle.std.proofs.Common.{List, ap, refl, sym, ◌∙◌}
+use Rattle.std.proofs.Common.{List, ap, refl, sym, true, ◌∙◌}
 use Rattle.tds_relay.specs.declared.link.Link.{Link}
 use Rattle.tds_relay.specs.Posts.{post_in}
 use Rattle.tds_relay.specs.Reads.{place_of}
 use Rattle.tds_relay.proofs.spared.Waits.{waits_same}
 use Rattle.tds_relay.proofs.steps.Placed.{opened_nowhere, opened_written}
+use Rattle.tds_relay.proofs.steps.Placed.{is_nowhere}
+use Rattle.tds_relay.proofs.steps.Renaming.{seen_written, unseen_written}
+use Rattle.tds_relay.specs.Reads.{Seen, with_open}
 use Rattle.tds_relay.proofs.links.set_open.Goals as goal
 
 pub returns-in_default-clause-opens : goal.returns-in_default-clause-opens
@@ -20,3 +23,14 @@ pub returns-clause-waits : goal.returns-clause-waits
 returns-clause-waits c =
     waits_same c.args.links.now.items c.in-Some.place c.index_mut-link.result.now _
     (ap (λ (l : Link). l.number) c.index_mut-link.ensures.value) (ap (λ (l : Link). (post_in l.out).bytes) c.index_mut-link.ensures.value)
+
+pub returns-in_default-clause-seen : goal.returns-in_default-clause-seen
+returns-in_default-clause-seen c =
+    unseen_written with_open c.args.number c.args.links.now.items
+    (is_nowhere c.args.number c.args.links.now.items (ap (λ (ls : List Link). place_of c.args.number ls) (sym c.deref.ensures.value) ∙ sym c.place_in.ensures.is ∙ c.in_default.is))
+
+pub returns-clause-seen : goal.returns-clause-seen
+returns-clause-seen c =
+    seen_written with_open c.args.number c.args.links.now.items c.in-Some.place c.index_mut-link.result.now _
+    (ap (λ (ls : List Link). place_of c.args.number ls) (sym c.deref.ensures.value) ∙ sym c.place_in.ensures.is ∙ c.in-Some.is)
+    (ap (λ (l : Link). l.number) c.index_mut-link.ensures.value) (ap (λ (l : Link). let s : Seen = (l.reader, true, l.tag) in s) c.index_mut-link.ensures.value)

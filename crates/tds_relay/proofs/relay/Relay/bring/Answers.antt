@@ -6,6 +6,8 @@ use Rattle.tds_relay.proofs.steps.Reaching.{reaches_turn, reached_on}
 use Rattle.tds_relay.proofs.steps.Stepping.{no_steps, steps_moved}
 use Rattle.tds_relay.proofs.steps.Placed.{first_opens, none_there}
 use Rattle.tds_relay.proofs.spared.Resting.{go_both, none_go, go_refl}
+use Rattle.tds_relay.proofs.steps.Renaming.{first_called}
+use Rattle.tds_relay.specs.Posts.{names_of}
 use Rattle.tds_relay.proofs.relay.Relay.bring.Goals as goal
 
 pub returns-in_default-clause-goes : goal.returns-in_default-clause-goes
@@ -62,3 +64,12 @@ returns-clause-goes_on c =
 
 pub returns-then-not-is_empty-clause-goes_on : goal.returns-then-not-is_empty-clause-goes_on
 returns-then-not-is_empty-clause-goes_on c = go_refl c.args.self.now
+
+pub returns-clause-names : goal.returns-clause-names
+returns-clause-names c = ap names_of (c.in_ok-serve_line.ensures.kept ∙ c.in_ok-send_on.ensures.kept)
+
+pub returns-clause-named : goal.returns-clause-named
+returns-clause-named c =
+    let none : c.is_empty.result ≡ true = search rules in
+    first_called _ c.args.tag _ c.args.self.now.links.items _ _ _ (sym (ap (λ (k : ℕ). k == 0) c.args.self.now.links.ok.0) ∙ sym c.is_empty.ensures ∙ none) c.in_ok-push.ensures.items refl refl
+    c.in_ok-send_on.ensures.read c.in_ok-serve_line.ensures.opens

@@ -39,7 +39,7 @@ returns-then-not-link-clause-others c =
     others_written c.args.number c.args.self.now.links.items c.in-Some.place c.index_mut-link.result.now _
     (ap (λ (ls : List Link). place_of c.args.number ls) (sym c.deref.ensures.value) ∙ sym c.place_in.ensures.is ∙ c.in-Some.is)
     (ap (λ (l : Link). l.number) c.index_mut-link.ensures.value)
-    (ap (λ (l : Link). l.is_open) c.index_mut-link.ensures.value) (ap bytes_on c.index_mut-link.ensures.value)
+    (ap (λ (l : Link). l.is_open) c.index_mut-link.ensures.value) (ap (λ (l : Link). l.tag) c.index_mut-link.ensures.value) (ap bytes_on c.index_mut-link.ensures.value)
 
 pub returns-clause-others : goal.returns-clause-others
 returns-clause-others c =
@@ -47,4 +47,5 @@ returns-clause-others c =
     (ap (λ (ls : List Link). place_of c.args.number ls) (sym c.deref.ensures.value) ∙ sym c.place_in.ensures.is ∙ c.in-Some.is)
     (c.hear_on.ensures.number ∙ ap (λ (l : Link). l.number) c.index_mut-link.ensures.value)
     (c.hear_on.ensures.is_open ∙ ap (λ (l : Link). l.is_open) c.index_mut-link.ensures.value)
+    (c.hear_on.ensures.tag ∙ ap (λ (l : Link). l.tag) c.index_mut-link.ensures.value)
     (ap (λ (o : Outgoing). (post_in o).bytes) c.hear_on.ensures.out ∙ ap bytes_on c.index_mut-link.ensures.value))

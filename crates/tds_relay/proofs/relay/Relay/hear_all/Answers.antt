@@ -1,11 +1,13 @@
-use Rattle.std.proofs.Common.{List, Option, ap, refl, subst, sym, ℕ}
+use Rattle.std.proofs.Common.{◌≡◌, ◌∙◌, List, Option, ap, refl, subst, sym, ℕ}
 use Rattle.tds_packet.specs.Reading.{Reading}
 use Rattle.tds_relay.specs.declared.relay.Relay.{Relay}
 use Rattle.tds_relay.specs.Fronts.{house_in, told_by}
+use Rattle.tds_relay.specs.Posts.{names_in, names_of}
 use Rattle.tds_relay.specs.Reads.{OpensOthers, Streams, open_at}
 use Rattle.tds_relay.specs.Ties.{Connection}
 use Rattle.tds_relay.proofs.steps.Fronts.{moved_same}
 use Rattle.tds_relay.proofs.steps.Reaching.{ok_more}
+use Rattle.tds_relay.proofs.steps.Renaming.{names_on}
 use Rattle.tds_relay.proofs.steps.Staying.{gone_open, opens_refl, others_both, others_open, others_stay, others_stay_on}
 use Rattle.tds_relay.proofs.bytes.Streaming.{streams_begin, streams_left, streams_lost, streams_on}
 use Rattle.tds_relay.proofs.relay.Relay.hear_all.Goals as goal
@@ -14,6 +16,7 @@ use Rattle.tds_relay.proofs.relay.Relay.hear_all.Goals.{else-taking-test, then-t
 pub taking-init : goal.taking-init
 taking-init c = record {
   goes = λ from h. h;
+  names = refl;
   streams = streams_begin c.args.number (open_at c.args.number c.args.self.now.links.items) (house_in c.args.self.now) c.args.self.now.desk.service c.args.piece.now;
   others = others_open c.args.number _ _ (opens_refl c.args.self.now.links.items);
 }
@@ -21,6 +24,7 @@ taking-init c = record {
 pub taking-preserved : goal.taking-preserved
 taking-preserved c = record {
   goes = λ from h. c.in_ok-heard.ensures.goes from (c.in_ok-count.ensures.goes from (c.taking.invariant.goes from h));
+  names = ap names_of c.in_ok-heard.ensures.kept ∙ c.in_ok-count.ensures.names ∙ c.taking.invariant.names;
   streams =
       streams_left c.args.number _ _ _ _ _ _ _ _ _ c.behind-rest.ensures
       (streams_on c.args.number _ _ _ _ _ _ _ _ _ _ _ _ _ _ _ _ _ _ c.taking.invariant.streams c.in_ok-count.ensures.continues
@@ -46,6 +50,17 @@ returns-clause-streams c =
     ] in
     streams_lost c.lose.result c.args.number had _ _ _ _ _ _ _ _ _ _ _ led.0 led.1 c.lose.ensures.moves c.lose.ensures.kept
     (ok_more c.lose.result _ _ (λ g. gone_open c.args.number _ g) c.lose.ensures.gone) c.lose.ensures.stand
+
+pub returns-clause-names : goal.returns-clause-names
+returns-clause-names c =
+    let to : Relay → Type 0 = λ r. names_in r.applications ≡ names_in c.args.self.now.applications in
+    let led : to c.taking-test.self =
+    elim c.taking-test.branch [
+      | else-taking-test w ↦ subst to (sym w.self-is) c.taking.invariant.names
+      | then-taking-test+else-is_empty+in_ok-count+in_ok-heard+else-counter-end w ↦
+          subst to (sym w.self-is) (ap names_of w.in_ok-heard.ensures.kept ∙ w.in_ok-count.ensures.names ∙ c.taking.invariant.names)
+    ] in
+    names_on c.lose.result (names_in c.args.self.now.applications) c.taking-test.self.applications c.lose.new.self.applications led c.lose.ensures.kept
 
 pub returns-clause-others : goal.returns-clause-others
 returns-clause-others c =

@@ -1,4 +1,6 @@
+use Rattle.std.proofs.Common.{◌≡◌}
 use Rattle.tds_relay.specs.Fronts.{house_in}
+use Rattle.tds_relay.specs.Posts.{names_in}
 use Rattle.tds_relay.specs.Reads.{OpensOthers, Streams, open_at}
 use Rattle.tds_relay.specs.Ties.{Connection, Goes, desk_in}
 use Rattle.tds_relay.proofs.relay.Relay.hear_all.Given as goal
@@ -6,6 +8,7 @@ use Rattle.tds_relay.proofs.relay.Relay.hear_all.Given as goal
 abbrev pub invariant-taking : goal.invariant-taking
 invariant-taking l = record {
   goes : Goes (Connection l.fn.number) (desk_in l.fn.self.desk) (desk_in l.self.desk);
+  names : names_in l.self.applications ≡ names_in l.fn.self.applications;
   streams : Streams l.fn.number (open_at l.fn.number l.fn.self.links.items) (house_in l.fn.self) l.fn.self.desk.service l.fn.piece l.rest (open_at l.fn.number l.self.links.items) (house_in l.self) l.self.desk.service;
   others : OpensOthers l.fn.number l.fn.self.links.items l.self.links.items;
 }

@@ -1,4 +1,4 @@
-use Rattle.std.proofs.Common.{◌∙◌, ap, refl, Option}
+use Rattle.std.proofs.Common.{◌∙◌, ap, refl, slice_set, None, Option}
 use Rattle.tds_relay.specs.Fronts.{ends_in, house_in}
 use Rattle.tds_relay.specs.Posts.{posts_in}
 use Rattle.tds_relay.specs.Ties.{Application, desk_in}
@@ -12,6 +12,8 @@ use Rattle.tds_relay.proofs.spared.Letting.{gone_go, removed_rest}
 use Rattle.tds_relay.proofs.spared.Resting.{go_on}
 use Rattle.tds_relay.specs.Bodies.{body_in}
 use Rattle.tds_relay.specs.declared.application.Application.{Application as AnApplication}
+use Rattle.tds_relay.proofs.steps.Renaming.{names_left, names_on}
+use Rattle.tds_relay.specs.Posts.{names_in, names_of}
 use Rattle.tds_relay.proofs.relay.Relay.left.Goals as goal
 
 pub returns-clause-left : goal.returns-clause-left
@@ -43,3 +45,10 @@ returns-clause-goes_on c =
     (gone_go c.args.key old _ c.release.new.self (λ goes. ap (λ (o : Option AnApplication). body_in o goes) c.try_remove.ensures.updates.changed) c.in_ok-release.ensures.asks
     (λ reached. removed_rest c.args.key old _ refl refl c.try_remove.ensures.updates.others) c.in_ok-release.ensures.others)
     c.serve_line.ensures.goes_on
+
+pub returns-clause-names : goal.returns-clause-names
+returns-clause-names c =
+    let old = c.args.self.now.applications in
+    let gone = quits_is old c.try_remove.new.self c.args.key c.try_remove.result c.try_remove.ensures.value c.try_remove.ensures.slots c.try_remove.ensures.absent in
+    names_on c.serve_line.result (slice_set (names_in old) c.args.key None) c.release.new.self.applications c.serve_line.new.self.applications
+    (ap names_of (c.in_ok-release.ensures.kept ∙ gone) ∙ names_left c.args.key (posts_in old)) c.serve_line.ensures.kept

@@ -5,6 +5,9 @@ use Rattle.tds_relay.proofs.steps.Staying.{opens_served}
 use Rattle.tds_relay.proofs.bytes.Calls.{stand_on}
 use Rattle.tds_relay.proofs.spared.Resting.{go_on, reached_on_does, rest_go}
 use Rattle.tds_relay.proofs.steps.Reaching.{ok_more}
+use Rattle.tds_relay.proofs.steps.Renaming.{names_on}
+use Rattle.tds_relay.specs.Posts.{names_in, names_of}
+use Rattle.std.proofs.Common.{ap}
 use Rattle.tds_relay.proofs.relay.Relay.lost.Goals as goal
 
 pub returns-clause-steps : goal.returns-clause-steps
@@ -26,3 +29,6 @@ returns-clause-goes_on c = go_on c.serve_line.result c.args.self.now c.lose.new.
 
 pub returns-clause-lost : goal.returns-clause-lost
 returns-clause-lost c = ok_more c.serve_line.result _ _ (λ g by from h. g by from (c.in_ok-lose.ensures.lost by from h)) c.serve_line.ensures.goes
+
+pub returns-clause-names : goal.returns-clause-names
+returns-clause-names c = names_on c.serve_line.result (names_in c.args.self.now.applications) c.lose.new.self.applications c.serve_line.new.self.applications (ap names_of c.in_ok-lose.ensures.kept) c.serve_line.ensures.kept

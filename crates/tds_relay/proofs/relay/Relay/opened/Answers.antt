@@ -8,6 +8,8 @@ use Rattle.tds_relay.specs.declared.desk.Desk as code
 use Rattle.tds_relay.proofs.spared.Resting.{all_both, all_rest, asks_on, go_both, go_on, reached_on_does, rest_go}
 use Rattle.tds_relay.specs.Reads.{open_at}
 use Rattle.tds_relay.proofs.spared.Starting.{started_on}
+use Rattle.tds_relay.proofs.steps.Renaming.{names_on}
+use Rattle.tds_relay.specs.Posts.{names_in, names_of}
 use Rattle.tds_relay.proofs.relay.Relay.opened.Goals as goal
 
 pub returns-clause-steps : goal.returns-clause-steps
@@ -23,7 +25,7 @@ returns-clause-steps c =
 
 pub returns-clause-opens : goal.returns-clause-opens
 returns-clause-opens c =
-    opens_one_served c.serve_line.result c.args.number _ _ _ _ c.set_open.ensures.opens c.set_open.ensures.waits
+    opens_one_served c.serve_line.result c.args.number _ _ _ _ c.set_open.ensures.opens c.set_open.ensures.waits c.set_open.ensures.seen
     (stays_behind _ _ _ c.in_ok-order_write_on.ensures.links c.in_ok-start_on.ensures.read) c.serve_line.ensures.opens
 
 pub returns-clause-stand : goal.returns-clause-stand
@@ -54,3 +56,8 @@ returns-clause-starts c = λ reached.
     c.in_ok-start_on.ensures.goes_on c.serve_line.ensures.goes_on
     (λ r. reached_on_does (desk_in c.order_write_on.new.self.desk) (desk_in c.start_on.new.self.desk) c.in_ok-start_on.ensures.goes r)
     c.in_ok-start_on.ensures.waits
+
+pub returns-clause-names : goal.returns-clause-names
+returns-clause-names c =
+    names_on c.serve_line.result (names_in c.args.self.now.applications) c.start_on.new.self.applications c.serve_line.new.self.applications
+    (ap names_of (c.in_ok-start_on.ensures.kept ∙ c.in_ok-order_write_on.ensures.kept ∙ c.set_open.ensures.kept)) c.serve_line.ensures.kept

@@ -8,6 +8,8 @@ use Rattle.tds_relay.proofs.bytes.Calls.{stand_on}
 use Rattle.tds_relay.specs.Bodies.{body_of}
 use Rattle.tds_relay.proofs.steps.Carried.{carries_ok}
 use Rattle.tds_relay.proofs.steps.Reaching.{ok_more, reached_on}
+use Rattle.tds_relay.specs.Posts.{names_in}
+use Rattle.tds_relay.proofs.steps.Renaming.{names_on}
 use Rattle.tds_relay.proofs.relay.Relay.said.Goals as goal
 
 pub returns-clause-steps : goal.returns-clause-steps
@@ -33,3 +35,6 @@ pub returns-clause-carries : goal.returns-clause-carries
 returns-clause-carries c = λ reached.
     carries_ok c.serve_line.result c.args.key (house_in c.args.self.now) c.args.piece.now _ (body_of c.args.key c.args.self.now) (body_of c.args.key c.take_all.new.self) (body_of c.args.key c.serve_line.new.self) _ _ _ _ c.in_ok-take_all.ensures.carries c.serve_line.ensures.moves c.serve_line.ensures.kept
     (ok_more c.serve_line.result _ _ (λ g. g.go (reached_on (Application c.args.key) _ _ c.in_ok-take_all.ensures.goes reached) c.args.key) c.serve_line.ensures.goes_on)
+
+pub returns-clause-names : goal.returns-clause-names
+returns-clause-names c = names_on c.serve_line.result (names_in c.args.self.now.applications) c.take_all.new.self.applications c.serve_line.new.self.applications c.in_ok-take_all.ensures.names c.serve_line.ensures.kept

@@ -15,6 +15,8 @@ use Rattle.tds_relay.proofs.steps.Staying.{stays_opens}
 use Rattle.tds_relay.specs.Bodies.{Body, Obeys, body_in, body_of, going_of}
 use Rattle.tds_relay.proofs.steps.Bodied.{asks_kept, same_starts, shut_starts}
 use Rattle.tds_relay.proofs.steps.Carried.{carries_deaf, carries_fed, carries_moved, carries_refused}
+use Rattle.tds_relay.proofs.steps.Renaming.{names_given}
+use Rattle.tds_relay.specs.Posts.{names_of}
 use Rattle.tds_relay.proofs.relay.Relay.take.Goals as goal
 
 pub returns-in-Err-clause-tells : goal.returns-in-Err-clause-tells
@@ -125,3 +127,16 @@ returns-clause-carries c = λ first bytes at t.
     (subst (λ (b : Body). Obeys c.in-Ok.fed.said (take c.in-Ok.fed.count c.args.piece.now) b (body_of c.args.key c.obey.new.self)) same c.in_ok-obey.ensures.body) refl
     (c.in_ok-obey.ensures.given ∙ ap (λ (ps : Posts). given_by c.args.key c.in-Ok.fed.said ps) (posts_kept slab c.args.key a _ c.in-Some.ensures.value c.feed.ensures.post))
     (λ d. shut_starts c.obey.new.self.applications c.args.key (body_of c.args.key c.args.self.now) (going_of c.args.key c.obey.new.self) d) t
+
+pub returns-in-Err-clause-names : goal.returns-in-Err-clause-names
+returns-in-Err-clause-names c =
+    ap names_of (c.in_ok-expel_for-in-Err.ensures.kept ∙ posts_kept c.args.self.now.applications c.args.key c.in-Some.application.now _ c.in-Some.ensures.value c.feed.ensures.post)
+
+pub returns-clause-names : goal.returns-clause-names
+returns-clause-names c =
+    let slab = c.args.self.now.applications in
+    ap names_of (c.in_ok-obey.ensures.given ∙ ap (λ (ps : Posts). given_by c.args.key c.in-Ok.fed.said ps) (posts_kept slab c.args.key c.in-Some.application.now _ c.in-Some.ensures.value c.feed.ensures.post))
+    ∙ names_given c.args.key c.in-Ok.fed.said (posts_in slab)
+
+pub returns-then-application-clause-names : goal.returns-then-application-clause-names
+returns-then-application-clause-names c = ap names_of (posts_kept c.args.self.now.applications c.args.key c.in-Some.application.now c.in-Some.application.now c.in-Some.ensures.value refl)

@@ -1,10 +1,12 @@
-use Rattle.std.proofs.Common.{◌∙◌, List, subst, sym, ℕ}
+use Rattle.std.proofs.Common.{◌≡◌, ◌∙◌, List, refl, subst, sym, ℕ}
 use Rattle.tds_relay.specs.declared.relay.Relay.{Relay}
 use Rattle.tds_relay.specs.Fronts.{house_in}
+use Rattle.tds_relay.specs.Posts.{names_in}
 use Rattle.tds_relay.specs.Reads.{Stays}
 use Rattle.tds_relay.specs.Taking.{Tells}
 use Rattle.tds_relay.specs.Walkers.{AllStand}
 use Rattle.tds_relay.proofs.steps.Reaching.{ok_more}
+use Rattle.tds_relay.proofs.steps.Renaming.{names_on}
 use Rattle.tds_relay.proofs.steps.Staying.{stays_both, stays_on, stays_refl}
 use Rattle.tds_relay.proofs.steps.Told.{tells_begin, tells_expelled, tells_left}
 use Rattle.tds_relay.specs.Asking.{Asks}
@@ -18,6 +20,7 @@ use Rattle.tds_relay.proofs.relay.Relay.take_all.Goals.{else-taking-test, then-t
 pub taking-init : goal.taking-init
 taking-init c = record {
   goes = λ from h. h;
+  names = refl;
   tells = tells_begin c.args.key (house_in c.args.self.now) c.args.piece.now;
   asks = asks_begin c.args.key (house_in c.args.self.now) c.args.piece.now c.args.self.now.links.items;
   read = stays_refl c.args.self.now.links.items;
@@ -28,6 +31,7 @@ taking-init c = record {
 pub taking-preserved : goal.taking-preserved
 taking-preserved c = record {
   goes = λ from h. c.in_ok-count.ensures.goes from (c.taking.invariant.goes from h);
+  names = c.in_ok-count.ensures.names ∙ c.taking.invariant.names;
   tells = tells_left c.args.key _ _ _ _ _ c.behind-rest.ensures (c.in_ok-count.ensures.tells (house_in c.args.self.now) c.args.piece.now c.taking.invariant.tells);
   asks = asks_left c.args.key _ _ _ _ _ _ c.behind-rest.ensures (c.in_ok-count.ensures.asks (house_in c.args.self.now) c.args.piece.now c.taking.invariant.asks);
   read = stays_both _ _ _ c.taking.invariant.read c.in_ok-count.ensures.read;
@@ -46,6 +50,16 @@ returns-clause-tells c =
           subst to (sym w.self-is) (_, w.in_ok-count.ensures.tells old c.args.piece.now c.taking.invariant.tells)
     ] in
     tells_expelled c.expel.result c.args.key old c.args.piece.now led.0 _ _ _ _ _ _ led.1 c.expel.ensures.moves c.expel.ensures.kept
+
+pub returns-clause-names : goal.returns-clause-names
+returns-clause-names c =
+    let to : Relay → Type 0 = λ r. names_in r.applications ≡ names_in c.args.self.now.applications in
+    let led : to c.taking-test.self =
+    elim c.taking-test.branch [
+      | else-taking-test w ↦ subst to (sym w.self-is) c.taking.invariant.names
+      | then-taking-test+else-is_empty+in_ok-count+else-counter-end w ↦ subst to (sym w.self-is) (w.in_ok-count.ensures.names ∙ c.taking.invariant.names)
+    ] in
+    names_on c.expel.result (names_in c.args.self.now.applications) c.taking-test.self.applications c.expel.new.self.applications led c.expel.ensures.kept
 
 pub returns-clause-read : goal.returns-clause-read
 returns-clause-read c =

@@ -1,6 +1,8 @@
+use Rattle.std.proofs.Common.{◌≡◌}
 use Rattle.tds_relay.specs.Asking.{Asks}
 use Rattle.tds_relay.specs.Bodies.{Carries, body_of}
 use Rattle.tds_relay.specs.Fronts.{house_in}
+use Rattle.tds_relay.specs.Posts.{names_in}
 use Rattle.tds_relay.specs.Reads.{Stays}
 use Rattle.tds_relay.specs.Taking.{Tells}
 use Rattle.tds_relay.specs.Ties.{Application, Goes, desk_in}
@@ -10,6 +12,7 @@ use Rattle.tds_relay.proofs.relay.Relay.take_all.Given as goal
 abbrev pub invariant-taking : goal.invariant-taking
 invariant-taking l = record {
   goes : Goes (Application l.fn.key) (desk_in l.fn.self.desk) (desk_in l.self.desk);
+  names : names_in l.self.applications ≡ names_in l.fn.self.applications;
   tells : Tells l.fn.key (house_in l.fn.self) l.fn.piece l.rest (house_in l.self);
   asks : Asks l.fn.key (house_in l.fn.self) l.fn.piece l.rest l.self.links.items (house_in l.self);
   carries : Carries l.fn.key (house_in l.fn.self) l.fn.piece l.rest (body_of l.fn.key l.fn.self) (body_of l.fn.key l.self) (house_in l.self);

@@ -1,11 +1,12 @@
-use Rattle.std.proofs.Common.{◌∙◌, ◌++◌, ℕ, Bool, List, ap, refl, subst, sym}
+use Rattle.std.proofs.Common.{◌∙◌, ◌++◌, ℕ, Bool, List, Some, ap, refl, subst, sym}
 use Rattle.tds_packet.specs.Layout.{header_bytes}
 use Rattle.tds_relay.specs.Cutting.{awaited}
 use Rattle.tds_relay.specs.Handing.{IsOf}
-use Rattle.tds_relay.specs.House.{Whole, Without}
-use Rattle.tds_relay.specs.Posts.{Post, post_of, put}
+use Rattle.tds_relay.specs.House.{Whole, Without, behind_news}
+use Rattle.tds_relay.specs.Posts.{Post, post_in, put}
 use Rattle.tds_relay.proofs.steps.Handed.{news_first}
 use Rattle.tds_relay.proofs.steps.Reaching.{ok_if, ok_more}
+use Rattle.tds_relay.proofs.steps.Renaming.{called_so}
 use Rattle.tds_relay.proofs.relay.coming.hand_on.Goals as goal
 
 pub returns-then-news-clause-passes : goal.returns-then-news-clause-passes
@@ -15,7 +16,7 @@ returns-then-news-clause-passes c =
     (λ made. record {
       manner = Without tells made.0;
       by = subst (λ (b : Bool). IsOf tells b (awaited c.args.news.is_owed c.args.answer.now) c.args.packet.header c.args.packet.«data».now (Without tells made.0)) (sym c.if-news.true) (made.0, refl, made.1);
-      is = made.2 ∙ ap (λ (p : Post). put made.0 p) c.in_ok-put_news.ensures.post ∙ news_first tells made.0 (post_of c.args.application.now);
+      is = called_so c.args.application.now.tag _ _ (Some (behind_news tells made.0)) (made.2 ∙ ap (λ (p : Post). put made.0 p) c.in_ok-put_news.ensures.post ∙ news_first tells made.0 (post_in c.args.application.now.out));
     })
     c.put_without_news.ensures
 
@@ -27,7 +28,7 @@ returns-else-news-clause-passes c =
     (λ post. record {
       manner = Whole tells;
       by = subst (λ (b : Bool). IsOf tells b (awaited c.args.news.is_owed c.args.answer.now) c.args.packet.header c.args.packet.«data».now (Whole tells)) (sym c.if-news.false) refl;
-      is = post ∙ ap (λ (p : Post). put piece p) c.in_ok-put_news.ensures.post ∙ news_first tells piece (post_of c.args.application.now);
+      is = called_so c.args.application.now.tag _ _ (Some (behind_news tells piece)) (post ∙ ap (λ (p : Post). put piece p) c.in_ok-put_news.ensures.post ∙ news_first tells piece (post_in c.args.application.now.out));
     })
     c.put_packet.ensures.post
 

@@ -7,7 +7,7 @@ use Rattle.tds_relay.specs.declared.desk.coming.What.TheVariants as whats
 use Rattle.tds_relay.specs.Fronts.{end_of, ends_in}
 use Rattle.tds_relay.specs.Hall.{End}
 use Rattle.tds_relay.specs.Handing.{IsBy, news_for}
-use Rattle.tds_relay.specs.House.{IsTold, Withheld, closes, end_whose, hears_of_reset, is_said}
+use Rattle.tds_relay.specs.House.{IsTold, Withheld, closes, end_whose, handed, hears_of_reset, is_said}
 use Rattle.tds_relay.specs.Posts.{posts_in}
 use Rattle.tds_relay.specs.Ties.{Connection, desk_in, part_on}
 use Rattle.tds_relay.proofs.steps.Fronts.{ends_kept}
@@ -16,6 +16,8 @@ use Rattle.tds_relay.proofs.steps.Posting.{posts_kept}
 use Rattle.tds_relay.proofs.steps.Reaching.{reaches_turn}
 use Rattle.tds_relay.proofs.steps.Resets.{heard_so, told_for, unowed}
 use Rattle.tds_relay.proofs.bytes.Reader.{has_read}
+use Rattle.tds_relay.proofs.steps.Renaming.{names_handed}
+use Rattle.tds_relay.specs.Posts.{names_of}
 use Rattle.tds_relay.proofs.relay.coming.hear_packet.Goals as goal
 
 -- where it isn't handed on
@@ -150,3 +152,16 @@ returns-then-not-hears-clause-read c = has_read c.args.number _ c.in-Some.packet
 
 pub returns-clause-read : goal.returns-clause-read
 returns-clause-read c = has_read c.args.number _ c.in-Some.packet.header c.in-Some.packet.«data».now c.ends-ends.result _ _ c.in-Some.ensures.lent c.ends-ends.ensures c.in_ok-heard.ensures.read
+
+pub returns-then-not-hears-clause-names : goal.returns-then-not-hears-clause-names
+returns-then-not-hears-clause-names c =
+    ap names_of (posts_kept c.args.applications.now c.in-Some-key.key c.in-Some-get_mut.application.now c.in-Some-get_mut.application.now c.in-Some-get_mut.ensures.value refl)
+
+pub returns-clause-names : goal.returns-clause-names
+returns-clause-names c =
+    let passes = c.in_ok-hand_on.ensures.passes in
+    let header = c.in-Some.packet.header in
+    let content = c.in-Some.packet.«data».now in
+    ap names_of (handed_is (Some c.in-Some-key.key) c.in-Some-key.key header content passes.manner c.args.applications.now c.in-Some-get_mut.application.now c.hand_on.new.application refl
+    c.in-Some-get_mut.ensures.value passes.is)
+    ∙ names_handed (Some c.in-Some-key.key) (handed passes.manner header content) (posts_in c.args.applications.now)

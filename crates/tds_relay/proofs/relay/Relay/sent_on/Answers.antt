@@ -1,0 +1,21 @@
+use Rattle.std.proofs.Common.{◌≡◌, ◌∙◌, ℕ, Bool, true, false, Option, Some, None, ap, rules, sym, if◌then◌else◌}
+use Rattle.std.specs.Prelude.{option_and_then}
+use Rattle.slab.specs.Slab.{get}
+use Rattle.tds_relay.specs.Places.{holder}
+use Rattle.tds_relay.specs.Ties.{desk_in}
+use Rattle.tds_relay.specs.Told.{holder_name, is_there, name_of}
+use Rattle.tds_relay.proofs.relay.Relay.sent_on.Goals as goal
+
+pub returns-then-not-forget_sent-clause-whose : goal.returns-then-not-forget_sent-clause-whose
+returns-then-not-forget_sent-clause-whose c =
+    let absent : c.forget_sent.result ≡ false = search rules in
+    sym (ap (λ (b : Bool). if b then holder_name c.args.number c.args.self.now else None) (sym c.forget_sent.ensures.found ∙ absent))
+
+pub returns-clause-whose : goal.returns-clause-whose
+returns-clause-whose c =
+    let there : c.forget_sent.result ≡ true = search rules in
+    let holds : holder (desk_in c.args.self.now.desk) c.args.number ≡ Some c.in_ok-key.key = search rules in
+    let has : get c.args.self.now.applications c.in_ok-key.key ≡ Some c.in_ok-get.field-0.now = search rules in
+    sym (ap (λ (b : Bool). if b then holder_name c.args.number c.args.self.now else None) (sym c.forget_sent.ensures.found ∙ there)
+    ∙ ap (λ (o : Option ℕ). option_and_then (λ (key : ℕ). name_of (get c.args.self.now.applications key)) o) holds
+    ∙ ap name_of has)
