@@ -12,6 +12,7 @@ pub mod Made
 pub mod Placed
 pub mod Posting
 pub mod Putting
+pub mod Quieting
 pub mod Reaching
 pub mod Resets
 pub mod Seen

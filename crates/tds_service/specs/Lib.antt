@@ -14,3 +14,4 @@ pub mod Newest
 pub mod Spelling
 pub mod Sizes
 pub mod Beginning
+pub mod Anew

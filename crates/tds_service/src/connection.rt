@@ -7,6 +7,7 @@ ghost use Rattle.tds_wire.specs.Reading.{next_token, restarted};
 ghost use Rattle.tds_wire.specs.declared.told.Token.{Token};
 ghost use Rattle.tds_service.specs.Packets.{awaiting, noted};
 ghost use Rattle.tds_service.specs.Parts.{Part, told};
+ghost use Rattle.tds_service.specs.Anew.{begins_anew};
 ghost use Rattle.tds_service.specs.Line as line;
 ghost use Rattle.tds_service.specs.Ties.{Does, DoesAll, Hears, Stands, answer_to, asked_answer};
 ghost use Rattle.tds_service.specs.Ties.{cancel_answer, end_at, finishing, line_in, listed, part_of};
@@ -88,6 +89,17 @@ impl Connection {
         ensures { result ≡ is_some (line_in self.now).heard.mark }
     {
         self.client.reset_mark().is_some()
+    }
+
+    /// Whether its next request begins a session: it asks for a full reset, or is the first one here.
+    pub(crate) fn begins_anew(&self) -> bool
+        ensures { result ≡ begins_anew (line_in self.now) }
+    {
+        match self.client.reset_mark() {
+            Some(Reset::Full) => true,
+            Some(Reset::KeepTransaction) => self.asked == 0,
+            None => self.asked == 0,
+        }
     }
 
     /// Whether no reset is owed, and no transaction is open.

@@ -1,5 +1,6 @@
 //! What whoever watches a service may know of a connection.
 ghost use Rattle.std.specs.Prelude.{◌≡◌, is_some, option_map};
+ghost use Rattle.tds_service.specs.Anew.{begins_anew};
 ghost use Rattle.tds_service.specs.Service.{Seat, is_open, seat_numbered};
 ghost use Rattle.tds_service.specs.Table.{place_of, service_in};
 
@@ -36,5 +37,15 @@ impl Service {
     {
         let index = find(&self.seats, Wanted::Number(number))?;
         Some(self.seats[index].connection.owes_reset())
+    }
+
+    /// Whether the next request on the connection of this number begins a session there: it asks for a full
+    /// reset, or is the first one (MS-TDS 2.2.3.1.2).
+    pub fn begins_anew_on(&self, number: u64) -> Option<bool>
+        ensures { result ≡ option_map (λ (c : Seat). begins_anew c.line)
+            (seat_numbered number (service_in self.now).seats) }
+    {
+        let index = find(&self.seats, Wanted::Number(number))?;
+        Some(self.seats[index].connection.begins_anew())
     }
 }

@@ -6,6 +6,7 @@ use Rattle.tds_relay.proofs.steps.Reaching.{reaches_turn, reached_on}
 use Rattle.tds_relay.proofs.steps.Stepping.{no_steps, steps_moved}
 use Rattle.tds_relay.proofs.steps.Placed.{first_opens, none_there}
 use Rattle.tds_relay.proofs.spared.Resting.{go_both, none_go, go_refl}
+use Rattle.tds_relay.proofs.spared.Ordered.{ordered_both}
 use Rattle.tds_relay.proofs.relay.Relay.bring.Goals as goal
 
 pub returns-in_default-clause-goes : goal.returns-in_default-clause-goes
@@ -62,3 +63,9 @@ returns-clause-goes_on c =
 
 pub returns-then-not-is_empty-clause-goes_on : goal.returns-then-not-is_empty-clause-goes_on
 returns-then-not-is_empty-clause-goes_on c = go_refl c.args.self.now
+
+pub returns-clause-ordered : goal.returns-clause-ordered
+returns-clause-ordered c = ordered_both _ _ _ c.in_ok-send_on.ensures.ordered c.in_ok-serve_line.ensures.ordered
+
+pub returns-clause-kept : goal.returns-clause-kept
+returns-clause-kept c = c.in_ok-serve_line.ensures.kept ∙ c.in_ok-send_on.ensures.kept

@@ -12,6 +12,7 @@ use Rattle.tds_relay.proofs.spared.Letting.{gone_go, removed_rest}
 use Rattle.tds_relay.proofs.spared.Resting.{go_on}
 use Rattle.tds_relay.specs.Bodies.{body_in}
 use Rattle.tds_relay.specs.declared.application.Application.{Application as AnApplication}
+use Rattle.tds_relay.proofs.spared.Ordered.{ordered_on}
 use Rattle.tds_relay.proofs.relay.Relay.left.Goals as goal
 
 pub returns-clause-left : goal.returns-clause-left
@@ -43,3 +44,6 @@ returns-clause-goes_on c =
     (gone_go c.args.key old _ c.release.new.self (λ goes. ap (λ (o : Option AnApplication). body_in o goes) c.try_remove.ensures.updates.changed) c.in_ok-release.ensures.asks
     (λ reached. removed_rest c.args.key old _ refl refl c.try_remove.ensures.updates.others) c.in_ok-release.ensures.others)
     c.serve_line.ensures.goes_on
+
+pub returns-clause-ordered : goal.returns-clause-ordered
+returns-clause-ordered c = ordered_on c.serve_line.result _ _ _ c.serve_line.ensures.ordered c.in_ok-release.ensures.ordered

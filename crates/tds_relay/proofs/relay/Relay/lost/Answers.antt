@@ -1,10 +1,12 @@
-use Rattle.tds_relay.specs.Fronts.{house_in}
+use Rattle.tds_relay.specs.Fronts.{hall_in, house_in}
+use Rattle.tds_relay.proofs.spared.Apart.{loses_only}
 use Rattle.tds_relay.specs.Ties.{desk_in}
 use Rattle.tds_relay.proofs.steps.Stepping.{no_steps, steps_moved, steps_whoever}
 use Rattle.tds_relay.proofs.steps.Staying.{opens_served}
 use Rattle.tds_relay.proofs.bytes.Calls.{stand_on}
 use Rattle.tds_relay.proofs.spared.Resting.{go_on, reached_on_does, rest_go}
 use Rattle.tds_relay.proofs.steps.Reaching.{ok_more}
+use Rattle.tds_relay.proofs.spared.Ordered.{ordered_on}
 use Rattle.tds_relay.proofs.relay.Relay.lost.Goals as goal
 
 pub returns-clause-steps : goal.returns-clause-steps
@@ -26,3 +28,9 @@ returns-clause-goes_on c = go_on c.serve_line.result c.args.self.now c.lose.new.
 
 pub returns-clause-lost : goal.returns-clause-lost
 returns-clause-lost c = ok_more c.serve_line.result _ _ (λ g by from h. g by from (c.in_ok-lose.ensures.lost by from h)) c.serve_line.ensures.goes
+
+pub returns-clause-only : goal.returns-clause-only
+returns-clause-only c = loses_only c.serve_line.result c.args.number (hall_in c.args.self.now) (hall_in c.lose.new.self) (hall_in c.serve_line.new.self) c.in_ok-lose.ensures.ends c.in_ok-lose.ensures.line c.serve_line.ensures.apart
+
+pub returns-clause-ordered : goal.returns-clause-ordered
+returns-clause-ordered c = ordered_on c.serve_line.result _ _ _ c.serve_line.ensures.ordered c.in_ok-lose.ensures.ordered

@@ -8,6 +8,7 @@ use Rattle.tds_relay.specs.declared.desk.Desk as code
 use Rattle.tds_relay.proofs.spared.Resting.{all_both, all_rest, asks_on, go_both, go_on, reached_on_does, rest_go}
 use Rattle.tds_relay.specs.Reads.{open_at}
 use Rattle.tds_relay.proofs.spared.Starting.{started_on}
+use Rattle.tds_relay.proofs.spared.Ordered.{ordered_both, ordered_on, ordered_same}
 use Rattle.tds_relay.proofs.relay.Relay.opened.Goals as goal
 
 pub returns-clause-steps : goal.returns-clause-steps
@@ -54,3 +55,7 @@ returns-clause-starts c = λ reached.
     c.in_ok-start_on.ensures.goes_on c.serve_line.ensures.goes_on
     (λ r. reached_on_does (desk_in c.order_write_on.new.self.desk) (desk_in c.start_on.new.self.desk) c.in_ok-start_on.ensures.goes r)
     c.in_ok-start_on.ensures.waits
+
+pub returns-clause-ordered : goal.returns-clause-ordered
+returns-clause-ordered c = ordered_on c.serve_line.result _ _ _ c.serve_line.ensures.ordered
+    (ordered_both _ _ _ (ordered_both _ _ _ (ordered_same _ _ c.set_open.ensures.orders) c.in_ok-order_write_on.ensures.ordered) c.in_ok-start_on.ensures.ordered)
