@@ -23,11 +23,11 @@ ResetsFor (Some reset) None d = Unit {0}
 ResetsFor (Some reset) (Some hold) d = Resets reset (seat_numbered hold.number d.service.seats)
 
 -- where a request is asked
-abbrev pub IfAsks : Deed → Type 0 → Type 0
-IfAsks desk.Asks P = P
-IfAsks (desk.Puts count) P = Unit {0}
-IfAsks (desk.Ends count) P = Unit {0}
-IfAsks desk.Stops P = Unit {0}
+abbrev pub WhereAsked : Deed → Type 0 → Type 0
+WhereAsked desk.Asks P = P
+WhereAsked (desk.Puts count) P = Unit {0}
+WhereAsked (desk.Ends count) P = Unit {0}
+WhereAsked desk.Stops P = Unit {0}
 
 -- An application asks nothing: its request has its answer, or was taken back, or none has begun.
 abbrev pub AsksNothing : Stage → Type 0

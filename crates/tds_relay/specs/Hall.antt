@@ -23,7 +23,7 @@ use Rattle.tds_relay.specs.declared.desk.coming.What.TheVariants as whats
 use Rattle.tds_relay.specs.declared.desk.Hold.{Hold}
 use Rattle.tds_relay.specs.Desk as desk
 use Rattle.tds_relay.specs.Desk.{Desk, Deed, Event, Way, desk_after, find_key, find_number, key_of, new_desk, turn, whose}
-use Rattle.tds_relay.specs.Anew.{AsksNothing, IfAsks, ResetsFor}
+use Rattle.tds_relay.specs.Anew.{AsksNothing, ResetsFor, WhereAsked}
 use Rattle.tds_relay.specs.Places.{open_on}
 use Rattle.tds_relay.specs.Promises.{Each}
 use Rattle.tds_relay.specs.Ties as causes
@@ -327,7 +327,7 @@ MayDoAlone h (desk.Waits key) = IsAway h key
 MayDoAlone h (desk.Unwaits key) = IfOpen AsksNothing (end_at h.ends key)
 MayDoAlone h desk.Serves = Unit {0}
 MayDoAlone h (desk.Brings gives way) = Unit {0}
-MayDoAlone h (desk.Does key deed) = IsNotPut deed × MayDo deed (end_at h.ends key) × IfAsks deed (IsReset h.desk key (end_at h.ends key))
+MayDoAlone h (desk.Does key deed) = IsNotPut deed × MayDo deed (end_at h.ends key) × WhereAsked deed (IsReset h.desk key (end_at h.ends key))
 MayDoAlone h (desk.Leaves key gives way) = ⊥
 MayDoAlone h (desk.Renews key resumes) = AsksFor KeepTransaction (end_at h.ends key)
 MayDoAlone h (desk.Comes number part way) = ⊥
