@@ -32816,6 +32816,7 @@ func c_tds_row_places(columns *c_struct_tds_column, count uint64, bytes *uint8, 
 	m := machines.Get().(*machine)
 	m.begin()
 	of_columns := m.room(int(count) * 40)
+	for k := range unsafe.Slice(columns, count) { unsafe.Slice(columns, count)[k].to(m, of_columns+40*uint64(k)) }
 	of_bytes := m.hand(unsafe.Slice(bytes, length))
 	of_places := m.room(int(room) * 24)
 	of_taken := m.room(8); m.write64(of_taken, *taken)
