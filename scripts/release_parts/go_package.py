@@ -75,7 +75,7 @@ def crossing(argument, many, is_counted, known):
             turns = f"k := uint64(0); k < {many} && k < m.read64(of_count); k++" if is_counted else f"k := range {whole}"
             first, back = f"{at} := m.room(int({many}) * {size})", f"for {turns} {{ {whole}[k].from(m, {at}+{size}*uint64(k)) }}"
             # The others are written by their calls, and not read.
-            if word == "seats":
+            if word == "seats" or is_const:
                 first += f"\n\tfor k := range {whole} {{ {whole}[k].to(m, {at}+{size}*uint64(k)) }}"
             return item, first, "" if is_const else back
         return item, f"{at} := m.room({size}); {word}.to(m, {at})", "" if is_const else f"{word}.from(m, {at})"

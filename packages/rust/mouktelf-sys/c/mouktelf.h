@@ -492,6 +492,47 @@ uint8_t tds_wire_is_between(const struct tds_wire *walk, const struct tds_wire_m
 /* Begins anew, before the first token of a message, with no columns, whatever was before. 0. */
 uint8_t tds_wire_restart(struct tds_wire *walk, struct tds_wire_memory *memory);
 
+/* ---- Columns, and where the values of a row stand */
+
+#define TDS_WIRE_SAME_COLUMNS 2 /* columns: it describes none, and those that are known stay */
+
+/* A column, as a COLMETADATA (MS-TDS 2.2.7.4) describes it. */
+struct tds_column {
+    struct tds_wire_place name; /* in the token, from its first byte on: units of two bytes */
+    uint32_t size;              /* the most bytes that a value has; 65,535 in parts, 0 where nothing says it */
+    uint32_t user_type;
+    uint16_t flags;
+    uint8_t kind;                 /* the type's byte */
+    uint8_t precision, scale;     /* 0 where the type has none */
+    uint8_t collation[5];         /* zeros where the type has none */
+    struct tds_wire_column shape; /* how values are spelled: form 5 is in parts */
+};
+
+/* Where a value's own bytes stand in a row's token, from its first byte on. Of a value in parts these
+ * are all its parts, each behind its count of four bytes, without the empty one behind them. */
+struct tds_place {
+    uint64_t start, length;
+    uint8_t null; /* 1 where the value is null, else 0 */
+};
+
+/* The columns that the COLMETADATA describes which the bytes begin with: `count` of them, to the front
+ * of `columns`, out of `taken` bytes. `encryption` isn't 0 where the login acknowledged column
+ * encryption.
+ *
+ * TDS_WIRE_ENDED (0), TDS_WIRE_SAME_COLUMNS (2); TDS_WIRE_MORE (1): the token isn't whole. 71: another
+ * token; 73: TDS_WIRE_UNKNOWN_TYPE; 74: there is less room than columns. At all but 0 `count` is 0, at
+ * all but 0 and 2 `taken` is 0, and any columns may be written. */
+uint8_t tds_columns(const uint8_t *bytes, size_t length, uint8_t encryption, struct tds_column *columns,
+                    size_t room, size_t *count, size_t *taken);
+
+/* Where each value stands in the row that bytes begin with, a ROW or an NBCROW of these columns:
+ * `count` places, to the front of `places`; `taken` is how many bytes the row has.
+ *
+ * TDS_WIRE_ENDED (0); TDS_WIRE_MORE (1): the row isn't whole. 71: another token; 72: no columns; 74:
+ * there is less room than columns. At all but 0 `taken` is 0, and any of those places may be written. */
+uint8_t tds_row_places(const struct tds_column *columns, size_t count, const uint8_t *bytes, size_t length,
+                       struct tds_place *places, size_t room, size_t *taken);
+
 /* ---- A client and a walk in one call */
 
 struct tds_client; /* of tds.h, as are the names TDS_.. below */
@@ -768,7 +809,7 @@ struct tds_judge_finding {
     uint64_t offset;   /* the byte of its direction, from 0 */
     uint64_t time;     /* of its piece */
     uint64_t value;    /* what goes with it, or 0 */
-    uint8_t number;    /* 1 to 29 */
+    uint8_t number;    /* 1 to 39 */
     uint8_t level;     /* a breach, a risk, a note */
     uint8_t direction; /* to the server, to the client */
 };

@@ -6,7 +6,7 @@
  * printed from what came out. So besides what libmouktelf.a trusts (the checker, the kit's backend, the middle of
  * LLVM) it trusts the printer and the layer at its end (scripts/release_parts), and your C compiler. Never edit it.
  *
- * sources 5e207608a2c60a21a202392b8a78bee283709a40ac178e906b6143b096a6df64 of tds_service_c
+ * sources 5a90fc53617cf987b81e8cbd4bbc7790193b7aad4884bd4d57d863c83f80cb2c of tds_service_c
  * module 8be8f904512049cb34d3311c313c3a01d9930dbfcc7b0250f11cd050a891159e: logic=proved functions=151 sum=dac8208d650f15bf
  * kit rattle-kit-13f logic dac8208d650f15bf
  *
