@@ -6,8 +6,8 @@
  * printed from what came out. So besides what libmouktelf.a trusts (the checker, the kit's backend, the middle of
  * LLVM) it trusts the printer and the layer at its end (scripts/release_parts), and your C compiler. Never edit it.
  *
- * sources f7ed0ad09d751b0f4a82de43fa41d9a31d9c609509995b20bc5ce354da22fa84 of tds_c
- * module e83a0f615d36ee61e28695b346fc9bd6b3792da6042e8d7f25f72d534964b8da: logic=proved functions=140 sum=dac8208d650f15bf
+ * sources 254801832be5a2ee9bb0048c756ed8127ea493a4e892a4d17ab71a373c8f441e of tds_c
+ * module 5cde9dfe59c5caeafb54d957a38e40b7a0c09cb34ca2528d4fc65d2564f7c06a: logic=proved functions=140 sum=dac8208d650f15bf
  * kit rattle-kit-13f logic dac8208d650f15bf
  *
  * It wants memcpy, memmove, memset and abort. There is no state here: two calls on different values may run at the same time. */
