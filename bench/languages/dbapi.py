@@ -1,7 +1,7 @@
 """Rows of ten types, by python-tds alone and by mouktelf.tds over it, from the same server in another process, which sends bytes that
-lie ready: microseconds of a processor a row, the fewest of some runs; and rows a second by the clock.
+lie ready: microseconds of a processor a row, the fewest of some runs, and rows a second by the clock.
 
-    PYTHONPATH=FOLDER_OF_THE_PACKAGE:packages/python python3 bench/languages/dbapi.py"""
+    PYTHONPATH=FOLDER:packages/python python3 bench/languages/dbapi.py     FOLDER has the package, built"""
 
 import os
 import signal

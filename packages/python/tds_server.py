@@ -1,6 +1,7 @@
-"""A small server for test_tds.py, from MS-TDS alone: it calls nothing of this package. It lets everybody in, and answers some texts of
-tdsserve's batch language, a packet a statement: `rows A N`, `set K V`, `get K`, `say T`, `fail N`, `begin`, `commit`, `rollback`,
-`select 1`, `types`; `wait` waits for a cancel, `crossed` for one that the rest then passes, `deaf` hears none for two seconds, and `drop` closes."""
+"""A small server for the tests of mouktelf.tds, from MS-TDS alone: it calls nothing of this package. It lets everybody in, and answers
+some texts of tdsserve's batch language, a packet a statement: `rows A N`, `set K V`, `get K`, `say T`, `fail N`, `begin`, `commit`,
+`rollback`; `wait` waits for a cancel, `crossed` for one that the rest then passes, `deaf` hears none for two seconds; `stray` is answered
+twice, and `drop` closes."""
 
 import contextlib
 import socket
@@ -105,7 +106,7 @@ class Peer:
 
     def texts(self, kind, body):
         if kind == TRANSACTION:
-            return [{5: "begin", 7: "commit", 8: "rollback"}[body[0]]]
+            return [*self.server.before, {5: "begin", 7: "commit", 8: "rollback"}[body[0]]]
         if kind == CALL:
             return ["call"]
         return [it.strip() for it in body.decode("utf-16-le").split(";")]
@@ -129,6 +130,8 @@ class Peer:
                 break
         if not self.is_cancelled or is_crossed:
             self.link.sendall(packet(done(status) if answer or texts else b""))
+        if "stray" in texts:
+            self.link.sendall(packet(rows(99, 1)[:-13] + done()))
         if self.is_cancelled:
             self.is_cancelled = False
             self.link.sendall(packet(done(CANCELLED)))
@@ -174,10 +177,11 @@ class Peer:
 
 
 class Server:
-    """Serves on a free port of this machine, a thread a connection. `heard` has of each request its kind, status and descriptor."""
+    """Serves on a free port of this machine, a thread a connection. `heard` has of each request its kind, status and descriptor;
+    `before` is what stands before each transaction request."""
 
     def __init__(self, answers=()):
-        self.answers, self.heard, self.peers = dict(answers), [], []
+        self.answers, self.heard, self.peers, self.before = dict(answers), [], [], []
         self.socket = socket.create_server(("127.0.0.1", 0))
         self.port = self.socket.getsockname()[1]
         threading.Thread(target=self.accept, daemon=True).start()

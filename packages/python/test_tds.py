@@ -82,7 +82,8 @@ def spelled():
     """A call of sp_executesql: its number, no options, the text, the declaration, the parameter (2.2.6.6, 2.2.5.4, 2.2.5.2.3)."""
     def long_text(text):
         data = text.encode("utf-16-le")
-        return (b"\0\0\xE7\xFF\xFF" + bytes.fromhex("0904D00034") + b"\xFE" + b"\xFF" * 7 + len(data).to_bytes(4, "little") + data + bytes(4))
+        front = b"\0\0\xE7\xFF\xFF" + bytes.fromhex("0904D00034") + b"\xFE" + b"\xFF" * 7
+        return front + len(data).to_bytes(4, "little") + data + bytes(4)
 
     front = b"\xFF\xFF\x0A\0\0\0"
     with Server() as server:
@@ -103,7 +104,9 @@ def ticks(seconds, count=5):
 
 
 NOON, DAY = datetime.datetime(2025, 1, 1, 12, 0, 1), (739251).to_bytes(3, "little").hex()
-LATIN = "0904D00034"
+LATIN, TENTH = "0904D00034", datetime.datetime(2000, 1, 1, 12, 0, 0, 10000)
+# A table's name, in one part; a text's pointer and the time behind it.
+TABLE, POINTER = "01" "0100" "7400", "10" + "00" * 24
 # A column each: its type (2.2.5.4), a value of it (2.2.5.5), and what that is.
 TYPES = (
     ("2604", "0406000000", 6), ("2608", "08FFFFFFFFFFFFFFFF", -1), ("6801", "0101", True), ("6D08", "08000000000000F83F", 1.5),
@@ -115,22 +118,49 @@ TYPES = (
     ("2410", "1033221100554477668899AABBCCDDEEFF", uuid.UUID("00112233-4455-6677-8899-aabbccddeeff")),
     ("28", "03" + DAY, NOON.date()), ("2907", "05" + ticks(43201), NOON.time()), ("2A07", "08" + ticks(43201) + DAY, NOON),
     ("2B07", "0A" + ticks(43201) + DAY + "3C00", NOON.replace(tzinfo=datetime.timezone.utc)),
-    ("6F08", "08AC8E0000" "03C1C500", datetime.datetime(2000, 1, 1, 12, 0, 0, 10000)),
+    ("6F08", "08AC8E0000" "03C1C500", TENTH),
     ("6F04", "04AC8ED002", datetime.datetime(2000, 1, 1, 12)), ("6210000000", "06000000" "3800" "07000000", 7),
+    ("6A050A02", "05009D000000", decimal.Decimal("-1.57")), ("A5FFFF", "0200000000000000" "0200000001FF" "00000000", b"\1\xFF"),
+    ("23FFFFFF7F" + LATIN + TABLE, POINTER + "02000000" "6869", "hi"), ("22FFFFFF7F" + TABLE, POINTER + "02000000" "01FF", b"\1\xFF"),
+    ("63FFFFFF7F" + LATIN + TABLE, POINTER + "04000000" "68006900", "hi"),
+    ("F0FFFF" "00" "00" "016700" "0000", "0200000000000000" "0200000001FF" "00000000", b"\1\xFF"),
+    ("F101" "0164000161000100" "7300", "0200000000000000" "020000006100" "00000000", "a"),
 )
+# Those that can't be null: of a size of their own.
+FIXED = (("38", "07000000", 7), ("30", "FF", 255), ("34", "FEFF", -2), ("7F", "01" + "00" * 7, 1), ("32", "01", True),
+         ("3E", "000000000000F83F", 1.5), ("3C", "0000000010270000", decimal.Decimal(1)), ("3D", "AC8E000003C1C500", TENTH))
+
+
+def null_of(kind):
+    """How a null of this type stands in a row (2.2.7.20)."""
+    if kind[:2] in ("A5", "A7", "E7", "F0", "F1"):
+        return "FF" * (8 if kind[2:6] == "FFFF" or kind[:2] in ("F0", "F1") else 2)
+    return "00000000" if kind[:2] == "62" else "00"
+
+
+def result(kinds, *rows):
+    """An answer with rows of columns of these types."""
+    columns = b"".join(bytes(4) + b"\1\0" + bytes.fromhex(it) + b"\1c\0" for it in kinds)
+    return b"\x81" + len(kinds).to_bytes(2, "little") + columns + b"".join(rows) + done(MORE | COUNT, len(rows))
 
 
 def types():
-    count = len(TYPES)
-    columns = b"\x81" + count.to_bytes(2, "little") + b"".join(bytes(4) + b"\1\0" + bytes.fromhex(it[0]) + b"\1c\0" for it in TYPES)
-    row = b"\xD1" + b"".join(bytes.fromhex(it[1]) for it in TYPES)
+    kinds, given, wanted = zip(*TYPES, *FIXED)
+    row = b"\xD1" + bytes.fromhex("".join(given))
     # The first of every eight is null, and isn't there.
-    some = b"\xD2" + b"\1" * ((count + 7) // 8) + b"".join(bytes.fromhex(it[1]) for place, it in enumerate(TYPES) if place % 8)
-    with Server({"types": columns + row + some + done(MORE | COUNT, 2)}) as server, connect(server) as connection:
-        whole, partly = connection.cursor().execute("types").fetchall()
-        for place, (kind, _, wanted) in enumerate(TYPES):
-            assert whole[place] == wanted and type(whole[place]) is type(wanted), (kind, whole[place])
-            assert partly[place] == (wanted if place % 8 else None), (kind, partly[place])
+    some = b"\xD2" + b"\1" * ((len(kinds) + 7) // 8) + bytes.fromhex("".join(it for place, it in enumerate(given) if place % 8))
+    nulls = b"\xD1" + bytes.fromhex("".join(null_of(it[0]) for it in TYPES))
+    answers = {"types": result(kinds, row, some), "nulls": result(kinds[:len(TYPES)], nulls), "wrong": result(["2604"], b"\xD1\3\1\2\3")}
+    with Server(answers) as server, connect(server) as connection:
+        cursor = connection.cursor()
+        whole, partly = cursor.execute("types").fetchall()
+        for place, it in enumerate(wanted):
+            assert whole[place] == it and type(whole[place]) is type(it), (kinds[place], whole[place])
+            assert partly[place] == (it if place % 8 else None), (kinds[place], partly[place])
+        assert cursor.execute("nulls").fetchone() == (None,) * len(TYPES)
+        # A value that hasn't its type's size is given as it can be: the session goes on.
+        cursor.execute("wrong;rows 7 1")
+        assert len(cursor.fetchall()) == 1 and cursor.nextset() and cursor.fetchall() == [(7,)]
 
 
 def transactions():
@@ -201,6 +231,22 @@ def timeouts():
         assert cursor.fetchall() == [(1,)]
 
 
+def ends_time_out():
+    """A commit that is cancelled was done, or wasn't: what the server told behind the cancel counts."""
+    with Server() as server:
+        connection = connect(server, timeout=0.3, autocommit=False)
+        cursor = connection.cursor()
+        for text, is_open in (("wait", True), ("crossed", False)):
+            cursor.execute("rows 1 1")
+            server.before.append(text)
+            raises(tds.TimeoutError, connection.commit)
+            server.before.clear()
+            assert connection.in_transaction == is_open
+            connection.commit()
+            assert not connection.in_transaction
+        assert [it[2] for it in server.heard if it[0] == TRANSACTION] == [0, 1, 1, 0, 2]
+
+
 def shared():
     """Cursors and threads on one connection: what one hasn't read yet is kept for it."""
     with Server() as server, connect(server) as connection:
@@ -239,6 +285,10 @@ def breaks():
         # A session that is gone isn't begun anew behind the caller's back.
         raises(tds.ConnectionLost, connection.cursor().execute, "rows 1 1")
         raises(tds.ConnectionLost, connection.commit)
+        # An answer that nobody asked for is nobody's.
+        cursor = connect(server).cursor().execute("stray")
+        time.sleep(0.2)
+        raises(tds.ConnectionLost, cursor.execute, "rows 1 1")
         connection = connect(server, cancel_timeout=0.2, timeout=0.2)
         raises(tds.ConnectionLost, connection.cursor().execute, "deaf")
 
@@ -248,10 +298,10 @@ def procedures():
         cursor = connection.cursor()
         assert cursor.callproc("p", (1, tds.output(value=2))) == [1, 9]
         assert cursor.fetchall() == [(1,)] and cursor.return_value == 3
-        assert raises(tds.NotSupportedError, lambda: connect(server, use_mars=True))
+        raises(tds.NotSupportedError, lambda: connect(server, use_mars=True))
 
 
-PARTS = (first_steps, told_errors, spelled, types, transactions, cancels, timeouts, shared, breaks, procedures)
+PARTS = (first_steps, told_errors, spelled, types, transactions, cancels, timeouts, ends_time_out, shared, breaks, procedures)
 
 
 def run(parts, what):

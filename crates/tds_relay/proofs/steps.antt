@@ -13,6 +13,7 @@ pub mod Naming
 pub mod Placed
 pub mod Posting
 pub mod Putting
+pub mod Quieting
 pub mod Reaching
 pub mod Renaming
 pub mod Resets

@@ -23,6 +23,7 @@ use Rattle.tds_relay.specs.declared.desk.coming.What.TheVariants as whats
 use Rattle.tds_relay.specs.declared.desk.Hold.{Hold}
 use Rattle.tds_relay.specs.Desk as desk
 use Rattle.tds_relay.specs.Desk.{Desk, Deed, Event, Way, desk_after, find_key, find_number, key_of, new_desk, turn, whose}
+use Rattle.tds_relay.specs.Anew.{AsksNothing, ResetsFor, WhereAsked}
 use Rattle.tds_relay.specs.Places.{open_on}
 use Rattle.tds_relay.specs.Promises.{Each}
 use Rattle.tds_relay.specs.Ties as causes
@@ -252,16 +253,22 @@ IfOpen P None = Unit {0}
 IfOpen P (Some (Open front withdrawn asks)) = P front.stage
 IfOpen P (Some (Over why)) = Unit {0}
 
--- Its request asks for this reset, of which it hasn't been told; where its end is open.
-abbrev pub AsksFor : Reset → Option End → Type 0
-AsksFor reset None = Unit {0}
-AsksFor reset (Some (Open front withdrawn asks)) = asks ≡ Some reset
-AsksFor reset (Some (Over why)) = Unit {0}
+-- of what its request asks for and hasn't been told, where its end is open
+abbrev pub IfOpenAsks : (Option Reset → Type 0) → Option End → Type 0
+IfOpenAsks P None = Unit {0}
+IfOpenAsks P (Some (Open front withdrawn asks)) = P asks
+IfOpenAsks P (Some (Over why)) = Unit {0}
 
--- where it asks for one
+-- It asks for this reset, or for none.
 abbrev pub IfAsked : Option Reset → Option End → Type 0
-IfAsked None end = Unit {0}
-IfAsked (Some reset) end = AsksFor reset end
+IfAsked asked end = IfOpenAsks (λ asks. asks ≡ asked) end
+
+abbrev pub AsksFor : Reset → Option End → Type 0
+AsksFor reset end = IfAsked (Some reset) end
+
+-- The reset that it asks for is done with its request, on the connection that it holds.
+abbrev pub IsReset : Desk → ℕ → Option End → Type 0
+IsReset d key end = IfOpenAsks (λ asks. ResetsFor asks (find_key key d.holds) d) end
 
 -- No transaction is open on the connection that it holds.
 abbrev pub IsClosedOn : Option Hold → Desk → Type 0
@@ -313,14 +320,14 @@ IsNotPut (desk.Puts count) = ⊥
 IsNotPut (desk.Ends count) = ⊥
 IsNotPut desk.Stops = Unit {0}
 
--- Nobody waits who holds a connection, or waits already. Who keeps a transaction by another lease asks for the reset that does so. What is
--- put moves an end, and so does a connection that is let go or lost, and a packet that comes.
+-- Nobody waits who holds a connection, or waits already; and who waits does so until it asks nothing. A request is asked where its reset is
+-- done. Who keeps a transaction by another lease asks for the reset that does so. What else moves an end isn't done alone.
 abbrev pub MayDoAlone : Hall → Event → Type 0
 MayDoAlone h (desk.Waits key) = IsAway h key
-MayDoAlone h (desk.Unwaits key) = Unit {0}
+MayDoAlone h (desk.Unwaits key) = IfOpen AsksNothing (end_at h.ends key)
 MayDoAlone h desk.Serves = Unit {0}
 MayDoAlone h (desk.Brings gives way) = Unit {0}
-MayDoAlone h (desk.Does key deed) = IsNotPut deed × MayDo deed (end_at h.ends key)
+MayDoAlone h (desk.Does key deed) = IsNotPut deed × MayDo deed (end_at h.ends key) × WhereAsked deed (IsReset h.desk key (end_at h.ends key))
 MayDoAlone h (desk.Leaves key gives way) = ⊥
 MayDoAlone h (desk.Renews key resumes) = AsksFor KeepTransaction (end_at h.ends key)
 MayDoAlone h (desk.Comes number part way) = ⊥

@@ -1,3 +1,5 @@
+pub mod Anew
+pub mod Apart
 pub mod Asking
 pub mod Away
 pub mod Behind
@@ -13,6 +15,7 @@ pub mod Giving
 pub mod Handing
 pub mod House
 pub mod News
+pub mod Ordering
 pub mod Places
 pub mod Law
 pub mod Posts

@@ -54,6 +54,7 @@ impl Application {
     ghost use Rattle.tds_front.specs.Rules as rules;
     ghost use Rattle.tds_packet.specs.declared.status.Reset.TheVariants.{Full, KeepTransaction};
     ghost use Rattle.tds_relay.specs.Bodies.{Body, Nowhere, body_in};
+    ghost use Rattle.tds_relay.specs.Asking.{waits_in};
     ghost use Rattle.tds_relay.specs.Faults.{why_of};
     ghost use Rattle.tds_relay.specs.Fronts.{end_of, puts, withdraws};
     ghost use Rattle.tds_front.specs.Bytes.{fed, new_front};
@@ -245,6 +246,13 @@ impl Application {
         ensures { result ≡ why_of (Some (end_of self.now)) }
     {
         if self.is_over { self.fault } else { None }
+    }
+
+    /// Whether its request waits.
+    pub(crate) fn waits(&self) -> bool
+        ensures { result ≡ false → waits_in self.now.asking ≡ None }
+    {
+        matches!(self.asking, Asking::Waits { .. })
     }
 
     /// Whether bytes of its request may be put, and its end: one has begun, or is whole.

@@ -1,7 +1,9 @@
 //! Who holds which connection of a service, and whose requests wait for one.
-ghost use Rattle.std.specs.Prelude.{◌≡◌, [], ℕ, IfOk, OnOk, OnErr, length, option_copied, option_map};
+ghost use Rattle.std.specs.Prelude.{◌≡◌, [], ℕ, IfOk, OnOk, OnErr, length, option_copied, option_map, true};
 ghost use Rattle.tds_service.specs.Service.{Seat, is_open, seat_numbered};
 ghost use Rattle.tds_service.specs.Table.{place_of};
+ghost use Rattle.tds_packet.specs.declared.status.Reset.TheVariants.{Full};
+ghost use Rattle.tds_relay.specs.Anew.{Resets};
 ghost use Rattle.tds_relay.specs.Desk.{Serves, Unwaits, Waits, find_key, find_number, key_of, new_desk};
 ghost use Rattle.tds_relay.specs.Desk.{fault_on, owes_reset};
 ghost use Rattle.tds_relay.specs.Hall.{is_in};
@@ -23,7 +25,7 @@ pub use leaving::{Left, Renewed};
 use lists::{find_key, find_number, has_key, remove_key};
 use std::alloc::{AllocError, Global};
 use tds_listen::ListenFault;
-use tds_packet::PacketSize;
+use tds_packet::{PacketSize, Reset};
 use tds_service::{Place, Refusal, Service};
 use tds_wire::Features;
 
@@ -197,6 +199,32 @@ impl Desk {
         match self.service.owes_reset_on(number) {
             Some(owes) => owes,
             None => false,
+        }
+    }
+
+    /// Whether the next request on the connection of this number begins a session there.
+    fn begins_anew(&self, number: u64) -> bool
+        ensures { result ≡ true
+            → Resets Full (seat_numbered number (desk_in self.now).service.seats) }
+    {
+        match self.service.begins_anew_on(number) {
+            Some(begins) => begins,
+            None => false,
+        }
+    }
+
+    /// Whether a reset is done with the next request on the connection of this number: the session begins with
+    /// it, or the reset that keeps a transaction is asked for.
+    pub fn resets_on(&self, number: u64, reset: Reset) -> bool
+        ensures { result ≡ true
+            → Resets reset (seat_numbered number (desk_in self.now).service.seats) }
+    {
+        if self.begins_anew(number) {
+            return true;
+        }
+        match reset {
+            Reset::Full => false,
+            Reset::KeepTransaction => self.owes_reset(number),
         }
     }
 

@@ -29,6 +29,7 @@ mod places;
 mod putting;
 mod resuming;
 mod sending;
+mod starting;
 mod stopping;
 
 use crate::NoMemory;
@@ -226,6 +227,7 @@ impl Relay {
             ≡ change_end key lets_go (ends_in self.old.applications) }
         ensures links { self.new.links.items ≡ self.old.links.items }
         ensures asks { AskAsBefore self.old.applications self.new.applications }
+        ensures orders { self.new.orders.items ≡ self.old.orders.items }
     {
         match self.applications.get_mut(key) {
             Some(application) => application.let_go(),

@@ -6,8 +6,8 @@ use Rattle.tds_wire.specs.Layout.{Read, Got, Short, Wrong, ◌>>=◌, is_null}
 use Rattle.tds_wire.specs.Memory.{shape_of}
 use Rattle.tds_rows.specs.declared.place.Place.{Place}
 use Rattle.tds_rows.specs.declared.place.RowColumn.{RowColumn}
-use Rattle.tds_rows.specs.Finding.{Stands, shapes_of}
-use Rattle.tds_rows.specs.Places.{column_at, places}
+use Rattle.tds_rows.specs.Finding.{ValueFound, column_shapes}
+use Rattle.tds_rows.specs.Places.{column_value_at, values_placed}
 
 -- places before those that are read
 abbrev pub with_front : List Place → Read (List Place) → Read (List Place)
@@ -26,75 +26,75 @@ front_more front p (Wrong fault rest) = refl
 -- what was read of a column, and the others behind it
 abbrev others_behind : Bool → List ℕ → ℕ → List Shape → ℕ → List ℕ → Read Place → Read (List Place)
 others_behind with_nulls nulls i others at bytes r =
-    r >>= λ p rest. places with_nulls nulls (i + 1) others (at + (length bytes - length rest)) rest >>= λ ps more. Got (p ∷ ps) more
+    r >>= λ p rest. values_placed with_nulls nulls (i + 1) others (at + (length bytes - length rest)) rest >>= λ ps more. Got (p ∷ ps) more
 
 column_read : (with_nulls : Bool) (nulls : List ℕ) (i : ℕ) (s : Shape) (others : List Shape) (at : ℕ) (bytes : List ℕ) → (skipped : Bool) → skipped ≡ (with_nulls && is_null nulls i)
-    → places with_nulls nulls i (s ∷ others) at bytes ≡ others_behind with_nulls nulls i others at bytes (column_at skipped at s bytes)
-unfolding places
+    → values_placed with_nulls nulls i (s ∷ others) at bytes ≡ others_behind with_nulls nulls i others at bytes (column_value_at skipped at s bytes)
+unfolding values_placed
 column_read with_nulls nulls i s others at bytes skipped f = rw f refl
 
 pub value_step : (front : List Place) (with_nulls : Bool) (nulls : List ℕ) (i : ℕ) (s : Shape) (others : List Shape) (at n : ℕ) (p : Place) (bytes : List ℕ) (skipped : Bool)
-    → skipped ≡ (with_nulls && is_null nulls i) → n ≤ length bytes → column_at skipped at s bytes ≡ Got p (drop n bytes)
-    → with_front front (places with_nulls nulls i (s ∷ others) at bytes) ≡ with_front (front ++ p ∷ []) (places with_nulls nulls (i + 1) others (at + n) (drop n bytes))
+    → skipped ≡ (with_nulls && is_null nulls i) → n ≤ length bytes → column_value_at skipped at s bytes ≡ Got p (drop n bytes)
+    → with_front front (values_placed with_nulls nulls i (s ∷ others) at bytes) ≡ with_front (front ++ p ∷ []) (values_placed with_nulls nulls (i + 1) others (at + n) (drop n bytes))
 value_step front with_nulls nulls i s others at n p bytes skipped f h e =
     let k : length bytes - length (drop n bytes) ≡ n = omega (arith, length-drop n bytes, h) in
     ap (with_front front) (column_read with_nulls nulls i s others at bytes skipped f)
     ∙ (ap (λ (r : Read Place). with_front front (others_behind with_nulls nulls i others at bytes r)) e
-    ∙ (ap (λ (m : ℕ). with_front front (places with_nulls nulls (i + 1) others (at + m) (drop n bytes) >>= λ ps more. Got (p ∷ ps) more)) k
-    ∙ front_more front p (places with_nulls nulls (i + 1) others (at + n) (drop n bytes))))
+    ∙ (ap (λ (m : ℕ). with_front front (values_placed with_nulls nulls (i + 1) others (at + m) (drop n bytes) >>= λ ps more. Got (p ∷ ps) more)) k
+    ∙ front_more front p (values_placed with_nulls nulls (i + 1) others (at + n) (drop n bytes))))
 
 pub value_lacks : (front : List Place) (with_nulls : Bool) (nulls : List ℕ) (i : ℕ) (s : Shape) (others : List Shape) (at : ℕ) (bytes : List ℕ) (skipped : Bool)
-    → skipped ≡ (with_nulls && is_null nulls i) → column_at skipped at s bytes ≡ Short → with_front front (places with_nulls nulls i (s ∷ others) at bytes) ≡ Short
+    → skipped ≡ (with_nulls && is_null nulls i) → column_value_at skipped at s bytes ≡ Short → with_front front (values_placed with_nulls nulls i (s ∷ others) at bytes) ≡ Short
 value_lacks front with_nulls nulls i s others at bytes skipped f e =
     ap (with_front front) (column_read with_nulls nulls i s others at bytes skipped f)
     ∙ ap (λ (r : Read Place). with_front front (others_behind with_nulls nulls i others at bytes r)) e
 
-pub row_end : (front : List Place) (with_nulls : Bool) (nulls : List ℕ) (i at : ℕ) (bytes : List ℕ) → with_front front (places with_nulls nulls i [] at bytes) ≡ Got front bytes
-unfolding places
+pub row_end : (front : List Place) (with_nulls : Bool) (nulls : List ℕ) (i at : ℕ) (bytes : List ℕ) → with_front front (values_placed with_nulls nulls i [] at bytes) ≡ Got front bytes
+unfolding values_placed
 row_end front with_nulls nulls i at bytes = ap (λ (xs : List Place). Got xs bytes) (append-nil front)
 
 -- the shapes of the columns that are left
 pub shapes_left : (columns : List RowColumn) (i : ℕ) (d : RowColumn) → i < length columns
-    → drop i (shapes_of columns) ≡ shape_of (get_or columns i d).shape ∷ drop (i + 1) (shapes_of columns)
-unfolding shapes_of
+    → drop i (column_shapes columns) ≡ shape_of (get_or columns i d).shape ∷ drop (i + 1) (column_shapes columns)
+unfolding column_shapes
 shapes_left columns i d h =
     let f = λ (c : RowColumn). shape_of c.shape in
     drop_more (map f columns) i (f d) (omega (arith, h, length-map columns f))
     ∙ ap (λ (s : Shape). s ∷ drop (i + 1) (map f columns)) (get_or-map f columns i d (f d) h)
 
-pub shapes_over : (columns : List RowColumn) (i : ℕ) → length columns ≤ i → drop i (shapes_of columns) ≡ []
-unfolding shapes_of
+pub shapes_over : (columns : List RowColumn) (i : ℕ) → length columns ≤ i → drop i (column_shapes columns) ≡ []
+unfolding column_shapes
 shapes_over columns i h = drop_all i _ (omega (arith, h, length-map columns (λ (c : RowColumn). shape_of c.shape)))
 
-pub as_many : (columns : List RowColumn) → length (shapes_of columns) ≡ length columns
-unfolding shapes_of
+pub as_many : (columns : List RowColumn) → length (column_shapes columns) ≡ length columns
+unfolding column_shapes
 as_many columns = length-map columns (λ (c : RowColumn). shape_of c.shape)
 
 -- one column more of a row
 pub column_step : (columns : List RowColumn) (i : ℕ) (d : RowColumn) (front : List Place) (with_nulls : Bool) (nulls : List ℕ) (at n : ℕ) (p : Place) (bytes : List ℕ) (skipped : Bool)
     → i < length columns → skipped ≡ (with_nulls && is_null nulls i)
-    → (n ≤ length bytes) × (column_at skipped at (shape_of (get_or columns i d).shape) bytes ≡ Got p (drop n bytes))
-    → with_front front (places with_nulls nulls i (drop i (shapes_of columns)) at bytes)
-    ≡ with_front (front ++ p ∷ []) (places with_nulls nulls (i + 1) (drop (i + 1) (shapes_of columns)) (at + n) (drop n bytes))
+    → (n ≤ length bytes) × (column_value_at skipped at (shape_of (get_or columns i d).shape) bytes ≡ Got p (drop n bytes))
+    → with_front front (values_placed with_nulls nulls i (drop i (column_shapes columns)) at bytes)
+    ≡ with_front (front ++ p ∷ []) (values_placed with_nulls nulls (i + 1) (drop (i + 1) (column_shapes columns)) (at + n) (drop n bytes))
 column_step columns i d front with_nulls nulls at n p bytes skipped l f e =
-    ap (λ (xs : List Shape). with_front front (places with_nulls nulls i xs at bytes)) (shapes_left columns i d l)
-    ∙ value_step front with_nulls nulls i _ (drop (i + 1) (shapes_of columns)) at n p bytes skipped f e.0 e.1
+    ap (λ (xs : List Shape). with_front front (values_placed with_nulls nulls i xs at bytes)) (shapes_left columns i d l)
+    ∙ value_step front with_nulls nulls i _ (drop (i + 1) (column_shapes columns)) at n p bytes skipped f e.0 e.1
 
 pub column_lacks : (columns : List RowColumn) (i : ℕ) (d : RowColumn) (front : List Place) (with_nulls : Bool) (nulls : List ℕ) (at : ℕ) (bytes : List ℕ) (skipped : Bool)
-    → i < length columns → skipped ≡ (with_nulls && is_null nulls i) → column_at skipped at (shape_of (get_or columns i d).shape) bytes ≡ Short
-    → with_front front (places with_nulls nulls i (drop i (shapes_of columns)) at bytes) ≡ Short
+    → i < length columns → skipped ≡ (with_nulls && is_null nulls i) → column_value_at skipped at (shape_of (get_or columns i d).shape) bytes ≡ Short
+    → with_front front (values_placed with_nulls nulls i (drop i (column_shapes columns)) at bytes) ≡ Short
 column_lacks columns i d front with_nulls nulls at bytes skipped l f e =
-    ap (λ (xs : List Shape). with_front front (places with_nulls nulls i xs at bytes)) (shapes_left columns i d l)
-    ∙ value_lacks front with_nulls nulls i _ (drop (i + 1) (shapes_of columns)) at bytes skipped f e
+    ap (λ (xs : List Shape). with_front front (values_placed with_nulls nulls i xs at bytes)) (shapes_left columns i d l)
+    ∙ value_lacks front with_nulls nulls i _ (drop (i + 1) (column_shapes columns)) at bytes skipped f e
 
 -- the row is over
 pub columns_end : (columns : List RowColumn) (i : ℕ) (front : List Place) (with_nulls : Bool) (nulls : List ℕ) (at : ℕ) (bytes : List ℕ)
-    → length columns ≤ i → with_front front (places with_nulls nulls i (drop i (shapes_of columns)) at bytes) ≡ Got front bytes
+    → length columns ≤ i → with_front front (values_placed with_nulls nulls i (drop i (column_shapes columns)) at bytes) ≡ Got front bytes
 columns_end columns i front with_nulls nulls at bytes l =
-    ap (λ (xs : List Shape). with_front front (places with_nulls nulls i xs at bytes)) (shapes_over columns i l) ∙ row_end front with_nulls nulls i at bytes
+    ap (λ (xs : List Shape). with_front front (values_placed with_nulls nulls i xs at bytes)) (shapes_over columns i l) ∙ row_end front with_nulls nulls i at bytes
 
 -- the bytes from one on, as a slice has them
 pub rest_stands : (skipped : Bool) (at : ℕ) (s : Shape) (bytes : List ℕ) (i : ℕ) (found : Option (Place × ℕ))
-    → Stands (column_at skipped at s (take (length bytes - i) (drop i bytes))) (take (length bytes - i) (drop i bytes)) found
-    → Stands (column_at skipped at s (drop i bytes)) (drop i bytes) found
-rest_stands skipped at s bytes i found h = subst (λ (xs : List ℕ). Stands (column_at skipped at s xs) xs found) (take_rest bytes i) h
+    → ValueFound (column_value_at skipped at s (take (length bytes - i) (drop i bytes))) (take (length bytes - i) (drop i bytes)) found
+    → ValueFound (column_value_at skipped at s (drop i bytes)) (drop i bytes) found
+rest_stands skipped at s bytes i found h = subst (λ (xs : List ℕ). ValueFound (column_value_at skipped at s xs) xs found) (take_rest bytes i) h

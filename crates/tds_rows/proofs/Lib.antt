@@ -5,3 +5,4 @@ mod Begun
 mod Loops
 mod Metadata
 mod Laid
+mod Divided

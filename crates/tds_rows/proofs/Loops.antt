@@ -3,7 +3,7 @@ use Rattle.std.proofs.Common.{◌≡◌, ◌∙◌, ◌<◌, ℕ, zero, suc, ◌
 use Rattle.std.proofs.lemmas.List.{append-nil}
 use Rattle.tds_wire.specs.declared.features.Features.{Features}
 use Rattle.tds_wire.specs.Layout.{Read, Got, Short, Wrong, ◌>>=◌, key_values, keys_at, long_name, name, name_parts, one, run, two}
-use Rattle.tds_rows.specs.Columns.{all_described, described_at, key_at, key_value}
+use Rattle.tds_rows.specs.Columns.{all_described, described_at, column_key, key_value}
 use Rattle.tds_rows.specs.Places.{two_from}
 use Rattle.tds_rows.specs.declared.place.RowColumn.{RowColumn}
 use Rattle.tds_rows.specs.declared.place.RowFault.{RowFault}
@@ -55,7 +55,7 @@ pub key_values_over : (bytes : List ℕ) → key_values 0 bytes ≡ Got tt bytes
 unfolding key_values
 key_values_over bytes = refl
 
-pub keys_on : (n : ℕ) (bytes : List ℕ) → 0 < n → keys_at n bytes ≡ (key_at bytes >>= λ u rest. keys_at (n - 1) rest)
+pub keys_on : (n : ℕ) (bytes : List ℕ) → 0 < n → keys_at n bytes ≡ (column_key bytes >>= λ u rest. keys_at (n - 1) rest)
 unfolding keys_at
 keys_on zero bytes h = absurd (omega (arith, h))
 keys_on (suc n) bytes h =

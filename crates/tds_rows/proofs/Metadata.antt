@@ -7,7 +7,7 @@ use Rattle.tds_wire.specs.Layout.{Read, Got, Wrong, ◌>>=◌, one, two}
 use Rattle.tds_rows.specs.declared.place.RowColumn.{RowColumn}
 use Rattle.tds_rows.specs.declared.place.RowFault.{RowFault}
 use Rattle.tds_rows.specs.declared.place.RowFault.TheVariants as fault
-use Rattle.tds_rows.specs.Columns.{listed, metadata_at}
+use Rattle.tds_rows.specs.Columns.{listed_columns, metadata_at}
 use Rattle.tds_rows.specs.Finding.{Describes}
 use Rattle.tds_rows.specs.Reading.{Fails}
 use Rattle.tds_rows.proofs.Loops.{behind_one, fails_on}
@@ -21,7 +21,7 @@ no_metadata fault.NoColumns features bytes columns h = absurd h
 no_metadata fault.NoRoom features bytes columns h = absurd h
 
 abbrev behind_byte : Features → List ℕ → ℕ → List ℕ → Read (Option (List RowColumn))
-behind_byte features bytes byte rest = if byte == 0x81 then (two rest >>= λ n more. listed features (length bytes) n more) else Wrong UnknownToken rest
+behind_byte features bytes byte rest = if byte == 0x81 then (two rest >>= λ n more. listed_columns features (length bytes) n more) else Wrong UnknownToken rest
 
 pub no_byte : (e : RowFault) (features : Features) (bytes : List ℕ) → Fails e (one bytes) → Fails e (metadata_at features bytes)
 unfolding metadata_at
@@ -32,10 +32,10 @@ unfolding metadata_at
 other_byte features bytes b rest e f = ap (λ r. r >>= behind_byte features bytes) e ∙ rw f (ap (Wrong UnknownToken) (behind_one bytes b rest e))
 
 pub counted_on : (features : Features) (bytes : List ℕ) (b : ℕ) (rest : List ℕ) → one bytes ≡ Got b rest → b ≡ 0x81
-    → metadata_at features bytes ≡ (two rest >>= λ n more. listed features (length bytes) n more)
+    → metadata_at features bytes ≡ (two rest >>= λ n more. listed_columns features (length bytes) n more)
 unfolding metadata_at
 counted_on features bytes b rest e f = ap (λ r. r >>= behind_byte features bytes) e ∙ rw f refl
 
 pub listed_on : (features : Features) (bytes : List ℕ) (b n : ℕ) (rest more : List ℕ) → one bytes ≡ Got b rest → b ≡ 0x81 → two rest ≡ Got n more
-    → metadata_at features bytes ≡ listed features (length bytes) n more
-listed_on features bytes b n rest more e f g = counted_on features bytes b rest e f ∙ ap (λ r. r >>= λ n more. listed features (length bytes) n more) g
+    → metadata_at features bytes ≡ listed_columns features (length bytes) n more
+listed_on features bytes b n rest more e f g = counted_on features bytes b rest e f ∙ ap (λ r. r >>= λ n more. listed_columns features (length bytes) n more) g

@@ -7,7 +7,7 @@ use Rattle.tds_wire.specs.declared.shape.Shape.{Shape}
 use Rattle.tds_wire.specs.declared.shape.Shape.TheVariants as shape
 use Rattle.tds_wire.specs.Layout.{Read, Got, Short, ◌>>=◌, four, run, long_value, parts, value, value_in_parts}
 use Rattle.tds_rows.specs.declared.place.Place.{Place}
-use Rattle.tds_rows.specs.Places.{closing, four_from, is_absent, lead, null_mark, place_of, two_from, value_at}
+use Rattle.tds_rows.specs.Places.{value_closing, four_from, is_absent, lead, null_mark, value_place, two_from, value_at}
 use Rattle.tds_rows.proofs.Fronts.{four_got, four_short, one_got, one_short, run_behind, run_cut, run_got, run_short, two_got, two_short}
 
 -- ---- Where it stands
@@ -16,16 +16,16 @@ same_place : (p : Place) (start len null : ℕ) → p.start ≡ start → p.leng
 same_place p start len null a b c = rw (← a) (rw (← b) (rw (← c) refl))
 
 pub stands : (s : Shape) (at n : ℕ) (p : Place) (bytes : List ℕ) → n ≤ length bytes → value s bytes ≡ Got tt (drop n bytes)
-    → p.start ≡ at + lead s bytes → p.length ≡ n - (lead s bytes + closing s (is_absent s bytes)) → p.null ≡ null_mark (is_absent s bytes)
+    → p.start ≡ at + lead s bytes → p.length ≡ n - (lead s bytes + value_closing s (is_absent s bytes)) → p.null ≡ null_mark (is_absent s bytes)
     → value_at at s bytes ≡ Got p (drop n bytes)
 stands s at n p bytes h e a b c =
     let k : length bytes - length (drop n bytes) ≡ n = omega (arith, length-drop n bytes, h) in
-    ap (λ (r : Read (Unit {0})). r >>= λ u rest. Got (place_of at s bytes (length bytes - length rest)) rest) e
-    ∙ (ap (λ (m : ℕ). Got (place_of at s bytes m) (drop n bytes)) k
+    ap (λ (r : Read (Unit {0})). r >>= λ u rest. Got (value_place at s bytes (length bytes - length rest)) rest) e
+    ∙ (ap (λ (m : ℕ). Got (value_place at s bytes m) (drop n bytes)) k
     ∙ ap (λ (x : Place). Got x (drop n bytes)) (same_place p _ _ _ a b c))
 
 pub lacks : (s : Shape) (at : ℕ) (bytes : List ℕ) → value s bytes ≡ Short → value_at at s bytes ≡ Short
-lacks s at bytes e = ap (λ (r : Read (Unit {0})). r >>= λ u rest. Got (place_of at s bytes (length bytes - length rest)) rest) e
+lacks s at bytes e = ap (λ (r : Read (Unit {0})). r >>= λ u rest. Got (value_place at s bytes (length bytes - length rest)) rest) e
 
 pub marks : (b : Bool) → bool_byte b ≡ null_mark b
 marks true = refl

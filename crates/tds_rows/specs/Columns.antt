@@ -16,8 +16,8 @@ use Rattle.tds_rows.specs.Places.{four_from, two_from}
 abbrev pub key_value : List ℕ → Read (Unit {0})
 key_value bytes = two bytes >>= λ m a. run m a >>= λ u b. name b >>= λ v c. long_name c >>= λ x d. name d
 
-abbrev pub key_at : List ℕ → Read (Unit {0})
-key_at bytes = run 20 bytes >>= λ u a. one a >>= λ m b. key_values (m % 256) b
+abbrev pub column_key : List ℕ → Read (Unit {0})
+column_key bytes = run 20 bytes >>= λ u a. one a >>= λ m b. key_values (m % 256) b
 
 -- TIMEN, DATETIME2N, DATETIMEOFFSETN: behind the type stands the scale, and no size
 abbrev pub is_scaled : ℕ → Bool
@@ -73,8 +73,8 @@ collation_of info.Made bytes = no_collation
 collation_of info.Unknown bytes = no_collation
 
 -- a column of this type, whose name has so many units, before so many bytes of a token of so many
-abbrev pub described : ℕ → ℕ → ℕ → List ℕ → Shape → ℕ → ℕ → RowColumn
-described user flags kind bytes s start count = record {
+abbrev pub described_column : ℕ → ℕ → ℕ → List ℕ → Shape → ℕ → ℕ → RowColumn
+described_column user flags kind bytes s start count = record {
   name_start = start;
   name_length = 2 * count;
   size = size_of kind (type_of kind) bytes;
@@ -88,8 +88,8 @@ described user flags kind bytes s start count = record {
 }
 
 -- behind a column's type up to its name: how many units that has
-unfoldable pub units_at : Shape → Bool → List ℕ → Read ℕ
-units_at s ciphered bytes = table_at s bytes >>= λ u a. cipher_if ciphered 2 a >>= λ v b. one b
+unfoldable pub name_units : Shape → Bool → List ℕ → Read ℕ
+name_units s ciphered bytes = table_at s bytes >>= λ u a. cipher_if ciphered 2 a >>= λ v b. one b
 
 -- the user's type, the flags and the type's byte
 abbrev pub head_at : List ℕ → Read (ℕ × ℕ × ℕ)
@@ -97,20 +97,20 @@ head_at bytes = four bytes >>= λ user a. two a >>= λ flags b. one b >>= λ kin
 
 -- a column, of a token of so many bytes
 unfoldable pub described_at : Features → ℕ → List ℕ → Read RowColumn
-described_at features size bytes = head_at bytes >>= λ h c. info_at (type_of h.2) c >>= λ s d. units_at s (is_ciphered features h.1) d >>= λ n e.
-    run (2 * n) e >>= λ u rest. Got (described h.0 h.1 h.2 c s (size - length e) n) rest
+described_at features size bytes = head_at bytes >>= λ h c. info_at (type_of h.2) c >>= λ s d. name_units s (is_ciphered features h.1) d >>= λ n e.
+    run (2 * n) e >>= λ u rest. Got (described_column h.0 h.1 h.2 c s (size - length e) n) rest
 
 unfoldable pub all_described : Features → ℕ → ℕ → List ℕ → Read (List RowColumn)
 all_described features size zero bytes = Got [] bytes
 all_described features size (suc n) bytes = described_at features size bytes >>= λ c rest. all_described features size n rest >>= λ cs more. Got (c ∷ cs) more
 
 -- what a COLMETADATA describes: nothing where the count is 65,535
-unfoldable pub listed : Features → ℕ → ℕ → List ℕ → Read (Option (List RowColumn))
-listed features size n bytes =
+unfoldable pub listed_columns : Features → ℕ → ℕ → List ℕ → Read (Option (List RowColumn))
+listed_columns features size n bytes =
     if n == 65535 then Got None bytes
     else (key_table features.encryption bytes >>= λ u rest. all_described features size n rest >>= λ cs more. Got (Some cs) more)
 
 -- the COLMETADATA that bytes begin with
 unfoldable pub metadata_at : Features → List ℕ → Read (Option (List RowColumn))
 metadata_at features bytes = one bytes >>= λ byte rest.
-    if byte == 0x81 then (two rest >>= λ n more. listed features (length bytes) n more) else Wrong UnknownToken rest
+    if byte == 0x81 then (two rest >>= λ n more. listed_columns features (length bytes) n more) else Wrong UnknownToken rest

@@ -11,19 +11,19 @@ use Rattle.tds_rows.specs.declared.place.RowColumn.{RowColumn}
 use Rattle.tds_rows.specs.declared.place.RowFault.{RowFault}
 use Rattle.tds_rows.specs.declared.place.RowFault.TheVariants as fault
 use Rattle.tds_rows.specs.Columns.{metadata_at}
-use Rattle.tds_rows.specs.Places.{row_at, two_from}
+use Rattle.tds_rows.specs.Places.{placed_row, two_from}
 
 -- ---- A value
 
 -- a value of so many bytes, at this place, or the bytes end first
-abbrev pub Stands : Read Place → List ℕ → Option (Place × ℕ) → Type 0
-Stands read bytes (Some found) = (found.1 ≤ length bytes) × (read ≡ Got found.0 (drop found.1 bytes))
-Stands read bytes None = read ≡ Short
+abbrev pub ValueFound : Read Place → List ℕ → Option (Place × ℕ) → Type 0
+ValueFound read bytes (Some found) = (found.1 ≤ length bytes) × (read ≡ Got found.0 (drop found.1 bytes))
+ValueFound read bytes None = read ≡ Short
 
 -- so many bytes are passed, or the bytes end first
-abbrev pub Ends : {A : Type 0} → A → Read A → List ℕ → Option ℕ → Type 0
-Ends x read bytes (Some n) = (n ≤ length bytes) × (read ≡ Got x (drop n bytes))
-Ends x read bytes None = read ≡ Short
+abbrev pub EndsAfter : {A : Type 0} → A → Read A → List ℕ → Option ℕ → Type 0
+EndsAfter x read bytes (Some n) = (n ≤ length bytes) × (read ≡ Got x (drop n bytes))
+EndsAfter x read bytes None = read ≡ Short
 
 -- ---- A row
 
@@ -31,17 +31,17 @@ Ends x read bytes None = read ≡ Short
 abbrev pub IsKind : ℕ → List ℕ → Type 0
 IsKind kind bytes = (0 < length bytes) × (get_or bytes 0 0 ≡ kind)
 
-unfoldable pub shapes_of : List RowColumn → List Shape
-shapes_of columns = map (λ (c : RowColumn). shape_of c.shape) columns
+unfoldable pub column_shapes : List RowColumn → List Shape
+column_shapes columns = map (λ (c : RowColumn). shape_of c.shape) columns
 
 -- the values of all columns, and how many bytes the row has; or why there is no such row
-abbrev pub Finds : Result ℕ RowFault → List Shape → List ℕ → List Place → Type 0
-Finds (Ok n) shapes bytes places = (n ≤ length bytes) × (row_at shapes bytes ≡ Got (take (length shapes) places) (drop n bytes))
-Finds (Err fault.Short) shapes bytes places = row_at shapes bytes ≡ Short
-Finds (Err fault.OtherToken) shapes bytes places = row_at shapes bytes ≡ Wrong wire.UnknownToken (drop 1 bytes)
-Finds (Err fault.NoColumns) shapes bytes places = row_at shapes bytes ≡ Wrong wire.NoColumns (drop 1 bytes)
-Finds (Err fault.UnknownType) shapes bytes places = ⊥
-Finds (Err fault.NoRoom) shapes bytes places = length places < length shapes
+abbrev pub PlacesFound : Result ℕ RowFault → List Shape → List ℕ → List Place → Type 0
+PlacesFound (Ok n) shapes bytes places = (n ≤ length bytes) × (placed_row shapes bytes ≡ Got (take (length shapes) places) (drop n bytes))
+PlacesFound (Err fault.Short) shapes bytes places = placed_row shapes bytes ≡ Short
+PlacesFound (Err fault.OtherToken) shapes bytes places = placed_row shapes bytes ≡ Wrong wire.UnknownToken (drop 1 bytes)
+PlacesFound (Err fault.NoColumns) shapes bytes places = placed_row shapes bytes ≡ Wrong wire.NoColumns (drop 1 bytes)
+PlacesFound (Err fault.UnknownType) shapes bytes places = ⊥
+PlacesFound (Err fault.NoRoom) shapes bytes places = length places < length shapes
 
 -- ---- Columns
 

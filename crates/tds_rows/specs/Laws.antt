@@ -1,12 +1,42 @@
 -- How rows stand beside the layout of tds_wire.
-use Rattle.std.specs.Prelude.{ℕ, ◌==◌, ◌||◌, Bool, List}
-use Rattle.tds_wire.specs.Layout.{Read, Got, ◌>>=◌, Seen}
+use Rattle.std.specs.Prelude.{◌≡◌, ◌≤◌, ℕ, ◌+◌, ◌/◌, ◌==◌, ◌&&◌, ◌||◌, Bool, true, false, List, [], ◌∷◌, drop, get_or, length, take}
+use Rattle.tds_wire.specs.declared.shape.Shape.{Shape}
+use Rattle.tds_wire.specs.Layout.{Read, Got, ◌>>=◌, Seen, is_null}
 use Rattle.tds_rows.specs.declared.place.Place.{Place}
+use Rattle.tds_rows.specs.Places.{value_closing, is_absent, lead}
 
 -- the first byte of a ROW, or of an NBCROW
-abbrev pub is_row : ℕ → Bool
-is_row byte = (byte == 0xD1) || (byte == 0xD2)
+abbrev pub begins_row : ℕ → Bool
+begins_row byte = (byte == 0xD1) || (byte == 0xD2)
 
 -- a row whose values were found, as the layout passes it
 abbrev pub passed_as : Seen → Read (List Place) → Read Seen
 passed_as s r = r >>= λ ps rest. Got s rest
+
+-- where a value's own bytes begin, and how many bytes belong to it: its prefix, its own bytes and what closes it; none where a null bitmap
+-- leaves it out
+abbrev pub start_of : Bool → ℕ → Shape → List ℕ → ℕ
+start_of true at s bytes = at
+start_of false at s bytes = at + lead s bytes
+
+abbrev pub extent : Bool → Shape → List ℕ → Place → ℕ
+extent true s bytes p = p.length
+extent false s bytes p = lead s bytes + (p.length + value_closing s (is_absent s bytes))
+
+-- the places of values divide bytes, from this one of a row on up to those that are left
+unfoldable pub Divides : Bool → List ℕ → ℕ → List Shape → ℕ → List ℕ → List Place → List ℕ → Type 0
+Divides with_nulls nulls i [] at bytes [] rest = bytes ≡ rest
+Divides with_nulls nulls i (s ∷ shapes) at bytes (p ∷ ps) rest =
+    (p.start ≡ start_of (with_nulls && is_null nulls i) at s bytes) × (extent (with_nulls && is_null nulls i) s bytes p ≤ length bytes)
+    × Divides with_nulls nulls (i + 1) shapes (at + extent (with_nulls && is_null nulls i) s bytes p) (drop (extent (with_nulls && is_null nulls i) s bytes p) bytes) ps rest
+Divides with_nulls nulls i [] at bytes (p ∷ ps) rest = ⊥
+Divides with_nulls nulls i (s ∷ shapes) at bytes [] rest = ⊥
+
+-- The places divide a row behind its first byte, and an NBCROW behind its null bitmap.
+abbrev pub DividesBehind : Bool → List Shape → List ℕ → List Place → List ℕ → Type 0
+DividesBehind false shapes bytes found rest = Divides false [] 0 shapes 1 (drop 1 bytes) found rest
+DividesBehind true shapes bytes found rest =
+    Divides true (take ((length shapes + 7) / 8) (drop 1 bytes)) 0 shapes (1 + (length shapes + 7) / 8) (drop (1 + (length shapes + 7) / 8) bytes) found rest
+
+abbrev pub DividesRow : List Shape → List ℕ → List Place → List ℕ → Type 0
+DividesRow shapes bytes found rest = DividesBehind (get_or bytes 0 0 == 0xD2) shapes bytes found rest

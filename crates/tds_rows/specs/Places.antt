@@ -35,53 +35,53 @@ is_absent shape.Pointer bytes = (get_or bytes 0 0 == 0) || (four_from (get_or by
 is_absent shape.Parts bytes = (four_from 0 bytes == 4294967295) && (four_from 4 bytes == 4294967295)
 
 -- the empty part behind a value in parts
-abbrev pub closing : Shape → Bool → ℕ
-closing (shape.Fixed n) absent = 0
-closing shape.Byte absent = 0
-closing shape.Short absent = 0
-closing shape.Long absent = 0
-closing shape.Pointer absent = 0
-closing shape.Parts absent = if absent then 0 else 4
+abbrev pub value_closing : Shape → Bool → ℕ
+value_closing (shape.Fixed n) absent = 0
+value_closing shape.Byte absent = 0
+value_closing shape.Short absent = 0
+value_closing shape.Long absent = 0
+value_closing shape.Pointer absent = 0
+value_closing shape.Parts absent = if absent then 0 else 4
 
 abbrev pub null_mark : Bool → ℕ
 null_mark absent = if absent then 1 else 0
 
 -- the place of a value of which the layout passes so many of these bytes
-abbrev pub place_of : ℕ → Shape → List ℕ → ℕ → Place
-place_of at s bytes passed = record {
+abbrev pub value_place : ℕ → Shape → List ℕ → ℕ → Place
+value_place at s bytes passed = record {
   start = at + lead s bytes;
-  length = passed - (lead s bytes + closing s (is_absent s bytes));
+  length = passed - (lead s bytes + value_closing s (is_absent s bytes));
   null = null_mark (is_absent s bytes);
 }
 
 -- a value that begins here in its row
 abbrev pub value_at : ℕ → Shape → List ℕ → Read Place
-value_at at s bytes = value s bytes >>= λ u rest. Got (place_of at s bytes (length bytes - length rest)) rest
+value_at at s bytes = value s bytes >>= λ u rest. Got (value_place at s bytes (length bytes - length rest)) rest
 
 -- one whose bit is set in a null bitmap has no bytes
 abbrev pub no_value : ℕ → Place
 no_value at = record { start = at; length = 0; null = 1 }
 
-abbrev pub column_at : Bool → ℕ → Shape → List ℕ → Read Place
-column_at true at s bytes = Got (no_value at) bytes
-column_at false at s bytes = value_at at s bytes
+abbrev pub column_value_at : Bool → ℕ → Shape → List ℕ → Read Place
+column_value_at true at s bytes = Got (no_value at) bytes
+column_value_at false at s bytes = value_at at s bytes
 
 -- the values of a row from this column on
-unfoldable pub places : Bool → List ℕ → ℕ → List Shape → ℕ → List ℕ → Read (List Place)
-places with_nulls nulls i [] at bytes = Got [] bytes
-places with_nulls nulls i (s ∷ others) at bytes = column_at (with_nulls && is_null nulls i) at s bytes >>= λ p rest.
-    places with_nulls nulls (i + 1) others (at + (length bytes - length rest)) rest >>= λ ps more. Got (p ∷ ps) more
+unfoldable pub values_placed : Bool → List ℕ → ℕ → List Shape → ℕ → List ℕ → Read (List Place)
+values_placed with_nulls nulls i [] at bytes = Got [] bytes
+values_placed with_nulls nulls i (s ∷ others) at bytes = column_value_at (with_nulls && is_null nulls i) at s bytes >>= λ p rest.
+    values_placed with_nulls nulls (i + 1) others (at + (length bytes - length rest)) rest >>= λ ps more. Got (p ∷ ps) more
 
 -- behind the first byte of a ROW, and of an NBCROW
 abbrev pub row_behind : List Shape → List ℕ → Read (List Place)
-row_behind shapes bytes = places false [] 0 shapes 1 bytes
+row_behind shapes bytes = values_placed false [] 0 shapes 1 bytes
 
 abbrev pub null_row_behind : List Shape → List ℕ → Read (List Place)
-null_row_behind shapes bytes = bitmap ((length shapes + 7) / 8) [] bytes >>= λ bits rest. places true bits 0 shapes (1 + (length shapes + 7) / 8) rest
+null_row_behind shapes bytes = bitmap ((length shapes + 7) / 8) [] bytes >>= λ bits rest. values_placed true bits 0 shapes (1 + (length shapes + 7) / 8) rest
 
 -- the values of the row that bytes begin with
-unfoldable pub row_at : List Shape → List ℕ → Read (List Place)
-row_at shapes bytes = one bytes >>= λ byte rest.
+unfoldable pub placed_row : List Shape → List ℕ → Read (List Place)
+placed_row shapes bytes = one bytes >>= λ byte rest.
     if byte == 0xD1 then (if length shapes == 0 then Wrong NoColumns rest else row_behind shapes rest)
     else if byte == 0xD2 then (if length shapes == 0 then Wrong NoColumns rest else null_row_behind shapes rest)
     else Wrong UnknownToken rest

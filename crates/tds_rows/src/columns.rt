@@ -1,7 +1,7 @@
 //! The columns of a COLMETADATA (MS-TDS 2.2.7.4).
 
 ghost use Rattle.std.specs.Prelude.{◌≡◌, ◌≢◌, ◌≤◌, ◌<◌, ◌+◌, ◌*◌, ◌-◌, ◌==◌, false, get_or, length, take, true};
-ghost use Rattle.tds_rows.specs.Columns.{all_described, collation_of, described, described_at, five_from, head_at, is_scaled, listed, precision_of, scale_of, size_of, units_at};
+ghost use Rattle.tds_rows.specs.Columns.{all_described, collation_of, described_column, described_at, five_from, head_at, is_scaled, listed_columns, precision_of, scale_of, size_of, name_units};
 ghost use Rattle.tds_rows.specs.Finding.{Describes, written};
 ghost use Rattle.tds_rows.specs.Kinds.{info_of};
 ghost use Rattle.tds_rows.specs.Places.{four_from, two_from};
@@ -147,7 +147,7 @@ fn column_of(shape: Shape) -> Column
 
 /// A column of this type: its name stands here, and has so many units.
 fn column(head: (u32, u16, u8), info: &[u8], shape: Shape, start: u64, units: u8) -> RowColumn
-    ensures { result ≡ described head.0 head.1 head.2 info.now shape start units }
+    ensures { result ≡ described_column head.0 head.1 head.2 info.now shape start units }
 {
     let (user_type, flags, byte) = head;
     let kind = kind_of(byte);
@@ -166,9 +166,9 @@ fn column(head: (u32, u16, u8), info: &[u8], shape: Shape, start: u64, units: u8
 }
 
 /// How many units a column's name has, behind its type.
-#[tactic(auto, unfolding(crate::specs::Columns::units_at))]
-fn units_at(shape: Shape, ciphered: bool, bytes: &[u8]) -> Result<(u8, &[u8]), RowFault>
-    ensures { Gives (λ x. x.0) (λ x. x.1.now) result (units_at shape ciphered bytes.now) }
+#[tactic(auto, unfolding(crate::specs::Columns::name_units))]
+fn name_units(shape: Shape, ciphered: bool, bytes: &[u8]) -> Result<(u8, &[u8]), RowFault>
+    ensures { Gives (λ x. x.0) (λ x. x.1.now) result (name_units shape ciphered bytes.now) }
 {
     let rest = table(shape, bytes)?;
     let rest = cipher_if(ciphered, rest)?;
@@ -203,7 +203,7 @@ fn described_at(
 {
     let (head, info) = head_at(bytes)?;
     let (shape, rest) = shape_at(kind_of(head.2), info)?;
-    let (units, rest) = units_at(shape, is_ciphered(features, head.1), rest)?;
+    let (units, rest) = name_units(shape, is_ciphered(features, head.1), rest)?;
     let start = size.saturating_sub(rest.len()) as u64;
     let rest = pass(rest, 2 * usize::from(units))?;
     Ok((column(head, info, shape, start, units), rest))
@@ -238,8 +238,8 @@ fn all_described<'a>(
 }
 
 /// What a COLMETADATA describes behind its count, to the front of `columns`.
-#[tactic(auto, unfolding(crate::specs::Columns::listed))]
-fn listed<'a>(
+#[tactic(auto, unfolding(crate::specs::Columns::listed_columns))]
+fn listed_columns<'a>(
     features: Features,
     size: usize,
     count: u16,
@@ -248,7 +248,7 @@ fn listed<'a>(
 ) -> Result<(Option<usize>, &'a [u8]), RowFault>
     requires { count ≢ 65535 → count ≤ length columns.old }
     ensures exact { Gives (λ x. written x.0 columns.new) (λ x. x.1.now) result
-        (listed features size count bytes.now) }
+        (listed_columns features size count bytes.now) }
     ensures room { length columns.new ≡ length columns.old }
 {
     if count == 65_535 {
@@ -295,7 +295,7 @@ pub fn columns_of(
     if lacks_room(count, columns.len()) {
         return Err(RowFault::NoRoom);
     }
-    match listed(features, bytes.len(), count, rest, columns) {
+    match listed_columns(features, bytes.len(), count, rest, columns) {
         Ok((count, rest)) => Ok(Described {
             count,
             length: bytes.len().saturating_sub(rest.len()),

@@ -1,7 +1,7 @@
 //! What is passed before columns and inside them: tables of keys, crypto metadata, names of tables (MS-TDS 2.2.7.4).
 
 ghost use Rattle.std.specs.Prelude.{◌≡◌};
-ghost use Rattle.tds_rows.specs.Columns.{key_at, key_value};
+ghost use Rattle.tds_rows.specs.Columns.{column_key, key_value};
 ghost use Rattle.tds_rows.specs.Reading.{Gives};
 ghost use Rattle.tds_wire.specs.Layout.{cipher_at, cipher_if, key_table, key_values, keys_at, table_at};
 ghost use Rattle.tds_wire.specs.declared.shape.Shape.TheVariants as shapes;
@@ -39,7 +39,7 @@ fn key_values(bytes: &[u8], count: u8) -> Result<&[u8], RowFault>
 
 /// Database, number, versions, and the values.
 fn key(bytes: &[u8]) -> Result<&[u8], RowFault>
-    ensures { Gives (λ _. tt) (λ rest. rest.now) result (key_at bytes.now) }
+    ensures { Gives (λ _. tt) (λ rest. rest.now) result (column_key bytes.now) }
 {
     let rest = pass(bytes, 20)?;
     let (count, rest) = one(rest)?;

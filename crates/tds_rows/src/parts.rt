@@ -1,7 +1,7 @@
 //! Values in parts (MS-TDS 2.2.5.2.3).
 
 ghost use Rattle.std.specs.Prelude.{◌≡◌, ◌≤◌, IfSome, length};
-ghost use Rattle.tds_rows.specs.Finding.{Ends};
+ghost use Rattle.tds_rows.specs.Finding.{EndsAfter};
 ghost use Rattle.tds_rows.specs.Places.{is_absent};
 ghost use Rattle.tds_wire.specs.Layout.{parts};
 ghost use Rattle.tds_wire.specs.declared.shape.Shape.TheVariants as shapes;
@@ -21,7 +21,7 @@ pub(crate) fn is_absent(bytes: &[u8]) -> bool
 /// bytes end first.
 #[inline(never)]
 pub(crate) fn parts_length(bytes: &[u8]) -> Option<usize>
-    ensures exact { Ends tt (parts (length bytes.now) bytes.now) bytes.now result }
+    ensures exact { EndsAfter tt (parts (length bytes.now) bytes.now) bytes.now result }
     ensures closed { IfSome result (λ n. 4 ≤ n) }
 {
     let mut done = 0usize;

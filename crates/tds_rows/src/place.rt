@@ -1,6 +1,6 @@
 //! What a reader of rows answers.
 ghost use Rattle.std.specs.Prelude.{◌≡◌};
-ghost use Rattle.tds_rows.specs.Faults.{fault_number};
+ghost use Rattle.tds_rows.specs.Faults.{row_fault_number};
 
 use tds_wire::Column;
 
@@ -63,7 +63,7 @@ pub enum RowFault {
 impl RowFault {
     /// Its number.
     pub fn number(self) -> u8
-        ensures { result ≡ fault_number self }
+        ensures { result ≡ row_fault_number self }
     {
         match self {
             RowFault::Short => 1,

@@ -1,8 +1,9 @@
 //! The values of a row.
 
-ghost use Rattle.std.specs.Prelude.{◌≡◌, ◌≤◌, ◌<◌, ◌+◌, ◌*◌, ◌&&◌, Err, drop, length, take, true};
-ghost use Rattle.tds_rows.specs.Finding.{Ends, Finds, IsKind, shapes_of};
-ghost use Rattle.tds_rows.specs.Places.{places as places_of};
+ghost use Rattle.std.specs.Prelude.{◌≡◌, ◌≤◌, ◌<◌, ◌+◌, ◌*◌, ◌&&◌, Err, IfOk, drop, false, length, take, true};
+ghost use Rattle.tds_rows.specs.Finding.{EndsAfter, PlacesFound, IsKind, column_shapes};
+ghost use Rattle.tds_rows.specs.Laws.{DividesBehind, DividesRow};
+ghost use Rattle.tds_rows.specs.Places.{values_placed as places_of};
 ghost use Rattle.tds_rows.specs.declared.place.RowFault.TheVariants as faults;
 ghost use Rattle.tds_wire.specs.Layout.{is_null};
 
@@ -45,8 +46,8 @@ fn places_from(
     requires room { length columns.now ≤ length places.old }
     requires start { start ≤ length bytes.now }
     requires nulls { with_nulls ≡ true → length columns.now ≤ 8 * length nulls.now }
-    ensures exact { Ends (take (length columns.now) places.new)
-        (places_of with_nulls nulls.now 0 (shapes_of columns.now) start (drop start bytes.now))
+    ensures exact { EndsAfter (take (length columns.now) places.new)
+        (places_of with_nulls nulls.now 0 (column_shapes columns.now) start (drop start bytes.now))
         bytes.now result }
     ensures room { length places.new ≡ length places.old }
     ensures others { drop (length columns.now) places.new
@@ -72,7 +73,9 @@ fn places_from(
 fn plain_row(columns: &[RowColumn], bytes: &[u8], places: &mut [Place]) -> Result<usize, RowFault>
     requires room { length columns.now ≤ length places.old }
     requires kind { IsKind 0xD1 bytes.now }
-    ensures exact { Finds result (shapes_of columns.now) bytes.now places.new }
+    ensures exact { PlacesFound result (column_shapes columns.now) bytes.now places.new }
+    ensures divided { IfOk result (λ n. DividesBehind false (column_shapes columns.now) bytes.now
+        (take (length columns.now) places.new) (drop n bytes.now)) }
     ensures room { length places.new ≡ length places.old }
     ensures others { drop (length columns.now) places.new
         ≡ drop (length columns.now) places.old }
@@ -91,7 +94,9 @@ fn plain_row(columns: &[RowColumn], bytes: &[u8], places: &mut [Place]) -> Resul
 fn null_row(columns: &[RowColumn], bytes: &[u8], places: &mut [Place]) -> Result<usize, RowFault>
     requires room { length columns.now ≤ length places.old }
     requires kind { IsKind 0xD2 bytes.now }
-    ensures exact { Finds result (shapes_of columns.now) bytes.now places.new }
+    ensures exact { PlacesFound result (column_shapes columns.now) bytes.now places.new }
+    ensures divided { IfOk result (λ n. DividesBehind true (column_shapes columns.now) bytes.now
+        (take (length columns.now) places.new) (drop n bytes.now)) }
     ensures room { length places.new ≡ length places.old }
     ensures others { drop (length columns.now) places.new
         ≡ drop (length columns.now) places.old }
@@ -127,7 +132,10 @@ pub fn row_places(
     bytes: &[u8],
     places: &mut [Place],
 ) -> Result<usize, RowFault>
-    ensures exact { Finds result (shapes_of columns.now) bytes.now places.new }
+    ensures exact { PlacesFound result (column_shapes columns.now) bytes.now places.new }
+    // They divide it: a value's prefix, its own bytes, what closes it; then the next value's.
+    ensures divided { IfOk result (λ n. DividesRow (column_shapes columns.now) bytes.now
+        (take (length columns.now) places.new) (drop n bytes.now)) }
     ensures room { length places.old < length columns.now → result ≡ Err faults.NoRoom }
     // There are as many as before, and those behind the columns stay.
     ensures length { length places.new ≡ length places.old }

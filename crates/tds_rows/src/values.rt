@@ -1,8 +1,8 @@
 //! The value that bytes begin with: where its own bytes stand, and how many it has with its prefix.
 
 ghost use Rattle.std.specs.Prelude.{◌≡◌, ◌≤◌, ◌<◌, ◌+◌, length};
-ghost use Rattle.tds_rows.specs.Finding.{Stands};
-ghost use Rattle.tds_rows.specs.Places.{column_at, value_at};
+ghost use Rattle.tds_rows.specs.Finding.{ValueFound};
+ghost use Rattle.tds_rows.specs.Places.{column_value_at, value_at};
 ghost use Rattle.tds_wire.specs.Memory.{shape_of};
 ghost use Rattle.tds_wire.specs.declared.shape.Shape.TheVariants as shapes;
 
@@ -19,7 +19,7 @@ type Value = Option<(Place, usize)>;
 #[inline(always)]
 fn fixed_value(count: u8, at: usize, bytes: &[u8]) -> Value
     requires { at + length bytes.now < 18446744073709551616 }
-    ensures { Stands (value_at at (shapes.Fixed count) bytes.now) bytes.now result }
+    ensures { ValueFound (value_at at (shapes.Fixed count) bytes.now) bytes.now result }
 {
     let length = usize::from(count);
     if bytes.len() < length {
@@ -37,7 +37,7 @@ fn fixed_value(count: u8, at: usize, bytes: &[u8]) -> Value
 #[inline(always)]
 fn byte_value(at: usize, bytes: &[u8]) -> Value
     requires { at + length bytes.now < 18446744073709551616 }
-    ensures { Stands (value_at at shapes.Byte bytes.now) bytes.now result }
+    ensures { ValueFound (value_at at shapes.Byte bytes.now) bytes.now result }
 {
     if bytes.is_empty() {
         return None;
@@ -58,7 +58,7 @@ fn byte_value(at: usize, bytes: &[u8]) -> Value
 #[inline(always)]
 fn short_value(at: usize, bytes: &[u8]) -> Value
     requires { at + length bytes.now < 18446744073709551616 }
-    ensures { Stands (value_at at shapes.Short bytes.now) bytes.now result }
+    ensures { ValueFound (value_at at shapes.Short bytes.now) bytes.now result }
 {
     if bytes.len() < 2 {
         return None;
@@ -90,7 +90,7 @@ fn short_value(at: usize, bytes: &[u8]) -> Value
 #[inline(always)]
 fn long_value(at: usize, bytes: &[u8]) -> Value
     requires { at + length bytes.now < 18446744073709551616 }
-    ensures { Stands (value_at at shapes.Long bytes.now) bytes.now result }
+    ensures { ValueFound (value_at at shapes.Long bytes.now) bytes.now result }
 {
     if bytes.len() < 4 {
         return None;
@@ -122,7 +122,7 @@ fn long_value(at: usize, bytes: &[u8]) -> Value
 #[inline(always)]
 fn pointer_value(at: usize, bytes: &[u8]) -> Value
     requires { at + length bytes.now < 18446744073709551616 }
-    ensures { Stands (value_at at shapes.Pointer bytes.now) bytes.now result }
+    ensures { ValueFound (value_at at shapes.Pointer bytes.now) bytes.now result }
 {
     if bytes.is_empty() {
         return None;
@@ -169,7 +169,7 @@ fn pointer_value(at: usize, bytes: &[u8]) -> Value
 #[inline(always)]
 fn value_in_parts(at: usize, bytes: &[u8]) -> Value
     requires { at + length bytes.now < 18446744073709551616 }
-    ensures { Stands (value_at at shapes.Parts bytes.now) bytes.now result }
+    ensures { ValueFound (value_at at shapes.Parts bytes.now) bytes.now result }
 {
     if bytes.len() < 8 {
         return None;
@@ -201,7 +201,7 @@ fn value_in_parts(at: usize, bytes: &[u8]) -> Value
 #[tactic(auto, unfolding(tds_wire::specs::Memory::shape_of))]
 fn value_of(column: Column, at: usize, bytes: &[u8]) -> Value
     requires { at + length bytes.now < 18446744073709551616 }
-    ensures { Stands (value_at at (shape_of column) bytes.now) bytes.now result }
+    ensures { ValueFound (value_at at (shape_of column) bytes.now) bytes.now result }
 {
     match column.form {
         0 => fixed_value(column.bytes, at, bytes),
@@ -217,7 +217,7 @@ fn value_of(column: Column, at: usize, bytes: &[u8]) -> Value
 #[inline(always)]
 pub(crate) fn column_value(skipped: bool, column: Column, at: usize, bytes: &[u8]) -> Value
     requires { at + length bytes.now < 18446744073709551616 }
-    ensures { Stands (column_at skipped at (shape_of column) bytes.now) bytes.now result }
+    ensures { ValueFound (column_value_at skipped at (shape_of column) bytes.now) bytes.now result }
 {
     if skipped {
         let place = Place {

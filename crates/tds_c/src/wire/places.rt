@@ -3,7 +3,7 @@
 ghost use Rattle.std.specs.Prelude.{◌≡◌, ◌<◌, ℕ, Err, Result, drop, false, length};
 ghost use Rattle.tds_c.specs.Places.{TellsColumns, TellsRow};
 ghost use Rattle.tds_walk.specs.Wire.{truth};
-ghost use Rattle.tds_rows.specs.Finding.{Describes, Finds, shapes_of};
+ghost use Rattle.tds_rows.specs.Finding.{Describes, PlacesFound, column_shapes};
 ghost use Rattle.tds_rows.specs.declared.place.Described.{Described as AnyDescribed};
 ghost use Rattle.tds_rows.specs.declared.place.RowFault.{RowFault as AnyFault};
 ghost use Rattle.tds_rows.specs.declared.place.RowFault.TheVariants as faults;
@@ -84,7 +84,7 @@ pub extern "C" fn tds_row_places(
     taken: &mut usize,
 ) -> u8
     ensures { (found : Result ℕ AnyFault) × TellsRow found result taken.new
-        × Finds found (shapes_of columns.now) bytes.now places.new
+        × PlacesFound found (column_shapes columns.now) bytes.now places.new
         × (length places.old < length columns.now → found ≡ Err faults.NoRoom)
         × (length places.new ≡ length places.old)
         × (drop (length columns.now) places.new ≡ drop (length columns.now) places.old) }

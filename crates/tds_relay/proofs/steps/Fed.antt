@@ -93,11 +93,11 @@ set_twice before now key end was by there is =
     ∙ ap (λ (o : Option End). slice_set before key (option_map (λ (e : End). by end) o)) there
 
 -- what had gone on of its request is taken back
-pub taken_back_is : (key : ℕ) (d d1 : Desk) (before now behind : Ends) (bytes out out1 : List ℕ) → IsFed key before now bytes (said.Forget true) → Turns (desk.Does key desk.Stops) d d1 out out1
-    → behind ≡ change_end key withdraws now → moved (hall_of_ends d before) (Feeds key bytes) ≡ hall_of_ends d1 behind
-taken_back_is key d d1 before now behind bytes out out1 f t is =
+pub taken_back_at : (key : ℕ) (d : Desk) (before now behind : Ends) (bytes : List ℕ) → IsFed key before now bytes (said.Forget true) → behind ≡ change_end key withdraws now
+    → moved (hall_of_ends d before) (Feeds key bytes) ≡ hall_of_ends (turn d (desk.Does key desk.Stops)).desk behind
+taken_back_at key d before now behind bytes f is =
     hall_fed key d before now bytes (said.Forget true) true refl f
-    ∙ same_hall (turn d (desk.Does key desk.Stops)).desk d1 (slice_set before key (Some (Open (fed f.front bytes).front true None))) behind t.desk_is
+    ∙ same_hall (turn d (desk.Does key desk.Stops)).desk (turn d (desk.Does key desk.Stops)).desk (slice_set before key (Some (Open (fed f.front bytes).front true None))) behind refl
     (is ∙ set_twice before now key (Open (fed f.front bytes).front f.withdrawn None) (Open f.front f.withdrawn f.asks) withdraws f.was f.is)
 
 -- they are none of a client's, and it is closed by them

@@ -1,5 +1,5 @@
 -- How the ends of applications move.
-use Rattle.std.proofs.Common.{◌≡◌, ◌∙◌, ◌++◌, ℕ, zero, suc, Bool, true, false, List, [], ◌∷◌, Option, Some, None, inl, refl, sym, ap, subst, slice_set, option_map}
+use Rattle.std.proofs.Common.{◌≡◌, ◌∙◌, ◌++◌, ℕ, zero, suc, Bool, true, false, List, [], ◌∷◌, Option, Some, None, inl, refl, sym, ap, subst, slice_set, option_map, if◌then◌else◌}
 use Rattle.std.proofs.lemmas.List.{set-get_or}
 use Rattle.slab.specs.Slab.{Slab, Updates, get, with_value}
 use Rattle.std.specs.Prelude.{Result, Ok, Err, OnOk, OnSome, IfNone}
@@ -12,14 +12,17 @@ use Rattle.tds_front.specs.declared.fault.FrontFault.{FrontFault}
 use Rattle.tds_wire.specs.declared.told.Token.{Token}
 use Rattle.tds_service.specs.History.{Done}
 use Rattle.tds_service.specs.Line.{Answer}
+use Rattle.tds_service.specs.Service.{seat_numbered}
 use Rattle.tds_service.specs.Table.{answers_in}
 use Rattle.tds_relay.specs.declared.application.Application.{Application}
 use Rattle.tds_relay.specs.declared.desk.coming.Heard.{Heard}
 use Rattle.tds_relay.specs.declared.desk.coming.What.{What}
+use Rattle.tds_relay.specs.Anew.{Resets, ResetsFor}
+use Rattle.tds_relay.specs.declared.desk.Hold.{Hold}
 use Rattle.tds_relay.specs.Desk as desk
-use Rattle.tds_relay.specs.Desk.{Desk, Event, Way, turn}
+use Rattle.tds_relay.specs.Desk.{Desk, Event, Way, find_key, turn}
 use Rattle.tds_relay.specs.Fronts.{IsWhat, LetsGoFirst, Moved, MovedOn, end_of, ends_in, hall_of_ends, told_by}
-use Rattle.tds_relay.specs.Hall.{CausesMove, Closes, Does, End, Ends, Hall, HasEntered, Over, AsksFor, AsksToPart, IfAsked, IfOpen, IfWhose, IsHere, IsQuiet, LetsGo, MayPart, Loses, MayDoAlone, MayMove, MayMoveAll, Move, Moves, Open, Replaces, change_end, change_whose, closes, closes_for, end_at, holder, lets_go, moved, moved_all, told, what_in, what_of}
+use Rattle.tds_relay.specs.Hall.{CausesMove, Closes, Does, End, Ends, Hall, HasEntered, Over, AsksFor, AsksToPart, IfAsked, IfOpen, IfWhose, IsHere, IsQuiet, IsReset, LetsGo, MayPart, Loses, MayDoAlone, MayMove, MayMoveAll, Move, Moves, Open, Replaces, change_end, change_whose, closes, closes_for, end_at, holder, lets_go, moved, moved_all, told, what_in, what_of}
 use Rattle.tds_relay.specs.Promises.{Each}
 use Rattle.tds_relay.specs.Ties as causes
 use Rattle.tds_relay.specs.Ties.{Cause, Causes, Turns}
@@ -118,14 +121,44 @@ closed_parts why d es key =
     (subst (IfOpen IsHere) at (open_over IsHere why (end_at es key)), inl (subst (AsksFor Full) at (asks_over Full why (end_at es key))))
 
 -- one that asks for this as its request has begun
-asks_at : (reset : Reset) (es : Ends) (key : ℕ) (front : Front) (withdrawn : Bool) → AsksFor reset (end_at (slice_set es key (Some (Open front withdrawn (Some reset)))) key)
-asks_at reset [] key front withdrawn = tt
-asks_at reset (x ∷ xs) zero front withdrawn = refl
-asks_at reset (x ∷ xs) (suc key) front withdrawn = asks_at reset xs key front withdrawn
-
 pub asks_begun : (asked : Option Reset) (es : Ends) (key : ℕ) (front : Front) (withdrawn : Bool) → IfAsked asked (end_at (slice_set es key (Some (Open front withdrawn asked))) key)
-asks_begun None es key front withdrawn = tt
-asks_begun (Some reset) es key front withdrawn = asks_at reset es key front withdrawn
+asks_begun asked [] key front withdrawn = tt
+asks_begun asked (x ∷ xs) zero front withdrawn = refl
+asks_begun asked (x ∷ xs) (suc key) front withdrawn = asks_begun asked xs key front withdrawn
+
+-- one that asks for none
+pub none_reset : (d : Desk) (key : ℕ) (o : Option End) → IfAsked None o → IsReset d key o
+none_reset d key None e = tt
+none_reset d key (Some (Open front withdrawn asks)) e = subst (λ (r : Option Reset). ResetsFor r (find_key key d.holds) d) (sym e) tt
+none_reset d key (Some (Over why)) e = tt
+
+unheld_for : (d : Desk) (asks : Option Reset) → ResetsFor asks None d
+unheld_for d None = tt
+unheld_for d (Some reset) = tt
+
+-- or holds nothing
+pub unheld_reset : (d : Desk) (key : ℕ) (o : Option End) → find_key key d.holds ≡ None → IsReset d key o
+unheld_reset d key None e = tt
+unheld_reset d key (Some (Open front withdrawn asks)) e = subst (λ (h : Option Hold). ResetsFor asks h d) (sym e) (unheld_for d asks)
+unheld_reset d key (Some (Over why)) e = tt
+
+-- or what it asks for is done
+pub reset_there : (d : Desk) (key number : ℕ) (asks : Option Reset) (hold : Hold) (o : Option End) → find_key key d.holds ≡ Some hold → hold.number ≡ number → IfAsked asks o
+    → ((reset : Reset) → asks ≡ Some reset → Resets reset (seat_numbered number d.service.seats)) → IsReset d key o
+reset_there d key number asks hold None its is asked resets = tt
+reset_there d key number None hold (Some (Open front withdrawn was)) its is asked resets = none_reset d key (Some (Open front withdrawn was)) asked
+reset_there d key number (Some reset) hold (Some (Open front withdrawn was)) its is asked resets =
+    let there : Resets reset (seat_numbered hold.number d.service.seats) = subst (λ (n : ℕ). Resets reset (seat_numbered n d.service.seats)) (sym is) (resets reset refl) in
+    let held : ResetsFor (Some reset) (find_key key d.holds) d = subst (λ (h : Option Hold). ResetsFor (Some reset) h d) (sym its) there in
+    subst (λ (r : Option Reset). ResetsFor r (find_key key d.holds) d) (sym asked) held
+reset_there d key number asks hold (Some (Over why)) its is asked resets = tt
+
+asked_if : (b : Bool) (why : Option FrontFault) (front : Front) (withdrawn : Bool) (asks : Option Reset) → IfAsked asks (Some (if b then Over why else Open front withdrawn asks))
+asked_if true why front withdrawn asks = tt
+asked_if false why front withdrawn asks = refl
+
+pub asked_there : (s : Slab Application) (key : ℕ) (a : Application) → Some a ≡ get s key → IfAsked a.reset (end_at (ends_in s) key)
+asked_there s key a is = subst (IfAsked a.reset) (sym (end_is s key ∙ ap (option_map end_of) (sym is))) (asked_if a.is_over a.fault a.front a.is_withdrawn a.reset)
 
 -- ---- Moves, one behind the other
 

@@ -21,6 +21,7 @@ use crate::application::Asking;
 use crate::desk::Renewed;
 use tds_client::MessageKind;
 use tds_front::Said;
+use tds_front::laws::bytes_are_packets;
 use tds_packet::{Kind, Reset};
 
 impl Relay {
@@ -127,6 +128,7 @@ impl Relay {
         ensures body { OnOk result (Obeys said bytes.now (body_of key self.old)
             (body_of key self.new)) }
     {
+        bytes_are_packets();
         match said {
             Said::Nothing => Ok(()),
             Said::Begin { kind, reset } => self.begin(key, kind, reset),
@@ -202,7 +204,7 @@ impl Relay {
         ensures body { OnOk result (Starts (body_of key self.old) (body_of key self.new)) }
     {
         match self.desk.hold_of(key) {
-            Some(_) => self.start(key),
+            Some(_) => self.start_kept(key),
             None => self.wait(key),
         }
     }
@@ -274,7 +276,7 @@ impl Relay {
         match self.desk.renew(key)? {
             Renewed::Kept(hold) => {
                 self.restart(hold.number);
-                self.start(key)
+                self.start_kept(key)
             }
             Renewed::NotKept => {
                 if self.has_transaction(key) {

@@ -1,14 +1,16 @@
 //! Applications that leave, and connections that are lost.
 ghost use Rattle.std.specs.Prelude.{◌≡◌, ◌≢◌, ℕ, None, OnOk, Some, slice_set};
 ghost use Rattle.slab.specs.Slab.{get};
+ghost use Rattle.tds_relay.specs.Apart.{Alone, LosesOnly};
 ghost use Rattle.tds_relay.specs.Bodies.{AskAsBefore, AskOn, Body, Closed, body_in};
 ghost use Rattle.tds_relay.specs.Desk.{Loses, find_number, key_of, turn};
 ghost use Rattle.tds_relay.specs.Fronts.{LetsGoFirst, Moved, MovedOn, ends_in, hall_in, hall_of_ends};
 ghost use Rattle.tds_relay.specs.Fronts.{house_in};
-ghost use Rattle.tds_relay.specs.Hall.{change_end, change_whose, closes, closes_for, end_at};
+ghost use Rattle.tds_relay.specs.Hall.{change_end, change_whose, closes, closes_for, end_at, holder};
 ghost use Rattle.tds_relay.specs.House.{Steps, StepsOn};
 ghost use Rattle.tds_relay.specs.Law.{closing};
 ghost use Rattle.tds_relay.specs.Posts.{names_in, posts_in};
+ghost use Rattle.tds_relay.specs.Ordering.{StayOrdered};
 ghost use Rattle.tds_relay.specs.Reads.{Opens, Stays, reader_at, waits_on};
 ghost use Rattle.tds_relay.specs.Sparing.{AllGo, AllRest, OthersRest};
 ghost use Rattle.tds_relay.specs.Taking.{IsDeaf};
@@ -37,6 +39,7 @@ impl Relay {
         ensures stand { OnOk result (AllStand self.old.desk.service
             self.new.desk.service) }
         ensures goes_on { OnOk result (AllGo self.old self.new) }
+        ensures ordered { OnOk result (StayOrdered self.old.orders.items self.new.orders.items) }
     {
         let _ = self.applications.try_remove(key).is_some();
         self.release(key)?;
@@ -56,6 +59,8 @@ impl Relay {
         ensures stand { OnOk result (AllStand self.old.desk.service
             self.new.desk.service) }
         ensures goes_on { OnOk result (AllGo self.old self.new) }
+        ensures only { OnOk result (LosesOnly number (hall_in self.old) (hall_in self.new)) }
+        ensures ordered { OnOk result (StayOrdered self.old.orders.items self.new.orders.items) }
     {
         self.lose(number)?;
         self.serve_line()
@@ -160,6 +165,7 @@ impl Relay {
         ensures asks { OnOk result (AskOn self.old.applications self.new.applications) }
         ensures others { IsReached (desk_in self.old.desk)
             → OnOk result (OthersRest key self.old self.new) }
+        ensures ordered { OnOk result (StayOrdered self.old.orders.items self.new.orders.items) }
     {
         self.outbox.clear();
         let left = self.desk.leave(key, &mut self.outbox)?;
@@ -195,12 +201,44 @@ impl Relay {
         ensures shuts { OnOk result ((key : ℕ)
             → key_of (find_number number (desk_in self.old.desk).holds) ≡ Some key → (goes : Body)
             → body_in (get self.new.applications key) goes ≡ Closed) }
+        ensures ends { OnOk result (ends_in self.new.applications ≡ change_whose
+            (holder (desk_in self.old.desk) number) closes (ends_in self.old.applications)) }
+        ensures line { OnOk result ((desk_in self.new.desk).line
+            ≡ (desk_in self.old.desk).line) }
+        ensures ordered { OnOk result (StayOrdered self.old.orders.items self.new.orders.items) }
     {
         let key = self.desk.lose(number)?;
         self.close(number, key)
     }
 
-    #[tactic(auto, using(crate::proofs::steps::Staying::stays_without, crate::proofs::steps::Staying::taken_out))]
+    /// The same of a connection that this application holds.
+    #[tactic(auto, using(crate::proofs::steps::Staying::stays_refl, crate::proofs::spared::Resting::all_refl, crate::proofs::spared::Apart::alone_refl, crate::proofs::spared::Ordered::ordered_refl))]
+    pub(super) fn lose_own(&mut self, key: usize, number: u64) -> Result<(), NoMemory>
+        ensures goes { OnOk result (GoesOn (desk_in self.old.desk) (desk_in self.new.desk)) }
+        ensures kept { OnOk result (posts_in self.new.applications
+            ≡ posts_in self.old.applications) }
+        ensures moves { OnOk result (MovedOn (hall_in self.old) (hall_in self.new)) }
+        ensures read { OnOk result (Stays self.old.links.items self.new.links.items) }
+        ensures stand { OnOk result (AllStand self.old.desk.service
+            self.new.desk.service) }
+        ensures rests { IsReached (desk_in self.old.desk)
+            → OnOk result (AllRest self.old self.new) }
+        ensures alone { OnOk result (Alone key (hall_in self.old) (hall_in self.new)) }
+        ensures ordered { OnOk result (StayOrdered self.old.orders.items self.new.orders.items) }
+    {
+        match self.desk.key_on(number) {
+            Some(holder) => {
+                if holder == key {
+                    self.lose(number)
+                } else {
+                    Ok(())
+                }
+            }
+            None => Ok(()),
+        }
+    }
+
+    #[tactic(auto, using(crate::proofs::steps::Staying::stays_without, crate::proofs::steps::Staying::taken_out, crate::proofs::spared::Ordered::ordered_refl))]
     pub(super) fn close_link(&mut self, number: u64) -> Result<(), NoMemory>
         ensures desk { self.new.desk ≡ self.old.desk }
         ensures kept { OnOk result (posts_in self.new.applications
@@ -212,6 +250,7 @@ impl Relay {
         ensures asks { OnOk result (AskAsBefore self.old.applications self.new.applications) }
         ensures others { OnOk result ((other : ℕ) → other ≢ number
             → waits_on other self.new.links.items ≡ waits_on other self.old.links.items) }
+        ensures ordered { OnOk result (StayOrdered self.old.orders.items self.new.orders.items) }
     {
         let tag = match self.link(number) {
             Some(link) => link.tag,
@@ -241,6 +280,7 @@ impl Relay {
             → waits_on other self.new.links.items ≡ waits_on other self.old.links.items) }
         ensures shuts { OnOk result ((other : ℕ) → key ≡ Some other → (goes : Body)
             → body_in (get self.new.applications other) goes ≡ Closed) }
+        ensures ordered { OnOk result (StayOrdered self.old.orders.items self.new.orders.items) }
     {
         self.close_link(number)?;
         match key {

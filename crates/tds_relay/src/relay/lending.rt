@@ -3,15 +3,17 @@ ghost use Rattle.std.specs.Prelude.{◌≡◌, ◌≢◌, ◌⊎◌, ◌++◌, [
 ghost use Rattle.std.specs.Prelude.{false, option_map, true};
 ghost use Rattle.slab.specs.Slab.{get};
 ghost use Rattle.tds_packet.specs.declared.status.Reset.TheVariants.{KeepTransaction};
+ghost use Rattle.tds_relay.specs.Apart.{Alone, UnlessServed};
 ghost use Rattle.tds_relay.specs.Asking.{IsUnderway, waits_of};
 ghost use Rattle.tds_relay.specs.Bodies.{AskAsBefore, Grows, Starts, body_of, going_of, held_of};
 ghost use Rattle.tds_relay.specs.Desk.{find_number, key_of};
 ghost use Rattle.tds_relay.specs.Fronts.{MovedOn, ends_in, hall_in, house_in};
-ghost use Rattle.tds_relay.specs.Hall.{AsksFor, end_at};
+ghost use Rattle.tds_relay.specs.Hall.{AsksFor, IsReset, end_at};
 ghost use Rattle.tds_relay.specs.House.{Steps, StepsOn};
 ghost use Rattle.tds_relay.specs.Posts.{names_in, posts_in};
 ghost use Rattle.tds_relay.specs.Reads.{IsCalled, Opens, OpensFirst, OpensOne, Stays, named_seen, open_at};
 ghost use Rattle.tds_relay.specs.Reads.{opened_at, opened_seen, seen_at, waits_on};
+ghost use Rattle.tds_relay.specs.Ordering.{StayOrdered};
 ghost use Rattle.tds_relay.specs.Sparing.{AllGo, AllRest, IsHeldBack, IsUnkept, OthersRest};
 ghost use Rattle.tds_relay.specs.Sparing.{StartsOn};
 ghost use Rattle.tds_relay.specs.Taking.{IsDeaf};
@@ -32,10 +34,12 @@ use std::alloc::AllocError;
 impl Relay {
     /// A connection that is open and logged in has come before any application asked: the first one of
     /// all. It is cleaned first. Answers its number, or none where it isn't wanted.
-    #[tactic(auto, using(crate::proofs::steps::Reaching::reaches_turn, crate::proofs::steps::Reaching::reaches_turned, crate::proofs::spared::Resting::go_refl))]
+    #[tactic(auto, using(crate::proofs::steps::Reaching::reaches_turn, crate::proofs::steps::Reaching::reaches_turned, crate::proofs::spared::Resting::go_refl, crate::proofs::spared::Ordered::ordered_refl))]
     pub fn bring(&mut self, tag: usize) -> Result<Option<u64>, NoMemory>
         ensures goes { OnOk result (Goes Neither (desk_in self.old.desk) (desk_in self.new.desk)) }
         ensures steps { OnOk result (Steps Neither (house_in self.old) (house_in self.new)) }
+        ensures kept { OnOk result (posts_in self.new.applications
+            ≡ posts_in self.old.applications) }
         ensures opens { IfOk result (λ number.
             OpensFirst number self.old.links.items self.new.links.items) }
         ensures named { IfOk result (λ brought. IfSome brought (λ number.
@@ -45,6 +49,7 @@ impl Relay {
         ensures stand { OnOk result (AllStand self.old.desk.service
             self.new.desk.service) }
         ensures goes_on { OnOk result (AllGo self.old self.new) }
+        ensures ordered { OnOk result (StayOrdered self.old.orders.items self.new.orders.items) }
     {
         if !self.links.is_empty() {
             return Ok(None);
@@ -102,6 +107,7 @@ impl Relay {
         ensures goes_on { OnOk result (AllGo self.old self.new) }
         ensures starts { IsReached (desk_in self.old.desk)
             → OnOk result (StartsOn number self.old self.new) }
+        ensures ordered { OnOk result (StayOrdered self.old.orders.items self.new.orders.items) }
     {
         self.set_open(number);
         self.order_write_on(number)?;
@@ -120,12 +126,13 @@ impl Relay {
         ensures waits { (other : ℕ) → waits_on other self.new.links.items
             ≡ waits_on other self.old.links.items }
         ensures same { AllRest self.old self.new }
+        ensures orders { self.new.orders.items ≡ self.old.orders.items }
     {
         set_open(&mut self.links, number);
     }
 
     /// Asks what the application asks that holds a connection.
-    #[tactic(auto, using(crate::proofs::steps::Staying::stays_refl, crate::proofs::spared::Resting::go_refl))]
+    #[tactic(auto, using(crate::proofs::steps::Staying::stays_refl, crate::proofs::spared::Resting::go_refl, crate::proofs::spared::Ordered::ordered_refl))]
     fn start_on(&mut self, number: u64) -> Result<(), NoMemory>
         ensures goes { OnOk result (GoesOn (desk_in self.old.desk) (desk_in self.new.desk)) }
         ensures kept { OnOk result (posts_in self.new.applications
@@ -138,15 +145,16 @@ impl Relay {
         ensures waits { OnOk result ((key : ℕ)
             → key_of (find_number number (desk_in self.old.desk).holds) ≡ Some key
             → IsUnkept (body_of key self.new) ⊎ IsHeldBack key self.old) }
+        ensures ordered { OnOk result (StayOrdered self.old.orders.items self.new.orders.items) }
     {
         match self.desk.key_on(number) {
-            Some(key) => self.start(key),
+            Some(key) => self.start_kept(key),
             None => Ok(()),
         }
     }
 
     /// Lends connections to those who wait, in order, while there are any.
-    #[tactic(auto, using(crate::proofs::steps::Staying::opens_refl, crate::proofs::steps::Reaching::reaches_turn, crate::proofs::steps::Reaching::reaches_turned, crate::proofs::spared::Resting::go_refl))]
+    #[tactic(auto, using(crate::proofs::steps::Staying::opens_refl, crate::proofs::steps::Reaching::reaches_turn, crate::proofs::steps::Reaching::reaches_turned, crate::proofs::spared::Resting::go_refl, crate::proofs::spared::Ordered::ordered_refl, crate::proofs::spared::Apart::unserved_refl))]
     pub(super) fn serve_line(&mut self) -> Result<(), NoMemory>
         ensures goes { OnOk result (GoesOn (desk_in self.old.desk) (desk_in self.new.desk)) }
         ensures kept { OnOk result (posts_in self.new.applications
@@ -157,6 +165,8 @@ impl Relay {
         ensures stand { OnOk result (AllStand self.old.desk.service
             self.new.desk.service) }
         ensures goes_on { OnOk result (AllGo self.old self.new) }
+        ensures apart { OnOk result (UnlessServed (hall_in self.old) (hall_in self.new)) }
+        ensures ordered { OnOk result (StayOrdered self.old.orders.items self.new.orders.items) }
     {
         'line: for _ in 0..u64::MAX {
             match self.desk.serve()? {
@@ -182,11 +192,14 @@ impl Relay {
         ensures stand { OnOk result (AllStand self.old.desk.service
             self.new.desk.service) }
         ensures goes_on { OnOk result (AllGo self.old self.new) }
+        ensures alone { OnOk result (Alone served.hold.key (hall_in self.old)
+            (hall_in self.new)) }
+        ensures ordered { OnOk result (StayOrdered self.old.orders.items self.new.orders.items) }
     {
         let number = served.hold.number;
         if served.had {
             self.restart(number);
-            return self.start(served.hold.key);
+            return self.start_kept(served.hold.key);
         }
         let link = self.new_link(number)?;
         self.links.push(link)?;
@@ -203,6 +216,7 @@ impl Relay {
         ensures ends { ends_in self.new.applications ≡ ends_in self.old.applications }
         ensures read { Stays self.old.links.items self.new.links.items }
         ensures rests { AllRest self.old self.new }
+        ensures orders { self.new.orders.items ≡ self.old.orders.items }
     {
         restart(&mut self.links, number);
     }
@@ -220,12 +234,14 @@ impl Relay {
 
     /// Asks what an application asks, where its connection is open, and the server has acknowledged there
     /// what it took back.
-    #[tactic(auto, using(crate::proofs::steps::Reaching::reaches_turn, crate::proofs::steps::Reaching::reaches_turned, crate::proofs::steps::Underway::of_none, crate::proofs::steps::Underway::of_over, crate::proofs::steps::Underway::drains, crate::proofs::bytes::Calls::stand_on, crate::proofs::spared::Resting::others_refl))]
+    #[tactic(auto, using(crate::proofs::steps::Reaching::reaches_turn, crate::proofs::steps::Reaching::reaches_turned, crate::proofs::steps::Underway::of_none, crate::proofs::steps::Underway::of_over, crate::proofs::steps::Underway::drains, crate::proofs::bytes::Calls::stand_on, crate::proofs::spared::Resting::others_refl, crate::proofs::spared::Ordered::ordered_refl, crate::proofs::spared::Apart::alone_refl))]
     pub(super) fn start(&mut self, key: usize) -> Result<(), NoMemory>
         ensures goes { OnOk result (GoesOn (desk_in self.old.desk) (desk_in self.new.desk)) }
         ensures kept { OnOk result (posts_in self.new.applications
             ≡ posts_in self.old.applications) }
-        ensures moves { OnOk result (MovedOn (hall_in self.old) (hall_in self.new)) }
+        ensures moves { OnOk result (IsReset (desk_in self.old.desk) key
+            (end_at (ends_in self.old.applications) key)
+            → MovedOn (hall_in self.old) (hall_in self.new)) }
         ensures underway { (whole : Bool) → waits_of (get self.old.applications key) ≡ Some whole
             → OnOk result (IsUnderway whole self.new.links.items key (hall_in self.new)) }
         ensures read { OnOk result (Stays self.old.links.items self.new.links.items) }
@@ -236,6 +252,8 @@ impl Relay {
             → OnOk result (OthersRest key self.old self.new) }
         ensures waits { OnOk result (IsUnkept (body_of key self.new)
             ⊎ IsHeldBack key self.old) }
+        ensures alone { OnOk result (Alone key (hall_in self.old) (hall_in self.new)) }
+        ensures ordered { OnOk result (StayOrdered self.old.orders.items self.new.orders.items) }
     {
         let Some(application) = self.applications.get(key) else {
             return Ok(());
@@ -276,13 +294,15 @@ impl Relay {
             self.new.desk.service) }
         ensures rests { IsReached (desk_in self.old.desk)
             → OnOk result (AllRest self.old self.new) }
+        ensures alone { OnOk result (Alone key (hall_in self.old) (hall_in self.new)) }
+        ensures ordered { OnOk result (StayOrdered self.old.orders.items self.new.orders.items) }
     {
-        self.lose(number)?;
+        self.lose_own(key, number)?;
         self.end(key)
     }
 
     /// Puts what is kept of a request on its connection.
-    #[tactic(auto, using(crate::proofs::steps::Posting::kept_more, crate::proofs::steps::Posting::posts_kept, crate::proofs::steps::Fronts::ends_more, crate::proofs::steps::Fronts::ends_kept, crate::proofs::steps::Underway::of_none, crate::proofs::spared::Resting::others_refl))]
+    #[tactic(auto, using(crate::proofs::steps::Posting::kept_more, crate::proofs::steps::Posting::posts_kept, crate::proofs::steps::Fronts::ends_more, crate::proofs::steps::Fronts::ends_kept, crate::proofs::steps::Underway::of_none, crate::proofs::spared::Resting::others_refl, crate::proofs::spared::Ordered::ordered_refl, crate::proofs::spared::Apart::alone_refl))]
     fn put_held(&mut self, key: usize, whole: bool) -> Result<(), NoMemory>
         ensures goes { OnOk result (GoesOn (desk_in self.old.desk) (desk_in self.new.desk)) }
         ensures kept { OnOk result (posts_in self.new.applications
@@ -298,6 +318,8 @@ impl Relay {
         ensures others { IsReached (desk_in self.old.desk)
             → OnOk result (OthersRest key self.old self.new) }
         ensures gone { OnOk result (IsUnkept (body_of key self.new)) }
+        ensures alone { OnOk result (Alone key (hall_in self.old) (hall_in self.new)) }
+        ensures ordered { OnOk result (StayOrdered self.old.orders.items self.new.orders.items) }
     {
         let Some(application) = self.applications.get_mut(key) else {
             return Ok(());
@@ -309,6 +331,7 @@ impl Relay {
     }
 
     /// What the desk has to send on a connection waits there. False where more would wait than may.
+    #[tactic(auto, using(crate::proofs::spared::Ordered::ordered_refl))]
     pub(super) fn fits_on(&mut self, number: u64) -> Result<bool, NoMemory>
         ensures desk { self.new.desk ≡ self.old.desk }
         ensures kept { OnOk result (posts_in self.new.applications
@@ -323,6 +346,7 @@ impl Relay {
             (waits_on number self.old.links.items)) }
         ensures others { OnOk result ((other : ℕ) → other ≢ number
             → waits_on other self.new.links.items ≡ waits_on other self.old.links.items) }
+        ensures ordered { OnOk result (StayOrdered self.old.orders.items self.new.orders.items) }
     {
         let fits = append_to(&mut self.links, number, &self.outbox)?;
         self.outbox.clear();
@@ -334,7 +358,7 @@ impl Relay {
     }
 
     /// Whether the connection of this number is open.
-    fn is_open(&self, number: u64) -> bool
+    pub(super) fn is_open(&self, number: u64) -> bool
         ensures shut { result ≡ false → open_at number self.now.links.items ≡ None }
         ensures there { result ≡ true → IsSome (waits_on number self.now.links.items) }
     {

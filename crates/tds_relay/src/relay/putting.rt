@@ -1,9 +1,11 @@
 //! What goes on of requests, to the connections that their applications hold.
 ghost use Rattle.std.specs.Prelude.{◌≡◌, OnOk, true};
+ghost use Rattle.tds_relay.specs.Apart.{Alone};
 ghost use Rattle.tds_relay.specs.Asking.{IsUnderway, SendsOn};
 ghost use Rattle.tds_relay.specs.Bodies.{AskAsBefore, ClientPuts, PutsOn};
 ghost use Rattle.tds_relay.specs.Fronts.{MayPut, MovedOn, ends_in, goes_by, hall_in, puts};
 ghost use Rattle.tds_relay.specs.Hall.{IfOpen, change_end, end_at};
+ghost use Rattle.tds_relay.specs.Ordering.{StayOrdered};
 ghost use Rattle.tds_relay.specs.Posts.{posts_in};
 ghost use Rattle.tds_relay.specs.Reads.{Stays};
 ghost use Rattle.tds_relay.specs.Sparing.{OthersHold, OthersRest};
@@ -30,6 +32,8 @@ impl Relay {
         ensures body { OnOk result (PutsOn whole bytes.now key self.old self.new) }
         ensures others { IsReached (desk_in self.old.desk)
             → OnOk result (OthersRest key self.old self.new) }
+        ensures alone { OnOk result (Alone key (hall_in self.old) (hall_in self.new)) }
+        ensures ordered { OnOk result (StayOrdered self.old.orders.items self.new.orders.items) }
     {
         let Some(hold) = self.desk.hold_of(key) else {
             return self.end(key);
@@ -70,6 +74,7 @@ impl Relay {
         ensures links { self.new.links.items ≡ self.old.links.items }
         ensures asks { AskAsBefore self.old.applications self.new.applications }
         ensures outbox { self.new.outbox.items ≡ self.old.outbox.items }
+        ensures orders { self.new.orders.items ≡ self.old.orders.items }
     {
         if self.outbox.is_empty() {
             return;
@@ -91,6 +96,7 @@ fn put_on(desk: &mut Desk, key: usize, bytes: &[u8], whole: bool, out: &mut Vec<
     ensures body { result ≡ true → ClientPuts whole bytes.now key desk.old desk.new
         out.old.items out.new.items }
     ensures others { OthersHold key desk.old desk.new }
+    ensures line { (desk_in desk.new).line ≡ (desk_in desk.old).line }
 {
     let Ok(_) = desk.put(key, bytes, out) else {
         return false;

@@ -28,7 +28,7 @@ impl Relay {
         if self.asks_to_keep(key) {
             self.keep(number, key)
         } else {
-            self.start(key)
+            self.start_kept(key)
         }
     }
 
@@ -49,7 +49,7 @@ impl Relay {
         match self.desk.renew(key)? {
             Renewed::Kept(hold) => {
                 self.restart(hold.number);
-                self.start(key)
+                self.start_kept(key)
             }
             Renewed::NotKept => self.replace(number),
             Renewed::Closed(number) => self.close(number, Some(key)),

@@ -5,6 +5,7 @@ ghost use Rattle.tds_relay.specs.Bodies.{AskAsBefore, AskOn};
 ghost use Rattle.tds_relay.specs.Bounds.{most_for};
 ghost use Rattle.tds_relay.specs.Fronts.{MovedOn, ends_in, hall_in, house_in};
 ghost use Rattle.tds_relay.specs.House.{Steps};
+ghost use Rattle.tds_relay.specs.Ordering.{StayOrdered};
 ghost use Rattle.tds_relay.specs.Posts.{change, posts_in, unsent_of, without_first};
 ghost use Rattle.tds_relay.specs.Law.{waiting_on};
 ghost use Rattle.tds_relay.specs.Reads.{FillsBy, Sees, Stays, waits_on};
@@ -115,6 +116,7 @@ impl Relay {
             → OnOk result (SendsOn number self.old self.new) }
         ensures puts { OnOk result (FillsBy self.old.outbox.items
             (waits_on number self.old.links.items) (waits_on number self.new.links.items)) }
+        ensures ordered { OnOk result (StayOrdered self.old.orders.items self.new.orders.items) }
     {
         let fits = self.fits_on(number)?;
         if fits { Ok(()) } else { self.lose(number) }
@@ -140,6 +142,7 @@ impl Relay {
     }
 
     /// Something is to be sent on a connection.
+    #[tactic(auto, using(crate::proofs::spared::Ordered::ordered_refl))]
     pub(super) fn order_write_on(&mut self, number: u64) -> Result<(), NoMemory>
         ensures desk { self.new.desk ≡ self.old.desk }
         ensures kept { OnOk result (posts_in self.new.applications
@@ -148,6 +151,7 @@ impl Relay {
             ≡ ends_in self.old.applications) }
         ensures links { OnOk result (self.new.links.items ≡ self.old.links.items) }
         ensures asks { OnOk result (AskAsBefore self.old.applications self.new.applications) }
+        ensures ordered { OnOk result (StayOrdered self.old.orders.items self.new.orders.items) }
     {
         let Some(link) = self.link(number) else {
             return Ok(());

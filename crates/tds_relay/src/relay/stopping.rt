@@ -2,6 +2,7 @@
 ghost use Rattle.slab.specs.Slab.{get};
 ghost use Rattle.std.specs.Prelude.{◌≡◌, [], ℕ, IfSome, List, OnOk, true};
 ghost use Rattle.tds_front.specs.declared.front.Said.TheVariants.{Forget, HandOn};
+ghost use Rattle.tds_relay.specs.Anew.{AsksNothing};
 ghost use Rattle.tds_relay.specs.Bodies.{AskAsBefore, AskOn, Body, Halts, IsHalting, Nowhere, Starts};
 ghost use Rattle.tds_relay.specs.Bodies.{StopsOn, body_in, body_of};
 ghost use Rattle.tds_relay.specs.Desk.{Does, Stops, Unwaits};
@@ -29,8 +30,8 @@ impl Relay {
             (desk_in self.old.desk) (desk_in self.new.desk)) }
         ensures kept { OnOk result (posts_in self.new.applications
             ≡ posts_in self.old.applications) }
-        ensures moves { OnOk result (Moved (Application key) (hall_in self.old)
-            (hall_in self.new)) }
+        ensures moves { OnOk result (IfOpen AsksNothing (end_at (ends_in self.old.applications) key)
+            → Moved (Application key) (hall_in self.old) (hall_in self.new)) }
         ensures read { OnOk result (Stays self.old.links.items self.new.links.items) }
         ensures stand { OnOk result (AllStand self.old.desk.service
             self.new.desk.service) }
@@ -91,8 +92,9 @@ impl Relay {
             (desk_in self.old.desk) (desk_in self.new.desk)) }
         ensures kept { OnOk result (posts_in self.new.applications
             ≡ posts_in self.old.applications) }
-        ensures moves { OnOk result (FedOn key (Forget true) (desk_in self.old.desk)
-            (ends_in self.old.applications) (hall_in self.new)) }
+        ensures moves { OnOk result (IfOpen AsksNothing (end_at (ends_in self.old.applications) key)
+            → FedOn key (Forget true) (desk_in self.old.desk) (ends_in self.old.applications)
+            (hall_in self.new)) }
         ensures read { OnOk result (Stays self.old.links.items self.new.links.items) }
         ensures stand { OnOk result (AllStand self.old.desk.service
             self.new.desk.service) }

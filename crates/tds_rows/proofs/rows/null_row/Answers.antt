@@ -1,40 +1,55 @@
 use Rattle.std.proofs.Common.{rules, arith, ◌+◌, ◌≡◌, ◌==◌, ◌/◌, ◌∙◌, ℕ, false, length, drop, take, ap, sym}
 use Rattle.tds_wire.specs.Layout.{Got}
-use Rattle.tds_rows.specs.Finding.{shapes_of}
+use Rattle.tds_rows.specs.Finding.{column_shapes}
 use Rattle.tds_rows.proofs.Going.{as_many}
 use Rattle.tds_rows.proofs.Begun.{AreBytes, null_row_begun, null_row_cut, null_row_of_none}
+use Rattle.std.proofs.Common.{◌-◌, subst, true}
+use Rattle.tds_rows.specs.Laws.{Divides}
+use Rattle.tds_rows.proofs.Divided.{divided}
 use Rattle.tds_rows.proofs.rows.null_row.Goals as goal
 
 pub returns-then-is_empty-clause-exact : goal.returns-then-is_empty-clause-exact
 returns-then-is_empty-clause-exact c =
-    let many : length (shapes_of c.args.columns.now) ≡ length c.args.columns.now = as_many c.args.columns.now in
+    let many : length (column_shapes c.args.columns.now) ≡ length c.args.columns.now = as_many c.args.columns.now in
     let none : length c.args.columns.now ≡ 0 = search rules in
-    null_row_of_none (shapes_of c.args.columns.now) c.args.bytes.now c.requires.kind.0 c.requires.kind.1 (many ∙ none)
+    null_row_of_none (column_shapes c.args.columns.now) c.args.bytes.now c.requires.kind.0 c.requires.kind.1 (many ∙ none)
 
 pub returns-then-bytes-count-clause-exact : goal.returns-then-bytes-count-clause-exact
 returns-then-bytes-count-clause-exact c =
-    let many : length (shapes_of c.args.columns.now) ≡ length c.args.columns.now = as_many c.args.columns.now in
+    let many : length (column_shapes c.args.columns.now) ≡ length c.args.columns.now = as_many c.args.columns.now in
     let some : (length c.args.columns.now == 0) ≡ false = search rules in
-    null_row_cut (shapes_of c.args.columns.now) c.args.bytes.now c.requires.kind.0 c.requires.kind.1 (ap (λ (n : ℕ). n == 0) many ∙ some)
+    null_row_cut (column_shapes c.args.columns.now) c.args.bytes.now c.requires.kind.0 c.requires.kind.1 (ap (λ (n : ℕ). n == 0) many ∙ some)
     (rw many (omega (arith, c.if-bytes-count.true, c.requires.kind.0)))
 
 pub returns-in-Some-clause-exact : goal.returns-in-Some-clause-exact
 returns-in-Some-clause-exact c =
-    let many : length (shapes_of c.args.columns.now) ≡ length c.args.columns.now = as_many c.args.columns.now in
+    let many : length (column_shapes c.args.columns.now) ≡ length c.args.columns.now = as_many c.args.columns.now in
     let some : (length c.args.columns.now == 0) ≡ false = search rules in
     let are : AreBytes c.args.bytes.now = λ i. omega (arith, c.type_inv.bytes i) in
     let found = c.in-Some.ensures.exact in (
       found.0,
-      null_row_begun (shapes_of c.args.columns.now) ((length c.args.columns.now + 7) / 8) c.args.bytes.now c.requires.kind.1 (ap (λ (n : ℕ). n == 0) many ∙ some) are
+      null_row_begun (column_shapes c.args.columns.now) ((length c.args.columns.now + 7) / 8) c.args.bytes.now c.requires.kind.1 (ap (λ (n : ℕ). n == 0) many ∙ some) are
           (ap (λ (n : ℕ). (n + 7) / 8) (sym many)) (omega (arith, c.if-bytes-count.false, c.requires.kind.0))
           ∙ (found.1 ∙ ap (λ (n : ℕ). Got (take n c.places_from.new.places) (drop c.in-Some.end c.args.bytes.now)) (sym many)),
     )
 
 pub returns-in-None-clause-exact : goal.returns-in-None-clause-exact
 returns-in-None-clause-exact c =
-    let many : length (shapes_of c.args.columns.now) ≡ length c.args.columns.now = as_many c.args.columns.now in
+    let many : length (column_shapes c.args.columns.now) ≡ length c.args.columns.now = as_many c.args.columns.now in
     let some : (length c.args.columns.now == 0) ≡ false = search rules in
     let are : AreBytes c.args.bytes.now = λ i. omega (arith, c.type_inv.bytes i) in
-    null_row_begun (shapes_of c.args.columns.now) ((length c.args.columns.now + 7) / 8) c.args.bytes.now c.requires.kind.1 (ap (λ (n : ℕ). n == 0) many ∙ some) are
+    null_row_begun (column_shapes c.args.columns.now) ((length c.args.columns.now + 7) / 8) c.args.bytes.now c.requires.kind.1 (ap (λ (n : ℕ). n == 0) many ∙ some) are
     (ap (λ (n : ℕ). (n + 7) / 8) (sym many)) (omega (arith, c.if-bytes-count.false, c.requires.kind.0))
     ∙ c.in-None.ensures.exact
+
+pub returns-in-Some-clause-divided : goal.returns-in-Some-clause-divided
+returns-in-Some-clause-divided c =
+    let shapes = column_shapes c.args.columns.now in
+    let bytes = c.args.bytes.now in
+    let n : ℕ = (length c.args.columns.now + 7) / 8 in
+    let many : length (column_shapes c.args.columns.now) ≡ length c.args.columns.now = as_many c.args.columns.now in
+    let same : 1 + n - 1 ≡ n = omega arith in
+    let count : n ≡ (length (column_shapes c.args.columns.now) + 7) / 8 = ap (λ (m : ℕ). (m + 7) / 8) (sym many) in
+    subst (λ (m : ℕ). Divides true (take m (drop 1 bytes)) 0 shapes (1 + m) (drop (1 + m) bytes) (take (length c.args.columns.now) c.places_from.new.places) (drop c.in-Some.end bytes)) count
+    (subst (λ (m : ℕ). Divides true (take m (drop 1 bytes)) 0 shapes (1 + n) (drop (1 + n) bytes) (take (length c.args.columns.now) c.places_from.new.places) (drop c.in-Some.end bytes)) same
+    (divided true (take (1 + n - 1) (drop 1 bytes)) 0 shapes (1 + n) (drop (1 + n) bytes) _ _ c.in-Some.ensures.exact.1))

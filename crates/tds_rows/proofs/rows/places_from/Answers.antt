@@ -2,8 +2,8 @@ use Rattle.std.proofs.Common.{rules, arith, ◌+◌, ◌<◌, ◌≡◌, ◌++�
 use Rattle.std.proofs.lemmas.List.{drop-drop, drop-set-lt, length-drop, length-set, take_more_set}
 use Rattle.tds_wire.specs.Layout.{Got}
 use Rattle.tds_rows.specs.declared.place.Place.{Place}
-use Rattle.tds_rows.specs.Finding.{shapes_of}
-use Rattle.tds_rows.specs.Places.{places}
+use Rattle.tds_rows.specs.Finding.{column_shapes}
+use Rattle.tds_rows.specs.Places.{values_placed}
 use Rattle.tds_rows.proofs.Going.{column_lacks, column_step, columns_end, front_none, rest_stands, with_front}
 use Rattle.tds_rows.proofs.rows.places_from.Goals as goal
 
@@ -13,7 +13,7 @@ columns-init c = record {
   column = omega arith;
   room = refl;
   others = refl;
-  exact = front_none (places c.args.with_nulls c.args.nulls.now 0 (shapes_of c.args.columns.now) c.args.start (drop c.args.start c.args.bytes.now));
+  exact = front_none (values_placed c.args.with_nulls c.args.nulls.now 0 (column_shapes c.args.columns.now) c.args.start (drop c.args.start c.args.bytes.now));
 }
 
 pub returns-in_default-clause-exact : goal.returns-in_default-clause-exact
@@ -39,9 +39,9 @@ columns-preserved c =
       room = length-set c.columns.places i c.in-Some.place ∙ c.columns.invariant.room;
       others = drop-set-lt (length c.args.columns.now) c.columns.places i c.in-Some.place less ∙ c.columns.invariant.others;
       exact =
-          ap (λ (ps : List Place). with_front ps (places c.args.with_nulls c.args.nulls.now (i + 1) (drop (i + 1) (shapes_of c.args.columns.now)) (c.columns.done + n) (drop (c.columns.done + n) bytes)))
+          ap (λ (ps : List Place). with_front ps (values_placed c.args.with_nulls c.args.nulls.now (i + 1) (drop (i + 1) (column_shapes c.args.columns.now)) (c.columns.done + n) (drop (c.columns.done + n) bytes)))
           (take_more_set c.columns.places i c.in-Some.place room)
-          ∙ (ap (λ (xs : List ℕ). with_front (take i c.columns.places ++ c.in-Some.place ∷ []) (places c.args.with_nulls c.args.nulls.now (i + 1) (drop (i + 1) (shapes_of c.args.columns.now)) (c.columns.done + n) xs))
+          ∙ (ap (λ (xs : List ℕ). with_front (take i c.columns.places ++ c.in-Some.place ∷ []) (values_placed c.args.with_nulls c.args.nulls.now (i + 1) (drop (i + 1) (column_shapes c.args.columns.now)) (c.columns.done + n) xs))
           (sym (drop-drop n c.columns.done bytes))
           ∙ (sym (column_step c.args.columns.now i _ (take i c.columns.places) c.args.with_nulls c.args.nulls.now c.columns.done n c.in-Some.place (drop c.columns.done bytes)
           c.is_skipped-skipped.result less c.is_skipped-skipped.ensures found)

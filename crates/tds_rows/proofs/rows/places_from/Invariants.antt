@@ -1,6 +1,6 @@
 use Rattle.std.proofs.Common.{◌≡◌, ◌≤◌, ◌-◌, drop, take, length}
-use Rattle.tds_rows.specs.Finding.{shapes_of}
-use Rattle.tds_rows.specs.Places.{places}
+use Rattle.tds_rows.specs.Finding.{column_shapes}
+use Rattle.tds_rows.specs.Places.{values_placed}
 use Rattle.tds_rows.proofs.Going.{with_front}
 use Rattle.tds_rows.proofs.rows.places_from.Given as goal
 
@@ -11,8 +11,8 @@ invariant-columns l = record {
   column : l.column ≤ length l.columns;
   room : length l.places ≡ length l.fn.places;
   others : drop (length l.columns) l.places ≡ drop (length l.columns) l.fn.places;
-  exact : with_front (take l.column l.places) (places l.with_nulls l.nulls l.column (drop l.column (shapes_of l.columns)) l.done (drop l.done l.bytes))
-      ≡ places l.with_nulls l.nulls 0 (shapes_of l.columns) l.start (drop l.start l.bytes);
+  exact : with_front (take l.column l.places) (values_placed l.with_nulls l.nulls l.column (drop l.column (column_shapes l.columns)) l.done (drop l.done l.bytes))
+      ≡ values_placed l.with_nulls l.nulls 0 (column_shapes l.columns) l.start (drop l.start l.bytes);
 }
 
 abbrev pub decreases-columns : goal.decreases-columns

@@ -1,5 +1,5 @@
 use Rattle.std.proofs.Common.{rules, arith, ◌<◌, length}
-use Rattle.tds_rows.specs.Finding.{shapes_of}
+use Rattle.tds_rows.specs.Finding.{column_shapes}
 use Rattle.tds_rows.proofs.Going.{as_many}
 use Rattle.tds_rows.proofs.Begun.{other_begun, row_none}
 use Rattle.tds_rows.proofs.rows.row_places.Goals as goal
@@ -10,7 +10,7 @@ returns-then-places-columns-clause-exact c = omega (arith, as_many c.args.column
 pub returns-then-is_empty-clause-exact : goal.returns-then-is_empty-clause-exact
 returns-then-is_empty-clause-exact c =
     let none : length c.args.bytes.now < 1 = search rules in
-    row_none (shapes_of c.args.columns.now) c.args.bytes.now none
+    row_none (column_shapes c.args.columns.now) c.args.bytes.now none
 
 pub returns-in_default-clause-exact : goal.returns-in_default-clause-exact
-returns-in_default-clause-exact c = other_begun (shapes_of c.args.columns.now) c.args.bytes.now (search rules) (search rules) (search rules)
+returns-in_default-clause-exact c = other_begun (column_shapes c.args.columns.now) c.args.bytes.now (search rules) (search rules) (search rules)

@@ -3,7 +3,7 @@ use Rattle.std.proofs.Common.{Some}
 use Rattle.std.proofs.lemmas.List.{length-drop, take_rest}
 use Rattle.tds_wire.specs.declared.shape.Shape.TheVariants as shape
 use Rattle.tds_wire.specs.Layout.{Short, parts}
-use Rattle.tds_rows.specs.Finding.{Ends}
+use Rattle.tds_rows.specs.Finding.{EndsAfter}
 use Rattle.tds_rows.specs.Places.{is_absent}
 use Rattle.tds_rows.proofs.Passed.{lacks, parts_got, parts_none, parts_null, parts_short, stands}
 use Rattle.tds_rows.proofs.values.value_in_parts.Goals as goal
@@ -30,8 +30,8 @@ returns c =
     let some : 8 ≤ length c.args.bytes.now = search rules in
     let e : is_absent shape.Parts c.args.bytes.now ≡ false = search rules in
     let t : take (length bytes - 8) (drop 8 bytes) ≡ drop 8 bytes = take_rest bytes 8 in
-    let found : Ends tt (parts (length (drop 8 bytes)) (drop 8 bytes)) (drop 8 bytes) (Some c.in-Some.length)
-    = subst (λ (xs : List ℕ). Ends tt (parts (length xs) xs) xs (Some c.in-Some.length)) t c.in-Some.ensures.exact in
+    let found : EndsAfter tt (parts (length (drop 8 bytes)) (drop 8 bytes)) (drop 8 bytes) (Some c.in-Some.length)
+    = subst (λ (xs : List ℕ). EndsAfter tt (parts (length xs) xs) xs (Some c.in-Some.length)) t c.in-Some.ensures.exact in
     let few : c.in-Some.length + 8 ≤ length bytes = omega (arith, found.0, length-drop 8 bytes, some) in (
       few,
       stands shape.Parts c.args.at (c.in-Some.length + 8) _ bytes few (parts_got (c.in-Some.length + 8) c.in-Some.length bytes some e found.1 (omega arith))

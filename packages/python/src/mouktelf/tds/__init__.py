@@ -48,6 +48,6 @@ def TimestampFromTicks(ticks: float) -> _datetime.datetime:
 __all__ = [
     "BINARY", "Binary", "Cancelled", "Connection", "ConnectionLost", "Cursor", "DATETIME", "DataError", "DatabaseError", "Date",
     "DateFromTicks", "Error", "IntegrityError", "InterfaceError", "InternalError", "Message", "NUMBER", "NotSupportedError",
-    "OperationalError", "Pool", "Pooled", "ProgrammingError", "ROWID", "STRING", "Statistics", "Time", "TimeFromTicks", "TimeoutError", "Timestamp",
-    "TimestampFromTicks", "Warning", "apilevel", "connect", "default", "output", "paramstyle", "threadsafety",
+    "OperationalError", "Pool", "Pooled", "ProgrammingError", "ROWID", "STRING", "Statistics", "Time", "TimeFromTicks", "TimeoutError",
+    "Timestamp", "TimestampFromTicks", "Warning", "apilevel", "connect", "default", "output", "paramstyle", "threadsafety",
 ]

@@ -163,6 +163,8 @@ class Exchange:
         """Asks, where nothing is underway: from here on what comes is this answer's."""
         if self.failure:
             raise self.failure()
+        if self._came:
+            raise self.lost("a part of a packet has come where nothing was asked")
         try:
             with self._calling():
                 packets = self.link.ask(kind, body)
@@ -193,7 +195,9 @@ class Exchange:
         return most if limit is None else min(most, limit - now)
 
     def take(self, piece: bytes) -> None:
-        """Hears what has come on the socket, of any length; none: the server has closed."""
+        """Hears what has come on the socket, of any length; none: the server has closed. Where that ends the connection, whoever waits
+        for an answer that isn't whole is told so."""
+        awaited = self.current
         if not piece:
             raise self.lost("the server has closed the connection")
         try:
@@ -202,7 +206,9 @@ class Exchange:
                 with self._calling():
                     self._hear(packet)
         except Fault as why:
-            raise self.lost(f"the server broke the protocol: {why}") from why
+            error = self.lost(f"the server broke the protocol: {why}")
+            if awaited is None or not awaited.is_ended or awaited.failure:
+                raise error from why
 
     def _hear(self, packet: bytes) -> None:
         did, tokens = self.link.hear(packet)

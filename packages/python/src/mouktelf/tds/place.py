@@ -4,10 +4,8 @@ from typing import Any, List, Optional, Sequence, Tuple, Type
 
 from . import errors
 from .answer import Answer, ResultSet
-from .rows import Columns, readable
+from .rows import Columns, Row, columns_of, readable, returned
 from .spelling import Spelling, output
-
-Row = Tuple[Any, ...]
 
 
 class Place:
@@ -60,7 +58,7 @@ class Place:
             return None
         self._set = answer.sets.popleft()
         if self._set.columns:
-            self._columns = Columns(self._set.columns, self._spelling)
+            self._columns = columns_of(self._set.columns)
         else:
             self._raise_error()
         return True
@@ -95,7 +93,7 @@ class Place:
         for name in names:
             if isinstance(found[name], output):
                 found[name] = found[name].value
-        for place, value in (readable(self._spelling.returned, it) for it in self._answer.outputs):
+        for place, value in (readable(returned, it) for it in self._answer.outputs):
             if place < len(names):
                 found[names[place]] = value
         return found if is_mapping else list(found.values())

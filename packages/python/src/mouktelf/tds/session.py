@@ -30,6 +30,10 @@ class Session(Exchange):
         """Asks, behind what is underway."""
         with self.turn:
             self.settle(until)
+            # What has come before it is asked isn't its answer: an end, or a breach.
+            strays = None if self.transport.is_quiet() else self.transport.read(0)
+            if strays is not None:
+                self.take(strays)
             self.start(answer, kind, body)
 
     def run(self, kind: MessageKind, body: bytes, until: Optional[float]) -> Answer:

@@ -12,12 +12,13 @@ from . import errors
 try:
     import pytds
     from pytds import tds as _tds
-    from pytds import tds_base as _base
 except ImportError as why:
     raise ImportError("mouktelf.tds wants python-tds: pip install python-tds, or Debian's package python3-tds") from why
 
 output, default, Binary = pytds.output, pytds.default, pytds.Binary
 _BY_NUMBER, _EXECUTE_SQL = 0xFFFF, 10
+# What python-tds does with cursors, rows and connections of its own.
+_NOT_OURS = ("use_mars", "pooling", "use_tz", "as_dict", "row_strategy")
 
 
 class LoggedIn(NamedTuple):
@@ -31,17 +32,21 @@ class LoggedIn(NamedTuple):
 
 
 def log_in(dsn: str, timeout: float, **how: Any) -> LoggedIn:
-    """Connects and logs in. `timeout` is in seconds, and `how` as of `pytds.connect`. Raises the errors of this package."""
-    if how.get("use_mars") or how.get("pooling"):
-        raise errors.NotSupportedError("there is no MARS; for a pool there is mouktelf.tds.Pool")
+    """Connects and logs in. `timeout` is in seconds, for each step of it, and `how` as of `pytds.connect`. Raises the errors of this
+    package."""
+    for name in (it for it in _NOT_OURS if how.get(it)):
+        raise errors.NotSupportedError(f"{name} is python-tds's own; for a pool there is mouktelf.tds.Pool")
     # By itself python-tds tries several times, and the first time gives a server a twelfth of the limit for each answer.
     how.setdefault("disable_connect_retry", not (how.get("failover_partner") or how.get("load_balancer")))
+    dsn = how.pop("server", None) or dsn
     try:
         return taken_over(pytds.connect(dsn=dsn, autocommit=True, login_timeout=timeout, **how))
     except pytds.Error as why:
         raise _as_ours(why) from why
     except OSError as why:
         raise errors.OperationalError(f"no connection to {dsn}: {why}") from why
+    except ValueError as why:
+        raise errors.InterfaceError(*why.args) from why
 
 
 def taken_over(connection: Any) -> LoggedIn:
@@ -112,35 +117,6 @@ class Spelling:
         except (pytds.Error, ValueError, OverflowError, struct.error) as why:
             raise errors.DataError(f"a value that its type can't spell: {parameter.value!r}") from why
 
-    def columns(self, token: bytes) -> List[Tuple[str, Any, int]]:
-        """The columns of a COLMETADATA (2.2.7.4), from its first byte: name, how its values are read, flags."""
-        reader, found = self.reader(token, 1), []
-        count = reader.get_usmallint()
-        for _ in range(0 if count == 0xFFFF else count):
-            column = _base.Column()
-            self._typed(column, reader)
-            found.append((reader.read_ucs2(reader.get_byte()), column.serializer, column.flags))
-        return found
-
-    def returned(self, token: bytes) -> Tuple[int, Any]:
-        """The place and the value of a RETURNVALUE (2.2.7.19)."""
-        reader, column = self.reader(token, 1), _base.Column()
-        place = reader.get_usmallint()
-        reader.read_ucs2(reader.get_byte())
-        reader.get_byte()
-        self._typed(column, reader)
-        return place, column.serializer.read(reader)
-
-    def _typed(self, column: Any, reader: Any) -> None:
-        column.column_usertype, column.flags = reader.get_uint(), reader.get_usmallint()
-        column.serializer = self.inner.type_factory.get_type_serializer(reader.get_byte()).from_stream(reader)
-
-    def reader(self, data: bytes, at: int = 0) -> "_Whole":
-        """A reader over bytes that are whole, from a place on."""
-        reader = _Whole(self.session)
-        reader.over(data, at)
-        return reader
-
 
 class _Body(_tds._TdsWriter):
     """Takes what is spelled, in place of a socket."""
@@ -151,16 +127,6 @@ class _Body(_tds._TdsWriter):
 
     def write(self, data: bytes) -> None:
         self.body += data
-
-
-class _Whole(_tds._TdsReader):
-    """Reads from whole tokens, in place of a socket."""
-
-    def over(self, data: bytes, at: int) -> None:
-        self._buf, self._pos, self._size = data, at, len(data)
-
-    def _read_packet(self) -> None:
-        raise errors.InternalError("a value goes over the end of its token")
 
 
 def placed(operation: str, parameters: Any) -> Tuple[str, List[Tuple[str, Any]]]:

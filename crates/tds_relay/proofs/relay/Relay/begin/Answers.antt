@@ -1,10 +1,10 @@
-use Rattle.std.proofs.Common.{◌≡◌, Option, Some, ap, false, inl, refl, rules, subst, sym}
+use Rattle.std.proofs.Common.{◌≡◌, Option, Some, None, ap, false, inl, refl, rules, subst, sym}
 use Rattle.tds_packet.specs.declared.status.Reset.{Reset}
 use Rattle.tds_packet.specs.declared.status.Reset.TheVariants.{Full, KeepTransaction}
 use Rattle.tds_relay.specs.Fronts.{ends_in, hall_of_ends}
-use Rattle.tds_relay.specs.Hall.{AsksFor, AsksToPart, Ends, IfAsked, change_end, closes, end_at}
+use Rattle.tds_relay.specs.Hall.{AsksFor, AsksToPart, Ends, IfAsked, IsReset, change_end, closes, end_at}
 use Rattle.tds_relay.specs.Ties.{Application, desk_in}
-use Rattle.tds_relay.proofs.steps.Fronts.{ends_kept, moves_closes, moves_same}
+use Rattle.tds_relay.proofs.steps.Fronts.{ends_kept, moves_closes, moves_same, none_reset}
 use Rattle.tds_relay.proofs.steps.Reaching.{ok_if, ok_more}
 use Rattle.tds_relay.proofs.steps.Staying.{stays_refl, stays_same}
 use Rattle.tds_relay.specs.Bodies.{Closed, Refuses, Stays, body_of, going_of}
@@ -23,6 +23,16 @@ returns-in-false-default-clause-moves c =
 
 pub returns-in-false-default-clause-read : goal.returns-in-false-default-clause-read
 returns-in-false-default-clause-read c = stays_same c.wait.result _ _ _ (stays_refl c.args.self.now.links.items) (ok_if c.wait.result _ c.wait.ensures.links)
+
+pub returns-in-true-None-clause-moves : goal.returns-in-true-None-clause-moves
+returns-in-true-None-clause-moves c =
+    let kept = ends_kept c.args.self.now.applications c.args.key c.in-Some.application.now c.forget.new.self c.in-Some.ensures.value c.forget.ensures.end in
+    let none : c.args.reset ≡ None = search rules in
+    ok_more c.start.result _ _
+    (λ m asks from h. m (subst (λ (es : Ends). IsReset (desk_in c.args.self.now.desk) c.args.key (end_at es c.args.key)) (sym kept)
+    (none_reset (desk_in c.args.self.now.desk) c.args.key _ (subst (λ (r : Option Reset). IfAsked r (end_at (ends_in c.args.self.now.applications) c.args.key)) none asks)))
+    (Application c.args.key) from (moves_same (Application c.args.key) from _ _ _ _ refl kept h))
+    c.start.ensures.moves
 
 pub returns-in-true-Some-Full-clause-moves : goal.returns-in-true-Some-Full-clause-moves
 returns-in-true-Some-Full-clause-moves c =

@@ -8,6 +8,7 @@ use Rattle.tds_relay.proofs.steps.Placed.{first_opens, none_there}
 use Rattle.tds_relay.proofs.spared.Resting.{go_both, none_go, go_refl}
 use Rattle.tds_relay.proofs.steps.Renaming.{first_called}
 use Rattle.tds_relay.specs.Posts.{names_of}
+use Rattle.tds_relay.proofs.spared.Ordered.{ordered_both}
 use Rattle.tds_relay.proofs.relay.Relay.bring.Goals as goal
 
 pub returns-in_default-clause-goes : goal.returns-in_default-clause-goes
@@ -73,3 +74,9 @@ returns-clause-named c =
     let none : c.is_empty.result ≡ true = search rules in
     first_called _ c.args.tag _ c.args.self.now.links.items _ _ _ (sym (ap (λ (k : ℕ). k == 0) c.args.self.now.links.ok.0) ∙ sym c.is_empty.ensures ∙ none) c.in_ok-push.ensures.items refl refl
     c.in_ok-send_on.ensures.read c.in_ok-serve_line.ensures.opens
+
+pub returns-clause-ordered : goal.returns-clause-ordered
+returns-clause-ordered c = ordered_both _ _ _ c.in_ok-send_on.ensures.ordered c.in_ok-serve_line.ensures.ordered
+
+pub returns-clause-kept : goal.returns-clause-kept
+returns-clause-kept c = c.in_ok-serve_line.ensures.kept ∙ c.in_ok-send_on.ensures.kept

@@ -18,3 +18,6 @@ returns-in_ok-push-in-Some-tag-clause-others c = λ other differs. ap (waits_on 
 
 pub returns-in-None-tag-clause-others : goal.returns-in-None-tag-clause-others
 returns-in-None-tag-clause-others c = λ other differs. ap (waits_on other) c.remove_link.ensures ∙ left_wait c.args.number other c.args.self.now.links.items differs
+
+pub returns-in_ok-push-in-Some-tag-clause-ordered : goal.returns-in_ok-push-in-Some-tag-clause-ordered
+returns-in_ok-push-in-Some-tag-clause-ordered c = (_, c.in_ok-push-in-Some-tag.ensures.items)

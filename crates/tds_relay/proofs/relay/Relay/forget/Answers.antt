@@ -9,10 +9,10 @@ use Rattle.tds_relay.proofs.relay.Relay.forget.Goals as goal
 
 pub returns-then-was_asked-clause-moves : goal.returns-then-was_asked-clause-moves
 returns-then-was_asked-clause-moves c =
-    ok_more c.unask.result _ _ (λ m from h. m from (moves_does (Application c.args.key) from _ _ _ _ _ _ _ c.forget_request-was_asked.ensures.turns tt refl c.forget_request-was_asked.ensures.ends h)) c.unask.ensures.moves
+    ok_more c.unask.result _ _ (λ m quiet from h. m from (moves_does (Application c.args.key) from _ _ _ _ _ _ _ c.forget_request-was_asked.ensures.turns quiet refl c.forget_request-was_asked.ensures.ends h)) c.unask.ensures.moves
 
 pub returns-else-was_asked-clause-moves : goal.returns-else-was_asked-clause-moves
-returns-else-was_asked-clause-moves c = λ from h. (moves_does (Application c.args.key) from _ _ _ _ _ _ _ c.forget_request-was_asked.ensures.turns tt refl c.forget_request-was_asked.ensures.ends h)
+returns-else-was_asked-clause-moves c = λ quiet from h. (moves_does (Application c.args.key) from _ _ _ _ _ _ _ c.forget_request-was_asked.ensures.turns quiet refl c.forget_request-was_asked.ensures.ends h)
 
 pub returns-then-was_asked-clause-read : goal.returns-then-was_asked-clause-read
 returns-then-was_asked-clause-read c = stays_from c.unask.result _ _ _ c.forget_request-was_asked.ensures.links c.unask.ensures.read

@@ -9,9 +9,9 @@ use Rattle.tds_relay.proofs.relay.Relay.keep.Goals as goal
 
 pub returns-in-Kept-clause-goes : goal.returns-in-Kept-clause-goes
 returns-in-Kept-clause-goes c =
-    ok_more c.start.result _ _
+    ok_more c.start_kept.result _ _
     (λ g from h. g (Connection c.args.number) from (subst (λ (d : code.Desk). Reaches (Connection c.args.number) from (desk_in d)) (sym c.restart.ensures.desk) (reaches_turn (Connection c.args.number) from _ _ _ _ _ c.in_ok-hold.ensures.turns.1 tt h)))
-    c.start.ensures.goes
+    c.start_kept.ensures.goes
 
 pub returns-in-NotKept-clause-goes : goal.returns-in-NotKept-clause-goes
 returns-in-NotKept-clause-goes c = ok_more c.replace.result _ _ (λ g from h. g from (reaches_turn (Connection c.args.number) from _ _ _ _ _ c.in_ok-hold.ensures.turns.1 tt h)) c.replace.ensures.goes
@@ -21,9 +21,9 @@ returns-in-Closed-clause-goes c = ok_if c.close.result _ (λ from h. subst (λ (
 
 pub returns-in-Kept-clause-moves : goal.returns-in-Kept-clause-moves
 returns-in-Kept-clause-moves c =
-    ok_more c.start.result _ _
+    ok_more c.start_kept.result _ _
     (λ m asks from h. m (Connection c.args.number) from (moves_same (Connection c.args.number) from _ _ _ _ (ap desk_in c.restart.ensures.desk) c.restart.ensures.ends (moves_does (Connection c.args.number) from _ _ _ _ _ _ _ c.in_ok-hold.ensures.turns.1 asks tt refl h)))
-    c.start.ensures.moves
+    c.start_kept.ensures.moves
 
 pub returns-in-NotKept-clause-moves : goal.returns-in-NotKept-clause-moves
 returns-in-NotKept-clause-moves c = ok_more c.replace.result _ _ (λ m asks from h. m from (moves_does (Connection c.args.number) from _ _ _ _ _ _ _ c.in_ok-hold.ensures.turns.1 asks tt refl h)) c.replace.ensures.moves
@@ -33,10 +33,10 @@ returns-in-Closed-clause-moves c =
     ok_more c.close.result _ _ (λ e asks from h. moves_closes (Connection c.args.number) from _ _ _ _ c.args.key (ap desk_in c.close.ensures.desk) e (moves_does (Connection c.args.number) from _ _ _ _ _ _ _ c.in_ok-hold.ensures.turns.1 asks tt refl h)) c.close.ensures.ends
 
 pub returns-in-Kept-clause-read : goal.returns-in-Kept-clause-read
-returns-in-Kept-clause-read c = stays_on c.start.result _ _ _ c.restart.ensures.read c.start.ensures.read
+returns-in-Kept-clause-read c = stays_on c.start_kept.result _ _ _ c.restart.ensures.read c.start_kept.ensures.read
 
 pub returns-in-Kept-clause-stand : goal.returns-in-Kept-clause-stand
-returns-in-Kept-clause-stand c = stand_on c.start.result _ _ _ (stand_at _ _ _ c.in_ok-hold.ensures.stand c.restart.ensures.desk) c.start.ensures.stand
+returns-in-Kept-clause-stand c = stand_on c.start_kept.result _ _ _ (stand_at _ _ _ c.in_ok-hold.ensures.stand c.restart.ensures.desk) c.start_kept.ensures.stand
 
 pub returns-in-NotKept-clause-stand : goal.returns-in-NotKept-clause-stand
 returns-in-NotKept-clause-stand c = stand_on c.replace.result _ _ _ c.in_ok-hold.ensures.stand c.replace.ensures.stand

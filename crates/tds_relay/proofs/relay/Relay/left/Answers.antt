@@ -14,6 +14,7 @@ use Rattle.tds_relay.specs.Bodies.{body_in}
 use Rattle.tds_relay.specs.declared.application.Application.{Application as AnApplication}
 use Rattle.tds_relay.proofs.steps.Renaming.{names_left, names_on}
 use Rattle.tds_relay.specs.Posts.{names_in, names_of}
+use Rattle.tds_relay.proofs.spared.Ordered.{ordered_on}
 use Rattle.tds_relay.proofs.relay.Relay.left.Goals as goal
 
 pub returns-clause-left : goal.returns-clause-left
@@ -52,3 +53,6 @@ returns-clause-names c =
     let gone = quits_is old c.try_remove.new.self c.args.key c.try_remove.result c.try_remove.ensures.value c.try_remove.ensures.slots c.try_remove.ensures.absent in
     names_on c.serve_line.result (slice_set (names_in old) c.args.key None) c.release.new.self.applications c.serve_line.new.self.applications
     (ap names_of (c.in_ok-release.ensures.kept ∙ gone) ∙ names_left c.args.key (posts_in old)) c.serve_line.ensures.kept
+
+pub returns-clause-ordered : goal.returns-clause-ordered
+returns-clause-ordered c = ordered_on c.serve_line.result _ _ _ c.serve_line.ensures.ordered c.in_ok-release.ensures.ordered

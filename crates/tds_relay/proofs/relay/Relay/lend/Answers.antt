@@ -6,24 +6,41 @@ use Rattle.tds_relay.proofs.steps.Staying.{opens_by_push, opens_on}
 use Rattle.tds_relay.proofs.bytes.Calls.{stand_from}
 use Rattle.tds_relay.specs.declared.desk.Desk as code
 use Rattle.tds_relay.proofs.spared.Resting.{go_on, go_on_one, pushed_rest, rest_go}
+use Rattle.tds_relay.specs.Fronts.{hall_in}
+use Rattle.tds_relay.proofs.spared.Apart.{alone_on, alone_refl, alone_same}
+use Rattle.tds_relay.proofs.spared.Ordered.{ordered_on, ordered_same}
 use Rattle.tds_relay.proofs.relay.Relay.lend.Goals as goal
 
 pub returns-then-served-clause-opens : goal.returns-then-served-clause-opens
-returns-then-served-clause-opens c = opens_on c.start.result _ _ _ c.restart.ensures.read c.start.ensures.read
+returns-then-served-clause-opens c = opens_on c.start_kept.result _ _ _ c.restart.ensures.read c.start_kept.ensures.read
 
 pub returns-clause-opens : goal.returns-clause-opens
 returns-clause-opens c = opens_by_push c.args.self.now.links.items c.args.self.now.links.items c.push.new.self.items c.in_ok-link.link refl c.in_ok-push.ensures.items c.in_ok-link.ensures.closed c.in_ok-link.ensures.unnamed
 
 pub returns-then-served-clause-moves : goal.returns-then-served-clause-moves
-returns-then-served-clause-moves c = ok_more c.start.result _ _ (λ m by from h. m by from (moves_same by from _ _ _ _ (ap desk_in c.restart.ensures.desk) c.restart.ensures.ends h)) c.start.ensures.moves
+returns-then-served-clause-moves c = ok_more c.start_kept.result _ _ (λ m by from h. m by from (moves_same by from _ _ _ _ (ap desk_in c.restart.ensures.desk) c.restart.ensures.ends h)) c.start_kept.ensures.moves
 
 pub returns-then-served-clause-stand : goal.returns-then-served-clause-stand
-returns-then-served-clause-stand c = stand_from c.start.result _ _ _ c.restart.ensures.desk c.start.ensures.stand
+returns-then-served-clause-stand c = stand_from c.start_kept.result _ _ _ c.restart.ensures.desk c.start_kept.ensures.stand
 
 pub returns-then-served-clause-goes_on : goal.returns-then-served-clause-goes_on
-returns-then-served-clause-goes_on c = go_on c.start.result c.args.self.now c.restart.new.self c.start.new.self (λ r. subst (λ (d : code.Desk). IsReached (desk_in d)) (sym c.restart.ensures.desk) r)
+returns-then-served-clause-goes_on c = go_on c.start_kept.result c.args.self.now c.restart.new.self c.start_kept.new.self (λ r. subst (λ (d : code.Desk). IsReached (desk_in d)) (sym c.restart.ensures.desk) r)
     (rest_go c.args.self.now c.restart.new.self (λ r. c.restart.ensures.rests))
-    (go_on_one c.start.result c.args.served.hold.key c.restart.new.self c.start.new.self c.start.ensures.body c.start.ensures.others)
+    (go_on_one c.start_kept.result c.args.served.hold.key c.restart.new.self c.start_kept.new.self c.start_kept.ensures.body c.start_kept.ensures.others)
 
 pub returns-clause-goes_on : goal.returns-clause-goes_on
 returns-clause-goes_on c = rest_go c.args.self.now _ (λ r. pushed_rest c.in_ok-link.link c.args.self.now _ refl refl c.in_ok-push.ensures.items)
+
+pub returns-then-served-clause-alone : goal.returns-then-served-clause-alone
+returns-then-served-clause-alone c =
+    alone_on c.start_kept.result c.args.served.hold.key (hall_in c.args.self.now) (hall_in c.restart.new.self) _ c.start_kept.ensures.alone
+    (alone_same c.args.served.hold.key (hall_in c.args.self.now) (hall_in c.restart.new.self) c.restart.ensures.ends (ap (λ (d : code.Desk). (desk_in d).line) c.restart.ensures.desk))
+
+pub returns-clause-alone : goal.returns-clause-alone
+returns-clause-alone c = alone_refl c.args.served.hold.key (hall_in c.args.self.now)
+
+pub returns-then-served-clause-ordered : goal.returns-then-served-clause-ordered
+returns-then-served-clause-ordered c = ordered_on c.start_kept.result _ _ _ c.start_kept.ensures.ordered (ordered_same _ _ c.restart.ensures.orders)
+
+pub returns-clause-ordered : goal.returns-clause-ordered
+returns-clause-ordered c = (_, c.in_ok-push-2.ensures.items)

@@ -1,10 +1,13 @@
-use Rattle.std.proofs.Common.{ap, refl, subst, sym, ◌∙◌}
+use Rattle.std.proofs.Common.{Option, ℕ, ap, refl, subst, sym, ◌∙◌}
 use Rattle.tds_relay.specs.declared.desk.Desk as code
 use Rattle.tds_relay.specs.Ties.{Reaches, desk_in}
 use Rattle.tds_relay.proofs.steps.Fronts.{moves_loses, moves_same}
 use Rattle.tds_relay.proofs.steps.Reaching.{ok_if, ok_more, reaches_turn, reaches_turned}
 use Rattle.tds_relay.proofs.bytes.Calls.{stand_at}
 use Rattle.tds_relay.proofs.spared.Resting.{lost_on}
+use Rattle.tds_relay.specs.Fronts.{ends_in}
+use Rattle.tds_relay.specs.Hall.{change_whose, closes}
+use Rattle.tds_relay.proofs.spared.Apart.{line_loses}
 use Rattle.tds_relay.proofs.relay.Relay.lose.Goals as goal
 
 pub returns-clause-lost : goal.returns-clause-lost
@@ -33,3 +36,9 @@ returns-clause-rests c = λ reached.
 
 pub returns-clause-shuts : goal.returns-clause-shuts
 returns-clause-shuts c = ok_more c.close.result _ _ (λ s key e. s key (c.in_ok-key.ensures.whose ∙ e)) c.close.ensures.shuts
+
+pub returns-clause-ends : goal.returns-clause-ends
+returns-clause-ends c = ok_more c.close.result _ _ (λ e. e ∙ ap (λ (o : Option ℕ). change_whose o closes (ends_in c.args.self.now.applications)) c.in_ok-key.ensures.whose) c.close.ensures.ends
+
+pub returns-clause-line : goal.returns-clause-line
+returns-clause-line c = ok_if c.close.result _ (ap (λ (d : code.Desk). (desk_in d).line) c.close.ensures.desk ∙ line_loses c.args.number _ _ _ _ c.in_ok-key.ensures.turns)

@@ -1,4 +1,5 @@
-use Rattle.tds_relay.specs.Fronts.{house_in}
+use Rattle.tds_relay.specs.Fronts.{hall_in, house_in}
+use Rattle.tds_relay.proofs.spared.Apart.{loses_only}
 use Rattle.tds_relay.specs.Ties.{desk_in}
 use Rattle.tds_relay.proofs.steps.Stepping.{no_steps, steps_moved, steps_whoever}
 use Rattle.tds_relay.proofs.steps.Staying.{opens_served}
@@ -8,6 +9,7 @@ use Rattle.tds_relay.proofs.steps.Reaching.{ok_more}
 use Rattle.tds_relay.proofs.steps.Renaming.{names_on}
 use Rattle.tds_relay.specs.Posts.{names_in, names_of}
 use Rattle.std.proofs.Common.{ap}
+use Rattle.tds_relay.proofs.spared.Ordered.{ordered_on}
 use Rattle.tds_relay.proofs.relay.Relay.lost.Goals as goal
 
 pub returns-clause-steps : goal.returns-clause-steps
@@ -32,3 +34,9 @@ returns-clause-lost c = ok_more c.serve_line.result _ _ (λ g by from h. g by fr
 
 pub returns-clause-names : goal.returns-clause-names
 returns-clause-names c = names_on c.serve_line.result (names_in c.args.self.now.applications) c.lose.new.self.applications c.serve_line.new.self.applications (ap names_of c.in_ok-lose.ensures.kept) c.serve_line.ensures.kept
+
+pub returns-clause-only : goal.returns-clause-only
+returns-clause-only c = loses_only c.serve_line.result c.args.number (hall_in c.args.self.now) (hall_in c.lose.new.self) (hall_in c.serve_line.new.self) c.in_ok-lose.ensures.ends c.in_ok-lose.ensures.line c.serve_line.ensures.apart
+
+pub returns-clause-ordered : goal.returns-clause-ordered
+returns-clause-ordered c = ordered_on c.serve_line.result _ _ _ c.serve_line.ensures.ordered c.in_ok-lose.ensures.ordered

@@ -1,10 +1,11 @@
-use Rattle.std.proofs.Common.{true, ◌≡◌, ◌∙◌, ap, false, rules, sym, subst, List, ℕ, Some, refl, slice_set}
+use Rattle.std.proofs.Common.{true, Bool, ◌≡◌, ◌⊎◌, ◌∙◌, ap, false, rules, sym, subst, List, ℕ, Some, refl, slice_set}
 use Rattle.tds_front.specs.Bytes.{fed}
 use Rattle.tds_front.specs.declared.front.Said.{Said}
-use Rattle.tds_relay.specs.Fronts.{given_by, hall_in}
+use Rattle.tds_front.specs.declared.front.Said.TheVariants as said
+use Rattle.tds_relay.specs.Fronts.{ClosesInstead, IsFed, TakesBetween, ends_in, given_by, hall_in, hall_of_ends}
 use Rattle.tds_relay.specs.Hall.{IfAsked, Ends, Open, asks_by, end_at, hands_on, takes_back}
 use Rattle.tds_relay.specs.Posts.{acknowledgement, give, posts_in, Posts}
-use Rattle.tds_relay.specs.Ties.{Application}
+use Rattle.tds_relay.specs.Ties.{Application, desk_in}
 use Rattle.tds_relay.proofs.steps.Fronts.{asks_begun}
 use Rattle.tds_relay.proofs.steps.Told.{fed_then}
 use Rattle.tds_relay.proofs.steps.Reaching.{ok_more, ok_if}
@@ -13,6 +14,7 @@ use Rattle.tds_relay.specs.Asking.{IfAsks, IsUnderway}
 use Rattle.tds_relay.proofs.bytes.Calls.{stand_at}
 use Rattle.tds_relay.specs.Bodies.{Grows, Nowhere, Obeys, Stays, body_of, going_of}
 use Rattle.tds_relay.proofs.steps.Bodied.{forgot_on}
+use Rattle.tds_relay.proofs.steps.Quieting.{Drops, quiet_fed}
 use Rattle.tds_relay.proofs.relay.Relay.obey.Goals as goal
 
 pub returns-in-Begin-clause-given : goal.returns-in-Begin-clause-given
@@ -72,14 +74,29 @@ pub returns-in-Forget-false-clause-moves : goal.returns-in-Forget-false-clause-m
 returns-in-Forget-false-clause-moves c =
     let none : c.in-Forget-false.gone ≡ false = search rules in
     ok_more c.forget.result _ _
-    (λ m before bytes f. fed_then c.args.key _ before _ bytes c.args.said _ (ap takes_back c.in-Forget-false.is ∙ none) (ap hands_on c.in-Forget-false.is) f m)
+    (λ m before bytes f. fed_then c.args.key _ before _ bytes c.args.said _ (ap takes_back c.in-Forget-false.is ∙ none) (ap hands_on c.in-Forget-false.is) f
+    (m (quiet_fed c.args.key before _ bytes c.args.said c.bytes_are_packets.ensures.stage c.bytes_are_packets.ensures.says (subst Drops (sym c.in-Forget-false.is) tt) f)))
     c.forget.ensures.moves
+
+pub returns-in-Forget-true-clause-moves : goal.returns-in-Forget-true-clause-moves
+returns-in-Forget-true-clause-moves c =
+    let some : c.in-Forget-true.gone ≡ true = search rules in
+    let is : c.args.said ≡ said.Forget true = c.in-Forget-true.is ∙ ap (λ (b : Bool). said.Forget b) some in
+    let d = desk_in c.args.self.now.desk in
+    let now = ends_in c.args.self.now.applications in
+    ok_more c.take_back.result _ _
+    (λ m before bytes f.
+    let g : IsFed c.args.key before now bytes (said.Forget true) = subst (λ (s : Said). IsFed c.args.key before now bytes s) is f in
+    subst (λ (s : Said). TakesBetween c.args.key (hall_of_ends d before) bytes (hall_in c.take_back.new.self) ⊎ ClosesInstead c.args.key s (hall_of_ends d before) (hall_in c.take_back.new.self)) (sym is)
+    (m (quiet_fed c.args.key before now bytes (said.Forget true) c.bytes_are_packets.ensures.stage c.bytes_are_packets.ensures.says tt g) before bytes g))
+    c.take_back.ensures.moves
 
 pub returns-in_ok-forget-in-Acknowledge-clause-moves : goal.returns-in_ok-forget-in-Acknowledge-clause-moves
 returns-in_ok-forget-in-Acknowledge-clause-moves c =
     ok_more c.acknowledge.result _ _
     (λ m before bytes f. fed_then c.args.key _ before _ bytes c.args.said _ (ap takes_back c.in-Acknowledge.is) (ap hands_on c.in-Acknowledge.is) f
-    (λ from h. m (Application c.args.key) from (c.in_ok-forget-in-Acknowledge.ensures.moves from h)))
+    (λ from h. m (Application c.args.key) from
+    (c.in_ok-forget-in-Acknowledge.ensures.moves (quiet_fed c.args.key before _ bytes c.args.said c.bytes_are_packets.ensures.stage c.bytes_are_packets.ensures.says (subst Drops (sym c.in-Acknowledge.is) tt) f) from h)))
     c.acknowledge.ensures.moves
 
 pub returns-in-Nothing-clause-read : goal.returns-in-Nothing-clause-read

@@ -10,6 +10,7 @@ use Rattle.tds_relay.specs.Reads.{open_at}
 use Rattle.tds_relay.proofs.spared.Starting.{started_on}
 use Rattle.tds_relay.proofs.steps.Renaming.{names_on}
 use Rattle.tds_relay.specs.Posts.{names_in, names_of}
+use Rattle.tds_relay.proofs.spared.Ordered.{ordered_both, ordered_on, ordered_same}
 use Rattle.tds_relay.proofs.relay.Relay.opened.Goals as goal
 
 pub returns-clause-steps : goal.returns-clause-steps
@@ -61,3 +62,7 @@ pub returns-clause-names : goal.returns-clause-names
 returns-clause-names c =
     names_on c.serve_line.result (names_in c.args.self.now.applications) c.start_on.new.self.applications c.serve_line.new.self.applications
     (ap names_of (c.in_ok-start_on.ensures.kept ∙ c.in_ok-order_write_on.ensures.kept ∙ c.set_open.ensures.kept)) c.serve_line.ensures.kept
+
+pub returns-clause-ordered : goal.returns-clause-ordered
+returns-clause-ordered c = ordered_on c.serve_line.result _ _ _ c.serve_line.ensures.ordered
+    (ordered_both _ _ _ (ordered_both _ _ _ (ordered_same _ _ c.set_open.ensures.orders) c.in_ok-order_write_on.ensures.ordered) c.in_ok-start_on.ensures.ordered)

@@ -2,7 +2,6 @@ use Rattle.std.proofs.Common.{◌∙◌, List, ap, refl, rules, subst, sym, ℕ,
 use Rattle.tds_relay.specs.declared.desk.Desk as code
 use Rattle.tds_relay.specs.declared.link.Link.{Link}
 use Rattle.tds_relay.specs.Asking.{Closes, Sends, SendsOn}
-use Rattle.tds_relay.specs.Fronts.{MayPut}
 use Rattle.tds_relay.specs.Reads.{Stays}
 use Rattle.tds_relay.specs.Ties.{desk_in, Reaches}
 use Rattle.tds_relay.proofs.steps.Fronts.{moves_closes, moves_same}
@@ -16,6 +15,10 @@ use Rattle.tds_relay.proofs.steps.Bodied.{closed_body, shut}
 use Rattle.tds_relay.proofs.steps.Going.{grows_on, waits_behind}
 use Rattle.tds_relay.specs.Bodies.{ClientPuts, going_of, Grows, going}
 use Rattle.tds_relay.specs.Desk.{find_key}
+use Rattle.tds_relay.specs.Fronts.{MayPut, hall_in}
+use Rattle.tds_relay.specs.Hall.{closes}
+use Rattle.tds_relay.proofs.spared.Apart.{alone_both, alone_changed, alone_on, alone_same}
+use Rattle.tds_relay.proofs.spared.Ordered.{ordered_both, ordered_closing, ordered_on, ordered_refl, ordered_same}
 use Rattle.tds_relay.proofs.relay.Relay.put.Goals as goal
 
 pub returns-in_default-clause-moves : goal.returns-in_default-clause-moves
@@ -137,3 +140,36 @@ returns-then-fits-clause-body c =
           (grows_on c.args.whole c.args.bytes.now c.args.key c.args.self.now.desk c.put_on-is_put.new.desk after ls c.fits_on.new.self.links.items c.in-Some.hold (sym c.hold_of.ensures ∙ c.in-Some.is) p
           (waits_behind c.in-Some.hold.number c.fits_on.new.self.links.items _ ls _ after (c.in_ok-fits.ensures.waits (search rules)) c.note_went_on.ensures.links c.note_went_on.ensures.outbox)),
     )
+
+pub returns-in_default-clause-alone : goal.returns-in_default-clause-alone
+returns-in_default-clause-alone c = ok_more c.end.result _ _ (λ e. alone_changed c.args.key closes (hall_in c.args.self.now) (hall_in c.end.new.self) e (ap (λ (d : code.Desk). (desk_in d).line) c.end.ensures.desk)) c.end.ensures.ends
+
+pub returns-then-not-is_put-clause-alone : goal.returns-then-not-is_put-clause-alone
+returns-then-not-is_put-clause-alone c =
+    alone_on c.fail-then-not-is_put.result c.args.key (hall_in c.args.self.now) (hall_in c.note_went_on.new.self) _ c.fail-then-not-is_put.ensures.alone
+    (alone_changed c.args.key _ (hall_in c.args.self.now) (hall_in c.note_went_on.new.self) c.note_went_on.ensures.ends (ap (λ (d : code.Desk). (desk_in d).line) c.note_went_on.ensures.desk ∙ c.put_on-is_put.ensures.line))
+
+pub returns-then-fits-clause-alone : goal.returns-then-fits-clause-alone
+returns-then-fits-clause-alone c =
+    alone_both c.args.key (hall_in c.args.self.now) (hall_in c.note_went_on.new.self) (hall_in c.fits_on.new.self)
+    (alone_changed c.args.key _ (hall_in c.args.self.now) (hall_in c.note_went_on.new.self) c.note_went_on.ensures.ends (ap (λ (d : code.Desk). (desk_in d).line) c.note_went_on.ensures.desk ∙ c.put_on-is_put.ensures.line))
+    (alone_same c.args.key (hall_in c.note_went_on.new.self) (hall_in c.fits_on.new.self) c.in_ok-fits.ensures.ends (ap (λ (d : code.Desk). (desk_in d).line) c.fits_on.ensures.desk))
+
+pub returns-else-fits-clause-alone : goal.returns-else-fits-clause-alone
+returns-else-fits-clause-alone c =
+    alone_on c.fail-else-fits.result c.args.key (hall_in c.args.self.now) (hall_in c.fits_on.new.self) _ c.fail-else-fits.ensures.alone
+    (alone_both c.args.key (hall_in c.args.self.now) (hall_in c.note_went_on.new.self) (hall_in c.fits_on.new.self)
+    (alone_changed c.args.key _ (hall_in c.args.self.now) (hall_in c.note_went_on.new.self) c.note_went_on.ensures.ends (ap (λ (d : code.Desk). (desk_in d).line) c.note_went_on.ensures.desk ∙ c.put_on-is_put.ensures.line))
+    (alone_same c.args.key (hall_in c.note_went_on.new.self) (hall_in c.fits_on.new.self) c.in_ok-fits.ensures.ends (ap (λ (d : code.Desk). (desk_in d).line) c.fits_on.ensures.desk)))
+
+pub returns-in_default-clause-ordered : goal.returns-in_default-clause-ordered
+returns-in_default-clause-ordered c = ordered_closing c.end.result _ _ _ _ c.end.ensures.ordered (ordered_refl _)
+
+pub returns-then-not-is_put-clause-ordered : goal.returns-then-not-is_put-clause-ordered
+returns-then-not-is_put-clause-ordered c = ordered_on c.fail-then-not-is_put.result _ _ _ c.fail-then-not-is_put.ensures.ordered (ordered_same _ _ c.note_went_on.ensures.orders)
+
+pub returns-then-fits-clause-ordered : goal.returns-then-fits-clause-ordered
+returns-then-fits-clause-ordered c = ordered_both _ _ _ (ordered_same _ _ c.note_went_on.ensures.orders) c.in_ok-fits.ensures.ordered
+
+pub returns-else-fits-clause-ordered : goal.returns-else-fits-clause-ordered
+returns-else-fits-clause-ordered c = ordered_on c.fail-else-fits.result _ _ _ c.fail-else-fits.ensures.ordered (ordered_both _ _ _ (ordered_same _ _ c.note_went_on.ensures.orders) c.in_ok-fits.ensures.ordered)

@@ -7,6 +7,10 @@ use Rattle.tds_relay.proofs.steps.Reaching.{ok_more}
 use Rattle.tds_relay.proofs.steps.Underway.{written_there}
 use Rattle.tds_relay.proofs.spared.Resting.{others_on, written_rest}
 use Rattle.tds_relay.proofs.spared.Starting.{put_unkept_on, unkept_none}
+use Rattle.tds_relay.specs.Fronts.{ends_in, hall_in, hall_of_ends}
+use Rattle.tds_relay.specs.Ties.{desk_in}
+use Rattle.tds_relay.proofs.steps.Fronts.{ends_kept}
+use Rattle.tds_relay.proofs.spared.Apart.{alone_on, alone_same}
 use Rattle.tds_relay.proofs.relay.Relay.put_held.Goals as goal
 
 pub returns-in_default-clause-body : goal.returns-in_default-clause-body
@@ -32,3 +36,9 @@ returns-in_default-clause-gone c = unkept_none c.args.self.now.applications c.ar
 
 pub returns-clause-gone : goal.returns-clause-gone
 returns-clause-gone c = put_unkept_on c.put.result _ c.args.key c.args.self.now.applications c.in-Some.application.now c.forget.new.self c.put.new.self c.put.ensures.body c.in-Some.ensures.value c.forget.ensures.asking
+
+pub returns-clause-alone : goal.returns-clause-alone
+returns-clause-alone c =
+    let kept = ends_kept c.args.self.now.applications c.args.key c.in-Some.application.now c.forget.new.self c.in-Some.ensures.value c.forget.ensures.end in
+    alone_on c.put.result c.args.key (hall_in c.args.self.now) (hall_of_ends (desk_in c.args.self.now.desk) (ends_in (with_value c.args.self.now.applications c.args.key c.forget.new.self))) _ c.put.ensures.alone
+    (alone_same c.args.key (hall_in c.args.self.now) (hall_of_ends (desk_in c.args.self.now.desk) (ends_in (with_value c.args.self.now.applications c.args.key c.forget.new.self))) kept refl)

@@ -7,6 +7,7 @@ use Rattle.tds_relay.proofs.bytes.Calls.{stand_at, stand_on}
 use Rattle.tds_relay.proofs.spared.Letting.{left_rest, shut_rest, unheld_rest, left_reached}
 use Rattle.tds_relay.specs.Desk.{find_key}
 use Rattle.tds_relay.specs.declared.desk.Desk as code
+use Rattle.tds_relay.proofs.spared.Ordered.{ordered_on, ordered_same}
 use Rattle.tds_relay.proofs.relay.Relay.release.Goals as goal
 
 pub returns-in_default-clause-lets_go : goal.returns-in_default-clause-lets_go
@@ -60,3 +61,12 @@ returns-then-left-clause-leaving c = ok_more c.send_on.result _ _
       c.in_ok-left.ensures.turns.1,
       λ by from h. g by from (subst (λ (d : code.Desk). Reaches by from (desk_in d)) (sym c.let_go.ensures.desk) (reaches_turned by from _ _ _ _ _ c.in_ok-left.ensures.turns.2 h)),
     )) c.send_on.ensures.goes
+
+pub returns-in_default-clause-ordered : goal.returns-in_default-clause-ordered
+returns-in_default-clause-ordered c = ordered_same _ _ c.let_go.ensures.orders
+
+pub returns-then-left-clause-ordered : goal.returns-then-left-clause-ordered
+returns-then-left-clause-ordered c = ordered_on c.send_on.result _ _ _ c.send_on.ensures.ordered (ordered_same _ _ c.let_go.ensures.orders)
+
+pub returns-else-left-clause-ordered : goal.returns-else-left-clause-ordered
+returns-else-left-clause-ordered c = ordered_on c.close.result _ _ _ c.close.ensures.ordered (ordered_same _ _ c.let_go.ensures.orders)

@@ -15,9 +15,9 @@ use Rattle.tds_relay.proofs.relay.Relay.renew.Goals as goal
 
 pub returns-in-Kept-clause-goes : goal.returns-in-Kept-clause-goes
 returns-in-Kept-clause-goes c =
-    ok_more c.start.result _ _
+    ok_more c.start_kept.result _ _
     (λ g from h. g (Application c.args.key) from (subst (λ (d : code.Desk). Reaches (Application c.args.key) from (desk_in d)) (sym c.restart.ensures.desk) (reaches_turn (Application c.args.key) from _ _ _ _ _ c.in_ok-hold.ensures.turns.1 refl h)))
-    c.start.ensures.goes
+    c.start_kept.ensures.goes
 
 pub returns-else-has_transaction-clause-goes : goal.returns-else-has_transaction-clause-goes
 returns-else-has_transaction-clause-goes c = ok_more c.change.result _ _ (λ g from h. g from (reaches_turn (Application c.args.key) from _ _ _ _ _ c.in_ok-hold.ensures.turns.1 refl h)) c.change.ensures.goes
@@ -27,10 +27,10 @@ returns-in-Closed-clause-goes c = ok_if c.close.result _ (λ from h. subst (λ (
 
 pub returns-in-Kept-clause-moves : goal.returns-in-Kept-clause-moves
 returns-in-Kept-clause-moves c =
-    ok_more c.start.result _ _
+    ok_more c.start_kept.result _ _
     (λ m asks from h. m (Application c.args.key) from (moves_same (Application c.args.key) from _ _ _ _ (ap desk_in c.restart.ensures.desk) c.restart.ensures.ends
     (moves_does (Application c.args.key) from _ _ _ _ _ _ _ c.in_ok-hold.ensures.turns.1 asks refl refl h)))
-    c.start.ensures.moves
+    c.start_kept.ensures.moves
 
 pub returns-else-has_transaction-clause-moves : goal.returns-else-has_transaction-clause-moves
 returns-else-has_transaction-clause-moves c = ok_more c.change.result _ _ (λ m asks from h. m (inr (asks, c.has_transaction.ensures (search rules))) from (moves_does (Application c.args.key) from _ _ _ _ _ _ _ c.in_ok-hold.ensures.turns.1 asks refl refl h)) c.change.ensures.moves
@@ -40,13 +40,13 @@ returns-in-Closed-clause-moves c =
     ok_more c.close.result _ _ (λ e asks from h. moves_closes (Application c.args.key) from _ _ _ _ c.args.key (ap desk_in c.close.ensures.desk) e (moves_does (Application c.args.key) from _ _ _ _ _ _ _ c.in_ok-hold.ensures.turns.1 asks refl refl h)) c.close.ensures.ends
 
 pub returns-in-Kept-clause-read : goal.returns-in-Kept-clause-read
-returns-in-Kept-clause-read c = stays_on c.start.result _ _ _ c.restart.ensures.read c.start.ensures.read
+returns-in-Kept-clause-read c = stays_on c.start_kept.result _ _ _ c.restart.ensures.read c.start_kept.ensures.read
 
 pub returns-else-has_transaction-clause-underway : goal.returns-else-has_transaction-clause-underway
 returns-else-has_transaction-clause-underway c = λ whole waits. ok_more c.change.result _ _ (λ u. u whole) c.change.ensures.underway
 
 pub returns-in-Kept-clause-stand : goal.returns-in-Kept-clause-stand
-returns-in-Kept-clause-stand c = stand_on c.start.result _ _ _ (stand_at _ _ _ c.in_ok-hold.ensures.stand c.restart.ensures.desk) c.start.ensures.stand
+returns-in-Kept-clause-stand c = stand_on c.start_kept.result _ _ _ (stand_at _ _ _ c.in_ok-hold.ensures.stand c.restart.ensures.desk) c.start_kept.ensures.stand
 
 pub returns-else-has_transaction-clause-stand : goal.returns-else-has_transaction-clause-stand
 returns-else-has_transaction-clause-stand c = stand_on c.change.result _ _ _ c.in_ok-hold.ensures.stand c.change.ensures.stand
@@ -56,8 +56,8 @@ returns-in-Closed-clause-stand c = ok_if c.close.result _ (stand_at _ _ _ c.in_o
 
 pub returns-in-Kept-clause-body : goal.returns-in-Kept-clause-body
 returns-in-Kept-clause-body c = λ whole waits.
-    ok_more c.start.result _ _ (λ s. waits_from (get c.args.self.now.applications c.args.key) (get c.restart.new.self.applications c.args.key) whole (going_of c.args.key c.args.self.now) (going_of c.args.key c.restart.new.self) (body_of c.args.key c.start.new.self) waits
-    (ap (λ (s : Slab an.Application). get s c.args.key) c.restart.ensures.same) s) c.start.ensures.body
+    ok_more c.start_kept.result _ _ (λ s. waits_from (get c.args.self.now.applications c.args.key) (get c.restart.new.self.applications c.args.key) whole (going_of c.args.key c.args.self.now) (going_of c.args.key c.restart.new.self) (body_of c.args.key c.start_kept.new.self) waits
+    (ap (λ (s : Slab an.Application). get s c.args.key) c.restart.ensures.same) s) c.start_kept.ensures.body
 
 pub returns-else-has_transaction-clause-body : goal.returns-else-has_transaction-clause-body
 returns-else-has_transaction-clause-body c = λ whole waits.

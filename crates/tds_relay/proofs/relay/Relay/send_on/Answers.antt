@@ -6,6 +6,7 @@ use Rattle.tds_relay.proofs.steps.Staying.{filled_by, gone_filled, stays_on}
 use Rattle.tds_relay.proofs.bytes.Calls.{stand_from}
 use Rattle.tds_relay.proofs.spared.Letting.{sent_all}
 use Rattle.tds_relay.specs.declared.desk.Desk as code
+use Rattle.tds_relay.proofs.spared.Ordered.{ordered_on}
 use Rattle.tds_relay.proofs.relay.Relay.send_on.Goals as goal
 
 pub returns-else-fits-clause-read : goal.returns-else-fits-clause-read
@@ -34,3 +35,6 @@ returns-then-fits-clause-puts c = filled_by c.args.self.now.outbox.items _ _ (c.
 
 pub returns-else-fits-clause-puts : goal.returns-else-fits-clause-puts
 returns-else-fits-clause-puts c = ok_more c.lose.result _ _ (λ g. gone_filled c.args.self.now.outbox.items c.args.number _ c.lose.new.self.links.items g) c.lose.ensures.gone
+
+pub returns-else-fits-clause-ordered : goal.returns-else-fits-clause-ordered
+returns-else-fits-clause-ordered c = ordered_on c.lose.result _ _ _ c.lose.ensures.ordered c.in_ok-fits.ensures.ordered

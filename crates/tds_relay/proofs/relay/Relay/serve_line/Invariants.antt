@@ -1,10 +1,12 @@
 use Rattle.std.proofs.Common.{◌≡◌}
 use Rattle.tds_relay.specs.Fronts.{MovedOn, hall_in}
+use Rattle.tds_relay.specs.Ordering.{StayOrdered}
 use Rattle.tds_relay.specs.Posts.{posts_in}
 use Rattle.tds_relay.specs.Reads.{Opens}
 use Rattle.tds_relay.specs.Sparing.{AllGo}
 use Rattle.tds_relay.specs.Ties.{GoesOn, desk_in}
 use Rattle.tds_relay.specs.Walkers.{AllStand}
+use Rattle.tds_relay.proofs.spared.Apart.{Unserved}
 use Rattle.tds_relay.proofs.relay.Relay.serve_line.Given as goal
 
 abbrev pub invariant-line : goal.invariant-line
@@ -15,4 +17,6 @@ invariant-line l = record {
   opens : Opens l.fn.self.links.items l.self.links.items;
   stand : AllStand l.fn.self.desk.service l.self.desk.service;
   going : AllGo l.fn.self l.self;
+  ordered : StayOrdered l.fn.self.orders.items l.self.orders.items;
+  unserved : Unserved (hall_in l.fn.self) (hall_in l.self);
 }

@@ -1,7 +1,7 @@
 use Rattle.std.proofs.Common.{◌∙◌, ap, refl, rules, sym, subst, inl, inr}
 use Rattle.tds_relay.specs.Asking.{Opens}
 use Rattle.tds_relay.specs.Ties.{desk_in, IsReached}
-use Rattle.tds_relay.proofs.steps.Fronts.{moves_closes, moves_does}
+use Rattle.tds_relay.proofs.steps.Fronts.{moves_closes, moves_does, moves_same}
 use Rattle.tds_relay.proofs.steps.Reaching.{ok_more, reaches_turn}
 use Rattle.tds_relay.proofs.steps.Underway.{drains}
 use Rattle.tds_relay.proofs.bytes.Calls.{stand_on}
@@ -14,16 +14,24 @@ use Rattle.tds_relay.proofs.spared.Resting.{others_all, others_on, others_refl, 
 use Rattle.tds_relay.specs.Sparing.{Drains}
 use Rattle.tds_relay.specs.Sparing as sparing
 use Rattle.tds_relay.proofs.spared.Starting.{taken_back, unkept_closed, unkept_none, unkept_over, unkept_there}
+use Rattle.tds_relay.specs.declared.desk.Desk as desks
+use Rattle.tds_relay.specs.Fronts.{ends_in, hall_in, hall_of_ends}
+use Rattle.tds_relay.specs.Hall.{closes}
+use Rattle.tds_relay.proofs.spared.Apart.{alone_changed, alone_on, alone_same, line_does}
+use Rattle.tds_relay.proofs.spared.Ordered.{ordered_closing, ordered_refl}
 use Rattle.tds_relay.proofs.relay.Relay.start.Goals as goal
 
 pub returns-in-Ok-clause-goes : goal.returns-in-Ok-clause-goes
 returns-in-Ok-clause-goes c = ok_more c.put_held.result _ _ (λ g by from h. g by from (reaches_turn by from _ _ _ _ _ c.in-Ok.ensures.ok tt h)) c.put_held.ensures.goes
 
 pub returns-in-Ok-clause-moves : goal.returns-in-Ok-clause-moves
-returns-in-Ok-clause-moves c = ok_more c.put_held.result _ _ (λ m by from h. m by from (moves_does by from _ _ _ _ _ _ _ c.in-Ok.ensures.ok (tt, tt) tt refl h)) c.put_held.ensures.moves
+returns-in-Ok-clause-moves c = ok_more c.put_held.result _ _ (λ m may by from h. m by from (moves_does by from _ _ _ _ _ _ _ c.in-Ok.ensures.ok (tt, tt, may) tt refl h)) c.put_held.ensures.moves
+
+pub returns-in-Err-clause-moves : goal.returns-in-Err-clause-moves
+returns-in-Err-clause-moves c = ok_more c.fail.result _ _ (λ m may by from h. m by from (moves_same by from _ _ _ _ c.in-Err.ensures.err refl h)) c.fail.ensures.moves
 
 pub returns-in_default-hold_of-clause-moves : goal.returns-in_default-hold_of-clause-moves
-returns-in_default-hold_of-clause-moves c = ok_more c.end.result _ _ (λ e by from h. moves_closes by from _ _ _ _ c.args.key (ap desk_in c.end.ensures.desk) e h) c.end.ensures.ends
+returns-in_default-hold_of-clause-moves c = ok_more c.end.result _ _ (λ e may by from h. moves_closes by from _ _ _ _ c.args.key (ap desk_in c.end.ensures.desk) e h) c.end.ensures.ends
 
 pub returns-then-application-2-clause-underway : goal.returns-then-application-2-clause-underway
 returns-then-application-2-clause-underway c = λ whole waits.
@@ -105,3 +113,19 @@ returns-in-Ok-clause-waits c = ok_more c.put_held.result _ _ (λ g. inl g) c.put
 
 pub returns-in-Err-clause-waits : goal.returns-in-Err-clause-waits
 returns-in-Err-clause-waits c = ok_more c.fail.result _ _ (λ d. inl (unkept_closed _ (shut c.fail.new.self.applications c.args.key _ d))) c.fail.ensures.over
+
+pub returns-in_default-hold_of-clause-alone : goal.returns-in_default-hold_of-clause-alone
+returns-in_default-hold_of-clause-alone c = ok_more c.end.result _ _ (λ e. alone_changed c.args.key closes (hall_in c.args.self.now) (hall_in c.end.new.self) e (ap (λ (d : desks.Desk). (desk_in d).line) c.end.ensures.desk)) c.end.ensures.ends
+
+pub returns-in-Ok-clause-alone : goal.returns-in-Ok-clause-alone
+returns-in-Ok-clause-alone c =
+    alone_on c.put_held.result c.args.key (hall_in c.args.self.now) (hall_of_ends (desk_in c.ask.new.self) (ends_in c.args.self.now.applications)) _ c.put_held.ensures.alone
+    (alone_same c.args.key (hall_in c.args.self.now) (hall_of_ends (desk_in c.ask.new.self) (ends_in c.args.self.now.applications)) refl (line_does c.args.key _ _ _ _ _ c.in-Ok.ensures.ok))
+
+pub returns-in-Err-clause-alone : goal.returns-in-Err-clause-alone
+returns-in-Err-clause-alone c =
+    alone_on c.fail.result c.args.key (hall_in c.args.self.now) (hall_of_ends (desk_in c.ask.new.self) (ends_in c.args.self.now.applications)) _ c.fail.ensures.alone
+    (alone_same c.args.key (hall_in c.args.self.now) (hall_of_ends (desk_in c.ask.new.self) (ends_in c.args.self.now.applications)) refl (ap (λ (d : Desk). d.line) c.in-Err.ensures.err))
+
+pub returns-in_default-hold_of-clause-ordered : goal.returns-in_default-hold_of-clause-ordered
+returns-in_default-hold_of-clause-ordered c = ordered_closing c.end.result _ _ _ _ c.end.ensures.ordered (ordered_refl _)

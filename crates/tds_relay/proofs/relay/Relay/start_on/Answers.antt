@@ -6,13 +6,13 @@ use Rattle.tds_relay.proofs.spared.Starting.{none_own, own_on}
 use Rattle.tds_relay.proofs.relay.Relay.start_on.Goals as goal
 
 pub returns-in-Some-clause-goes_on : goal.returns-in-Some-clause-goes_on
-returns-in-Some-clause-goes_on c = go_on_one c.start.result c.in-Some.key c.args.self.now c.start.new.self c.start.ensures.body c.start.ensures.others
+returns-in-Some-clause-goes_on c = go_on_one c.start_kept.result c.in-Some.key c.args.self.now c.start_kept.new.self c.start_kept.ensures.body c.start_kept.ensures.others
 
 pub returns-in-None-clause-goes_on : goal.returns-in-None-clause-goes_on
 returns-in-None-clause-goes_on c = go_refl c.args.self.now
 
 pub returns-in-Some-clause-waits : goal.returns-in-Some-clause-waits
-returns-in-Some-clause-waits c = own_on c.start.result _ c.in-Some.key (λ (k : ℕ). IsUnkept (body_of k c.start.new.self) ⊎ IsHeldBack k c.args.self.now) (sym c.key_on.ensures ∙ c.in-Some.is) c.start.ensures.waits
+returns-in-Some-clause-waits c = own_on c.start_kept.result _ c.in-Some.key (λ (k : ℕ). IsUnkept (body_of k c.start_kept.new.self) ⊎ IsHeldBack k c.args.self.now) (sym c.key_on.ensures ∙ c.in-Some.is) c.start_kept.ensures.waits
 
 pub returns-in-None-clause-waits : goal.returns-in-None-clause-waits
 returns-in-None-clause-waits c = none_own _ (λ (k : ℕ). IsUnkept (body_of k c.args.self.now) ⊎ IsHeldBack k c.args.self.now) (sym c.key_on.ensures ∙ c.in-None.is)

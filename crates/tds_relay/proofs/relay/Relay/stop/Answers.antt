@@ -9,7 +9,7 @@ pub returns-then-matches-clause-goes : goal.returns-then-matches-clause-goes
 returns-then-matches-clause-goes c = λ from h. reaches_turn (Application c.args.key) from _ _ _ _ _ c.in-Ok.ensures.ok refl h
 
 pub returns-then-matches-clause-moves : goal.returns-then-matches-clause-moves
-returns-then-matches-clause-moves c = λ es here from h. moves_does (Application c.args.key) from _ _ _ _ _ _ _ c.in-Ok.ensures.ok (tt, here) refl refl h
+returns-then-matches-clause-moves c = λ es here from h. moves_does (Application c.args.key) from _ _ _ _ _ _ _ c.in-Ok.ensures.ok (tt, here, tt) refl refl h
 
 pub returns-then-matches-clause-some : goal.returns-then-matches-clause-some
 returns-then-matches-clause-some c = (_, _, c.in-Ok.ensures.ok)
@@ -18,7 +18,7 @@ pub returns-else-matches-clause-goes : goal.returns-else-matches-clause-goes
 returns-else-matches-clause-goes c = λ from h. reaches_turn (Application c.args.key) from _ _ _ _ _ c.in-Ok.ensures.ok refl h
 
 pub returns-else-matches-clause-moves : goal.returns-else-matches-clause-moves
-returns-else-matches-clause-moves c = λ es here from h. moves_does (Application c.args.key) from _ _ _ _ _ _ _ c.in-Ok.ensures.ok (tt, here) refl refl h
+returns-else-matches-clause-moves c = λ es here from h. moves_does (Application c.args.key) from _ _ _ _ _ _ _ c.in-Ok.ensures.ok (tt, here, tt) refl refl h
 
 pub returns-in-Err-clause-moves : goal.returns-in-Err-clause-moves
 returns-in-Err-clause-moves c = λ es here from h. moves_same (Application c.args.key) from _ _ _ _ c.in-Err.ensures.err refl h

@@ -1,8 +1,10 @@
 use Rattle.std.proofs.Common.{◌∙◌, ap, inl, inr, refl, subst, sym}
+use Rattle.tds_relay.specs.Anew.{AsksNothing}
 use Rattle.tds_relay.specs.Fronts.{ends_in, hall_in, hall_of_ends, withdraws}
 use Rattle.tds_relay.specs.Hall.{Hall, IsHere, Moves, change_end, closes}
 use Rattle.tds_relay.specs.Ties.{Application, desk_in}
-use Rattle.tds_relay.proofs.steps.Fed.{closed_as_fed, taken_back_is}
+use Rattle.tds_relay.proofs.steps.Fed.{closed_as_fed, taken_back_at}
+use Rattle.tds_relay.proofs.steps.Quieting.{moves_unwaits, stops_unwaits}
 use Rattle.tds_relay.proofs.steps.Fronts.{moves_closes, moves_does, moves_same, no_moves, open_closed}
 use Rattle.tds_relay.proofs.steps.Reaching.{ok_more}
 use Rattle.tds_relay.proofs.steps.Told.{deaf_behind, deaf_closed}
@@ -16,16 +18,16 @@ returns-in-Some-clause-moves c =
     let by = Application c.args.key in
     let now = ends_in c.args.self.now.applications in
     let same = c.stop.ensures.ends ∙ c.forget_request.ensures.ends in
-    let d1 = desk_in c.forget_request.new.self.desk in
+    let behind = c.withdraw.ensures.ends ∙ ap (change_end c.args.key withdraws) same in
+    let d = desk_in c.args.self.now.desk in
     ok_more c.send_on.result _ _
-    (λ m before bytes f. inl (record {
-      mid = hall_of_ends d1 before;
-      first = moves_does by (hall_of_ends (desk_in c.args.self.now.desk) before) _ _ _ _ _ _ _ c.forget_request.ensures.turns tt refl refl (no_moves by (hall_of_ends (desk_in c.args.self.now.desk) before));
+    (λ m quiet before bytes f. inl (record {
+      mid = hall_of_ends d before;
+      first = no_moves by (hall_of_ends d before);
       same = refl;
-      next = subst (λ (h : Hall). Moves by h (hall_in c.send_on.new.self))
-          (sym (taken_back_is c.args.key d1 (desk_in c.stop.new.self.desk) before now (ends_in c.withdraw.new.self.applications) bytes _ _ f
-          c.in-Some.ensures.some.2 (c.withdraw.ensures.ends ∙ ap (change_end c.args.key withdraws) same)))
-          (m by _ (moves_same by _ _ _ _ _ (ap desk_in c.withdraw.ensures.desk) refl (no_moves by (hall_of_ends (desk_in c.stop.new.self.desk) (ends_in c.withdraw.new.self.applications)))));
+      next = subst (λ (h : Hall). Moves by h (hall_in c.send_on.new.self)) (sym (taken_back_at c.args.key d before now (ends_in c.withdraw.new.self.applications) bytes f behind))
+          (m by _ (moves_same by _ _ _ _ _ (ap desk_in c.withdraw.ensures.desk) refl
+          (moves_unwaits c.args.key _ _ _ now _ (stops_unwaits c.args.key _ _ _ _ _ _ _ c.forget_request.ensures.turns c.in-Some.ensures.some.2) behind quiet (no_moves by _))));
     }))
     c.send_on.ensures.moves
 
@@ -35,7 +37,7 @@ returns-in-None-clause-moves c =
     let now = ends_in c.args.self.now.applications in
     let same = c.stop.ensures.ends ∙ c.forget_request.ensures.ends in
     ok_more c.expel.result _ _
-    (λ m before bytes f.
+    (λ m quiet before bytes f.
     let from = hall_of_ends (desk_in c.args.self.now.desk) before in
     let last = m _ (no_moves by _) in
     inr (record {
@@ -43,8 +45,8 @@ returns-in-None-clause-moves c =
           (moves_same by from _ _ (change_end c.args.key closes before) _ refl
           (ap (change_end c.args.key closes) same ∙ sym (closed_as_fed c.args.key before now bytes _ f))
           (c.stop.ensures.moves (change_end c.args.key closes before) (open_closed IsHere before c.args.key) from
-          (moves_closes by from _ _ before _ c.args.key refl refl
-          (moves_does by from _ _ _ _ _ _ _ c.forget_request.ensures.turns tt refl refl (no_moves by from)))));
+          (moves_does by from _ _ (change_end c.args.key closes before) _ _ _ _ c.forget_request.ensures.turns (open_closed AsksNothing before c.args.key) refl refl
+          (moves_closes by from _ _ before _ c.args.key refl refl (no_moves by from)))));
       deaf = deaf_behind c.args.key _ _ last (deaf_closed c.args.key (ends_in c.stop.new.self.applications));
       nothing = λ posts. refl;
     }))

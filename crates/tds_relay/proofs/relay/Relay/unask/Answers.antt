@@ -14,7 +14,7 @@ returns-in-Ok-clause-goes c = ok_more c.send_on.result _ _ (λ g from h. g (Appl
 pub returns-in-Ok-clause-moves : goal.returns-in-Ok-clause-moves
 returns-in-Ok-clause-moves c =
     ok_more c.send_on.result _ _
-    (λ m from h. m (Application c.args.key) from (moves_does (Application c.args.key) from _ _ _ _ _ _ _ c.in-Ok.ensures.ok (tt, c.has_nothing_out.ensures (search rules)) refl refl h))
+    (λ m from h. m (Application c.args.key) from (moves_does (Application c.args.key) from _ _ _ _ _ _ _ c.in-Ok.ensures.ok (tt, c.has_nothing_out.ensures (search rules), tt) refl refl h))
     c.send_on.ensures.moves
 
 pub returns-in-Err-clause-moves : goal.returns-in-Err-clause-moves

@@ -1,12 +1,13 @@
-use Rattle.std.proofs.Common.{◌≡◌, Bool, false, inl, inr, refl, rules, subst, sym, true}
+use Rattle.std.proofs.Common.{◌≡◌, ◌∙◌, ap, Bool, false, inl, inr, refl, rules, subst, sym, true}
 use Rattle.tds_relay.specs.Asking.{SendsOn}
 use Rattle.tds_relay.specs.Ties.{Reaches, desk_in}
 use Rattle.tds_relay.proofs.steps.Reaching.{reaches_turn}
-use Rattle.tds_relay.specs.Desk.{Puts}
 use Rattle.tds_relay.proofs.spared.Held.{deed_both}
 use Rattle.tds_relay.proofs.spared.Resting.{reached_does}
 use Rattle.tds_relay.specs.Bodies.{ClientPuts}
 use Rattle.tds_relay.proofs.steps.Going.{holds_stay, puts_last, puts_part}
+use Rattle.tds_relay.specs.Desk.{Desk, Puts}
+use Rattle.tds_relay.proofs.spared.Apart.{line_does}
 use Rattle.tds_relay.proofs.relay.putting.put_on.Goals as goal
 
 pub returns-then-not-whole-clause-goes : goal.returns-then-not-whole-clause-goes
@@ -71,3 +72,12 @@ returns-in-Ok-finish-clause-body c = λ e.
     (puts_last c.args.bytes.now c.args.key c.args.desk.now c.put.new.self c.finish.new.self _ _ _ _
     (puts_part c.args.bytes.now c.args.key c.args.desk.now c.put.new.self _ _ _ c.in-Ok.ensures.whose (holds_stay c.args.key _ (desk_in c.args.desk.now) (desk_in c.put.new.self) _ _ c.in-Ok.ensures.ok.1) c.in-Ok.ensures.puts)
     c.in-Ok-finish.ensures.whose (holds_stay c.args.key _ (desk_in c.put.new.self) (desk_in c.finish.new.self) _ _ c.in-Ok-finish.ensures.ok.1) c.in-Ok-finish.ensures.ends)
+
+pub returns-then-not-whole-clause-line : goal.returns-then-not-whole-clause-line
+returns-then-not-whole-clause-line c = line_does c.args.key _ _ _ _ _ c.in-Ok.ensures.ok.1
+
+pub returns-in-Ok-finish-clause-line : goal.returns-in-Ok-finish-clause-line
+returns-in-Ok-finish-clause-line c = line_does c.args.key _ _ _ _ _ c.in-Ok-finish.ensures.ok.1 ∙ line_does c.args.key _ _ _ _ _ c.in-Ok.ensures.ok.1
+
+pub returns-in-Err-clause-line : goal.returns-in-Err-clause-line
+returns-in-Err-clause-line c = ap (λ (d : Desk). d.line) c.in-Err.ensures.err ∙ line_does c.args.key _ _ _ _ _ c.in-Ok.ensures.ok.1

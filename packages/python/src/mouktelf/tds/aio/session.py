@@ -28,6 +28,10 @@ class Session(Exchange):
     async def ask(self, answer: Answer, kind: MessageKind, body: bytes, until: Optional[float]) -> None:
         """Asks, behind what is underway."""
         await self.settle(until)
+        # What has come before it is asked isn't its answer: an end, or a breach.
+        strays = None if self.transport.is_quiet() else await self.transport.read(0)
+        if strays is not None:
+            self.take(strays)
         self.start(answer, kind, body)
 
     async def run(self, kind: MessageKind, body: bytes, until: Optional[float]) -> Answer:

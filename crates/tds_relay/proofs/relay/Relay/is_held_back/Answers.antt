@@ -1,0 +1,35 @@
+use Rattle.std.proofs.Common.{◌≡◌, ◌∙◌, Bool, None, Option, Some, ap, inl, inr, rules, sym}
+use Rattle.tds_relay.specs.Asking.{Opens, waits_of}
+use Rattle.tds_relay.specs.Sparing.{Drains}
+use Rattle.tds_relay.specs.Sparing as sparing
+use Rattle.tds_relay.specs.Ties.{desk_in}
+use Rattle.tds_relay.proofs.steps.Underway.{drains}
+use Rattle.tds_relay.proofs.spared.Starting.{taken_back, unkept_none, unkept_over, unkept_there}
+use Rattle.tds_relay.proofs.relay.Relay.is_held_back.Goals as goal
+
+pub returns-in_default-clause-held : goal.returns-in_default-clause-held
+returns-in_default-clause-held c = λ its e. inl (unkept_none c.args.self.now.applications c.args.key _ (search rules))
+
+pub returns-then-application-clause-held : goal.returns-then-application-clause-held
+returns-then-application-clause-held c = λ its e. inl (unkept_over c.args.self.now.applications c.args.key c.in-Some.application.now _ c.in-Some.ensures (search rules))
+
+pub returns-then-not-waits-clause-held : goal.returns-then-not-waits-clause-held
+returns-then-not-waits-clause-held c = λ its e. inl (unkept_there c.args.key c.args.self.now c.in-Some.application.now c.in-Some.ensures (c.waits.ensures (search rules)))
+
+pub returns-then-not-waits-clause-underway : goal.returns-then-not-waits-clause-underway
+returns-then-not-waits-clause-underway c = λ its e whole waits.
+    let none : None ≡ Some whole = sym (c.waits.ensures (search rules)) ∙ ap waits_of c.in-Some.ensures ∙ waits in
+    absurd (let u : ⊥ = cc in u)
+
+pub returns-then-application-2-clause-held : goal.returns-then-application-2-clause-held
+returns-then-application-2-clause-held c = λ its e. inr (Drains (taken_back c.args.self.now.applications c.args.key c.in-Some.application.now c.in-Some.ensures (search rules) (search rules)))
+
+pub returns-then-application-2-clause-underway : goal.returns-then-application-2-clause-underway
+returns-then-application-2-clause-underway c = λ its e whole waits.
+    drains whole _ c.args.key (desk_in c.args.self.now.desk) c.args.self.now.applications c.in-Some.application.now c.args.hold c.in-Some.ensures (search rules) its
+
+pub returns-clause-held : goal.returns-clause-held
+returns-clause-held c = λ its e. inr (sparing.Opens c.args.hold its (c.is_open.ensures.shut (search rules)))
+
+pub returns-clause-underway : goal.returns-clause-underway
+returns-clause-underway c = λ its e whole waits. Opens c.args.hold its (c.is_open.ensures.shut (search rules))

@@ -1,0 +1,11 @@
+use Rattle.std.proofs.Common.{◌≡◌, ◌==◌, ◌∙◌, Some, ap, rules, sym, true, ℕ}
+use Rattle.std.proofs.lemmas.Bool.{eqb-true}
+use Rattle.tds_relay.specs.Fronts.{hall_in}
+use Rattle.tds_relay.proofs.spared.Apart.{alone_lost}
+use Rattle.tds_relay.proofs.relay.Relay.lose_own.Goals as goal
+
+pub returns-then-holder-key-clause-alone : goal.returns-then-holder-key-clause-alone
+returns-then-holder-key-clause-alone c =
+    let same : (c.in-Some.holder == c.args.key) ≡ true = search rules in
+    alone_lost c.lose.result c.args.key c.args.number (hall_in c.args.self.now) (hall_in c.lose.new.self)
+    (sym c.key_on.ensures ∙ c.in-Some.is ∙ ap (λ (k : ℕ). Some k) (eqb-true c.in-Some.holder c.args.key same)) c.lose.ensures.ends c.lose.ensures.line

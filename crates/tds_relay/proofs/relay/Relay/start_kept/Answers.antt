@@ -1,0 +1,51 @@
+use Rattle.std.proofs.Common.{◌≡◌, ◌∙◌, None, inl, refl, rules, sym}
+use Rattle.tds_relay.specs.Asking.{Closes}
+use Rattle.tds_relay.specs.Bodies.{Stays, body_of, going_of}
+use Rattle.tds_relay.specs.Fronts.{hall_in}
+use Rattle.tds_relay.specs.Ties.{desk_in}
+use Rattle.tds_relay.proofs.steps.Bodied.{shut, shut_starts}
+use Rattle.tds_relay.proofs.steps.Fronts.{unheld_reset}
+use Rattle.tds_relay.proofs.steps.Reaching.{ok_more}
+use Rattle.tds_relay.proofs.steps.Staying.{stays_refl}
+use Rattle.tds_relay.proofs.spared.Apart.{alone_refl}
+use Rattle.tds_relay.proofs.spared.Resting.{others_all, others_refl}
+use Rattle.tds_relay.proofs.spared.Starting.{unkept_closed}
+use Rattle.tds_relay.proofs.relay.Relay.start_kept.Goals as goal
+
+pub returns-in_default-clause-moves : goal.returns-in_default-clause-moves
+returns-in_default-clause-moves c =
+    let none : c.hold_of.result ≡ None = search rules in
+    ok_more c.start.result _ _ (λ m. m (unheld_reset (desk_in c.args.self.now.desk) c.args.key _ (sym c.hold_of.ensures ∙ none))) c.start.ensures.moves
+
+pub returns-then-is_reset-clause-moves : goal.returns-then-is_reset-clause-moves
+returns-then-is_reset-clause-moves c = ok_more c.start-then-is_reset.result _ _ (λ m. m (c.is_reset.ensures (sym c.hold_of.ensures ∙ c.in-Some.is) (search rules))) c.start-then-is_reset.ensures.moves
+
+pub returns-then-is_held_back-clause-read : goal.returns-then-is_held_back-clause-read
+returns-then-is_held_back-clause-read c = stays_refl c.args.self.now.links.items
+
+pub returns-then-is_held_back-clause-underway : goal.returns-then-is_held_back-clause-underway
+returns-then-is_held_back-clause-underway c = c.is_held_back.ensures.underway (sym c.hold_of.ensures ∙ c.in-Some.is) (search rules)
+
+pub returns-then-is_held_back-clause-body : goal.returns-then-is_held_back-clause-body
+returns-then-is_held_back-clause-body c = Stays
+
+pub returns-then-is_held_back-clause-others : goal.returns-then-is_held_back-clause-others
+returns-then-is_held_back-clause-others c = λ reached. others_refl c.args.key c.args.self.now
+
+pub returns-then-is_held_back-clause-waits : goal.returns-then-is_held_back-clause-waits
+returns-then-is_held_back-clause-waits c = c.is_held_back.ensures.held (sym c.hold_of.ensures ∙ c.in-Some.is) (search rules)
+
+pub returns-then-is_held_back-clause-alone : goal.returns-then-is_held_back-clause-alone
+returns-then-is_held_back-clause-alone c = alone_refl c.args.key (hall_in c.args.self.now)
+
+pub returns-clause-underway : goal.returns-clause-underway
+returns-clause-underway c = λ whole waits. ok_more c.fail.result _ _ (λ d. Closes d) c.fail.ensures.over
+
+pub returns-clause-body : goal.returns-clause-body
+returns-clause-body c = ok_more c.fail.result _ _ (λ d. shut_starts c.fail.new.self.applications c.args.key (body_of c.args.key c.args.self.now) (going_of c.args.key c.fail.new.self) d) c.fail.ensures.over
+
+pub returns-clause-others : goal.returns-clause-others
+returns-clause-others c = λ reached. others_all c.fail.result c.args.key c.args.self.now c.args.self.now c.fail.new.self (c.fail.ensures.rests reached) (others_refl c.args.key c.args.self.now)
+
+pub returns-clause-waits : goal.returns-clause-waits
+returns-clause-waits c = ok_more c.fail.result _ _ (λ d. inl (unkept_closed _ (shut c.fail.new.self.applications c.args.key _ d))) c.fail.ensures.over

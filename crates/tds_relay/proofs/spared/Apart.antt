@@ -1,0 +1,119 @@
+-- The ends of others, and the line, behind what is done for one application.
+use Rattle.std.proofs.Common.{◌≡◌, ◌≢◌, ◌∙◌, ◌==◌, ◌||◌, ℕ, Bool, true, false, List, [], ◌∷◌, Option, Some, None, refl, sym, ap, subst, option_map, if◌then◌else◌}
+use Rattle.std.specs.Prelude.{Result, Ok, Err, OnOk}
+use Rattle.std.proofs.lemmas.Bool.{eq-eqb}
+use Rattle.std.proofs.lemmas.List.{get_or-set_other}
+use Rattle.tds_wire.specs.declared.told.Token.{Token}
+use Rattle.tds_service.specs.Service as calls
+use Rattle.tds_service.specs.Service.{Lent, step}
+use Rattle.tds_relay.specs.Apart.{Alone, LosesOnly, UnlessServed}
+use Rattle.tds_relay.specs.declared.desk.Hold.{Hold}
+use Rattle.tds_relay.specs.declared.desk.Served.{Served}
+use Rattle.tds_relay.specs.Desk as desk
+use Rattle.tds_relay.specs.Desk.{Desk, Deed, does, find_key, lent_in, serves, serves_by, turn}
+use Rattle.tds_relay.specs.Hall.{End, Ends, Hall, change_end, change_whose, closes, end_at, holder, is_in}
+use Rattle.tds_relay.specs.Ties.{Serving, Turns}
+
+-- ---- One after the other
+
+pub alone_refl : (key : ℕ) (h : Hall) → Alone key h h
+alone_refl key h = record { ends = λ other differs. refl; line = refl }
+
+pub alone_both : (key : ℕ) (a b c : Hall) → Alone key a b → Alone key b c → Alone key a c
+alone_both key a b c h k = record { ends = λ other differs. k.ends other differs ∙ h.ends other differs; line = k.line ∙ h.line }
+
+pub alone_on : {A E : Type 0} (r : Result A E) (key : ℕ) (a b c : Hall) → OnOk r (Alone key b c) → Alone key a b → OnOk r (Alone key a c)
+alone_on (Ok x) key a b c k h = alone_both key a b c h k
+alone_on (Err e) key a b c k h = tt
+
+-- ---- What is done
+
+pub set_apart : (es : Ends) (key other : ℕ) (o : Option End) → other ≢ key → end_at (Rattle.std.specs.Prelude.slice_set es key o) other ≡ end_at es other
+set_apart es key other o differs = get_or-set_other es key other o None differs
+
+pub alone_changed : (key : ℕ) (by : End → End) (old new : Hall) → new.ends ≡ change_end key by old.ends → new.desk.line ≡ old.desk.line → Alone key old new
+alone_changed key by old new ends line = record {
+  ends = λ other differs. ap (λ (es : Ends). end_at es other) ends ∙ set_apart old.ends key other (option_map by (end_at old.ends key)) differs;
+  line = line;
+}
+
+pub alone_same : (key : ℕ) (old new : Hall) → new.ends ≡ old.ends → new.desk.line ≡ old.desk.line → Alone key old new
+alone_same key old new ends line = record { ends = λ other differs. ap (λ (es : Ends). end_at es other) ends; line = line }
+
+pub alone_whose : (key : ℕ) (who : Option ℕ) (old new : Hall) → who ≡ Some key → new.ends ≡ change_whose who closes old.ends → new.desk.line ≡ old.desk.line → Alone key old new
+alone_whose key who old new is ends line = alone_changed key closes old new (ends ∙ ap (λ (o : Option ℕ). change_whose o closes old.ends) is) line
+
+pub alone_lost : {A E : Type 0} (r : Result A E) (key number : ℕ) (old new : Hall) → holder old.desk number ≡ Some key → OnOk r (new.ends ≡ change_whose (holder old.desk number) closes old.ends)
+    → OnOk r (new.desk.line ≡ old.desk.line) → OnOk r (Alone key old new)
+alone_lost (Ok x) key number old new its ends line = alone_whose key (holder old.desk number) old new its ends line
+alone_lost (Err e) key number old new its ends line = tt
+
+line_by : (d : Desk) (deed : Deed) (o : Option Hold) → (does d deed o).desk.line ≡ d.line
+line_by d deed None = refl
+line_by d deed (Some hold) = refl
+
+-- what an application does with its connection lets nobody wait, or wait no more
+pub line_does : (key : ℕ) (deed : Deed) (old new : Desk) (before after : List ℕ) → Turns (desk.Does key deed) old new before after → new.line ≡ old.line
+line_does key deed old new before after t = ap (λ (d : Desk). d.line) t.desk_is ∙ line_by old deed (find_key key old.holds)
+
+pub line_loses : (number : ℕ) (old new : Desk) (before after : List ℕ) → Turns (desk.Loses number) old new before after → new.line ≡ old.line
+line_loses number old new before after t = ap (λ (d : Desk). d.line) t.desk_is
+
+-- ---- Whoever waits is served
+
+or_first : (a b : Bool) → (a || b) ≡ false → a ≡ false
+or_first true b e = absurd (let u : ⊥ = cc in u)
+or_first false b e = refl
+
+or_second : (a b : Bool) → (a || b) ≡ false → b ≡ false
+or_second true b e = absurd (let u : ⊥ = cc in u)
+or_second false b e = e
+
+differ : (k key : ℕ) → (k == key) ≡ false → key ≢ k
+differ k key e = λ same. (let u : true ≡ false = sym (eq-eqb k key (sym same)) ∙ e in let v : ⊥ = cc in v)
+
+serves_line : (d : Desk) (k : ℕ) (others : List ℕ) (lease number : ℕ) (had : Bool) → d.line ≡ k ∷ others → (step {T = Token} d.service calls.Lease).reply ≡ Lent lease number had → (turn d desk.Serves).desk.line ≡ others
+serves_line d k others lease number had line lent =
+    ap (λ (ks : List ℕ). (serves d ks).desk.line) line ∙ ap (λ (r : calls.Reply). (serves_by d k others (lent_in r)).desk.line) lent
+
+-- the first one is served, and the others wait
+record IsNotServed (key : ℕ) (served : Served) (d1 : Desk) : Type 0 where
+  other : key ≢ served.hold.key
+  waits_not : is_in key d1.line ≡ false
+
+not_served : (key : ℕ) (d d1 : Desk) (served : Served) (before after : List ℕ) → Serving d (Some served) → Turns desk.Serves d d1 before after → is_in key d.line ≡ false → IsNotServed key served d1
+not_served key d d1 served before after s t e =
+    let k = served.hold.key in
+    let both : ((k == key) || is_in key s.0) ≡ false = ap (is_in key) (sym s.1) ∙ e in
+    record {
+      other = differ k key (or_first (k == key) (is_in key s.0) both);
+      waits_not = ap (λ (x : Desk). is_in key x.line) t.desk_is ∙ ap (is_in key) (serves_line d k s.0 served.hold.lease served.hold.number served.had s.1 s.2) ∙ or_second (k == key) (is_in key s.0) both;
+    }
+
+-- Whoever didn't wait doesn't, and its end is as it was.
+pub record Unserved (old new : Hall) : Type 0 where
+  pub was : (key : ℕ) → is_in key old.desk.line ≡ false → (is_in key new.desk.line ≡ false) × (end_at new.ends key ≡ end_at old.ends key)
+
+pub unserved_refl : (h : Hall) → Unserved h h
+unserved_refl h = record { was = λ key e. (e, refl) }
+
+pub unserved_on : (a b m c : Hall) (o : Option Served) (served : Served) (before after : List ℕ) → Unserved a b → Serving b.desk o → o ≡ Some served → Turns desk.Serves b.desk m.desk before after → m.ends ≡ b.ends → Alone served.hold.key m c → Unserved a c
+unserved_on a b m c o served before after h s is t ends alone = record {
+  was = λ key e.
+      let x = h.was key e in
+      let n = not_served key b.desk m.desk served before after (subst (Serving b.desk) is s) t x.0 in (
+        ap (is_in key) alone.line ∙ n.waits_not,
+        alone.ends key n.other ∙ ap (λ (es : Ends). end_at es key) ends ∙ x.1,
+      );
+}
+
+-- ---- One is lost
+
+whose_apart : (es : Ends) (who : Option ℕ) (key : ℕ) → who ≢ Some key → end_at (change_whose who closes es) key ≡ end_at es key
+whose_apart es None key differs = refl
+whose_apart es (Some k) key differs = set_apart es k key (option_map closes (end_at es k)) (λ same. differs (ap (λ (n : ℕ). Some n) (sym same)))
+
+pub loses_only : {A E : Type 0} (r : Result A E) (number : ℕ) (old mid new : Hall) → mid.ends ≡ change_whose (holder old.desk number) closes old.ends → mid.desk.line ≡ old.desk.line → OnOk r (UnlessServed mid new) → OnOk r (LosesOnly number old new)
+loses_only (Ok x) number old mid new ends line served = λ key apart e.
+    served key (ap (is_in key) line ∙ e) ∙ ap (λ (es : Ends). end_at es key) ends ∙ whose_apart old.ends (holder old.desk number) key apart
+loses_only (Err e) number old mid new ends line served = tt

@@ -1,0 +1,18 @@
+-- What a call leaves as it was: the ends of all applications but one, or of all but those that wait for a connection.
+use Rattle.std.specs.Prelude.{◌≡◌, ◌≢◌, ℕ, false, Some}
+use Rattle.tds_relay.specs.Hall.{Hall, end_at, holder, is_in}
+
+-- The end of each other application is as it was, and whoever waited waits.
+pub record Alone (key : ℕ) (old new : Hall) : Type 0 where
+  pub ends : (other : ℕ) → other ≢ key → end_at new.ends other ≡ end_at old.ends other
+  pub line : new.desk.line ≡ old.desk.line
+
+-- So is that of each that doesn't wait.
+abbrev pub UnlessServed : Hall → Hall → Type 0
+UnlessServed old new = (key : ℕ) → is_in key old.desk.line ≡ false → end_at new.ends key ≡ end_at old.ends key
+
+-- Of the connections that are held one alone is lost, that of this number: the end of each application that neither holds it nor waits is as
+-- it was.
+abbrev pub LosesOnly : ℕ → Hall → Hall → Type 0
+LosesOnly number old new =
+    (key : ℕ) → holder old.desk number ≢ Some key → is_in key old.desk.line ≡ false → end_at new.ends key ≡ end_at old.ends key

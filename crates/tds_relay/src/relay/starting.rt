@@ -1,0 +1,95 @@
+//! Requests that have waited: a reset that one asks for is done with it.
+ghost use Rattle.std.specs.Prelude.{◌≡◌, ◌⊎◌, Bool, OnOk, Some, true};
+ghost use Rattle.slab.specs.Slab.{get};
+ghost use Rattle.tds_relay.specs.Apart.{Alone};
+ghost use Rattle.tds_relay.specs.Asking.{IsUnderway, waits_of};
+ghost use Rattle.tds_relay.specs.Bodies.{Starts, body_of};
+ghost use Rattle.tds_relay.specs.Desk.{find_key};
+ghost use Rattle.tds_relay.specs.Fronts.{MovedOn, ends_in, hall_in};
+ghost use Rattle.tds_relay.specs.Hall.{IsReset, end_at};
+ghost use Rattle.tds_relay.specs.Ordering.{StayOrdered};
+ghost use Rattle.tds_relay.specs.Posts.{posts_in};
+ghost use Rattle.tds_relay.specs.Reads.{Stays};
+ghost use Rattle.tds_relay.specs.Sparing.{IsHeldBack, IsUnkept, OthersRest};
+ghost use Rattle.tds_relay.specs.Ties.{GoesOn, IsReached, desk_in};
+ghost use Rattle.tds_relay.specs.Walkers.{AllStand};
+
+use super::Relay;
+use crate::NoMemory;
+use crate::desk::Hold;
+
+impl Relay {
+    /// Asks what was kept of an application's request. Where its connection is open, and what it took back is
+    /// acknowledged, the reset that it asks for must be done there with it; else both are closed.
+    #[tactic(auto, using(crate::proofs::spared::Ordered::ordered_refl))]
+    pub(super) fn start_kept(&mut self, key: usize) -> Result<(), NoMemory>
+        ensures goes { OnOk result (GoesOn (desk_in self.old.desk) (desk_in self.new.desk)) }
+        ensures kept { OnOk result (posts_in self.new.applications
+            ≡ posts_in self.old.applications) }
+        ensures moves { OnOk result (MovedOn (hall_in self.old) (hall_in self.new)) }
+        ensures underway { (whole : Bool) → waits_of (get self.old.applications key) ≡ Some whole
+            → OnOk result (IsUnderway whole self.new.links.items key (hall_in self.new)) }
+        ensures read { OnOk result (Stays self.old.links.items self.new.links.items) }
+        ensures stand { OnOk result (AllStand self.old.desk.service
+            self.new.desk.service) }
+        ensures body { OnOk result (Starts (body_of key self.old) (body_of key self.new)) }
+        ensures others { IsReached (desk_in self.old.desk)
+            → OnOk result (OthersRest key self.old self.new) }
+        ensures waits { OnOk result (IsUnkept (body_of key self.new)
+            ⊎ IsHeldBack key self.old) }
+        ensures alone { OnOk result (Alone key (hall_in self.old) (hall_in self.new)) }
+        ensures ordered { OnOk result (StayOrdered self.old.orders.items self.new.orders.items) }
+    {
+        let Some(hold) = self.desk.hold_of(key) else {
+            return self.start(key);
+        };
+        if self.is_reset(key, hold) {
+            return self.start(key);
+        }
+        if self.is_held_back(key, hold) {
+            return Ok(());
+        }
+        self.fail(key, hold.number)
+    }
+
+    /// Whether an application asks nothing that waits; or the server hasn't acknowledged yet what it took back, or
+    /// the connection that it holds isn't open.
+    #[tactic(auto, using(crate::proofs::steps::Underway::of_none, crate::proofs::steps::Underway::of_over, crate::proofs::steps::Underway::drains))]
+    fn is_held_back(&self, key: usize, hold: Hold) -> bool
+        ensures held { find_key key (desk_in self.now.desk).holds ≡ Some hold → result ≡ true
+            → IsUnkept (body_of key self.now) ⊎ IsHeldBack key self.now }
+        ensures underway { find_key key (desk_in self.now.desk).holds ≡ Some hold
+            → result ≡ true → (whole : Bool)
+            → waits_of (get self.now.applications key) ≡ Some whole
+            → IsUnderway whole self.now.links.items key (hall_in self.now) }
+    {
+        let Some(application) = self.applications.get(key) else {
+            return true;
+        };
+        if application.is_over {
+            return true;
+        }
+        if !application.waits() {
+            return true;
+        }
+        if application.is_withdrawn {
+            return true;
+        }
+        !self.is_open(hold.number)
+    }
+
+    /// Whether the reset that an application's request asks for, if it does, is done with that on the
+    /// connection that it holds.
+    fn is_reset(&self, key: usize, hold: Hold) -> bool
+        ensures { find_key key (desk_in self.now.desk).holds ≡ Some hold → result ≡ true
+            → IsReset (desk_in self.now.desk) key (end_at (ends_in self.now.applications) key) }
+    {
+        let Some(application) = self.applications.get(key) else {
+            return true;
+        };
+        match application.reset {
+            Some(reset) => self.desk.resets_on(hold.number, reset),
+            None => true,
+        }
+    }
+}
