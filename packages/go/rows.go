@@ -30,6 +30,7 @@ type Columns struct {
 	Columns []Column
 	raw     []C.struct_tds_column // one more than there are: an address for none
 	found   []C.struct_tds_place
+	taken   C.size_t
 }
 
 // NewColumns reads what the COLMETADATA describes that these bytes begin with; nil where it describes none, and those before it stay.
@@ -87,8 +88,8 @@ func (columns *Columns) Places(row []byte, places []RowPlace) (int, error) {
 	if len(places) < count {
 		return 0, Fault(C.TDS_NO_ROOM)
 	}
-	var taken C.size_t
-	answer := C.tds_row_places(&columns.raw[0], C.size_t(count), at(row), C.size_t(len(row)), &columns.found[0], C.size_t(count), &taken)
+	answer := C.tds_row_places(&columns.raw[0], C.size_t(count), at(row), C.size_t(len(row)), &columns.found[0], C.size_t(count),
+		&columns.taken)
 	if answer != C.TDS_WIRE_ENDED {
 		return 0, rowFault(answer)
 	}
@@ -96,5 +97,5 @@ func (columns *Columns) Places(row []byte, places []RowPlace) (int, error) {
 		it := &columns.found[i]
 		places[i] = RowPlace{uint64(it.start), uint64(it.length), it.null != 0}
 	}
-	return int(taken), nil
+	return int(columns.taken), nil
 }

@@ -34120,6 +34120,7 @@ type Columns struct {
 	Columns []Column
 	raw     []c_struct_tds_column // one more than there are: an address for none
 	found   []c_struct_tds_place
+	taken   c_size_t
 }
 
 // NewColumns reads what the COLMETADATA describes that these bytes begin with; nil where it describes none, and those before it stay.
@@ -34177,8 +34178,8 @@ func (columns *Columns) Places(row []byte, places []RowPlace) (int, error) {
 	if len(places) < count {
 		return 0, Fault(c_TDS_NO_ROOM)
 	}
-	var taken c_size_t
-	answer := c_tds_row_places(&columns.raw[0], c_size_t(count), at(row), c_size_t(len(row)), &columns.found[0], c_size_t(count), &taken)
+	answer := c_tds_row_places(&columns.raw[0], c_size_t(count), at(row), c_size_t(len(row)), &columns.found[0], c_size_t(count),
+		&columns.taken)
 	if answer != c_TDS_WIRE_ENDED {
 		return 0, rowFault(answer)
 	}
@@ -34186,6 +34187,6 @@ func (columns *Columns) Places(row []byte, places []RowPlace) (int, error) {
 		it := &columns.found[i]
 		places[i] = RowPlace{uint64(it.start), uint64(it.length), it.null != 0}
 	}
-	return int(taken), nil
+	return int(columns.taken), nil
 }
 
