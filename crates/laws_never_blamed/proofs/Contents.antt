@@ -12,7 +12,7 @@ use Rattle.tds_judge.specs.declared.headers.Headed.{Headed}
 use Rattle.tds_judge.specs.declared.headers.Headed.TheVariants as read
 use Rattle.tds_judge.specs.declared.headers.Heading.{Heading}
 use Rattle.tds_judge.specs.Framing.{Run, due_by, inside_by, over, step, steps}
-use Rattle.tds_judge.specs.Headers.{heading_by, new_heading, valued}
+use Rattle.tds_judge.specs.Headers.{heading_by, new_heading, spelled_with}
 use Rattle.tds_judge.specs.History.{Said, found_in, further}
 use Rattle.laws_never_blamed.proofs.Heads.{Base, client_spot, next, run_at, says}
 
@@ -121,10 +121,10 @@ abbrev pub front : ℕ → ℕ → ℕ → ℕ → ℕ → ℕ → ℕ → List 
 front a b c d e f g = 22 ∷ 0 ∷ 0 ∷ 0 ∷ 18 ∷ 0 ∷ 0 ∷ 0 ∷ 2 ∷ 0 ∷ a ∷ b ∷ c ∷ d ∷ e ∷ f ∷ g ∷ []
 
 abbrev spelled7 : ℕ → ℕ → ℕ → ℕ → ℕ → ℕ → ℕ → ℕ
-spelled7 a b c d e f g = valued (valued (valued (valued (valued (valued (valued 0 a) b) c) d) e) f) g
+spelled7 a b c d e f g = spelled_with (spelled_with (spelled_with (spelled_with (spelled_with (spelled_with (spelled_with 0 a) b) c) d) e) f) g
 
 abbrev pub descriptor : ℕ → ℕ → ℕ → ℕ → ℕ → ℕ → ℕ → ℕ → ℕ
-descriptor a b c d e f g h = valued (spelled7 a b c d e f g) h
+descriptor a b c d e f g h = spelled_with (spelled7 a b c d e f g) h
 
 -- in the descriptor, before its last byte; and behind it
 abbrev amid : ℕ → Heading
@@ -137,7 +137,7 @@ front_read : (a b c d e f g : ℕ) → heading_after (read.On new_heading) (fron
 unfolding heading_by
 front_read a b c d e f g = refl
 
-named_there : (value h : ℕ) → heading_by (amid value) h ≡ read.Names (valued value h) (rest_of 4 0)
+named_there : (value h : ℕ) → heading_by (amid value) h ≡ read.Names (spelled_with value h) (rest_of 4 0)
 unfolding heading_by
 named_there value h = refl
 
@@ -170,7 +170,7 @@ passes_all base t b left o h (d ∷ bytes) c s r past ends is =
     ap (steps ToServer t (d ∷ bytes)) (prefix_passed base t b left o h c s r past ends (lt-ltb 1 left (omega (arith, is))))
     ∙ skips_all base t d (left - 1) (next o) bytes c s r past n
 
-count_read : (n b value : ℕ) → nat_lt 1 n ≡ true → heading_by (rest_of n value) b ≡ read.On (rest_of (n - 1) (valued value b))
+count_read : (n b value : ℕ) → nat_lt 1 n ≡ true → heading_by (rest_of n value) b ≡ read.On (rest_of (n - 1) (spelled_with value b))
 unfolding heading_by
 count_read n b value more = rw more refl
 
@@ -183,9 +183,9 @@ pub headers_end : (base : Base) (t left o : ℕ) (body : List ℕ) (c s : Frame)
     ≡ over (client_spot (last o 1 (0 ∷ 0 ∷ 0 ∷ body)) t) (run_at base (skipped c 1 (on o (1 ∷ 0 ∷ 0 ∷ 0 ∷ body))) s r past)
 unfolding steps
 headers_end base t left o body c s r past is =
-    let v1 : ℕ = valued 0 1 in
-    let v2 : ℕ = valued v1 0 in
-    let v3 : ℕ = valued v2 0 in
+    let v1 : ℕ = spelled_with 0 1 in
+    let v2 : ℕ = spelled_with v1 0 in
+    let v3 : ℕ = spelled_with v2 0 in
     let n : length (0 ∷ body) ≡ left - 1 - 1 - 1 = omega (arith, is) in
     ap (steps ToServer t (0 ∷ 0 ∷ 0 ∷ body)) (prefix_more base t 1 left o (rest_of 4 0) (rest_of 3 v1) c s r past (count_read 4 1 0 refl) (lt-ltb 1 left (omega (arith, is))))
     ∙ (ap (steps ToServer t (0 ∷ 0 ∷ body))

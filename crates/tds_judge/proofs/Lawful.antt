@@ -1,9 +1,7 @@
 -- A lawful conversation has no breach.
 use Rattle.std.specs.Prelude.{if◌then◌else◌}
-use Rattle.std.proofs.Common.{Option, Some, None, subst, ◌≡◌, ◌∙◌, ◌==◌, ◌&&◌, ◌||◌, not, nat_lt, Bool, true, false, ℕ, List, [], ◌∷◌, ◌++◌, refl, sym, ap}
-use Rattle.tds_judge.specs.declared.finding.Direction.TheVariants.{ToServer}
+use Rattle.std.proofs.Common.{◌≡◌, ◌∙◌, ◌==◌, ◌&&◌, ◌||◌, not, nat_lt, Bool, true, false, ℕ, List, [], ◌∷◌, ◌++◌, refl, sym, ap}
 use Rattle.tds_judge.specs.declared.finding.Spot.{Spot}
-use Rattle.tds_judge.specs.declared.judge.Judge.{Judge}
 use Rattle.tds_judge.specs.declared.talk.Asked.{Asked}
 use Rattle.tds_judge.specs.declared.talk.Asked.TheVariants as asks
 use Rattle.tds_judge.specs.declared.talk.Ending.{Ending}
@@ -20,14 +18,10 @@ use Rattle.tds_wire.specs.declared.told.Told.{Told}
 use Rattle.tds_wire.specs.declared.told.Told.TheVariants as told
 use Rattle.tds_wire.specs.declared.told.Token.{Token}
 use Rattle.tds_judge.specs.Breaches.{asked_last, final_by_token, gone_last, is_dated, is_entering, is_over, is_unheard, size_told}
-use Rattle.tds_judge.specs.Conversation.{IsLawful, MayAnswer, MayAsk, MayAt, MayEnd, MayGreet, MayHead, MayLend, MayName, MaySay, MayStay, MayStop, Names, Piece, Bytes, Lends, Closes, Place, Quiet, Greeting, Entering, Asking, Answering, Stopping, Skipping, begun_at, ended_at, forgotten_at, heard_at, left_by, left_by_change, place_by, place_of, piece_seen, seen, stopped_at}
-use Rattle.tds_judge.specs.Framing.{Run, closed, closed_by, closing, event_by, event_said, run_of, spot_of}
-use Rattle.tds_judge.specs.History.{Said, Tells, cleared_by_change, cleared_by_token, further, asks_of, has_asked_since, has_ended, is_acknowledged, is_another, is_cleared, is_out, is_twice, is_underway, last_told, left_underway, course_of}
-use Rattle.tds_judge.specs.Talking.{acknowledges, admits, changes_wrongly, ignores_early, is_asked, is_both, is_full, is_known, is_request, new_talk, reset_of}
-use Rattle.tds_judge.specs.Told.{breaks_rules, has_breach, is_breach, is_broken, is_judged}
-use Rattle.tds_wire.specs.Reading.{Reading}
-use Rattle.tds_judge.proofs.Breaking.{breaks_by}
-use Rattle.tds_judge.proofs.Telling.{on, said_so, same, steps_so, stopped_so}
+use Rattle.tds_judge.specs.Conversation.{IsLawful, MayAnswer, MayAsk, MayAt, MayEnd, MayGreet, MayHead, MayLend, MayName, MaySay, MayStay, MayStop, Names, Place, Quiet, Greeting, Entering, Asking, Answering, Stopping, Skipping, begun_at, ended_at, forgotten_at, heard_at, left_by, left_by_change, place_by, place_of, stopped_at}
+use Rattle.tds_judge.specs.History.{Said, cleared_by_change, cleared_by_token, asks_of, has_asked_since, has_ended, is_acknowledged, is_another, is_cleared, is_out, is_twice, is_underway, last_told, left_underway, course_of}
+use Rattle.tds_judge.specs.Talking.{acknowledges, admits, changes_wrongly, ignores_early, is_asked, is_both, is_full, is_known, is_request, reset_of}
+use Rattle.tds_judge.specs.Told.{breaks_rules, is_breach, is_broken, is_judged}
 
 -- ---- What stands behind a lawful history
 
@@ -207,7 +201,7 @@ goes place past spot events.Closed once so may = so
 
 lawful_stands : (past : List Said) → IsLawful past → Stands (place_of past) past × (is_twice past ≡ false)
 unfolding IsLawful place_of is_out course_of is_twice is_entering
-lawful_stands [] lawful = ((refl, refl), refl)
+lawful_stands [] lawful = ((refl, refl, refl), refl)
 lawful_stands (x ∷ past) lawful =
     let (so, once) = lawful_stands past lawful.0 in
     (goes (place_of past) past x.spot x.event once so lawful.1, stays_once (place_of past) past x.spot x.event once so lawful.1)
@@ -365,37 +359,3 @@ not_broken past (x ∷ later) lawful =
     (ap (λ (b : Bool). is_judged (later ++ past) && b)
     (no_breach (place_of (later ++ past)) (later ++ past) x.event (lawful_stands (later ++ past) lawful.0).0 lawful.1)
     ∙ and_false (is_judged (later ++ past)))
-
--- ---- Whatever is handed in
-
-event_so_by : (o : Option Reading) (spot : Spot) (event : Event) (a : Run) → Tells a (event_by o spot event a)
-event_so_by None spot event a = same a
-event_so_by (Some r) spot event a = said_so spot event a
-
-closed_so_by : (o : Option Reading) (spot : Spot) (a : Run) → Tells a (closed_by o spot a)
-closed_so_by None spot a = same a
-closed_so_by (Some r) spot a = stopped_so spot (closing a.judge) a
-
-piece_so : (piece : Piece) (a : Run) → Tells a (piece_seen piece a)
-unfolding event_said closed
-piece_so (Bytes direction time bytes) a = steps_so direction time bytes a
-piece_so (Lends time) a = event_so_by a.judge.walker (spot_of ToServer time a) events.Borrowed a
-piece_so (Closes time) a = closed_so_by a.judge.walker (spot_of ToServer time a) a
-
-pub seen_so : (pieces : List Piece) (a : Run) → Tells a (seen pieces a)
-unfolding seen
-seen_so [] a = same a
-seen_so (piece ∷ pieces) a = on a (piece_seen piece a) (seen pieces (piece_seen piece a)) (piece_so piece a) (seen_so pieces (piece_seen piece a))
-
-without_end : (xs : List Said) → xs ++ [] ≡ xs
-without_end [] = refl
-without_end (x ∷ xs) = ap (λ (ys : List Said). x ∷ ys) (without_end xs)
-
-lawful_end : (xs ys : List Said) → ys ≡ xs → IsLawful xs → IsLawful ys
-lawful_end xs ys so lawful = subst IsLawful (sym so) lawful
-
-pub not_blamed : (judge : Judge) (after : Run) (tells : Tells (run_of judge []) after) → judge.talk ≡ new_talk → IsLawful tells.events → has_breach after.told ≡ false
-unfolding further
-not_blamed judge after tells so lawful =
-    breaks_by [] (run_of judge []) after so tells
-    ∙ not_broken [] tells.events (lawful_end tells.events (tells.events ++ []) (without_end tells.events) lawful)

@@ -100,14 +100,14 @@ is_entering [] = false
 is_entering (x ∷ past) = entering_by x.event (is_entering past)
 
 -- the answer that comes tells that something of the request was done
-abbrev pub worked_by : Event → Bool → Bool
-worked_by events.Answer before = false
-worked_by (events.Says token) before = if shows_work token.kind then true else before
-worked_by _ before = before
+abbrev pub working_by : Event → Bool → Bool
+working_by events.Answer before = false
+working_by (events.Says token) before = if shows_work token.kind then true else before
+working_by _ before = before
 
 unfoldable pub has_worked : List Said → Bool
 has_worked [] = false
-has_worked (x ∷ past) = worked_by x.event (has_worked past)
+has_worked (x ∷ past) = working_by x.event (has_worked past)
 
 -- ---- Versions
 

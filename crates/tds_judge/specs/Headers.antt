@@ -66,10 +66,10 @@ field_over fields.Rest h = header_over h
 -- ---- A byte of it
 
 -- what was spelled stands in the highest of eight bytes
-abbrev pub valued : ℕ → ℕ → ℕ
-valued value byte = value / 256 + byte * 72057594037927936
+abbrev pub spelled_with : ℕ → ℕ → ℕ
+spelled_with value byte = value / 256 + byte * 72057594037927936
 
 unfoldable pub heading_by : Heading → ℕ → Headed
 heading_by h byte =
-    let here = record h { value = valued h.value byte } in
+    let here = record h { value = spelled_with h.value byte } in
     if nat_lt 1 h.left then read.On (record here { left = h.left - 1 }) else field_over h.field here

@@ -57,9 +57,7 @@ impl Judge {
         ensures idle { result ≡ true → talking.shows_work token.now.kind ≡ false }
     {
         match token.told {
-            Told::Other => {
-                !self.talk.is_final && !admits(token.kind) && !shows_work(token.kind)
-            }
+            Told::Other => { !self.talk.is_final && !admits(token.kind) && !shows_work(token.kind) }
             _ => false,
         }
     }
