@@ -1,5 +1,5 @@
 -- Whatever is handed in, events are said; and where they are a lawful conversation there is no breach.
-use Rattle.std.proofs.Common.{Option, Some, None, subst, ◌≡◌, ◌∙◌, false, ℕ, List, [], ◌∷◌, ◌++◌, refl, sym, ap}
+use Rattle.std.proofs.Common.{Option, Some, None, subst, ◌≡◌, ◌∙◌, false, List, [], ◌∷◌, ◌++◌, refl, sym, ap}
 use Rattle.tds_judge.specs.declared.finding.Direction.TheVariants.{ToServer}
 use Rattle.tds_judge.specs.declared.finding.Spot.{Spot}
 use Rattle.tds_judge.specs.declared.judge.Judge.{Judge}
