@@ -1,5 +1,5 @@
 -- The header of the PROXY protocol, version 2: what stands before a connection's own bytes, where a proxy opened it for a client.
-use Rattle.std.specs.Prelude.{ℕ, ◌+◌, ◌-◌, ◌*◌, ◌==◌, ◌||◌, not, nat_lt, Bool, true, false, List, [], ◌∷◌, length, take, drop, if◌then◌else◌, slice_index}
+use Rattle.std.specs.Prelude.{ℕ, ◌<◌, ◌+◌, ◌-◌, ◌*◌, ◌==◌, ◌||◌, not, nat_lt, Bool, true, false, List, [], ◌∷◌, length, take, drop, if◌then◌else◌, slice_index}
 use Rattle.proxy_header.specs.declared.header.Found.{Found}
 use Rattle.proxy_header.specs.declared.header.Found.TheVariants.{Missing, Whole, Wrong}
 use Rattle.proxy_header.specs.declared.source.Source.{Source}
@@ -47,3 +47,8 @@ found_in bytes =
     if not (begin_so signature bytes) then Wrong
     else if nat_lt (length bytes) 16 then Missing (16 - length bytes)
     else found_of bytes (slice_index bytes 12) (slice_index bytes 13) (number_at bytes 14)
+
+-- where bytes are missing it is one at least
+abbrev pub AsksForSome : Found → Type 0
+AsksForSome (Missing n) = 0 < n
+AsksForSome found = Unit {0}

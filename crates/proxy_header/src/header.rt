@@ -1,6 +1,6 @@
 //! The header as its bytes come.
 ghost use Rattle.std.specs.Prelude.{◌≡◌, ◌+◌, ◌≤◌, length, take, drop, slice_index};
-ghost use Rattle.proxy_header.specs.Header.{begin_so, found_in, found_of, least, number_at, signature, source_in};
+ghost use Rattle.proxy_header.specs.Header.{AsksForSome, begin_so, found_in, found_of, least, number_at, signature, source_in};
 
 use crate::source::Source;
 
@@ -34,7 +34,8 @@ pub enum Found {
 /// What is found in these, the first bytes of a connection. The connection's own begin behind a header that
 /// is whole, and no byte that is missing is one of them.
 pub fn read(bytes: &[u8]) -> Found
-    ensures { result ≡ found_in bytes.now }
+    ensures found { result ≡ found_in bytes.now }
+    ensures some { AsksForSome result }
 {
     if !begins_so(&SIGNATURE, bytes) {
         return Found::Wrong;
@@ -60,8 +61,9 @@ fn begins_so(beginning: &[u8], bytes: &[u8]) -> bool
 /// What is found behind the signature.
 fn found_behind(bytes: &[u8]) -> Found
     requires { 16 ≤ length bytes.now }
-    ensures { result ≡ found_of bytes.now (slice_index bytes.now 12) (slice_index bytes.now 13)
-        (number_at bytes.now 14) }
+    ensures found { result ≡ found_of bytes.now (slice_index bytes.now 12)
+        (slice_index bytes.now 13) (number_at bytes.now 14) }
+    ensures some { AsksForSome result }
 {
     let command = bytes[12];
     if command != LOCAL && command != PROXY {

@@ -7,8 +7,10 @@
 
 mod header;
 mod laws;
+mod reader;
 mod source;
 
 pub use header::{Found, LONGEST, read};
 pub use laws::{a_client_is_named, what_follows_changes_nothing};
+pub use reader::{HeaderReader, Taken};
 pub use source::Source;
