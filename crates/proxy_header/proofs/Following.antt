@@ -6,13 +6,13 @@ use Rattle.proxy_header.specs.declared.header.Found.{Found}
 use Rattle.proxy_header.specs.declared.header.Found.TheVariants.{Missing, Whole, Wrong}
 use Rattle.proxy_header.specs.declared.source.Source.{Source}
 use Rattle.proxy_header.specs.declared.source.Source.TheVariants.{Unsaid, V4, V6}
-use Rattle.proxy_header.specs.Header.{begin_so, signature, found_in, found_of, least, source_in, number_at}
+use Rattle.proxy_header.specs.Header.{begin_so, signature, header_in, header_by, least, source_in, high_first_at}
 use Rattle.proxy_header.proofs.Beginning.{differ_on, alike_on}
 
 pub index_on : (bytes more : List ℕ) (at : ℕ) → at < length bytes → slice_index (bytes ++ more) at ≡ slice_index bytes at
 index_on bytes more at h = grind (arith, common_steps)
 
-number_on : (bytes more : List ℕ) (at : ℕ) → at + 1 < length bytes → number_at (bytes ++ more) at ≡ number_at bytes at
+number_on : (bytes more : List ℕ) (at : ℕ) → at + 1 < length bytes → high_first_at (bytes ++ more) at ≡ high_first_at bytes at
 number_on bytes more at h = grind (arith, index_on bytes more at (omega (arith, h)), index_on bytes more (at + 1) h)
 
 part_on : (bytes more : List ℕ) (at count : ℕ) → at + count ≤ length bytes → take count (drop at (bytes ++ more)) ≡ take count (drop at bytes)
@@ -73,30 +73,30 @@ is_not_short count least h = grind (arith, common_steps, h)
 
 -- what is found of a header that has begun, by its command, its family and its length
 fields_on : (bytes more : List ℕ) (t : Found) → 16 ≤ length bytes → begin_so signature bytes ≡ true
-    → found_of (bytes ++ more) (slice_index bytes 12) (slice_index bytes 13) (number_at bytes 14) ≡ t
-    → found_in (bytes ++ more) ≡ t
+    → header_by (bytes ++ more) (slice_index bytes 12) (slice_index bytes 13) (high_first_at bytes 14) ≡ t
+    → header_in (bytes ++ more) ≡ t
 fields_on bytes more t long begins h =
     let b = alike_on signature bytes more (omega (arith, long)) begins in
     let s = is_not_short (length (bytes ++ more)) 16 (omega (arith, long, length-append bytes more)) in
     let command = index_on bytes more 12 (omega (arith, long)) in
     let family = index_on bytes more 13 (omega (arith, long)) in
     let count = number_on bytes more 14 (omega (arith, long)) in
-    ap (λ (x : Bool). if not x then Wrong else if nat_lt (length (bytes ++ more)) 16 then Missing (16 - length (bytes ++ more)) else found_of (bytes ++ more) (slice_index (bytes ++ more) 12) (slice_index (bytes ++ more) 13) (number_at (bytes ++ more) 14)) b
-    ∙ ap (λ (x : Bool). if x then Missing (16 - length (bytes ++ more)) else found_of (bytes ++ more) (slice_index (bytes ++ more) 12) (slice_index (bytes ++ more) 13) (number_at (bytes ++ more) 14)) s
-    ∙ ap (λ (x : ℕ). found_of (bytes ++ more) x (slice_index (bytes ++ more) 13) (number_at (bytes ++ more) 14)) command
-    ∙ ap (λ (x : ℕ). found_of (bytes ++ more) (slice_index bytes 12) x (number_at (bytes ++ more) 14)) family
-    ∙ ap (λ (x : ℕ). found_of (bytes ++ more) (slice_index bytes 12) (slice_index bytes 13) x) count
+    ap (λ (x : Bool). if not x then Wrong else if nat_lt (length (bytes ++ more)) 16 then Missing (16 - length (bytes ++ more)) else header_by (bytes ++ more) (slice_index (bytes ++ more) 12) (slice_index (bytes ++ more) 13) (high_first_at (bytes ++ more) 14)) b
+    ∙ ap (λ (x : Bool). if x then Missing (16 - length (bytes ++ more)) else header_by (bytes ++ more) (slice_index (bytes ++ more) 12) (slice_index (bytes ++ more) 13) (high_first_at (bytes ++ more) 14)) s
+    ∙ ap (λ (x : ℕ). header_by (bytes ++ more) x (slice_index (bytes ++ more) 13) (high_first_at (bytes ++ more) 14)) command
+    ∙ ap (λ (x : ℕ). header_by (bytes ++ more) (slice_index bytes 12) x (high_first_at (bytes ++ more) 14)) family
+    ∙ ap (λ (x : ℕ). header_by (bytes ++ more) (slice_index bytes 12) (slice_index bytes 13) x) count
     ∙ h
 
-pub wrong_stays : (bytes more : List ℕ) → found_in bytes ≡ Wrong → found_in (bytes ++ more) ≡ Wrong
+pub wrong_stays : (bytes more : List ℕ) → header_in bytes ≡ Wrong → header_in (bytes ++ more) ≡ Wrong
 wrong_stays bytes more h =
     by_first (wrong_of (begin_so signature bytes) (nat_lt (length bytes) 16) _ _ h) where
-      by_first : (begin_so signature bytes ≡ false) ⊎ IsBegun (begin_so signature bytes) (nat_lt (length bytes) 16) (found_of bytes (slice_index bytes 12) (slice_index bytes 13) (number_at bytes 14)) Wrong → found_in (bytes ++ more) ≡ Wrong
+      by_first : (begin_so signature bytes ≡ false) ⊎ IsBegun (begin_so signature bytes) (nat_lt (length bytes) 16) (header_by bytes (slice_index bytes 12) (slice_index bytes 13) (high_first_at bytes 14)) Wrong → header_in (bytes ++ more) ≡ Wrong
       by_first (inl differs) = rw (differ_on signature bytes more differs) refl
       by_first (inr begun) =
           fields_on bytes more Wrong (not_short _ _ begun.long) begun.begun
           (wrong_on (slice_index bytes 12 == 32 || slice_index bytes 12 == 33)
-          (nat_lt 2032 (number_at bytes 14) || nat_lt (number_at bytes 14) (least (slice_index bytes 12) (slice_index bytes 13)))
+          (nat_lt 2032 (high_first_at bytes 14) || nat_lt (high_first_at bytes 14) (least (slice_index bytes 12) (slice_index bytes 13)))
           _ _ _ _ _ _ begun.found)
 
 -- the client that a header names stands within it
@@ -119,22 +119,22 @@ least_six true true six n p q r h = absurd cc
 least_six false four six n p q r h = absurd cc
 
 four_on : (bytes more : List ℕ) → 28 ≤ length bytes
-    → V4 (take 4 (drop 16 (bytes ++ more))) (number_at (bytes ++ more) 24) ≡ V4 (take 4 (drop 16 bytes)) (number_at bytes 24)
+    → V4 (take 4 (drop 16 (bytes ++ more))) (high_first_at (bytes ++ more) 24) ≡ V4 (take 4 (drop 16 bytes)) (high_first_at bytes 24)
 four_on bytes more h =
-    ap (λ (x : List ℕ). V4 x (number_at (bytes ++ more) 24)) (part_on bytes more 16 4 (omega (arith, h)))
+    ap (λ (x : List ℕ). V4 x (high_first_at (bytes ++ more) 24)) (part_on bytes more 16 4 (omega (arith, h)))
     ∙ ap (λ (x : ℕ). V4 (take 4 (drop 16 bytes)) x) (number_on bytes more 24 (omega (arith, h)))
 
 six_on : (bytes more : List ℕ) → 52 ≤ length bytes
-    → V6 (take 16 (drop 16 (bytes ++ more))) (number_at (bytes ++ more) 48) ≡ V6 (take 16 (drop 16 bytes)) (number_at bytes 48)
+    → V6 (take 16 (drop 16 (bytes ++ more))) (high_first_at (bytes ++ more) 48) ≡ V6 (take 16 (drop 16 bytes)) (high_first_at bytes 48)
 six_on bytes more h =
-    ap (λ (x : List ℕ). V6 x (number_at (bytes ++ more) 48)) (part_on bytes more 16 16 (omega (arith, h)))
+    ap (λ (x : List ℕ). V6 x (high_first_at (bytes ++ more) 48)) (part_on bytes more 16 16 (omega (arith, h)))
     ∙ ap (λ (x : ℕ). V6 (take 16 (drop 16 bytes)) x) (number_on bytes more 48 (omega (arith, h)))
 
 abbrev sourced : List ℕ → (command family : ℕ) → Source
 sourced bytes command family =
     if not (command == 33) then Unsaid
-    else if family == 17 then V4 (take 4 (drop 16 bytes)) (number_at bytes 24)
-    else if family == 33 then V6 (take 16 (drop 16 bytes)) (number_at bytes 48)
+    else if family == 17 then V4 (take 4 (drop 16 bytes)) (high_first_at bytes 24)
+    else if family == 33 then V6 (take 16 (drop 16 bytes)) (high_first_at bytes 48)
     else Unsaid
 
 source_on : (bytes more : List ℕ) (count : ℕ) → least (slice_index bytes 12) (slice_index bytes 13) ≤ count → 16 + count ≤ length bytes
@@ -150,12 +150,12 @@ right_of : (a b : Bool) → (a || b) ≡ false → b ≡ false
 right_of false b h = h
 right_of true b h = absurd cc
 
-pub whole_stays : (bytes more : List ℕ) (source : Source) → found_in bytes ≡ Whole source → found_in (bytes ++ more) ≡ Whole source
+pub whole_stays : (bytes more : List ℕ) (source : Source) → header_in bytes ≡ Whole source → header_in (bytes ++ more) ≡ Whole source
 whole_stays bytes more source h =
     let begun = whole_in (begin_so signature bytes) (nat_lt (length bytes) 16) _ _ source h in
     let c : ℕ = slice_index bytes 12 in
     let f : ℕ = slice_index bytes 13 in
-    let n : ℕ = number_at bytes 14 in
+    let n : ℕ = high_first_at bytes 14 in
     let w = whole_of (c == 32 || c == 33) (nat_lt 2032 n || nat_lt n (least c f)) (nat_lt (length bytes) (16 + n)) _ _ _ begun.found in
     let long : 16 + n ≤ length bytes = not_short _ _ w.is_long in
     let few : least c f ≤ n = not_short _ _ (right_of _ _ w.is_right) in

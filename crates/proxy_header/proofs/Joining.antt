@@ -4,8 +4,8 @@ use Rattle.proxy_header.specs.declared.header.Found.{Found}
 use Rattle.proxy_header.specs.declared.header.Found.TheVariants.{Missing, Whole, Wrong}
 use Rattle.proxy_header.specs.declared.reader.Taken.{Taken}
 use Rattle.proxy_header.specs.declared.reader.Taken.TheVariants as taken
-use Rattle.proxy_header.specs.Header.{found_in}
-use Rattle.proxy_header.specs.Pieces.{Says, Takes}
+use Rattle.proxy_header.specs.Header.{header_in}
+use Rattle.proxy_header.specs.Pieces.{Says, TakesOfHeader}
 
 says_both : (found : Found) (what : Taken) (n count rest all : ℕ) → rest ≡ all - n → n ≤ all → Says found count rest what → Says found (n + count) all what
 says_both (Missing m) taken.More n count rest all e few h = omega (arith, e, few, h)
@@ -19,18 +19,18 @@ says_both Wrong (taken.Whole t) n count rest all e few h = h
 says_both Wrong taken.Wrong n count rest all e few h = h
 
 pub takes_both : (before piece : List ℕ) (n count : ℕ) (what : Taken) (after : List ℕ) → n ≤ length piece
-    → Takes (before ++ take n piece) (drop n piece) count what after → Takes before piece (n + count) what after
+    → TakesOfHeader (before ++ take n piece) (drop n piece) count what after → TakesOfHeader before piece (n + count) what after
 takes_both before piece n count what after few h = record {
   within = omega (arith, few, h.within, length-drop n piece);
   appended = h.appended ∙ append_assoc before (take n piece) (take count (drop n piece)) ∙ ap (λ (xs : List ℕ). before ++ xs) (sym (take-add n count piece));
-  said = says_both (found_in after) what n count (length (drop n piece)) (length piece) (length-drop n piece) few h.said;
+  said = says_both (header_in after) what n count (length (drop n piece)) (length piece) (length-drop n piece) few h.said;
 }
 
 pub takes_on : (before middle piece front back : List ℕ) (n count : ℕ) (what : Taken) (after : List ℕ) → n ≤ length piece
     → front ≡ take n piece → back ≡ drop n piece → length front ≡ n → middle ≡ before ++ front
-    → Takes middle back count what after → Takes before piece (length front + count) what after
+    → TakesOfHeader middle back count what after → TakesOfHeader before piece (length front + count) what after
 takes_on before middle piece front back n count what after few f b l m h =
-    subst (λ (k : ℕ). Takes before piece (k + count) what after) (sym l)
+    subst (λ (k : ℕ). TakesOfHeader before piece (k + count) what after) (sym l)
     (takes_both before piece n count what after few
-    (subst (λ (xs : List ℕ). Takes xs (drop n piece) count what after) (m ∙ ap (λ (xs : List ℕ). before ++ xs) f)
-    (subst (λ (xs : List ℕ). Takes middle xs count what after) b h)))
+    (subst (λ (xs : List ℕ). TakesOfHeader xs (drop n piece) count what after) (m ∙ ap (λ (xs : List ℕ). before ++ xs) f)
+    (subst (λ (xs : List ℕ). TakesOfHeader middle xs count what after) b h)))

@@ -16,8 +16,8 @@ begin_so (s ∷ ss) [] = true
 begin_so (s ∷ ss) (b ∷ bs) = if b == s then begin_so ss bs else false
 
 -- the number that two bytes spell from this place on, the highest one first
-abbrev pub number_at : List ℕ → ℕ → ℕ
-number_at bytes at = 256 * slice_index bytes at + slice_index bytes (at + 1)
+abbrev pub high_first_at : List ℕ → ℕ → ℕ
+high_first_at bytes at = 256 * slice_index bytes at + slice_index bytes (at + 1)
 
 -- How many bytes of addresses a header must have: PROXY (33) of TCP over IPv4 (17) has twelve, over IPv6 (33) it has 36; LOCAL
 -- (32) has none, and those of other families are passed over.
@@ -29,24 +29,24 @@ least command family =
 abbrev pub source_in : List ℕ → Source
 source_in bytes =
     if not (slice_index bytes 12 == 33) then Unsaid
-    else if slice_index bytes 13 == 17 then V4 (take 4 (drop 16 bytes)) (number_at bytes 24)
-    else if slice_index bytes 13 == 33 then V6 (take 16 (drop 16 bytes)) (number_at bytes 48)
+    else if slice_index bytes 13 == 17 then V4 (take 4 (drop 16 bytes)) (high_first_at bytes 24)
+    else if slice_index bytes 13 == 33 then V6 (take 16 (drop 16 bytes)) (high_first_at bytes 48)
     else Unsaid
 
 -- Behind the first sixteen bytes so many are to come, 2,032 at the most.
-abbrev pub found_of : List ℕ → (command family count : ℕ) → Found
-found_of bytes command family count =
+abbrev pub header_by : List ℕ → (command family count : ℕ) → Found
+header_by bytes command family count =
     if not (command == 32 || command == 33) then Wrong
     else if nat_lt 2032 count || nat_lt count (least command family) then Wrong
     else if nat_lt (length bytes) (16 + count) then Missing (16 + count - length bytes)
     else Whole (source_in bytes)
 
 -- What is found in the first bytes of a connection: so many more belong to the header at least, or it is whole, or it is none.
-abbrev pub found_in : List ℕ → Found
-found_in bytes =
+abbrev pub header_in : List ℕ → Found
+header_in bytes =
     if not (begin_so signature bytes) then Wrong
     else if nat_lt (length bytes) 16 then Missing (16 - length bytes)
-    else found_of bytes (slice_index bytes 12) (slice_index bytes 13) (number_at bytes 14)
+    else header_by bytes (slice_index bytes 12) (slice_index bytes 13) (high_first_at bytes 14)
 
 -- where bytes are missing it is one at least
 abbrev pub AsksForSome : Found → Type 0

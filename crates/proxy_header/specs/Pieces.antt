@@ -4,7 +4,7 @@ use Rattle.proxy_header.specs.declared.header.Found.{Found}
 use Rattle.proxy_header.specs.declared.header.Found.TheVariants.{Missing, Whole, Wrong}
 use Rattle.proxy_header.specs.declared.reader.Taken.{Taken}
 use Rattle.proxy_header.specs.declared.reader.Taken.TheVariants as taken
-use Rattle.proxy_header.specs.Header.{found_in}
+use Rattle.proxy_header.specs.Header.{header_in}
 
 -- what is found there says so; where more is to come the whole piece belongs to the header
 abbrev pub Says : Found → (count all : ℕ) → Taken → Type 0
@@ -14,7 +14,7 @@ Says Wrong count all taken.Wrong = Unit {0}
 Says found count all taken = ⊥
 
 -- of a piece that came behind these bytes so many were taken, and this came of it
-pub record Takes (before piece : List ℕ) (count : ℕ) (what : Taken) (after : List ℕ) : Type 0 where
+pub record TakesOfHeader (before piece : List ℕ) (count : ℕ) (what : Taken) (after : List ℕ) : Type 0 where
   pub within : count ≤ length piece
   pub appended : after ≡ before ++ take count piece
-  pub said : Says (found_in after) count (length piece) what
+  pub said : Says (header_in after) count (length piece) what

@@ -1,6 +1,7 @@
 //! The header as its bytes come.
 ghost use Rattle.std.specs.Prelude.{◌≡◌, ◌+◌, ◌≤◌, length, take, drop, slice_index};
-ghost use Rattle.proxy_header.specs.Header.{AsksForSome, begin_so, found_in, found_of, least, number_at, signature, source_in};
+ghost use Rattle.proxy_header.specs.Header.{AsksForSome, begin_so, header_in, header_by, least};
+ghost use Rattle.proxy_header.specs.Header.{high_first_at, signature, source_in};
 
 use crate::source::Source;
 
@@ -34,7 +35,7 @@ pub enum Found {
 /// What is found in these, the first bytes of a connection. The connection's own begin behind a header that
 /// is whole, and no byte that is missing is one of them.
 pub fn read(bytes: &[u8]) -> Found
-    ensures found { result ≡ found_in bytes.now }
+    ensures found { result ≡ header_in bytes.now }
     ensures some { AsksForSome result }
 {
     if !begins_so(&SIGNATURE, bytes) {
@@ -61,8 +62,8 @@ fn begins_so(beginning: &[u8], bytes: &[u8]) -> bool
 /// What is found behind the signature.
 fn found_behind(bytes: &[u8]) -> Found
     requires { 16 ≤ length bytes.now }
-    ensures found { result ≡ found_of bytes.now (slice_index bytes.now 12)
-        (slice_index bytes.now 13) (number_at bytes.now 14) }
+    ensures found { result ≡ header_by bytes.now (slice_index bytes.now 12)
+        (slice_index bytes.now 13) (high_first_at bytes.now 14) }
     ensures some { AsksForSome result }
 {
     let command = bytes[12];
@@ -93,14 +94,15 @@ fn least(command: u8, family: u8) -> usize
 /// The number that two bytes spell, the highest one first.
 fn number_at(bytes: &[u8], at: usize) -> u16
     requires { at + 2 ≤ length bytes.now }
-    ensures { result ≡ number_at bytes.now at }
+    ensures { result ≡ high_first_at bytes.now at }
 {
     256 * u16::from(bytes[at]) + u16::from(bytes[at + 1])
 }
 
 /// Who is behind the connection, by a header with all its addresses.
 fn source(bytes: &[u8]) -> Source
-    requires addresses { 16 + least (slice_index bytes.now 12) (slice_index bytes.now 13) ≤ length bytes.now }
+    requires addresses { 16 + least (slice_index bytes.now 12) (slice_index bytes.now 13)
+        ≤ length bytes.now }
     requires header { 16 ≤ length bytes.now }
     ensures { result ≡ source_in bytes.now }
 {

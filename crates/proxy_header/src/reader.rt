@@ -1,7 +1,7 @@
 //! A header in pieces.
 ghost use Rattle.std.specs.Prelude.{◌≡◌, ◌++◌, ◌≤◌, [], take, length, IfOk};
-ghost use Rattle.proxy_header.specs.Header.{found_in};
-ghost use Rattle.proxy_header.specs.Pieces.{Takes};
+ghost use Rattle.proxy_header.specs.Header.{header_in};
+ghost use Rattle.proxy_header.specs.Pieces.{TakesOfHeader};
 
 use crate::header::{Found, read};
 use crate::source::Source;
@@ -34,11 +34,11 @@ impl HeaderReader {
         }
     }
 
-    /// Takes what of a piece belongs to the header, and answers how many bytes that are. Those behind them
+    /// TakesOfHeader what of a piece belongs to the header, and answers how many bytes that are. Those behind them
     /// are the connection's own.
     pub fn take(&mut self, piece: &[u8]) -> Result<(usize, Taken), AllocError>
-        ensures taken { IfOk result (λ taken. Takes self.old.bytes.items piece.now taken.0 taken.1
-            self.new.bytes.items) }
+        ensures taken { IfOk result (λ taken. TakesOfHeader self.old.bytes.items piece.now
+            taken.0 taken.1 self.new.bytes.items) }
     {
         match read(&self.bytes) {
             Found::Whole(source) => Ok((0, Taken::Whole(source))),
