@@ -34,7 +34,7 @@ impl HeaderReader {
         }
     }
 
-    /// TakesOfHeader what of a piece belongs to the header, and answers how many bytes that are. Those behind them
+    /// Takes what of a piece belongs to the header, and answers how many bytes that are. Those behind them
     /// are the connection's own.
     pub fn take(&mut self, piece: &[u8]) -> Result<(usize, Taken), AllocError>
         ensures taken { IfOk result (λ taken. TakesOfHeader self.old.bytes.items piece.now
