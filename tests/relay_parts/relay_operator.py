@@ -4,6 +4,7 @@ error where no connection can be opened, or a server is silent.
 What is wanted is written by hand.
 """
 
+import datetime
 import re
 import socket
 import struct
@@ -230,7 +231,7 @@ def silent(program, cases):
 def log(program, cases, server):
     """Each line of the log, in order: of those who ask over HTTP there is none."""
     with Relay(program, server, "--log") as relay:
-        one = let_in(relay, "web-1", "billing")
+        one = let_in(relay, "web-1", "billing", "anna", "sales")
         until(relay, lambda it: it["connections_free"] == 1)
         cases.check("a row for the log", rows(one, 1))
         port = port_of(one)
@@ -238,10 +239,11 @@ def log(program, cases, server):
         until(relay, lambda it: it["connections_free"] == 1)
         status, said = relay.end()
         lines = said.decode().splitlines()
-        cases.check("each line begins with the seconds since the beginning",
-                    all(re.match(r"\d+\.\d{3} ", it) for it in lines[:-1]), lines)
+        times = [datetime.datetime.fromisoformat(it.partition(" ")[0].replace("Z", "+00:00")) for it in lines[:-1]]
+        cases.check("each line begins with the time", all(abs(time.time() - it.timestamp()) < 60 for it in times), lines)
+        whose = f"(user anna, database sales, from 127.0.0.1:{port})"
         cases.same("the log", [it.partition(" ")[2] for it in lines[:-1]] + lines[-1:], [
-            f"socket 1 has come from 127.0.0.1:{port}", f"connection 2 is dialed at 127.0.0.1:{server}",
-            "connection 2 is opened", "application 1 is let in, group 0",
-            "socket 1 has ended: the other end has closed the connection",
+            f"socket 1 has come (from 127.0.0.1:{port})", f"connection 2 is dialed at 127.0.0.1:{server}",
+            "connection 2 is opened", f"application 1 is let in, group 0 {whose}",
+            f"socket 1 has ended: the other end has closed the connection {whose}",
             "the relay is to end, since its standard input has ended", "ended: applications 0"])

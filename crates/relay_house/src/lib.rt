@@ -5,13 +5,13 @@
 mod checking;
 mod dialing;
 mod ending;
-mod faults;
 mod group;
 mod house;
 mod logins;
 mod orders;
 mod pairs;
 mod reaching;
+mod saying;
 mod sending;
 mod upstream;
 

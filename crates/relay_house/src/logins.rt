@@ -3,19 +3,19 @@
 use crate::group::{Group, Pair, Stage};
 use crate::house::{House, relay_of};
 use relay_logins::{
-    Kind, Passed, REFUSED, SharedLogin, kind_of, leave_out_features, number_of, put_error,
+    FULL, Kind, Passed, REFUSED, SharedLogin, TOO_MANY, kind_of, leave_out_features, put_error,
     put_saved, who_of,
 };
 use relay_sockets::{Cause, News, Role, Whose};
 use relay_status::raise;
-use std::io::{self, Write};
+use std::io;
 use std::net::Net;
 use tds_packet::PacketSize;
 
 /// The most groups.
 const MOST_GROUPS: usize = 256;
 
-impl<W: Write + Drop> House<W> {
+impl House {
     /// These bytes came on a socket, which isn't of somebody who asks what the relay does.
     pub fn came<R: Net>(&mut self, rt: &R, key: usize, piece: &[u8]) -> io::Result<()> {
         let House {
@@ -88,6 +88,10 @@ impl<W: Write + Drop> House<W> {
     fn log_in<R: Net>(&mut self, rt: &R, key: usize, mut message: Vec<u8>) -> io::Result<()> {
         leave_out_features(self.alloc, &mut message)?;
         self.name(key, &message)?;
+        if self.is_over(key) {
+            self.put_refusal_of(key, TOO_MANY, FULL)?;
+            return self.send_or_close(rt, key);
+        }
         match kind_of(message) {
             Kind::Wrong(why) => self.refuse(rt, key, why),
             Kind::Alone(login) => self.begin_alone(rt, key, login),
@@ -95,6 +99,14 @@ impl<W: Write + Drop> House<W> {
                 Some(group) => self.join(rt, key, group),
                 None => self.begin_group(rt, key, login),
             },
+        }
+    }
+
+    /// Whether an application is one too many.
+    fn is_over(&self, key: usize) -> bool {
+        match self.sockets.get(key) {
+            Some(socket) => socket.is_over,
+            None => false,
         }
     }
 
@@ -127,20 +139,10 @@ impl<W: Write + Drop> House<W> {
                 put_saved(&mut socket.out, answer)?;
                 socket.role = Role::Application(group, relay.enter(key)?);
                 raise(&mut self.journal.counts.let_in);
-                self.is_let_in(key, group)?;
+                self.say_let_in(key, group);
                 self.send_or_close(rt, key)
             }
         }
-    }
-
-    /// A line about an application of a group.
-    fn is_let_in(&mut self, key: usize, group: usize) -> io::Result<()> {
-        if self.journal.is_logged {
-            let group = number_of(group);
-            let group = format!(in self.alloc; "{group}")?;
-            self.say_of("application", key, "is let in, group", group.as_str());
-        }
-        Ok(())
     }
 
     /// It is the first one of its kind: the server judges it, on a connection of its own.
@@ -227,6 +229,11 @@ impl<W: Write + Drop> House<W> {
 
     /// It is told why it isn't let in, and is to be closed then.
     pub fn put_refusal(&mut self, key: usize, why: &str) -> io::Result<()> {
+        self.put_refusal_of(key, REFUSED, why)
+    }
+
+    /// The same with this number.
+    fn put_refusal_of(&mut self, key: usize, number: u32, why: &str) -> io::Result<()> {
         let alloc = self.alloc;
         raise(&mut self.journal.counts.refused);
         self.say_of("application", key, "is refused:", why);
@@ -234,7 +241,7 @@ impl<W: Write + Drop> House<W> {
             return Ok(());
         };
         let whose = socket.whose();
-        put_error(alloc, &mut socket.out, REFUSED, why)?;
+        put_error(alloc, &mut socket.out, number, why)?;
         socket.role = Role::Closing;
         self.let_go(whose)?;
         Ok(self.sockets.report(key, News::Turn)?)

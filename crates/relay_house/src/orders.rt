@@ -5,11 +5,11 @@ use crate::house::{House, relay_of};
 use relay_logins::Groups;
 use relay_sockets::{News, Whose};
 use relay_status::sum;
-use std::io::{self, Write};
+use std::io;
 use std::net::Net;
 use tds_relay::{Order, Place};
 
-impl<W: Write + Drop> House<W> {
+impl House {
     /// Does what a group's relay says is to be done.
     pub fn obey<R: Net>(&mut self, rt: &R, group: usize) -> io::Result<()> {
         for _ in 0..u64::MAX {
@@ -103,7 +103,7 @@ impl<W: Write + Drop> House<W> {
     /// Closes a socket, behind what the system still takes of what waits for it. What the relay says
     /// then is done by whoever calls.
     fn close(&mut self, key: usize) -> io::Result<()> {
-        self.say_fault(key)?;
+        self.say_fault(key);
         match self.take_out(key)? {
             Some(whose) => {
                 let _ = self.part(whose, key)?;

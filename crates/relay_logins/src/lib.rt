@@ -17,5 +17,5 @@ pub use gate::{Gate, Passed};
 pub use groups::{Group, Groups};
 pub use leg::{Leg, Taken};
 pub use login7::{Kind, SharedLogin, Who, kind_of, who_of};
-pub use notice::{NOT_OPENED, REFUSED, UNANSWERED, put_error, put_saved};
+pub use notice::{FULL, NOT_OPENED, REFUSED, TOO_MANY, UNANSWERED, put_error, put_saved};
 pub use table::{Entry, Table, number_of};

@@ -12,7 +12,7 @@ use toml::{Table, Value};
 const MOST: usize = 65_536;
 
 /// What a file may set.
-const NAMES: [&str; 16] = [
+const NAMES: [&str; 18] = [
     "most",
     "alone",
     "stats",
@@ -29,6 +29,8 @@ const NAMES: [&str; 16] = [
     "check",
     "away",
     "spin",
+    "keepalive",
+    "unacknowledged",
 ];
 
 /// The settings of a file, or none.

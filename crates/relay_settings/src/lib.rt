@@ -13,4 +13,4 @@ pub use fault::{Bar, RelayFault};
 pub use limits::{Limits, is_beyond, lesser};
 pub use servers::{MOST as MOST_SERVERS, Servers, bit};
 pub use system::SystemError;
-pub use words::{Asked, is_reached_at, read_words};
+pub use words::{Asked, Settings, is_reached_at, read_words};

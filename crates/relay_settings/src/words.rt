@@ -5,6 +5,7 @@ use crate::fault::RelayFault;
 use crate::limits::{Limits, MOST as MOST_SECONDS, USUAL as USUAL_LIMITS};
 use crate::servers::Servers;
 use clap::{Arg, ArgAction, ArgMatches, Command};
+use socket_places::{Keeping, Place, USUAL as USUAL_KEEPING};
 use std::alloc::{AllocError, Global};
 use std::fs::Files;
 use std::net::SocketAddr;
@@ -21,7 +22,7 @@ const USUAL_ALONE: usize = 256;
 const MOST_ALONE: usize = 4096;
 
 /// The words that take a value: the name, and what it is.
-const SETTINGS: [(&str, &str); 15] = [
+const SETTINGS: [(&str, &str); 17] = [
     (
         "most",
         "CONNECTIONS at most for equal logins, 1 to 1024 [16]",
@@ -75,10 +76,21 @@ const SETTINGS: [(&str, &str); 15] = [
         "MICROSECONDS behind a report for which the system is asked again at once, 0 to 1000 [0]",
     ),
     (
+        "keepalive",
+        "SECONDS of silence behind which the system asks whether the other end is there, 0 for never [60]",
+    ),
+    (
+        "unacknowledged",
+        "SECONDS for which an end may acknowledge nothing of what it is sent; 0 is the system's own [0]",
+    ),
+    (
         "config",
         "FILE in TOML that has these settings; a word stands over it",
     ),
-    ("stats", "ADDRESS at which it tells what it does, over HTTP"),
+    (
+        "stats",
+        "PLACE where it tells what it does, over HTTP: an address, or unix:PATH",
+    ),
 ];
 
 /// The words that take none.
@@ -144,8 +156,8 @@ pub struct Asked {
     pub limits: Limits,
     /// For so many microseconds behind a report it doesn't wait for the next one, but asks for it.
     pub spin: u64,
-    /// Where it tells what it does.
-    pub stats: Option<SocketAddr>,
+    /// How the system looks after what it is connected to.
+    pub keeping: Keeping,
     /// Whether it ends with its standard input.
     pub ends_with_input: bool,
     /// Whether each application and each connection has a line on standard error.
@@ -154,14 +166,28 @@ pub struct Asked {
     pub is_judged: bool,
 }
 
+/// What the words ask for, and where it tells what it does.
+#[derive(Drop)]
+pub struct Settings {
+    pub asked: Asked,
+    pub stats: Option<Place>,
+}
+
 /// Reads the words, the program's name too, and the file that they name. A word stands over the file.
-pub fn read_words<R: Files>(rt: &R, alloc: Global, words: &[String]) -> Result<Asked, RelayFault> {
+pub fn read_words<R: Files>(
+    rt: &R,
+    alloc: Global,
+    words: &[String],
+) -> Result<Settings, RelayFault> {
     let matches = parser(alloc)?.try_get_matches_from(words)?;
     let config = match matches.get_str("config") {
         Some(path) => Config::read(rt, alloc, path)?,
         None => Config::none(alloc),
     };
-    asked_by(alloc, &matches, &config)
+    Ok(Settings {
+        asked: asked_by(alloc, &matches, &config)?,
+        stats: stats_of(alloc, &matches, &config)?,
+    })
 }
 
 fn asked_by(alloc: Global, matches: &ArgMatches, config: &Config) -> Result<Asked, RelayFault> {
@@ -172,7 +198,7 @@ fn asked_by(alloc: Global, matches: &ArgMatches, config: &Config) -> Result<Aske
         most: count_of(alloc, matches, config, &COUNT_MOST)?,
         alone: count_of(alloc, matches, config, &COUNT_ALONE)?,
         spin: count_of(alloc, matches, config, &COUNT_SPIN)? as u64,
-        stats: stats_of(alloc, matches, config)?,
+        keeping: keeping_of(alloc, matches, config)?,
         limits: limits_of(alloc, matches, config)?,
         ends_with_input: matches.get_flag("until-input-ends"),
         is_logged: config.flag("log")? || matches.get_flag("log"),
@@ -185,15 +211,34 @@ fn stats_of(
     alloc: Global,
     matches: &ArgMatches,
     config: &Config,
-) -> Result<Option<SocketAddr>, RelayFault> {
+) -> Result<Option<Place>, RelayFault> {
     let set = config.text("stats")?;
-    if let Some(word) = matches.get_str("stats") {
-        return Ok(Some(address_of(alloc, "--stats", word)?));
+    let word = matches.get_str("stats");
+    let Some(text) = word.or(set) else {
+        return Ok(None);
+    };
+    if let Some(path) = text.strip_prefix("unix:") {
+        return Ok(Some(Place::Unix(String::from_str(alloc, path)?)));
     }
-    match set {
-        Some(text) => Ok(Some(address_in(config, text)?)),
-        None => Ok(None),
-    }
+    let address = match word {
+        Some(word) => address_of(alloc, "--stats", word)?,
+        None => address_in(config, text)?,
+    };
+    Ok(Some(Place::Tcp(address)))
+}
+
+fn keeping_of(alloc: Global, matches: &ArgMatches, config: &Config) -> Result<Keeping, RelayFault> {
+    let usual = USUAL_KEEPING;
+    Ok(Keeping {
+        silence: seconds_of(alloc, matches, config, "keepalive", usual.silence)?,
+        unacknowledged: seconds_of(
+            alloc,
+            matches,
+            config,
+            "unacknowledged",
+            usual.unacknowledged,
+        )?,
+    })
 }
 
 fn limits_of(alloc: Global, matches: &ArgMatches, config: &Config) -> Result<Limits, RelayFault> {
@@ -241,7 +286,10 @@ fn address_of(alloc: Global, what: &'static str, word: &str) -> Result<SocketAdd
 fn address_in(config: &Config, text: &str) -> Result<SocketAddr, RelayFault> {
     match text.parse::<SocketAddr>() {
         Ok(address) => Ok(address),
-        Err(_) => Err(config.fault("stats", "an IP address, a colon and a port are wanted")?),
+        Err(_) => Err(config.fault(
+            "stats",
+            "an IP address, a colon and a port are wanted, or unix:PATH",
+        )?),
     }
 }
 

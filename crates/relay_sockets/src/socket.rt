@@ -3,7 +3,7 @@
 use crate::ending::Cause;
 use crate::link::Link;
 use relay_logins::{Dial, Gate, Leg, Way, Who};
-use relay_status::{Asker, At, Judged, Names, Role as Told};
+use relay_status::{Asker, At, Judged, Names, Role as Told, Whom};
 use std::io;
 use std::net::SocketAddr;
 use tds_judge::Finding;
@@ -69,6 +69,8 @@ pub struct Socket {
     pub number: u64,
     /// Whether the log tells of it: not of those who ask what the relay does.
     pub is_told: bool,
+    /// Whether it is an application too many, which is told so at its login.
+    pub is_over: bool,
     pub link: Link,
     pub role: Role,
     /// What is to be sent in a login, and to whoever asks what the relay does.
@@ -106,6 +108,7 @@ impl Socket {
         Socket {
             number,
             is_told: !matches!(role, Role::Asker(_)),
+            is_over: false,
             link,
             role,
             out,
@@ -255,7 +258,16 @@ impl Socket {
             host: who.host.as_str(),
             user: who.user.as_str(),
             program: who.program.as_str(),
+            database: who.database.as_str(),
         })
+    }
+
+    /// Whose a line of the log about it is.
+    pub fn whom(&self) -> Whom<'_> {
+        Whom {
+            names: self.names(),
+            peer: self.peer,
+        }
     }
 
     /// Whose it is.

@@ -45,6 +45,8 @@ pub struct Counts {
     /// Servers that didn't take a login or ended in one, and logins that a server sent to another one.
     pub away: u64,
     pub routed: u64,
+    /// Lines of the log that were left out, since nobody read them in time.
+    pub left_out: u64,
     /// What a judge has found.
     pub found: Found,
     /// What groups that are gone had done.
@@ -69,6 +71,7 @@ impl Counts {
             old: 0,
             away: 0,
             routed: 0,
+            left_out: 0,
             found: Found::none(),
             gone: NOTHING,
         }

@@ -124,7 +124,7 @@ impl Figures {
     }
 
     /// What was done since the relay began.
-    fn counted(&self) -> [Figure; 22] {
+    fn counted(&self) -> [Figure; 23] {
         [
             ("applications", "let_in", self.counts.let_in),
             ("applications", "refused", self.counts.refused),
@@ -145,6 +145,7 @@ impl Figures {
             ("limits", "life", self.counts.old),
             ("servers", "failed", self.counts.away),
             ("servers", "routed", self.counts.routed),
+            ("log", "lines_left_out", self.counts.left_out),
             ("found", "applications", self.counts.found.applications),
             ("found", "servers", self.counts.found.servers),
             ("found", "relay", self.counts.found.relay),

@@ -23,6 +23,7 @@ pub struct Names<'a> {
     pub host: &'a str,
     pub user: &'a str,
     pub program: &'a str,
+    pub database: &'a str,
 }
 
 /// A socket.

@@ -71,6 +71,7 @@ fn put_who(body: &mut Vec<u8>, socket: &SocketLine<'_>) -> io::Result<()> {
         ("host", names.host),
         ("user", names.user),
         ("program", names.program),
+        ("database", names.database),
     ]
     .iter()
     {

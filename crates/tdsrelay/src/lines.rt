@@ -13,7 +13,7 @@ use std::io::{self, Write};
 /// The most of a line that are told.
 const MOST_TOLD: usize = 100;
 
-impl<W: Write + Drop> Program<W> {
+impl Program {
     /// A group: its figures, a line for each socket of it, and the applications that wait, the first one first.
     pub fn put_group(&self, body: &mut Vec<u8>, key: usize) -> io::Result<()> {
         let Some(group) = self.house.groups.get(key) else {

@@ -5,13 +5,13 @@ use relay_house::{Group, House, relay_of};
 use relay_logins::number_of;
 use relay_sockets::{Cause, Role, Whose};
 use relay_status::{
-    At, FAR, Figures, NO_HTTP, PAGES, Page, put_answer, put_json_figures, put_metrics, put_server,
-    put_text_figures, put_user, put_users, sum,
+    At, FAR, Figures, NO_HTTP, PAGES, Page, STRANGE, UNMEANT, put_answer, put_json_figures,
+    put_metrics, put_server, put_text_figures, put_user, put_users, sum,
 };
 use std::io::{self, Write};
 use std::net::Net;
 
-impl<W: Write + Drop> Program<W> {
+impl Program {
     /// Bytes of somebody who asks came.
     pub fn asked_for<R: Net>(&mut self, rt: &R, key: usize, piece: &[u8]) -> io::Result<()> {
         let page = match self.house.sockets.get_mut(key) {
@@ -30,18 +30,19 @@ impl<W: Write + Drop> Program<W> {
             return Ok(());
         }
         let mut body = Vec::new(self.house.alloc);
-        let (status, kind) = self.put_page(rt, page, &mut body)?;
+        let (status, kind) = self.put_page(rt, page, key, &mut body)?;
         if let Some(socket) = self.house.sockets.get_mut(key) {
             put_answer(&mut socket.out, status, kind, &body)?;
         }
         self.house.dismiss(rt, key)
     }
 
-    /// Appends what was asked for. Answers the status and the kind of that.
+    /// Appends what was asked for, by who has this key. Answers the status and the kind of that.
     fn put_page<R: Net>(
         &mut self,
         rt: &R,
         page: Page,
+        by: usize,
         body: &mut Vec<u8>,
     ) -> io::Result<(&'static str, &'static str)> {
         match page {
@@ -58,17 +59,19 @@ impl<W: Write + Drop> Program<W> {
                 Ok(("200 OK", "text/plain; version=0.0.4"))
             }
             Page::Kill(group) => {
-                let is_there = self.kill(rt, group)?;
+                let is_there = self.kill(rt, group, by)?;
                 put_done(body, is_there, b"closed\n")
             }
             Page::Drain => {
                 self.end_soon("the relay is to end, by POST /drain");
                 put_done(body, true, b"ends\n")
             }
-            Page::Pause(group) => put_done(body, self.pause(group), b"paused\n"),
-            Page::Resume(group) => put_done(body, self.resume(group)?, b"goes on\n"),
+            Page::Pause(group) => put_done(body, self.pause(group, by), b"paused\n"),
+            Page::Resume(group) => put_done(body, self.resume(group, by)?, b"goes on\n"),
             Page::Unknown | Page::Reload => put_refused(body, "404 Not Found", PAGES),
             Page::Far => put_refused(body, "403 Forbidden", FAR),
+            Page::Unmeant => put_refused(body, "403 Forbidden", UNMEANT),
+            Page::Strange => put_refused(body, "403 Forbidden", STRANGE),
             Page::Wrong => put_refused(body, "400 Bad Request", NO_HTTP),
         }
     }
@@ -131,13 +134,11 @@ impl<W: Write + Drop> Program<W> {
     }
 
     /// Closes all applications and connections of a group. False where there is no such group.
-    fn kill<R: Net>(&mut self, rt: &R, number: u64) -> io::Result<bool> {
+    fn kill<R: Net>(&mut self, rt: &R, number: u64, by: usize) -> io::Result<bool> {
         if self.house.groups.key_of(number).is_none() {
             return Ok(false);
         }
-        self.house
-            .journal
-            .say("group", number, "is closed, by POST /kill");
+        self.house.say_order(number, "is closed, by POST /kill", by);
         let mut keys = Vec::new(self.house.alloc);
         for (_, entry) in self.house.sockets.iter() {
             if let Some(group) = entry.value.group() {

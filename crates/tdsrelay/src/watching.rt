@@ -6,7 +6,7 @@ use relay_logins::{Groups, UNANSWERED, put_error};
 use relay_settings::{Limits, is_beyond};
 use relay_sockets::{Cause, Role, Whose};
 use relay_status::{At, raise};
-use std::io::{self, Write};
+use std::io;
 use std::net::Net;
 use tds_relay::{Place, PlaceOn, Relay};
 
@@ -64,7 +64,7 @@ impl Why {
     }
 }
 
-impl<W: Write + Drop> Program<W> {
+impl Program {
     /// Closes what has lasted longer than its limit.
     pub fn sweep<R: Net>(&mut self, rt: &R) -> io::Result<()> {
         let keys = self.house.sockets.keys()?;
@@ -144,7 +144,7 @@ impl<W: Write + Drop> Program<W> {
                 }
             }
             Whose::Judged(_) if limits.login > 0 => {
-                limits.login = limits.login.saturating_add(count.saturating_mul(2));
+                limits.login = limits.login.saturating_add(count);
             }
             Whose::Connection(group, _) if self.house.pair_of(group).is_some() => {
                 limits.idle = 0;
