@@ -7,12 +7,14 @@ import contextlib
 import os
 import socket
 import stat
+import struct
 import subprocess
 import time
 
-from peers import PATIENCE, batch, connect, login, message
+from peers import PATIENCE, batch, connect, login, message, packet
+from relay_operator import all_of, until
 from relay_servers import Before
-from relay_told import Relay, bare, error_in, error_packet, let_in, rows
+from relay_told import Relay, bare, error_in, error_packet, let_in, login_of, rows
 
 TOO_MANY = 50106
 # What a browser says of a page that it has loaded from elsewhere, and what an order wants.
@@ -76,8 +78,8 @@ def unread(program, cases, server):
         cases.check("lines that are left out are counted", found["total_log_lines_left_out"] > 0, found)
         said = b""
         os.set_blocking(relay.child.stderr.fileno(), False)
-        until = time.monotonic() + PATIENCE
-        while time.monotonic() < until and b"left out here" not in said[-5000:]:
+        end = time.monotonic() + PATIENCE
+        while time.monotonic() < end and b"left out here" not in said[-5000:]:
             connect(relay.port).close()
             time.sleep(0.05)
             said += relay.child.stderr.read() or b""
@@ -225,3 +227,95 @@ def within(program, cases, server):
             two.recv(65536)
             took.append(time.monotonic() - begun)
         cases.check("a limit runs out within a second", all(2 <= it for it in took) and sorted(took)[1] < 3, took)
+
+
+def kinds(program, cases, server):
+    """More kinds of logins than there may be: those go that nobody uses. What is judged of one address has a limit."""
+    with Relay(program, server) as relay:
+        for number in range(260):
+            let_in(relay, program=f"p{number}").close()
+        found = relay.json()
+        cases.same("one more kind than there may be is let in", found["total_applications_let_in"], 260)
+        cases.check("in the place of one that nobody uses", found["groups_shared"] <= 256, found["groups_shared"])
+    with socket.create_server(("127.0.0.1", 0)) as silent, Relay(program, silent.getsockname()[1], "--login", "60") as relay:
+        links = []
+        for number in range(33):
+            links.append(connect(relay.port))
+            links[-1].sendall(login_of(user=f"user{number}"))
+        links[-1].settimeout(30)
+        cases.same("what is judged of one address has a limit", all_of(links[-1]), error_packet(
+            50100, "The relay has as many logins of this address judged as it does at a time, 32."))
+        other = socket.create_connection(("127.0.0.1", relay.port), PATIENCE, ("127.0.0.2", 0))
+        other.sendall(login_of(user="other"))
+        end = time.monotonic() + PATIENCE
+        while (found := relay.json())["total_connections_dialed"] < 33 and time.monotonic() < end:
+            time.sleep(0.1)
+        cases.same("another address isn't kept out", (found["total_connections_dialed"], found["total_applications_refused"]), (33, 1))
+        for link in (*links, other):
+            link.close()
+
+
+@contextlib.contextmanager
+def served(serve, port):
+    """A tdsserve at this port, which listens."""
+    with subprocess.Popen([serve, f"127.0.0.1:{port}"], stderr=subprocess.PIPE) as child, killed(child):
+        child.stderr.readline()
+        yield child
+
+
+def outage(program, cases, serve):
+    """The server is away for a while: who asks meanwhile waits, and is served once it is back."""
+    with socket.create_server(("127.0.0.1", 0)) as it:
+        port = it.getsockname()[1]
+    with served(serve, port) as first, Relay(program, port, "--most", "2", "--wait", "30") as relay:
+        one, two = let_in(relay), let_in(relay)
+        cases.check("a row before an outage", rows(one, 1))
+        first.kill()
+        first.wait()
+        two.sendall(batch("rows 2 1"))
+        time.sleep(1.5)
+        cases.same("who asks in an outage waits", relay.json()["applications_waiting"], 1)
+        with served(serve, port):
+            two.settimeout(30)
+            cases.check("and is served behind it", struct.pack("<Bi", 0xD1, 2) in message(two))
+
+
+def total(program, cases, server):
+    """The connections of all logins together: what nobody holds gives way to who needs one."""
+    with Relay(program, server, "--total", "2") as relay:
+        a, b = let_in(relay, program="a"), let_in(relay, program="b")
+        cases.check("two kinds have one each", rows(a, 1) and rows(b, 2))
+        c = connect(relay.port)
+        c.sendall(login_of(program="c"))
+        cases.same("a third one finds none", all_of(c), error_packet(
+            50100, "The relay has as many connections as it may, and all are held (--total)."))
+        other = let_in(relay, program="b")
+        other.sendall(batch("rows 3 1"))
+        time.sleep(1)
+        cases.same("who needs another one waits", relay.json()["applications_waiting"], 1)
+        a.close()
+        cases.check("and is lent one where one is free", struct.pack("<Bi", 0xD1, 3) in message(other))
+        other.close()
+        until(relay, lambda it: it["connections_free"] >= 1)
+        cases.check("and so is another kind", rows(let_in(relay, program="c"), 4))
+
+
+def notices(program, cases, server):
+    """A request that asks for a query notification (MS-TDS 2.2.5.3.1) is refused with an error, whole or in pieces."""
+    text = "rows 2 1".encode("utf-16le")
+    notice = struct.pack("<IH", 6 + 2 + 4 + 2 + 4, 1) + b"\2\0a\0b\0" + b"\2\0c\0d\0"
+    transaction = struct.pack("<IHQI", 18, 2, 0, 1)
+    # Behind a packet's header and the count of ALL_HEADERS, up to the header's type.
+    for what, headers, known in (("first", notice + transaction, 18), ("second", transaction + notice, 36)):
+        with Relay(program, server) as relay:
+            one, two, other = let_in(relay), let_in(relay), let_in(relay)
+            whole = packet(1, struct.pack("<I", 4 + len(headers)) + headers + text)
+            cases.check(f"rows before a notification, {what}", rows(one, 1) and rows(other, 1))
+            one.sendall(whole)
+            for byte in whole[:known]:
+                two.sendall(bytes([byte]))
+                time.sleep(0.002)
+            for link in (one, two):
+                cases.same(f"a query notification is refused, {what}", all_of(link), error_packet(
+                    50107, "The relay hands no query notification on: ask for it past the relay."))
+            cases.check(f"others go on, {what}", rows(other, 2))

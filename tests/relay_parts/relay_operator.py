@@ -170,7 +170,7 @@ def pauses(program, cases, server):
 def not_opened(program, cases, server):
     """Who waits for a connection that can't be opened is told an error: the server is gone, is silent, or refuses."""
     for what in ("gone", "silent", "refuses"):
-        with Before(server) as before, Relay(program, before.port, "--login", "1", "--log") as relay:
+        with Before(server) as before, Relay(program, before.port, "--login", "1", "--wait", "3", "--log") as relay:
             one, two = let_in(relay), let_in(relay)
             # The first connection is cleaned first of all, and lent then.
             number = socket_of(until(relay, lambda it: it["connections_free"] == 1), two)["number"]
@@ -194,10 +194,11 @@ def not_opened(program, cases, server):
                        error_packet(NOT_OPENED, f"The relay could not open a connection. The server {did}."))
             found = relay.json()
             cases.same(f"counts where the server {what}",
-                       [found[f"total_{it}"] for it in ("applications_not_served", "connections_dialed",
-                                                        "connections_opened", "connections_ended", "limits_login",
-                                                        "servers_failed")],
-                       [1, 2, 1, 0, int(what == "silent"), int(what != "refuses")])
+                       [found[f"total_{it}"] for it in ("applications_not_served", "connections_opened", "connections_ended")],
+                       [1, 1, 0])
+            tries = [found[f"total_{it}"] for it in ("connections_dialed", "limits_login", "servers_failed")]
+            cases.check(f"it is dialed again where the server {what}", tries == [2, 0, 0] if what == "refuses" else
+                        tries[0] > 2 and tries[2] > 1 and (tries[1] > 0) == (what == "silent"), tries)
             if what != "silent":
                 cases.check(f"the holder goes on where the server {what}", rows(one, 3))
             lines = relay.lines()
@@ -205,7 +206,7 @@ def not_opened(program, cases, server):
             ended = [it for it in lines if re.fullmatch(rf"socket \d+ has ended: {re.escape(did)}", it)]
             cases.check(f"a line where the server {what}",
                         f"socket {number} waits for a connection that can't be opened: The server {did}." in lines
-                        and (len(refused), len(ended)) == ((1, 0) if what == "refuses" else (0, 1)), lines)
+                        and ((len(refused), len(ended)) == (1, 0) if what == "refuses" else not refused and ended), lines)
 
 
 def silent(program, cases):

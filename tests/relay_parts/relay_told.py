@@ -78,16 +78,21 @@ def bare(line):
     return re.sub(r" \((user|database|from) .*\)$", "", re.sub(r"^\d{4}-\d\d-\d\dT\d\d:\d\d:\d\d\.\d{3}Z ", "", line))
 
 
-def let_in(relay, host="", program="", user="", database=""):
-    """An application that is logged in, which says that it is this."""
+def login_of(host="", program="", user="", database=""):
+    """A login of who says that he is this."""
     names = [it.encode("utf-16le") for it in (host, user, "", program, database)]
     data, at = bytearray(login(more=sum(map(len, names)))), 8 + 94
     for field, name in zip((36, 40, 44, 48, 68), names):
         struct.pack_into("<HH", data, 8 + field, at - 8, len(name) // 2)
         data[at:at + len(name)] = name
         at += len(name)
+    return bytes(data)
+
+
+def let_in(relay, *names, **named):
+    """An application that is logged in, which says that it is this."""
     link = connect(relay.port)
-    link.sendall(bytes(data))
+    link.sendall(login_of(*names, **named))
     message(link)
     return link
 

@@ -172,6 +172,7 @@ impl House {
             socket.becomes(role, now);
             self.journal.logins.add(took.saturating_mul(1000));
             self.upstream.is_back(socket.server);
+            self.holding.is_back();
         }
         raise(&mut self.journal.counts.opened);
         self.say("connection", key, "is opened");

@@ -1,6 +1,7 @@
 //! All that a relay has: sockets, groups, what it is set to, and what it tells.
 
 use crate::group::Group;
+use crate::holding::Holding;
 use crate::upstream::Upstream;
 use relay_logins::{Gate, Groups};
 use relay_settings::Asked;
@@ -24,6 +25,7 @@ pub struct House {
     pub sockets: Sockets,
     pub groups: Groups<Group>,
     pub upstream: Upstream,
+    pub holding: Holding,
     pub journal: Journal,
 }
 
@@ -36,6 +38,7 @@ impl House {
             sockets: Sockets::new(rt, alloc, asked.is_judged, asked.keeping)?,
             groups: Groups::new(alloc),
             upstream: Upstream::new(),
+            holding: Holding::new(alloc),
             journal: Journal::new(alloc, asked.is_logged),
         })
     }

@@ -3,9 +3,12 @@
 #![tactic(auto)]
 
 mod checking;
+mod crowd;
 mod dialing;
+mod dismissing;
 mod ending;
 mod group;
+mod holding;
 mod house;
 mod logins;
 mod orders;

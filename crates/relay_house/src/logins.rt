@@ -3,17 +3,14 @@
 use crate::group::{Group, Pair, Stage};
 use crate::house::{House, relay_of};
 use relay_logins::{
-    FULL, Kind, Passed, REFUSED, SharedLogin, TOO_MANY, kind_of, leave_out_features, put_error,
-    put_saved, who_of,
+    FULL, Kind, NO_NOTICES, NOTIFIES, Passed, REFUSED, SharedLogin, TOO_MANY, kind_of,
+    leave_out_features, put_error, put_saved, who_of,
 };
 use relay_sockets::{Cause, News, Role, Whose};
 use relay_status::raise;
 use std::io;
-use std::net::Net;
+use std::net::{IpAddr, Net};
 use tds_packet::PacketSize;
-
-/// The most groups.
-const MOST_GROUPS: usize = 256;
 
 impl House {
     /// These bytes came on a socket, which isn't of somebody who asks what the relay does.
@@ -28,6 +25,10 @@ impl House {
             return Ok(());
         };
         match socket.whose() {
+            Whose::Application(..) if socket.notices.take(piece) => {
+                self.say("application", key, "asks for a query notification");
+                self.dismiss_for(rt, key, NOTIFIES, NO_NOTICES)
+            }
             Whose::Application(group, application) => {
                 if let Some(relay) = relay_of(groups, group) {
                     relay.said(application, piece)?;
@@ -147,7 +148,7 @@ impl House {
 
     /// It is the first one of its kind: the server judges it, on a connection of its own.
     fn begin_group<R: Net>(&mut self, rt: &R, key: usize, login: SharedLogin) -> io::Result<()> {
-        if let Some(why) = self.too_many(true) {
+        if let Some(why) = self.make_room(rt, true, self.address_of(key))? {
             return self.refuse(rt, key, why);
         }
         let Some(begun) = self.group_with(key, login.message(), None)? else {
@@ -159,7 +160,7 @@ impl House {
 
     /// It can't share.
     fn begin_alone<R: Net>(&mut self, rt: &R, key: usize, login: Vec<u8>) -> io::Result<()> {
-        if let Some(why) = self.too_many(false) {
+        if let Some(why) = self.make_room(rt, false, self.address_of(key))? {
             return self.refuse(rt, key, why);
         }
         let Some(begun) = self.group_with(key, &login, Some(Pair::of(key)))? else {
@@ -167,6 +168,12 @@ impl House {
         };
         let group = self.groups.begin_alone(login, begun);
         self.judge_first(rt, key, group)
+    }
+
+    /// The address that an application comes from, without its port.
+    fn address_of(&self, key: usize) -> Option<IpAddr> {
+        let peer = self.sockets.get(key)?.peer?;
+        Some(peer.ip())
     }
 
     /// A group whose first application waits for the server's judgement of its login.
@@ -182,7 +189,8 @@ impl House {
         let mut waiting = Vec::new(self.alloc);
         waiting.push(key)?;
         let user = who_of(self.alloc, login)?.user;
-        Ok(Some(Group::new(user, waiting, size, pair)))
+        let from = self.address_of(key);
+        Ok(Some(Group::new(user, waiting, size, pair, from)))
     }
 
     /// A server is dialed for the first login of a group, if that found room.
@@ -198,25 +206,6 @@ impl House {
             return Ok(());
         }
         self.missed(rt, Whose::First(group))
-    }
-
-    /// Why no more groups may be, if so.
-    fn too_many(&self, is_shared: bool) -> Option<&'static str> {
-        let (mut shared, mut alone): (usize, usize) = (0, 0);
-        for (_, entry) in self.groups.iter() {
-            if entry.value.inner.pair.is_some() {
-                alone = alone.saturating_add(1);
-            } else {
-                shared = shared.saturating_add(1);
-            }
-        }
-        if is_shared && shared >= MOST_GROUPS {
-            Some("The relay has as many different logins as it takes, 256.")
-        } else if !is_shared && alone >= self.asked.alone {
-            Some("The relay has as many logins that can't be shared as it takes (--alone).")
-        } else {
-            None
-        }
     }
 
     // ---- Refusals

@@ -43,16 +43,6 @@ impl House {
         }
     }
 
-    /// Opens a connection, which logs in.
-    fn open<R: Net>(&mut self, rt: &R, group: usize, number: u64) -> io::Result<()> {
-        self.upstream.begin();
-        if self.reach(rt, Whose::Opening(group, number), 0)? {
-            return Ok(());
-        }
-        let why = self.upstream.sentence(self.alloc)?;
-        self.not_opened(group, number, why.as_str())
-    }
-
     /// How long an application's request took, where it has its answer now.
     fn note_answer(&mut self, key: usize) {
         let House {

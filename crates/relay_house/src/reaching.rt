@@ -182,6 +182,10 @@ impl House {
 
     /// No server was reached for this login: why is what became of the last one.
     pub(crate) fn missed<R: Net>(&mut self, rt: &R, whose: Whose) -> io::Result<()> {
+        if let Whose::Opening(group, number) = whose {
+            self.fail_to_open(group, number)?;
+            return self.obey(rt, group);
+        }
         let why = self.upstream.sentence(self.alloc)?;
         self.not_reached(rt, whose, why.as_str())
     }
@@ -218,7 +222,7 @@ impl House {
     }
 
     /// An application is told that no connection can be opened, where nothing else waits for it.
-    fn tell_not_opened(&mut self, key: usize, why: &str) -> io::Result<()> {
+    pub fn tell_not_opened(&mut self, key: usize, why: &str) -> io::Result<()> {
         raise(&mut self.journal.counts.not_served);
         let what = "waits for a connection that can't be opened:";
         self.say_of("socket", key, what, why);

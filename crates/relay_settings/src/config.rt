@@ -12,9 +12,10 @@ use toml::{Table, Value};
 const MOST: usize = 65_536;
 
 /// What a file may set.
-const NAMES: [&str; 18] = [
+const NAMES: [&str; 19] = [
     "most",
     "alone",
+    "total",
     "stats",
     "log",
     "judge",

@@ -10,19 +10,20 @@ use std::alloc::{AllocError, Global};
 use std::fs::Files;
 use std::net::SocketAddr;
 
-/// The connections of a group, where no word says it.
+/// The connections of a group, where no word says it, and the most of them.
 const USUAL: usize = 16;
 
-/// The most connections of a group.
 const MOST: usize = 1024;
 
-/// The connections that aren't shared, where no word says it, and the most of them.
+/// The connections that aren't shared, where no word says it, and the most of them; and of all together.
 const USUAL_ALONE: usize = 256;
 
 const MOST_ALONE: usize = 4096;
 
+const MOST_TOTAL: usize = 10_000;
+
 /// The words that take a value: the name, and what it is.
-const SETTINGS: [(&str, &str); 17] = [
+const SETTINGS: [(&str, &str); 18] = [
     (
         "most",
         "CONNECTIONS at most for equal logins, 1 to 1024 [16]",
@@ -30,6 +31,10 @@ const SETTINGS: [(&str, &str); 17] = [
     (
         "alone",
         "CONNECTIONS at most of logins that can't be shared, 0 to 4096 [256]",
+    ),
+    (
+        "total",
+        "CONNECTIONS at most of all logins together, 1 to 10000 [10000]",
     ),
     (
         "login",
@@ -136,6 +141,14 @@ const COUNT_ALONE: Count = Count {
     unit: "connections",
 };
 
+const COUNT_TOTAL: Count = Count {
+    name: "total",
+    least: 1,
+    most: MOST_TOTAL,
+    usual: MOST_TOTAL,
+    unit: "connections",
+};
+
 const COUNT_SPIN: Count = Count {
     name: "spin",
     least: 0,
@@ -153,6 +166,8 @@ pub struct Asked {
     pub most: usize,
     /// The most connections of logins that can't be shared.
     pub alone: usize,
+    /// The most connections of all logins together.
+    pub total: usize,
     pub limits: Limits,
     /// For so many microseconds behind a report it doesn't wait for the next one, but asks for it.
     pub spin: u64,
@@ -197,6 +212,7 @@ fn asked_by(alloc: Global, matches: &ArgMatches, config: &Config) -> Result<Aske
         servers: servers_of(alloc, listen, matches.get_strs("SERVER").unwrap_or(&[]))?,
         most: count_of(alloc, matches, config, &COUNT_MOST)?,
         alone: count_of(alloc, matches, config, &COUNT_ALONE)?,
+        total: count_of(alloc, matches, config, &COUNT_TOTAL)?,
         spin: count_of(alloc, matches, config, &COUNT_SPIN)? as u64,
         keeping: keeping_of(alloc, matches, config)?,
         limits: limits_of(alloc, matches, config)?,

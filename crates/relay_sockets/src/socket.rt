@@ -2,7 +2,7 @@
 
 use crate::ending::Cause;
 use crate::link::Link;
-use relay_logins::{Dial, Gate, Leg, Way, Who};
+use relay_logins::{Dial, Gate, Leg, Notices, Way, Who};
 use relay_status::{Asker, At, Judged, Names, Role as Told, Whom};
 use std::io;
 use std::net::SocketAddr;
@@ -95,6 +95,8 @@ pub struct Socket {
     /// A connection's process at the server, and the server's place in the list.
     pub spid: u16,
     pub server: usize,
+    /// Where in its requests an application is.
+    pub notices: Notices,
     /// An application's requests so far, and the microsecond in which the one began that has no answer yet.
     pub begun: u64,
     pub asked: Option<u64>,
@@ -127,6 +129,7 @@ impl Socket {
             checked: None,
             spid: 0,
             server: 0,
+            notices: Notices::new(),
             begun: 0,
             asked: None,
             judged: None,

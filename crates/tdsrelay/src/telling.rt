@@ -2,8 +2,7 @@
 
 use crate::program::Program;
 use relay_house::{Group, House, relay_of};
-use relay_logins::number_of;
-use relay_sockets::{Cause, Role, Whose};
+use relay_sockets::{Role, Whose};
 use relay_status::{
     At, FAR, Figures, NO_HTTP, PAGES, Page, STRANGE, UNMEANT, put_answer, put_json_figures,
     put_metrics, put_server, put_text_figures, put_user, put_users, sum,
@@ -135,21 +134,11 @@ impl Program {
 
     /// Closes all applications and connections of a group. False where there is no such group.
     fn kill<R: Net>(&mut self, rt: &R, number: u64, by: usize) -> io::Result<bool> {
-        if self.house.groups.key_of(number).is_none() {
+        let Some(group) = self.house.groups.key_of(number) else {
             return Ok(false);
-        }
+        };
         self.house.say_order(number, "is closed, by POST /kill", by);
-        let mut keys = Vec::new(self.house.alloc);
-        for (_, entry) in self.house.sockets.iter() {
-            if let Some(group) = entry.value.group() {
-                if number_of(group) == number {
-                    keys.push(entry.key)?;
-                }
-            }
-        }
-        for key in keys.iter() {
-            self.house.ended(rt, *key, Cause::Own)?;
-        }
+        self.house.close_group(rt, group)?;
         Ok(true)
     }
 

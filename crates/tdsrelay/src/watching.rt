@@ -2,7 +2,7 @@
 
 use crate::program::Program;
 use relay_house::{Group, House, relay_of};
-use relay_logins::{Groups, UNANSWERED, put_error};
+use relay_logins::{Groups, UNANSWERED};
 use relay_settings::{Limits, is_beyond};
 use relay_sockets::{Cause, Role, Whose};
 use relay_status::{At, raise};
@@ -71,6 +71,7 @@ impl Program {
         for key in keys.iter() {
             self.sweep_one(rt, *key)?;
         }
+        self.house.dial_held(rt)?;
         self.house.check_all(rt)
     }
 
@@ -206,9 +207,14 @@ impl Program {
             (Whose::Application(group, application), Why::Cancel) => {
                 self.give_up(rt, group, application)
             }
-            (Whose::Application(group, application), _) => {
-                self.dismiss_from(rt, key, group, application, why)
+            (Whose::Application(..), Why::Wait) if self.is_opening(key) => {
+                self.tell_unreached(key)?;
+                self.house.part_with(rt, key)
             }
+            (Whose::Application(..), _) => match why.told() {
+                Some((number, sentence)) => self.house.dismiss_for(rt, key, number, sentence),
+                None => self.house.part_with(rt, key),
+            },
             (Whose::Judged(_), Why::Login) => self.house.put_refusal(key, SILENT),
             (Whose::Leg(_), Why::Login) => self.house.put_refusal(key, UNANSWERED),
             (_, Why::Login | Why::Cancel) => self.house.ended(rt, key, Cause::Silent),
@@ -241,34 +247,20 @@ impl Program {
         self.house.obey(rt, group)
     }
 
-    /// An application is taken out of its group and closed.
-    fn dismiss_from<R: Net>(
-        &mut self,
-        rt: &R,
-        key: usize,
-        group: usize,
-        application: usize,
-        why: Why,
-    ) -> io::Result<()> {
-        let alloc = self.house.alloc;
-        let House {
-            sockets,
-            groups,
-            ..
-        } = &mut self.house;
-        if let (Some(socket), Some(relay)) = (sockets.get_mut(key), relay_of(groups, group)) {
-            if let (true, Some((number, text))) = (
-                relay.unsent(application).is_empty(),
-                why.told(),
-            ) {
-                put_error(alloc, &mut socket.out, number, text)?;
-            }
-            socket.role = Role::Closing;
+    /// Whether an application waits for its connection to open.
+    fn is_opening(&self, key: usize) -> bool {
+        match self.house.sockets.get(key) {
+            Some(socket) => socket.seen.at == At::Opening,
+            None => false,
         }
-        self.house.leave(group, application)?;
-        self.house.obey(rt, group)?;
-        self.house.let_go(Whose::Application(group, application))?;
-        self.house.dismiss(rt, key)
+    }
+
+    /// An application has waited too long for its connection to open, and is told why.
+    fn tell_unreached(&mut self, key: usize) -> io::Result<()> {
+        match self.house.holding.sentence(self.house.alloc)? {
+            Some(why) => self.house.tell_not_opened(key, why.as_str()),
+            None => self.house.tell_not_opened(key, SILENT),
+        }
     }
 }
 
