@@ -79,7 +79,7 @@ def holders(program, cases, server):
                    (True, 1, [second["number"]]))
         lines = lines_of(relay)
         cases.check("the page says so", [it for it in lines if not it.startswith("  connection")][:4] == [
-            f"group {group['group']}, shared, user anna, at most 1 connections",
+            f"group {group['group']}, shared, user anna, application billing, at most 1 connections",
             f"  application {first['number']} is quiet with a transaction open and holds connection {held['number']}"
             f", N s of 400 s (web-1, billing, from 127.0.0.1:{port_of(one)})",
             f"  application {second['number']} waits for a connection to be free, N s of 120 s"

@@ -7,6 +7,7 @@ use relay_sockets::{Role, Socket, Whose};
 use std::alloc::{AllocError, Global};
 use std::io;
 use std::net::Net;
+use tds_relay::{Place, Relay};
 
 impl House {
     /// An application of a group is told this error, and closed.
@@ -59,10 +60,21 @@ fn put_last(
     let Whose::Application(group, application) = socket.whose() else {
         return Ok(());
     };
-    match relay_of(groups, group) {
-        Some(relay) if relay.unsent(application).is_empty() => {
-            put_error(alloc, &mut socket.out, number, sentence)
-        }
-        _ => Ok(()),
+    let Some(relay) = relay_of(groups, group) else {
+        return Ok(());
+    };
+    if may_be_told(relay, application, socket.is_answered) {
+        put_error(alloc, &mut socket.out, number, sentence)
+    } else {
+        Ok(())
+    }
+}
+
+/// Whether an error may stand behind what an application was sent: nothing else waits for it, and it isn't
+/// within an answer of its server's.
+fn may_be_told(relay: &mut Relay, application: usize, is_answered: bool) -> bool {
+    match relay.place_of(application) {
+        Some(Place::Asking(_)) if is_answered => false,
+        _ => relay.unsent(application).is_empty(),
     }
 }

@@ -1,6 +1,6 @@
 //! Applications whose logins are equal, or one that is alone, and their relay.
 
-use relay_logins::FEATURES;
+use relay_logins::{FEATURES, Who};
 use relay_status::{Done, NOTHING};
 use std::alloc::{AllocError, Global};
 use std::net::IpAddr;
@@ -28,8 +28,8 @@ pub struct Pair {
 pub struct Group {
     pub stage: Stage,
     pub size: PacketSize,
-    /// The user that its login names.
-    pub user: String,
+    /// What its login names.
+    pub who: Who,
     /// The most connections.
     pub most: usize,
     /// The two ends, where it isn't shared.
@@ -59,7 +59,7 @@ impl Pair {
 impl Group {
     /// A group whose first login the server judges, which these wait for, the first one of them there.
     pub fn new(
-        user: String,
+        who: Who,
         waiting: Vec<usize>,
         size: PacketSize,
         pair: Option<Pair>,
@@ -68,7 +68,7 @@ impl Group {
         Group {
             stage: Stage::Judged(waiting),
             size,
-            user,
+            who,
             most: 1,
             pair,
             from,

@@ -39,7 +39,7 @@ impl House {
             groups: Groups::new(alloc),
             upstream: Upstream::new(),
             holding: Holding::new(alloc),
-            journal: Journal::new(alloc, asked.is_logged),
+            journal: Journal::new(alloc, asked.is_logged, asked.is_json),
         })
     }
 
@@ -54,6 +54,7 @@ impl House {
         self.sockets.is_judged = asked.is_judged;
         self.sockets.keeping = asked.keeping;
         self.journal.is_logged = asked.is_logged;
+        self.journal.lines.is_json = asked.is_json;
     }
 
     /// An application has come, from there.

@@ -96,10 +96,18 @@ impl House {
         match kind_of(message) {
             Kind::Wrong(why) => self.refuse(rt, key, why),
             Kind::Alone(login) => self.begin_alone(rt, key, login),
-            Kind::Shared(login) => match self.groups.join(&login) {
-                Some(group) => self.join(rt, key, group),
-                None => self.begin_group(rt, key, login),
-            },
+            Kind::Shared(login) => self.share(rt, key, login),
+        }
+    }
+
+    /// It joins the group whose login is equal, or begins it.
+    fn share<R: Net>(&mut self, rt: &R, key: usize, mut login: SharedLogin) -> io::Result<()> {
+        if self.asked.joins_applications {
+            login.name_relay()?;
+        }
+        match self.groups.join(&login) {
+            Some(group) => self.join(rt, key, group),
+            None => self.begin_group(rt, key, login),
         }
     }
 
@@ -188,9 +196,9 @@ impl House {
         };
         let mut waiting = Vec::new(self.alloc);
         waiting.push(key)?;
-        let user = who_of(self.alloc, login)?.user;
+        let who = who_of(self.alloc, login)?;
         let from = self.address_of(key);
-        Ok(Some(Group::new(user, waiting, size, pair, from)))
+        Ok(Some(Group::new(who, waiting, size, pair, from)))
     }
 
     /// A server is dialed for the first login of a group, if that found room.

@@ -4,7 +4,7 @@ use crate::group::Group;
 use crate::house::{House, relay_of};
 use relay_logins::{Groups, number_of};
 use relay_sockets::{Cause, Socket, Whose};
-use relay_status::{Journal, put_whom};
+use relay_status::{Journal, NOBODY};
 use std::io::Write;
 use std::net::SocketAddr;
 use tds_relay::Relay;
@@ -129,7 +129,8 @@ impl House {
 /// A line about a server that has failed, behind which others are preferred.
 pub(crate) fn put_away(journal: &mut Journal, server: SocketAddr, cause: Cause) {
     if let Some(out) = journal.line() {
-        let _ = writeln!(out, "server {server} {cause}");
+        let _ = write!(out, "server {server} {cause}");
+        journal.lines.end(&NOBODY);
     }
 }
 
@@ -151,7 +152,7 @@ fn put_cause(journal: &mut Journal, socket: &Socket, what: &str, words: &str, ca
     };
     let _ = write!(out, "{what} {} {words} ", socket.number);
     put_other_end(out, socket, cause);
-    put_whom(out, &socket.whom());
+    journal.lines.end(&socket.whom());
 }
 
 /// What the other end did: of a server's socket that is its address.
@@ -167,13 +168,14 @@ fn put_let_in(journal: &mut Journal, socket: &Socket, group: usize) {
     if let Some(out) = journal.line() {
         let (number, group) = (socket.number, number_of(group));
         let _ = write!(out, "application {number} is let in, group {group}");
-        put_whom(out, &socket.whom());
+        journal.lines.end(&socket.whom());
     }
 }
 
 fn put_dialed(journal: &mut Journal, socket: &Socket, address: SocketAddr) {
     if let Some(out) = journal.line() {
-        let _ = writeln!(out, "connection {} is dialed at {address}", socket.number);
+        let _ = write!(out, "connection {} is dialed at {address}", socket.number);
+        journal.lines.end(&NOBODY);
     }
 }
 
@@ -200,7 +202,8 @@ fn put_fault_of(journal: &mut Journal, number: u64, relay: &Relay, application: 
         if let Some(out) = journal.line() {
             let which = fault.number();
             let _ = write!(out, "application {number} breaks the rules: fault {which}");
-            let _ = writeln!(out, " of an application, {fault:?}");
+            let _ = write!(out, " of an application, {fault:?}");
+            journal.lines.end(&NOBODY);
         }
     }
 }
@@ -211,13 +214,15 @@ fn put_fault_on(journal: &mut Journal, number: u64, relay: &Relay, on: u64) {
         if let Some(out) = journal.line() {
             let which = fault.number();
             let _ = write!(out, "connection {number} breaks the rules: fault {which}");
-            let _ = writeln!(out, " of a server, {fault:?}");
+            let _ = write!(out, " of a server, {fault:?}");
+            journal.lines.end(&NOBODY);
         }
     } else if let Some(fault) = relay.header_fault_on(on) {
         if let Some(out) = journal.line() {
             let which = fault.number();
             let _ = write!(out, "connection {number} breaks the rules: fault {which}");
-            let _ = writeln!(out, " of a packet, {fault:?}");
+            let _ = write!(out, " of a packet, {fault:?}");
+            journal.lines.end(&NOBODY);
         }
     }
 }

@@ -107,6 +107,7 @@ fn send_application(
         if count == 0 {
             break;
         }
+        socket.is_answered = true;
         sent = room_of(relay.sent(key, count));
         if count < most {
             // The system has no room for more, and reports it once it has.

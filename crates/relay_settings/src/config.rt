@@ -12,12 +12,15 @@ use toml::{Table, Value};
 const MOST: usize = 65_536;
 
 /// What a file may set.
-const NAMES: [&str; 19] = [
+const NAMES: [&str; 23] = [
     "most",
     "alone",
     "total",
+    "least",
+    "any-application",
     "stats",
     "log",
+    "log-json",
     "judge",
     "login",
     "wait",
@@ -26,6 +29,7 @@ const NAMES: [&str; 19] = [
     "life",
     "hold",
     "transaction",
+    "request",
     "drain",
     "check",
     "away",

@@ -2,11 +2,13 @@
 #![tactic(auto)]
 
 mod config;
+mod counts;
 mod fault;
 mod limits;
 mod near;
 mod servers;
 mod system;
+mod table;
 mod words;
 
 pub use fault::{Bar, RelayFault};

@@ -12,5 +12,5 @@ mod sockets;
 pub use ending::Cause;
 pub use link::{Came, Link, News};
 pub use room::{Admission, Room};
-pub use socket::{Gone, Role, Seen, Socket, Whose};
+pub use socket::{Gone, Role, Seen, Socket, Whose, names_of};
 pub use sockets::{ROUND, Sockets};

@@ -100,6 +100,8 @@ pub struct Socket {
     /// An application's requests so far, and the microsecond in which the one began that has no answer yet.
     pub begun: u64,
     pub asked: Option<u64>,
+    /// Whether something of that one's answer has been sent.
+    pub is_answered: bool,
     /// Where judging is asked for.
     pub judged: Option<Judged>,
 }
@@ -132,6 +134,7 @@ impl Socket {
             notices: Notices::new(),
             begun: 0,
             asked: None,
+            is_answered: false,
             judged: None,
         }
     }
@@ -156,6 +159,7 @@ impl Socket {
         if begun != self.begun {
             self.begun = begun;
             self.asked = Some(precise);
+            self.is_answered = false;
         }
     }
 
@@ -257,12 +261,7 @@ impl Socket {
         let Some(who) = &self.who else {
             return None;
         };
-        Some(Names {
-            host: who.host.as_str(),
-            user: who.user.as_str(),
-            program: who.program.as_str(),
-            database: who.database.as_str(),
-        })
+        Some(names_of(who))
     }
 
     /// Whose a line of the log about it is.
@@ -286,5 +285,15 @@ impl Socket {
             Role::Asker(_) => Whose::Asker,
             Role::Closing => Whose::Closing,
         }
+    }
+}
+
+/// What a login says, as it is told.
+pub fn names_of(who: &Who) -> Names<'_> {
+    Names {
+        host: who.host.as_str(),
+        user: who.user.as_str(),
+        program: who.program.as_str(),
+        database: who.database.as_str(),
     }
 }

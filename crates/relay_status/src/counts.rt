@@ -39,6 +39,7 @@ pub struct Counts {
     pub late_cancels: u64,
     pub late_holds: u64,
     pub late_transactions: u64,
+    pub late_requests: u64,
     /// Connections that were closed as idle or old.
     pub idle: u64,
     pub old: u64,
@@ -67,6 +68,7 @@ impl Counts {
             late_cancels: 0,
             late_holds: 0,
             late_transactions: 0,
+            late_requests: 0,
             idle: 0,
             old: 0,
             away: 0,

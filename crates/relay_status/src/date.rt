@@ -2,13 +2,13 @@
 
 use std::io::{self, Write};
 
-/// Appends a time in milliseconds since 1970, in UTC, as `2026-11-27T22:40:05.123Z`, and a blank.
+/// Appends a time in milliseconds since 1970, in UTC, as `2026-11-27T22:40:05.123Z`.
 pub fn put_time(out: &mut Vec<u8>, time: u64) -> io::Result<()> {
     let (seconds, millis) = (time / 1000, time % 1000);
     put_date(out, seconds / 86_400)?;
     let (hour, minute, second) = (seconds / 3600 % 24, seconds / 60 % 60, seconds % 60);
     write!(out, "T{hour:02}:{minute:02}:{second:02}")?;
-    write!(out, ".{millis:03}Z ")
+    write!(out, ".{millis:03}Z")
 }
 
 /// Appends the date of a day, counted from the first one of 1970. Years are counted from March, so that the

@@ -3,12 +3,11 @@
 use crate::counts::Counts;
 use crate::judged::Blamed;
 use crate::latency::Latency;
-use crate::lines::Names;
 use crate::outbox::Outbox;
+use crate::whom::{NOBODY, Whom};
 use judge_words::{level_text, word_of};
 use std::alloc::Global;
 use std::io::Write;
-use std::net::SocketAddr;
 use tds_judge::Finding;
 
 /// The time since the relay began, and the milliseconds since 1970.
@@ -17,13 +16,6 @@ pub struct Moment {
     pub millis: u64,
     pub micros: u64,
     pub time: u64,
-}
-
-/// Whose a line is: who an application says that it is, and where it is.
-#[derive(Clone, Copy)]
-pub struct Whom<'a> {
-    pub names: Option<Names<'a>>,
-    pub peer: Option<SocketAddr>,
 }
 
 /// The log, and all counts.
@@ -41,9 +33,10 @@ pub struct Journal {
 }
 
 impl Journal {
-    pub fn new(alloc: Global, is_logged: bool) -> Journal {
+    /// A log that is empty, whose lines are objects of JSON or not.
+    pub fn new(alloc: Global, is_logged: bool, is_json: bool) -> Journal {
         Journal {
-            lines: Outbox::new(alloc),
+            lines: Outbox::new(alloc, is_json),
             is_logged,
             moment: Moment {
                 millis: 0,
@@ -60,7 +53,7 @@ impl Journal {
     pub fn say(&mut self, what: &str, number: u64, words: &str, whom: &Whom<'_>) {
         if let Some(out) = self.line() {
             let _ = write!(out, "{what} {number} {words}");
-            put_whom(out, whom);
+            self.lines.end(whom);
         }
     }
 
@@ -69,14 +62,15 @@ impl Journal {
         if let Some(out) = self.line() {
             let _ = write!(out, "{what} {number} {words}");
             let _ = write!(out, " {more}");
-            put_whom(out, whom);
+            self.lines.end(whom);
         }
     }
 
     /// A line about the relay as a whole, where lines are asked for.
     pub fn note(&mut self, words: &str) {
         if let Some(out) = self.line() {
-            let _ = writeln!(out, "{words}");
+            let _ = write!(out, "{words}");
+            self.lines.end(&NOBODY);
         }
     }
 
@@ -89,11 +83,12 @@ impl Journal {
         let (name, weight) = (word_of(finding.name), level_text(finding.name.level()));
         let _ = write!(out, "found {name} ({weight}) of {}", blamed.words());
         let (offset, value) = (finding.spot.offset, finding.value);
-        let _ = writeln!(out, ", socket {number}, byte {offset}, value {value}");
+        let _ = write!(out, ", socket {number}, byte {offset}, value {value}");
+        self.lines.end(&NOBODY);
     }
 
-    /// Begins a line, where lines are asked for: what it says is to be appended, and its end. None where it
-    /// isn't to be said.
+    /// Begins a line, where lines are asked for: what it says is to be appended, and then it is to be ended.
+    /// None where it isn't to be said.
     pub fn line(&mut self) -> Option<&mut Vec<u8>> {
         if self.is_logged && self.begin_line() {
             Some(&mut self.lines.waiting)
@@ -108,25 +103,5 @@ impl Journal {
             self.counts.left_out = self.counts.left_out.saturating_add(1);
         }
         begins
-    }
-}
-
-/// Ends a line with whose it is, as far as that is known.
-pub fn put_whom(out: &mut Vec<u8>, whom: &Whom<'_>) {
-    if let Some(peer) = whom.peer {
-        let _ = write!(out, " (");
-        if let Some(names) = whom.names {
-            put_named(out, "user", names.user);
-            put_named(out, "database", names.database);
-        }
-        let _ = write!(out, "from {peer})");
-    }
-    let _ = writeln!(out, "");
-}
-
-/// A name behind what it is of, and what stands before the next one. Nothing where it is empty.
-fn put_named(out: &mut Vec<u8>, what: &str, name: &str) {
-    if !name.is_empty() {
-        let _ = write!(out, "{what} {name}, ");
     }
 }

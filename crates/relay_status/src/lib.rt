@@ -14,14 +14,16 @@ mod lines;
 mod objects;
 mod outbox;
 mod page;
+mod whom;
 
 pub use at::{At, Role};
 pub use counts::{Counts, Done, NOTHING, raise, sum};
 pub use figures::{Figures, put_json_figures, put_metrics, put_text_figures, put_user, put_users};
-pub use journal::{Journal, Moment, Whom, put_whom};
+pub use journal::{Journal, Moment};
 pub use judged::{Blamed, Found, Judged};
 pub use latency::Latency;
 pub use lines::{GroupLine, Names, SocketLine, put_group, put_server, put_socket};
 pub use objects::{put_json_group, put_json_socket};
 pub use outbox::Outbox;
 pub use page::{Asker, Door, FAR, NO_HTTP, PAGES, Page, STRANGE, UNMEANT, put_answer};
+pub use whom::{NOBODY, Whom};

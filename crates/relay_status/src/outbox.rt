@@ -2,6 +2,7 @@
 //! ones are left out, and counted.
 
 use crate::date::put_time;
+use crate::whom::{NOBODY, Whom, put_json_whom, put_whom};
 use std::alloc::Global;
 use std::io::{self, Write};
 
@@ -22,14 +23,19 @@ pub struct Outbox {
     start: usize,
     /// How many lines were left out since the last one that wasn't.
     left_out: u64,
+    /// Whether each line is an object of JSON, and where the text of the newest one begins.
+    pub is_json: bool,
+    text: usize,
 }
 
 impl Outbox {
-    pub fn new(alloc: Global) -> Outbox {
+    pub fn new(alloc: Global, is_json: bool) -> Outbox {
         Outbox {
             waiting: Vec::new(alloc),
             start: 0,
             left_out: 0,
+            is_json,
+            text: 0,
         }
     }
 
@@ -43,21 +49,55 @@ impl Outbox {
             let _ = self.tell_left_out(time);
             self.left_out = 0;
         }
-        put_time(&mut self.waiting, time).is_ok()
+        self.put_front(time).is_ok()
     }
 
     fn tell_left_out(&mut self, time: u64) -> io::Result<()> {
-        put_time(&mut self.waiting, time)?;
+        self.put_front(time)?;
         let count = self.left_out;
-        writeln!(
+        write!(
             self.waiting,
             "{count} lines are left out here, since nobody has read the log in time"
-        )
+        )?;
+        self.end(&NOBODY);
+        Ok(())
     }
 
-    /// Appends a line as it is.
+    /// What stands before a line's text.
+    fn put_front(&mut self, time: u64) -> io::Result<()> {
+        if self.is_json {
+            write!(self.waiting, "{{\"time\":\"")?;
+        }
+        put_time(&mut self.waiting, time)?;
+        if self.is_json {
+            write!(self.waiting, "\",\"text\":\"")?;
+        } else {
+            write!(self.waiting, " ")?;
+        }
+        self.text = self.waiting.len();
+        Ok(())
+    }
+
+    /// Ends a line that was begun, behind its text, with whose it is.
+    pub fn end(&mut self, whom: &Whom<'_>) {
+        if self.is_json {
+            make_plain(&mut self.waiting, self.text);
+            let _ = write!(self.waiting, "\"");
+            put_json_whom(&mut self.waiting, whom);
+            let _ = writeln!(self.waiting, "}}");
+        } else {
+            put_whom(&mut self.waiting, whom);
+            let _ = writeln!(self.waiting, "");
+        }
+    }
+
+    /// Appends a line without a time.
     pub fn add(&mut self, line: &str) {
-        let _ = writeln!(self.waiting, "{line}");
+        let _ = if self.is_json {
+            writeln!(self.waiting, "{{\"text\":\"{line}\"}}")
+        } else {
+            writeln!(self.waiting, "{line}")
+        };
     }
 
     /// What is to be written next.
@@ -86,5 +126,16 @@ impl Outbox {
     pub fn clear(&mut self) {
         self.waiting.clear();
         self.start = 0;
+    }
+}
+
+/// Of a text from this place on, what would need an escape in JSON becomes a `?`.
+fn make_plain(text: &mut [u8], from: usize) {
+    if let Some(rest) = text.get_mut(from..) {
+        for byte in rest.iter_mut() {
+            if *byte < b' ' || matches!(*byte, b'"' | b'\\') {
+                *byte = b'?';
+            }
+        }
     }
 }

@@ -3,6 +3,7 @@
 #![tactic(auto)]
 
 mod changing;
+mod json;
 mod lines;
 mod program;
 mod telling;

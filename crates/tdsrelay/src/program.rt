@@ -1,5 +1,6 @@
 //! The loop over all sockets: who comes, what the system reports, and when it ends.
 
+use crate::json::Telling;
 use crate::writing::Log;
 use mio::{Events, Token};
 use relay_house::House;
@@ -53,6 +54,9 @@ pub struct Program {
     pub reloads: Vec<usize>,
     /// The groups that are to go on behind this round's turns.
     pub resumed: Vec<usize>,
+    /// The sockets of those who ask for JSON, and who of them is being told.
+    pub asking: Vec<usize>,
+    pub telling: Option<Telling>,
     start: Instant,
     /// The milliseconds from 1970 to that, by the clock as it stood at the last look at time limits.
     began: u64,
@@ -92,6 +96,8 @@ impl Program {
             log: Log::new(errors),
             reloads: Vec::new(alloc),
             resumed: Vec::new(alloc),
+            asking: Vec::new(alloc),
+            telling: None,
             start,
             began: milliseconds_since_1970(rt)?,
             swept: 0,
@@ -143,21 +149,26 @@ impl Program {
         self.log.write_last(&mut self.house.journal.lines);
     }
 
-    /// Waits for the system, and not at all where a socket has more to do, or had a moment ago; then they have
-    /// their turns.
+    /// Waits for the system, and not at all where a socket has more to do, or had a moment ago, or somebody is
+    /// being told; then they have their turns.
     fn round<R: Net + Clock + Files>(
         &mut self,
         rt: &R,
         events: &mut Events<Global>,
         buffer: &mut [u8; PIECE],
     ) -> io::Result<()> {
-        let longest = if self.spins() { 0 } else { self.until_sweep() };
+        let longest = if self.spins() || self.is_telling() {
+            0
+        } else {
+            self.until_sweep()
+        };
         self.house.sockets.wait(events, longest)?;
         self.look_at_clock(rt)?;
         self.hear(events)?;
         self.take_turns(rt, buffer)?;
         self.go_on()?;
         self.reload(rt)?;
+        self.tell_on(rt)?;
         let now = self.house.now();
         if now >= self.swept.saturating_add(self.pause) {
             self.swept = now;

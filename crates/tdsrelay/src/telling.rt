@@ -4,8 +4,8 @@ use crate::program::Program;
 use relay_house::{Group, House, relay_of};
 use relay_sockets::{Role, Whose};
 use relay_status::{
-    At, FAR, Figures, NO_HTTP, PAGES, Page, STRANGE, UNMEANT, put_answer, put_json_figures,
-    put_metrics, put_server, put_text_figures, put_user, put_users, sum,
+    At, FAR, Figures, NO_HTTP, PAGES, Page, STRANGE, UNMEANT, put_answer, put_metrics, put_server,
+    put_text_figures, put_user, put_users, sum,
 };
 use std::io::{self, Write};
 use std::net::Net;
@@ -23,10 +23,11 @@ impl Program {
         let Some(page) = page else {
             return Ok(());
         };
-        if matches!(page, Page::Reload) {
-            // It is answered behind this round's turns.
-            self.reloads.push(key)?;
-            return Ok(());
+        // These are answered behind this round's turns.
+        match page {
+            Page::Reload => return Ok(self.reloads.push(key)?),
+            Page::Json => return self.ask_json(key),
+            _ => {}
         }
         let mut body = Vec::new(self.house.alloc);
         let (status, kind) = self.put_page(rt, page, key, &mut body)?;
@@ -49,10 +50,6 @@ impl Program {
                 self.put_text(body)?;
                 Ok(("200 OK", "text/plain"))
             }
-            Page::Json => {
-                self.put_json(body)?;
-                Ok(("200 OK", "application/json"))
-            }
             Page::Metrics => {
                 self.put_metrics(body)?;
                 Ok(("200 OK", "text/plain; version=0.0.4"))
@@ -67,7 +64,7 @@ impl Program {
             }
             Page::Pause(group) => put_done(body, self.pause(group, by), b"paused\n"),
             Page::Resume(group) => put_done(body, self.resume(group, by)?, b"goes on\n"),
-            Page::Unknown | Page::Reload => put_refused(body, "404 Not Found", PAGES),
+            Page::Unknown | Page::Reload | Page::Json => put_refused(body, "404 Not Found", PAGES),
             Page::Far => put_refused(body, "403 Forbidden", FAR),
             Page::Unmeant => put_refused(body, "403 Forbidden", UNMEANT),
             Page::Strange => put_refused(body, "403 Forbidden", STRANGE),
@@ -97,8 +94,8 @@ impl Program {
             for (_, entry) in self.house.groups.iter() {
                 let group = &entry.value.inner;
                 if self.is_first_of_user(entry.key, group) {
-                    let count = self.count_of(&group.user, *kind);
-                    put_user(body, what, group.user.as_str(), count)?;
+                    let count = self.count_of(&group.who.user, *kind);
+                    put_user(body, what, group.who.user.as_str(), count)?;
                 }
             }
         }
@@ -108,7 +105,7 @@ impl Program {
     /// Whether no group before this one is of the same user.
     fn is_first_of_user(&self, key: usize, group: &Group) -> bool {
         for (_, entry) in self.house.groups.iter() {
-            if entry.key < key && entry.value.inner.user == group.user {
+            if entry.key < key && entry.value.inner.who.user == group.who.user {
                 return false;
             }
         }
@@ -120,7 +117,7 @@ impl Program {
         let mut count: u64 = 0;
         for (_, entry) in self.house.groups.iter() {
             let group = &entry.value.inner;
-            if group.user == *user {
+            if group.who.user == *user {
                 let more = if of_applications {
                     group.applications()
                 } else {
@@ -143,7 +140,7 @@ impl Program {
     }
 
     /// What is there, and what was done.
-    fn figures(&self) -> Figures {
+    pub fn figures(&self) -> Figures {
         let mut figures = Figures::new(self.house.now() / 1000, self.house.journal.counts);
         let now = self.house.now();
         let House {
@@ -167,7 +164,7 @@ impl Program {
     }
 
     /// Notes of each socket what it is at now, and who is at its other end.
-    fn see_all(&mut self) -> io::Result<()> {
+    pub fn see_all(&mut self) -> io::Result<()> {
         let keys = self.house.sockets.keys()?;
         for key in keys.iter() {
             let (at, mark) = self.at(*key);
@@ -225,20 +222,6 @@ impl Program {
             }
         }
         Ok(())
-    }
-
-    fn put_json(&mut self, body: &mut Vec<u8>) -> io::Result<()> {
-        self.see_all()?;
-        put_json_figures(body, &self.figures())?;
-        write!(body, ",\"request_seconds\":")?;
-        self.house.journal.requests.put_json(body)?;
-        write!(body, ",\"login_seconds\":")?;
-        self.house.journal.logins.put_json(body)?;
-        write!(body, ",\"sockets\":[")?;
-        self.put_json_sockets(body)?;
-        write!(body, "],\"groups\":[")?;
-        self.put_json_groups(body)?;
-        writeln!(body, "]}}")
     }
 }
 

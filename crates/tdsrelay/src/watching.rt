@@ -21,6 +21,7 @@ enum Why {
     Cancel,
     Hold,
     Transaction,
+    Request,
     Idle,
     Old,
     /// Its group is paused.
@@ -39,6 +40,7 @@ impl Why {
             Why::Hold => "has held a connection too long and asked nothing (--hold)",
             Why::Transaction =>
                 "has left a transaction open too long and asked nothing (--transaction)",
+            Why::Request => "has a request that runs too long (--request)",
             Why::Idle => "was idle too long (--idle)",
             Why::Old => "is old enough (--life)",
             Why::Paused => "is closed, since its group is paused",
@@ -58,6 +60,10 @@ impl Why {
             Why::Transaction => Some((
                 50_104,
                 "The relay closes who leaves a transaction open for long and asks nothing (--transaction).",
+            )),
+            Why::Request => Some((
+                50_108,
+                "The relay cancels a request that runs too long (--request).",
             )),
             Why::Login | Why::Cancel | Why::Idle | Why::Old | Why::Paused => None,
         }
@@ -151,9 +157,18 @@ impl Program {
                 limits.idle = 0;
                 limits.life = 0;
             }
+            Whose::Connection(group, _) if self.is_least(group) => limits.idle = 0,
             _ => {}
         }
         limits
+    }
+
+    /// Whether a group has no more connections than are kept however idle they are.
+    fn is_least(&self, group: usize) -> bool {
+        match self.house.groups.get(group) {
+            Some(group) => group.connections() <= self.house.asked.least,
+            None => false,
+        }
     }
 
     /// Whether the group of a socket that is a connection is paused.
@@ -230,6 +245,7 @@ impl Program {
             Why::Cancel => raise(&mut counts.late_cancels),
             Why::Hold => raise(&mut counts.late_holds),
             Why::Transaction => raise(&mut counts.late_transactions),
+            Why::Request => raise(&mut counts.late_requests),
             Why::Idle => raise(&mut counts.idle),
             Why::Old => raise(&mut counts.old),
             Why::End | Why::Paused => {}
@@ -339,7 +355,8 @@ fn why_late(at: At, lasted: u64, age: u64, limits: &Limits) -> Option<Why> {
             Some(why) => Some(why),
             None => limited(limits.life, age, Why::Old),
         },
-        At::Quiet | At::Kept | At::Asking | At::Held => None,
+        At::Asking => limited(limits.request, lasted, Why::Request),
+        At::Quiet | At::Kept | At::Held => None,
     }
 }
 
