@@ -6,7 +6,7 @@ What is wanted is written by hand.
 
 import datetime
 import json
-import select
+import selectors
 import socket
 import struct
 import time
@@ -130,8 +130,10 @@ def pieces(program, cases, server):
                 link.sendall(f"GET /json HTTP/1.1\r\nHost: 127.0.0.1:{relay.stats}\r\n\r\n".encode())
                 time.sleep(0.003)
                 one.sendall(batch(f"rows {number} 1"))
-                ready = select.select([one, link], [], [], PATIENCE)[0]
-                first += ready == [one]
+                with selectors.DefaultSelector() as both:
+                    for it in (one, link):
+                        both.register(it, selectors.EVENT_READ)
+                    first += [it.fileobj for it, _ in both.select(PATIENCE)] == [one]
                 cases.check(f"the row comes {number}", struct.pack("<Bi", 0xD1, number) in message(one))
                 got = b""
                 while more := link.recv(65536):

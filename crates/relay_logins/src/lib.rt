@@ -10,6 +10,7 @@ mod leg;
 mod login7;
 mod notice;
 mod notices;
+mod program;
 mod table;
 
 pub use dial::{Dial, Dialed, FEATURES, Target, Unfit, Way};

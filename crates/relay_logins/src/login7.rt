@@ -28,7 +28,7 @@ const USER: usize = 40;
 
 const PASSWORD: usize = 44;
 
-const PROGRAM: usize = 48;
+pub const PROGRAM: usize = 48;
 
 const SERVER: usize = 52;
 
