@@ -49,8 +49,15 @@ def clauses_of(crate):
     for folder, _, files in os.walk(f"{ROOT}/crates/{crate}/src"):
         for file in (it for it in files if it.endswith(".rt")):
             text = text_of(os.path.relpath(f"{folder}/{file}", ROOT))
-            found |= set(re.findall(r"(?m)^ *ensures (\w+) \{", text))
-            found |= set(re.findall(r"(?m)^ *(?:pub(?:\([\w ]+\))? )?(?:extern \"C\" )?(?:const )?fn (\w+)[^{;]*?^ *ensures\b", text, re.S))
+            name = None
+            for line in text.splitlines():
+                said = re.match(r" *(?:ensures(?: (\w+))? \{|(?:pub(?:\([\w ]+\))? )?(?:extern \"C\" )?(?:const )?fn (\w+))", line)
+                if said and said[2]:
+                    name = said[2]
+                elif said:
+                    found |= {it for it in (name, said[1]) if it}
+                elif line.strip() in ("{", "}"):
+                    name = None
     return found
 
 
