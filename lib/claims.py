@@ -76,13 +76,13 @@ def every_clause():
     return found
 
 
-def shown(claim):
-    """The clauses of a claim as a page has them."""
+def shown(claim, usual):
+    """The clauses of a claim as a page has them: the crate is named where it isn't the usual one of its table."""
     own = [it for it in claim.clauses if not re.fullmatch(r"\w+:\w+", it)]
     others = collections.defaultdict(list)
     for crate, name in (it.split(":") for it in claim.clauses if it not in own):
         others[crate].append(name)
-    parts = [", ".join(f"`{it}`" for it in own) + f" (`{claim.crate}`)"] * bool(own)
+    parts = [", ".join(f"`{it}`" for it in own) + f" (`{claim.crate}`)" * (claim.crate != usual)] * bool(own)
     return "; ".join(parts + [", ".join(f"`{it}`" for it in names) + f" (`{crate}`)" for crate, names in others.items()])
 
 
@@ -95,8 +95,10 @@ def table(name):
         chosen = [it for it in every[name.removeprefix("not proved of ")] if it.proved == (not name.startswith("not proved"))]
     if name.startswith("not proved"):
         return "".join(f"- {it.sentence}{f' ({it.premise})' if it.premise else ''}\n" for it in chosen)
-    rows = "".join(f"| {it.sentence} | {it.premise} | {shown(it)} |\n" for it in chosen)
-    return f"| Claim | Where | Clause |\n|---|---|---|\n{rows}"
+    usual, count = collections.Counter(it.crate for it in chosen).most_common(1)[0]
+    usual = usual if 2 * count > len(chosen) else None
+    rows = "".join(f"| {it.sentence} | {it.premise} | {shown(it, usual)} |\n" for it in chosen)
+    return f"| Claim | Where | Clause{f' of `{usual}`' if usual else ''} |\n|---|---|---|\n{rows}"
 
 
 def made(text):
