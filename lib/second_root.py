@@ -8,8 +8,8 @@ import os
 import shutil
 import subprocess
 
-TESTS = os.path.dirname(os.path.abspath(__file__))
-ROOT = os.path.dirname(os.path.dirname(TESTS))
+ROOT = os.path.dirname(os.path.dirname(os.path.abspath(__file__)))
+TESTS = f"{ROOT}/tests/crates"
 # Where they are laid out, if no other folder is said.
 BESIDE = f"{ROOT}.tests"
 MARK = "# Laid out by tests/crates/lay_out.\n"

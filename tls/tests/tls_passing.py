@@ -1,4 +1,4 @@
-"""What passes tdstls, for tests/encryption: what each kind of driver is answered at each setting, both modes
+"""What passes tdstls, for tls/tests/encryption: what each kind of driver is answered at each setting, both modes
 back to back in all modes, cancels across both, PRELOGINs in single bytes and those that lie, what isn't
 TDS. Each part takes the place and the cases of that script.
 """

@@ -9,7 +9,7 @@ import threading
 
 from wireshark import packets
 
-HERE = os.path.dirname(os.path.abspath(__file__))
+HERE = f"{os.path.dirname(os.path.dirname(os.path.abspath(__file__)))}/beside/wire_peers"
 CONF = "[peer]\n host = 127.0.0.1\n port = {port}\n tds version = 7.4\n encryption = off\n client charset = UTF-8\n"
 LOGGED_IN = bytes.fromhex("ad1000017400000403530051004c00100000fa" "fd000000000000000000000000")
 PRELOGIN = bytes.fromhex("00000b000601001100 01ff" "0f0007d00000" "02".replace(" ", ""))

@@ -3,7 +3,7 @@ import os
 import struct
 import subprocess
 
-HERE = os.path.dirname(os.path.abspath(__file__))
+HERE = f"{os.path.dirname(os.path.dirname(os.path.abspath(__file__)))}/beside/wire_peers"
 KINDS = {
     "colmetadata": 0x81, "done": 0xFD, "doneproc": 0xFE, "doneinproc": 0xFF, "envchange": 0xE3, "error": 0xAA,
     "featureextack": 0xAE, "info": 0xAB, "loginack": 0xAD, "nbcrow": 0xD2, "offset": 0x78, "order": 0xA9,

@@ -5,8 +5,8 @@ import subprocess
 import sys
 import threading
 
-TESTS = os.path.dirname(os.path.abspath(__file__))
-ROOT = os.path.dirname(TESTS)
+ROOT = os.path.dirname(os.path.dirname(os.path.abspath(__file__)))
+TESTS = f"{ROOT}/tests"
 DATA = f"{TESTS}/data"
 SCHEDULES = f"{ROOT}/schedules"
 
