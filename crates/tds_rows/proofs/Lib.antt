@@ -6,3 +6,4 @@ mod Loops
 mod Metadata
 mod Laid
 mod Divided
+mod Listed

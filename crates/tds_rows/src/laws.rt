@@ -1,6 +1,7 @@
 //! What follows from the definitions alone. Each function does nothing when it runs: its contract is the law.
-ghost use Rattle.std.specs.Prelude.{◌≡◌, ℕ, Bool, List, get_or, true};
-ghost use Rattle.tds_rows.specs.Laws.{Divides, begins_row, passed_as};
+ghost use Rattle.std.specs.Prelude.{◌≡◌, ◌<◌, ℕ, Bool, List, get_or, true};
+ghost use Rattle.tds_rows.specs.Columns.{metadata_at};
+ghost use Rattle.tds_rows.specs.Laws.{Divides, HasRoomFor, begins_row, described_as, passed_as};
 ghost use Rattle.tds_rows.specs.Places.{values_placed, placed_row};
 ghost use Rattle.tds_wire.specs.Layout.{Got, token_at};
 ghost use Rattle.tds_rows.specs.declared.place.Place.{Place as AnyPlace};
@@ -24,4 +25,14 @@ pub fn places_divide_rows()
         (bytes : List ℕ) (found : List AnyPlace) (rest : List ℕ)
         → values_placed with_nulls nulls 0 shapes at bytes ≡ Got found rest
         → Divides with_nulls nulls 0 shapes at bytes found rest }
+{}
+
+/// The columns that a COLMETADATA describes are spelled as the layout of tds_wire has them, to its last byte, where a
+/// walk has room for as many; more bytes are wanted where that wants more, and a type is unknown where it is there.
+pub fn columns_are_those_of_the_layout()
+    ensures { (most kind : ℕ) (features : AnyFeatures) (known : List AnyShape)
+        (bytes : List ℕ) → ((i : ℕ) → get_or bytes i 0 < 256) → get_or bytes 0 0 ≡ 0x81
+        → HasRoomFor most bytes
+        → token_at most features (record { kind = kind; columns = known }) bytes
+        ≡ described_as (record { kind = 0x81; columns = known }) (metadata_at features bytes) }
 {}

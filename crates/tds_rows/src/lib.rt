@@ -14,6 +14,6 @@ mod types;
 mod values;
 
 pub use columns::columns_of;
-pub use laws::{places_divide_rows, rows_are_those_of_the_layout};
+pub use laws::{columns_are_those_of_the_layout, places_divide_rows, rows_are_those_of_the_layout};
 pub use place::{Described, Place, RowColumn, RowFault};
 pub use rows::row_places;
