@@ -7,3 +7,4 @@ mod Metadata
 mod Laid
 mod Divided
 mod Listed
+mod Coming

@@ -5,3 +5,4 @@ pub mod Kinds
 pub mod Columns
 pub mod Finding
 pub mod Laws
+pub mod Pieces

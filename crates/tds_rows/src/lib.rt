@@ -8,6 +8,7 @@ mod keys;
 mod laws;
 mod numbers;
 mod parts;
+mod pieces;
 mod place;
 mod rows;
 mod types;
@@ -15,5 +16,6 @@ mod values;
 
 pub use columns::columns_of;
 pub use laws::{columns_are_those_of_the_layout, places_divide_rows, rows_are_those_of_the_layout};
+pub use pieces::{PartsReader, Piece};
 pub use place::{Described, Place, RowColumn, RowFault};
 pub use rows::row_places;
