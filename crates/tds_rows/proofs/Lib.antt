@@ -8,3 +8,4 @@ mod Laid
 mod Divided
 mod Listed
 mod Coming
+mod Ending
