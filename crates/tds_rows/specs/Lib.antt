@@ -6,3 +6,4 @@ pub mod Columns
 pub mod Finding
 pub mod Laws
 pub mod Pieces
+pub mod Come

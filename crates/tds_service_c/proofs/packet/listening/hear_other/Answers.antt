@@ -4,7 +4,7 @@ use Rattle.tds_service.specs.Ties.{Hears}
 use Rattle.tds_service_c.specs.Hearing.{one_part, told_if}
 use Rattle.tds_service_c.specs.Plain.{line_of}
 use Rattle.tds_service_c.proofs.Comings.{may_be_told}
-use Rattle.tds_service_c.proofs.packet.listening.hear_sign.Goals as goal
+use Rattle.tds_service_c.proofs.packet.listening.hear_other.Goals as goal
 
 pub returns-in-More-clause-tells : goal.returns-in-More-clause-tells
 returns-in-More-clause-tells c = λ token told.
