@@ -1,12 +1,11 @@
 -- A value in parts ends byte by byte where the layout ends it.
-use Rattle.std.proofs.Common.{◌≡◌, ◌∙◌, ◌≤◌, ◌<◌, ℕ, zero, suc, ◌+◌, ◌-◌, ◌*◌, ◌==◌, ◌&&◌, Bool, true, false, List, [], ◌∷◌, ◌++◌, length, take, drop, get_or, if◌then◌else◌, ◌⊎◌, inl, inr, refl, sym, ap, subst, arith, rules, append_assoc, take-append-drop, take_all, ne_eqb}
+use Rattle.std.proofs.Common.{◌≡◌, ◌∙◌, ◌≤◌, ◌<◌, ℕ, zero, suc, ◌+◌, ◌*◌, ◌==◌, ◌&&◌, Bool, true, false, List, [], ◌∷◌, ◌++◌, length, take, drop, get_or, if◌then◌else◌, ◌⊎◌, inl, inr, refl, sym, ap, arith, rules, append_assoc, take-append-drop, take_all}
 use Rattle.std.specs.Prelude.{nat_lt}
 use Rattle.std.proofs.lemmas.Bool.{cases_lt}
 use Rattle.std.proofs.lemmas.List.{length-drop}
 use Rattle.tds_wire.specs.declared.shape.Shape.TheVariants as shape
 use Rattle.tds_wire.specs.Layout.{Read, Got, Short, Wrong, ◌>>=◌, parts, run, value}
-use Rattle.tds_rows.specs.Pieces.{EndsParts, PartsAt, InLength, InCount, InPart, PartsOver, PartsNull, behind_count, behind_length, is_over, joined_parts, left_after, own_bytes, parts_after, parts_begun}
-use Rattle.tds_rows.specs.Places.{is_absent}
+use Rattle.tds_rows.specs.Pieces.{EndsParts, PartsAt, InCount, InPart, PartsOver, PartsNull, behind_count, behind_length, is_over, joined_parts, own_bytes, parts_after, parts_begun}
 use Rattle.tds_rows.proofs.Coming.{after_append, own_append, part_own, part_to}
 use Rattle.tds_rows.proofs.Fronts.{run_got, run_short}
 

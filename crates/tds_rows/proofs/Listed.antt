@@ -1,8 +1,7 @@
 -- Columns as the layout has them.
-use Rattle.std.proofs.Common.{◌≡◌, ◌∙◌, ◌≤◌, ◌<◌, ℕ, zero, suc, ◌+◌, ◌-◌, ◌*◌, ◌%◌, ◌==◌, Bool, true, false, List, [], ◌∷◌, ◌++◌, length, get_or, if◌then◌else◌, ◌⊎◌, inl, inr, refl, sym, ap, rules, arith, append_assoc}
-use Rattle.std.specs.Prelude.{Option, Some, None, nat_lt}
+use Rattle.std.proofs.Common.{◌≡◌, ◌∙◌, ◌≤◌, ◌<◌, ℕ, zero, suc, ◌+◌, ◌-◌, ◌*◌, ◌%◌, ◌==◌, Bool, true, false, List, [], ◌∷◌, ◌++◌, length, get_or, ◌⊎◌, inl, inr, refl, sym, ap, rules, arith, append_assoc}
+use Rattle.std.specs.Prelude.{Some, nat_lt}
 use Rattle.std.proofs.lemmas.List.{append-nil}
-use Rattle.tds_wire.specs.declared.fault.WireFault.TheVariants.{ManyColumns}
 use Rattle.tds_wire.specs.declared.features.Features.{Features}
 use Rattle.tds_wire.specs.declared.shape.Shape.{Shape}
 use Rattle.tds_wire.specs.declared.shape.Shape.TheVariants as shape
@@ -12,8 +11,7 @@ use Rattle.tds_wire.specs.Types.{type_of}
 use Rattle.tds_rows.specs.declared.place.RowColumn.{RowColumn}
 use Rattle.tds_rows.specs.Columns.{all_described, described_at, described_column, head_at, listed_columns, metadata_at, name_units}
 use Rattle.tds_rows.specs.Finding.{column_shapes}
-use Rattle.tds_rows.specs.Laws.{HasRoomFor, columns_behind, described_as}
-use Rattle.tds_rows.specs.Places.{two_from}
+use Rattle.tds_rows.specs.Laws.{HasRoomFor, described_as}
 use Rattle.tds_rows.proofs.Loops.{bind_bind, same_bind}
 
 -- a shape, out of the two bytes that it is kept in

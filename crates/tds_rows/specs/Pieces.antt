@@ -2,7 +2,6 @@
 -- cutting of its bytes gives the same, since each byte is a step.
 use Rattle.std.specs.Prelude.{◌≡◌, ◌≤◌, ◌<◌, ℕ, zero, suc, ◌+◌, ◌-◌, ◌*◌, ◌==◌, ◌&&◌, nat_lt, Bool, true, false, List, [], ◌∷◌, ◌++◌, length, take, drop, if◌then◌else◌, ◌⊎◌}
 use Rattle.tds_wire.specs.declared.shape.Shape.TheVariants as shape
-use Rattle.tds_wire.specs.Layout.{Got, Short, value}
 use Rattle.tds_rows.specs.declared.pieces.PartsReader.{PartsReader}
 use Rattle.tds_rows.specs.declared.pieces.Piece.{Piece}
 use Rattle.tds_rows.specs.Places.{is_absent}

@@ -17,7 +17,10 @@ mod values;
 
 pub use columns::columns_of;
 pub use come::{Come, row_values};
-pub use laws::{columns_are_those_of_the_layout, parts_end_where_the_layout_ends_them, places_divide_rows, rows_are_those_of_the_layout};
+pub use laws::{
+    columns_are_those_of_the_layout, parts_end_where_the_layout_ends_them, places_divide_rows,
+    rows_are_those_of_the_layout,
+};
 pub use pieces::{PartsReader, Piece};
 pub use place::{Described, Place, RowColumn, RowFault};
 pub use rows::row_places;

@@ -1,10 +1,10 @@
 use Rattle.std.proofs.Common.{rules, arith, ◌+◌, ◌<◌, ◌≤◌, ◌≡◌, ◌++◌, ◌∷◌, ◌&&◌, [], ◌∙◌, ℕ, Bool, List, length, drop, take, ap, refl, sym, subst, Some, None}
 use Rattle.std.proofs.lemmas.List.{drop-drop, drop-set-lt, length-drop, length-set, take-set-le}
-use Rattle.tds_wire.specs.Layout.{Got, Short, is_null}
+use Rattle.tds_wire.specs.Layout.{Got, is_null}
 use Rattle.tds_rows.specs.declared.place.Place.{Place}
 use Rattle.tds_rows.specs.Come.{has_bits, shapes_between}
 use Rattle.tds_rows.specs.Finding.{column_shapes}
-use Rattle.tds_rows.specs.Places.{column_value_at, values_placed}
+use Rattle.tds_rows.specs.Places.{values_placed}
 use Rattle.tds_rows.proofs.Going.{end_of_front, front_begun, front_none, front_push, next_lacks, none_next, rest_stands, step_of_front, with_front}
 use Rattle.tds_rows.proofs.come.come_from.Goals as goal
 
@@ -19,7 +19,7 @@ columns-init c = record {
   exact = λ m l k.
       let shapes = shapes_between c.args.columns.now c.args.first m in
       ap (λ (ps : List Place). with_front ps (values_placed c.args.with_nulls c.args.nulls.now c.args.first shapes 0 c.args.bytes.now))
-          (front_begun c.args.places.now c.args.first (omega (arith, c.requires.first, c.requires.room)))
+      (front_begun c.args.places.now c.args.first (omega (arith, c.requires.first, c.requires.room)))
       ∙ front_none (values_placed c.args.with_nulls c.args.nulls.now c.args.first shapes 0 c.args.bytes.now);
 }
 
@@ -45,7 +45,7 @@ columns-preserved c =
       exact = λ m l k.
           let shapes = drop (i + 1) (column_shapes (take m columns)) in
           ap (λ (ps : List Place). with_front ps (values_placed w nulls (i + 1) shapes (c.columns.done + n) (drop (c.columns.done + n) bytes)))
-              (front_push c.columns.places c.args.first i p c.columns.invariant.from room)
+          (front_push c.columns.places c.args.first i p c.columns.invariant.from room)
           ∙ (ap (λ (xs : List ℕ). with_front (drop c.args.first (take i c.columns.places) ++ p ∷ []) (values_placed w nulls (i + 1) shapes (c.columns.done + n) xs))
           (sym (drop-drop n c.columns.done bytes))
           ∙ (sym (step_of_front columns m i _ (drop c.args.first (take i c.columns.places)) w nulls c.columns.done n p (drop c.columns.done bytes)

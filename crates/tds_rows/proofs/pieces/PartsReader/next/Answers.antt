@@ -1,4 +1,4 @@
-use Rattle.std.proofs.Common.{rules, arith, ◌+◌, ◌-◌, ◌≡◌, ◌≤◌, ◌<◌, ◌∙◌, ℕ, ◌⊎◌, inl, inr, length, sym}
+use Rattle.std.proofs.Common.{arith, ◌+◌, ◌-◌, ◌≡◌, ◌≤◌, ◌<◌, ◌∙◌, ℕ, ◌⊎◌, inl, inr, length, sym}
 use Rattle.std.proofs.lemmas.Bool.{cases_lt}
 use Rattle.tds_rows.proofs.Coming.{own_part, to_part}
 use Rattle.tds_rows.proofs.pieces.PartsReader.next.Goals as goal
