@@ -5,7 +5,7 @@ use Rattle.std.proofs.lemmas.Bool.{cases_lt}
 use Rattle.std.proofs.lemmas.List.{length-drop}
 use Rattle.tds_wire.specs.declared.shape.Shape.TheVariants as shape
 use Rattle.tds_wire.specs.Layout.{Read, Got, Short, Wrong, ◌>>=◌, parts, run, value}
-use Rattle.tds_rows.specs.Pieces.{EndsParts, PartsAt, InCount, InPart, PartsOver, PartsNull, behind_count, behind_length, is_over, joined_parts, own_bytes, parts_after, parts_begun}
+use Rattle.tds_rows.specs.Pieces.{EndsParts, PartsAt, InCount, InPart, PartsOver, PartsNull, behind_count, behind_whole_length, value_is_over, joined_parts, own_bytes, parts_after, parts_begun}
 use Rattle.tds_rows.proofs.Coming.{after_append, own_append, part_own, part_to}
 use Rattle.tds_rows.proofs.Fronts.{run_got, run_short}
 
@@ -122,20 +122,20 @@ abbrev own_by : Bool → List ℕ → List ℕ
 own_by absent bytes = if absent then [] else joined_parts (length bytes) bytes
 
 value_ended : (absent : Bool) (u : Unit {0}) (bytes rest : List ℕ) → (if absent then Got tt bytes else parts (length bytes) bytes) ≡ Got u rest
-    → EndsFrom (behind_length absent) (closed_by absent) bytes rest (own_by absent bytes)
+    → EndsFrom (behind_whole_length absent) (closed_by absent) bytes rest (own_by absent bytes)
 unfolding parts_after own_bytes
 value_ended true u bytes rest e = record { front = []; whole = ap rest_of e; over = refl; own_is = refl }
 value_ended false u bytes rest e = parts_ended (length bytes) u bytes rest e
 
 with_length : (a b c d e f g h : ℕ) (absent : Bool) (bytes rest : List ℕ) → length_ones a b c d e f g h ≡ absent
-    → EndsFrom (behind_length absent) (closed_by absent) bytes rest (own_by absent bytes)
+    → EndsFrom (behind_whole_length absent) (closed_by absent) bytes rest (own_by absent bytes)
     → EndsFrom parts_begun (closed_by absent) (a ∷ b ∷ c ∷ d ∷ e ∷ f ∷ g ∷ h ∷ bytes) rest (own_by absent bytes)
 unfolding parts_after own_bytes
 with_length a b c d e f g h absent bytes rest is x = record {
   front = a ∷ b ∷ c ∷ d ∷ e ∷ f ∷ g ∷ h ∷ x.front;
   whole = ap (λ (xs : List ℕ). a ∷ b ∷ c ∷ d ∷ e ∷ f ∷ g ∷ h ∷ xs) x.whole;
-  over = ap (λ (t : Bool). parts_after (behind_length t) x.front) is ∙ x.over;
-  own_is = ap (λ (t : Bool). own_bytes (behind_length t) x.front) is ∙ x.own_is;
+  over = ap (λ (t : Bool). parts_after (behind_whole_length t) x.front) is ∙ x.over;
+  own_is = ap (λ (t : Bool). own_bytes (behind_whole_length t) x.front) is ∙ x.own_is;
 }
 
 pub value_ends : (bytes rest : List ℕ) → ((i : ℕ) → get_or bytes i 0 < 256) → value shape.Parts bytes ≡ Got tt rest → EndsParts bytes rest
@@ -156,26 +156,26 @@ value_ends (a ∷ b ∷ c ∷ d ∷ e ∷ f ∷ g ∷ h ∷ bytes) rest are k =
 
 -- ---- Bytes that end first
 
-part_cut : (n : ℕ) (bytes : List ℕ) → length bytes < n → is_over (parts_after (InPart n) bytes) ≡ false
+part_cut : (n : ℕ) (bytes : List ℕ) → length bytes < n → value_is_over (parts_after (InPart n) bytes) ≡ false
 part_cut n bytes l =
     let less : nat_lt (length bytes) n ≡ true = search rules in
-    ap (λ (xs : List ℕ). is_over (parts_after (InPart n) xs)) (sym (take_all (length bytes) bytes (omega arith)))
-    ∙ (ap is_over (part_to n (length bytes) bytes (omega (arith, l)) (omega (arith, l)) (omega arith)) ∙ rw less refl)
+    ap (λ (xs : List ℕ). value_is_over (parts_after (InPart n) xs)) (sym (take_all (length bytes) bytes (omega arith)))
+    ∙ (ap value_is_over (part_to n (length bytes) bytes (omega (arith, l)) (omega (arith, l)) (omega arith)) ∙ rw less refl)
 
 abbrev Lacks : ℕ → Type 0
-Lacks most = (bytes : List ℕ) → length bytes ≤ most → parts most bytes ≡ Short → is_over (parts_after (InCount []) bytes) ≡ false
+Lacks most = (bytes : List ℕ) → length bytes ≤ most → parts most bytes ≡ Short → value_is_over (parts_after (InCount []) bytes) ≡ false
 
 part_lacks_by : (most n : ℕ) (bytes : List ℕ) → Lacks most → 0 < n → length bytes ≤ most → part_on most n bytes ≡ Short → (length bytes < n) ⊎ (n ≤ length bytes)
-    → is_over (parts_after (InPart n) bytes) ≡ false
+    → value_is_over (parts_after (InPart n) bytes) ≡ false
 part_lacks_by most n bytes h l few e (inl k) = part_cut n bytes k
 part_lacks_by most n bytes h l few e (inr k) =
-    ap (λ (xs : List ℕ). is_over (parts_after (InPart n) xs)) (sym (take-append-drop n bytes))
-    ∙ (ap is_over (after_append (InPart n) (take n bytes) (drop n bytes))
-    ∙ (ap (λ (x : PartsAt). is_over (parts_after x (drop n bytes))) (part_passed n bytes l k)
+    ap (λ (xs : List ℕ). value_is_over (parts_after (InPart n) xs)) (sym (take-append-drop n bytes))
+    ∙ (ap value_is_over (after_append (InPart n) (take n bytes) (drop n bytes))
+    ∙ (ap (λ (x : PartsAt). value_is_over (parts_after x (drop n bytes))) (part_passed n bytes l k)
     ∙ h (drop n bytes) (omega (arith, length-drop n bytes, few)) (sym (ap (λ r. r >>= λ v more. parts most more) (run_got n bytes k)) ∙ e)))
 
 part_lacks : (most n : ℕ) (z : Bool) (bytes : List ℕ) → Lacks most → (n == 0) ≡ z → length bytes ≤ most → (if z then Got tt bytes else part_on most n bytes) ≡ Short
-    → is_over (parts_after (behind_count n) bytes) ≡ false
+    → value_is_over (parts_after (behind_count n) bytes) ≡ false
 part_lacks most n true bytes h f few e = absurd cc
 part_lacks most n false bytes h f few e = rw f (part_lacks_by most n bytes h (search rules) few e (cases_lt (length bytes) n))
 
@@ -190,11 +190,11 @@ parts_lack (suc most) (a ∷ b ∷ c ∷ d ∷ bytes) few e =
     part_lacks most (a + 256 * b + 65536 * c + 16777216 * d) (a + 256 * b + 65536 * c + 16777216 * d == 0) bytes (parts_lack most) refl (omega (arith, few)) e
 
 value_lacks_by : (absent : Bool) (bytes : List ℕ) → (if absent then Got tt bytes else parts (length bytes) bytes) ≡ Short
-    → is_over (parts_after (behind_length absent) bytes) ≡ false
+    → value_is_over (parts_after (behind_whole_length absent) bytes) ≡ false
 value_lacks_by true bytes e = absurd cc
 value_lacks_by false bytes e = parts_lack (length bytes) bytes (omega arith) e
 
-pub value_lacks : (bytes : List ℕ) → ((i : ℕ) → get_or bytes i 0 < 256) → value shape.Parts bytes ≡ Short → is_over (parts_after parts_begun bytes) ≡ false
+pub value_lacks : (bytes : List ℕ) → ((i : ℕ) → get_or bytes i 0 < 256) → value shape.Parts bytes ≡ Short → value_is_over (parts_after parts_begun bytes) ≡ false
 unfolding value parts_after
 value_lacks [] are k = refl
 value_lacks (a ∷ []) are k = refl
@@ -206,5 +206,5 @@ value_lacks (a ∷ b ∷ c ∷ d ∷ e ∷ f ∷ []) are k = refl
 value_lacks (a ∷ b ∷ c ∷ d ∷ e ∷ f ∷ g ∷ []) are k = refl
 value_lacks (a ∷ b ∷ c ∷ d ∷ e ∷ f ∷ g ∷ h ∷ bytes) are k =
     let absent = (four_number a b c d == 4294967295) && (four_number e f g h == 4294967295) in
-    ap (λ (t : Bool). is_over (parts_after (behind_length t) bytes)) (length_is a b c d e f g h bytes are)
+    ap (λ (t : Bool). value_is_over (parts_after (behind_whole_length t) bytes)) (length_is a b c d e f g h bytes are)
     ∙ value_lacks_by absent bytes k

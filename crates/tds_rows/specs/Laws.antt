@@ -44,12 +44,12 @@ abbrev pub DividesRow : List Shape → List ℕ → List Place → List ℕ → 
 DividesRow shapes bytes found rest = DividesBehind (get_or bytes 0 0 == 0xD2) shapes bytes found rest
 
 -- The columns that are known behind a COLMETADATA: those that it describes; where it describes none, those from before.
-abbrev pub columns_behind : Seen → Option (List RowColumn) → Seen
-columns_behind s None = s
-columns_behind s (Some columns) = with_columns s (column_shapes columns)
+abbrev pub behind_metadata : Seen → Option (List RowColumn) → Seen
+behind_metadata s None = s
+behind_metadata s (Some columns) = with_columns s (column_shapes columns)
 
 abbrev pub described_as : Seen → Read (Option (List RowColumn)) → Read Seen
-described_as s r = r >>= λ found rest. Got (columns_behind s found) rest
+described_as s r = r >>= λ found rest. Got (behind_metadata s found) rest
 
 -- A walk that has room for so many columns has room for those that a COLMETADATA counts.
 abbrev pub HasRoomFor : ℕ → List ℕ → Type 0

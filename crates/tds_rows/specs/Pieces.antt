@@ -16,9 +16,9 @@ pub data PartsAt : Type 0 where
   PartsNull : PartsAt
   Beyond : PartsAt
 
-abbrev pub behind_length : Bool → PartsAt
-behind_length true = PartsNull
-behind_length false = InCount []
+abbrev pub behind_whole_length : Bool → PartsAt
+behind_whole_length true = PartsNull
+behind_whole_length false = InCount []
 
 abbrev pub behind_count : ℕ → PartsAt
 behind_count n = if n == 0 then PartsOver else InPart n
@@ -30,7 +30,7 @@ with_count (x ∷ y ∷ []) b = InCount (x ∷ y ∷ b ∷ [])
 with_count (x ∷ y ∷ z ∷ others) b = behind_count (x + 256 * y + 65536 * z + 16777216 * b)
 
 abbrev pub after_byte : PartsAt → ℕ → PartsAt
-after_byte (InLength seen ones) b = if nat_lt seen 7 then InLength (seen + 1) (ones && (b == 255)) else behind_length (ones && (b == 255))
+after_byte (InLength seen ones) b = if nat_lt seen 7 then InLength (seen + 1) (ones && (b == 255)) else behind_whole_length (ones && (b == 255))
 after_byte (InCount came) b = with_count came b
 after_byte (InPart left) b = if nat_lt 1 left then InPart (left - 1) else InCount []
 after_byte PartsOver b = Beyond
@@ -58,13 +58,13 @@ own_bytes at (b ∷ bytes) = own_byte at b ++ own_bytes (after_byte at b) bytes
 abbrev pub parts_begun : PartsAt
 parts_begun = InLength 0 true
 
-abbrev pub is_over : PartsAt → Bool
-is_over (InLength seen ones) = false
-is_over (InCount came) = false
-is_over (InPart left) = false
-is_over PartsOver = true
-is_over PartsNull = true
-is_over Beyond = true
+abbrev pub value_is_over : PartsAt → Bool
+value_is_over (InLength seen ones) = false
+value_is_over (InCount came) = false
+value_is_over (InPart left) = false
+value_is_over PartsOver = true
+value_is_over PartsNull = true
+value_is_over Beyond = true
 
 abbrev pub is_null_value : PartsAt → Bool
 is_null_value (InLength seen ones) = false
@@ -113,13 +113,13 @@ parts_at r =
     else PartsNull
 
 -- The bytes that are taken lead there, and the value's own among them stand in one place.
-pub record GoesOn (before after : PartsReader) (bytes : List ℕ) (p : Piece) : Type 0 where
+pub record PartsGoOn (before after : PartsReader) (bytes : List ℕ) (p : Piece) : Type 0 where
   pub to : parts_after (parts_at before) (take p.taken bytes) ≡ parts_at after
   pub own : own_bytes (parts_at before) (take p.taken bytes) ≡ take p.length (drop p.start bytes)
   pub within : p.taken ≤ length bytes
   pub inside : p.start + p.length ≤ p.taken
   -- where it gives none of its own, all bytes are done with, or it is over
-  pub moves : (0 < p.length) ⊎ ((p.taken ≡ length bytes) ⊎ (is_over (parts_at after) ≡ true))
+  pub moves : (0 < p.length) ⊎ ((p.taken ≡ length bytes) ⊎ (value_is_over (parts_at after) ≡ true))
 
 -- ---- Beside the layout
 

@@ -3,7 +3,7 @@ ghost use Rattle.std.specs.Prelude.{◌≡◌, ◌<◌, ℕ, Bool, List, false, 
 ghost use Rattle.tds_rows.specs.Columns.{metadata_at};
 ghost use Rattle.tds_rows.specs.Laws.{Divides, HasRoomFor, begins_row, described_as, passed_as};
 ghost use Rattle.tds_rows.specs.Places.{values_placed, placed_row};
-ghost use Rattle.tds_rows.specs.Pieces.{EndsParts, is_over, parts_after, parts_begun};
+ghost use Rattle.tds_rows.specs.Pieces.{EndsParts, value_is_over, parts_after, parts_begun};
 ghost use Rattle.tds_wire.specs.Layout.{Got, Short, token_at, value};
 ghost use Rattle.tds_wire.specs.declared.shape.Shape.TheVariants as shapes;
 ghost use Rattle.tds_rows.specs.declared.place.Place.{Place as AnyPlace};
@@ -35,7 +35,7 @@ pub fn parts_end_where_the_layout_ends_them()
     ensures ends { (bytes rest : List ℕ) → ((i : ℕ) → get_or bytes i 0 < 256)
         → value shapes.Parts bytes ≡ Got tt rest → EndsParts bytes rest }
     ensures lacks { (bytes : List ℕ) → ((i : ℕ) → get_or bytes i 0 < 256)
-        → value shapes.Parts bytes ≡ Short → is_over (parts_after parts_begun bytes) ≡ false }
+        → value shapes.Parts bytes ≡ Short → value_is_over (parts_after parts_begun bytes) ≡ false }
 {}
 
 /// The columns that a COLMETADATA describes are spelled as the layout of tds_wire has them, to its last byte, where a

@@ -1,7 +1,7 @@
 //! A value in parts (MS-TDS 2.2.5.2.3) as its bytes come, before its row has ended.
 
 ghost use Rattle.std.specs.Prelude.{◌≡◌, ◌≤◌, ◌<◌, ◌+◌, ◌*◌, [], length, min, take, true, false};
-ghost use Rattle.tds_rows.specs.Pieces.{GoesOn, InPart, after_byte, behind_count, is_in_part, is_in_prefix, is_null_value, is_over, left_after, own_bytes, parts_after, parts_at, parts_begun};
+ghost use Rattle.tds_rows.specs.Pieces.{PartsGoOn, InPart, after_byte, behind_count, is_in_part, is_in_prefix, is_null_value, left_after, own_bytes, parts_after, parts_at, parts_begun, value_is_over};
 
 /// Where a value in parts is that comes in pieces: a plain value.
 #[repr(C)]
@@ -46,7 +46,7 @@ impl PartsReader {
     /// Whether the value is over.
     #[tactic(auto, unfolding(crate::specs::Pieces::parts_at))]
     pub fn is_over(&self) -> bool
-        ensures { result ≡ is_over (parts_at self.now) }
+        ensures { result ≡ value_is_over (parts_at self.now) }
     {
         self.stage > 2
     }
@@ -189,7 +189,7 @@ impl PartsReader {
     /// Takes what comes next of a value, up to the end of a part: its own bytes among them. Call it again with the bytes
     /// behind `taken` until none are left, or it is over.
     pub fn next(&mut self, bytes: &[u8]) -> Piece
-        ensures { GoesOn self.old self.new bytes.now result }
+        ensures { PartsGoOn self.old self.new bytes.now result }
     {
         let start = self.pass_prefix(bytes);
         if !self.is_in_part() {

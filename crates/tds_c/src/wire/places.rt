@@ -4,7 +4,7 @@ ghost use Rattle.std.specs.Prelude.{◌≡◌, ◌<◌, ℕ, Err, Result, drop, 
 ghost use Rattle.tds_c.specs.Places.{TellsColumns, TellsCome, TellsRow, parts_number};
 ghost use Rattle.tds_walk.specs.Wire.{truth};
 ghost use Rattle.tds_rows.specs.Come.{ValuesCome};
-ghost use Rattle.tds_rows.specs.Pieces.{GoesOn, parts_at};
+ghost use Rattle.tds_rows.specs.Pieces.{PartsGoOn, parts_at};
 ghost use Rattle.tds_rows.specs.declared.come.Come.{Come as AnyCome};
 ghost use Rattle.tds_rows.specs.Finding.{Describes, PlacesFound, column_shapes};
 ghost use Rattle.tds_rows.specs.declared.place.Described.{Described as AnyDescribed};
@@ -158,7 +158,7 @@ pub extern "C" fn tds_parts_next(
     count: &mut usize,
     taken: &mut usize,
 ) -> u8
-    ensures on { GoesOn parts.old parts.new bytes.now
+    ensures on { PartsGoOn parts.old parts.new bytes.now
         (record { start = start.new; length = count.new; taken = taken.new }) }
     ensures answer { result ≡ parts_number (parts_at parts.new) }
 {
