@@ -11,7 +11,9 @@ ghost use Rattle.tds_rows.specs.declared.place.Described.{Described as AnyDescri
 ghost use Rattle.tds_rows.specs.declared.place.RowFault.{RowFault as AnyFault};
 ghost use Rattle.tds_rows.specs.declared.place.RowFault.TheVariants as faults;
 
-use tds_rows::{Come, Described, PartsReader, Place, RowColumn, RowFault, columns_of, row_places, row_values};
+use tds_rows::{
+    Come, Described, PartsReader, Place, RowColumn, RowFault, columns_of, row_places, row_values,
+};
 use tds_wire::Features;
 
 /// The number of what was found of columns.
