@@ -1,7 +1,7 @@
 //! Where a server listens, and the links that come there: over TCP, or over a Unix socket, which has
 //! its owner's mode and so lets no other user of the machine in.
 
-use crate::keeping::keep_alive;
+use crate::keeping::{Keeping, USUAL, keep};
 use libc::net as c;
 use mio::net::{TcpListener, TcpStream, UnixListener, UnixStream};
 use mio::{Interest, Registry, Token};
@@ -49,7 +49,7 @@ impl Listener {
         match place {
             Place::Tcp(address) => {
                 let listener = TcpListener::bind(rt, *address)?;
-                keep_alive(&listener)?;
+                keep(&listener, &USUAL)?;
                 Ok(Listener::Tcp(listener))
             }
             Place::Unix(path) => Ok(Listener::Unix(listen_at(rt, path.as_str())?)),
@@ -137,6 +137,14 @@ impl Link {
                 registry.register(stream, token, both)
             }
             Link::Unix(stream) => registry.register(stream, token, both),
+        }
+    }
+
+    /// Has the system look after it so, where it is over TCP.
+    pub fn keep(&self, keeping: &Keeping) -> io::Result<()> {
+        match self {
+            Link::Tcp(stream) => keep(stream, keeping),
+            Link::Unix(_) => Ok(()),
         }
     }
 }
