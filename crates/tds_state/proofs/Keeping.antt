@@ -1,0 +1,16 @@
+-- Bytes that are kept.
+use Rattle.std.proofs.Common.{◌≡◌, ◌∙◌, ◌≤◌, ℕ, zero, suc, ◌+◌, ◌-◌, Bool, true, false, cond, List, [], ◌∷◌, ◌++◌, length, take, refl, sym, ap, arith, append_assoc, Result, Ok, Err, is_ok}
+use Rattle.std.proofs.lemmas.List.{length-append, length-take}
+use Rattle.std.proofs.Math.Seq.{take-append-add}
+use Rattle.std.proofs.lemmas.Bool.{false≢true}
+use Rattle.std.specs.Prelude.{IsOk}
+use Rattle.tds_state.specs.Keeping.{Keeping, with_more}
+
+pub kept_more : (most : ℕ) (xs ys : List ℕ) → length xs ≤ most → xs ++ take (most - length xs) ys ≡ take most (xs ++ ys)
+kept_more most xs ys h =
+    let whole : length xs + (most - length xs) ≡ most = omega (arith, h) in
+    sym (ap (λ (n : ℕ). take n (xs ++ ys)) (sym whole) ∙ take-append-add xs ys (most - length xs))
+
+pub grown : {E : Type 0} (r : Result (Unit {0}) E) (xs a b : List ℕ) → IsOk r → xs ≡ cond (is_ok r) a b → xs ≡ a
+grown (Ok u) xs a b ok e = e
+grown (Err e) xs a b ok is = absurd (false≢true ok)

@@ -1,0 +1,7 @@
+pub mod Keeping
+pub mod States
+pub mod Asking
+pub mod Ledgers
+pub mod Hearing
+pub mod Sessions
+pub mod Tracking
