@@ -17,7 +17,7 @@ feature_moves (id ∷ a ∷ []) = tt
 feature_moves (id ∷ a ∷ b ∷ []) = tt
 feature_moves (id ∷ a ∷ b ∷ c ∷ []) = tt
 feature_moves (id ∷ a ∷ b ∷ c ∷ d ∷ behind) = chosen (id == 255) where
-  chosen : (b : Bool) → Moves (cond b None (spot_of id 5 (from_le_bytes w32 (a ∷ b ∷ c ∷ d ∷ [])) (length behind)))
+  chosen : (is_end : Bool) → Moves (cond is_end None (spot_of id 5 (from_le_bytes w32 (a ∷ b ∷ c ∷ d ∷ [])) (length behind)))
   chosen true = tt
   chosen false = spot_moves id 5 (from_le_bytes w32 (a ∷ b ∷ c ∷ d ∷ [])) (length behind) (omega arith)
 

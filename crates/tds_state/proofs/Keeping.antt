@@ -14,3 +14,8 @@ kept_more most xs ys h =
 pub grown : {E : Type 0} (r : Result (Unit {0}) E) (xs a b : List ℕ) → IsOk r → xs ≡ cond (is_ok r) a b → xs ≡ a
 grown (Ok u) xs a b ok e = e
 grown (Err e) xs a b ok is = absurd (false≢true ok)
+
+pub take_front : (n : ℕ) (a b : List ℕ) → take n (take n a ++ b) ≡ take n (a ++ b)
+take_front zero a b = refl
+take_front (suc n) [] b = refl
+take_front (suc n) (x ∷ a) b = ap (λ (xs : List ℕ). x ∷ xs) (take_front n a b)

@@ -1,6 +1,10 @@
+pub mod Bools
 pub mod Keeping
 pub mod Listing
 pub mod Names
 pub mod Homes
 pub mod Features
 pub mod Noting
+pub mod Since
+pub mod Calls
+pub mod Resting

@@ -5,3 +5,4 @@ pub mod Ledgers
 pub mod Hearing
 pub mod Sessions
 pub mod Tracking
+pub mod Pasts

@@ -5,6 +5,7 @@
 mod asked;
 mod hearing;
 mod kept;
+pub mod laws;
 mod session;
 mod states;
 mod tracker;
