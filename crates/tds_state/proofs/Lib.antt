@@ -8,3 +8,6 @@ pub mod Noting
 pub mod Since
 pub mod Calls
 pub mod Resting
+pub mod Tellings
+pub mod Letters
+pub mod Pieces

@@ -7,7 +7,7 @@ use Rattle.tds_state.specs.declared.asked.Request.TheVariants.{Batch, Procedure,
 use Rattle.tds_state.specs.declared.session.Session.{Session}
 use Rattle.tds_state.specs.Asking.{bulk, is_call, is_harmless, small}
 use Rattle.tds_state.specs.Hearing.{Heard, Unread, Nothing, Recovery, States, Value, Transaction, ResetDone, Done}
-use Rattle.tds_state.specs.Ledgers.{may_begin, no_values}
+use Rattle.tds_state.specs.Ledgers.{may_begin, no_values, state_bytes}
 use Rattle.tds_state.specs.Sessions.{asks, cancels, ends, hears, is_followed, is_full, keeps_open, left_by, new_session, sends}
 use Rattle.tds_state.specs.States.{gives_value, last_value}
 
@@ -111,6 +111,26 @@ newest_state id (r ∷ past) = newest_state id past
 abbrev pub IsInitial : List ℕ → ℕ → Option Telling → Type 0
 IsInitial states id None = Unit {0}
 IsInitial states id (Some told) = record { recoverable : told.is_recoverable ≡ true; value : gives_value states id told.value ≡ true }
+
+-- the states that the login's answer acknowledged
+unfoldable pub first_states : List Remark → List ℕ
+first_states [] = []
+first_states (Tells (Recovery states) ∷ past) = states
+first_states (r ∷ past) = first_states past
+
+-- the values that ENVCHANGE told in the login's answer (2.2.7.9), spelled as states; there is room for 1,024 bytes
+unfoldable pub first_values : List Remark → List ℕ
+first_values [] = []
+first_values (Tells (Value type value) ∷ past) = if was_asked past then first_values past else first_values past ++ state_bytes type value
+first_values (r ∷ past) = first_values past
+
+-- the newest value of this type that was told since
+unfoldable pub newest_value : ℕ → List Remark → Option Telling
+newest_value type [] = None
+newest_value type (Tells (Value other value) ∷ past) =
+    if was_asked past then telling_by (if other == type then Some value else None) true (newest_value type past) else newest_value type past
+newest_value type (Tells ResetDone ∷ past) = telling_if (is_full (owed_in past)) (newest_value type past)
+newest_value type (r ∷ past) = newest_value type past
 
 -- ---- What was asked since a full reset was asked for: the request that asks comes behind it
 

@@ -1,9 +1,14 @@
 //! What follows from the definitions alone: a session rests only where these hold, line by line, whatever
 //! was said of it. Each function does nothing when it runs: its contract is the law.
 
-ghost use Rattle.std.specs.Prelude.{◌≡◌, ℕ, List, [], None, true, false};
-ghost use Rattle.tds_state.specs.Pasts.{Remark, are_harmless, has_ended, newest_is_cancelled, newest_is_recoverable, owed_in, session_after, transaction_in, was_acknowledged, was_all_read, was_call_cancelled, was_followed, was_kept};
-ghost use Rattle.tds_state.specs.Sessions.{rests};
+ghost use Rattle.std.specs.Prelude.{◌≡◌, ◌<◌, ◌++◌, ℕ, List, [], Option, None, true, false};
+ghost use Rattle.tds_state.specs.Pasts.{IsInitial, Remark, are_harmless, first_states, first_values, has_ended, newest_has_bulk, newest_is_cancelled};
+ghost use Rattle.tds_state.specs.Pasts.{newest_is_recoverable, newest_state, newest_value, owed_in, session_after, transaction_in, was_acknowledged, was_all_read, was_call_cancelled, was_followed, was_kept};
+ghost use Rattle.tds_state.specs.Sessions.{rests, sends};
+ghost use Rattle.tds_state.specs.Tracking.{takes};
+ghost use Rattle.tds_state.specs.declared.session.Session.{Session};
+ghost use Rattle.tds_state.specs.declared.tracker.Tracker.{Tracker};
+ghost use Rattle.tds_wire.specs.declared.told.Token.{Token};
 
 /// The login acknowledged session recovery, each SESSIONSTATE could be read, none had the last number, and
 /// there was room for the initial states.
@@ -18,6 +23,15 @@ pub fn only_where_all_is_told()
 pub fn only_where_it_can_be_recovered()
     ensures { (past : List Remark) → rests (session_after past) ≡ true
         → newest_is_recoverable past ≡ true }
+{}
+
+/// The newest telling of each state since the last full reset can be recovered, and has the value that the
+/// login's answer gave it; and so has each value that ENVCHANGE told.
+pub fn only_where_all_is_initial()
+    ensures states { (past : List Remark) (id : ℕ) → rests (session_after past) ≡ true → id < 256
+        → IsInitial (first_states past) id (newest_state id past) }
+    ensures values { (past : List Remark) (type : ℕ) → rests (session_after past) ≡ true
+        → type < 256 → IsInitial (first_values past) type (newest_value type past) }
 {}
 
 /// No transaction is open, no reset is owed, and none that kept a transaction was the last one.
@@ -41,10 +55,21 @@ pub fn only_behind_harmless_calls()
         → was_followed past ≡ false }
 {}
 
-/// A message of the server's has ended behind the newest request, which wasn't cancelled.
+/// A message of the server's has ended behind the newest request, which wasn't cancelled, and isn't a batch in
+/// which `bulk` stands.
 pub fn only_behind_a_whole_answer()
     ensures ended { (past : List Remark) → rests (session_after past) ≡ true
         → has_ended past ≡ true }
     ensures cancelled { (past : List Remark) → rests (session_after past) ≡ true
         → newest_is_cancelled past ≡ false }
+    ensures bulk { (past : List Remark) → rests (session_after past) ≡ true
+        → newest_has_bulk [] past ≡ false }
+{}
+
+/// How an answer's bytes and a request's body are cut into pieces doesn't matter.
+pub fn cuts_do_not_matter()
+    ensures answers { (tracker : Tracker) (first second : List ℕ) (token : Option Token)
+        → takes (takes tracker first None) second token ≡ takes tracker (first ++ second) token }
+    ensures requests { (session : Session) (first second : List ℕ)
+        → sends (sends session first) second ≡ sends session (first ++ second) }
 {}
