@@ -10,6 +10,7 @@ none_at : (id : ℕ) → set none_astray id false ≡ none_astray
 none_at id = ⊎_elim inside past (cases_lt id 256) where
   inside : id < 256 → set none_astray id false ≡ none_astray
   inside h = ap (set none_astray id) (sym (get_or-replicate 256 id false false h)) ∙ set-get_or none_astray id false
+
   past : 256 ≤ id → set none_astray id false ≡ none_astray
   past h = set_past none_astray id false (omega (arith, h, length-replicate 256 false))
 

@@ -1,5 +1,5 @@
 pub mod Bools
-pub mod Keeping
+pub mod KeptBytes
 pub mod Listing
 pub mod Names
 pub mod Homes

@@ -7,12 +7,12 @@ use Rattle.tds_state.specs.declared.asked.Request.{Request}
 use Rattle.tds_state.specs.declared.asked.Request.TheVariants.{Batch, Procedure, Other}
 use Rattle.tds_state.specs.declared.session.Session.{Session}
 use Rattle.tds_state.specs.declared.tracker.Tracker.{Tracker}
-use Rattle.tds_state.specs.Asking.{letters_after, with_sent}
-use Rattle.tds_state.specs.Hearing.{heard_of}
-use Rattle.tds_state.specs.Keeping.{Keeping, nothing_kept}
-use Rattle.tds_state.specs.Sessions.{hears, sends}
-use Rattle.tds_state.specs.Tracking.{is_needed, takes, with_bytes}
-use Rattle.tds_state.proofs.Keeping.{take_front}
+use Rattle.tds_state.specs.Asking.{letters_after, with_body}
+use Rattle.tds_state.specs.Hearing.{news_of}
+use Rattle.tds_state.specs.KeptBytes.{KeptBytes, no_bytes_kept}
+use Rattle.tds_state.specs.Sessions.{session_told, session_sent}
+use Rattle.tds_state.specs.Tracking.{is_needed, tracks, with_bytes}
+use Rattle.tds_state.proofs.KeptBytes.{take_front}
 use Rattle.tds_state.proofs.Letters.{letters_append}
 
 -- ---- Of a token
@@ -58,19 +58,19 @@ cut (suc n) [] [] b = refl
 cut (suc n) [] (x ∷ xs) b = cut_first (is_needed x) n x xs b refl
 cut (suc n) (y ∷ ys) a b = cut_with (is_needed y) n y ys a b
 
-pub token_cut : (t : Tracker) (first second : List ℕ) (token : Option Token) → takes (takes t first None) second token ≡ takes t (first ++ second) token
+pub token_cut : (t : Tracker) (first second : List ℕ) (token : Option Token) → tracks (tracks t first None) second token ≡ tracks t (first ++ second) token
 token_cut t first second None = ap (λ (xs : List ℕ). record t { partial = record t.partial { bytes = xs } }) (cut t.partial.most t.partial.bytes first second)
 token_cut t first second (Some token) =
-    ap (λ (xs : List ℕ). record t { session = hears t.session (heard_of token xs); partial = nothing_kept t.partial.most }) (cut t.partial.most t.partial.bytes first second)
+    ap (λ (xs : List ℕ). record t { session = session_told t.session (news_of token xs); partial = no_bytes_kept t.partial.most }) (cut t.partial.most t.partial.bytes first second)
 
 -- ---- Of a request's body
 
-sent_twice : (kind : Request) (head : Keeping) (letters : ℕ) (x y : List ℕ) → let a : Asked = record { kind = kind; head = head; letters = letters } in with_sent (with_sent a x) y ≡ with_sent a (x ++ y)
+sent_twice : (kind : Request) (head : KeptBytes) (letters : ℕ) (x y : List ℕ) → let a : Asked = record { kind = kind; head = head; letters = letters } in with_body (with_body a x) y ≡ with_body a (x ++ y)
 sent_twice Batch head letters x y = ap (λ (n : ℕ). record { kind = Batch; head = head; letters = n }) (sym (letters_append x y letters))
 sent_twice Procedure head letters x y =
     ap (λ (xs : List ℕ). record { kind = Procedure; head = record head { bytes = xs }; letters = letters })
     (take_front head.most (head.bytes ++ x) y ∙ ap (take head.most) (append_assoc head.bytes x y))
 sent_twice Other head letters x y = refl
 
-pub body_cut : (s : Session) (first second : List ℕ) → sends (sends s first) second ≡ sends s (first ++ second)
+pub body_cut : (s : Session) (first second : List ℕ) → session_sent (session_sent s first) second ≡ session_sent s (first ++ second)
 body_cut s first second = ap (λ (a : Asked). record s { asked = a }) (sent_twice s.asked.kind s.asked.head s.asked.letters first second)

@@ -6,7 +6,7 @@ use Rattle.tds_packet.specs.declared.status.Reset.{Reset}
 use Rattle.tds_state.specs.declared.session.Session.{Session}
 use Rattle.tds_state.specs.Asking.{may_make_handles}
 use Rattle.tds_state.specs.Ledgers.{is_home}
-use Rattle.tds_state.specs.Sessions.{is_done, is_free, is_owed, is_quiet, is_told_home, rests}
+use Rattle.tds_state.specs.Sessions.{has_nothing_due, has_nothing_open, is_owed, is_quiet, is_told_home, session_rests}
 
 pub record Parts (s : Session) : Type 0 where
   pub acknowledged : s.is_acknowledged ≡ true
@@ -26,10 +26,10 @@ nothing_owed : (o : Option Reset) → is_owed o ≡ false → o ≡ None
 nothing_owed None h = refl
 nothing_owed (Some reset) h = absurd (false≢true (sym h))
 
-pub parts_of : (s : Session) → rests s ≡ true → Parts s
+pub parts_of : (s : Session) → session_rests s ≡ true → Parts s
 parts_of s h =
-    let a = and_parts (is_told_home s) (is_free s && is_done s) h in
-    let b = and_parts (is_free s) (is_done s) a.1 in
+    let a = and_parts (is_told_home s) (has_nothing_open s && has_nothing_due s) h in
+    let b = and_parts (has_nothing_open s) (has_nothing_due s) a.1 in
     let t1 = and_parts s.is_acknowledged (not s.is_lost && (s.is_recoverable && (is_home s.states && is_home s.changes))) a.0 in
     let t2 = and_parts (not s.is_lost) (s.is_recoverable && (is_home s.states && is_home s.changes)) t1.1 in
     let t3 = and_parts s.is_recoverable (is_home s.states && is_home s.changes) t2.1 in

@@ -16,11 +16,11 @@ use Rattle.std.proofs.Math.ListN.{replicate}
 use Rattle.std.specs.Int.{w32, to_le_bytes}
 use Rattle.std.specs.List.{list_any}
 use Rattle.std.specs.Prelude.{◌==◌, nat_lt}
-use Rattle.tds_state.specs.Keeping.{Keeping, has_room, nothing_kept, with_more}
-use Rattle.tds_state.specs.Ledgers.{Ledger, back_if, begun_if, begun_with, is_home, may_add, may_begin, none_astray, no_values, noted, state_bytes, taken_in, with_value}
-use Rattle.tds_state.specs.Pasts.{Remark, Begins, Goes, Cancels, Tells, Ends, IsInitial, Telling, first_states, first_values, newest_state, newest_value, owed_in, session_after, telling_by, telling_if, was_asked}
-use Rattle.tds_state.specs.Sessions.{all_noted, begins, is_full}
-use Rattle.tds_state.specs.States.{Listed, State, gives_value, is_value, last_value, later_of, listed, listed_in}
+use Rattle.tds_state.specs.KeptBytes.{KeptBytes, has_room, no_bytes_kept, with_more_kept}
+use Rattle.tds_state.specs.Ledgers.{Ledger, back_if, begun_if, begun_with, is_home, may_add, may_begin, none_astray, no_values, value_noted, state_bytes, value_taken_in, with_initial_value}
+use Rattle.tds_state.specs.Pasts.{Remark, Begins, Goes, Cancels, Tells, Ends, IsInitial, Telling, first_states, first_values, newest_state, newest_value, owed_in, session_behind, telling_by, telling_if, was_asked}
+use Rattle.tds_state.specs.Sessions.{all_noted, accepts_states, is_full_reset}
+use Rattle.tds_state.specs.States.{Listed, OneState, gives_value, is_value, last_value, later_of, states_listed, listed_in}
 use Rattle.tds_state.proofs.Bools.{neither}
 use Rattle.tds_state.proofs.Since.{at_login, noted_initial, reset_owed, room_stays}
 
@@ -34,37 +34,38 @@ by_last None ok l id before = before
 by_last (Some value) ok l id before = not (ok && gives_value l.initial.bytes id value)
 
 noted_at : (l : Ledger) (ok : Bool) (k id : ℕ) (value : List ℕ) → id < length l.astray
-    → entry (noted l ok k value) id ≡ by_last (cond (k == id) (Some value) None) ok l id (entry l id)
+    → entry (value_noted l ok k value) id ≡ by_last (cond (k == id) (Some value) None) ok l id (entry l id)
 noted_at l ok k id value h = ⊎_elim same other (cases_eq k id) where
-  same : k ≡ id → entry (noted l ok k value) id ≡ by_last (cond (k == id) (Some value) None) ok l id (entry l id)
+  same : k ≡ id → entry (value_noted l ok k value) id ≡ by_last (cond (k == id) (Some value) None) ok l id (entry l id)
   same e =
-      ap (λ (n : ℕ). entry (noted l ok n value) id) e
+      ap (λ (n : ℕ). entry (value_noted l ok n value) id) e
       ∙ (get_or-set_same l.astray id (not (ok && gives_value l.initial.bytes id value)) false h
       ∙ sym (ap (λ (b : Bool). by_last (cond b (Some value) None) ok l id (entry l id)) (eq-eqb k id e)))
-  other : (k ≡ id → ⊥) → entry (noted l ok k value) id ≡ by_last (cond (k == id) (Some value) None) ok l id (entry l id)
+
+  other : (k ≡ id → ⊥) → entry (value_noted l ok k value) id ≡ by_last (cond (k == id) (Some value) None) ok l id (entry l id)
   other ne =
       get_or-set_other l.astray k id (not (ok && gives_value l.initial.bytes k value)) false (λ q. ne (sym q))
       ∙ sym (ap (λ (b : Bool). by_last (cond b (Some value) None) ok l id (entry l id)) (ne_eqb k id ne))
 
-noted_length : (l : Ledger) (ok : Bool) (k : ℕ) (value : List ℕ) → length (noted l ok k value).astray ≡ length l.astray
+noted_length : (l : Ledger) (ok : Bool) (k : ℕ) (value : List ℕ) → length (value_noted l ok k value).astray ≡ length l.astray
 noted_length l ok k value = length-set l.astray k (not (ok && gives_value l.initial.bytes k value))
 
-all_noted_length : (l : Ledger) (ok : Bool) (states : List State) → length (all_noted l ok states).astray ≡ length l.astray
+all_noted_length : (l : Ledger) (ok : Bool) (states : List OneState) → length (all_noted l ok states).astray ≡ length l.astray
 unfolding all_noted
 all_noted_length l ok [] = refl
-all_noted_length l ok (s ∷ others) = all_noted_length (noted l ok s.id s.value) ok others ∙ noted_length l ok s.id s.value
+all_noted_length l ok (s ∷ others) = all_noted_length (value_noted l ok s.id s.value) ok others ∙ noted_length l ok s.id s.value
 
-all_noted_at : (id : ℕ) (l : Ledger) (ok : Bool) (states : List State) → id < length l.astray
+all_noted_at : (id : ℕ) (l : Ledger) (ok : Bool) (states : List OneState) → id < length l.astray
     → entry (all_noted l ok states) id ≡ by_last (last_value id states) ok l id (entry l id)
 unfolding all_noted last_value
 all_noted_at id l ok [] h = refl
 all_noted_at id l ok (s ∷ others) h =
     let room = noted_length l ok s.id s.value in
-    all_noted_at id (noted l ok s.id s.value) ok others (omega (arith, h, room)) ∙ later (last_value id others)
+    all_noted_at id (value_noted l ok s.id s.value) ok others (omega (arith, h, room)) ∙ later (last_value id others)
   where
-  later : (last : Option (List ℕ)) → by_last last ok (noted l ok s.id s.value) id (entry (noted l ok s.id s.value) id) ≡ by_last (later_of last id s) ok l id (entry l id)
-  later None = noted_at l ok s.id id s.value h
-  later (Some value) = refl
+    later : (last : Option (List ℕ)) → by_last last ok (value_noted l ok s.id s.value) id (entry (value_noted l ok s.id s.value) id) ≡ by_last (later_of last id s) ok l id (entry l id)
+    later None = noted_at l ok s.id id s.value h
+    later (Some value) = refl
 
 told_home : (last : Option (List ℕ)) (ok : Bool) (l : Ledger) (id : ℕ) (before : Option Telling)
     → (entry l id ≡ false → IsInitial l.initial.bytes id before) → by_last last ok l id (entry l id) ≡ false → IsInitial l.initial.bytes id (telling_by last ok before)
@@ -99,8 +100,8 @@ back_length : (b : Bool) (l : Ledger) → length l.astray ≡ 256 → length (ba
 back_length true l h = length-replicate 256 false
 back_length false l h = h
 
-pub numbers : (past : List Remark) → length (session_after past).states.astray ≡ 256
-unfolding session_after
+pub numbers : (past : List Remark) → length (session_behind past).states.astray ≡ 256
+unfolding session_behind
 numbers [] = length-replicate 256 false
 numbers (Begins kind None ∷ past) = numbers past
 numbers (Begins kind (Some Full) ∷ past) = numbers past
@@ -109,11 +110,11 @@ numbers (Goes bytes ∷ past) = numbers past
 numbers (Cancels ∷ past) = numbers past
 numbers (Tells Unread ∷ past) = numbers past
 numbers (Tells Nothing ∷ past) = numbers past
-numbers (Tells (Recovery states) ∷ past) = begun_length (((session_after past).is_login && not (session_after past).is_acknowledged) && may_begin (session_after past).states states) (session_after past).states states ∙ numbers past
-numbers (Tells (States ok all) ∷ past) = all_noted_length (session_after past).states ok all.states ∙ numbers past
+numbers (Tells (Recovery states) ∷ past) = begun_length (((session_behind past).is_login && not (session_behind past).is_acknowledged) && may_begin (session_behind past).states states) (session_behind past).states states ∙ numbers past
+numbers (Tells (States ok all) ∷ past) = all_noted_length (session_behind past).states ok all.states ∙ numbers past
 numbers (Tells (Value type value) ∷ past) = numbers past
 numbers (Tells (Transaction descriptor) ∷ past) = numbers past
-numbers (Tells ResetDone ∷ past) = back_length (is_full (session_after past).owed) (session_after past).states (numbers past)
+numbers (Tells ResetDone ∷ past) = back_length (is_full_reset (session_behind past).owed) (session_behind past).states (numbers past)
 numbers (Tells (Done kind status) ∷ past) = numbers past
 numbers (Ends ∷ past) = numbers past
 
@@ -126,8 +127,8 @@ empty_if : (b a : Bool) (l : Ledger) (states : List ℕ) → (b || a) ≡ false 
 empty_if true a l states h e = absurd (true≢false h)
 empty_if false a l states h e = e
 
-pub unacknowledged : (past : List Remark) → (session_after past).is_acknowledged ≡ false → (session_after past).states.initial.bytes ≡ []
-unfolding session_after
+pub unacknowledged : (past : List Remark) → (session_behind past).is_acknowledged ≡ false → (session_behind past).states.initial.bytes ≡ []
+unfolding session_behind
 unacknowledged [] h = refl
 unacknowledged (Begins kind None ∷ past) h = unacknowledged past h
 unacknowledged (Begins kind (Some Full) ∷ past) h = unacknowledged past h
@@ -136,21 +137,21 @@ unacknowledged (Goes bytes ∷ past) h = unacknowledged past h
 unacknowledged (Cancels ∷ past) h = unacknowledged past h
 unacknowledged (Tells Unread ∷ past) h = unacknowledged past h
 unacknowledged (Tells Nothing ∷ past) h = unacknowledged past h
-unacknowledged (Tells (Recovery states) ∷ past) h = empty_if (begins (session_after past) states) (session_after past).is_acknowledged (session_after past).states states h (unacknowledged past (neither (begins (session_after past) states) (session_after past).is_acknowledged h).1)
-unacknowledged (Tells (States ok all) ∷ past) h = ap (λ (k : Keeping). k.bytes) (noted_initial (session_after past).states ok all.states) ∙ unacknowledged past h
+unacknowledged (Tells (Recovery states) ∷ past) h = empty_if (accepts_states (session_behind past) states) (session_behind past).is_acknowledged (session_behind past).states states h (unacknowledged past (neither (accepts_states (session_behind past) states) (session_behind past).is_acknowledged h).1)
+unacknowledged (Tells (States ok all) ∷ past) h = ap (λ (k : KeptBytes). k.bytes) (noted_initial (session_behind past).states ok all.states) ∙ unacknowledged past h
 unacknowledged (Tells (Value type value) ∷ past) h = unacknowledged past h
 unacknowledged (Tells (Transaction descriptor) ∷ past) h = unacknowledged past h
-unacknowledged (Tells ResetDone ∷ past) h = ap (λ (k : Keeping). k.bytes) (back_initial (is_full (session_after past).owed) (session_after past).states) ∙ unacknowledged past h
+unacknowledged (Tells ResetDone ∷ past) h = ap (λ (k : KeptBytes). k.bytes) (back_initial (is_full_reset (session_behind past).owed) (session_behind past).states) ∙ unacknowledged past h
 unacknowledged (Tells (Done kind status) ∷ past) h = unacknowledged past h
 unacknowledged (Ends ∷ past) h = unacknowledged past h
 
-first_begins : (s : Session) (states : List ℕ) → begins s states ≡ true → s.is_acknowledged ≡ false
+first_begins : (s : Session) (states : List ℕ) → accepts_states s states ≡ true → s.is_acknowledged ≡ false
 first_begins s states h = not-true s.is_acknowledged (and_parts s.is_login (not s.is_acknowledged) (and_parts (s.is_login && not s.is_acknowledged) (may_begin s.states states) h).0).1
 
 -- ---- States
 
-pub state_home : (id : ℕ) (few : id < 256) (past : List Remark) → entry (session_after past).states id ≡ false → IsInitial (session_after past).states.initial.bytes id (newest_state id past)
-unfolding session_after newest_state
+pub state_home : (id : ℕ) (few : id < 256) (past : List Remark) → entry (session_behind past).states id ≡ false → IsInitial (session_behind past).states.initial.bytes id (newest_state id past)
+unfolding session_behind newest_state
 state_home id few [] h = tt
 state_home id few (Begins kind None ∷ past) h = state_home id few past h
 state_home id few (Begins kind (Some Full) ∷ past) h = state_home id few past h
@@ -159,31 +160,31 @@ state_home id few (Goes bytes ∷ past) h = state_home id few past h
 state_home id few (Cancels ∷ past) h = state_home id few past h
 state_home id few (Tells Unread ∷ past) h = state_home id few past h
 state_home id few (Tells Nothing ∷ past) h = state_home id few past h
-state_home id few (Tells (Recovery states) ∷ past) h = begun_home (begins (session_after past) states) (session_after past).states states id (newest_state id past) (λ b. unacknowledged past (first_begins (session_after past) states b)) (state_home id few past) h
-state_home id few (Tells (States ok all) ∷ past) h = 
-    let room : id < length (session_after past).states.astray = omega (arith, few, numbers past) in
-    let home = told_home (last_value id all.states) ok (session_after past).states id (newest_state id past) (state_home id few past) (sym (all_noted_at id (session_after past).states ok all.states room) ∙ h) in
-    subst (λ (k : Keeping). IsInitial k.bytes id (telling_by (last_value id all.states) ok (newest_state id past))) (sym (noted_initial (session_after past).states ok all.states)) home
+state_home id few (Tells (Recovery states) ∷ past) h = begun_home (accepts_states (session_behind past) states) (session_behind past).states states id (newest_state id past) (λ b. unacknowledged past (first_begins (session_behind past) states b)) (state_home id few past) h
+state_home id few (Tells (States ok all) ∷ past) h =
+    let room : id < length (session_behind past).states.astray = omega (arith, few, numbers past) in
+    let home = told_home (last_value id all.states) ok (session_behind past).states id (newest_state id past) (state_home id few past) (sym (all_noted_at id (session_behind past).states ok all.states room) ∙ h) in
+    subst (λ (k : KeptBytes). IsInitial k.bytes id (telling_by (last_value id all.states) ok (newest_state id past))) (sym (noted_initial (session_behind past).states ok all.states)) home
 state_home id few (Tells (Value type value) ∷ past) h = state_home id few past h
 state_home id few (Tells (Transaction descriptor) ∷ past) h = state_home id few past h
-state_home id few (Tells ResetDone ∷ past) h = 
-    let home = back_home (is_full (session_after past).owed) (session_after past).states id (newest_state id past) (state_home id few past) h in
-    subst (λ (o : Option Reset). IsInitial (back_if (is_full (session_after past).owed) (session_after past).states).initial.bytes id (telling_if (is_full o) (newest_state id past))) (reset_owed past) home
+state_home id few (Tells ResetDone ∷ past) h =
+    let home = back_home (is_full_reset (session_behind past).owed) (session_behind past).states id (newest_state id past) (state_home id few past) h in
+    subst (λ (o : Option Reset). IsInitial (back_if (is_full_reset (session_behind past).owed) (session_behind past).states).initial.bytes id (telling_if (is_full_reset o) (newest_state id past))) (reset_owed past) home
 state_home id few (Tells (Done kind status) ∷ past) h = state_home id few past h
 state_home id few (Ends ∷ past) h = state_home id few past h
 
-kept_whole : (most : ℕ) (states : List ℕ) → has_room (nothing_kept most) (length states) ≡ true → take most states ≡ states
+kept_whole : (most : ℕ) (states : List ℕ) → has_room (no_bytes_kept most) (length states) ≡ true → take most states ≡ states
 kept_whole most states h =
     let none : List ℕ = [] in
     let room = ltb-false most (length none + length states) (not-true (nat_lt most (length none + length states)) h) in
     take_all most states (omega (arith, room))
 
 begun_bytes : (b : Bool) (l : Ledger) (states : List ℕ) → b ≡ true → may_begin l states ≡ true → (cond b (begun_with l states) l).initial.bytes ≡ states
-begun_bytes true l states is may = kept_whole l.initial.most states (and_parts (has_room (nothing_kept l.initial.most) (length states)) (listed states).is_whole may).0
+begun_bytes true l states is may = kept_whole l.initial.most states (and_parts (has_room (no_bytes_kept l.initial.most) (length states)) (states_listed states).is_whole may).0
 begun_bytes false l states is may = absurd (false≢true is)
 
-pub states_begun : (past : List Remark) → (session_after past).is_lost ≡ false → (session_after past).states.initial.bytes ≡ first_states past
-unfolding session_after first_states
+pub states_begun : (past : List Remark) → (session_behind past).is_lost ≡ false → (session_behind past).states.initial.bytes ≡ first_states past
+unfolding session_behind first_states
 states_begun [] h = refl
 states_begun (Begins kind None ∷ past) h = states_begun past h
 states_begun (Begins kind (Some Full) ∷ past) h = states_begun past h
@@ -192,13 +193,13 @@ states_begun (Goes bytes ∷ past) h = states_begun past h
 states_begun (Cancels ∷ past) h = states_begun past h
 states_begun (Tells Unread ∷ past) h = absurd (true≢false h)
 states_begun (Tells Nothing ∷ past) h = states_begun past h
-states_begun (Tells (Recovery states) ∷ past) h = 
-    let is = not-false (begins (session_after past) states) (neither (not (begins (session_after past) states)) (session_after past).is_lost h).0 in
-    begun_bytes (begins (session_after past) states) (session_after past).states states is (and_parts ((session_after past).is_login && not (session_after past).is_acknowledged) (may_begin (session_after past).states states) is).1
-states_begun (Tells (States ok all) ∷ past) h = ap (λ (k : Keeping). k.bytes) (noted_initial (session_after past).states ok all.states) ∙ states_begun past (neither (not all.is_whole) (session_after past).is_lost h).1
-states_begun (Tells (Value type value) ∷ past) h = states_begun past (neither ((session_after past).is_login && not (may_add (session_after past).changes value)) (session_after past).is_lost h).1
+states_begun (Tells (Recovery states) ∷ past) h =
+    let is = not-false (accepts_states (session_behind past) states) (neither (not (accepts_states (session_behind past) states)) (session_behind past).is_lost h).0 in
+    begun_bytes (accepts_states (session_behind past) states) (session_behind past).states states is (and_parts ((session_behind past).is_login && not (session_behind past).is_acknowledged) (may_begin (session_behind past).states states) is).1
+states_begun (Tells (States ok all) ∷ past) h = ap (λ (k : KeptBytes). k.bytes) (noted_initial (session_behind past).states ok all.states) ∙ states_begun past (neither (not all.is_whole) (session_behind past).is_lost h).1
+states_begun (Tells (Value type value) ∷ past) h = states_begun past (neither ((session_behind past).is_login && not (may_add (session_behind past).changes value)) (session_behind past).is_lost h).1
 states_begun (Tells (Transaction descriptor) ∷ past) h = states_begun past h
-states_begun (Tells ResetDone ∷ past) h = ap (λ (k : Keeping). k.bytes) (back_initial (is_full (session_after past).owed) (session_after past).states) ∙ states_begun past h
+states_begun (Tells ResetDone ∷ past) h = ap (λ (k : KeptBytes). k.bytes) (back_initial (is_full_reset (session_behind past).owed) (session_behind past).states) ∙ states_begun past h
 states_begun (Tells (Done kind status) ∷ past) h = states_begun past h
 states_begun (Ends ∷ past) h = states_begun past h
 
@@ -212,22 +213,22 @@ none_any (b ∷ flags) (suc i) h = none_any flags i (neither b (list_any (λ (b 
 entry_home : (l : Ledger) (id : ℕ) → is_home l ≡ true → entry l id ≡ false
 entry_home l id h = none_any l.astray id (not-true (list_any (λ (b : Bool). b) l.astray) h)
 
-pub states_home : (past : List Remark) (id : ℕ) → id < 256 → (session_after past).is_lost ≡ false → is_home (session_after past).states ≡ true
+pub states_home : (past : List Remark) (id : ℕ) → id < 256 → (session_behind past).is_lost ≡ false → is_home (session_behind past).states ≡ true
     → IsInitial (first_states past) id (newest_state id past)
 states_home past id few read home =
-    subst (λ (xs : List ℕ). IsInitial xs id (newest_state id past)) (states_begun past read) (state_home id few past (entry_home (session_after past).states id home))
+    subst (λ (xs : List ℕ). IsInitial xs id (newest_state id past)) (states_begun past read) (state_home id few past (entry_home (session_behind past).states id home))
 
 -- ---- Values
 
-taken_length : (b : Bool) (l : Ledger) (type : ℕ) (value : List ℕ) → length (taken_in b l type value).astray ≡ length l.astray
+taken_length : (b : Bool) (l : Ledger) (type : ℕ) (value : List ℕ) → length (value_taken_in b l type value).astray ≡ length l.astray
 taken_length true l type value = chosen (may_add l value) where
-  chosen : (b : Bool) → length (cond b (with_value l type value) l).astray ≡ length l.astray
+  chosen : (b : Bool) → length (cond b (with_initial_value l type value) l).astray ≡ length l.astray
   chosen true = refl
   chosen false = refl
 taken_length false l type value = noted_length l true type value
 
-pub types : (past : List Remark) → length (session_after past).changes.astray ≡ 256
-unfolding session_after
+pub types : (past : List Remark) → length (session_behind past).changes.astray ≡ 256
+unfolding session_behind
 types [] = length-replicate 256 false
 types (Begins kind None ∷ past) = types past
 types (Begins kind (Some Full) ∷ past) = types past
@@ -238,9 +239,9 @@ types (Tells Unread ∷ past) = types past
 types (Tells Nothing ∷ past) = types past
 types (Tells (Recovery states) ∷ past) = types past
 types (Tells (States ok all) ∷ past) = types past
-types (Tells (Value type value) ∷ past) = taken_length (session_after past).is_login (session_after past).changes type value ∙ types past
+types (Tells (Value type value) ∷ past) = taken_length (session_behind past).is_login (session_behind past).changes type value ∙ types past
 types (Tells (Transaction descriptor) ∷ past) = types past
-types (Tells ResetDone ∷ past) = back_length (is_full (session_after past).owed) (session_after past).changes (types past)
+types (Tells ResetDone ∷ past) = back_length (is_full_reset (session_behind past).owed) (session_behind past).changes (types past)
 types (Tells (Done kind status) ∷ past) = types past
 types (Ends ∷ past) = types past
 
@@ -263,23 +264,23 @@ none_at_login type (Tells (States ok all) ∷ past) h = none_at_login type past 
 none_at_login type (Tells (Value other value) ∷ past) h =
     ap (λ (b : Bool). cond b (telling_by (cond (other == type) (Some value) None) true (newest_value type past)) (newest_value type past)) h ∙ none_at_login type past h
 none_at_login type (Tells (Transaction descriptor) ∷ past) h = none_at_login type past h
-none_at_login type (Tells ResetDone ∷ past) h = ap (telling_if (is_full (owed_in past))) (none_at_login type past h) ∙ none_if (is_full (owed_in past))
+none_at_login type (Tells ResetDone ∷ past) h = ap (telling_if (is_full_reset (owed_in past))) (none_at_login type past h) ∙ none_if (is_full_reset (owed_in past))
 none_at_login type (Tells (Done kind status) ∷ past) h = none_at_login type past h
 none_at_login type (Ends ∷ past) h = none_at_login type past h
 
 value_taken : (asked login : Bool) (l : Ledger) (other type : ℕ) (value : List ℕ) (before : Option Telling) → login ≡ not asked → type < length l.astray
     → (asked ≡ false → before ≡ None) → (entry l type ≡ false → IsInitial l.initial.bytes type before)
-    → entry (taken_in login l other value) type ≡ false
-    → IsInitial (taken_in login l other value).initial.bytes type (cond asked (telling_by (cond (other == type) (Some value) None) true before) before)
+    → entry (value_taken_in login l other value) type ≡ false
+    → IsInitial (value_taken_in login l other value).initial.bytes type (cond asked (telling_by (cond (other == type) (Some value) None) true before) before)
 value_taken true true l other type value before is few none home h = absurd (true≢false is)
 value_taken true false l other type value before is few none home h =
     told_home (cond (other == type) (Some value) None) true l type before home (sym (noted_at l true other type value few) ∙ h)
 value_taken false true l other type value before is few none home h =
-    subst (λ (o : Option Telling). IsInitial (taken_in true l other value).initial.bytes type o) (sym (none refl)) tt
+    subst (λ (o : Option Telling). IsInitial (value_taken_in true l other value).initial.bytes type o) (sym (none refl)) tt
 value_taken false false l other type value before is few none home h = absurd (false≢true is)
 
-pub value_home : (type : ℕ) (few : type < 256) (past : List Remark) → entry (session_after past).changes type ≡ false → IsInitial (session_after past).changes.initial.bytes type (newest_value type past)
-unfolding session_after newest_value
+pub value_home : (type : ℕ) (few : type < 256) (past : List Remark) → entry (session_behind past).changes type ≡ false → IsInitial (session_behind past).changes.initial.bytes type (newest_value type past)
+unfolding session_behind newest_value
 value_home type few [] h = tt
 value_home type few (Begins kind None ∷ past) h = value_home type few past h
 value_home type few (Begins kind (Some Full) ∷ past) h = value_home type few past h
@@ -291,24 +292,24 @@ value_home type few (Tells Nothing ∷ past) h = value_home type few past h
 value_home type few (Tells (Recovery states) ∷ past) h = value_home type few past h
 value_home type few (Tells (States ok all) ∷ past) h = value_home type few past h
 value_home type few (Tells (Value other value) ∷ past) h =
-    let room : type < length (session_after past).changes.astray = omega (arith, few, types past) in
-    value_taken (was_asked past) (session_after past).is_login (session_after past).changes other type value (newest_value type past) (at_login past) room (none_at_login type past) (value_home type few past) h
+    let room : type < length (session_behind past).changes.astray = omega (arith, few, types past) in
+    value_taken (was_asked past) (session_behind past).is_login (session_behind past).changes other type value (newest_value type past) (at_login past) room (none_at_login type past) (value_home type few past) h
 value_home type few (Tells (Transaction descriptor) ∷ past) h = value_home type few past h
-value_home type few (Tells ResetDone ∷ past) h = 
-    let home = back_home (is_full (session_after past).owed) (session_after past).changes type (newest_value type past) (value_home type few past) h in
-    subst (λ (o : Option Reset). IsInitial (back_if (is_full (session_after past).owed) (session_after past).changes).initial.bytes type (telling_if (is_full o) (newest_value type past))) (reset_owed past) home
+value_home type few (Tells ResetDone ∷ past) h =
+    let home = back_home (is_full_reset (session_behind past).owed) (session_behind past).changes type (newest_value type past) (value_home type few past) h in
+    subst (λ (o : Option Reset). IsInitial (back_if (is_full_reset (session_behind past).owed) (session_behind past).changes).initial.bytes type (telling_if (is_full_reset o) (newest_value type past))) (reset_owed past) home
 value_home type few (Tells (Done kind status) ∷ past) h = value_home type few past h
 value_home type few (Ends ∷ past) h = value_home type few past h
 
-taken_most : (b : Bool) (l : Ledger) (type : ℕ) (value : List ℕ) → (taken_in b l type value).initial.most ≡ l.initial.most
+taken_most : (b : Bool) (l : Ledger) (type : ℕ) (value : List ℕ) → (value_taken_in b l type value).initial.most ≡ l.initial.most
 taken_most true l type value = chosen (may_add l value) where
-  chosen : (b : Bool) → (cond b (with_value l type value) l).initial.most ≡ l.initial.most
+  chosen : (b : Bool) → (cond b (with_initial_value l type value) l).initial.most ≡ l.initial.most
   chosen true = refl
   chosen false = refl
 taken_most false l type value = refl
 
-pub values_room : (past : List Remark) → (session_after past).changes.initial.most ≡ 1024
-unfolding session_after
+pub values_room : (past : List Remark) → (session_behind past).changes.initial.most ≡ 1024
+unfolding session_behind
 values_room [] = refl
 values_room (Begins kind None ∷ past) = values_room past
 values_room (Begins kind (Some Full) ∷ past) = values_room past
@@ -319,13 +320,13 @@ values_room (Tells Unread ∷ past) = values_room past
 values_room (Tells Nothing ∷ past) = values_room past
 values_room (Tells (Recovery states) ∷ past) = values_room past
 values_room (Tells (States ok all) ∷ past) = values_room past
-values_room (Tells (Value type value) ∷ past) = taken_most (session_after past).is_login (session_after past).changes type value ∙ values_room past
+values_room (Tells (Value type value) ∷ past) = taken_most (session_behind past).is_login (session_behind past).changes type value ∙ values_room past
 values_room (Tells (Transaction descriptor) ∷ past) = values_room past
-values_room (Tells ResetDone ∷ past) = ap (λ (k : Keeping). k.most) (back_initial (is_full (session_after past).owed) (session_after past).changes) ∙ values_room past
+values_room (Tells ResetDone ∷ past) = ap (λ (k : KeptBytes). k.most) (back_initial (is_full_reset (session_behind past).owed) (session_behind past).changes) ∙ values_room past
 values_room (Tells (Done kind status) ∷ past) = values_room past
 values_room (Ends ∷ past) = values_room past
 
-added_whole : (l : Ledger) (type : ℕ) (value : List ℕ) → may_add l value ≡ true → (with_value l type value).initial.bytes ≡ l.initial.bytes ++ state_bytes type value
+added_whole : (l : Ledger) (type : ℕ) (value : List ℕ) → may_add l value ≡ true → (with_initial_value l type value).initial.bytes ≡ l.initial.bytes ++ state_bytes type value
 added_whole l type value h =
     let room = ltb-false l.initial.most (length l.initial.bytes + (6 + length value)) (not-true (nat_lt l.initial.most (length l.initial.bytes + (6 + length value))) h) in
     let four : length (to_le_bytes w32 (length value)) ≡ 4 = refl in
@@ -333,16 +334,16 @@ added_whole l type value h =
     take_all l.initial.most (l.initial.bytes ++ state_bytes type value) (omega (arith, room, four, tail, length-append l.initial.bytes (state_bytes type value)))
 
 value_begun : (asked login : Bool) (l : Ledger) (type : ℕ) (value before : List ℕ) → login ≡ not asked → (login && not (may_add l value)) ≡ false → l.initial.bytes ≡ before
-    → (taken_in login l type value).initial.bytes ≡ cond asked before (before ++ state_bytes type value)
+    → (value_taken_in login l type value).initial.bytes ≡ cond asked before (before ++ state_bytes type value)
 value_begun true true l type value before is fits e = absurd (true≢false is)
 value_begun true false l type value before is fits e = e
 value_begun false true l type value before is fits e =
     let may = not-false (may_add l value) fits in
-    ap (λ (b : Bool). (cond b (with_value l type value) l).initial.bytes) may ∙ (added_whole l type value may ∙ ap (λ (xs : List ℕ). xs ++ state_bytes type value) e)
+    ap (λ (b : Bool). (cond b (with_initial_value l type value) l).initial.bytes) may ∙ (added_whole l type value may ∙ ap (λ (xs : List ℕ). xs ++ state_bytes type value) e)
 value_begun false false l type value before is fits e = absurd (false≢true is)
 
-pub values_begun : (past : List Remark) → (session_after past).is_lost ≡ false → (session_after past).changes.initial.bytes ≡ first_values past
-unfolding session_after first_values
+pub values_begun : (past : List Remark) → (session_behind past).is_lost ≡ false → (session_behind past).changes.initial.bytes ≡ first_values past
+unfolding session_behind first_values
 values_begun [] h = refl
 values_begun (Begins kind None ∷ past) h = values_begun past h
 values_begun (Begins kind (Some Full) ∷ past) h = values_begun past h
@@ -351,17 +352,17 @@ values_begun (Goes bytes ∷ past) h = values_begun past h
 values_begun (Cancels ∷ past) h = values_begun past h
 values_begun (Tells Unread ∷ past) h = absurd (true≢false h)
 values_begun (Tells Nothing ∷ past) h = values_begun past h
-values_begun (Tells (Recovery states) ∷ past) h = values_begun past (neither (not (begins (session_after past) states)) (session_after past).is_lost h).1
-values_begun (Tells (States ok all) ∷ past) h = values_begun past (neither (not all.is_whole) (session_after past).is_lost h).1
-values_begun (Tells (Value type value) ∷ past) h = 
-    let parts = neither ((session_after past).is_login && not (may_add (session_after past).changes value)) (session_after past).is_lost h in
-    value_begun (was_asked past) (session_after past).is_login (session_after past).changes type value (first_values past) (at_login past) parts.0 (values_begun past parts.1)
+values_begun (Tells (Recovery states) ∷ past) h = values_begun past (neither (not (accepts_states (session_behind past) states)) (session_behind past).is_lost h).1
+values_begun (Tells (States ok all) ∷ past) h = values_begun past (neither (not all.is_whole) (session_behind past).is_lost h).1
+values_begun (Tells (Value type value) ∷ past) h =
+    let parts = neither ((session_behind past).is_login && not (may_add (session_behind past).changes value)) (session_behind past).is_lost h in
+    value_begun (was_asked past) (session_behind past).is_login (session_behind past).changes type value (first_values past) (at_login past) parts.0 (values_begun past parts.1)
 values_begun (Tells (Transaction descriptor) ∷ past) h = values_begun past h
-values_begun (Tells ResetDone ∷ past) h = ap (λ (k : Keeping). k.bytes) (back_initial (is_full (session_after past).owed) (session_after past).changes) ∙ values_begun past h
+values_begun (Tells ResetDone ∷ past) h = ap (λ (k : KeptBytes). k.bytes) (back_initial (is_full_reset (session_behind past).owed) (session_behind past).changes) ∙ values_begun past h
 values_begun (Tells (Done kind status) ∷ past) h = values_begun past h
 values_begun (Ends ∷ past) h = values_begun past h
 
-pub values_home : (past : List Remark) (type : ℕ) → type < 256 → (session_after past).is_lost ≡ false → is_home (session_after past).changes ≡ true
+pub values_home : (past : List Remark) (type : ℕ) → type < 256 → (session_behind past).is_lost ≡ false → is_home (session_behind past).changes ≡ true
     → IsInitial (first_values past) type (newest_value type past)
 values_home past type few read home =
-    subst (λ (xs : List ℕ). IsInitial xs type (newest_value type past)) (values_begun past read) (value_home type few past (entry_home (session_after past).changes type home))
+    subst (λ (xs : List ℕ). IsInitial xs type (newest_value type past)) (values_begun past read) (value_home type few past (entry_home (session_behind past).changes type home))

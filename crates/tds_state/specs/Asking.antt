@@ -4,7 +4,7 @@ use Rattle.std.specs.Str.{bytes_eq}
 use Rattle.tds_state.specs.declared.asked.Asked.{Asked}
 use Rattle.tds_state.specs.declared.asked.Request.{Request}
 use Rattle.tds_state.specs.declared.asked.Request.TheVariants.{Batch, Procedure, Other}
-use Rattle.tds_state.specs.Keeping.{nothing_kept, with_more}
+use Rattle.tds_state.specs.KeptBytes.{no_bytes_kept, with_more_kept}
 
 -- ---- Letters, of two bytes each, the lowest first
 
@@ -82,16 +82,16 @@ letters_after came (byte ∷ others) = letters_after (letters_next came byte) ot
 
 -- ---- The newest request
 
-abbrev pub begun : Asked → Request → Asked
-begun a kind = record { kind = kind; head = nothing_kept a.head.most; letters = 0 }
+abbrev pub request_begun : Asked → Request → Asked
+request_begun a kind = record { kind = kind; head = no_bytes_kept a.head.most; letters = 0 }
 
-abbrev pub sent_by : Request → Asked → List ℕ → Asked
-sent_by Batch a bytes = record a { letters = letters_after a.letters bytes }
-sent_by Procedure a bytes = record a { head = with_more a.head bytes }
-sent_by Other a bytes = a
+abbrev pub body_sent_by : Request → Asked → List ℕ → Asked
+body_sent_by Batch a bytes = record a { letters = letters_after a.letters bytes }
+body_sent_by Procedure a bytes = record a { head = with_more_kept a.head bytes }
+body_sent_by Other a bytes = a
 
-abbrev pub with_sent : Asked → List ℕ → Asked
-with_sent a bytes = sent_by a.kind a bytes
+abbrev pub with_body : Asked → List ℕ → Asked
+with_body a bytes = body_sent_by a.kind a bytes
 
 -- it may make what a server doesn't tell, as a prepared handle
 abbrev pub makes_by : Request → List ℕ → Bool

@@ -7,7 +7,7 @@ use Rattle.tds_wire.specs.declared.told.Told.{Told}
 use Rattle.tds_wire.specs.declared.told.Told.TheVariants as told
 use Rattle.tds_wire.specs.declared.told.Token.{Token}
 use Rattle.tds_state.specs.declared.states.StateSpot.{StateSpot}
-use Rattle.tds_state.specs.States.{Listed, behind_state, listed, spot_of, value_at}
+use Rattle.tds_state.specs.States.{Listed, behind_state, states_listed, spot_with, state_value}
 
 -- ---- FEATUREEXTACK (MS-TDS 2.2.7.11): features, each its number, the length of its data in four bytes, and these; FF behind the last one
 
@@ -17,11 +17,11 @@ feature_at (id ∷ []) = None
 feature_at (id ∷ a ∷ []) = None
 feature_at (id ∷ a ∷ b ∷ []) = None
 feature_at (id ∷ a ∷ b ∷ c ∷ []) = None
-feature_at (id ∷ a ∷ b ∷ c ∷ d ∷ behind) = if id == 255 then None else spot_of id 5 (from_le_bytes w32 (a ∷ b ∷ c ∷ d ∷ [])) (length behind)
+feature_at (id ∷ a ∷ b ∷ c ∷ d ∷ behind) = if id == 255 then None else spot_with id 5 (from_le_bytes w32 (a ∷ b ∷ c ∷ d ∷ [])) (length behind)
 
 abbrev pub recovery_by : (List ℕ → Option (List ℕ)) → List ℕ → Option StateSpot → Option (List ℕ)
 recovery_by others bytes None = None
-recovery_by others bytes (Some spot) = if spot.id == 1 then Some (value_at spot bytes) else others (behind_state spot bytes)
+recovery_by others bytes (Some spot) = if spot.id == 1 then Some (state_value spot bytes) else others (behind_state spot bytes)
 
 -- the data of session recovery, which is feature 1; there are no more features than bytes
 unfoldable pub recovery_in : ℕ → List ℕ → Option (List ℕ)
@@ -68,45 +68,45 @@ pub data Heard : Type 0 where
   -- a DONE of this kind with this status
   Done : ℕ → ℕ → Heard
 
-abbrev pub is_kept : Token → List ℕ → Bool
-is_kept token bytes = token.length == length bytes
+abbrev pub is_kept_whole : Token → List ℕ → Bool
+is_kept_whole token bytes = token.length == length bytes
 
 abbrev pub recovered : Option (List ℕ) → Heard
 recovered None = Nothing
 recovered (Some states) = Recovery states
 
-abbrev pub valued : ℕ → Option (List ℕ) → Heard
-valued type None = Unread
-valued type (Some value) = Value type value
+abbrev pub told_value : ℕ → Option (List ℕ) → Heard
+told_value type None = Unread
+told_value type (Some value) = Value type value
 
-abbrev pub value_heard : ℕ → Token → List ℕ → Heard
-value_heard type token bytes =
-    if has_value type then (if is_kept token bytes then valued type (new_value type bytes) else Unread) else Nothing
+abbrev pub news_of_value : ℕ → Token → List ℕ → Heard
+news_of_value type token bytes =
+    if has_value type then (if is_kept_whole token bytes then told_value type (new_value type bytes) else Unread) else Nothing
 
-abbrev pub change_heard : ChangeValue → ℕ → Token → List ℕ → Heard
-change_heard (changes.Transaction new old) type token bytes = Transaction new
-change_heard changes.ResetDone type token bytes = ResetDone
-change_heard (changes.PacketSize size) type token bytes = value_heard type token bytes
-change_heard (changes.Values new old) type token bytes = value_heard type token bytes
-change_heard changes.Other type token bytes = value_heard type token bytes
+abbrev pub news_of_change : ChangeValue → ℕ → Token → List ℕ → Heard
+news_of_change (changes.Transaction new old) type token bytes = Transaction new
+news_of_change changes.ResetDone type token bytes = ResetDone
+news_of_change (changes.PacketSize size) type token bytes = news_of_value type token bytes
+news_of_change (changes.Values new old) type token bytes = news_of_value type token bytes
+news_of_change changes.Other type token bytes = news_of_value type token bytes
 
 -- the last number is FFFFFFFF: from then on none is told (2.2.7.21)
-abbrev pub states_heard : ℕ → Bool → Token → List ℕ → Heard
-states_heard number is_recoverable token bytes =
-    if is_kept token bytes && not (number == 4294967295) then States is_recoverable (listed (drop 10 bytes)) else Unread
+abbrev pub news_of_states : ℕ → Bool → Token → List ℕ → Heard
+news_of_states number is_recoverable token bytes =
+    if is_kept_whole token bytes && not (number == 4294967295) then States is_recoverable (states_listed (drop 10 bytes)) else Unread
 
-abbrev pub features_heard : Token → List ℕ → Heard
-features_heard token bytes = if is_kept token bytes then recovered (recovery (drop 1 bytes)) else Unread
+abbrev pub news_of_features : Token → List ℕ → Heard
+news_of_features token bytes = if is_kept_whole token bytes then recovered (recovery (drop 1 bytes)) else Unread
 
-abbrev pub heard_by : Told → Token → List ℕ → Heard
-heard_by (told.Done done) token bytes = Done token.kind done.status
-heard_by (told.Change change) token bytes = change_heard change.value change.kind token bytes
-heard_by (told.Message message) token bytes = Nothing
-heard_by (told.ReturnStatus value) token bytes = Nothing
-heard_by (told.SessionState state) token bytes = states_heard state.sequence state.is_recoverable token bytes
-heard_by told.Unclear token bytes = if (token.kind == 0xE3) || (token.kind == 0xE4) then Unread else Nothing
-heard_by told.Other token bytes = if token.kind == 0xAE then features_heard token bytes else Nothing
+abbrev pub news_by : Told → Token → List ℕ → Heard
+news_by (told.Done done) token bytes = Done token.kind done.status
+news_by (told.Change change) token bytes = news_of_change change.value change.kind token bytes
+news_by (told.Message message) token bytes = Nothing
+news_by (told.ReturnStatus value) token bytes = Nothing
+news_by (told.SessionState state) token bytes = news_of_states state.sequence state.is_recoverable token bytes
+news_by told.Unclear token bytes = if (token.kind == 0xE3) || (token.kind == 0xE4) then Unread else Nothing
+news_by told.Other token bytes = if token.kind == 0xAE then news_of_features token bytes else Nothing
 
 -- this token, with these bytes
-abbrev pub heard_of : Token → List ℕ → Heard
-heard_of token bytes = heard_by token.told token bytes
+abbrev pub news_of : Token → List ℕ → Heard
+news_of token bytes = news_by token.told token bytes

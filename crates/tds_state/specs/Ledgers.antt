@@ -3,12 +3,12 @@ use Rattle.std.specs.Prelude.{ℕ, ◌+◌, ◌≡◌, ◌&&◌, not, Bool, true
 use Rattle.std.specs.Int.{w32, to_le_bytes}
 use Rattle.std.specs.List.{list_any}
 use Rattle.tds_state.specs.declared.values.Values.TheInside.{Inside}
-use Rattle.tds_state.specs.Keeping.{Keeping, has_room, nothing_kept, with_more}
-use Rattle.tds_state.specs.States.{gives_value, listed}
+use Rattle.tds_state.specs.KeptBytes.{KeptBytes, has_room, no_bytes_kept, with_more_kept}
+use Rattle.tds_state.specs.States.{gives_value, states_listed}
 
 pub record Ledger : Type 0 where
   -- the values that a login began with, as SESSIONSTATE spells states
-  pub initial : Keeping
+  pub initial : KeptBytes
   -- for each number whether it is astray
   pub astray : List Bool
 
@@ -22,14 +22,14 @@ abbrev pub IsLedger : Inside → Type 0
 IsLedger v = v.is_calm ≡ true → v.astray ≡ none_astray
 
 abbrev pub no_values : ℕ → Ledger
-no_values most = record { initial = nothing_kept most; astray = none_astray }
+no_values most = record { initial = no_bytes_kept most; astray = none_astray }
 
 -- these are the ones that it began with
 abbrev pub may_begin : Ledger → List ℕ → Bool
-may_begin l states = has_room (nothing_kept l.initial.most) (length states) && (listed states).is_whole
+may_begin l states = has_room (no_bytes_kept l.initial.most) (length states) && (states_listed states).is_whole
 
 abbrev pub begun_with : Ledger → List ℕ → Ledger
-begun_with l states = record l { initial = with_more (nothing_kept l.initial.most) states }
+begun_with l states = record l { initial = with_more_kept (no_bytes_kept l.initial.most) states }
 
 -- and one more
 abbrev pub state_bytes : ℕ → List ℕ → List ℕ
@@ -38,20 +38,20 @@ state_bytes id value = id ∷ 255 ∷ (to_le_bytes w32 (length value) ++ value)
 abbrev pub may_add : Ledger → List ℕ → Bool
 may_add l value = has_room l.initial (6 + length value)
 
-abbrev pub with_value : Ledger → ℕ → List ℕ → Ledger
-with_value l id value = record l { initial = with_more l.initial (state_bytes id value) }
+abbrev pub with_initial_value : Ledger → ℕ → List ℕ → Ledger
+with_initial_value l id value = record l { initial = with_more_kept l.initial (state_bytes id value) }
 
 -- This value is told of a number: it is astray where that isn't the one that it began with, or can't be recovered.
-abbrev pub noted : Ledger → Bool → ℕ → List ℕ → Ledger
-noted l is_recoverable id value = record l { astray = set l.astray id (not (is_recoverable && gives_value l.initial.bytes id value)) }
+abbrev pub value_noted : Ledger → Bool → ℕ → List ℕ → Ledger
+value_noted l is_recoverable id value = record l { astray = set l.astray id (not (is_recoverable && gives_value l.initial.bytes id value)) }
 
 -- the two at a login, where there is room
 abbrev pub begun_if : Bool → Ledger → List ℕ → Ledger
 begun_if may l states = if may && may_begin l states then begun_with l states else l
 
-abbrev pub taken_in : Bool → Ledger → ℕ → List ℕ → Ledger
-taken_in true l id value = if may_add l value then with_value l id value else l
-taken_in false l id value = noted l true id value
+abbrev pub value_taken_in : Bool → Ledger → ℕ → List ℕ → Ledger
+value_taken_in true l id value = if may_add l value then with_initial_value l id value else l
+value_taken_in false l id value = value_noted l true id value
 
 -- a reset gives each its initial value
 abbrev pub all_back : Ledger → Ledger

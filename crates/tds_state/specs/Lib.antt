@@ -1,4 +1,4 @@
-pub mod Keeping
+pub mod KeptBytes
 pub mod States
 pub mod Asking
 pub mod Ledgers

@@ -8,7 +8,7 @@ use Rattle.tds_state.specs.declared.session.Session.{Session}
 use Rattle.tds_state.specs.Asking.{bulk, is_call, is_harmless, small}
 use Rattle.tds_state.specs.Hearing.{Heard, Unread, Nothing, Recovery, States, Value, Transaction, ResetDone, Done}
 use Rattle.tds_state.specs.Ledgers.{may_begin, no_values, state_bytes}
-use Rattle.tds_state.specs.Sessions.{asks, cancels, ends, hears, is_followed, is_full, keeps_open, left_by, new_session, sends}
+use Rattle.tds_state.specs.Sessions.{session_asked, session_cancelled, session_ended, session_told, is_followed, is_full_reset, keeps_open, transaction_left, session_at_login, session_sent}
 use Rattle.tds_state.specs.States.{gives_value, last_value}
 
 pub data Remark : Type 0 where
@@ -24,15 +24,15 @@ pub data Remark : Type 0 where
   Ends : Remark
 
 abbrev pub remarked : Session → Remark → Session
-remarked s (Begins kind reset) = asks s kind reset
-remarked s (Goes bytes) = sends s bytes
-remarked s Cancels = cancels s
-remarked s (Tells heard) = hears s heard
-remarked s Ends = ends s
+remarked s (Begins kind reset) = session_asked s kind reset
+remarked s (Goes bytes) = session_sent s bytes
+remarked s Cancels = session_cancelled s
+remarked s (Tells heard) = session_told s heard
+remarked s Ends = session_ended s
 
-unfoldable pub session_after : List Remark → Session
-session_after [] = new_session
-session_after (r ∷ past) = remarked (session_after past) r
+unfoldable pub session_behind : List Remark → Session
+session_behind [] = session_at_login
+session_behind (r ∷ past) = remarked (session_behind past) r
 
 -- ---- The server tells its states (MS-TDS 2.2.7.11, 2.2.7.21)
 
@@ -78,15 +78,15 @@ was_kept (r ∷ past) = was_kept past
 unfoldable pub newest_is_recoverable : List Remark → Bool
 newest_is_recoverable [] = true
 newest_is_recoverable (Tells (States is_recoverable all) ∷ past) = is_recoverable
-newest_is_recoverable (Tells ResetDone ∷ past) = is_full (owed_in past) || newest_is_recoverable past
+newest_is_recoverable (Tells ResetDone ∷ past) = is_full_reset (owed_in past) || newest_is_recoverable past
 newest_is_recoverable (r ∷ past) = newest_is_recoverable past
 
 -- the transaction that is open, or 0
-unfoldable pub transaction_in : List Remark → ℕ
-transaction_in [] = 0
-transaction_in (Tells (Transaction descriptor) ∷ past) = descriptor
-transaction_in (Tells ResetDone ∷ past) = left_by (is_full (owed_in past)) (transaction_in past)
-transaction_in (r ∷ past) = transaction_in past
+unfoldable pub open_transaction : List Remark → ℕ
+open_transaction [] = 0
+open_transaction (Tells (Transaction descriptor) ∷ past) = descriptor
+open_transaction (Tells ResetDone ∷ past) = transaction_left (is_full_reset (owed_in past)) (open_transaction past)
+open_transaction (r ∷ past) = open_transaction past
 
 pub record Telling : Type 0 where
   pub is_recoverable : Bool
@@ -104,7 +104,7 @@ telling_if false before = before
 unfoldable pub newest_state : ℕ → List Remark → Option Telling
 newest_state id [] = None
 newest_state id (Tells (States is_recoverable all) ∷ past) = telling_by (last_value id all.states) is_recoverable (newest_state id past)
-newest_state id (Tells ResetDone ∷ past) = telling_if (is_full (owed_in past)) (newest_state id past)
+newest_state id (Tells ResetDone ∷ past) = telling_if (is_full_reset (owed_in past)) (newest_state id past)
 newest_state id (r ∷ past) = newest_state id past
 
 -- it can be recovered, and has the value that these states give it; so does one that wasn't told
@@ -129,7 +129,7 @@ unfoldable pub newest_value : ℕ → List Remark → Option Telling
 newest_value type [] = None
 newest_value type (Tells (Value other value) ∷ past) =
     if was_asked past then telling_by (if other == type then Some value else None) true (newest_value type past) else newest_value type past
-newest_value type (Tells ResetDone ∷ past) = telling_if (is_full (owed_in past)) (newest_value type past)
+newest_value type (Tells ResetDone ∷ past) = telling_if (is_full_reset (owed_in past)) (newest_value type past)
 newest_value type (r ∷ past) = newest_value type past
 
 -- ---- What was asked since a full reset was asked for: the request that asks comes behind it
@@ -168,12 +168,12 @@ was_followed (r ∷ past) = was_followed past
 -- ---- The newest request
 
 -- behind it, and behind a cancel, a message of the server's has ended
-unfoldable pub has_ended : List Remark → Bool
-has_ended [] = false
-has_ended (Begins kind reset ∷ past) = false
-has_ended (Cancels ∷ past) = false
-has_ended (Ends ∷ past) = true
-has_ended (r ∷ past) = has_ended past
+unfoldable pub answer_has_ended : List Remark → Bool
+answer_has_ended [] = false
+answer_has_ended (Begins kind reset ∷ past) = false
+answer_has_ended (Cancels ∷ past) = false
+answer_has_ended (Ends ∷ past) = true
+answer_has_ended (r ∷ past) = answer_has_ended past
 
 -- it was cancelled
 unfoldable pub newest_is_cancelled : List Remark → Bool
@@ -188,15 +188,15 @@ begins_with [] bytes = true
 begins_with (p ∷ pattern) [] = false
 begins_with (p ∷ pattern) (byte ∷ bytes) = (small byte == p) && begins_with pattern bytes
 
-unfoldable pub stands_in : List ℕ → List ℕ → Bool
-stands_in pattern [] = begins_with pattern []
-stands_in pattern (byte ∷ bytes) = begins_with pattern (byte ∷ bytes) || stands_in pattern bytes
+unfoldable pub stands_within : List ℕ → List ℕ → Bool
+stands_within pattern [] = begins_with pattern []
+stands_within pattern (byte ∷ bytes) = begins_with pattern (byte ∷ bytes) || stands_within pattern bytes
 
 -- it is a batch in which `bulk` stands
 unfoldable pub newest_has_bulk : List ℕ → List Remark → Bool
 newest_has_bulk body [] = false
 newest_has_bulk body (Goes bytes ∷ past) = newest_has_bulk (bytes ++ body) past
-newest_has_bulk body (Begins Batch reset ∷ past) = stands_in bulk body
+newest_has_bulk body (Begins Batch reset ∷ past) = stands_within bulk body
 newest_has_bulk body (Begins Procedure reset ∷ past) = false
 newest_has_bulk body (Begins Other reset ∷ past) = false
 newest_has_bulk body (r ∷ past) = newest_has_bulk body past

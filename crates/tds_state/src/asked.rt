@@ -1,8 +1,8 @@
 //! What of a request may leave behind what a server doesn't tell. No SQL is read for it but four letters.
 
 ghost use Rattle.std.specs.Prelude.{◌≡◌, IfOk};
-ghost use Rattle.tds_state.specs.Asking.{begun, is_call, is_harmless, is_harmless_name, is_plain_behind, is_plain_first, is_plain_letter, is_system_part, letter_of, letters_after, letters_next, may_make_handles, small, with_sent};
-ghost use Rattle.tds_state.specs.Keeping.{nothing_kept};
+ghost use Rattle.tds_state.specs.Asking.{request_begun, is_call, is_harmless, is_harmless_name, is_plain_behind, is_plain_first, is_plain_letter, is_system_part, letter_of, letters_after, letters_next, may_make_handles, small, with_body};
+ghost use Rattle.tds_state.specs.KeptBytes.{no_bytes_kept};
 ghost use Rattle.tds_state.specs.declared.asked.Request.TheVariants.{Other};
 
 use crate::NoMemory;
@@ -42,7 +42,11 @@ const BULK: [u8; 8] = *b"b\0u\0l\0k\0";
 fn small(byte: u8) -> u8
     ensures { result ≡ small byte }
 {
-    if byte >= 65 && byte < 91 { byte + 32 } else { byte }
+    if byte >= 65 && byte < 91 {
+        byte + 32
+    } else {
+        byte
+    }
 }
 
 fn letter_of(low: u8, high: u8) -> u8
@@ -157,7 +161,7 @@ fn letters_after(came: u8, bytes: &[u8]) -> u8
 impl Asked {
     pub(crate) fn new(alloc: Global) -> Result<Asked, NoMemory>
         ensures { IfOk result (λ asked. asked
-            ≡ record { kind = Other; head = nothing_kept 1024; letters = 0 }) }
+            ≡ record { kind = Other; head = no_bytes_kept 1024; letters = 0 }) }
     {
         Ok(Asked {
             kind: Request::Other,
@@ -168,7 +172,7 @@ impl Asked {
 
     /// The next request begins.
     pub(crate) fn begin(&mut self, kind: Request)
-        ensures { self.new ≡ begun self.old kind }
+        ensures { self.new ≡ request_begun self.old kind }
     {
         self.kind = kind;
         self.head.clear();
@@ -177,7 +181,7 @@ impl Asked {
 
     /// The next bytes of its body have come.
     pub(crate) fn take(&mut self, bytes: &[u8])
-        ensures { self.new ≡ with_sent self.old bytes.now }
+        ensures { self.new ≡ with_body self.old bytes.now }
     {
         match self.kind {
             Request::Batch => self.letters = letters_after(self.letters, bytes),

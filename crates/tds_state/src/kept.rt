@@ -1,7 +1,7 @@
 //! Bytes that are kept, up to a most.
 
 ghost use Rattle.std.specs.Prelude.{◌≡◌, ◌≤◌, [], IfOk, drop, length, take};
-ghost use Rattle.tds_state.specs.Keeping.{has_room, nothing_kept, with_more};
+ghost use Rattle.tds_state.specs.KeptBytes.{has_room, no_bytes_kept, with_more_kept};
 
 use crate::NoMemory;
 use std::alloc::Global;
@@ -16,9 +16,9 @@ pub struct Kept {
 
 impl Model for Kept {
     ghost use Rattle.std.specs.Prelude.{◌≤◌, vec_len, vec_capacity};
-    ghost use Rattle.tds_state.specs.Keeping.{Keeping, keeping_of};
+    ghost use Rattle.tds_state.specs.KeptBytes.{KeptBytes, keeping_of};
 
-    ghost Value = { Keeping };
+    ghost Value = { KeptBytes };
 
     ghost view = { keeping_of };
 
@@ -51,7 +51,7 @@ pub(crate) fn behind(bytes: &[u8], count: usize) -> &[u8]
 impl Kept {
     /// None is kept yet, of so many.
     pub(crate) fn new(alloc: Global, most: usize) -> Result<Kept, NoMemory>
-        ensures { IfOk result (λ kept. kept ≡ nothing_kept most) }
+        ensures { IfOk result (λ kept. kept ≡ no_bytes_kept most) }
     {
         Ok(Kept {
             bytes: Vec::with_capacity(alloc, most)?,
@@ -74,20 +74,20 @@ impl Kept {
 
     /// Whether so many could be kept, if none were.
     pub(crate) fn could_keep(&self, count: usize) -> bool
-        ensures { result ≡ has_room (nothing_kept self.now.most) count }
+        ensures { result ≡ has_room (no_bytes_kept self.now.most) count }
     {
         count <= self.most
     }
 
     pub(crate) fn clear(&mut self)
-        ensures { self.new ≡ nothing_kept self.old.most }
+        ensures { self.new ≡ no_bytes_kept self.old.most }
     {
         self.bytes.clear();
     }
 
     /// Keeps as many more as there is room for.
     pub(crate) fn keep(&mut self, more: &[u8])
-        ensures { self.new ≡ with_more self.old more.now }
+        ensures { self.new ≡ with_more_kept self.old more.now }
     {
         let front = first_of(self.most - self.bytes.len(), more);
         let _ = self.bytes.extend_from_slice(front);

@@ -2,10 +2,10 @@
 //! was said of it. Each function does nothing when it runs: its contract is the law.
 
 ghost use Rattle.std.specs.Prelude.{◌≡◌, ◌<◌, ◌++◌, ℕ, List, [], Option, None, true, false};
-ghost use Rattle.tds_state.specs.Pasts.{IsInitial, Remark, are_harmless, first_states, first_values, has_ended, newest_has_bulk, newest_is_cancelled};
-ghost use Rattle.tds_state.specs.Pasts.{newest_is_recoverable, newest_state, newest_value, owed_in, session_after, transaction_in, was_acknowledged, was_all_read, was_call_cancelled, was_followed, was_kept};
-ghost use Rattle.tds_state.specs.Sessions.{rests, sends};
-ghost use Rattle.tds_state.specs.Tracking.{takes};
+ghost use Rattle.tds_state.specs.Pasts.{IsInitial, Remark, are_harmless, first_states, first_values, answer_has_ended, newest_has_bulk, newest_is_cancelled};
+ghost use Rattle.tds_state.specs.Pasts.{newest_is_recoverable, newest_state, newest_value, owed_in, session_behind, open_transaction, was_acknowledged, was_all_read, was_call_cancelled, was_followed, was_kept};
+ghost use Rattle.tds_state.specs.Sessions.{session_rests, session_sent};
+ghost use Rattle.tds_state.specs.Tracking.{tracks};
 ghost use Rattle.tds_state.specs.declared.session.Session.{Session};
 ghost use Rattle.tds_state.specs.declared.tracker.Tracker.{Tracker};
 ghost use Rattle.tds_wire.specs.declared.told.Token.{Token};
@@ -13,63 +13,63 @@ ghost use Rattle.tds_wire.specs.declared.told.Token.{Token};
 /// The login acknowledged session recovery, each SESSIONSTATE could be read, none had the last number, and
 /// there was room for the initial states.
 pub fn only_where_all_is_told()
-    ensures acknowledged { (past : List Remark) → rests (session_after past) ≡ true
+    ensures acknowledged { (past : List Remark) → session_rests (session_behind past) ≡ true
         → was_acknowledged past ≡ true }
-    ensures read { (past : List Remark) → rests (session_after past) ≡ true
+    ensures read { (past : List Remark) → session_rests (session_behind past) ≡ true
         → was_all_read past ≡ true }
 {}
 
 /// The newest SESSIONSTATE since the last full reset said that the session can be recovered.
 pub fn only_where_it_can_be_recovered()
-    ensures { (past : List Remark) → rests (session_after past) ≡ true
+    ensures { (past : List Remark) → session_rests (session_behind past) ≡ true
         → newest_is_recoverable past ≡ true }
 {}
 
 /// The newest telling of each state since the last full reset can be recovered, and has the value that the
 /// login's answer gave it; and so has each value that ENVCHANGE told.
 pub fn only_where_all_is_initial()
-    ensures states { (past : List Remark) (id : ℕ) → rests (session_after past) ≡ true → id < 256
+    ensures states { (past : List Remark) (id : ℕ) → session_rests (session_behind past) ≡ true → id < 256
         → IsInitial (first_states past) id (newest_state id past) }
-    ensures values { (past : List Remark) (type : ℕ) → rests (session_after past) ≡ true
+    ensures values { (past : List Remark) (type : ℕ) → session_rests (session_behind past) ≡ true
         → type < 256 → IsInitial (first_values past) type (newest_value type past) }
 {}
 
 /// No transaction is open, no reset is owed, and none that kept a transaction was the last one.
 pub fn only_behind_a_reset()
-    ensures transaction { (past : List Remark) → rests (session_after past) ≡ true
-        → transaction_in past ≡ 0 }
-    ensures owed { (past : List Remark) → rests (session_after past) ≡ true
+    ensures transaction { (past : List Remark) → session_rests (session_behind past) ≡ true
+        → open_transaction past ≡ 0 }
+    ensures owed { (past : List Remark) → session_rests (session_behind past) ≡ true
         → owed_in past ≡ None }
-    ensures kept { (past : List Remark) → rests (session_after past) ≡ true
+    ensures kept { (past : List Remark) → session_rests (session_behind past) ≡ true
         → was_kept past ≡ false }
 {}
 
 /// Since a full reset was asked for, each call was of `sp_executesql` or of a plain name, none was cancelled,
 /// and no answer said that another call followed in its message.
 pub fn only_behind_harmless_calls()
-    ensures harmless { (past : List Remark) → rests (session_after past) ≡ true
+    ensures harmless { (past : List Remark) → session_rests (session_behind past) ≡ true
         → are_harmless [] past ≡ true }
-    ensures cancelled { (past : List Remark) → rests (session_after past) ≡ true
+    ensures cancelled { (past : List Remark) → session_rests (session_behind past) ≡ true
         → was_call_cancelled past ≡ false }
-    ensures followed { (past : List Remark) → rests (session_after past) ≡ true
+    ensures followed { (past : List Remark) → session_rests (session_behind past) ≡ true
         → was_followed past ≡ false }
 {}
 
 /// A message of the server's has ended behind the newest request, which wasn't cancelled, and isn't a batch in
 /// which `bulk` stands.
 pub fn only_behind_a_whole_answer()
-    ensures ended { (past : List Remark) → rests (session_after past) ≡ true
-        → has_ended past ≡ true }
-    ensures cancelled { (past : List Remark) → rests (session_after past) ≡ true
+    ensures ended { (past : List Remark) → session_rests (session_behind past) ≡ true
+        → answer_has_ended past ≡ true }
+    ensures cancelled { (past : List Remark) → session_rests (session_behind past) ≡ true
         → newest_is_cancelled past ≡ false }
-    ensures bulk { (past : List Remark) → rests (session_after past) ≡ true
+    ensures bulk { (past : List Remark) → session_rests (session_behind past) ≡ true
         → newest_has_bulk [] past ≡ false }
 {}
 
 /// How an answer's bytes and a request's body are cut into pieces doesn't matter.
 pub fn cuts_do_not_matter()
     ensures answers { (tracker : Tracker) (first second : List ℕ) (token : Option Token)
-        → takes (takes tracker first None) second token ≡ takes tracker (first ++ second) token }
+        → tracks (tracks tracker first None) second token ≡ tracks tracker (first ++ second) token }
     ensures requests { (session : Session) (first second : List ℕ)
-        → sends (sends session first) second ≡ sends session (first ++ second) }
+        → session_sent (session_sent session first) second ≡ session_sent session (first ++ second) }
 {}

@@ -2,9 +2,9 @@
 
 ghost use Rattle.std.specs.Prelude.{◌≡◌, ◌≤◌, IfOk, length};
 ghost use Rattle.tds_state.specs.Hearing as hearing;
-ghost use Rattle.tds_state.specs.Hearing.{heard_of, is_kept};
-ghost use Rattle.tds_state.specs.Sessions.{all_noted, asks, awaits_by, cancels, ended_flight, ends, hears, is_done, is_followed, is_free, is_full, is_owed, is_quiet, is_told_home, keeps_open, left_by, new_session, owed_by, rests, sends, stopped_by};
-ghost use Rattle.tds_state.specs.States.{listed};
+ghost use Rattle.tds_state.specs.Hearing.{news_of, is_kept_whole};
+ghost use Rattle.tds_state.specs.Sessions.{all_noted, session_asked, awaits_by, session_cancelled, ended_flight, session_ended, session_told, has_nothing_due, is_followed, has_nothing_open, is_full_reset, is_owed, is_quiet, is_told_home, keeps_open, transaction_left, session_at_login, reset_owed_by, session_rests, session_sent, flight_stopped};
+ghost use Rattle.tds_state.specs.States.{states_listed};
 
 use crate::NoMemory;
 use crate::asked::{Asked, Request};
@@ -75,7 +75,7 @@ fn is_followed(kind: u8, status: u16) -> bool
 }
 
 fn stopped_by(is_stop: bool, flight: Flight) -> Flight
-    ensures { result ≡ stopped_by is_stop flight }
+    ensures { result ≡ flight_stopped is_stop flight }
 {
     match flight {
         Flight::Quiet => Flight::Quiet,
@@ -94,8 +94,8 @@ fn stopped_by(is_stop: bool, flight: Flight) -> Flight
 /// Notes the values of states.
 fn note_all(values: &mut Values, is_recoverable: bool, states: &[u8]) -> bool
     ensures noted { values.new
-        ≡ all_noted values.old is_recoverable (listed states.now).states }
-    ensures whole { result ≡ (listed states.now).is_whole }
+        ≡ all_noted values.old is_recoverable (states_listed states.now).states }
+    ensures whole { result ≡ (states_listed states.now).is_whole }
 {
     let mut rest = states;
     'states: while let Some(spot) = spot_at(rest) {
@@ -125,7 +125,7 @@ fn is_quiet(flight: Flight) -> bool
 
 /// Whether this is a full reset.
 fn is_full(reset: Option<Reset>) -> bool
-    ensures { result ≡ is_full reset }
+    ensures { result ≡ is_full_reset reset }
 {
     match reset {
         Some(Reset::Full) => true,
@@ -144,7 +144,7 @@ fn keeps_open(reset: Option<Reset>) -> bool
 }
 
 fn owed_by(reset: Option<Reset>, owed: Option<Reset>) -> Option<Reset>
-    ensures { result ≡ owed_by reset owed }
+    ensures { result ≡ reset_owed_by reset owed }
 {
     match reset {
         Some(reset) => Some(reset),
@@ -153,7 +153,7 @@ fn owed_by(reset: Option<Reset>, owed: Option<Reset>) -> Option<Reset>
 }
 
 fn left_by(is_full: bool, transaction: u64) -> u64
-    ensures { result ≡ left_by is_full transaction }
+    ensures { result ≡ transaction_left is_full transaction }
 {
     if is_full { 0 } else { transaction }
 }
@@ -179,7 +179,7 @@ fn awaits_by(flight: Flight, awaits: bool) -> bool
 
 /// Whether all bytes of a token are kept.
 fn is_kept(token: &Token, bytes: &[u8]) -> bool
-    ensures { result ≡ is_kept token.now bytes.now }
+    ensures { result ≡ is_kept_whole token.now bytes.now }
 {
     token.length == bytes.len() as u64
 }
@@ -187,7 +187,7 @@ fn is_kept(token: &Token, bytes: &[u8]) -> bool
 impl Session {
     /// Nothing was said yet: the login's answer is due.
     pub(crate) fn new(alloc: Global) -> Result<Session, NoMemory>
-        ensures { IfOk result (λ session. session ≡ new_session) }
+        ensures { IfOk result (λ session. session ≡ session_at_login) }
     {
         Ok(Session {
             is_login: true,
@@ -207,24 +207,23 @@ impl Session {
 
     /// A request begins, whose first packet asks for this reset.
     pub(crate) fn ask(&mut self, kind: Request, reset: Option<Reset>)
-        ensures { self.new ≡ asks self.old kind reset }
+        ensures { self.new ≡ session_asked self.old kind reset }
     {
         self.is_login = false;
-        self.is_pinned =
-            !is_full(reset) && (self.is_pinned || self.asked.may_make_handles());
+        self.is_pinned = !is_full(reset) && (self.is_pinned || self.asked.may_make_handles());
         self.owed = owed_by(reset, self.owed);
         self.flight = Flight::Asked;
         self.asked.begin(kind);
     }
 
     pub(crate) fn send(&mut self, bytes: &[u8])
-        ensures { self.new ≡ sends self.old bytes.now }
+        ensures { self.new ≡ session_sent self.old bytes.now }
     {
         self.asked.take(bytes);
     }
 
     pub(crate) fn cancel(&mut self)
-        ensures { self.new ≡ cancels self.old }
+        ensures { self.new ≡ session_cancelled self.old }
     {
         self.is_pinned = self.asked.is_call() || self.is_pinned;
         self.flight = Flight::Cancelled;
@@ -232,7 +231,7 @@ impl Session {
 
     /// A token of an answer has come, of which these bytes are kept.
     pub(crate) fn hear(&mut self, token: &Token, bytes: &[u8])
-        ensures { self.new ≡ hears self.old (heard_of token.now bytes.now) }
+        ensures { self.new ≡ session_told self.old (news_of token.now bytes.now) }
     {
         match token.told {
             Told::Done(done) => self.hear_done(token.kind, done.status),
@@ -253,15 +252,15 @@ impl Session {
     }
 
     fn hear_done(&mut self, kind: u8, status: u16)
-        ensures { self.new ≡ hears self.old (hearing.Done kind status) }
+        ensures { self.new ≡ session_told self.old (hearing.Done kind status) }
     {
         self.is_pinned = is_followed(kind, status) || self.is_pinned;
         self.flight = stopped_by(status / 32 % 2 == 1, self.flight);
     }
 
     fn hear_change(&mut self, change: Change, token: &Token, bytes: &[u8])
-        ensures { self.new ≡ hears self.old
-            (hearing.change_heard change.value change.kind token.now bytes.now) }
+        ensures { self.new ≡ session_told self.old
+            (hearing.news_of_change change.value change.kind token.now bytes.now) }
     {
         match change.value {
             ChangeValue::Transaction { new, .. } => self.transaction = new,
@@ -274,7 +273,7 @@ impl Session {
 
     /// The reset that is owed is done.
     fn hear_reset(&mut self)
-        ensures { self.new ≡ hears self.old hearing.ResetDone }
+        ensures { self.new ≡ session_told self.old hearing.ResetDone }
     {
         let is_full = is_full(self.owed);
         self.is_recoverable = is_full || self.is_recoverable;
@@ -286,7 +285,7 @@ impl Session {
     }
 
     fn hear_value(&mut self, kind: u8, token: &Token, bytes: &[u8])
-        ensures { self.new ≡ hears self.old (hearing.value_heard kind token.now bytes.now) }
+        ensures { self.new ≡ session_told self.old (hearing.news_of_value kind token.now bytes.now) }
     {
         if !has_value(kind) {
             return;
@@ -303,15 +302,15 @@ impl Session {
 
     fn take_value(&mut self, kind: u8, value: &[u8])
         requires { length value.now ≤ 65535 }
-        ensures { self.new ≡ hears self.old (hearing.Value kind value.now) }
+        ensures { self.new ≡ session_told self.old (hearing.Value kind value.now) }
     {
         let is_over = self.changes.take(self.is_login, kind, value);
         self.is_lost = is_over || self.is_lost;
     }
 
     fn hear_states(&mut self, state: SessionState, token: &Token, bytes: &[u8])
-        ensures { self.new ≡ hears self.old
-            (hearing.states_heard state.sequence state.is_recoverable token.now bytes.now) }
+        ensures { self.new ≡ session_told self.old
+            (hearing.news_of_states state.sequence state.is_recoverable token.now bytes.now) }
     {
         if !is_kept(token, bytes) || state.sequence == u32::MAX {
             self.is_lost = true;
@@ -322,7 +321,7 @@ impl Session {
 
     fn take_states(&mut self, is_recoverable: bool, states: &[u8])
         ensures { self.new
-            ≡ hears self.old (hearing.States is_recoverable (listed states.now)) }
+            ≡ session_told self.old (hearing.States is_recoverable (states_listed states.now)) }
     {
         let is_whole = note_all(&mut self.states, is_recoverable, states);
         self.is_lost = !is_whole || self.is_lost;
@@ -330,7 +329,7 @@ impl Session {
     }
 
     fn hear_features(&mut self, token: &Token, bytes: &[u8])
-        ensures { self.new ≡ hears self.old (hearing.features_heard token.now bytes.now) }
+        ensures { self.new ≡ session_told self.old (hearing.news_of_features token.now bytes.now) }
     {
         if !is_kept(token, bytes) {
             self.is_lost = true;
@@ -343,7 +342,7 @@ impl Session {
 
     /// Session recovery is acknowledged, with these initial states.
     fn acknowledge(&mut self, states: &[u8])
-        ensures { self.new ≡ hears self.old (hearing.Recovery states.now) }
+        ensures { self.new ≡ session_told self.old (hearing.Recovery states.now) }
     {
         let is_first = self.is_login && !self.is_acknowledged;
         let begins = self.states.begin_if(is_first, states);
@@ -353,7 +352,7 @@ impl Session {
 
     /// A message of the server's has ended.
     pub(crate) fn end(&mut self)
-        ensures { self.new ≡ ends self.old }
+        ensures { self.new ≡ session_ended self.old }
     {
         self.awaits = awaits_by(self.flight, self.awaits);
         self.flight = ended_flight(self.flight);
@@ -370,7 +369,7 @@ impl Session {
 
     /// No transaction, no reset to come, nothing that isn't told.
     fn is_free(&self) -> bool
-        ensures { result ≡ is_free self.now }
+        ensures { result ≡ has_nothing_open self.now }
     {
         self.transaction == 0
             && (!is_owed(self.owed) && (!self.is_pinned && !self.asked.may_make_handles()))
@@ -378,13 +377,13 @@ impl Session {
 
     /// No answer is due, and nothing that belongs to the last request.
     fn is_done(&self) -> bool
-        ensures { result ≡ is_done self.now }
+        ensures { result ≡ has_nothing_due self.now }
     {
         is_quiet(self.flight) && (!self.awaits && self.asked.letters < 8)
     }
 
     pub(crate) fn rests(&self) -> bool
-        ensures { result ≡ rests self.now }
+        ensures { result ≡ session_rests self.now }
     {
         self.is_told_home() && (self.is_free() && self.is_done())
     }

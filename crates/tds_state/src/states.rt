@@ -1,7 +1,7 @@
 //! The states of a session (MS-TDS 2.2.7.21), one behind the other.
 
 ghost use Rattle.std.specs.Prelude.{◌≡◌, ◌≤◌, ◌<◌, ◌+◌, IfSome, length};
-ghost use Rattle.tds_state.specs.States.{behind_state, gives_value, spot_at, spot_of, value_at};
+ghost use Rattle.tds_state.specs.States.{behind_state, gives_value, state_spot, spot_with, state_value};
 
 /// Where a state stands in bytes that begin with it.
 #[derive(Clone, Copy, Debug, PartialEq, Eq)]
@@ -15,7 +15,7 @@ pub struct StateSpot {
 
 /// A state whose value has so many bytes of those behind it.
 pub(crate) fn spot_of(id: u8, start: u8, length: u32, behind: usize) -> Option<StateSpot>
-    ensures { result ≡ spot_of id start length behind }
+    ensures { result ≡ spot_with id start length behind }
 {
     if behind < length as usize {
         None
@@ -25,9 +25,9 @@ pub(crate) fn spot_of(id: u8, start: u8, length: u32, behind: usize) -> Option<S
 }
 
 /// Where the state stands that bytes begin with.
-#[tactic(auto, unfolding(crate::specs::States::spot_at))]
+#[tactic(auto, unfolding(crate::specs::States::state_spot))]
 pub(crate) fn spot_at(bytes: &[u8]) -> Option<StateSpot>
-    ensures value { result ≡ spot_at bytes.now }
+    ensures value { result ≡ state_spot bytes.now }
     ensures within { IfSome result (λ spot. spot.start + spot.length ≤ length bytes.now) }
     ensures moves { IfSome result (λ spot. 0 < spot.start) }
 {
@@ -45,7 +45,7 @@ pub(crate) fn spot_at(bytes: &[u8]) -> Option<StateSpot>
 /// The value of a state that bytes begin with.
 pub(crate) fn value_at(spot: StateSpot, bytes: &[u8]) -> &[u8]
     requires { spot.start + spot.length ≤ length bytes.now }
-    ensures { result.now ≡ value_at spot bytes.now }
+    ensures { result.now ≡ state_value spot bytes.now }
 {
     let (_, value) = bytes.split_at(usize::from(spot.start));
     &value[..spot.length as usize]

@@ -1,8 +1,8 @@
 //! A tracker of one connection.
 
 ghost use Rattle.std.specs.Prelude.{◌≡◌, ◌++◌, get_or, IfOk};
-ghost use Rattle.tds_state.specs.Sessions.{asks, cancels, ends, rests, sends};
-ghost use Rattle.tds_state.specs.Tracking.{is_needed, needed, new_tracker, takes, with_bytes};
+ghost use Rattle.tds_state.specs.Sessions.{session_asked, session_cancelled, session_ended, session_rests, session_sent};
+ghost use Rattle.tds_state.specs.Tracking.{is_needed, needed, new_tracker, tracks, with_bytes};
 
 use crate::NoMemory;
 use crate::asked::Request;
@@ -71,7 +71,7 @@ impl Tracker {
     /// Bytes of an answer have come, up to the end of this token, or of none: then they are inside one. A
     /// message's first one begins a token.
     pub fn hear(&mut self, bytes: &[u8], token: &Option<Token>)
-        ensures { self.new ≡ takes self.old bytes.now token.now }
+        ensures { self.new ≡ tracks self.old bytes.now token.now }
     {
         self.keep(bytes);
         if let Some(token) = token {
@@ -89,35 +89,35 @@ impl Tracker {
 
     /// A message of the server's has ended.
     pub fn end(&mut self)
-        ensures { self.new ≡ record self.old { session = ends self.old.session } }
+        ensures { self.new ≡ record self.old { session = session_ended self.old.session } }
     {
         self.session.end();
     }
 
     /// A request begins, whose first packet asks for this reset.
     pub fn ask(&mut self, kind: Request, reset: Option<Reset>)
-        ensures { self.new ≡ record self.old { session = asks self.old.session kind reset } }
+        ensures { self.new ≡ record self.old { session = session_asked self.old.session kind reset } }
     {
         self.session.ask(kind, reset);
     }
 
     /// Bytes of its body go on, behind ALL_HEADERS (MS-TDS 2.2.5.3).
     pub fn send(&mut self, bytes: &[u8])
-        ensures { self.new ≡ record self.old { session = sends self.old.session bytes.now } }
+        ensures { self.new ≡ record self.old { session = session_sent self.old.session bytes.now } }
     {
         self.session.send(bytes);
     }
 
     /// The newest request is cancelled.
     pub fn cancel(&mut self)
-        ensures { self.new ≡ record self.old { session = cancels self.old.session } }
+        ensures { self.new ≡ record self.old { session = session_cancelled self.old.session } }
     {
         self.session.cancel();
     }
 
     /// Whether the session rests: by all that was said, a reset would change nothing of it.
     pub fn rests(&self) -> bool
-        ensures { result ≡ rests self.now.session }
+        ensures { result ≡ session_rests self.now.session }
     {
         self.session.rests()
     }

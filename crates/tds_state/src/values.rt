@@ -2,8 +2,8 @@
 
 ghost use Rattle.std.specs.Prelude.{◌≡◌, ◌≤◌, ◌&&◌, not, Bool, true, IfOk, length};
 ghost use Rattle.std.specs.List.{list_any};
-ghost use Rattle.tds_state.specs.Ledgers.{back_if, begun_if, is_home, may_add, may_begin, no_values, noted, taken_in};
-ghost use Rattle.tds_state.specs.States.{listed};
+ghost use Rattle.tds_state.specs.Ledgers.{back_if, begun_if, is_home, may_add, may_begin, no_values, value_noted, value_taken_in};
+ghost use Rattle.tds_state.specs.States.{states_listed};
 
 use crate::NoMemory;
 use crate::kept::Kept;
@@ -33,7 +33,7 @@ impl Model for Values {
 
 /// Whether bytes are states and nothing else.
 fn is_listed(bytes: &[u8]) -> bool
-    ensures { result ≡ (listed bytes.now).is_whole }
+    ensures { result ≡ (states_listed bytes.now).is_whole }
 {
     let mut rest = bytes;
     'states: while let Some(spot) = spot_at(rest) {
@@ -85,7 +85,7 @@ impl Values {
     fn add(&mut self, id: u8, value: &[u8]) -> bool
         requires { length value.now ≤ 65535 }
         ensures over { result ≡ not (may_add self.old value.now) }
-        ensures values { self.new ≡ taken_in true self.old id value.now }
+        ensures values { self.new ≡ value_taken_in true self.old id value.now }
     {
         let has_room = self.initial.has_room(6 + value.len());
         if has_room {
@@ -100,7 +100,7 @@ impl Values {
     pub(crate) fn take(&mut self, is_login: bool, id: u8, value: &[u8]) -> bool
         requires { length value.now ≤ 65535 }
         ensures over { result ≡ (is_login && not (may_add self.old value.now)) }
-        ensures values { self.new ≡ taken_in is_login self.old id value.now }
+        ensures values { self.new ≡ value_taken_in is_login self.old id value.now }
     {
         if is_login {
             self.add(id, value)
@@ -112,7 +112,7 @@ impl Values {
 
     /// This value is told.
     pub(crate) fn note(&mut self, is_recoverable: bool, id: u8, value: &[u8])
-        ensures { self.new ≡ noted self.old is_recoverable id value.now }
+        ensures { self.new ≡ value_noted self.old is_recoverable id value.now }
     {
         let is_home = is_recoverable && gives_value(self.initial.bytes(), id, value);
         self.astray[usize::from(id)] = !is_home;

@@ -1,6 +1,6 @@
 use Rattle.std.proofs.Common.{◌≡◌, ◌∙◌, ◌≤◌, ◌+◌, ◌-◌, ◌++◌, ℕ, List, ap, arith, length, take}
-use Rattle.tds_state.specs.Keeping.{Keeping, with_more}
-use Rattle.tds_state.proofs.Keeping.{kept_more, grown}
+use Rattle.tds_state.specs.KeptBytes.{KeptBytes, with_more_kept}
+use Rattle.tds_state.proofs.KeptBytes.{kept_more, grown}
 use Rattle.tds_state.proofs.kept.Kept.keep.Goals as goal
 
 pub returns : goal.returns

@@ -4,7 +4,7 @@ use Rattle.std.proofs.lemmas.List.{length-append, length-take}
 use Rattle.std.proofs.Math.Seq.{take-append-add}
 use Rattle.std.proofs.lemmas.Bool.{false≢true}
 use Rattle.std.specs.Prelude.{IsOk}
-use Rattle.tds_state.specs.Keeping.{Keeping, with_more}
+use Rattle.tds_state.specs.KeptBytes.{KeptBytes, with_more_kept}
 
 pub kept_more : (most : ℕ) (xs ys : List ℕ) → length xs ≤ most → xs ++ take (most - length xs) ys ≡ take most (xs ++ ys)
 kept_more most xs ys h =
