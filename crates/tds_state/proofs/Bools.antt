@@ -1,7 +1,7 @@
 -- Tests that hold together.
 use Rattle.std.proofs.Common.{◌≡◌, Bool, true, false, refl, ap}
 use Rattle.std.proofs.lemmas.Bool.{true≢false, false≢true}
-use Rattle.std.specs.Prelude.{◌&&◌, ◌||◌, not}
+use Rattle.std.specs.Prelude.{◌||◌}
 
 pub or_left : (x y : Bool) → x ≡ true → (x || y) ≡ true
 or_left x y h = ap (λ (b : Bool). b || y) h

@@ -1,21 +1,19 @@
 -- Calls that were asked, and the newest request.
-use Rattle.std.proofs.Common.{◌≡◌, ◌∙◌, ◌≤◌, ◌<◌, ℕ, zero, suc, ◌+◌, Bool, true, false, cond, List, [], ◌∷◌, ◌++◌, length, take, get_or, set, refl, sym, ap, arith, Option, Some, None, ⊎_elim, append_assoc}
-use Rattle.std.proofs.lemmas.Bool.{false≢true, true≢false, and_parts, and_from, or_cases, not-true, not-false, both_ways}
-use Rattle.std.specs.Prelude.{◌&&◌, ◌||◌, ◌==◌, ◌/◌, ◌%◌, not}
+use Rattle.std.proofs.Common.{◌≡◌, ◌∙◌, ◌≤◌, ℕ, Bool, true, false, List, [], ◌∷◌, ◌++◌, length, take, refl, sym, ap, arith, Some, None, append_assoc}
+use Rattle.std.proofs.lemmas.Bool.{false≢true, and_from, not-false}
+use Rattle.std.specs.Prelude.{◌||◌, ◌==◌, ◌/◌, ◌%◌}
 use Rattle.std.proofs.lemmas.List.{append-nil, length-append, length-take, take_all}
-use Rattle.tds_packet.specs.declared.status.Reset.{Reset}
 use Rattle.tds_packet.specs.declared.status.Reset.TheVariants.{Full, KeepTransaction}
 use Rattle.tds_state.specs.declared.asked.Asked.{Asked}
 use Rattle.tds_state.specs.declared.asked.Request.{Request}
 use Rattle.tds_state.specs.declared.asked.Request.TheVariants.{Batch, Procedure, Other}
-use Rattle.tds_state.specs.declared.session.Session.{Session}
-use Rattle.tds_state.specs.Hearing.{Heard, Unread, Nothing, Recovery, States, Value, Transaction, ResetDone, Done}
-use Rattle.tds_state.specs.Asking.{is_call, is_harmless, makes_by, may_make_handles, body_sent_by, with_body}
-use Rattle.tds_state.specs.Pasts.{Remark, Begins, Goes, Cancels, Tells, Ends, are_harmless, answer_has_ended, newest_is_cancelled, newest_kind, owed_in, session_behind, was_call_cancelled}
+use Rattle.tds_state.specs.Hearing.{Unread, Nothing, Recovery, States, Value, Transaction, ResetDone, Done}
+use Rattle.tds_state.specs.Asking.{is_call, is_harmless, makes_by, may_make_handles, body_sent_by}
+use Rattle.tds_state.specs.Pasts.{Remark, Begins, Goes, Cancels, Tells, Ends, are_harmless, answer_has_ended, newest_is_cancelled, newest_kind, session_behind, was_call_cancelled}
 use Rattle.tds_state.specs.Sessions.{awaits_by, ended_flight, is_followed, is_quiet, keeps_open, flight_stopped}
 use Rattle.tds_state.specs.declared.session.Flight.{Flight}
 use Rattle.tds_state.specs.declared.session.Flight.TheVariants as flights
-use Rattle.tds_state.proofs.Bools.{is_not, neither, or_left, or_right}
+use Rattle.tds_state.proofs.Bools.{is_not, neither}
 use Rattle.tds_state.proofs.KeptBytes.{take_front}
 
 -- ---- A request's kind and its first bytes

@@ -1,14 +1,12 @@
 -- The letters of `bulk`, as they come and as they stand in a batch.
-use Rattle.std.proofs.Common.{◌≡◌, ◌∙◌, ◌≤◌, ◌<◌, ℕ, zero, suc, ◌+◌, Bool, true, false, cond, List, [], ◌∷◌, ◌++◌, length, take, get_or, set, refl, sym, ap, arith, Option, Some, None, ⊎_elim, append_assoc}
-use Rattle.std.proofs.lemmas.Bool.{false≢true, true≢false, and_parts, and_from, or_cases, not-true, not-false, both_ways}
-use Rattle.std.specs.Prelude.{◌&&◌, ◌||◌, not}
-use Rattle.tds_packet.specs.declared.status.Reset.{Reset}
+use Rattle.std.proofs.Common.{◌≡◌, ◌∙◌, ◌<◌, ℕ, zero, suc, ◌+◌, Bool, true, false, cond, List, [], ◌∷◌, ◌++◌, refl, sym, ap, arith, Some, None, ⊎_elim}
+use Rattle.std.proofs.lemmas.Bool.{false≢true}
+use Rattle.std.specs.Prelude.{◌&&◌, ◌||◌}
 use Rattle.tds_packet.specs.declared.status.Reset.TheVariants.{Full, KeepTransaction}
 use Rattle.tds_state.specs.declared.asked.Asked.{Asked}
 use Rattle.tds_state.specs.declared.asked.Request.{Request}
 use Rattle.tds_state.specs.declared.asked.Request.TheVariants.{Batch, Procedure, Other}
-use Rattle.tds_state.specs.declared.session.Session.{Session}
-use Rattle.tds_state.specs.Hearing.{Heard, Unread, Nothing, Recovery, States, Value, Transaction, ResetDone, Done}
+use Rattle.tds_state.specs.Hearing.{Unread, Nothing, Recovery, States, Value, Transaction, ResetDone, Done}
 use Rattle.std.proofs.Common.{drop, subst}
 use Rattle.std.proofs.lemmas.Bool.{and_left, and_right, cases_eq, eq-eqb, ne_eqb}
 use Rattle.std.specs.Prelude.{◌==◌, nat_lt}

@@ -1,12 +1,12 @@
 -- Reading states one after another.
-use Rattle.std.proofs.Common.{◌≡◌, ◌∙◌, ◌≤◌, ◌<◌, ℕ, zero, suc, ◌+◌, ◌-◌, Bool, true, false, cond, List, [], ◌∷◌, length, take, drop, refl, sym, ap, arith, Option, Some, None}
+use Rattle.std.proofs.Common.{◌≡◌, ◌∙◌, ◌≤◌, ◌<◌, ℕ, zero, suc, ◌+◌, Bool, true, false, cond, List, [], ◌∷◌, length, refl, sym, ap, arith, Option, Some, None}
 use Rattle.std.proofs.lemmas.List.{length-drop}
 use Rattle.std.proofs.lemmas.Bool.{eq-eqb, ne_eqb}
 use Rattle.std.specs.Int.{w32, from_le_bytes}
 use Rattle.std.specs.Prelude.{◌==◌, nat_lt}
 use Rattle.std.specs.Str.{bytes_eq}
 use Rattle.tds_state.specs.declared.states.StateSpot.{StateSpot}
-use Rattle.tds_state.specs.States.{Listed, OneState, behind_state, gives_value, is_value, last_value, later_of, states_listed, listed_by, listed_end, listed_in, listed_with, long_spot, state_spot, spot_with, state_in, state_value}
+use Rattle.tds_state.specs.States.{Listed, behind_state, is_value, last_value, later_of, states_listed, listed_by, listed_end, listed_in, listed_with, long_spot, state_spot, spot_with, state_in, state_value}
 
 -- ---- A state takes bytes
 

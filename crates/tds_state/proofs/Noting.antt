@@ -1,5 +1,5 @@
 -- Noting states one after another.
-use Rattle.std.proofs.Common.{◌≡◌, ◌∙◌, ℕ, Bool, List, [], ◌∷◌, length, refl, sym, ap, Some, None}
+use Rattle.std.proofs.Common.{◌≡◌, ◌∙◌, ℕ, Bool, List, length, sym, ap, Some, None}
 use Rattle.std.specs.Prelude.{◌==◌}
 use Rattle.tds_state.specs.declared.states.StateSpot.{StateSpot}
 use Rattle.tds_state.specs.Ledgers.{Ledger, value_noted}

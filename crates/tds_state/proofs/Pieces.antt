@@ -1,5 +1,5 @@
 -- How bytes are cut into pieces doesn't matter.
-use Rattle.std.proofs.Common.{◌≡◌, ◌∙◌, ℕ, zero, suc, ◌+◌, ◌-◌, Bool, true, false, cond, List, [], ◌∷◌, ◌++◌, length, take, get_or, refl, sym, ap, arith, append_assoc, Option, Some, None}
+use Rattle.std.proofs.Common.{◌≡◌, ◌∙◌, ℕ, zero, suc, ◌-◌, Bool, true, false, cond, List, [], ◌∷◌, ◌++◌, length, take, get_or, refl, sym, ap, arith, append_assoc, Option, Some, None}
 use Rattle.std.proofs.lemmas.List.{append-nil}
 use Rattle.tds_wire.specs.declared.told.Token.{Token}
 use Rattle.tds_state.specs.declared.asked.Asked.{Asked}
@@ -7,11 +7,11 @@ use Rattle.tds_state.specs.declared.asked.Request.{Request}
 use Rattle.tds_state.specs.declared.asked.Request.TheVariants.{Batch, Procedure, Other}
 use Rattle.tds_state.specs.declared.session.Session.{Session}
 use Rattle.tds_state.specs.declared.tracker.Tracker.{Tracker}
-use Rattle.tds_state.specs.Asking.{letters_after, with_body}
+use Rattle.tds_state.specs.Asking.{with_body}
 use Rattle.tds_state.specs.Hearing.{news_of}
 use Rattle.tds_state.specs.KeptBytes.{KeptBytes, no_bytes_kept}
 use Rattle.tds_state.specs.Sessions.{session_told, session_sent}
-use Rattle.tds_state.specs.Tracking.{is_needed, tracks, with_bytes}
+use Rattle.tds_state.specs.Tracking.{is_needed, tracks}
 use Rattle.tds_state.proofs.KeptBytes.{take_front}
 use Rattle.tds_state.proofs.Letters.{letters_append}
 

@@ -1,5 +1,5 @@
 -- What a session that rests is made of.
-use Rattle.std.proofs.Common.{◌≡◌, ◌∙◌, ℕ, Bool, true, false, Option, Some, None, refl, sym}
+use Rattle.std.proofs.Common.{◌≡◌, true, false, Option, Some, None, refl, sym}
 use Rattle.std.proofs.lemmas.Bool.{and_parts, eqb-true, false≢true, not-true}
 use Rattle.std.specs.Prelude.{◌&&◌, ◌==◌, not, nat_lt}
 use Rattle.tds_packet.specs.declared.status.Reset.{Reset}

@@ -1,20 +1,17 @@
 -- The login, resets, and what was told since one.
-use Rattle.std.proofs.Common.{◌≡◌, ◌∙◌, ◌≤◌, ◌<◌, ℕ, zero, suc, ◌+◌, Bool, true, false, cond, List, [], ◌∷◌, ◌++◌, length, take, get_or, set, refl, sym, ap, arith, Option, Some, None, ⊎_elim, append_assoc}
-use Rattle.std.proofs.lemmas.Bool.{false≢true, true≢false, and_parts, and_from, or_cases, not-true, not-false, both_ways}
+use Rattle.std.proofs.Common.{◌≡◌, ◌∙◌, ℕ, Bool, true, false, cond, List, [], ◌∷◌, length, refl, sym, ap, Option, Some, None, ⊎_elim}
+use Rattle.std.proofs.lemmas.Bool.{false≢true, true≢false, and_parts, and_from, or_cases, not-false}
 use Rattle.std.specs.Prelude.{◌&&◌, ◌||◌, not}
 use Rattle.tds_packet.specs.declared.status.Reset.{Reset}
 use Rattle.tds_packet.specs.declared.status.Reset.TheVariants.{Full, KeepTransaction}
-use Rattle.tds_state.specs.declared.asked.Asked.{Asked}
-use Rattle.tds_state.specs.declared.asked.Request.{Request}
-use Rattle.tds_state.specs.declared.asked.Request.TheVariants.{Batch, Procedure, Other}
 use Rattle.tds_state.specs.declared.session.Session.{Session}
-use Rattle.tds_state.specs.Hearing.{Heard, Unread, Nothing, Recovery, States, Value, Transaction, ResetDone, Done}
+use Rattle.tds_state.specs.Hearing.{Unread, Nothing, Recovery, States, Value, Transaction, ResetDone, Done}
 use Rattle.tds_state.specs.Asking.{is_call, may_make_handles}
 use Rattle.tds_state.specs.KeptBytes.{KeptBytes, has_room, no_bytes_kept}
-use Rattle.tds_state.specs.Ledgers.{Ledger, back_if, begun_if, begun_with, may_add, may_begin, no_values, value_noted}
+use Rattle.tds_state.specs.Ledgers.{Ledger, back_if, begun_with, may_add, may_begin, no_values, value_noted}
 use Rattle.tds_state.specs.Pasts.{Remark, Begins, Goes, Cancels, Tells, Ends, newest_is_recoverable, owed_in, session_behind, open_transaction, was_acknowledged, was_all_read, was_asked, was_followed, was_kept}
 use Rattle.tds_state.specs.Sessions.{all_noted, accepts_states, is_followed, is_full_reset, keeps_open, transaction_left}
-use Rattle.tds_state.specs.States.{Listed, OneState, states_listed}
+use Rattle.tds_state.specs.States.{OneState, states_listed}
 use Rattle.tds_state.proofs.Bools.{neither, or_left, or_right}
 
 pub at_login : (past : List Remark) → (session_behind past).is_login ≡ not (was_asked past)

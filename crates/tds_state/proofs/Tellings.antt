@@ -1,28 +1,24 @@
 -- What was told of states and values since the last full reset.
-use Rattle.std.proofs.Common.{◌≡◌, ◌∙◌, ◌≤◌, ◌<◌, ℕ, zero, suc, ◌+◌, Bool, true, false, cond, List, [], ◌∷◌, ◌++◌, length, take, get_or, set, refl, sym, ap, arith, Option, Some, None, ⊎_elim, append_assoc}
-use Rattle.std.proofs.lemmas.Bool.{false≢true, true≢false, and_parts, and_from, or_cases, not-true, not-false, both_ways}
+use Rattle.std.proofs.Common.{◌≡◌, ◌∙◌, ◌<◌, ℕ, zero, suc, ◌+◌, Bool, true, false, cond, List, [], ◌∷◌, ◌++◌, length, take, get_or, refl, sym, ap, arith, Option, Some, None, ⊎_elim}
+use Rattle.std.proofs.lemmas.Bool.{false≢true, true≢false, and_parts, not-true, not-false}
 use Rattle.std.specs.Prelude.{◌&&◌, ◌||◌, not}
 use Rattle.tds_packet.specs.declared.status.Reset.{Reset}
 use Rattle.tds_packet.specs.declared.status.Reset.TheVariants.{Full, KeepTransaction}
-use Rattle.tds_state.specs.declared.asked.Asked.{Asked}
-use Rattle.tds_state.specs.declared.asked.Request.{Request}
-use Rattle.tds_state.specs.declared.asked.Request.TheVariants.{Batch, Procedure, Other}
 use Rattle.tds_state.specs.declared.session.Session.{Session}
-use Rattle.tds_state.specs.Hearing.{Heard, Unread, Nothing, Recovery, States, Value, Transaction, ResetDone, Done}
+use Rattle.tds_state.specs.Hearing.{Unread, Nothing, Recovery, States, Value, Transaction, ResetDone, Done}
 use Rattle.std.proofs.lemmas.Bool.{cases_eq, eq-eqb, ne_eqb, ltb-false}
 use Rattle.std.proofs.lemmas.List.{get_or-set_other, get_or-set_same, length-append, length-replicate, length-set, take_all}
 use Rattle.std.proofs.Common.{subst}
-use Rattle.std.proofs.Math.ListN.{replicate}
 use Rattle.std.specs.Int.{w32, to_le_bytes}
 use Rattle.std.specs.List.{list_any}
 use Rattle.std.specs.Prelude.{◌==◌, nat_lt}
-use Rattle.tds_state.specs.KeptBytes.{KeptBytes, has_room, no_bytes_kept, with_more_kept}
-use Rattle.tds_state.specs.Ledgers.{Ledger, back_if, begun_if, begun_with, is_home, may_add, may_begin, none_astray, no_values, value_noted, state_bytes, value_taken_in, with_initial_value}
+use Rattle.tds_state.specs.KeptBytes.{KeptBytes, has_room, no_bytes_kept}
+use Rattle.tds_state.specs.Ledgers.{Ledger, back_if, begun_with, is_home, may_add, may_begin, value_noted, state_bytes, value_taken_in, with_initial_value}
 use Rattle.tds_state.specs.Pasts.{Remark, Begins, Goes, Cancels, Tells, Ends, IsInitial, Telling, first_states, first_values, newest_state, newest_value, owed_in, session_behind, telling_by, telling_if, was_asked}
 use Rattle.tds_state.specs.Sessions.{all_noted, accepts_states, is_full_reset}
-use Rattle.tds_state.specs.States.{Listed, OneState, gives_value, is_value, last_value, later_of, states_listed, listed_in}
+use Rattle.tds_state.specs.States.{OneState, gives_value, last_value, later_of, states_listed, listed_in}
 use Rattle.tds_state.proofs.Bools.{neither}
-use Rattle.tds_state.proofs.Since.{at_login, noted_initial, reset_owed, room_stays}
+use Rattle.tds_state.proofs.Since.{at_login, noted_initial, reset_owed}
 
 -- ---- One number of a ledger
 

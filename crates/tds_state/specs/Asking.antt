@@ -1,5 +1,5 @@
 -- What of a request may leave behind what a server doesn't tell. Its body is what stands behind ALL_HEADERS (MS-TDS 2.2.5.3).
-use Rattle.std.specs.Prelude.{ℕ, zero, suc, ◌+◌, ◌*◌, ◌==◌, ◌&&◌, ◌||◌, not, nat_lt, Bool, true, false, List, [], ◌∷◌, length, take, get_or, if◌then◌else◌}
+use Rattle.std.specs.Prelude.{ℕ, ◌+◌, ◌*◌, ◌==◌, ◌&&◌, ◌||◌, not, nat_lt, Bool, true, false, List, [], ◌∷◌, length, take, get_or, if◌then◌else◌}
 use Rattle.std.specs.Str.{bytes_eq}
 use Rattle.tds_state.specs.declared.asked.Asked.{Asked}
 use Rattle.tds_state.specs.declared.asked.Request.{Request}

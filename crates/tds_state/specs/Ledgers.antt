@@ -1,5 +1,5 @@
 -- Values by their numbers: those that a login began with, and of which of them the newest telling is another one.
-use Rattle.std.specs.Prelude.{ℕ, ◌+◌, ◌≡◌, ◌&&◌, not, Bool, true, false, List, [], ◌∷◌, ◌++◌, length, replicate, set, if◌then◌else◌}
+use Rattle.std.specs.Prelude.{ℕ, ◌+◌, ◌≡◌, ◌&&◌, not, Bool, true, false, List, ◌∷◌, ◌++◌, length, replicate, set, if◌then◌else◌}
 use Rattle.std.specs.Int.{w32, to_le_bytes}
 use Rattle.std.specs.List.{list_any}
 use Rattle.tds_state.specs.declared.values.Values.TheInside.{Inside}

@@ -6,7 +6,7 @@ use Rattle.tds_state.specs.declared.asked.Request.{Request}
 use Rattle.tds_state.specs.declared.asked.Request.TheVariants.{Batch, Procedure, Other}
 use Rattle.tds_state.specs.declared.session.Session.{Session}
 use Rattle.tds_state.specs.Asking.{bulk, is_call, is_harmless, small}
-use Rattle.tds_state.specs.Hearing.{Heard, Unread, Nothing, Recovery, States, Value, Transaction, ResetDone, Done}
+use Rattle.tds_state.specs.Hearing.{Heard, Unread, Recovery, States, Value, Transaction, ResetDone, Done}
 use Rattle.tds_state.specs.Ledgers.{may_begin, no_values, state_bytes}
 use Rattle.tds_state.specs.Sessions.{session_asked, session_cancelled, session_ended, session_told, is_followed, is_full_reset, keeps_open, transaction_left, session_at_login, session_sent}
 use Rattle.tds_state.specs.States.{gives_value, last_value}

@@ -1,5 +1,5 @@
 -- A tracker: a session, and what has come of the token that an answer is in.
-use Rattle.std.specs.Prelude.{ℕ, ◌-◌, ◌==◌, ◌||◌, Bool, List, [], ◌++◌, length, take, get_or, Option, Some, None, if◌then◌else◌}
+use Rattle.std.specs.Prelude.{ℕ, ◌-◌, ◌==◌, ◌||◌, Bool, List, ◌++◌, length, take, get_or, Option, Some, None, if◌then◌else◌}
 use Rattle.tds_wire.specs.declared.told.Token.{Token}
 use Rattle.tds_state.specs.declared.tracker.Tracker.{Tracker}
 use Rattle.tds_state.specs.Hearing.{news_of}

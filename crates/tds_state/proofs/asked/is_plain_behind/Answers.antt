@@ -1,6 +1,5 @@
-use Rattle.std.proofs.Common.{◌≡◌, ◌∙◌, ◌<◌, sym, ap, length, drop, arith}
+use Rattle.std.proofs.Common.{◌∙◌, ◌<◌, sym, ap, length, arith}
 use Rattle.std.proofs.lemmas.List.{length-drop}
-use Rattle.tds_state.specs.Asking.{is_plain_behind}
 use Rattle.tds_state.proofs.Names.{plain_end, plain_more, plain_not}
 use Rattle.tds_state.proofs.asked.is_plain_behind.Goals as goal
 

@@ -1,4 +1,4 @@
-use Rattle.std.proofs.Common.{◌≡◌, ◌∙◌, ◌+◌, ℕ, sym, ap, length, drop, arith}
+use Rattle.std.proofs.Common.{◌∙◌, ◌+◌, ℕ, ap, drop, arith}
 use Rattle.tds_state.specs.Asking.{letters_after}
 use Rattle.tds_state.proofs.Names.{letters_end, letters_more}
 use Rattle.tds_state.proofs.asked.letters_after.Goals as goal

@@ -1,5 +1,4 @@
-use Rattle.std.proofs.Common.{◌≡◌, ◌∙◌, sym, ap, Some, None}
-use Rattle.tds_state.specs.Hearing.{feature_at, recovery}
+use Rattle.std.proofs.Common.{◌∙◌, sym}
 use Rattle.tds_state.proofs.Features.{recovery_behind, recovery_here, recovery_none}
 use Rattle.tds_state.proofs.hearing.recovery.Goals as goal
 

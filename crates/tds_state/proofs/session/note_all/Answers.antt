@@ -1,4 +1,4 @@
-use Rattle.std.proofs.Common.{◌≡◌, ◌∙◌, sym, Some, None}
+use Rattle.std.proofs.Common.{◌≡◌, ◌∙◌, sym, Some}
 use Rattle.tds_state.specs.States.{state_spot}
 use Rattle.tds_state.proofs.Noting.{noted_last, noted_more, whole_last, whole_more}
 use Rattle.tds_state.proofs.session.note_all.Goals as goal

@@ -1,4 +1,4 @@
-use Rattle.std.proofs.Common.{rules, ◌≡◌, ◌∙◌, sym, Some, arith}
+use Rattle.std.proofs.Common.{◌≡◌, ◌∙◌, sym, Some}
 use Rattle.tds_state.specs.States.{last_value, states_listed, state_spot}
 use Rattle.tds_state.proofs.Listing.{given_first, given_from, given_last, given_other, given_told}
 use Rattle.tds_state.proofs.states.gives_value.Goals as goal

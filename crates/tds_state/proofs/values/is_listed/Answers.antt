@@ -1,5 +1,5 @@
-use Rattle.std.proofs.Common.{rules, ◌≡◌, ◌∙◌, sym, ap, Some, List, ℕ}
-use Rattle.tds_state.specs.States.{Listed, states_listed, state_spot}
+use Rattle.std.proofs.Common.{◌∙◌, sym, ap, List, ℕ}
+use Rattle.tds_state.specs.States.{Listed, states_listed}
 use Rattle.tds_state.proofs.Listing.{listed_none, listed_some}
 use Rattle.tds_state.proofs.values.is_listed.Goals as goal
 

@@ -1,5 +1,4 @@
-use Rattle.std.proofs.Common.{◌≡◌, ◌∙◌, ◌≤◌, ◌+◌, ◌-◌, ◌++◌, ℕ, List, ap, arith, length, take}
-use Rattle.tds_state.specs.KeptBytes.{KeptBytes, with_more_kept}
+use Rattle.std.proofs.Common.{◌≡◌, ◌∙◌, ◌≤◌, ◌-◌, ◌++◌, ℕ, List, ap, arith, length, take}
 use Rattle.tds_state.proofs.KeptBytes.{kept_more, grown}
 use Rattle.tds_state.proofs.kept.Kept.keep.Goals as goal
 

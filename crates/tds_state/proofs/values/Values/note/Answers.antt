@@ -1,4 +1,4 @@
-use Rattle.std.proofs.Common.{rules, ◌≡◌, ◌∙◌, sym, true}
+use Rattle.std.proofs.Common.{◌≡◌, ◌∙◌, sym, true}
 use Rattle.std.proofs.lemmas.Bool.{false≢true}
 use Rattle.tds_state.proofs.Homes.{stays_calm}
 use Rattle.tds_state.proofs.values.Values.note.Goals as goal
