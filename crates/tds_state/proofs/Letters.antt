@@ -11,7 +11,7 @@ use Rattle.std.proofs.Common.{drop, subst}
 use Rattle.std.proofs.lemmas.Bool.{and_left, and_right, cases_eq, eq-eqb, ne_eqb}
 use Rattle.std.specs.Prelude.{◌==◌, nat_lt}
 use Rattle.tds_state.specs.Asking.{bulk, letters_after, letters_next, body_sent_by, small}
-use Rattle.tds_state.specs.Pasts.{Remark, Begins, Goes, Cancels, Tells, Ends, begins_with, newest_has_bulk, session_behind, stands_within}
+use Rattle.tds_state.specs.Pasts.{Remark, Begins, Goes, Cancels, Tells, Ends, begins_with, newest_has_bulk, session_said, stands_within}
 
 -- the letters behind the first one
 abbrev tail : List ℕ
@@ -105,8 +105,8 @@ free_now Batch letters h = h
 free_now Procedure letters h = tt
 free_now Other letters h = tt
 
-bulk_free : (body : List ℕ) (past : List Remark) → FreeBy (session_behind past).asked.kind (session_behind past).asked.letters body → newest_has_bulk body past ≡ false
-unfolding session_behind newest_has_bulk
+bulk_free : (body : List ℕ) (past : List Remark) → FreeBy (session_said past).asked.kind (session_said past).asked.letters body → newest_has_bulk body past ≡ false
+unfolding session_said newest_has_bulk
 bulk_free body [] h = refl
 bulk_free body (Begins Batch None ∷ past) h = not_standing body h
 bulk_free body (Begins Batch (Some Full) ∷ past) h = not_standing body h
@@ -117,7 +117,7 @@ bulk_free body (Begins Procedure (Some KeepTransaction) ∷ past) h = refl
 bulk_free body (Begins Other None ∷ past) h = refl
 bulk_free body (Begins Other (Some Full) ∷ past) h = refl
 bulk_free body (Begins Other (Some KeepTransaction) ∷ past) h = refl
-bulk_free body (Goes bytes ∷ past) h = bulk_free (bytes ++ body) past (sent_free (session_behind past).asked.kind (session_behind past).asked bytes body refl h)
+bulk_free body (Goes bytes ∷ past) h = bulk_free (bytes ++ body) past (sent_free (session_said past).asked.kind (session_said past).asked bytes body refl h)
 bulk_free body (Cancels ∷ past) h = bulk_free body past h
 bulk_free body (Tells Unread ∷ past) h = bulk_free body past h
 bulk_free body (Tells Nothing ∷ past) h = bulk_free body past h
@@ -129,5 +129,5 @@ bulk_free body (Tells ResetDone ∷ past) h = bulk_free body past h
 bulk_free body (Tells (Done kind status) ∷ past) h = bulk_free body past h
 bulk_free body (Ends ∷ past) h = bulk_free body past h
 
-pub no_bulk : (past : List Remark) → nat_lt (session_behind past).asked.letters 8 ≡ true → newest_has_bulk [] past ≡ false
-no_bulk past h = bulk_free [] past (free_now (session_behind past).asked.kind (session_behind past).asked.letters h)
+pub no_bulk : (past : List Remark) → nat_lt (session_said past).asked.letters 8 ≡ true → newest_has_bulk [] past ≡ false
+no_bulk past h = bulk_free [] past (free_now (session_said past).asked.kind (session_said past).asked.letters h)

@@ -8,7 +8,7 @@ use Rattle.tds_state.specs.declared.asked.Request.TheVariants.{Batch, Procedure,
 use Rattle.tds_state.specs.declared.session.Session.{Session}
 use Rattle.tds_state.specs.declared.tracker.Tracker.{Tracker}
 use Rattle.tds_state.specs.Asking.{with_body}
-use Rattle.tds_state.specs.Hearing.{news_of}
+use Rattle.tds_state.specs.Hearing.{state_news}
 use Rattle.tds_state.specs.KeptBytes.{KeptBytes, no_bytes_kept}
 use Rattle.tds_state.specs.Sessions.{session_told, session_sent}
 use Rattle.tds_state.specs.Tracking.{is_needed, tracks}
@@ -61,7 +61,7 @@ cut (suc n) (y ∷ ys) a b = cut_with (is_needed y) n y ys a b
 pub token_cut : (t : Tracker) (first second : List ℕ) (token : Option Token) → tracks (tracks t first None) second token ≡ tracks t (first ++ second) token
 token_cut t first second None = ap (λ (xs : List ℕ). record t { partial = record t.partial { bytes = xs } }) (cut t.partial.most t.partial.bytes first second)
 token_cut t first second (Some token) =
-    ap (λ (xs : List ℕ). record t { session = session_told t.session (news_of token xs); partial = no_bytes_kept t.partial.most }) (cut t.partial.most t.partial.bytes first second)
+    ap (λ (xs : List ℕ). record t { session = session_told t.session (state_news token xs); partial = no_bytes_kept t.partial.most }) (cut t.partial.most t.partial.bytes first second)
 
 -- ---- Of a request's body
 

@@ -14,7 +14,7 @@ use Rattle.std.specs.List.{list_any}
 use Rattle.std.specs.Prelude.{◌==◌, nat_lt}
 use Rattle.tds_state.specs.KeptBytes.{KeptBytes, has_room, no_bytes_kept}
 use Rattle.tds_state.specs.Ledgers.{Ledger, back_if, begun_with, is_home, may_add, may_begin, value_noted, state_bytes, value_taken_in, with_initial_value}
-use Rattle.tds_state.specs.Pasts.{Remark, Begins, Goes, Cancels, Tells, Ends, IsInitial, Telling, first_states, first_values, newest_state, newest_value, owed_in, session_behind, telling_by, telling_if, was_asked}
+use Rattle.tds_state.specs.Pasts.{Remark, Begins, Goes, Cancels, Tells, Ends, IsInitial, Telling, first_states, first_values, newest_state, newest_value, owed_in, session_said, telling_by, telling_if, was_asked}
 use Rattle.tds_state.specs.Sessions.{all_noted, accepts_states, is_full_reset}
 use Rattle.tds_state.specs.States.{OneState, gives_value, last_value, later_of, states_listed, listed_in}
 use Rattle.tds_state.proofs.Bools.{neither}
@@ -96,8 +96,8 @@ back_length : (b : Bool) (l : Ledger) → length l.astray ≡ 256 → length (ba
 back_length true l h = length-replicate 256 false
 back_length false l h = h
 
-pub numbers : (past : List Remark) → length (session_behind past).states.astray ≡ 256
-unfolding session_behind
+pub numbers : (past : List Remark) → length (session_said past).states.astray ≡ 256
+unfolding session_said
 numbers [] = length-replicate 256 false
 numbers (Begins kind None ∷ past) = numbers past
 numbers (Begins kind (Some Full) ∷ past) = numbers past
@@ -106,11 +106,11 @@ numbers (Goes bytes ∷ past) = numbers past
 numbers (Cancels ∷ past) = numbers past
 numbers (Tells Unread ∷ past) = numbers past
 numbers (Tells Nothing ∷ past) = numbers past
-numbers (Tells (Recovery states) ∷ past) = begun_length (((session_behind past).is_login && not (session_behind past).is_acknowledged) && may_begin (session_behind past).states states) (session_behind past).states states ∙ numbers past
-numbers (Tells (States ok all) ∷ past) = all_noted_length (session_behind past).states ok all.states ∙ numbers past
+numbers (Tells (Recovery states) ∷ past) = begun_length (((session_said past).is_login && not (session_said past).is_acknowledged) && may_begin (session_said past).states states) (session_said past).states states ∙ numbers past
+numbers (Tells (States ok all) ∷ past) = all_noted_length (session_said past).states ok all.states ∙ numbers past
 numbers (Tells (Value type value) ∷ past) = numbers past
 numbers (Tells (Transaction descriptor) ∷ past) = numbers past
-numbers (Tells ResetDone ∷ past) = back_length (is_full_reset (session_behind past).owed) (session_behind past).states (numbers past)
+numbers (Tells ResetDone ∷ past) = back_length (is_full_reset (session_said past).owed) (session_said past).states (numbers past)
 numbers (Tells (Done kind status) ∷ past) = numbers past
 numbers (Ends ∷ past) = numbers past
 
@@ -123,8 +123,8 @@ empty_if : (b a : Bool) (l : Ledger) (states : List ℕ) → (b || a) ≡ false 
 empty_if true a l states h e = absurd (true≢false h)
 empty_if false a l states h e = e
 
-pub unacknowledged : (past : List Remark) → (session_behind past).is_acknowledged ≡ false → (session_behind past).states.initial.bytes ≡ []
-unfolding session_behind
+pub unacknowledged : (past : List Remark) → (session_said past).is_acknowledged ≡ false → (session_said past).states.initial.bytes ≡ []
+unfolding session_said
 unacknowledged [] h = refl
 unacknowledged (Begins kind None ∷ past) h = unacknowledged past h
 unacknowledged (Begins kind (Some Full) ∷ past) h = unacknowledged past h
@@ -133,11 +133,11 @@ unacknowledged (Goes bytes ∷ past) h = unacknowledged past h
 unacknowledged (Cancels ∷ past) h = unacknowledged past h
 unacknowledged (Tells Unread ∷ past) h = unacknowledged past h
 unacknowledged (Tells Nothing ∷ past) h = unacknowledged past h
-unacknowledged (Tells (Recovery states) ∷ past) h = empty_if (accepts_states (session_behind past) states) (session_behind past).is_acknowledged (session_behind past).states states h (unacknowledged past (neither (accepts_states (session_behind past) states) (session_behind past).is_acknowledged h).1)
-unacknowledged (Tells (States ok all) ∷ past) h = ap (λ (k : KeptBytes). k.bytes) (noted_initial (session_behind past).states ok all.states) ∙ unacknowledged past h
+unacknowledged (Tells (Recovery states) ∷ past) h = empty_if (accepts_states (session_said past) states) (session_said past).is_acknowledged (session_said past).states states h (unacknowledged past (neither (accepts_states (session_said past) states) (session_said past).is_acknowledged h).1)
+unacknowledged (Tells (States ok all) ∷ past) h = ap (λ (k : KeptBytes). k.bytes) (noted_initial (session_said past).states ok all.states) ∙ unacknowledged past h
 unacknowledged (Tells (Value type value) ∷ past) h = unacknowledged past h
 unacknowledged (Tells (Transaction descriptor) ∷ past) h = unacknowledged past h
-unacknowledged (Tells ResetDone ∷ past) h = ap (λ (k : KeptBytes). k.bytes) (back_initial (is_full_reset (session_behind past).owed) (session_behind past).states) ∙ unacknowledged past h
+unacknowledged (Tells ResetDone ∷ past) h = ap (λ (k : KeptBytes). k.bytes) (back_initial (is_full_reset (session_said past).owed) (session_said past).states) ∙ unacknowledged past h
 unacknowledged (Tells (Done kind status) ∷ past) h = unacknowledged past h
 unacknowledged (Ends ∷ past) h = unacknowledged past h
 
@@ -146,8 +146,8 @@ first_begins s states h = not-true s.is_acknowledged (and_parts s.is_login (not 
 
 -- ---- States
 
-pub state_home : (id : ℕ) (few : id < 256) (past : List Remark) → entry (session_behind past).states id ≡ false → IsInitial (session_behind past).states.initial.bytes id (newest_state id past)
-unfolding session_behind newest_state
+pub state_home : (id : ℕ) (few : id < 256) (past : List Remark) → entry (session_said past).states id ≡ false → IsInitial (session_said past).states.initial.bytes id (newest_state id past)
+unfolding session_said newest_state
 state_home id few [] h = tt
 state_home id few (Begins kind None ∷ past) h = state_home id few past h
 state_home id few (Begins kind (Some Full) ∷ past) h = state_home id few past h
@@ -156,16 +156,16 @@ state_home id few (Goes bytes ∷ past) h = state_home id few past h
 state_home id few (Cancels ∷ past) h = state_home id few past h
 state_home id few (Tells Unread ∷ past) h = state_home id few past h
 state_home id few (Tells Nothing ∷ past) h = state_home id few past h
-state_home id few (Tells (Recovery states) ∷ past) h = begun_home (accepts_states (session_behind past) states) (session_behind past).states states id (newest_state id past) (λ b. unacknowledged past (first_begins (session_behind past) states b)) (state_home id few past) h
+state_home id few (Tells (Recovery states) ∷ past) h = begun_home (accepts_states (session_said past) states) (session_said past).states states id (newest_state id past) (λ b. unacknowledged past (first_begins (session_said past) states b)) (state_home id few past) h
 state_home id few (Tells (States ok all) ∷ past) h =
-    let room : id < length (session_behind past).states.astray = omega (arith, few, numbers past) in
-    let home = told_home (last_value id all.states) ok (session_behind past).states id (newest_state id past) (state_home id few past) (sym (all_noted_at id (session_behind past).states ok all.states room) ∙ h) in
-    subst (λ (k : KeptBytes). IsInitial k.bytes id (telling_by (last_value id all.states) ok (newest_state id past))) (sym (noted_initial (session_behind past).states ok all.states)) home
+    let room : id < length (session_said past).states.astray = omega (arith, few, numbers past) in
+    let home = told_home (last_value id all.states) ok (session_said past).states id (newest_state id past) (state_home id few past) (sym (all_noted_at id (session_said past).states ok all.states room) ∙ h) in
+    subst (λ (k : KeptBytes). IsInitial k.bytes id (telling_by (last_value id all.states) ok (newest_state id past))) (sym (noted_initial (session_said past).states ok all.states)) home
 state_home id few (Tells (Value type value) ∷ past) h = state_home id few past h
 state_home id few (Tells (Transaction descriptor) ∷ past) h = state_home id few past h
 state_home id few (Tells ResetDone ∷ past) h =
-    let home = back_home (is_full_reset (session_behind past).owed) (session_behind past).states id (newest_state id past) (state_home id few past) h in
-    subst (λ (o : Option Reset). IsInitial (back_if (is_full_reset (session_behind past).owed) (session_behind past).states).initial.bytes id (telling_if (is_full_reset o) (newest_state id past))) (reset_owed past) home
+    let home = back_home (is_full_reset (session_said past).owed) (session_said past).states id (newest_state id past) (state_home id few past) h in
+    subst (λ (o : Option Reset). IsInitial (back_if (is_full_reset (session_said past).owed) (session_said past).states).initial.bytes id (telling_if (is_full_reset o) (newest_state id past))) (reset_owed past) home
 state_home id few (Tells (Done kind status) ∷ past) h = state_home id few past h
 state_home id few (Ends ∷ past) h = state_home id few past h
 
@@ -179,8 +179,8 @@ begun_bytes : (b : Bool) (l : Ledger) (states : List ℕ) → b ≡ true → may
 begun_bytes true l states is may = kept_whole l.initial.most states (and_parts (has_room (no_bytes_kept l.initial.most) (length states)) (states_listed states).is_whole may).0
 begun_bytes false l states is may = absurd (false≢true is)
 
-pub states_begun : (past : List Remark) → (session_behind past).is_lost ≡ false → (session_behind past).states.initial.bytes ≡ first_states past
-unfolding session_behind first_states
+pub states_begun : (past : List Remark) → (session_said past).is_lost ≡ false → (session_said past).states.initial.bytes ≡ first_states past
+unfolding session_said first_states
 states_begun [] h = refl
 states_begun (Begins kind None ∷ past) h = states_begun past h
 states_begun (Begins kind (Some Full) ∷ past) h = states_begun past h
@@ -190,12 +190,12 @@ states_begun (Cancels ∷ past) h = states_begun past h
 states_begun (Tells Unread ∷ past) h = absurd (true≢false h)
 states_begun (Tells Nothing ∷ past) h = states_begun past h
 states_begun (Tells (Recovery states) ∷ past) h =
-    let is = not-false (accepts_states (session_behind past) states) (neither (not (accepts_states (session_behind past) states)) (session_behind past).is_lost h).0 in
-    begun_bytes (accepts_states (session_behind past) states) (session_behind past).states states is (and_parts ((session_behind past).is_login && not (session_behind past).is_acknowledged) (may_begin (session_behind past).states states) is).1
-states_begun (Tells (States ok all) ∷ past) h = ap (λ (k : KeptBytes). k.bytes) (noted_initial (session_behind past).states ok all.states) ∙ states_begun past (neither (not all.is_whole) (session_behind past).is_lost h).1
-states_begun (Tells (Value type value) ∷ past) h = states_begun past (neither ((session_behind past).is_login && not (may_add (session_behind past).changes value)) (session_behind past).is_lost h).1
+    let is = not-false (accepts_states (session_said past) states) (neither (not (accepts_states (session_said past) states)) (session_said past).is_lost h).0 in
+    begun_bytes (accepts_states (session_said past) states) (session_said past).states states is (and_parts ((session_said past).is_login && not (session_said past).is_acknowledged) (may_begin (session_said past).states states) is).1
+states_begun (Tells (States ok all) ∷ past) h = ap (λ (k : KeptBytes). k.bytes) (noted_initial (session_said past).states ok all.states) ∙ states_begun past (neither (not all.is_whole) (session_said past).is_lost h).1
+states_begun (Tells (Value type value) ∷ past) h = states_begun past (neither ((session_said past).is_login && not (may_add (session_said past).changes value)) (session_said past).is_lost h).1
 states_begun (Tells (Transaction descriptor) ∷ past) h = states_begun past h
-states_begun (Tells ResetDone ∷ past) h = ap (λ (k : KeptBytes). k.bytes) (back_initial (is_full_reset (session_behind past).owed) (session_behind past).states) ∙ states_begun past h
+states_begun (Tells ResetDone ∷ past) h = ap (λ (k : KeptBytes). k.bytes) (back_initial (is_full_reset (session_said past).owed) (session_said past).states) ∙ states_begun past h
 states_begun (Tells (Done kind status) ∷ past) h = states_begun past h
 states_begun (Ends ∷ past) h = states_begun past h
 
@@ -209,10 +209,10 @@ none_any (b ∷ flags) (suc i) h = none_any flags i (neither b (list_any (λ (b 
 entry_home : (l : Ledger) (id : ℕ) → is_home l ≡ true → entry l id ≡ false
 entry_home l id h = none_any l.astray id (not-true (list_any (λ (b : Bool). b) l.astray) h)
 
-pub states_home : (past : List Remark) (id : ℕ) → id < 256 → (session_behind past).is_lost ≡ false → is_home (session_behind past).states ≡ true
+pub states_home : (past : List Remark) (id : ℕ) → id < 256 → (session_said past).is_lost ≡ false → is_home (session_said past).states ≡ true
     → IsInitial (first_states past) id (newest_state id past)
 states_home past id few read home =
-    subst (λ (xs : List ℕ). IsInitial xs id (newest_state id past)) (states_begun past read) (state_home id few past (entry_home (session_behind past).states id home))
+    subst (λ (xs : List ℕ). IsInitial xs id (newest_state id past)) (states_begun past read) (state_home id few past (entry_home (session_said past).states id home))
 
 -- ---- Values
 
@@ -223,8 +223,8 @@ taken_length true l type value = chosen (may_add l value) where
   chosen false = refl
 taken_length false l type value = noted_length l true type value
 
-pub types : (past : List Remark) → length (session_behind past).changes.astray ≡ 256
-unfolding session_behind
+pub types : (past : List Remark) → length (session_said past).changes.astray ≡ 256
+unfolding session_said
 types [] = length-replicate 256 false
 types (Begins kind None ∷ past) = types past
 types (Begins kind (Some Full) ∷ past) = types past
@@ -235,9 +235,9 @@ types (Tells Unread ∷ past) = types past
 types (Tells Nothing ∷ past) = types past
 types (Tells (Recovery states) ∷ past) = types past
 types (Tells (States ok all) ∷ past) = types past
-types (Tells (Value type value) ∷ past) = taken_length (session_behind past).is_login (session_behind past).changes type value ∙ types past
+types (Tells (Value type value) ∷ past) = taken_length (session_said past).is_login (session_said past).changes type value ∙ types past
 types (Tells (Transaction descriptor) ∷ past) = types past
-types (Tells ResetDone ∷ past) = back_length (is_full_reset (session_behind past).owed) (session_behind past).changes (types past)
+types (Tells ResetDone ∷ past) = back_length (is_full_reset (session_said past).owed) (session_said past).changes (types past)
 types (Tells (Done kind status) ∷ past) = types past
 types (Ends ∷ past) = types past
 
@@ -275,8 +275,8 @@ value_taken false true l other type value before is few none home h =
     subst (λ (o : Option Telling). IsInitial (value_taken_in true l other value).initial.bytes type o) (sym (none refl)) tt
 value_taken false false l other type value before is few none home h = absurd (false≢true is)
 
-pub value_home : (type : ℕ) (few : type < 256) (past : List Remark) → entry (session_behind past).changes type ≡ false → IsInitial (session_behind past).changes.initial.bytes type (newest_value type past)
-unfolding session_behind newest_value
+pub value_home : (type : ℕ) (few : type < 256) (past : List Remark) → entry (session_said past).changes type ≡ false → IsInitial (session_said past).changes.initial.bytes type (newest_value type past)
+unfolding session_said newest_value
 value_home type few [] h = tt
 value_home type few (Begins kind None ∷ past) h = value_home type few past h
 value_home type few (Begins kind (Some Full) ∷ past) h = value_home type few past h
@@ -288,12 +288,12 @@ value_home type few (Tells Nothing ∷ past) h = value_home type few past h
 value_home type few (Tells (Recovery states) ∷ past) h = value_home type few past h
 value_home type few (Tells (States ok all) ∷ past) h = value_home type few past h
 value_home type few (Tells (Value other value) ∷ past) h =
-    let room : type < length (session_behind past).changes.astray = omega (arith, few, types past) in
-    value_taken (was_asked past) (session_behind past).is_login (session_behind past).changes other type value (newest_value type past) (at_login past) room (none_at_login type past) (value_home type few past) h
+    let room : type < length (session_said past).changes.astray = omega (arith, few, types past) in
+    value_taken (was_asked past) (session_said past).is_login (session_said past).changes other type value (newest_value type past) (at_login past) room (none_at_login type past) (value_home type few past) h
 value_home type few (Tells (Transaction descriptor) ∷ past) h = value_home type few past h
 value_home type few (Tells ResetDone ∷ past) h =
-    let home = back_home (is_full_reset (session_behind past).owed) (session_behind past).changes type (newest_value type past) (value_home type few past) h in
-    subst (λ (o : Option Reset). IsInitial (back_if (is_full_reset (session_behind past).owed) (session_behind past).changes).initial.bytes type (telling_if (is_full_reset o) (newest_value type past))) (reset_owed past) home
+    let home = back_home (is_full_reset (session_said past).owed) (session_said past).changes type (newest_value type past) (value_home type few past) h in
+    subst (λ (o : Option Reset). IsInitial (back_if (is_full_reset (session_said past).owed) (session_said past).changes).initial.bytes type (telling_if (is_full_reset o) (newest_value type past))) (reset_owed past) home
 value_home type few (Tells (Done kind status) ∷ past) h = value_home type few past h
 value_home type few (Ends ∷ past) h = value_home type few past h
 
@@ -304,8 +304,8 @@ taken_most true l type value = chosen (may_add l value) where
   chosen false = refl
 taken_most false l type value = refl
 
-pub values_room : (past : List Remark) → (session_behind past).changes.initial.most ≡ 1024
-unfolding session_behind
+pub values_room : (past : List Remark) → (session_said past).changes.initial.most ≡ 1024
+unfolding session_said
 values_room [] = refl
 values_room (Begins kind None ∷ past) = values_room past
 values_room (Begins kind (Some Full) ∷ past) = values_room past
@@ -316,9 +316,9 @@ values_room (Tells Unread ∷ past) = values_room past
 values_room (Tells Nothing ∷ past) = values_room past
 values_room (Tells (Recovery states) ∷ past) = values_room past
 values_room (Tells (States ok all) ∷ past) = values_room past
-values_room (Tells (Value type value) ∷ past) = taken_most (session_behind past).is_login (session_behind past).changes type value ∙ values_room past
+values_room (Tells (Value type value) ∷ past) = taken_most (session_said past).is_login (session_said past).changes type value ∙ values_room past
 values_room (Tells (Transaction descriptor) ∷ past) = values_room past
-values_room (Tells ResetDone ∷ past) = ap (λ (k : KeptBytes). k.most) (back_initial (is_full_reset (session_behind past).owed) (session_behind past).changes) ∙ values_room past
+values_room (Tells ResetDone ∷ past) = ap (λ (k : KeptBytes). k.most) (back_initial (is_full_reset (session_said past).owed) (session_said past).changes) ∙ values_room past
 values_room (Tells (Done kind status) ∷ past) = values_room past
 values_room (Ends ∷ past) = values_room past
 
@@ -338,8 +338,8 @@ value_begun false true l type value before is fits e =
     ap (λ (b : Bool). (cond b (with_initial_value l type value) l).initial.bytes) may ∙ (added_whole l type value may ∙ ap (λ (xs : List ℕ). xs ++ state_bytes type value) e)
 value_begun false false l type value before is fits e = absurd (false≢true is)
 
-pub values_begun : (past : List Remark) → (session_behind past).is_lost ≡ false → (session_behind past).changes.initial.bytes ≡ first_values past
-unfolding session_behind first_values
+pub values_begun : (past : List Remark) → (session_said past).is_lost ≡ false → (session_said past).changes.initial.bytes ≡ first_values past
+unfolding session_said first_values
 values_begun [] h = refl
 values_begun (Begins kind None ∷ past) h = values_begun past h
 values_begun (Begins kind (Some Full) ∷ past) h = values_begun past h
@@ -348,17 +348,17 @@ values_begun (Goes bytes ∷ past) h = values_begun past h
 values_begun (Cancels ∷ past) h = values_begun past h
 values_begun (Tells Unread ∷ past) h = absurd (true≢false h)
 values_begun (Tells Nothing ∷ past) h = values_begun past h
-values_begun (Tells (Recovery states) ∷ past) h = values_begun past (neither (not (accepts_states (session_behind past) states)) (session_behind past).is_lost h).1
-values_begun (Tells (States ok all) ∷ past) h = values_begun past (neither (not all.is_whole) (session_behind past).is_lost h).1
+values_begun (Tells (Recovery states) ∷ past) h = values_begun past (neither (not (accepts_states (session_said past) states)) (session_said past).is_lost h).1
+values_begun (Tells (States ok all) ∷ past) h = values_begun past (neither (not all.is_whole) (session_said past).is_lost h).1
 values_begun (Tells (Value type value) ∷ past) h =
-    let parts = neither ((session_behind past).is_login && not (may_add (session_behind past).changes value)) (session_behind past).is_lost h in
-    value_begun (was_asked past) (session_behind past).is_login (session_behind past).changes type value (first_values past) (at_login past) parts.0 (values_begun past parts.1)
+    let parts = neither ((session_said past).is_login && not (may_add (session_said past).changes value)) (session_said past).is_lost h in
+    value_begun (was_asked past) (session_said past).is_login (session_said past).changes type value (first_values past) (at_login past) parts.0 (values_begun past parts.1)
 values_begun (Tells (Transaction descriptor) ∷ past) h = values_begun past h
-values_begun (Tells ResetDone ∷ past) h = ap (λ (k : KeptBytes). k.bytes) (back_initial (is_full_reset (session_behind past).owed) (session_behind past).changes) ∙ values_begun past h
+values_begun (Tells ResetDone ∷ past) h = ap (λ (k : KeptBytes). k.bytes) (back_initial (is_full_reset (session_said past).owed) (session_said past).changes) ∙ values_begun past h
 values_begun (Tells (Done kind status) ∷ past) h = values_begun past h
 values_begun (Ends ∷ past) h = values_begun past h
 
-pub values_home : (past : List Remark) (type : ℕ) → type < 256 → (session_behind past).is_lost ≡ false → is_home (session_behind past).changes ≡ true
+pub values_home : (past : List Remark) (type : ℕ) → type < 256 → (session_said past).is_lost ≡ false → is_home (session_said past).changes ≡ true
     → IsInitial (first_values past) type (newest_value type past)
 values_home past type few read home =
-    subst (λ (xs : List ℕ). IsInitial xs type (newest_value type past)) (values_begun past read) (value_home type few past (entry_home (session_behind past).changes type home))
+    subst (λ (xs : List ℕ). IsInitial xs type (newest_value type past)) (values_begun past read) (value_home type few past (entry_home (session_said past).changes type home))

@@ -108,5 +108,5 @@ news_by told.Unclear token bytes = if (token.kind == 0xE3) || (token.kind == 0xE
 news_by told.Other token bytes = if token.kind == 0xAE then news_of_features token bytes else Nothing
 
 -- this token, with these bytes
-abbrev pub news_of : Token → List ℕ → Heard
-news_of token bytes = news_by token.told token bytes
+abbrev pub state_news : Token → List ℕ → Heard
+state_news token bytes = news_by token.told token bytes

@@ -30,9 +30,9 @@ remarked s Cancels = session_cancelled s
 remarked s (Tells heard) = session_told s heard
 remarked s Ends = session_ended s
 
-unfoldable pub session_behind : List Remark → Session
-session_behind [] = session_at_login
-session_behind (r ∷ past) = remarked (session_behind past) r
+unfoldable pub session_said : List Remark → Session
+session_said [] = session_at_login
+session_said (r ∷ past) = remarked (session_said past) r
 
 -- ---- The server tells its states (MS-TDS 2.2.7.11, 2.2.7.21)
 

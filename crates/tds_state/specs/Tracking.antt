@@ -2,7 +2,7 @@
 use Rattle.std.specs.Prelude.{ℕ, ◌-◌, ◌==◌, ◌||◌, Bool, List, ◌++◌, length, take, get_or, Option, Some, None, if◌then◌else◌}
 use Rattle.tds_wire.specs.declared.told.Token.{Token}
 use Rattle.tds_state.specs.declared.tracker.Tracker.{Tracker}
-use Rattle.tds_state.specs.Hearing.{news_of}
+use Rattle.tds_state.specs.Hearing.{state_news}
 use Rattle.tds_state.specs.KeptBytes.{KeptBytes, no_bytes_kept, with_more_kept}
 use Rattle.tds_state.specs.Sessions.{session_told, session_at_login}
 
@@ -23,6 +23,6 @@ with_bytes k more = with_more_kept k (needed k more)
 abbrev pub tracks : Tracker → List ℕ → Option Token → Tracker
 tracks t bytes None = record t { partial = with_bytes t.partial bytes }
 tracks t bytes (Some token) = record {
-  session = session_told t.session (news_of token (with_bytes t.partial bytes).bytes);
+  session = session_told t.session (state_news token (with_bytes t.partial bytes).bytes);
   partial = no_bytes_kept t.partial.most;
 }

@@ -2,7 +2,7 @@
 
 ghost use Rattle.std.specs.Prelude.{◌≡◌, ◌≤◌, IfOk, length};
 ghost use Rattle.tds_state.specs.Hearing as hearing;
-ghost use Rattle.tds_state.specs.Hearing.{news_of, is_kept_whole};
+ghost use Rattle.tds_state.specs.Hearing.{state_news, is_kept_whole};
 ghost use Rattle.tds_state.specs.Sessions.{all_noted, session_asked, awaits_by, session_cancelled, ended_flight, session_ended, session_told, has_nothing_due, is_followed, has_nothing_open, is_full_reset, is_owed, is_quiet, is_told_home, keeps_open, transaction_left, session_at_login, reset_owed_by, session_rests, session_sent, flight_stopped};
 ghost use Rattle.tds_state.specs.States.{states_listed};
 
@@ -231,7 +231,7 @@ impl Session {
 
     /// A token of an answer has come, of which these bytes are kept.
     pub(crate) fn hear(&mut self, token: &Token, bytes: &[u8])
-        ensures { self.new ≡ session_told self.old (news_of token.now bytes.now) }
+        ensures { self.new ≡ session_told self.old (state_news token.now bytes.now) }
     {
         match token.told {
             Told::Done(done) => self.hear_done(token.kind, done.status),
@@ -285,7 +285,8 @@ impl Session {
     }
 
     fn hear_value(&mut self, kind: u8, token: &Token, bytes: &[u8])
-        ensures { self.new ≡ session_told self.old (hearing.news_of_value kind token.now bytes.now) }
+        ensures { self.new
+            ≡ session_told self.old (hearing.news_of_value kind token.now bytes.now) }
     {
         if !has_value(kind) {
             return;

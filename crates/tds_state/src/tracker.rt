@@ -96,7 +96,8 @@ impl Tracker {
 
     /// A request begins, whose first packet asks for this reset.
     pub fn ask(&mut self, kind: Request, reset: Option<Reset>)
-        ensures { self.new ≡ record self.old { session = session_asked self.old.session kind reset } }
+        ensures { self.new
+            ≡ record self.old { session = session_asked self.old.session kind reset } }
     {
         self.session.ask(kind, reset);
     }
