@@ -201,14 +201,20 @@ class Client:
             raise Fault(_WANTS_BYTES)
         return self._hear(bytes(packet), _HEADER, packet[1] & 1)
 
+    def follow(self, packet: bytes) -> Answer:
+        """The same, where nobody wants the tokens: for who reads rows by a reader of his own, and wants the client's state alone."""
+        if len(packet) < _HEADER:
+            raise Fault(_WANTS_BYTES)
+        return self._hear(bytes(packet), _HEADER, packet[1] & 1, False).answer
+
     def hear_data(self, data: bytes, ends: bool) -> Heard:
         """The same of a packet's data, behind its header, or of a piece of them; `ends` is bit 1 of the packet's status, with its
         last piece."""
         return self._hear(bytes(data), 0, ends)
 
-    def _hear(self, data: bytes, at: int, ends: int) -> Heard:
+    def _hear(self, data: bytes, at: int, ends: int, tells: bool = True) -> Heard:
         # It is `walk.tokens`, `heard` and `message_ended`, for 256 tokens in one call.
-        answer, told = hears(partial(LIBRARY.tds_client_hear, byref(self._value)), self.walk, data, at, ends)
+        answer, told = hears(partial(LIBRARY.tds_client_hear, byref(self._value)), self.walk, data, at, ends, tells=tells)
         return Heard(Answer(answer), told)
 
     def message_ended(self) -> Answer:

@@ -170,10 +170,18 @@ class Service:
     def hear(self, number: int, packet: bytes) -> Came:
         """Hears one packet on the connection of this number, whoever holds it, as `Client.hear`; a connection that drained is free
         behind ACKNOWLEDGED."""
+        return self._hear(number, packet, True)
+
+    def follow(self, number: int, packet: bytes) -> Came:
+        """The same, where nobody wants the tokens."""
+        return self._hear(number, packet, False)
+
+    def _hear(self, number: int, packet: bytes, tells: bool) -> Came:
         if len(packet) < _HEADER:
             raise Fault(_WANTS_BYTES)
         whose, table = WhoseValue(), (byref(self._value), self._seats, self._most, _number(number))
-        answer, told = hears(partial(LIBRARY.tds_service_hear, *table), self.walk(number), bytes(packet), _HEADER, packet[1] & 1, byref(whose))
+        answer, told = hears(
+            partial(LIBRARY.tds_service_hear, *table), self.walk(number), bytes(packet), _HEADER, packet[1] & 1, byref(whose), tells=tells)
         return Came(whose.lease, whose.request, Answer(answer), told)
 
     def logged_in(self, number: int, size: int, walk: Optional[Walk] = None) -> None:

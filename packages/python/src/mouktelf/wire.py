@@ -129,15 +129,16 @@ class Walk:
         LIBRARY.tds_wire_restart(byref(self._value), byref(self._memory))
 
 
-def hears(call, walk: Walk, data: bytes, at: int, ends: int, *whose) -> Tuple[int, List[Walked]]:
+def hears(call, walk: Walk, data: bytes, at: int, ends: int, *whose, tells: bool = True) -> Tuple[int, List[Walked]]:
     """Lets a client or a table hear what ends in these data from a place on, by this walk and by `call`, in one call for 256 tokens:
-    what it answers, and the tokens that are told. A Fault has those that were told before it."""
+    what it answers, and the tokens that are told, unless nobody wants them. A Fault has those that were told before it."""
     room, told, answer = ROOM, [], _TELL
     first, value, memory = address_of(data), byref(walk._value), byref(walk._memory)
     taken, count = byref(room.taken), byref(room.count)
     while answer == _TELL:
         answer = call(value, memory, c_char_p(first + at), len(data) - at, ends, taken, room.tokens, AT_ONCE, count, *whose)
-        told += room.told(room.count.value)
+        if tells:
+            told += room.told(room.count.value)
         at += room.taken.value
     if answer < _FIRST_FAULT:
         return answer or _MORE, told
