@@ -10,8 +10,8 @@ ghost use Rattle.tds_state.specs.declared.session.Session.{Session};
 ghost use Rattle.tds_state.specs.declared.tracker.Tracker.{Tracker};
 ghost use Rattle.tds_wire.specs.declared.told.Token.{Token};
 
-/// The login acknowledged session recovery, each SESSIONSTATE could be read, none had the last number, and
-/// there was room for the initial states.
+/// A session rests only where the login acknowledged session recovery, each SESSIONSTATE could be read, none
+/// had the last number, and there was room for the initial states.
 pub fn only_where_all_is_told()
     ensures acknowledged { (past : List Remark) → session_rests (session_said past) ≡ true
         → was_acknowledged past ≡ true }
@@ -19,14 +19,14 @@ pub fn only_where_all_is_told()
         → was_all_read past ≡ true }
 {}
 
-/// The newest SESSIONSTATE since the last full reset said that the session can be recovered.
+/// Only where the newest SESSIONSTATE since the last full reset said that the session can be recovered.
 pub fn only_where_it_can_be_recovered()
     ensures { (past : List Remark) → session_rests (session_said past) ≡ true
         → newest_is_recoverable past ≡ true }
 {}
 
-/// The newest telling of each state since the last full reset can be recovered, and has the value that the
-/// login's answer gave it; and so has each value that ENVCHANGE told.
+/// Only where the newest telling of each state since the last full reset can be recovered, and has the value
+/// that the login's answer gave it; and so has each value that ENVCHANGE told.
 pub fn only_where_all_is_initial()
     ensures states { (past : List Remark) (id : ℕ) → session_rests (session_said past) ≡ true
         → id < 256 → IsInitial (first_states past) id (newest_state id past) }
@@ -34,7 +34,7 @@ pub fn only_where_all_is_initial()
         → type < 256 → IsInitial (first_values past) type (newest_value type past) }
 {}
 
-/// No transaction is open, no reset is owed, and none that kept a transaction was the last one.
+/// Only where no transaction is open, no reset is owed, and the last one kept no transaction.
 pub fn only_behind_a_reset()
     ensures transaction { (past : List Remark) → session_rests (session_said past) ≡ true
         → open_transaction past ≡ 0 }
@@ -44,8 +44,8 @@ pub fn only_behind_a_reset()
         → was_kept past ≡ false }
 {}
 
-/// Since a full reset was asked for, each call was of `sp_executesql` or of a plain name, none was cancelled,
-/// and no answer said that another call followed in its message.
+/// Only where, since a full reset was asked for, each call was of `sp_executesql` or of a plain name, none was
+/// cancelled, and no answer said that another call followed in its message.
 pub fn only_behind_harmless_calls()
     ensures harmless { (past : List Remark) → session_rests (session_said past) ≡ true
         → are_harmless [] past ≡ true }
@@ -55,8 +55,8 @@ pub fn only_behind_harmless_calls()
         → was_followed past ≡ false }
 {}
 
-/// A message of the server's has ended behind the newest request, which wasn't cancelled, and isn't a batch in
-/// which `bulk` stands.
+/// Only where a message of the server's has ended behind the newest request, which wasn't cancelled, and isn't
+/// a batch in which `bulk` stands.
 pub fn only_behind_a_whole_answer()
     ensures ended { (past : List Remark) → session_rests (session_said past) ≡ true
         → answer_has_ended past ≡ true }
