@@ -1,11 +1,11 @@
 -- What was found of a row's first bytes stays as others come behind them.
-use Rattle.std.proofs.Common.{◌≡◌, ◌∙◌, ◌≤◌, ◌<◌, ℕ, zero, suc, ◌+◌, ◌-◌, ◌*◌, ◌==◌, ◌&&◌, ◌||◌, Bool, true, false, List, [], ◌∷◌, ◌++◌, length, drop, get_or, if◌then◌else◌, ◌⊎◌, inl, inr, refl, sym, ap, subst, arith, rules}
+use Rattle.std.proofs.Common.{◌≡◌, ◌∙◌, ◌≤◌, ◌<◌, ℕ, zero, suc, ◌+◌, ◌-◌, ◌*◌, ◌==◌, ◌&&◌, ◌||◌, Bool, true, false, List, [], ◌∷◌, ◌++◌, length, drop, get_or, if◌then◌else◌, ◌⊎◌, inl, inr, refl, sym, ap, arith}
 use Rattle.std.proofs.Math.ListN.{get_or-append}
 use Rattle.std.proofs.lemmas.Bool.{cases_lt}
 use Rattle.std.proofs.lemmas.List.{length-append, length-drop}
 use Rattle.tds_wire.specs.declared.shape.Shape.{Shape}
 use Rattle.tds_wire.specs.declared.shape.Shape.TheVariants as shape
-use Rattle.tds_wire.specs.Layout.{Read, Got, Short, Wrong, ◌>>=◌, is_null, long_value, parts, run, value, value_in_parts}
+use Rattle.tds_wire.specs.Layout.{Read, Got, Short, Wrong, ◌>>=◌, is_null, long_value, parts, run, value}
 use Rattle.tds_rows.specs.declared.place.Place.{Place}
 use Rattle.tds_rows.specs.Places.{column_value_at, four_from, is_absent, lead, no_value, null_mark, value_closing, value_place, values_placed, value_at}
 use Rattle.tds_rows.proofs.Divided.{Takes, around, value_takes}
