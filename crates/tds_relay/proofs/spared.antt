@@ -1,7 +1,9 @@
 pub mod Apart
 pub mod Aside
+pub mod Closings
 pub mod Held
 pub mod Letting
+pub mod Lines
 pub mod Ordered
 pub mod Resting
 pub mod Starting

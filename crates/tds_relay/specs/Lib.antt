@@ -5,6 +5,7 @@ pub mod Away
 pub mod Behind
 pub mod Bodies
 pub mod Bounds
+pub mod Closings
 pub mod Cutting
 pub mod Desk
 pub mod Faults
