@@ -9,7 +9,7 @@ use Rattle.tds_relay.proofs.spared.Resting.{go_both, none_go, go_refl}
 use Rattle.tds_relay.proofs.steps.Renaming.{first_called}
 use Rattle.tds_relay.specs.Posts.{names_of}
 use Rattle.tds_relay.proofs.spared.Ordered.{ordered_both}
-use Rattle.tds_relay.proofs.spared.Closings.{closes_both, closes_brought, closes_nobody, closes_with}
+use Rattle.tds_relay.proofs.spared.Closings.{closes_both, closes_brought, closes_more, closes_nobody}
 use Rattle.tds_relay.proofs.spared.Lines.{waited}
 use Rattle.tds_relay.specs.Closings.{IsWaiting, Nobody}
 use Rattle.tds_relay.proofs.relay.Relay.bring.Goals as goal
@@ -85,7 +85,11 @@ pub returns-clause-kept : goal.returns-clause-kept
 returns-clause-kept c = c.in_ok-serve_line.ensures.kept ∙ c.in_ok-send_unheld.ensures.kept
 
 pub returns-clause-closes : goal.returns-clause-closes
-returns-clause-closes c = closes_both (IsWaiting (desk_in c.args.self.now.desk).line) _ _ _ FIRST (closes_more (IsWaiting (desk_in c.send_unheld.new.self.desk).line) (IsWaiting (desk_in c.args.self.now.desk).line) _ _ _
-    (λ key. waited Neither (desk_in c.args.self.now.desk) (desk_in c.send_unheld.new.self.desk) key (λ none. none)
-    (λ from h. c.in_ok-send_unheld.ensures.goes Neither from (reaches_turn Neither from _ _ _ _ _ c.in_ok-left.ensures.turns.2 refl h))) c.in_ok-serve_line.ensures.closes)
-    (closes_nobody (IsWaiting (desk_in c.args.self.now.desk).line) _ _ (closes_both Nobody _ _ _ (closes_brought Nobody _ _ _ refl refl refl c.in_ok-push.ensures.items refl refl) c.in_ok-send_unheld.ensures.closes))
+returns-clause-closes c =
+    let old = desk_in c.args.self.now.desk in
+    let mid = desk_in c.send_unheld.new.self.desk in
+    closes_both (IsWaiting old.line) _ _ _
+    (closes_nobody (IsWaiting old.line) _ _ (closes_both Nobody _ _ _ (closes_brought Nobody _ _ _ refl refl refl c.in_ok-push.ensures.items refl refl) c.in_ok-send_unheld.ensures.closes))
+    (closes_more (IsWaiting mid.line) (IsWaiting old.line) _ _
+    (λ key. waited Neither old mid key (λ none. none) (λ from h. c.in_ok-send_unheld.ensures.goes Neither from (reaches_turn Neither from _ _ _ _ _ c.in_ok-left.ensures.turns.2 refl h)))
+    c.in_ok-serve_line.ensures.closes)

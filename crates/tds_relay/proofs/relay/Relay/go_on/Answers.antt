@@ -74,7 +74,7 @@ returns-then-not-branch-clause-closes c = closes_on c.expel-then-not-branch.resu
 
 pub returns-else-not-branch-clause-closes : goal.returns-else-not-branch-clause-closes
 returns-else-not-branch-clause-closes c = closes_on c.seek.result (Itself c.args.key) _ _ _ c.seek.ensures.closes
-    (closes_kept (Itself c.args.key) _ _ (ends_kept c.args.self.now.applications c.args.key c.in-Some.application.now c.keep.new.self c.in-Some.ensures.value c.keep.ensures.end) (ap names_of (posts_kept c.args.self.now.applications c.args.key c.in-Some.application.now c.keep.new.self c.in-Some.ensures.value c.keep.ensures.post)) refl (sees_refl c.args.self.now.links.items) (ordered_refl c.args.self.now.orders.items))
+    (closes_kept (Itself c.args.key) _ _ (ends_kept c.args.self.now.applications c.args.key c.in-Some.application.now _ c.in-Some.ensures.value c.keep.ensures.end) (ap names_of (posts_kept c.args.self.now.applications c.args.key c.in-Some.application.now _ c.in-Some.ensures.value c.keep.ensures.post)) refl (sees_refl c.args.self.now.links.items) (ordered_refl c.args.self.now.orders.items))
 
 pub returns-in-Goes-clause-closes : goal.returns-in-Goes-clause-closes
 returns-in-Goes-clause-closes c = closes_on c.put.result (Itself c.args.key) _ _ _ c.put.ensures.closes

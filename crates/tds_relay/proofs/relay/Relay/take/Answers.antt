@@ -18,7 +18,7 @@ use Rattle.tds_relay.proofs.steps.Carried.{carries_deaf, carries_fed, carries_mo
 use Rattle.tds_relay.proofs.steps.Renaming.{names_given}
 use Rattle.tds_relay.specs.Posts.{names_of}
 use Rattle.tds_relay.proofs.spared.Ordered.{ordered_refl}
-use Rattle.tds_relay.proofs.spared.Closings.{closes_both, closes_kept, closes_on, closes_written, sees_refl}
+use Rattle.tds_relay.proofs.spared.Closings.{closes_both, closes_kept, closes_written, sees_refl}
 use Rattle.tds_relay.specs.Closings.{Itself}
 use Rattle.tds_relay.proofs.relay.Relay.take.Goals as goal
 
@@ -148,8 +148,8 @@ pub returns-then-application-clause-closes : goal.returns-then-application-claus
 returns-then-application-clause-closes c = closes_kept (Itself c.args.key) _ _ (ends_kept c.args.self.now.applications c.args.key c.in-Some.application.now c.in-Some.application.now c.in-Some.ensures.value refl) (ap names_of (posts_kept c.args.self.now.applications c.args.key c.in-Some.application.now c.in-Some.application.now c.in-Some.ensures.value refl)) refl (sees_refl c.args.self.now.links.items) (ordered_refl c.args.self.now.orders.items)
 
 pub returns-in-Err-clause-closes : goal.returns-in-Err-clause-closes
-returns-in-Err-clause-closes c = closes_on c.expel_for.result (Itself c.args.key) _ _ _ c.expel_for.ensures.closes
-    (closes_written (Itself c.args.key) c.args.self.now.applications c.args.key c.in-Some.application.now c.feed.new.self _ _ c.in-Some.ensures.value c.feed.ensures.over refl refl (ap names_of (posts_kept c.args.self.now.applications c.args.key c.in-Some.application.now c.feed.new.self c.in-Some.ensures.value c.feed.ensures.post)) refl (sees_refl c.args.self.now.links.items) (ordered_refl c.args.self.now.orders.items))
+returns-in-Err-clause-closes c = closes_both (Itself c.args.key) _ _ _
+    (closes_written (Itself c.args.key) c.args.self.now.applications c.args.key c.in-Some.application.now c.feed.new.self _ _ c.in-Some.ensures.value c.feed.ensures.over refl refl (ap names_of (posts_kept c.args.self.now.applications c.args.key c.in-Some.application.now c.feed.new.self c.in-Some.ensures.value c.feed.ensures.post)) refl (sees_refl c.args.self.now.links.items) (ordered_refl c.args.self.now.orders.items)) c.in_ok-expel_for-in-Err.ensures.closes
 
 pub returns-clause-closes : goal.returns-clause-closes
 returns-clause-closes c = closes_both (Itself c.args.key) _ _ _ (closes_written (Itself c.args.key) c.args.self.now.applications c.args.key c.in-Some.application.now c.feed.new.self _ _ c.in-Some.ensures.value c.feed.ensures.over refl refl (ap names_of (posts_kept c.args.self.now.applications c.args.key c.in-Some.application.now c.feed.new.self c.in-Some.ensures.value c.feed.ensures.post)) refl (sees_refl c.args.self.now.links.items) (ordered_refl c.args.self.now.orders.items))
