@@ -5,6 +5,7 @@ pub mod Away
 pub mod Behind
 pub mod Bodies
 pub mod Bounds
+pub mod Coming
 pub mod Cutting
 pub mod Desk
 pub mod Faults
@@ -26,4 +27,5 @@ pub mod Taking
 pub mod Telling
 pub mod Ties
 pub mod Told
+pub mod Waking
 pub mod Walkers

@@ -273,6 +273,7 @@ impl Relay {
     fn wait(&mut self, key: usize) -> Result<(), NoMemory>
         ensures goes { OnOk result ((by : Cause) → CausesRequest by key
             → Goes by (desk_in self.old.desk) (desk_in self.new.desk)) }
+        ensures orders { self.new.orders.items ≡ self.old.orders.items }
         ensures kept { posts_in self.new.applications ≡ posts_in self.old.applications }
         ensures moves { OnOk result ((by : Cause) → CausesRequest by key
             → Moved by (hall_in self.old) (hall_in self.new)) }

@@ -20,6 +20,10 @@ pub ordered_on : {A E : Type 0} (r : Result A E) (a b c : List Order) → OnOk r
 ordered_on (Ok x) a b c k h = ordered_both a b c h k
 ordered_on (Err e) a b c k h = tt
 
+-- nothing is ordered in between
+pub ordered_more : (a b c d : List Order) → StayOrdered a b → c ≡ b → StayOrdered c d → StayOrdered a d
+ordered_more a b c d h same k = ordered_both a c d (ordered_both a b c h (ordered_same b c same)) k
+
 closing_by : (b : Bool) (x : Order) (all : List Order) → StayOrdered all (if b then all else all ++ x ∷ [])
 closing_by true x all = ordered_refl all
 closing_by false x all = (x ∷ [], refl)

@@ -12,6 +12,7 @@ ghost use Rattle.tds_relay.specs.Reads.{FillsBy, Sees, Stays, waits_on};
 ghost use Rattle.tds_relay.specs.Sparing.{AllRest, SendsOn};
 ghost use Rattle.tds_relay.specs.Ties.{GoesOn, IsReached, Neither, desk_in};
 ghost use Rattle.tds_relay.specs.Told.{TellsTheSame, held_name, holder_name, is_there};
+ghost use Rattle.tds_relay.specs.Waking.{IsWoken};
 ghost use Rattle.tds_relay.specs.Walkers.{AllStand};
 ghost use Rattle.tds_relay.specs.declared.outgoing.TheConstants.{PIECE};
 
@@ -130,6 +131,8 @@ impl Relay {
         ensures moves { OnOk result (MovedOn (hall_in self.old) (hall_in self.new)) }
         ensures links { OnOk result (self.new.links.items ≡ self.old.links.items) }
         ensures asks { OnOk result (AskOn self.old.applications self.new.applications) }
+        ensures ordered { OnOk result (StayOrdered self.old.orders.items self.new.orders.items) }
+        ensures wakes { OnOk result (IsWoken key self.new.applications self.new.orders.items) }
     {
         let Some(application) = self.applications.get(key) else {
             return Ok(());
