@@ -118,6 +118,7 @@ impl Relay {
         ensures nothing { IfOk result (λ key. (body_of key self.new ≡ Nowhere)
             × (begun_in (get self.new.applications key) ≡ 0)) }
         ensures tells { TellsTheSame self.old self.new }
+        ensures orders { self.new.orders.items ≡ self.old.orders.items }
     {
         let application = Application::new(self.alloc, tag, self.size);
         let Ok(key) = self.applications.insert(application) else {

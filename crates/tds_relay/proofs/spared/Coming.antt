@@ -115,7 +115,7 @@ go_along (Err e) old new reached h = tt
 
 pub start_along : {A E : Type 0} (r : Result A E) (key : ℕ) (old new : code.Relay) → IsReached (desk_in old.desk) → OnOk r (Starts (body_of key old) (body_of key new)) → (IsReached (desk_in old.desk) → OnOk r (OthersRest key old new))
     → OnOk r (AllAlong old new)
-start_along (Ok x) key old new reached own others = go_along (Ok x) old new reached (go_one key old new own others)
+start_along (Ok x) key old new reached own others = record { along = λ k. Begins ((go_one key old new own others).go reached k) Ends }
 start_along (Err e) key old new reached own others = tt
 
 pub body_along : {A E : Type 0} (r : Result A E) (a b c : code.Relay) → AllAlong a b → ((key : ℕ) → body_of key c ≡ body_of key b) → OnOk r (AllAlong a c)

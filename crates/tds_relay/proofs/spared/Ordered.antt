@@ -33,6 +33,11 @@ pub closing_stays : (o : Option Application) (all : List Order) → StayOrdered 
 closing_stays None all = ordered_refl all
 closing_stays (Some a) all = closing_by a.is_over (orders.Close a.tag) all
 
+pub ordered_closed : (o : Option Application) (a b : List Order) → b ≡ closing o a → StayOrdered a b
+ordered_closed o a b is =
+    let x = closing_stays o a in
+    (x.0, is ∙ x.1)
+
 pub ordered_closing : {A E : Type 0} (r : Result A E) (o : Option Application) (a b c : List Order) → OnOk r (c ≡ closing o b) → StayOrdered a b → OnOk r (StayOrdered a c)
 ordered_closing (Ok x) o a b c is h =
     let x = closing_stays o b in

@@ -56,6 +56,7 @@ impl Relay {
         ensures rest { AllRest self.old self.new }
         ensures whose { result ≡ held_name key self.old }
         ensures tells { TellsTheSame self.old self.new }
+        ensures orders { self.new.orders.items ≡ self.old.orders.items }
     {
         self.forget_sent(key, count);
         let hold = self.desk.hold_of(key)?;
@@ -72,6 +73,7 @@ impl Relay {
         ensures links { self.new.links.items ≡ self.old.links.items }
         ensures asks { AskAsBefore self.old.applications self.new.applications }
         ensures tells { TellsTheSame self.old self.new }
+        ensures orders { self.new.orders.items ≡ self.old.orders.items }
     {
         match self.applications.get_mut(key) {
             Some(application) => application.out.sent(count),
@@ -94,6 +96,7 @@ impl Relay {
         ensures whose { result ≡ (if is_there number self.old.links.items
             then holder_name number self.old else None) }
         ensures tells { TellsTheSame self.old self.new }
+        ensures orders { self.new.orders.items ≡ self.old.orders.items }
     {
         if !forget_sent(&mut self.links, number, count) {
             return None;

@@ -6,7 +6,7 @@ use Rattle.tds_relay.specs.Fronts.{hall_in, house_in, told_by}
 use Rattle.tds_relay.specs.Ordering.{StayOrdered}
 use Rattle.tds_relay.specs.Posts.{names_in, names_of, posts_in}
 use Rattle.tds_relay.specs.Reads.{OpensOthers, Streams, open_at}
-use Rattle.tds_relay.specs.Ties.{Connection, IsReached, Neither, desk_in}
+use Rattle.tds_relay.specs.Ties.{Connection, Goes, IsReached, Neither, desk_in}
 use Rattle.tds_relay.specs.Waking.{Wakes}
 use Rattle.tds_relay.proofs.spared.Coming.{along_on, along_refl, one_along, rest_along}
 use Rattle.tds_relay.proofs.spared.Ordered.{ordered_more, ordered_on, ordered_refl}
@@ -128,3 +128,14 @@ returns-clause-wakes c =
     ] in
     wakes_on c.lose.result (posts_in c.args.self.now.applications) c.taking-test.self.applications c.lose.new.self.applications _ _ led c.lose.ensures.kept c.lose.ensures.ordered
     (λ key d. deaf_led_on c.lose.result Neither key (hall_in c.taking-test.self) (hall_in c.lose.new.self) (ok_more c.lose.result _ _ (λ m. m Neither) c.lose.ensures.moves) d)
+
+pub returns-clause-goes : goal.returns-clause-goes
+returns-clause-goes c =
+    let to : Relay → Type 0 = λ r. Goes (Connection c.args.number) (desk_in c.args.self.now.desk) (desk_in r.desk) in
+    let led : to c.taking-test.self =
+    elim c.taking-test.branch [
+      | else-taking-test w ↦ subst to (sym w.self-is) c.taking.invariant.goes
+      | then-taking-test+else-is_empty+in_ok-count+in_ok-heard+else-counter-end w ↦
+          subst to (sym w.self-is) (λ from h. w.in_ok-heard.ensures.goes from (w.in_ok-count.ensures.goes from (c.taking.invariant.goes from h)))
+    ] in
+    ok_more c.lose.result _ _ (λ g from h. g (Connection c.args.number) from (led from h)) c.lose.ensures.goes

@@ -25,4 +25,4 @@ returns-then-is_full-clause-wakes c = ok_more c.end.result _ _ (λ e. inl (subst
 
 pub returns-clause-wakes : goal.returns-clause-wakes
 returns-clause-wakes c =
-    inr (c.in-Some.application.now.tag, name_there c.args.self.now.applications c.args.key c.in-Some.application.now c.in-Some.ensures, to_do_last (orders.Write c.in-Some.application.now.tag) _ _ (search rules))
+    inr (c.in-Some.application.now.tag, name_there c.args.self.now.applications c.args.key c.in-Some.application.now c.in-Some.ensures, to_do_last (orders.Write c.in-Some.application.now.tag) c.args.self.now.orders.items c.push.new.self.items (search rules))
