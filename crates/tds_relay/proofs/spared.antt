@@ -1,8 +1,10 @@
 pub mod Apart
 pub mod Aside
 pub mod Coming
+pub mod Closings
 pub mod Held
 pub mod Letting
+pub mod Lines
 pub mod Ordered
 pub mod Resting
 pub mod Starting

@@ -6,6 +6,7 @@ pub mod Behind
 pub mod Bodies
 pub mod Bounds
 pub mod Coming
+pub mod Closings
 pub mod Cutting
 pub mod Desk
 pub mod Faults

@@ -1,5 +1,5 @@
 //! An application, as the relay knows it.
-ghost use Rattle.std.specs.Prelude.{◌≡◌, ◌≤◌, ◌-◌, ◌++◌, [], IfOk, None, Some, false, length, true, vec_len};
+ghost use Rattle.std.specs.Prelude.{◌≡◌, ◌≤◌, ◌<◌, ◌-◌, ◌++◌, [], IfOk, None, Some, false, length, true, vec_len};
 ghost use Rattle.tds_relay.specs.declared.application.TheConstants.{MOST_HELD};
 ghost use Rattle.tds_relay.specs.declared.outgoing.TheConstants.{PIECE};
 
@@ -155,6 +155,8 @@ impl Application {
         ensures end { end_of self.new ≡ end_of self.old }
         ensures body { IfOk result (λ is. is ≡ true → (self.new.is_over ≡ self.old.is_over)
             × (self.new.held.items ≡ self.old.held.items ++ bytes.now)) }
+        ensures long { IfOk result (λ is. is ≡ false
+            → room_to_keep self.old < length bytes.now) }
     {
         if bytes.len() > self.room_to_keep() {
             return Ok(false);

@@ -6,9 +6,11 @@ ghost use Rattle.tds_packet.specs.declared.status.Reset.TheVariants.{KeepTransac
 ghost use Rattle.tds_relay.specs.Apart.{Alone, UnlessServed};
 ghost use Rattle.tds_relay.specs.Asking.{IsUnderway, waits_of};
 ghost use Rattle.tds_relay.specs.Bodies.{AskAsBefore, Grows, Starts, body_of, going_of, held_of};
+ghost use Rattle.tds_relay.specs.Closings.{ClosesOnly, IsWaiting, IsWho, Itself, Nobody, WhoOrWaiting};
+ghost use Rattle.tds_relay.specs.Closings.{register_in};
 ghost use Rattle.tds_relay.specs.Desk.{find_number, key_of};
 ghost use Rattle.tds_relay.specs.Fronts.{MovedOn, ends_in, hall_in, house_in};
-ghost use Rattle.tds_relay.specs.Hall.{AsksFor, IsReset, end_at};
+ghost use Rattle.tds_relay.specs.Hall.{AsksFor, IsReset, end_at, holder};
 ghost use Rattle.tds_relay.specs.House.{Steps, StepsOn};
 ghost use Rattle.tds_relay.specs.Posts.{names_in, posts_in};
 ghost use Rattle.tds_relay.specs.Reads.{IsCalled, Opens, OpensFirst, OpensOne, Stays, named_seen, open_at};
@@ -50,6 +52,8 @@ impl Relay {
             self.new.desk.service) }
         ensures goes_on { OnOk result (AllGo self.old self.new) }
         ensures ordered { OnOk result (StayOrdered self.old.orders.items self.new.orders.items) }
+        ensures closes { OnOk result (ClosesOnly (IsWaiting (desk_in self.old.desk).line)
+            (register_in self.old) (register_in self.new)) }
     {
         if !self.links.is_empty() {
             return Ok(None);
@@ -65,7 +69,7 @@ impl Relay {
         link.tag = Some(tag);
         link.is_open = true;
         self.links.push(link)?;
-        self.send_on(left.number)?;
+        self.send_unheld(left.number)?;
         self.serve_line()?;
         Ok(Some(left.number))
     }
@@ -109,6 +113,9 @@ impl Relay {
         ensures starts { IsReached (desk_in self.old.desk)
             → OnOk result (StartsOn number self.old self.new) }
         ensures ordered { OnOk result (StayOrdered self.old.orders.items self.new.orders.items) }
+        ensures closes { OnOk result (ClosesOnly (WhoOrWaiting (holder (desk_in self.old.desk) number)
+            (desk_in self.old.desk).line)
+            (register_in self.old) (register_in self.new)) }
     {
         self.set_open(number);
         self.order_write_on(number)?;
@@ -128,6 +135,7 @@ impl Relay {
             ≡ waits_on other self.old.links.items }
         ensures same { AllRest self.old self.new }
         ensures orders { self.new.orders.items ≡ self.old.orders.items }
+        ensures closes { ClosesOnly Nobody (register_in self.old) (register_in self.new) }
     {
         set_open(&mut self.links, number);
     }
@@ -147,6 +155,8 @@ impl Relay {
             → key_of (find_number number (desk_in self.old.desk).holds) ≡ Some key
             → IsUnkept (body_of key self.new) ⊎ IsHeldBack key self.old) }
         ensures ordered { OnOk result (StayOrdered self.old.orders.items self.new.orders.items) }
+        ensures closes { OnOk result (ClosesOnly (IsWho (holder (desk_in self.old.desk) number))
+            (register_in self.old) (register_in self.new)) }
     {
         match self.desk.key_on(number) {
             Some(key) => self.start_kept(key),
@@ -168,6 +178,8 @@ impl Relay {
         ensures goes_on { OnOk result (AllGo self.old self.new) }
         ensures apart { OnOk result (UnlessServed (hall_in self.old) (hall_in self.new)) }
         ensures ordered { OnOk result (StayOrdered self.old.orders.items self.new.orders.items) }
+        ensures closes { OnOk result (ClosesOnly (IsWaiting (desk_in self.old.desk).line)
+            (register_in self.old) (register_in self.new)) }
     {
         'line: for _ in 0..u64::MAX {
             match self.desk.serve()? {
@@ -196,6 +208,8 @@ impl Relay {
         ensures alone { OnOk result (Alone served.hold.key (hall_in self.old)
             (hall_in self.new)) }
         ensures ordered { OnOk result (StayOrdered self.old.orders.items self.new.orders.items) }
+        ensures closes { OnOk result (ClosesOnly (Itself served.hold.key)
+            (register_in self.old) (register_in self.new)) }
     {
         let number = served.hold.number;
         if served.had {
@@ -218,6 +232,7 @@ impl Relay {
         ensures read { Stays self.old.links.items self.new.links.items }
         ensures rests { AllRest self.old self.new }
         ensures orders { self.new.orders.items ≡ self.old.orders.items }
+        ensures closes { ClosesOnly Nobody (register_in self.old) (register_in self.new) }
     {
         restart(&mut self.links, number);
     }
@@ -255,6 +270,8 @@ impl Relay {
             ⊎ IsHeldBack key self.old) }
         ensures alone { OnOk result (Alone key (hall_in self.old) (hall_in self.new)) }
         ensures ordered { OnOk result (StayOrdered self.old.orders.items self.new.orders.items) }
+        ensures closes { OnOk result (ClosesOnly (Itself key)
+            (register_in self.old) (register_in self.new)) }
     {
         let Some(application) = self.applications.get(key) else {
             return Ok(());
@@ -297,6 +314,8 @@ impl Relay {
             → OnOk result (AllRest self.old self.new) }
         ensures alone { OnOk result (Alone key (hall_in self.old) (hall_in self.new)) }
         ensures ordered { OnOk result (StayOrdered self.old.orders.items self.new.orders.items) }
+        ensures closes { OnOk result (ClosesOnly (Itself key)
+            (register_in self.old) (register_in self.new)) }
     {
         self.lose_own(key, number)?;
         self.end(key)
@@ -321,6 +340,8 @@ impl Relay {
         ensures gone { OnOk result (IsUnkept (body_of key self.new)) }
         ensures alone { OnOk result (Alone key (hall_in self.old) (hall_in self.new)) }
         ensures ordered { OnOk result (StayOrdered self.old.orders.items self.new.orders.items) }
+        ensures closes { OnOk result (ClosesOnly (Itself key)
+            (register_in self.old) (register_in self.new)) }
     {
         let Some(application) = self.applications.get_mut(key) else {
             return Ok(());
@@ -348,6 +369,8 @@ impl Relay {
         ensures others { OnOk result ((other : ℕ) → other ≢ number
             → waits_on other self.new.links.items ≡ waits_on other self.old.links.items) }
         ensures ordered { OnOk result (StayOrdered self.old.orders.items self.new.orders.items) }
+        ensures closes { OnOk result (ClosesOnly Nobody
+            (register_in self.old) (register_in self.new)) }
     {
         let fits = append_to(&mut self.links, number, &self.outbox)?;
         self.outbox.clear();
