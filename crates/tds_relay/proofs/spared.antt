@@ -1,7 +1,7 @@
 pub mod Apart
 pub mod Aside
-pub mod Coming
 pub mod Closings
+pub mod Coming
 pub mod Held
 pub mod Letting
 pub mod Lines

@@ -144,7 +144,11 @@ impl Relay {
             (register_in self.old) (register_in self.new)) }
     {
         let fits = self.fits_on(number)?;
-        if fits { Ok(()) } else { self.lose_own(key, number) }
+        if fits {
+            Ok(())
+        } else {
+            self.lose_own(key, number)
+        }
     }
 
     /// The same of one that nobody holds.

@@ -1,7 +1,6 @@
 use Rattle.std.proofs.Common.{ap, inl, inr, refl, rules, subst, sym}
 use Rattle.tds_relay.specs.Hall.{Ends, end_at}
 use Rattle.tds_relay.specs.Taking.{IsDeaf}
-use Rattle.std.proofs.Common.{ap, refl}
 use Rattle.tds_relay.specs.Ties.{desk_in}
 use Rattle.tds_relay.specs.declared.order.Order.TheVariants as orders
 use Rattle.tds_relay.proofs.spared.Ordered.{ordered_closing, ordered_refl}
@@ -29,5 +28,6 @@ returns-then-is_full-clause-wakes c = ok_more c.end.result _ _ (λ e. inl (subst
 pub returns-clause-wakes : goal.returns-clause-wakes
 returns-clause-wakes c =
     inr (c.in-Some.application.now.tag, name_there c.args.self.now.applications c.args.key c.in-Some.application.now c.in-Some.ensures, to_do_last (orders.Write c.in-Some.application.now.tag) c.args.self.now.orders.items c.push.new.self.items (search rules))
+
 pub returns-clause-closes : goal.returns-clause-closes
 returns-clause-closes c = closes_kept (Itself c.args.key) _ _ refl refl refl (sees_refl c.args.self.now.links.items) (_, c.in_ok-push.ensures.items)
