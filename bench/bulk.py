@@ -12,7 +12,6 @@ import tempfile
 import time
 
 HERE = os.path.dirname(os.path.abspath(__file__))
-sys.path.append(f"{HERE}/../beside/wire_peers")
 from freetds import LOGGED_IN, PRELOGIN
 from peers import Relay, batch, connect, exactly, login, message, packet
 from processes import memory, processor

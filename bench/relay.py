@@ -11,8 +11,6 @@ import sys
 import tempfile
 import threading
 
-HERE = os.path.dirname(os.path.realpath(__file__))
-sys.path[:0] = [f"{HERE}/../tests", f"{HERE}/../beside/wire_peers"]
 import peers  # noqa: E402
 from freetds import LOGGED_IN, PRELOGIN  # noqa: E402
 

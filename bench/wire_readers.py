@@ -9,12 +9,11 @@ import subprocess
 import sys
 import threading
 
+import freetds
 import measure
 import pairs
 
 HERE = os.path.dirname(os.path.abspath(__file__))
-sys.path.insert(0, f"{HERE}/../beside/wire_peers")
-import freetds  # noqa: E402
 
 
 class Answer:

@@ -139,6 +139,7 @@ func serverMain(words []string) error {
 	names := set.String("names", "localhost,127.0.0.1,::1", "names and addresses of that certificate")
 	require := set.String("require", "login", "the least encryption that a driver must take: none|login|all")
 	answers := set.Bool("answer", false, "answer PRELOGIN here, and dial the clear server once a login has come")
+	tells := set.Bool("proxy", false, "tell the clear server each client's address, by a header of the PROXY protocol, version 2")
 	drivers := set.String("client-ca", "", "PEM `FILE` of authorities, by one of which each driver must have a certificate")
 	set.StringVar(&c.login8, "login8", "7.4", "what a LOGIN7 of TDS 8.0 says to the clear server: 7.4|8.0")
 	set.StringVar(&c.ack8, "ack8", "7.4", "what such a driver reads where that server's LOGINACK says 7.4: 7.4|8.0")
@@ -177,7 +178,7 @@ func serverMain(words []string) error {
 			return m, err
 		}
 	}
-	return c.serve(&proxy.Proxy{Mode: mode, ForwardIsLocal: !c.beyond}, load, false)
+	return c.serve(&proxy.Proxy{Mode: mode, ForwardIsLocal: !c.beyond, TellsClient: *tells}, load, false)
 }
 
 func clientMain(words []string) error {

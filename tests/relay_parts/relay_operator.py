@@ -4,6 +4,7 @@ error where no connection can be opened, or a server is silent.
 What is wanted is written by hand.
 """
 
+import datetime
 import re
 import socket
 import struct
@@ -78,7 +79,7 @@ def holders(program, cases, server):
                    (True, 1, [second["number"]]))
         lines = lines_of(relay)
         cases.check("the page says so", [it for it in lines if not it.startswith("  connection")][:4] == [
-            f"group {group['group']}, shared, user anna, at most 1 connections",
+            f"group {group['group']}, shared, user anna, application billing, at most 1 connections",
             f"  application {first['number']} is quiet with a transaction open and holds connection {held['number']}"
             f", N s of 400 s (web-1, billing, from 127.0.0.1:{port_of(one)})",
             f"  application {second['number']} waits for a connection to be free, N s of 120 s"
@@ -169,7 +170,7 @@ def pauses(program, cases, server):
 def not_opened(program, cases, server):
     """Who waits for a connection that can't be opened is told an error: the server is gone, is silent, or refuses."""
     for what in ("gone", "silent", "refuses"):
-        with Before(server) as before, Relay(program, before.port, "--login", "1", "--log") as relay:
+        with Before(server) as before, Relay(program, before.port, "--login", "1", "--wait", "3", "--log") as relay:
             one, two = let_in(relay), let_in(relay)
             # The first connection is cleaned first of all, and lent then.
             number = socket_of(until(relay, lambda it: it["connections_free"] == 1), two)["number"]
@@ -193,10 +194,11 @@ def not_opened(program, cases, server):
                        error_packet(NOT_OPENED, f"The relay could not open a connection. The server {did}."))
             found = relay.json()
             cases.same(f"counts where the server {what}",
-                       [found[f"total_{it}"] for it in ("applications_not_served", "connections_dialed",
-                                                        "connections_opened", "connections_ended", "limits_login",
-                                                        "servers_failed")],
-                       [1, 2, 1, 0, int(what == "silent"), int(what != "refuses")])
+                       [found[f"total_{it}"] for it in ("applications_not_served", "connections_opened", "connections_ended")],
+                       [1, 1, 0])
+            tries = [found[f"total_{it}"] for it in ("connections_dialed", "limits_login", "servers_failed")]
+            cases.check(f"it is dialed again where the server {what}", tries == [2, 0, 0] if what == "refuses" else
+                        tries[0] > 2 and tries[2] > 1 and (tries[1] > 0) == (what == "silent"), tries)
             if what != "silent":
                 cases.check(f"the holder goes on where the server {what}", rows(one, 3))
             lines = relay.lines()
@@ -204,7 +206,7 @@ def not_opened(program, cases, server):
             ended = [it for it in lines if re.fullmatch(rf"socket \d+ has ended: {re.escape(did)}", it)]
             cases.check(f"a line where the server {what}",
                         f"socket {number} waits for a connection that can't be opened: The server {did}." in lines
-                        and (len(refused), len(ended)) == ((1, 0) if what == "refuses" else (0, 1)), lines)
+                        and ((len(refused), len(ended)) == (1, 0) if what == "refuses" else not refused and ended), lines)
 
 
 def silent(program, cases):
@@ -230,7 +232,7 @@ def silent(program, cases):
 def log(program, cases, server):
     """Each line of the log, in order: of those who ask over HTTP there is none."""
     with Relay(program, server, "--log") as relay:
-        one = let_in(relay, "web-1", "billing")
+        one = let_in(relay, "web-1", "billing", "anna", "sales")
         until(relay, lambda it: it["connections_free"] == 1)
         cases.check("a row for the log", rows(one, 1))
         port = port_of(one)
@@ -238,10 +240,11 @@ def log(program, cases, server):
         until(relay, lambda it: it["connections_free"] == 1)
         status, said = relay.end()
         lines = said.decode().splitlines()
-        cases.check("each line begins with the seconds since the beginning",
-                    all(re.match(r"\d+\.\d{3} ", it) for it in lines[:-1]), lines)
+        times = [datetime.datetime.fromisoformat(it.partition(" ")[0].replace("Z", "+00:00")) for it in lines[:-1]]
+        cases.check("each line begins with the time", all(abs(time.time() - it.timestamp()) < 60 for it in times), lines)
+        whose = f"(user anna, database sales, from 127.0.0.1:{port})"
         cases.same("the log", [it.partition(" ")[2] for it in lines[:-1]] + lines[-1:], [
-            f"socket 1 has come from 127.0.0.1:{port}", f"connection 2 is dialed at 127.0.0.1:{server}",
-            "connection 2 is opened", "application 1 is let in, group 0",
-            "socket 1 has ended: the other end has closed the connection",
+            f"socket 1 has come (from 127.0.0.1:{port})", f"connection 2 is dialed at 127.0.0.1:{server}",
+            "connection 2 is opened", f"application 1 is let in, group 0 {whose}",
+            f"socket 1 has ended: the other end has closed the connection {whose}",
             "the relay is to end, since its standard input has ended", "ended: applications 0"])

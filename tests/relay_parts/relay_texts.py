@@ -15,7 +15,8 @@ from relay_told import Relay, closes, error_packet, let_in, rows
 REFUSED = 50100
 # Of no machine (RFC 5737).
 NOBODYS = "203.0.113.77"
-SETTINGS = ("most, alone, stats, log, judge, login, wait, cancel, idle, life, hold, transaction, drain, check, away, spin")
+SETTINGS = ("most, alone, total, least, any-application, stats, log, log-json, judge, login, wait, cancel, idle, life, hold, "
+            "transaction, request, drain, check, away, spin, keepalive, unacknowledged")
 
 
 def told_at_login(relay):

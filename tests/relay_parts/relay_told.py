@@ -2,6 +2,7 @@
 
 import json
 import re
+import resource
 import socket
 import struct
 import subprocess
@@ -14,12 +15,14 @@ LINE = re.compile(rb"(relaying|telling at) (\S+)")
 class Relay:
     """A tdsrelay on free ports with these words, whose standard input is a pipe that ends it."""
 
-    def __init__(self, program, server, *words, others=()):
-        servers = [f"127.0.0.1:{port}" for port in (server, *others)]
+    def __init__(self, program, server, *words, others=(), listen="127.0.0.1", at="127.0.0.1",
+                 files=None):
+        servers = [f"{at}:{port}" for port in (server, *others)]
         stats = [] if "--stats" in words else ["--stats", "127.0.0.1:0"]
         self.child = subprocess.Popen(
-            [program, "127.0.0.1:0", *servers, *stats, "--until-input-ends", *words],
-            stdin=subprocess.PIPE, stderr=subprocess.PIPE)
+            [program, f"{listen}:0", *servers, *stats, "--until-input-ends", *words],
+            stdin=subprocess.PIPE, stderr=subprocess.PIPE,
+            preexec_fn=files and (lambda: resource.setrlimit(resource.RLIMIT_NOFILE, (files, files))))
         self.stats = self.port = None
         while self.port is None:
             line = self.child.stderr.readline()
@@ -32,10 +35,11 @@ class Relay:
             else:
                 self.stats = port
 
-    def ask(self, path, method="GET", host="127.0.0.1"):
-        """The status and the body of an answer over HTTP."""
+    def ask(self, path, method="GET", host="127.0.0.1", fields=None):
+        """The status and the body of an answer over HTTP: as who means this relay asks, or with these fields."""
         with socket.create_connection((host, self.stats), PATIENCE) as link:
-            link.sendall(f"{method} {path} HTTP/1.1\r\nHost: a\r\n\r\n".encode())
+            fields = [f"Host: {host}:{self.stats}", "X-Tdsrelay: 1"] if fields is None else fields
+            link.sendall("\r\n".join([f"{method} {path} HTTP/1.1", *fields, "", ""]).encode())
             got = b""
             while more := link.recv(65536):
                 got += more
@@ -55,8 +59,8 @@ class Relay:
         return self.child.wait(PATIENCE), said
 
     def lines(self):
-        """Ends it, and gives the lines of the log, without the seconds in front of each."""
-        return [re.sub(r"^\d+\.\d{3} ", "", it) for it in self.end()[1].decode().splitlines()]
+        """Ends it, and gives the lines of the log, without the time in front of each and whose it is behind."""
+        return [bare(it) for it in self.end()[1].decode().splitlines()]
 
     def __enter__(self):
         return self
@@ -69,16 +73,26 @@ class Relay:
         self.child.stderr.close()
 
 
-def let_in(relay, host="", program="", user=""):
-    """An application that is logged in, which says that it is this."""
-    names = [host.encode("utf-16le"), user.encode("utf-16le"), b"", program.encode("utf-16le")]
+def bare(line):
+    """A line of the log without the time in front of it, and without whose it is behind it."""
+    return re.sub(r" \((user|database|from) .*\)$", "", re.sub(r"^\d{4}-\d\d-\d\dT\d\d:\d\d:\d\d\.\d{3}Z ", "", line))
+
+
+def login_of(host="", program="", user="", database=""):
+    """A login of who says that he is this."""
+    names = [it.encode("utf-16le") for it in (host, user, "", program, database)]
     data, at = bytearray(login(more=sum(map(len, names)))), 8 + 94
-    for field, name in zip((36, 40, 44, 48), names):
+    for field, name in zip((36, 40, 44, 48, 68), names):
         struct.pack_into("<HH", data, 8 + field, at - 8, len(name) // 2)
         data[at:at + len(name)] = name
         at += len(name)
+    return bytes(data)
+
+
+def let_in(relay, *names, **named):
+    """An application that is logged in, which says that it is this."""
     link = connect(relay.port)
-    link.sendall(bytes(data))
+    link.sendall(login_of(*names, **named))
     message(link)
     return link
 

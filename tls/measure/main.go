@@ -1,4 +1,4 @@
-// Command measure compares ways to a TDS server, for bench/encryption.
+// Command measure compares ways to a TDS server, for tls/tests/bench.
 //
 //	measure latency WINDOWS WAY..    a request's median in microseconds, in windows of 100 that take turns
 //	measure idle COUNT PID WAY       what memory each idle connection takes in this process

@@ -2,7 +2,7 @@
 
 use crate::house::{House, relay_of};
 use relay_sockets::Whose;
-use std::io::{self, Write};
+use std::io;
 use std::net::Net;
 use tds_relay::PlaceOn;
 
@@ -12,7 +12,7 @@ const NOBODY: usize = usize::MAX - 3;
 /// The header of a batch's first packet, which isn't the last one (MS-TDS 2.2.3.1). It goes nowhere.
 const BEGUN: [u8; 8] = [1, 0, 0, 16, 0, 0, 1, 0];
 
-impl<W: Write + Drop> House<W> {
+impl House {
     /// Checks the groups whose time it is.
     pub fn check_all<R: Net>(&mut self, rt: &R) -> io::Result<()> {
         let seconds = self.asked.limits.check;

@@ -5,12 +5,11 @@ use crate::house::{House, relay_of};
 use relay_logins::{Dialed, Unfit, put_saved};
 use relay_sockets::{Cause, Role, Whose};
 use relay_status::raise;
-use std::io::{self, Write};
-use std::mem;
 use std::net::Net;
+use std::{io, mem};
 use tds_packet::PacketSize;
 
-impl<W: Write + Drop> House<W> {
+impl House {
     /// Takes bytes of a login, and gives what is left of them.
     fn dial<'a>(&mut self, key: usize, piece: &'a [u8]) -> io::Result<(&'a [u8], Dialed)> {
         let mut rest = piece;
@@ -69,24 +68,11 @@ impl<W: Write + Drop> House<W> {
         answer: &[u8],
         error: i32,
     ) -> io::Result<()> {
-        self.say_refused(key, Cause::Refused(error))?;
+        self.say_refused(key, Cause::Refused(error));
         let _ = self.take_out(key)?;
         self.unpair(group);
-        self.judged(rt, group, answer)?;
+        self.judged(rt, group, answer, error)?;
         let _ = self.groups.try_remove(group).is_some();
-        Ok(())
-    }
-
-    /// A line about a connection that isn't let in: by which server, and why.
-    fn say_refused(&mut self, key: usize, cause: Cause) -> io::Result<()> {
-        let dialed = match self.sockets.get(key) {
-            Some(socket) if self.journal.is_logged => socket.dialed,
-            _ => None,
-        };
-        if let Some(address) = dialed {
-            let why = format!(in self.alloc; "{address} {cause}")?;
-            self.say_of("connection", key, "is refused:", why.as_str());
-        }
         Ok(())
     }
 
@@ -186,6 +172,7 @@ impl<W: Write + Drop> House<W> {
             socket.becomes(role, now);
             self.journal.logins.add(took.saturating_mul(1000));
             self.upstream.is_back(socket.server);
+            self.holding.is_back();
         }
         raise(&mut self.journal.counts.opened);
         self.say("connection", key, "is opened");
@@ -215,10 +202,18 @@ impl<W: Write + Drop> House<W> {
     }
 
     /// The first login of a group isn't let in: all who wait for that get this answer.
-    fn judged<R: Net>(&mut self, rt: &R, group: usize, answer: &[u8]) -> io::Result<()> {
+    fn judged<R: Net>(
+        &mut self,
+        rt: &R,
+        group: usize,
+        answer: &[u8],
+        error: i32,
+    ) -> io::Result<()> {
         let waiting = self.judged_by(group);
         for key in waiting.iter() {
             if self.is_judged(*key, group) {
+                raise(&mut self.journal.counts.refused);
+                self.say_not_let_in(*key, Cause::Refused(error));
                 self.dismiss_with(rt, *key, answer)?;
             }
         }
@@ -276,7 +271,7 @@ impl<W: Write + Drop> House<W> {
 
     /// The server doesn't let the logins of a group in any more: who comes later is judged anew.
     fn shut<R: Net>(&mut self, rt: &R, key: usize, group: usize, cause: Cause) -> io::Result<()> {
-        self.say_refused(key, cause)?;
+        self.say_refused(key, cause);
         self.groups.close(group);
         self.ended(rt, key, cause)
     }

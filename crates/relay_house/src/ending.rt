@@ -3,10 +3,10 @@
 use crate::house::{House, relay_of};
 use relay_sockets::{Cause, Gone, Whose};
 use relay_status::raise;
-use std::io::{self, Write};
+use std::io;
 use std::net::Net;
 
-impl<W: Write + Drop> House<W> {
+impl House {
     /// Takes a socket out, behind what the system still takes of what waits for it. Answers what it was.
     pub(crate) fn take_out(&mut self, key: usize) -> io::Result<Option<Whose>> {
         let _ = self.send(key)?;
@@ -22,15 +22,13 @@ impl<W: Write + Drop> House<W> {
 
     /// Removes a socket, and counts its end. Answers what it was.
     fn remove(&mut self, key: usize) -> io::Result<Option<Gone>> {
-        let Some(mut socket) = self.sockets.try_remove(key) else {
-            return Ok(None);
-        };
-        self.sockets.end_judging(&mut socket, &mut self.journal)?;
-        let gone = socket.gone();
-        if let Whose::Connection(..) = gone.whose {
-            raise(&mut self.journal.counts.ended);
+        let gone = self.sockets.remove(key, &mut self.journal)?;
+        if let Some(gone) = &gone {
+            if let Whose::Connection(..) = gone.whose {
+                raise(&mut self.journal.counts.ended);
+            }
         }
-        Ok(Some(gone))
+        Ok(gone)
     }
 
     /// A socket has ended, as it says itself, or as its other end has closed it.
@@ -45,7 +43,7 @@ impl<W: Write + Drop> House<W> {
     /// A socket has ended. Where that is its server's doing, another one is dialed for its login, or the
     /// group's other connections are checked.
     pub fn ended<R: Net>(&mut self, rt: &R, key: usize, cause: Cause) -> io::Result<()> {
-        self.say_end(key, cause)?;
+        self.say_end(key, cause);
         let Some(gone) = self.remove(key)? else {
             return Ok(());
         };
@@ -60,28 +58,6 @@ impl<W: Write + Drop> House<W> {
             Whose::First(_) | Whose::Opening(..) => self.has_failed(rt, &gone, cause),
             Whose::Connection(group, number) => self.is_lost(rt, group, number, cause),
         }
-    }
-
-    /// A line about a socket's end: where the other end is a server, its address, and what it did.
-    fn say_end(&mut self, key: usize, cause: Cause) -> io::Result<()> {
-        if !self.journal.is_logged {
-            return Ok(());
-        }
-        if !cause.is_failure() {
-            self.say("socket", key, "is closed");
-            return Ok(());
-        }
-        let alloc = self.alloc;
-        let dialed = match self.sockets.get(key) {
-            Some(socket) => socket.dialed,
-            None => return Ok(()),
-        };
-        let why = match dialed {
-            Some(address) => format!(in alloc; "{address} {cause}")?,
-            None => format!(in alloc; "the other end {cause}")?,
-        };
-        self.say_of("socket", key, "has ended:", why.as_str());
-        Ok(())
     }
 
     /// An application of a group has ended.
@@ -140,7 +116,7 @@ impl<W: Write + Drop> House<W> {
         let Some(way) = gone.way else {
             return Ok(false);
         };
-        self.went_away(way, cause)?;
+        self.went_away(way, cause);
         if gone.has_legs {
             return Ok(false);
         }

@@ -1,8 +1,9 @@
 //! Applications whose logins are equal, or one that is alone, and their relay.
 
-use relay_logins::FEATURES;
+use relay_logins::{FEATURES, Who};
 use relay_status::{Done, NOTHING};
 use std::alloc::{AllocError, Global};
+use std::net::IpAddr;
 use tds_packet::PacketSize;
 use tds_relay::Relay;
 
@@ -27,12 +28,14 @@ pub struct Pair {
 pub struct Group {
     pub stage: Stage,
     pub size: PacketSize,
-    /// The user that its login names.
-    pub user: String,
+    /// What its login names.
+    pub who: Who,
     /// The most connections.
     pub most: usize,
     /// The two ends, where it isn't shared.
     pub pair: Option<Pair>,
+    /// Where its first application is.
+    pub from: Option<IpAddr>,
     /// The millisecond since which no application of it is lent a connection, and whether it is to go on
     /// behind this round's turns.
     pub paused: Option<u64>,
@@ -54,19 +57,31 @@ impl Pair {
 }
 
 impl Group {
-    /// A group whose first login the server judges, which these wait for.
-    pub fn new(user: String, waiting: Vec<usize>, size: PacketSize, pair: Option<Pair>) -> Group {
+    /// A group whose first login the server judges, which these wait for, the first one of them there.
+    pub fn new(
+        who: Who,
+        waiting: Vec<usize>,
+        size: PacketSize,
+        pair: Option<Pair>,
+        from: Option<IpAddr>,
+    ) -> Group {
         Group {
             stage: Stage::Judged(waiting),
             size,
-            user,
+            who,
             most: 1,
             pair,
+            from,
             paused: None,
             goes_on: false,
             checked: 0,
             checks: 0,
         }
+    }
+
+    /// Whether the server still judges its first login.
+    pub fn is_judged(&self) -> bool {
+        matches!(self.stage, Stage::Judged(_))
     }
 
     /// Whether no application of it is lent a connection for now.

@@ -1,37 +1,45 @@
 //! All that a relay has: sockets, groups, what it is set to, and what it tells.
 
 use crate::group::Group;
+use crate::holding::Holding;
 use crate::upstream::Upstream;
-use mio::net::TcpStream;
 use relay_logins::{Gate, Groups};
 use relay_settings::Asked;
-use relay_sockets::{Role, Sockets};
-use relay_status::Journal;
+use relay_sockets::{Admission, Role, Sockets};
+use relay_status::{Journal, raise};
+use socket_places::Link;
 use std::alloc::Global;
-use std::io::{self, Write};
+use std::io;
 use std::net::{Net, SocketAddr};
+
+/// What the log says where more applications come than there is room for.
+const FULL: &str =
+    "more applications come than the relay has room for: 10,000, or what the limit of open files leaves \
+(ulimit -n)";
 
 /// All sockets and groups.
 #[derive(Drop)]
-pub struct House<W: Write + Drop> {
+pub struct House {
     pub alloc: Global,
     pub asked: Asked,
     pub sockets: Sockets,
     pub groups: Groups<Group>,
     pub upstream: Upstream,
-    pub journal: Journal<W>,
+    pub holding: Holding,
+    pub journal: Journal,
 }
 
-impl<W: Write + Drop> House<W> {
+impl House {
     /// No application yet.
-    pub fn new<R: Net>(rt: &R, alloc: Global, asked: Asked, log: W) -> io::Result<House<W>> {
+    pub fn new<R: Net>(rt: &R, alloc: Global, asked: Asked) -> io::Result<House> {
         Ok(House {
             alloc,
             asked,
-            sockets: Sockets::new(rt, alloc, asked.is_judged)?,
+            sockets: Sockets::new(rt, alloc, asked.is_judged, asked.keeping)?,
             groups: Groups::new(alloc),
             upstream: Upstream::new(),
-            journal: Journal::new(log, asked.is_logged),
+            holding: Holding::new(alloc),
+            journal: Journal::new(alloc, asked.is_logged, asked.is_json),
         })
     }
 
@@ -44,50 +52,32 @@ impl<W: Write + Drop> House<W> {
     pub fn set(&mut self, asked: Asked) {
         self.asked = asked;
         self.sockets.is_judged = asked.is_judged;
+        self.sockets.keeping = asked.keeping;
         self.journal.is_logged = asked.is_logged;
+        self.journal.lines.is_json = asked.is_json;
     }
 
     /// An application has come, from there.
-    pub fn admit(&mut self, stream: TcpStream, from: SocketAddr) -> io::Result<()> {
+    pub fn admit(&mut self, stream: Link, from: Option<SocketAddr>) -> io::Result<()> {
+        let admission = self.sockets.admission();
+        if admission != Admission::Welcome && self.sockets.is_newly_full() {
+            self.journal.note(FULL);
+        }
+        if admission == Admission::Closed {
+            raise(&mut self.journal.counts.refused);
+            return Ok(());
+        }
         let gate = Role::Gate(Gate::new(self.alloc));
         let (out, now) = (Vec::new(self.alloc), self.now());
         let Some(key) = self.sockets.take_in(stream, gate, out, now)? else {
             return Ok(());
         };
         if let Some(socket) = self.sockets.get_mut(key) {
-            socket.peer = Some(from);
+            socket.peer = from;
+            socket.is_over = admission == Admission::Told;
         }
-        if self.journal.is_logged {
-            let from = format!(in self.alloc; "{from}")?;
-            self.say_of("socket", key, "has come from", from.as_str());
-        }
+        self.say("socket", key, "has come");
         Ok(())
-    }
-
-    /// A line of the log about a socket.
-    pub fn say(&mut self, what: &str, key: usize, words: &str) {
-        let House {
-            sockets,
-            journal,
-            ..
-        } = self;
-        match sockets.get(key) {
-            Some(socket) if socket.is_told => journal.say(what, socket.number, words),
-            _ => {}
-        }
-    }
-
-    /// The same, with something behind a blank.
-    pub fn say_of(&mut self, what: &str, key: usize, words: &str, more: &str) {
-        let House {
-            sockets,
-            journal,
-            ..
-        } = self;
-        match sockets.get(key) {
-            Some(socket) if socket.is_told => journal.say_of(what, socket.number, words, more),
-            _ => {}
-        }
     }
 }
 

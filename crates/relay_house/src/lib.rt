@@ -3,15 +3,18 @@
 #![tactic(auto)]
 
 mod checking;
+mod crowd;
 mod dialing;
+mod dismissing;
 mod ending;
-mod faults;
 mod group;
+mod holding;
 mod house;
 mod logins;
 mod orders;
 mod pairs;
 mod reaching;
+mod saying;
 mod sending;
 mod upstream;
 

@@ -3,19 +3,16 @@
 use crate::group::{Group, Pair, Stage};
 use crate::house::{House, relay_of};
 use relay_logins::{
-    Kind, Passed, REFUSED, SharedLogin, kind_of, leave_out_features, number_of, put_error,
-    put_saved, who_of,
+    FULL, Kind, NO_NOTICES, NOTIFIES, Passed, REFUSED, SharedLogin, TOO_MANY, kind_of,
+    leave_out_features, put_error, put_saved, who_of,
 };
 use relay_sockets::{Cause, News, Role, Whose};
 use relay_status::raise;
-use std::io::{self, Write};
-use std::net::Net;
+use std::io;
+use std::net::{IpAddr, Net};
 use tds_packet::PacketSize;
 
-/// The most groups.
-const MOST_GROUPS: usize = 256;
-
-impl<W: Write + Drop> House<W> {
+impl House {
     /// These bytes came on a socket, which isn't of somebody who asks what the relay does.
     pub fn came<R: Net>(&mut self, rt: &R, key: usize, piece: &[u8]) -> io::Result<()> {
         let House {
@@ -28,6 +25,10 @@ impl<W: Write + Drop> House<W> {
             return Ok(());
         };
         match socket.whose() {
+            Whose::Application(..) if socket.notices.take(piece) => {
+                self.say("application", key, "asks for a query notification");
+                self.dismiss_for(rt, key, NOTIFIES, NO_NOTICES)
+            }
             Whose::Application(group, application) => {
                 if let Some(relay) = relay_of(groups, group) {
                     relay.said(application, piece)?;
@@ -88,13 +89,33 @@ impl<W: Write + Drop> House<W> {
     fn log_in<R: Net>(&mut self, rt: &R, key: usize, mut message: Vec<u8>) -> io::Result<()> {
         leave_out_features(self.alloc, &mut message)?;
         self.name(key, &message)?;
+        if self.is_over(key) {
+            self.put_refusal_of(key, TOO_MANY, FULL)?;
+            return self.send_or_close(rt, key);
+        }
         match kind_of(message) {
             Kind::Wrong(why) => self.refuse(rt, key, why),
             Kind::Alone(login) => self.begin_alone(rt, key, login),
-            Kind::Shared(login) => match self.groups.join(&login) {
-                Some(group) => self.join(rt, key, group),
-                None => self.begin_group(rt, key, login),
-            },
+            Kind::Shared(login) => self.share(rt, key, login),
+        }
+    }
+
+    /// It joins the group whose login is equal, or begins it.
+    fn share<R: Net>(&mut self, rt: &R, key: usize, mut login: SharedLogin) -> io::Result<()> {
+        if self.asked.joins_applications {
+            login.name_relay()?;
+        }
+        match self.groups.join(&login) {
+            Some(group) => self.join(rt, key, group),
+            None => self.begin_group(rt, key, login),
+        }
+    }
+
+    /// Whether an application is one too many.
+    fn is_over(&self, key: usize) -> bool {
+        match self.sockets.get(key) {
+            Some(socket) => socket.is_over,
+            None => false,
         }
     }
 
@@ -127,25 +148,15 @@ impl<W: Write + Drop> House<W> {
                 put_saved(&mut socket.out, answer)?;
                 socket.role = Role::Application(group, relay.enter(key)?);
                 raise(&mut self.journal.counts.let_in);
-                self.is_let_in(key, group)?;
+                self.say_let_in(key, group);
                 self.send_or_close(rt, key)
             }
         }
     }
 
-    /// A line about an application of a group.
-    fn is_let_in(&mut self, key: usize, group: usize) -> io::Result<()> {
-        if self.journal.is_logged {
-            let group = number_of(group);
-            let group = format!(in self.alloc; "{group}")?;
-            self.say_of("application", key, "is let in, group", group.as_str());
-        }
-        Ok(())
-    }
-
     /// It is the first one of its kind: the server judges it, on a connection of its own.
     fn begin_group<R: Net>(&mut self, rt: &R, key: usize, login: SharedLogin) -> io::Result<()> {
-        if let Some(why) = self.too_many(true) {
+        if let Some(why) = self.make_room(rt, true, self.address_of(key))? {
             return self.refuse(rt, key, why);
         }
         let Some(begun) = self.group_with(key, login.message(), None)? else {
@@ -157,7 +168,7 @@ impl<W: Write + Drop> House<W> {
 
     /// It can't share.
     fn begin_alone<R: Net>(&mut self, rt: &R, key: usize, login: Vec<u8>) -> io::Result<()> {
-        if let Some(why) = self.too_many(false) {
+        if let Some(why) = self.make_room(rt, false, self.address_of(key))? {
             return self.refuse(rt, key, why);
         }
         let Some(begun) = self.group_with(key, &login, Some(Pair::of(key)))? else {
@@ -165,6 +176,12 @@ impl<W: Write + Drop> House<W> {
         };
         let group = self.groups.begin_alone(login, begun);
         self.judge_first(rt, key, group)
+    }
+
+    /// The address that an application comes from, without its port.
+    fn address_of(&self, key: usize) -> Option<IpAddr> {
+        let peer = self.sockets.get(key)?.peer?;
+        Some(peer.ip())
     }
 
     /// A group whose first application waits for the server's judgement of its login.
@@ -179,8 +196,9 @@ impl<W: Write + Drop> House<W> {
         };
         let mut waiting = Vec::new(self.alloc);
         waiting.push(key)?;
-        let user = who_of(self.alloc, login)?.user;
-        Ok(Some(Group::new(user, waiting, size, pair)))
+        let who = who_of(self.alloc, login)?;
+        let from = self.address_of(key);
+        Ok(Some(Group::new(who, waiting, size, pair, from)))
     }
 
     /// A server is dialed for the first login of a group, if that found room.
@@ -198,25 +216,6 @@ impl<W: Write + Drop> House<W> {
         self.missed(rt, Whose::First(group))
     }
 
-    /// Why no more groups may be, if so.
-    fn too_many(&self, is_shared: bool) -> Option<&'static str> {
-        let (mut shared, mut alone): (usize, usize) = (0, 0);
-        for (_, entry) in self.groups.iter() {
-            if entry.value.inner.pair.is_some() {
-                alone = alone.saturating_add(1);
-            } else {
-                shared = shared.saturating_add(1);
-            }
-        }
-        if is_shared && shared >= MOST_GROUPS {
-            Some("The relay has as many different logins as it takes, 256.")
-        } else if !is_shared && alone >= self.asked.alone {
-            Some("The relay has as many logins that can't be shared as it takes (--alone).")
-        } else {
-            None
-        }
-    }
-
     // ---- Refusals
 
     /// It is told why it isn't let in, and closed.
@@ -227,6 +226,11 @@ impl<W: Write + Drop> House<W> {
 
     /// It is told why it isn't let in, and is to be closed then.
     pub fn put_refusal(&mut self, key: usize, why: &str) -> io::Result<()> {
+        self.put_refusal_of(key, REFUSED, why)
+    }
+
+    /// The same with this number.
+    fn put_refusal_of(&mut self, key: usize, number: u32, why: &str) -> io::Result<()> {
         let alloc = self.alloc;
         raise(&mut self.journal.counts.refused);
         self.say_of("application", key, "is refused:", why);
@@ -234,7 +238,7 @@ impl<W: Write + Drop> House<W> {
             return Ok(());
         };
         let whose = socket.whose();
-        put_error(alloc, &mut socket.out, REFUSED, why)?;
+        put_error(alloc, &mut socket.out, number, why)?;
         socket.role = Role::Closing;
         self.let_go(whose)?;
         Ok(self.sockets.report(key, News::Turn)?)

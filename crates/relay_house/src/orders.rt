@@ -5,11 +5,11 @@ use crate::house::{House, relay_of};
 use relay_logins::Groups;
 use relay_sockets::{News, Whose};
 use relay_status::sum;
-use std::io::{self, Write};
+use std::io;
 use std::net::Net;
 use tds_relay::{Order, Place};
 
-impl<W: Write + Drop> House<W> {
+impl House {
     /// Does what a group's relay says is to be done.
     pub fn obey<R: Net>(&mut self, rt: &R, group: usize) -> io::Result<()> {
         for _ in 0..u64::MAX {
@@ -41,16 +41,6 @@ impl<W: Write + Drop> House<W> {
             }
             Order::Close(key) => self.close(key),
         }
-    }
-
-    /// Opens a connection, which logs in.
-    fn open<R: Net>(&mut self, rt: &R, group: usize, number: u64) -> io::Result<()> {
-        self.upstream.begin();
-        if self.reach(rt, Whose::Opening(group, number), 0)? {
-            return Ok(());
-        }
-        let why = self.upstream.sentence(self.alloc)?;
-        self.not_opened(group, number, why.as_str())
     }
 
     /// How long an application's request took, where it has its answer now.
@@ -103,7 +93,7 @@ impl<W: Write + Drop> House<W> {
     /// Closes a socket, behind what the system still takes of what waits for it. What the relay says
     /// then is done by whoever calls.
     fn close(&mut self, key: usize) -> io::Result<()> {
-        self.say_fault(key)?;
+        self.say_fault(key);
         match self.take_out(key)? {
             Some(whose) => {
                 let _ = self.part(whose, key)?;

@@ -4,10 +4,10 @@ use crate::group::Pair;
 use crate::house::House;
 use relay_logins::{Leg, Taken, put_saved};
 use relay_sockets::{Cause, Role, Whose};
-use std::io::{self, Write};
+use std::io;
 use std::net::Net;
 
-impl<W: Write + Drop> House<W> {
+impl House {
     /// The two ends of a group, where it isn't shared.
     pub fn pair_of(&self, group: usize) -> Option<Pair> {
         match self.groups.get(group) {

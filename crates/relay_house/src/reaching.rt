@@ -2,18 +2,21 @@
 
 use crate::group::Group;
 use crate::house::{House, relay_of};
+use crate::saying::put_away;
 use mio::net::TcpStream;
 use relay_logins::{Groups, NOT_OPENED, Target, Way, put_error};
 use relay_settings::{MOST_SERVERS, SystemError, bit, is_reached_at};
-use relay_sockets::{Cause, Role, Whose};
+use relay_sockets::{Cause, Role, Sockets, Whose};
 use relay_status::raise;
-use std::io::{self, Write};
+use socket_places::Link;
+use std::alloc::Global;
+use std::io;
 use std::net::{IpAddr, Ipv4Addr, Net, SocketAddr};
 
 /// How often a login goes to the server that another one has named.
 const MOST_HOPS: u8 = 4;
 
-impl<W: Write + Drop> House<W> {
+impl House {
     /// Dials for this login the preferred one of the servers that weren't tried. False where there is none.
     pub(crate) fn reach<R: Net>(&mut self, rt: &R, whose: Whose, tried: u8) -> io::Result<bool> {
         let mut tried = tried;
@@ -46,37 +49,28 @@ impl<W: Write + Drop> House<W> {
         way: Way,
         address: SocketAddr,
     ) -> io::Result<bool> {
-        let group = match whose {
-            Whose::First(group) | Whose::Opening(group, _) => group,
-            _ => return Ok(false),
-        };
-        let mut out = Vec::new(self.alloc);
-        let Some(dial) = self.groups.dial(self.alloc, group, way, &mut out)? else {
-            return Ok(false);
-        };
         let stream = match TcpStream::connect(rt, address) {
             Ok(stream) => stream,
             Err(error) => {
                 let cause = Cause::Failed(SystemError::new(error));
                 self.upstream.fail(address, cause);
-                self.went_away(way, cause)?;
+                self.went_away(way, cause);
                 return Ok(false);
             }
         };
-        let now = self.now();
-        let role = match whose {
-            Whose::Opening(group, number) => Role::Opening(group, number, dial),
-            _ => Role::First(group, dial),
-        };
-        let Some(key) = self.sockets.take_in(stream, role, out, now)? else {
+        let (alloc, now) = (self.alloc, self.now());
+        let House {
+            sockets,
+            groups,
+            ..
+        } = self;
+        let begun = begin_login(alloc, sockets, groups, whose, way, Link::Tcp(stream), now)?;
+        let Some(key) = begun else {
             return Ok(false);
         };
         self.is_dialed(whose, key, address);
         raise(&mut self.journal.counts.dialed);
-        if self.journal.is_logged {
-            let address = format!(in self.alloc; "{address}")?;
-            self.say_of("connection", key, "is dialed at", address.as_str());
-        }
+        self.say_dialed(key, address);
         Ok(true)
     }
 
@@ -103,21 +97,16 @@ impl<W: Write + Drop> House<W> {
     }
 
     /// A server has failed: for some seconds others are preferred.
-    pub(crate) fn went_away(&mut self, way: Way, cause: Cause) -> io::Result<()> {
+    pub(crate) fn went_away(&mut self, way: Way, cause: Cause) {
         if way.hops > 0 {
-            return Ok(());
+            return;
         }
         raise(&mut self.journal.counts.away);
         let seconds = self.asked.limits.away;
         let until = self.now().saturating_add(seconds.saturating_mul(1000));
         self.upstream.is_away(way.server, until);
-        match self.asked.servers.at(way.server) {
-            Some(address) if self.journal.is_logged => {
-                let told = format!(in self.alloc; "server {address} {cause}")?;
-                self.journal.note(told.as_str());
-                Ok(())
-            }
-            _ => Ok(()),
+        if let Some(address) = self.asked.servers.at(way.server) {
+            put_away(&mut self.journal, address, cause);
         }
     }
 
@@ -193,6 +182,10 @@ impl<W: Write + Drop> House<W> {
 
     /// No server was reached for this login: why is what became of the last one.
     pub(crate) fn missed<R: Net>(&mut self, rt: &R, whose: Whose) -> io::Result<()> {
+        if let Whose::Opening(group, number) = whose {
+            self.fail_to_open(group, number)?;
+            return self.obey(rt, group);
+        }
         let why = self.upstream.sentence(self.alloc)?;
         self.not_reached(rt, whose, why.as_str())
     }
@@ -229,7 +222,7 @@ impl<W: Write + Drop> House<W> {
     }
 
     /// An application is told that no connection can be opened, where nothing else waits for it.
-    fn tell_not_opened(&mut self, key: usize, why: &str) -> io::Result<()> {
+    pub fn tell_not_opened(&mut self, key: usize, why: &str) -> io::Result<()> {
         raise(&mut self.journal.counts.not_served);
         let what = "waits for a connection that can't be opened:";
         self.say_of("socket", key, what, why);
@@ -250,6 +243,31 @@ impl<W: Write + Drop> House<W> {
         }
         Ok(())
     }
+}
+
+/// Begins the login of a connection on this link. None where it has no group, or no room.
+fn begin_login(
+    alloc: Global,
+    sockets: &mut Sockets,
+    groups: &Groups<Group>,
+    whose: Whose,
+    way: Way,
+    link: Link,
+    now: u64,
+) -> io::Result<Option<usize>> {
+    let group = match whose {
+        Whose::First(group) | Whose::Opening(group, _) => group,
+        _ => return Ok(None),
+    };
+    let mut out = Vec::new(alloc);
+    let Some(dial) = groups.dial(alloc, group, way, &mut out)? else {
+        return Ok(None);
+    };
+    let role = match whose {
+        Whose::Opening(group, number) => Role::Opening(group, number, dial),
+        _ => Role::First(group, dial),
+    };
+    sockets.take_in(link, role, out, now)
 }
 
 /// Whether nothing waits for an application of a group.

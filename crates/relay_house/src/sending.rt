@@ -5,7 +5,7 @@ use crate::house::{House, relay_of};
 use relay_logins::Groups;
 use relay_settings::SystemError;
 use relay_sockets::{Cause, Socket, Whose};
-use std::io::{self, Write};
+use std::io;
 use std::net::Net;
 use tds_judge::Finding;
 use tds_relay::Relay;
@@ -21,7 +21,7 @@ enum Sent {
     All,
 }
 
-impl<W: Write + Drop> House<W> {
+impl House {
     /// Sends what the system takes of what waits for a socket. False where it failed, or is to be closed
     /// and has nothing to be sent any more: then it says why it ends.
     pub fn send(&mut self, key: usize) -> io::Result<bool> {
@@ -107,6 +107,7 @@ fn send_application(
         if count == 0 {
             break;
         }
+        socket.is_answered = true;
         sent = room_of(relay.sent(key, count));
         if count < most {
             // The system has no room for more, and reports it once it has.

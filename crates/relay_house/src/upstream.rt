@@ -5,13 +5,27 @@ use relay_sockets::Cause;
 use std::alloc::{AllocError, Global};
 use std::net::SocketAddr;
 
+/// The server at which a login failed, and why.
+#[derive(Clone, Copy)]
+pub struct Failure {
+    pub address: SocketAddr,
+    pub cause: Cause,
+}
+
+impl Failure {
+    /// What an application is told.
+    pub fn sentence(&self, alloc: Global) -> Result<String, AllocError> {
+        format!(in alloc; "The server {} {}.", self.address, self.cause)
+    }
+}
+
 /// Which servers have failed, and why the last login did.
 #[derive(Clone, Copy)]
 pub struct Upstream {
     /// For each server that failed, the millisecond up to which another one is preferred.
     pub away: [u64; MOST_SERVERS],
-    /// The server at which a login failed last, and why.
-    failed: Option<(SocketAddr, Cause)>,
+    /// Why a login failed last.
+    pub failed: Option<Failure>,
 }
 
 impl Upstream {
@@ -30,7 +44,7 @@ impl Upstream {
 
     /// A login has failed at this address.
     pub fn fail(&mut self, address: SocketAddr, cause: Cause) {
-        self.failed = Some((address, cause));
+        self.failed = Some(Failure { address, cause });
     }
 
     /// A server has let a login in.
@@ -50,7 +64,7 @@ impl Upstream {
     /// Why the last login failed, as an application is told.
     pub fn sentence(&self, alloc: Global) -> Result<String, AllocError> {
         match self.failed {
-            Some((address, cause)) => format!(in alloc; "The server {address} {cause}."),
+            Some(failure) => failure.sentence(alloc),
             None => String::from_str(alloc, "The relay has no room for one more connection."),
         }
     }

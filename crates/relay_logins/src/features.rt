@@ -52,7 +52,7 @@ pub fn leave_out_features(alloc: Global, message: &mut Vec<u8>) -> Result<(), Al
 }
 
 /// The first four bytes are the length.
-fn set_length(message: &mut [u8]) {
+pub fn set_length(message: &mut [u8]) {
     let length = u32::try_from(message.len()).unwrap_or(u32::MAX);
     let bytes = length.to_le_bytes();
     if let Some(place) = message.get_mut(..4) {

@@ -9,6 +9,8 @@ mod groups;
 mod leg;
 mod login7;
 mod notice;
+mod notices;
+mod program;
 mod table;
 
 pub use dial::{Dial, Dialed, FEATURES, Target, Unfit, Way};
@@ -17,5 +19,8 @@ pub use gate::{Gate, Passed};
 pub use groups::{Group, Groups};
 pub use leg::{Leg, Taken};
 pub use login7::{Kind, SharedLogin, Who, kind_of, who_of};
-pub use notice::{NOT_OPENED, REFUSED, UNANSWERED, put_error, put_saved};
+pub use notice::{
+    FULL, NO_NOTICES, NOT_OPENED, NOTIFIES, REFUSED, TOO_MANY, UNANSWERED, put_error, put_saved,
+};
+pub use notices::Notices;
 pub use table::{Entry, Table, number_of};

@@ -28,7 +28,7 @@ const USER: usize = 40;
 
 const PASSWORD: usize = 44;
 
-const PROGRAM: usize = 48;
+pub const PROGRAM: usize = 48;
 
 const SERVER: usize = 52;
 
@@ -223,6 +223,7 @@ pub struct Who {
     pub host: String,
     pub user: String,
     pub program: String,
+    pub database: String,
 }
 
 /// Who this login says that it is.
@@ -231,6 +232,7 @@ pub fn who_of(alloc: Global, message: &[u8]) -> Result<Who, AllocError> {
         host: name_at(alloc, message, HOST)?,
         user: name_at(alloc, message, USER)?,
         program: name_at(alloc, message, PROGRAM)?,
+        database: name_at(alloc, message, DATABASE)?,
     })
 }
 

@@ -11,6 +11,17 @@ pub const REFUSED: u32 = 50_100;
 
 pub const UNANSWERED: &str = "The application gave no answer in time.";
 
+/// The number of the error of an application too many, and its sentence.
+pub const TOO_MANY: u32 = 50_106;
+
+pub const FULL: &str =
+    "The relay has as many applications as its limit of open files leaves room for.";
+
+/// The number of the error of who asks for a query notification, and its sentence.
+pub const NOTIFIES: u32 = 50_107;
+
+pub const NO_NOTICES: &str = "The relay hands no query notification on: ask for it past the relay.";
+
 /// The number of the error of who waits for a connection that can't be opened.
 pub const NOT_OPENED: u32 = 50_105;
 

@@ -12,11 +12,15 @@ use toml::{Table, Value};
 const MOST: usize = 65_536;
 
 /// What a file may set.
-const NAMES: [&str; 16] = [
+const NAMES: [&str; 23] = [
     "most",
     "alone",
+    "total",
+    "least",
+    "any-application",
     "stats",
     "log",
+    "log-json",
     "judge",
     "login",
     "wait",
@@ -25,10 +29,13 @@ const NAMES: [&str; 16] = [
     "life",
     "hold",
     "transaction",
+    "request",
     "drain",
     "check",
     "away",
     "spin",
+    "keepalive",
+    "unacknowledged",
 ];
 
 /// The settings of a file, or none.

@@ -3,6 +3,7 @@
 use crate::system::SystemError;
 use clap::Error;
 use clap::error::ErrorKind as UsageKind;
+use socket_places::Place;
 use std::alloc::AllocError;
 use std::io::{self, ErrorKind};
 use std::net::SocketAddr;
@@ -37,7 +38,7 @@ pub enum RelayFault {
     Input(SystemError),
     /// It can't listen there, and why.
     #[error("error: {0}: {1}")]
-    Listen(SocketAddr, Bar),
+    Listen(Place, Bar),
     /// The system refuses to go on.
     #[error("error: the system refuses to go on: {0}")]
     Refused(SystemError),
@@ -53,6 +54,8 @@ pub enum Bar {
     NoAddress,
     #[error("another program listens there (EADDRINUSE); `ss -ltnp` shows which, and port 0 is one that is free")]
     Taken,
+    #[error("another program listens at this socket, or what stands there is no socket; take another path")]
+    Served,
     #[error("the system doesn't let this user listen there (EACCES); ports from 1024 on are anybody's")]
     Forbidden,
     /// What the system says.
@@ -61,12 +64,13 @@ pub enum Bar {
 }
 
 impl Bar {
-    /// Why it can't, where the system says this.
-    pub fn of(error: io::Error) -> Bar {
-        match error.kind() {
-            ErrorKind::AddrNotAvailable => Bar::NoAddress,
-            ErrorKind::AddrInUse => Bar::Taken,
-            ErrorKind::PermissionDenied => Bar::Forbidden,
+    /// Why it can't there, where the system says this.
+    pub fn of(place: &Place, error: io::Error) -> Bar {
+        match (place, error.kind()) {
+            (Place::Unix(_), ErrorKind::AddrInUse) => Bar::Served,
+            (Place::Tcp(_), ErrorKind::AddrNotAvailable) => Bar::NoAddress,
+            (Place::Tcp(_), ErrorKind::AddrInUse) => Bar::Taken,
+            (Place::Tcp(_), ErrorKind::PermissionDenied) => Bar::Forbidden,
             _ => Bar::System(SystemError::new(error)),
         }
     }
@@ -81,9 +85,10 @@ impl RelayFault {
         }
     }
 
-    /// The fault where it can't listen at an address.
-    pub fn of_listener(address: SocketAddr, error: io::Error) -> RelayFault {
-        RelayFault::Listen(address, Bar::of(error))
+    /// The fault where it can't listen at a place.
+    pub fn of_listener(place: Place, error: io::Error) -> RelayFault {
+        let bar = Bar::of(&place, error);
+        RelayFault::Listen(place, bar)
     }
 
     /// The fault where the system refuses to go on.

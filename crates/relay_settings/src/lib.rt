@@ -2,15 +2,17 @@
 #![tactic(auto)]
 
 mod config;
+mod counts;
 mod fault;
 mod limits;
 mod near;
 mod servers;
 mod system;
+mod table;
 mod words;
 
 pub use fault::{Bar, RelayFault};
 pub use limits::{Limits, is_beyond, lesser};
 pub use servers::{MOST as MOST_SERVERS, Servers, bit};
 pub use system::SystemError;
-pub use words::{Asked, is_reached_at, read_words};
+pub use words::{Asked, Settings, is_reached_at, read_words};

@@ -17,6 +17,8 @@ pub struct Limits {
     pub hold: u64,
     /// The same, where a transaction is open on that connection.
     pub transaction: u64,
+    /// A request.
+    pub request: u64,
     /// What is still open once the relay is to end.
     pub drain: u64,
     /// From one check of free connections to the next.
@@ -34,6 +36,7 @@ pub const USUAL: Limits = Limits {
     life: 3600,
     hold: 0,
     transaction: 0,
+    request: 0,
     drain: 30,
     check: 30,
     away: 10,

@@ -1,136 +1,16 @@
 //! The words of the command line.
 
 use crate::config::Config;
+use crate::counts::{COUNT_ALONE, COUNT_LEAST, COUNT_MOST, COUNT_SPIN, COUNT_TOTAL, Count};
 use crate::fault::RelayFault;
 use crate::limits::{Limits, MOST as MOST_SECONDS, USUAL as USUAL_LIMITS};
 use crate::servers::Servers;
+use crate::table::{FLAGS, SETTINGS};
 use clap::{Arg, ArgAction, ArgMatches, Command};
+use socket_places::{Keeping, Place, USUAL as USUAL_KEEPING};
 use std::alloc::{AllocError, Global};
 use std::fs::Files;
 use std::net::SocketAddr;
-
-/// The connections of a group, where no word says it.
-const USUAL: usize = 16;
-
-/// The most connections of a group.
-const MOST: usize = 1024;
-
-/// The connections that aren't shared, where no word says it, and the most of them.
-const USUAL_ALONE: usize = 256;
-
-const MOST_ALONE: usize = 4096;
-
-/// The words that take a value: the name, and what it is.
-const SETTINGS: [(&str, &str); 15] = [
-    (
-        "most",
-        "CONNECTIONS at most for equal logins, 1 to 1024 [16]",
-    ),
-    (
-        "alone",
-        "CONNECTIONS at most of logins that can't be shared, 0 to 4096 [256]",
-    ),
-    (
-        "login",
-        "SECONDS that a login may take, on either side [10]; of these words 0 is no limit",
-    ),
-    (
-        "wait",
-        "SECONDS that an application waits for a connection at most [120]",
-    ),
-    (
-        "cancel",
-        "SECONDS until a cancel is acknowledged, or a cleaning done, at most [30]",
-    ),
-    (
-        "idle",
-        "SECONDS that a connection which nobody holds is kept [600]",
-    ),
-    (
-        "life",
-        "SECONDS from its login after which a connection is closed once nobody holds it [3600]",
-    ),
-    (
-        "hold",
-        "SECONDS that an application may hold a connection and ask nothing [0]",
-    ),
-    (
-        "transaction",
-        "SECONDS that an application may leave a transaction open and ask nothing [0]",
-    ),
-    (
-        "drain",
-        "SECONDS at most from the end of standard input to the relay's own [30]",
-    ),
-    (
-        "check",
-        "SECONDS after which connections that nobody holds are reset once more, to find dead ones [30]",
-    ),
-    (
-        "away",
-        "SECONDS for which other servers are preferred to one that has failed [10]",
-    ),
-    (
-        "spin",
-        "MICROSECONDS behind a report for which the system is asked again at once, 0 to 1000 [0]",
-    ),
-    (
-        "config",
-        "FILE in TOML that has these settings; a word stands over it",
-    ),
-    ("stats", "ADDRESS at which it tells what it does, over HTTP"),
-];
-
-/// The words that take none.
-const FLAGS: [(&str, &str); 3] = [
-    (
-        "until-input-ends",
-        "ends in order once its standard input, a pipe, has ended",
-    ),
-    (
-        "judge",
-        "a line for each breach and each risk of applications and servers, on standard error",
-    ),
-    (
-        "log",
-        "a line for each application and each connection, on standard error",
-    ),
-];
-
-/// A word that is a count.
-#[derive(Clone, Copy)]
-struct Count {
-    name: &'static str,
-    least: usize,
-    most: usize,
-    usual: usize,
-    /// Of what.
-    unit: &'static str,
-}
-
-const COUNT_MOST: Count = Count {
-    name: "most",
-    least: 1,
-    most: MOST,
-    usual: USUAL,
-    unit: "connections",
-};
-
-const COUNT_ALONE: Count = Count {
-    name: "alone",
-    least: 0,
-    most: MOST_ALONE,
-    usual: USUAL_ALONE,
-    unit: "connections",
-};
-
-const COUNT_SPIN: Count = Count {
-    name: "spin",
-    least: 0,
-    most: 1000,
-    usual: 0,
-    unit: "microseconds",
-};
 
 /// What the words ask for.
 #[derive(Clone, Copy)]
@@ -141,27 +21,49 @@ pub struct Asked {
     pub most: usize,
     /// The most connections of logins that can't be shared.
     pub alone: usize,
+    /// The most connections of all logins together.
+    pub total: usize,
+    /// So many connections of equal logins are kept however idle they are.
+    pub least: usize,
+    /// Whether logins share connections that differ in the application's name.
+    pub joins_applications: bool,
     pub limits: Limits,
     /// For so many microseconds behind a report it doesn't wait for the next one, but asks for it.
     pub spin: u64,
-    /// Where it tells what it does.
-    pub stats: Option<SocketAddr>,
+    /// How the system looks after what it is connected to.
+    pub keeping: Keeping,
     /// Whether it ends with its standard input.
     pub ends_with_input: bool,
     /// Whether each application and each connection has a line on standard error.
     pub is_logged: bool,
+    /// Whether a line is an object of JSON.
+    pub is_json: bool,
     /// Whether both sides are judged.
     pub is_judged: bool,
 }
 
+/// What the words ask for, and where it tells what it does.
+#[derive(Drop)]
+pub struct Settings {
+    pub asked: Asked,
+    pub stats: Option<Place>,
+}
+
 /// Reads the words, the program's name too, and the file that they name. A word stands over the file.
-pub fn read_words<R: Files>(rt: &R, alloc: Global, words: &[String]) -> Result<Asked, RelayFault> {
+pub fn read_words<R: Files>(
+    rt: &R,
+    alloc: Global,
+    words: &[String],
+) -> Result<Settings, RelayFault> {
     let matches = parser(alloc)?.try_get_matches_from(words)?;
     let config = match matches.get_str("config") {
         Some(path) => Config::read(rt, alloc, path)?,
         None => Config::none(alloc),
     };
-    asked_by(alloc, &matches, &config)
+    Ok(Settings {
+        asked: asked_by(alloc, &matches, &config)?,
+        stats: stats_of(alloc, &matches, &config)?,
+    })
 }
 
 fn asked_by(alloc: Global, matches: &ArgMatches, config: &Config) -> Result<Asked, RelayFault> {
@@ -171,13 +73,22 @@ fn asked_by(alloc: Global, matches: &ArgMatches, config: &Config) -> Result<Aske
         servers: servers_of(alloc, listen, matches.get_strs("SERVER").unwrap_or(&[]))?,
         most: count_of(alloc, matches, config, &COUNT_MOST)?,
         alone: count_of(alloc, matches, config, &COUNT_ALONE)?,
+        total: count_of(alloc, matches, config, &COUNT_TOTAL)?,
+        least: count_of(alloc, matches, config, &COUNT_LEAST)?,
+        joins_applications: is_set(matches, config, "any-application")?,
         spin: count_of(alloc, matches, config, &COUNT_SPIN)? as u64,
-        stats: stats_of(alloc, matches, config)?,
+        keeping: keeping_of(alloc, matches, config)?,
         limits: limits_of(alloc, matches, config)?,
         ends_with_input: matches.get_flag("until-input-ends"),
-        is_logged: config.flag("log")? || matches.get_flag("log"),
-        is_judged: config.flag("judge")? || matches.get_flag("judge"),
+        is_logged: is_set(matches, config, "log")? || is_set(matches, config, "log-json")?,
+        is_json: is_set(matches, config, "log-json")?,
+        is_judged: is_set(matches, config, "judge")?,
     })
+}
+
+/// Whether a word that takes none is there, or the file has it.
+fn is_set(matches: &ArgMatches, config: &Config, name: &'static str) -> Result<bool, RelayFault> {
+    Ok(config.flag(name)? || matches.get_flag(name))
 }
 
 /// Where it tells what it does.
@@ -185,15 +96,34 @@ fn stats_of(
     alloc: Global,
     matches: &ArgMatches,
     config: &Config,
-) -> Result<Option<SocketAddr>, RelayFault> {
+) -> Result<Option<Place>, RelayFault> {
     let set = config.text("stats")?;
-    if let Some(word) = matches.get_str("stats") {
-        return Ok(Some(address_of(alloc, "--stats", word)?));
+    let word = matches.get_str("stats");
+    let Some(text) = word.or(set) else {
+        return Ok(None);
+    };
+    if let Some(path) = text.strip_prefix("unix:") {
+        return Ok(Some(Place::Unix(String::from_str(alloc, path)?)));
     }
-    match set {
-        Some(text) => Ok(Some(address_in(config, text)?)),
-        None => Ok(None),
-    }
+    let address = match word {
+        Some(word) => address_of(alloc, "--stats", word)?,
+        None => address_in(config, text)?,
+    };
+    Ok(Some(Place::Tcp(address)))
+}
+
+fn keeping_of(alloc: Global, matches: &ArgMatches, config: &Config) -> Result<Keeping, RelayFault> {
+    let usual = USUAL_KEEPING;
+    Ok(Keeping {
+        silence: seconds_of(alloc, matches, config, "keepalive", usual.silence)?,
+        unacknowledged: seconds_of(
+            alloc,
+            matches,
+            config,
+            "unacknowledged",
+            usual.unacknowledged,
+        )?,
+    })
 }
 
 fn limits_of(alloc: Global, matches: &ArgMatches, config: &Config) -> Result<Limits, RelayFault> {
@@ -206,6 +136,7 @@ fn limits_of(alloc: Global, matches: &ArgMatches, config: &Config) -> Result<Lim
         life: seconds_of(alloc, matches, config, "life", usual.life)?,
         hold: seconds_of(alloc, matches, config, "hold", usual.hold)?,
         transaction: seconds_of(alloc, matches, config, "transaction", usual.transaction)?,
+        request: seconds_of(alloc, matches, config, "request", usual.request)?,
         drain: seconds_of(alloc, matches, config, "drain", usual.drain)?,
         check: seconds_of(alloc, matches, config, "check", usual.check)?,
         away: seconds_of(alloc, matches, config, "away", usual.away)?,
@@ -241,7 +172,10 @@ fn address_of(alloc: Global, what: &'static str, word: &str) -> Result<SocketAdd
 fn address_in(config: &Config, text: &str) -> Result<SocketAddr, RelayFault> {
     match text.parse::<SocketAddr>() {
         Ok(address) => Ok(address),
-        Err(_) => Err(config.fault("stats", "an IP address, a colon and a port are wanted")?),
+        Err(_) => Err(config.fault(
+            "stats",
+            "an IP address, a colon and a port are wanted, or unix:PATH",
+        )?),
     }
 }
 

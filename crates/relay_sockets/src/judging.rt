@@ -1,11 +1,10 @@
 //! What comes and goes is judged, where that is asked for.
 
-use crate::socket::{Role, Socket};
+use crate::socket::{Gone, Role, Socket};
 use crate::sockets::Sockets;
 use relay_logins::FEATURES;
 use relay_status::{Journal, Judged};
-use std::io::{self, Write};
-use std::mem;
+use std::{io, mem};
 use tds_judge::Finding;
 
 impl Sockets {
@@ -26,12 +25,7 @@ impl Sockets {
     }
 
     /// These bytes came on a socket.
-    pub fn judge<W: Write + Drop>(
-        &mut self,
-        key: usize,
-        bytes: &[u8],
-        journal: &mut Journal<W>,
-    ) -> io::Result<()> {
+    pub fn judge(&mut self, key: usize, bytes: &[u8], journal: &mut Journal) -> io::Result<()> {
         let Sockets {
             table,
             findings,
@@ -47,7 +41,7 @@ impl Sockets {
     }
 
     /// Tells and counts what was found of a socket.
-    pub fn tell_findings<W: Write + Drop>(&mut self, key: usize, journal: &mut Journal<W>) {
+    pub fn tell_findings(&mut self, key: usize, journal: &mut Journal) {
         if self.findings.is_empty() {
             return;
         }
@@ -57,25 +51,36 @@ impl Sockets {
         }
     }
 
-    /// A socket that was taken out has ended.
-    pub fn end_judging<W: Write + Drop>(
-        &mut self,
-        socket: &mut Socket,
-        journal: &mut Journal<W>,
-    ) -> io::Result<()> {
-        let findings = &mut self.findings;
-        if let Some(judged) = &mut socket.judged {
-            judged.close(journal.moment.micros, findings)?;
+    /// A socket has ended: it is one no more. Answers what is known of it.
+    pub fn remove(&mut self, key: usize, journal: &mut Journal) -> io::Result<Option<Gone>> {
+        self.end_judging(key, journal)?;
+        let Some(socket) = self.table.get(key) else {
+            return Ok(None);
+        };
+        let gone = socket.gone();
+        let _ = self.table.try_remove(key).is_some();
+        Ok(Some(gone))
+    }
+
+    fn end_judging(&mut self, key: usize, journal: &mut Journal) -> io::Result<()> {
+        let Sockets {
+            table,
+            findings,
+            ..
+        } = self;
+        if let Some(socket) = table.get_mut(key) {
+            if let Some(judged) = &mut socket.judged {
+                judged.close(journal.moment.micros, findings)?;
+            }
         }
-        socket.tell_all(findings, journal);
-        findings.clear();
+        self.tell_findings(key, journal);
         Ok(())
     }
 }
 
 impl Socket {
     /// Tells and counts what was found of it.
-    fn tell_all<W: Write + Drop>(&mut self, findings: &[Finding], journal: &mut Journal<W>) {
+    fn tell_all(&mut self, findings: &[Finding], journal: &mut Journal) {
         let number = self.number;
         let Some(judged) = &mut self.judged else {
             return;

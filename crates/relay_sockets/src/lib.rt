@@ -5,10 +5,12 @@
 mod ending;
 mod judging;
 mod link;
+mod room;
 mod socket;
 mod sockets;
 
 pub use ending::Cause;
 pub use link::{Came, Link, News};
-pub use socket::{Gone, Role, Seen, Socket, Whose};
+pub use room::{Admission, Room};
+pub use socket::{Gone, Role, Seen, Socket, Whose, names_of};
 pub use sockets::{ROUND, Sockets};

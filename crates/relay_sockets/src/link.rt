@@ -1,6 +1,6 @@
 //! A socket.
 
-use mio::net::TcpStream;
+use socket_places::Link as Stream;
 use std::io::{self, ErrorKind, Read, Write};
 
 /// What a read brought.
@@ -24,7 +24,7 @@ pub enum News {
 
 #[derive(Drop)]
 pub struct Link {
-    stream: TcpStream,
+    stream: Stream,
     /// Whether more may be there to read.
     readable: bool,
     /// Whether the system has reported that the other end sends no more, or that the socket has failed.
@@ -35,7 +35,7 @@ pub struct Link {
 
 impl Link {
     /// A socket that isn't registered yet: what is there by then is reported.
-    pub fn new(stream: TcpStream) -> Link {
+    pub fn new(stream: Stream) -> Link {
         Link {
             stream,
             readable: false,

@@ -2,8 +2,8 @@
 
 use crate::ending::Cause;
 use crate::link::Link;
-use relay_logins::{Dial, Gate, Leg, Way, Who};
-use relay_status::{Asker, At, Judged, Names, Role as Told};
+use relay_logins::{Dial, Gate, Leg, Notices, Way, Who};
+use relay_status::{Asker, At, Judged, Names, Role as Told, Whom};
 use std::io;
 use std::net::SocketAddr;
 use tds_judge::Finding;
@@ -69,6 +69,8 @@ pub struct Socket {
     pub number: u64,
     /// Whether the log tells of it: not of those who ask what the relay does.
     pub is_told: bool,
+    /// Whether it is an application too many, which is told so at its login.
+    pub is_over: bool,
     pub link: Link,
     pub role: Role,
     /// What is to be sent in a login, and to whoever asks what the relay does.
@@ -93,9 +95,13 @@ pub struct Socket {
     /// A connection's process at the server, and the server's place in the list.
     pub spid: u16,
     pub server: usize,
+    /// Where in its requests an application is.
+    pub notices: Notices,
     /// An application's requests so far, and the microsecond in which the one began that has no answer yet.
     pub begun: u64,
     pub asked: Option<u64>,
+    /// Whether something of that one's answer has been sent.
+    pub is_answered: bool,
     /// Where judging is asked for.
     pub judged: Option<Judged>,
 }
@@ -106,6 +112,7 @@ impl Socket {
         Socket {
             number,
             is_told: !matches!(role, Role::Asker(_)),
+            is_over: false,
             link,
             role,
             out,
@@ -124,8 +131,10 @@ impl Socket {
             checked: None,
             spid: 0,
             server: 0,
+            notices: Notices::new(),
             begun: 0,
             asked: None,
+            is_answered: false,
             judged: None,
         }
     }
@@ -150,6 +159,7 @@ impl Socket {
         if begun != self.begun {
             self.begun = begun;
             self.asked = Some(precise);
+            self.is_answered = false;
         }
     }
 
@@ -251,11 +261,15 @@ impl Socket {
         let Some(who) = &self.who else {
             return None;
         };
-        Some(Names {
-            host: who.host.as_str(),
-            user: who.user.as_str(),
-            program: who.program.as_str(),
-        })
+        Some(names_of(who))
+    }
+
+    /// Whose a line of the log about it is.
+    pub fn whom(&self) -> Whom<'_> {
+        Whom {
+            names: self.names(),
+            peer: self.peer,
+        }
     }
 
     /// Whose it is.
@@ -271,5 +285,15 @@ impl Socket {
             Role::Asker(_) => Whose::Asker,
             Role::Closing => Whose::Closing,
         }
+    }
+}
+
+/// What a login says, as it is told.
+pub fn names_of(who: &Who) -> Names<'_> {
+    Names {
+        host: who.host.as_str(),
+        user: who.user.as_str(),
+        program: who.program.as_str(),
+        database: who.database.as_str(),
     }
 }

@@ -1,20 +1,19 @@
 //! All sockets, by their keys.
 
 use crate::link::{Link, News};
+use crate::room::{Admission, Room};
 use crate::socket::{Role, Socket};
-use mio::net::{TcpListener, TcpStream};
 use mio::unix::SourceFd;
 use mio::{Events, Interest, Poll, Token};
 use relay_logins::{Entry, Table};
 use relay_status::raise;
+use socket_places::{Keeping, Link as Stream, Listener, Place};
 use std::alloc::{AllocError, Global};
-use std::net::{Net, SocketAddr};
+use std::fs::Files;
+use std::net::Net;
 use std::time::Duration;
 use std::{io, mem};
 use tds_judge::Finding;
-
-/// The most applications and connections at a time.
-const MOST: usize = 11_024;
 
 /// The most reports of the system that are taken in a round.
 pub const ROUND: usize = 256;
@@ -33,13 +32,22 @@ pub struct Sockets {
     reports: u64,
     /// Whether both sides are judged.
     pub is_judged: bool,
+    /// How many there may be.
+    room: Room,
+    /// How the system looks after each.
+    pub keeping: Keeping,
     /// What was found and isn't told yet.
     pub(crate) findings: Vec<Finding>,
 }
 
 impl Sockets {
     /// No socket yet.
-    pub fn new<R: Net>(rt: &R, alloc: Global, is_judged: bool) -> io::Result<Sockets> {
+    pub fn new<R: Net>(
+        rt: &R,
+        alloc: Global,
+        is_judged: bool,
+        keeping: Keeping,
+    ) -> io::Result<Sockets> {
         Ok(Sockets {
             alloc,
             poll: Poll::new(rt)?,
@@ -48,21 +56,21 @@ impl Sockets {
             opened: 0,
             reports: 0,
             is_judged,
+            room: Room::new(),
+            keeping,
             findings: Vec::new(alloc),
         })
     }
 
-    /// A listener at this address, which the system reports by this token.
-    pub fn listen<R: Net>(
+    /// A listener at this place, which the system reports by this token.
+    pub fn listen<R: Net + Files>(
         &self,
         rt: &R,
-        address: SocketAddr,
+        place: &Place,
         token: Token,
-    ) -> io::Result<TcpListener> {
-        let mut listener = TcpListener::bind(rt, address)?;
-        self.poll
-            .registry()
-            .register(&mut listener, token, Interest::READABLE)?;
+    ) -> io::Result<Listener> {
+        let mut listener = Listener::new(rt, place)?;
+        listener.register(self.poll.registry(), token)?;
         Ok(listener)
     }
 
@@ -73,6 +81,16 @@ impl Sockets {
         self.poll
             .registry()
             .register(&mut input, token, Interest::READABLE)
+    }
+
+    /// From now on the system reports by this token that standard error may be written to: not where it is a
+    /// file, which always may.
+    pub fn watch_log(&self, token: Token) {
+        let mut log = SourceFd(&2);
+        let _ = self
+            .poll
+            .registry()
+            .register(&mut log, token, Interest::WRITABLE);
     }
 
     /// Waits for the system's reports, for so many milliseconds at most, and not at all where a socket is to
@@ -127,11 +145,6 @@ impl Sockets {
         Ok(keys)
     }
 
-    /// A socket is one no more.
-    pub fn try_remove(&mut self, key: usize) -> Option<Socket> {
-        self.table.try_remove(key)
-    }
-
     /// The system reported a socket, or it has more to do: it is to have a turn.
     pub fn report(&mut self, key: usize, news: News) -> Result<(), AllocError> {
         let Sockets {
@@ -161,11 +174,21 @@ impl Sockets {
         }
     }
 
+    /// What becomes of an application that comes now.
+    pub fn admission(&self) -> Admission {
+        self.room.admission(self.table.len())
+    }
+
+    /// An application comes that is one too many. Whether it is the first one of these.
+    pub fn is_newly_full(&mut self) -> bool {
+        self.room.is_newly_full()
+    }
+
     /// Takes a socket in, to which these bytes are to be sent, in this millisecond. One too many is closed at
     /// once, and one that the system doesn't report.
     pub fn take_in(
         &mut self,
-        mut stream: TcpStream,
+        mut stream: Stream,
         role: Role,
         out: Vec<u8>,
         now: u64,
@@ -186,14 +209,9 @@ impl Sockets {
     }
 
     /// Whether there is room for a socket, and the system reports it from now on.
-    fn is_reported(&self, stream: &mut TcpStream, key: usize) -> bool {
-        if self.table.len() >= MOST || stream.set_nodelay(true).is_err() {
-            return false;
-        }
-        let both = Interest::READABLE | Interest::WRITABLE;
-        self.poll
-            .registry()
-            .register(stream, Token(key), both)
-            .is_ok()
+    fn is_reported(&self, stream: &mut Stream, key: usize) -> bool {
+        self.room.has(self.table.len())
+            && stream.keep(&self.keeping).is_ok()
+            && stream.register(self.poll.registry(), Token(key)).is_ok()
     }
 }

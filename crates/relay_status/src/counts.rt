@@ -39,12 +39,15 @@ pub struct Counts {
     pub late_cancels: u64,
     pub late_holds: u64,
     pub late_transactions: u64,
+    pub late_requests: u64,
     /// Connections that were closed as idle or old.
     pub idle: u64,
     pub old: u64,
     /// Servers that didn't take a login or ended in one, and logins that a server sent to another one.
     pub away: u64,
     pub routed: u64,
+    /// Lines of the log that were left out, since nobody read them in time.
+    pub left_out: u64,
     /// What a judge has found.
     pub found: Found,
     /// What groups that are gone had done.
@@ -65,10 +68,12 @@ impl Counts {
             late_cancels: 0,
             late_holds: 0,
             late_transactions: 0,
+            late_requests: 0,
             idle: 0,
             old: 0,
             away: 0,
             routed: 0,
+            left_out: 0,
             found: Found::none(),
             gone: NOTHING,
         }

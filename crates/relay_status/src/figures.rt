@@ -124,7 +124,7 @@ impl Figures {
     }
 
     /// What was done since the relay began.
-    fn counted(&self) -> [Figure; 22] {
+    fn counted(&self) -> [Figure; 24] {
         [
             ("applications", "let_in", self.counts.let_in),
             ("applications", "refused", self.counts.refused),
@@ -141,10 +141,12 @@ impl Figures {
             ("limits", "cancel", self.counts.late_cancels),
             ("limits", "hold", self.counts.late_holds),
             ("limits", "transaction", self.counts.late_transactions),
+            ("limits", "request", self.counts.late_requests),
             ("limits", "idle", self.counts.idle),
             ("limits", "life", self.counts.old),
             ("servers", "failed", self.counts.away),
             ("servers", "routed", self.counts.routed),
+            ("log", "lines_left_out", self.counts.left_out),
             ("found", "applications", self.counts.found.applications),
             ("found", "servers", self.counts.found.servers),
             ("found", "relay", self.counts.found.relay),

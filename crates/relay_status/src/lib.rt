@@ -4,13 +4,17 @@
 
 mod at;
 mod counts;
+mod date;
+mod fields;
 mod figures;
 mod journal;
 mod judged;
 mod latency;
 mod lines;
 mod objects;
+mod outbox;
 mod page;
+mod whom;
 
 pub use at::{At, Role};
 pub use counts::{Counts, Done, NOTHING, raise, sum};
@@ -20,4 +24,6 @@ pub use judged::{Blamed, Found, Judged};
 pub use latency::Latency;
 pub use lines::{GroupLine, Names, SocketLine, put_group, put_server, put_socket};
 pub use objects::{put_json_group, put_json_socket};
-pub use page::{Asker, FAR, NO_HTTP, PAGES, Page, put_answer};
+pub use outbox::Outbox;
+pub use page::{Asker, Door, FAR, NO_HTTP, PAGES, Page, STRANGE, UNMEANT, put_answer};
+pub use whom::{NOBODY, Whom};

@@ -11,8 +11,8 @@ pub struct GroupLine<'a> {
     pub is_shared: bool,
     /// The seconds since which it has been paused, if it is.
     pub paused: Option<u64>,
-    /// The user that its login names, in letters that need no escape; empty where it names none.
-    pub user: &'a str,
+    /// What its login names; the host is the first one's.
+    pub names: Names<'a>,
     /// The most connections.
     pub most: usize,
 }
@@ -23,6 +23,7 @@ pub struct Names<'a> {
     pub host: &'a str,
     pub user: &'a str,
     pub program: &'a str,
+    pub database: &'a str,
 }
 
 /// A socket.
@@ -62,7 +63,7 @@ pub fn put_server(
 /// A group's figures.
 pub fn put_group(body: &mut Vec<u8>, group: &GroupLine<'_>) -> io::Result<()> {
     put_group_kind(body, group)?;
-    put_user_of(body, group.user)?;
+    put_group_names(body, &group.names)?;
     writeln!(body, ", at most {} connections", group.most)?;
     if group.paused.is_some() {
         writeln!(
@@ -86,11 +87,22 @@ fn put_group_kind(body: &mut Vec<u8>, group: &GroupLine<'_>) -> io::Result<()> {
     }
 }
 
-fn put_user_of(body: &mut Vec<u8>, user: &str) -> io::Result<()> {
-    if user.is_empty() {
-        write!(body, ", no user")
+/// The user, the database and the application that a group's login names.
+fn put_group_names(body: &mut Vec<u8>, names: &Names<'_>) -> io::Result<()> {
+    if names.user.is_empty() {
+        write!(body, ", no user")?;
+    }
+    put_named(body, "user", names.user)?;
+    put_named(body, "database", names.database)?;
+    put_named(body, "application", names.program)
+}
+
+/// A name behind what it is of. Nothing where it is empty.
+fn put_named(body: &mut Vec<u8>, what: &str, name: &str) -> io::Result<()> {
+    if name.is_empty() {
+        Ok(())
     } else {
-        write!(body, ", user {user}")
+        write!(body, ", {what} {name}")
     }
 }
 

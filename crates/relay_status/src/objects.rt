@@ -67,22 +67,23 @@ fn put_who(body: &mut Vec<u8>, socket: &SocketLine<'_>) -> io::Result<()> {
     let Some(names) = socket.names else {
         return Ok(());
     };
-    for (what, name) in [
-        ("host", names.host),
-        ("user", names.user),
-        ("program", names.program),
-    ]
-    .iter()
-    {
-        write!(body, ",\"{what}\":\"{name}\"")?;
-    }
-    Ok(())
+    put_name(body, "host", names.host)?;
+    put_name(body, "user", names.user)?;
+    put_name(body, "program", names.program)?;
+    put_name(body, "database", names.database)
+}
+
+/// A name, and what it is of.
+fn put_name(body: &mut Vec<u8>, what: &str, name: &str) -> io::Result<()> {
+    write!(body, ",\"{what}\":\"{name}\"")
 }
 
 /// A group's object, up to the numbers of those who wait in it.
 pub fn put_json_group(body: &mut Vec<u8>, group: &GroupLine<'_>) -> io::Result<()> {
-    let (number, user) = (group.number, group.user);
-    write!(body, "{{\"group\":{number},\"user\":\"{user}\"")?;
+    write!(body, "{{\"group\":{}", group.number)?;
+    put_name(body, "user", group.names.user)?;
+    put_name(body, "database", group.names.database)?;
+    put_name(body, "program", group.names.program)?;
     put_sharing(body, group)?;
     write!(body, ",\"line\":[")
 }

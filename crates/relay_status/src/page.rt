@@ -1,19 +1,27 @@
 //! Whoever asks what the relay does, over HTTP/1: what he asks for, and the answer's head.
 
+use crate::fields::{Signs, signs_of};
 use httparse::Status;
-use httparse::spans::{EMPTY_HEADER_SPAN, parse_request};
+use httparse::spans::{EMPTY_HEADER_SPAN, HeaderSpan, parse_request};
 use std::alloc::{AllocError, Global};
 use std::io::{self, Write};
+use std::net::SocketAddr;
 
 /// The most bytes of a request's head.
 const MOST: usize = 4_096;
 
-/// What is answered where there is no such page, where an order comes from another machine, and where what
-/// came is no request of HTTP.
+/// What is answered where there is no such page; where an order comes from another machine, or may be a
+/// browser's; where a request is meant for somebody else; and where what came is no request of HTTP.
 pub const PAGES: &[u8] = b"there is no such page; those that are: GET /, /json, /metrics; \
 POST /kill/GROUP, /pause/GROUP, /resume/GROUP, /reload, /drain\n";
 
 pub const FAR: &[u8] = b"POST is taken from the relay's own machine alone: ask at its 127.0.0.1\n";
+
+pub const UNMEANT: &[u8] =
+    b"POST wants the field X-Tdsrelay: 1, and takes nothing of a page in a browser: \
+curl -X POST -H 'X-Tdsrelay: 1' http://ADDRESS/..\n";
+
+pub const STRANGE: &[u8] = b"the field Host isn't this address: ask at it by its numbers\n";
 
 pub const NO_HTTP: &[u8] = b"no request of HTTP/1.1 of 4,096 bytes at most came here; \
 applications connect to the relay's other address, LISTEN\n";
@@ -35,27 +43,37 @@ pub enum Page {
     Reload,
     /// The relay is to end in order.
     Drain,
-    /// An order from another machine.
+    /// An order from another machine; one that may be a browser's; and a request whose Host is another one.
     Far,
+    Unmeant,
+    Strange,
     /// Nothing that is there.
     Unknown,
     /// No request of HTTP.
     Wrong,
 }
 
+/// Where somebody asks.
+#[derive(Clone, Copy)]
+pub enum Door {
+    /// A Unix socket, which its owner alone may open.
+    Unix,
+    /// This address of the relay's; and whether he asks from its machine: only then is anything changed.
+    Tcp(SocketAddr, bool),
+}
+
 /// Somebody who asks, until his request's head has come.
 #[derive(Drop)]
 pub struct Asker {
     head: Vec<u8>,
-    /// Whether he asks from this machine: only then is anything changed.
-    is_near: bool,
+    door: Door,
 }
 
 impl Asker {
-    pub fn new(alloc: Global, is_near: bool) -> Asker {
+    pub fn new(alloc: Global, door: Door) -> Asker {
         Asker {
             head: Vec::new(alloc),
-            is_near,
+            door,
         }
     }
 
@@ -64,11 +82,11 @@ impl Asker {
         self.head.extend_from_slice(piece)?;
         let mut headers = [EMPTY_HEADER_SPAN; 32];
         let asked = match parse_request(&self.head, &mut headers) {
-            Ok(Status::Complete(head)) => Some(page_of(
-                head.method.of(&self.head),
-                head.path.of(&self.head),
-                self.is_near,
-            )),
+            Ok(Status::Complete(head)) => {
+                let (method, path) = (head.method.of(&self.head), head.path.of(&self.head));
+                let fields = first(&headers, head.headers);
+                Some(page_at(self.door, page_of(method, path), &self.head, fields))
+            }
             Ok(Status::Partial) if self.head.len() <= MOST => None,
             _ => Some(Page::Wrong),
         };
@@ -76,7 +94,33 @@ impl Asker {
     }
 }
 
-fn page_of(method: &[u8], path: &[u8], is_near: bool) -> Page {
+/// The first ones of some fields.
+fn first(fields: &[HeaderSpan], count: usize) -> &[HeaderSpan] {
+    &fields[..count.min(fields.len())]
+}
+
+/// What is asked for where this is, as far as the fields of its head allow it there.
+fn page_at(door: Door, page: Page, head: &[u8], fields: &[HeaderSpan]) -> Page {
+    match door {
+        Door::Unix => page,
+        Door::Tcp(at, is_near) => allowed(page, &signs_of(head, fields, at), is_near),
+    }
+}
+
+/// What is asked for, where it is allowed to whoever asks over TCP.
+fn allowed(page: Page, signs: &Signs, is_near: bool) -> Page {
+    if !signs.is_here {
+        return Page::Strange;
+    }
+    match page {
+        Page::Text | Page::Json | Page::Metrics | Page::Unknown | Page::Wrong => page,
+        _ if !is_near => Page::Far,
+        _ if signs.is_of_page || !signs.is_meant => Page::Unmeant,
+        _ => page,
+    }
+}
+
+fn page_of(method: &[u8], path: &[u8]) -> Page {
     match method {
         b"GET" => match path {
             b"/" => Page::Text,
@@ -84,8 +128,7 @@ fn page_of(method: &[u8], path: &[u8], is_near: bool) -> Page {
             b"/metrics" => Page::Metrics,
             _ => Page::Unknown,
         },
-        b"POST" if is_near => ordered(path),
-        b"POST" => Page::Far,
+        b"POST" => ordered(path),
         _ => Page::Unknown,
     }
 }

@@ -3,10 +3,10 @@ ghost use Rattle.std.specs.Prelude.{◌≡◌, ◌-◌, ◌<◌, ◌≤◌, ◌�
 ghost use Rattle.serve_drivers.specs.declared.connection.TheConstants.{MOST_READ};
 ghost use Rattle.serve_sessions.specs.declared.peer.TheConstants.{MOST_WAITING};
 
-use crate::place::Link;
 use serve_scripts::Script;
 use serve_sessions::{CROWDED, FULL, MOST_WAITING, Next, Note, Peer};
 use serve_values::Moment;
+use socket_places::Link;
 use std::alloc::{AllocError, Global};
 use std::io::{self, ErrorKind, Read, Write};
 use tds_session::OnAttention;

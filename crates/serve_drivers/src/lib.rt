@@ -4,11 +4,8 @@
 #![tactic(auto)]
 
 mod connection;
-mod keeping;
 mod log;
-mod place;
 mod serving;
 
 pub use log::{Log, Style};
-pub use place::{Link, Listener, Place};
 pub use serving::{House, Manner};

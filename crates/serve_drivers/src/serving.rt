@@ -2,12 +2,12 @@
 
 use crate::connection::{Connection, Late, Then};
 use crate::log::Log;
-use crate::place::{Link, Listener, Place};
 use mio::unix::SourceFd;
 use mio::{Events, Interest, Poll, Token};
 use serve_scripts::Script;
 use serve_values::Moment;
 use slab::Slab;
+use socket_places::{Link, Listener, Place};
 use std::alloc::Global;
 use std::fs::Files;
 use std::io::{self, Write};

@@ -1,6 +1,7 @@
 pub mod Apart
 pub mod Aside
 pub mod Closings
+pub mod Coming
 pub mod Held
 pub mod Letting
 pub mod Lines
@@ -8,3 +9,4 @@ pub mod Ordered
 pub mod Resting
 pub mod Starting
 pub mod Waits
+pub mod Waking

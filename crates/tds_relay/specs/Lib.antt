@@ -5,6 +5,7 @@ pub mod Away
 pub mod Behind
 pub mod Bodies
 pub mod Bounds
+pub mod Coming
 pub mod Closings
 pub mod Cutting
 pub mod Desk
@@ -27,4 +28,5 @@ pub mod Taking
 pub mod Telling
 pub mod Ties
 pub mod Told
+pub mod Waking
 pub mod Walkers

@@ -119,6 +119,7 @@ impl Relay {
         ensures nothing { IfOk result (λ key. (body_of key self.new ≡ Nowhere)
             × (begun_in (get self.new.applications key) ≡ 0)) }
         ensures tells { TellsTheSame self.old self.new }
+        ensures orders { self.new.orders.items ≡ self.old.orders.items }
     {
         let application = Application::new(self.alloc, tag, self.size);
         let Ok(key) = self.applications.insert(application) else {
@@ -275,6 +276,7 @@ impl Relay {
     fn wait(&mut self, key: usize) -> Result<(), NoMemory>
         ensures goes { OnOk result ((by : Cause) → CausesRequest by key
             → Goes by (desk_in self.old.desk) (desk_in self.new.desk)) }
+        ensures orders { self.new.orders.items ≡ self.old.orders.items }
         ensures kept { posts_in self.new.applications ≡ posts_in self.old.applications }
         ensures moves { OnOk result ((by : Cause) → CausesRequest by key
             → Moved by (hall_in self.old) (hall_in self.new)) }

@@ -6,14 +6,13 @@ use relay_settings::{Asked, read_words};
 use relay_sockets::{Role, Whose};
 use relay_status::put_answer;
 use std::fs::Files;
-use std::io::{self, Write};
-use std::mem;
 use std::net::Net;
+use std::{io, mem};
 
-impl<W: Write + Drop> Program<W> {
+impl Program {
     /// Pauses a group: none of its applications is lent a connection, and free ones are closed. False where
-    /// there is no such group.
-    pub fn pause(&mut self, number: u64) -> bool {
+    /// there is no such group. Who asks for it has this key.
+    pub fn pause(&mut self, number: u64, by: usize) -> bool {
         let now = self.house.now();
         match self.group_of_number(number) {
             Some((_, group)) => {
@@ -25,21 +24,18 @@ impl<W: Write + Drop> Program<W> {
             None => return false,
         }
         self.house
-            .journal
-            .say("group", number, "is paused, by POST /pause");
+            .say_order(number, "is paused, by POST /pause", by);
         true
     }
 
     /// A group is to go on behind this round's turns. False where there is no such group.
-    pub fn resume(&mut self, number: u64) -> io::Result<bool> {
+    pub fn resume(&mut self, number: u64, by: usize) -> io::Result<bool> {
         let Some((key, group)) = self.group_of_number(number) else {
             return Ok(false);
         };
         group.goes_on = true;
         self.resumed.push(key)?;
-        self.house
-            .journal
-            .say("group", number, "goes on, by POST /resume");
+        self.house.say_order(number, "goes on, by POST /resume", by);
         Ok(true)
     }
 
@@ -109,8 +105,8 @@ impl<W: Write + Drop> Program<W> {
 
     fn reload_for<R: Net + Files>(&mut self, rt: &R, key: usize) -> io::Result<()> {
         match read_words(rt, self.house.alloc, self.words.as_slice()) {
-            Ok(asked) => {
-                self.take_over(asked);
+            Ok(settings) => {
+                self.take_over(settings.asked);
                 self.house
                     .journal
                     .note("the settings are read again, by POST /reload");
@@ -148,7 +144,6 @@ impl<W: Write + Drop> Program<W> {
         let before = self.house.asked;
         self.house.set(Asked {
             listen: before.listen,
-            stats: before.stats,
             ends_with_input: before.ends_with_input,
             ..asked
         });

@@ -4,16 +4,14 @@ use crate::program::Program;
 use relay_house::Group;
 use relay_logins::number_of;
 use relay_settings::{Limits, lesser};
-use relay_sockets::{Socket, Whose};
-use relay_status::{
-    At, GroupLine, SocketLine, put_group, put_json_group, put_json_socket, put_socket,
-};
+use relay_sockets::{Socket, Whose, names_of};
+use relay_status::{At, GroupLine, SocketLine, put_group, put_json_group, put_socket};
 use std::io::{self, Write};
 
 /// The most of a line that are told.
 const MOST_TOLD: usize = 100;
 
-impl<W: Write + Drop> Program<W> {
+impl Program {
     /// A group: its figures, a line for each socket of it, and the applications that wait, the first one first.
     pub fn put_group(&self, body: &mut Vec<u8>, key: usize) -> io::Result<()> {
         let Some(group) = self.house.groups.get(key) else {
@@ -48,31 +46,11 @@ impl<W: Write + Drop> Program<W> {
         Ok(())
     }
 
-    pub fn put_json_sockets(&self, body: &mut Vec<u8>) -> io::Result<()> {
-        let mut is_first = true;
-        for (_, entry) in self.house.sockets.iter() {
-            if !is_first {
-                write!(body, ",")?;
-            }
-            is_first = false;
-            put_json_socket(body, &self.line_of(entry.key, &entry.value))?;
-        }
-        Ok(())
-    }
-
-    pub fn put_json_groups(&self, body: &mut Vec<u8>) -> io::Result<()> {
-        let mut is_first = true;
-        for (_, entry) in self.house.groups.iter() {
-            let (key, group) = (entry.key, &entry.value.inner);
-            if !is_first {
-                write!(body, ",")?;
-            }
-            is_first = false;
-            put_json_group(body, &self.line_of_group(key, group))?;
-            self.put_numbers(body, key, group)?;
-            write!(body, "]}}")?;
-        }
-        Ok(())
+    /// A group, as an object of JSON.
+    pub fn put_json_group(&self, body: &mut Vec<u8>, key: usize, group: &Group) -> io::Result<()> {
+        put_json_group(body, &self.line_of_group(key, group))?;
+        self.put_numbers(body, key, group)?;
+        write!(body, "]}}")
     }
 
     /// The numbers of those who wait in a group, the first one first.
@@ -110,12 +88,12 @@ impl<W: Write + Drop> Program<W> {
                 Some(since) => Some(self.seconds_since(since)),
                 None => None,
             },
-            user: group.user.as_str(),
+            names: names_of(&group.who),
             most: group.most,
         }
     }
 
-    fn line_of<'a>(&self, key: usize, socket: &'a Socket) -> SocketLine<'a> {
+    pub fn line_of<'a>(&self, key: usize, socket: &'a Socket) -> SocketLine<'a> {
         SocketLine {
             role: socket.told(),
             number: socket.number,
@@ -148,6 +126,7 @@ fn limit_of(at: At, limits: &Limits) -> u64 {
         At::Holding => limits.hold,
         At::InTransaction => lesser(limits.transaction, limits.hold),
         At::Free => limits.idle,
-        At::Quiet | At::Kept | At::Asking | At::Held => 0,
+        At::Asking => limits.request,
+        At::Quiet | At::Kept | At::Held => 0,
     }
 }

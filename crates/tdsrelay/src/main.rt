@@ -3,19 +3,21 @@
 #![tactic(auto)]
 
 mod changing;
+mod json;
 mod lines;
 mod program;
 mod telling;
 mod turns;
 mod watching;
+mod writing;
 
 use program::Program;
 use relay_settings::{Asked, MOST_SERVERS, RelayFault, Servers, SystemError, read_words};
-use std::env;
-use std::io::{self, Stderr};
+use socket_places::Place;
 use std::net::TcpStream;
 use std::process::ExitCode;
 use std::time::Duration;
+use std::{env, fs, io};
 
 /// For how many milliseconds each server is waited for at the start.
 const PATIENCE: u64 = 500;
@@ -44,43 +46,53 @@ fn answer(rt: &HostRuntime, fault: &RelayFault) -> u8 {
 
 fn run(rt: &HostRuntime) -> Result<(), RelayFault> {
     let words = given_words(rt).map_err(RelayFault::of_words)?;
-    let asked = read_words(rt, rt.alloc(), words.as_slice())?;
+    let settings = read_words(rt, rt.alloc(), words.as_slice())?;
+    let asked = settings.asked;
     let mut program = match Program::new(rt, rt.alloc(), words, asked, rt.stderr()) {
         Ok(program) => program,
-        Err(error) => return Err(RelayFault::of_listener(asked.listen, error)),
+        Err(error) => return Err(RelayFault::of_listener(Place::Tcp(asked.listen), error)),
     };
-    prepare(rt, &mut program, asked)?;
-    serve(rt, &mut program, asked)
-}
-
-/// What it ends with, and where it tells what it does.
-fn prepare(
-    rt: &HostRuntime,
-    program: &mut Program<Stderr>,
-    asked: Asked,
-) -> Result<(), RelayFault> {
     if asked.ends_with_input {
         program.end_with_input().map_err(RelayFault::of_input)?;
     }
-    if let Some(stats) = asked.stats {
-        let at = match program.tell_at(rt, stats) {
-            Ok(at) => at,
-            Err(error) => return Err(RelayFault::of_listener(stats, error)),
-        };
-        let _ = eprintln!(rt; "telling at {at}");
+    let Some(place) = settings.stats else {
+        return serve(rt, &mut program, asked);
+    };
+    let path = match &place {
+        Place::Unix(path) => path.clone()?,
+        Place::Tcp(_) => String::new(rt.alloc()),
+    };
+    tell_at(rt, &mut program, place)?;
+    let done = serve(rt, &mut program, asked);
+    if !path.is_empty() {
+        let _ = fs::remove_file(rt, path.as_str());
     }
+    done
+}
+
+/// It tells at this place what it does, and says so.
+fn tell_at(rt: &HostRuntime, program: &mut Program, place: Place) -> Result<(), RelayFault> {
+    let address = match program.tell_at(rt, &place) {
+        Ok(address) => address,
+        Err(error) => return Err(RelayFault::of_listener(place, error)),
+    };
+    let _ = match address {
+        Some(address) => eprintln!(rt; "telling at {address}"),
+        None => eprintln!(rt; "telling at {place}"),
+    };
     Ok(())
 }
 
 /// Says where it serves, serves, and says how many applications it closed in the middle once it ends.
-fn serve(rt: &HostRuntime, program: &mut Program<Stderr>, asked: Asked) -> Result<(), RelayFault> {
-    let address = program.address().map_err(RelayFault::of_system)?;
+fn serve(rt: &HostRuntime, program: &mut Program, asked: Asked) -> Result<(), RelayFault> {
+    let address = program.address();
     if let Some(server) = asked.servers.at(0) {
         let _ = eprintln!(rt; "relaying {address} to {server}");
     }
     look_at_servers(rt, asked.servers);
     let open = program.serve(rt).map_err(RelayFault::of_system)?;
-    let _ = eprintln!(rt; "ended: applications {open}");
+    let last = format!(in rt.alloc(); "ended: applications {open}")?;
+    program.say_last(last.as_str());
     Ok(())
 }
 

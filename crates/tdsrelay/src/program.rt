@@ -1,14 +1,16 @@
 //! The loop over all sockets: who comes, what the system reports, and when it ends.
 
-use mio::net::TcpListener;
+use crate::json::Telling;
+use crate::writing::Log;
 use mio::{Events, Token};
 use relay_house::House;
 use relay_settings::Asked;
 use relay_sockets::{News, ROUND, Role};
-use relay_status::{Asker, Moment};
+use relay_status::{Asker, Door, Moment};
+use socket_places::{Link, Listener, Place};
 use std::alloc::Global;
 use std::fs::Files;
-use std::io::{self, Write};
+use std::io::{self, Stderr};
 use std::net::{Net, SocketAddr};
 use std::rt::Clock;
 use std::time::Instant;
@@ -22,8 +24,14 @@ const INPUT: Token = Token(usize::MAX - 1);
 /// The token of the listener for those who ask what the relay does.
 const ASKERS: Token = Token(usize::MAX - 2);
 
-/// The milliseconds from one look at time limits to the next.
-const SWEEP: u64 = 1000;
+/// The token of standard error.
+const LOG: Token = Token(usize::MAX - 3);
+
+/// The milliseconds from one look at time limits to the next: ten times as long as the look takes, within
+/// these bounds. What a socket is at is seen then, so that a limit may run out twice that late.
+const SWEEP: u64 = 250;
+
+const LONGEST_SWEEP: u64 = 1000;
 
 /// The most who are accepted at once.
 const MOST: usize = 11_024;
@@ -33,58 +41,80 @@ pub const PIECE: usize = 8_192;
 
 /// A relay that runs.
 #[derive(Drop)]
-pub struct Program<W: Write + Drop> {
-    pub house: House<W>,
+pub struct Program {
+    pub house: House,
     /// The words that it was called with, by which its settings are read again.
     pub words: Vec<String>,
-    listener: TcpListener,
-    stats: Option<TcpListener>,
+    listener: Listener,
+    /// Where it listens.
+    at: SocketAddr,
+    stats: Option<Listener>,
+    log: Log,
     /// The sockets of those who ask that the settings are read again.
     pub reloads: Vec<usize>,
     /// The groups that are to go on behind this round's turns.
     pub resumed: Vec<usize>,
+    /// The sockets of those who ask for JSON, and who of them is being told.
+    pub asking: Vec<usize>,
+    pub telling: Option<Telling>,
     start: Instant,
-    /// The millisecond of the last look at time limits.
+    /// The milliseconds from 1970 to that, by the clock as it stood at the last look at time limits.
+    began: u64,
+    /// The millisecond of the last look at time limits, and for how many the next one is waited for.
     swept: u64,
+    pause: u64,
     /// The microsecond of the last report.
     reported: u64,
     /// The millisecond from which it ends in order.
     pub ending: Option<u64>,
 }
 
-impl<W: Write + Drop> Program<W> {
+impl Program {
     /// A relay that listens and has no application yet.
-    pub fn new<R: Net + Clock>(
+    pub fn new<R: Net + Files + Clock>(
         rt: &R,
         alloc: Global,
         words: Vec<String>,
         asked: Asked,
-        log: W,
-    ) -> io::Result<Program<W>> {
+        errors: Stderr,
+    ) -> io::Result<Program> {
         let start = Instant::now(rt)?;
-        let mut house = House::new(rt, alloc, asked, log)?;
-        let listener = house.sockets.listen(rt, asked.listen, LISTENER)?;
+        let mut house = House::new(rt, alloc, asked)?;
+        let listener = house
+            .sockets
+            .listen(rt, &Place::Tcp(asked.listen), LISTENER)?;
         // Where a port was asked for that is free, it is known now.
-        let listen = listener.local_addr()?;
+        let listen = listener.address()?.unwrap_or(asked.listen);
+        house.sockets.watch_log(LOG);
         house.set(Asked { listen, ..asked });
         Ok(Program {
             house,
             words,
             listener,
+            at: listen,
             stats: None,
+            log: Log::new(errors),
             reloads: Vec::new(alloc),
             resumed: Vec::new(alloc),
+            asking: Vec::new(alloc),
+            telling: None,
             start,
+            began: milliseconds_since_1970(rt)?,
             swept: 0,
+            pause: SWEEP,
             reported: 0,
             ending: None,
         })
     }
 
-    /// From now on it tells whoever asks at this address what it does. Answers the address.
-    pub fn tell_at<R: Net>(&mut self, rt: &R, address: SocketAddr) -> io::Result<SocketAddr> {
-        let listener = self.house.sockets.listen(rt, address, ASKERS)?;
-        let address = listener.local_addr()?;
+    /// From now on it tells whoever asks at this place what it does. Answers its address, over TCP.
+    pub fn tell_at<R: Net + Files>(
+        &mut self,
+        rt: &R,
+        place: &Place,
+    ) -> io::Result<Option<SocketAddr>> {
+        let listener = self.house.sockets.listen(rt, place, ASKERS)?;
+        let address = listener.address()?;
         self.stats = Some(listener);
         Ok(address)
     }
@@ -95,8 +125,8 @@ impl<W: Write + Drop> Program<W> {
     }
 
     /// The address at which it listens.
-    pub fn address(&self) -> io::Result<SocketAddr> {
-        self.listener.local_addr()
+    pub fn address(&self) -> SocketAddr {
+        self.at
     }
 
     /// Relays whoever comes, until it has ended with its standard input, or the system refuses to go on.
@@ -113,35 +143,60 @@ impl<W: Write + Drop> Program<W> {
         Ok(self.applications())
     }
 
-    /// Waits for the system, and not at all where a socket has more to do, or had a moment ago; then they have
-    /// their turns.
+    /// Its last line, and what else of the log isn't written yet.
+    pub fn say_last(&mut self, line: &str) {
+        self.house.journal.lines.add(line);
+        self.log.write_last(&mut self.house.journal.lines);
+    }
+
+    /// Waits for the system, and not at all where a socket has more to do, or had a moment ago, or somebody is
+    /// being told; then they have their turns.
     fn round<R: Net + Clock + Files>(
         &mut self,
         rt: &R,
         events: &mut Events<Global>,
         buffer: &mut [u8; PIECE],
     ) -> io::Result<()> {
-        let longest = if self.spins() { 0 } else { SWEEP };
+        let longest = if self.spins() || self.is_telling() {
+            0
+        } else {
+            self.until_sweep()
+        };
         self.house.sockets.wait(events, longest)?;
         self.look_at_clock(rt)?;
         self.hear(events)?;
         self.take_turns(rt, buffer)?;
         self.go_on()?;
         self.reload(rt)?;
+        self.tell_on(rt)?;
         let now = self.house.now();
-        if now >= self.swept.saturating_add(SWEEP) {
+        if now >= self.swept.saturating_add(self.pause) {
             self.swept = now;
+            self.began = milliseconds_since_1970(rt)?.saturating_sub(now);
             self.accept()?;
             self.sweep(rt)?;
+            self.look_at_clock(rt)?;
+            let took = self.house.now().saturating_sub(now);
+            self.pause = took.saturating_mul(10).clamp(SWEEP, LONGEST_SWEEP);
         }
+        self.log.write(&mut self.house.journal.lines);
         Ok(())
+    }
+
+    /// The milliseconds to the next look at time limits.
+    fn until_sweep(&self) -> u64 {
+        let next = self.swept.saturating_add(self.pause);
+        next.saturating_sub(self.house.now())
+            .clamp(1, LONGEST_SWEEP)
     }
 
     fn look_at_clock<R: Clock>(&mut self, rt: &R) -> io::Result<()> {
         let micros = u64::try_from(self.start.elapsed(rt)?.as_micros()).unwrap_or(u64::MAX);
+        let millis = micros / 1000;
         self.house.journal.moment = Moment {
-            millis: micros / 1000,
+            millis,
             micros,
+            time: self.began.saturating_add(millis),
         };
         Ok(())
     }
@@ -155,8 +210,11 @@ impl<W: Write + Drop> Program<W> {
     /// Does what the system reported asks for.
     fn hear(&mut self, events: &Events<Global>) -> io::Result<()> {
         for event in events.iter() {
-            self.reported = self.house.journal.moment.micros;
             let token = event.token();
+            if token == LOG {
+                continue;
+            }
+            self.reported = self.house.journal.moment.micros;
             if token == LISTENER {
                 self.accept()?;
             } else if token == ASKERS {
@@ -210,13 +268,29 @@ impl<W: Write + Drop> Program<W> {
             let Ok((stream, from)) = listener.accept() else {
                 return Ok(());
             };
-            let asker = Asker::new(alloc, from.ip().is_loopback());
-            let role = Role::Asker(asker);
-            let _ = self
-                .house
-                .sockets
-                .take_in(stream, role, Vec::new(alloc), now)?;
+            let role = Role::Asker(Asker::new(alloc, door_of(&stream, from)));
+            let sockets = &mut self.house.sockets;
+            if let Some(key) = sockets.take_in(stream, role, Vec::new(alloc), now)? {
+                if let Some(socket) = sockets.get_mut(key) {
+                    socket.peer = from;
+                }
+            }
         }
         Ok(())
     }
+}
+
+/// Where somebody asks who comes from there.
+fn door_of(stream: &Link, from: Option<SocketAddr>) -> Door {
+    match (stream, from) {
+        (Link::Tcp(stream), Some(from)) => match stream.local_addr() {
+            Ok(at) => Door::Tcp(at, from.ip().to_canonical().is_loopback()),
+            Err(_) => Door::Tcp(from, false),
+        },
+        _ => Door::Unix,
+    }
+}
+
+fn milliseconds_since_1970<R: Clock>(rt: &R) -> io::Result<u64> {
+    Ok(u64::try_from(rt.since_1970()?.as_millis()).unwrap_or(u64::MAX))
 }

@@ -2,16 +2,15 @@
 
 use crate::program::Program;
 use relay_house::{Group, House, relay_of};
-use relay_logins::number_of;
-use relay_sockets::{Cause, Role, Whose};
+use relay_sockets::{Role, Whose};
 use relay_status::{
-    At, FAR, Figures, NO_HTTP, PAGES, Page, put_answer, put_json_figures, put_metrics, put_server,
+    At, FAR, Figures, NO_HTTP, PAGES, Page, STRANGE, UNMEANT, put_answer, put_metrics, put_server,
     put_text_figures, put_user, put_users, sum,
 };
 use std::io::{self, Write};
 use std::net::Net;
 
-impl<W: Write + Drop> Program<W> {
+impl Program {
     /// Bytes of somebody who asks came.
     pub fn asked_for<R: Net>(&mut self, rt: &R, key: usize, piece: &[u8]) -> io::Result<()> {
         let page = match self.house.sockets.get_mut(key) {
@@ -24,24 +23,26 @@ impl<W: Write + Drop> Program<W> {
         let Some(page) = page else {
             return Ok(());
         };
-        if matches!(page, Page::Reload) {
-            // It is answered behind this round's turns.
-            self.reloads.push(key)?;
-            return Ok(());
+        // These are answered behind this round's turns.
+        match page {
+            Page::Reload => return Ok(self.reloads.push(key)?),
+            Page::Json => return self.ask_json(key),
+            _ => {}
         }
         let mut body = Vec::new(self.house.alloc);
-        let (status, kind) = self.put_page(rt, page, &mut body)?;
+        let (status, kind) = self.put_page(rt, page, key, &mut body)?;
         if let Some(socket) = self.house.sockets.get_mut(key) {
             put_answer(&mut socket.out, status, kind, &body)?;
         }
         self.house.dismiss(rt, key)
     }
 
-    /// Appends what was asked for. Answers the status and the kind of that.
+    /// Appends what was asked for, by who has this key. Answers the status and the kind of that.
     fn put_page<R: Net>(
         &mut self,
         rt: &R,
         page: Page,
+        by: usize,
         body: &mut Vec<u8>,
     ) -> io::Result<(&'static str, &'static str)> {
         match page {
@@ -49,26 +50,24 @@ impl<W: Write + Drop> Program<W> {
                 self.put_text(body)?;
                 Ok(("200 OK", "text/plain"))
             }
-            Page::Json => {
-                self.put_json(body)?;
-                Ok(("200 OK", "application/json"))
-            }
             Page::Metrics => {
                 self.put_metrics(body)?;
                 Ok(("200 OK", "text/plain; version=0.0.4"))
             }
             Page::Kill(group) => {
-                let is_there = self.kill(rt, group)?;
+                let is_there = self.kill(rt, group, by)?;
                 put_done(body, is_there, b"closed\n")
             }
             Page::Drain => {
                 self.end_soon("the relay is to end, by POST /drain");
                 put_done(body, true, b"ends\n")
             }
-            Page::Pause(group) => put_done(body, self.pause(group), b"paused\n"),
-            Page::Resume(group) => put_done(body, self.resume(group)?, b"goes on\n"),
-            Page::Unknown | Page::Reload => put_refused(body, "404 Not Found", PAGES),
+            Page::Pause(group) => put_done(body, self.pause(group, by), b"paused\n"),
+            Page::Resume(group) => put_done(body, self.resume(group, by)?, b"goes on\n"),
+            Page::Unknown | Page::Reload | Page::Json => put_refused(body, "404 Not Found", PAGES),
             Page::Far => put_refused(body, "403 Forbidden", FAR),
+            Page::Unmeant => put_refused(body, "403 Forbidden", UNMEANT),
+            Page::Strange => put_refused(body, "403 Forbidden", STRANGE),
             Page::Wrong => put_refused(body, "400 Bad Request", NO_HTTP),
         }
     }
@@ -95,8 +94,8 @@ impl<W: Write + Drop> Program<W> {
             for (_, entry) in self.house.groups.iter() {
                 let group = &entry.value.inner;
                 if self.is_first_of_user(entry.key, group) {
-                    let count = self.count_of(&group.user, *kind);
-                    put_user(body, what, group.user.as_str(), count)?;
+                    let count = self.count_of(&group.who.user, *kind);
+                    put_user(body, what, group.who.user.as_str(), count)?;
                 }
             }
         }
@@ -106,7 +105,7 @@ impl<W: Write + Drop> Program<W> {
     /// Whether no group before this one is of the same user.
     fn is_first_of_user(&self, key: usize, group: &Group) -> bool {
         for (_, entry) in self.house.groups.iter() {
-            if entry.key < key && entry.value.inner.user == group.user {
+            if entry.key < key && entry.value.inner.who.user == group.who.user {
                 return false;
             }
         }
@@ -118,7 +117,7 @@ impl<W: Write + Drop> Program<W> {
         let mut count: u64 = 0;
         for (_, entry) in self.house.groups.iter() {
             let group = &entry.value.inner;
-            if group.user == *user {
+            if group.who.user == *user {
                 let more = if of_applications {
                     group.applications()
                 } else {
@@ -131,29 +130,17 @@ impl<W: Write + Drop> Program<W> {
     }
 
     /// Closes all applications and connections of a group. False where there is no such group.
-    fn kill<R: Net>(&mut self, rt: &R, number: u64) -> io::Result<bool> {
-        if self.house.groups.key_of(number).is_none() {
+    fn kill<R: Net>(&mut self, rt: &R, number: u64, by: usize) -> io::Result<bool> {
+        let Some(group) = self.house.groups.key_of(number) else {
             return Ok(false);
-        }
-        self.house
-            .journal
-            .say("group", number, "is closed, by POST /kill");
-        let mut keys = Vec::new(self.house.alloc);
-        for (_, entry) in self.house.sockets.iter() {
-            if let Some(group) = entry.value.group() {
-                if number_of(group) == number {
-                    keys.push(entry.key)?;
-                }
-            }
-        }
-        for key in keys.iter() {
-            self.house.ended(rt, *key, Cause::Own)?;
-        }
+        };
+        self.house.say_order(number, "is closed, by POST /kill", by);
+        self.house.close_group(rt, group)?;
         Ok(true)
     }
 
     /// What is there, and what was done.
-    fn figures(&self) -> Figures {
+    pub fn figures(&self) -> Figures {
         let mut figures = Figures::new(self.house.now() / 1000, self.house.journal.counts);
         let now = self.house.now();
         let House {
@@ -177,7 +164,7 @@ impl<W: Write + Drop> Program<W> {
     }
 
     /// Notes of each socket what it is at now, and who is at its other end.
-    fn see_all(&mut self) -> io::Result<()> {
+    pub fn see_all(&mut self) -> io::Result<()> {
         let keys = self.house.sockets.keys()?;
         for key in keys.iter() {
             let (at, mark) = self.at(*key);
@@ -235,20 +222,6 @@ impl<W: Write + Drop> Program<W> {
             }
         }
         Ok(())
-    }
-
-    fn put_json(&mut self, body: &mut Vec<u8>) -> io::Result<()> {
-        self.see_all()?;
-        put_json_figures(body, &self.figures())?;
-        write!(body, ",\"request_seconds\":")?;
-        self.house.journal.requests.put_json(body)?;
-        write!(body, ",\"login_seconds\":")?;
-        self.house.journal.logins.put_json(body)?;
-        write!(body, ",\"sockets\":[")?;
-        self.put_json_sockets(body)?;
-        write!(body, "],\"groups\":[")?;
-        self.put_json_groups(body)?;
-        writeln!(body, "]}}")
     }
 }
 

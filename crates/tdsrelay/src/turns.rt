@@ -5,14 +5,14 @@ use relay_house::{Group, House, relay_of};
 use relay_logins::Groups;
 use relay_settings::SystemError;
 use relay_sockets::{Came, Cause, Whose};
-use std::io::{self, Write};
+use std::io;
 use std::net::Net;
 use tds_relay::Place;
 
 /// The most turns of a socket in a round, behind which the system is asked what others have.
 const TURNS: usize = 4;
 
-impl<W: Write + Drop> Program<W> {
+impl Program {
     /// Each socket that has something to do has a turn, and further ones as long as it has more: so what a
     /// turn makes of another socket's costs no call of its own. None has more than a few, so that those who
     /// are reported meanwhile wait no longer than for that.

@@ -2,11 +2,11 @@
 
 use crate::program::Program;
 use relay_house::{Group, House, relay_of};
-use relay_logins::{Groups, UNANSWERED, put_error};
+use relay_logins::{Groups, UNANSWERED};
 use relay_settings::{Limits, is_beyond};
 use relay_sockets::{Cause, Role, Whose};
 use relay_status::{At, raise};
-use std::io::{self, Write};
+use std::io;
 use std::net::Net;
 use tds_relay::{Place, PlaceOn, Relay};
 
@@ -21,6 +21,7 @@ enum Why {
     Cancel,
     Hold,
     Transaction,
+    Request,
     Idle,
     Old,
     /// Its group is paused.
@@ -39,6 +40,7 @@ impl Why {
             Why::Hold => "has held a connection too long and asked nothing (--hold)",
             Why::Transaction =>
                 "has left a transaction open too long and asked nothing (--transaction)",
+            Why::Request => "has a request that runs too long (--request)",
             Why::Idle => "was idle too long (--idle)",
             Why::Old => "is old enough (--life)",
             Why::Paused => "is closed, since its group is paused",
@@ -59,18 +61,23 @@ impl Why {
                 50_104,
                 "The relay closes who leaves a transaction open for long and asks nothing (--transaction).",
             )),
+            Why::Request => Some((
+                50_108,
+                "The relay cancels a request that runs too long (--request).",
+            )),
             Why::Login | Why::Cancel | Why::Idle | Why::Old | Why::Paused => None,
         }
     }
 }
 
-impl<W: Write + Drop> Program<W> {
+impl Program {
     /// Closes what has lasted longer than its limit.
     pub fn sweep<R: Net>(&mut self, rt: &R) -> io::Result<()> {
         let keys = self.house.sockets.keys()?;
         for key in keys.iter() {
             self.sweep_one(rt, *key)?;
         }
+        self.house.dial_held(rt)?;
         self.house.check_all(rt)
     }
 
@@ -144,15 +151,24 @@ impl<W: Write + Drop> Program<W> {
                 }
             }
             Whose::Judged(_) if limits.login > 0 => {
-                limits.login = limits.login.saturating_add(count.saturating_mul(2));
+                limits.login = limits.login.saturating_add(count);
             }
             Whose::Connection(group, _) if self.house.pair_of(group).is_some() => {
                 limits.idle = 0;
                 limits.life = 0;
             }
+            Whose::Connection(group, _) if self.is_least(group) => limits.idle = 0,
             _ => {}
         }
         limits
+    }
+
+    /// Whether a group has no more connections than are kept however idle they are.
+    fn is_least(&self, group: usize) -> bool {
+        match self.house.groups.get(group) {
+            Some(group) => group.connections() <= self.house.asked.least,
+            None => false,
+        }
     }
 
     /// Whether the group of a socket that is a connection is paused.
@@ -206,9 +222,14 @@ impl<W: Write + Drop> Program<W> {
             (Whose::Application(group, application), Why::Cancel) => {
                 self.give_up(rt, group, application)
             }
-            (Whose::Application(group, application), _) => {
-                self.dismiss_from(rt, key, group, application, why)
+            (Whose::Application(..), Why::Wait) if self.is_opening(key) => {
+                self.tell_unreached(key)?;
+                self.house.part_with(rt, key)
             }
+            (Whose::Application(..), _) => match why.told() {
+                Some((number, sentence)) => self.house.dismiss_for(rt, key, number, sentence),
+                None => self.house.part_with(rt, key),
+            },
             (Whose::Judged(_), Why::Login) => self.house.put_refusal(key, SILENT),
             (Whose::Leg(_), Why::Login) => self.house.put_refusal(key, UNANSWERED),
             (_, Why::Login | Why::Cancel) => self.house.ended(rt, key, Cause::Silent),
@@ -224,6 +245,7 @@ impl<W: Write + Drop> Program<W> {
             Why::Cancel => raise(&mut counts.late_cancels),
             Why::Hold => raise(&mut counts.late_holds),
             Why::Transaction => raise(&mut counts.late_transactions),
+            Why::Request => raise(&mut counts.late_requests),
             Why::Idle => raise(&mut counts.idle),
             Why::Old => raise(&mut counts.old),
             Why::End | Why::Paused => {}
@@ -241,34 +263,20 @@ impl<W: Write + Drop> Program<W> {
         self.house.obey(rt, group)
     }
 
-    /// An application is taken out of its group and closed.
-    fn dismiss_from<R: Net>(
-        &mut self,
-        rt: &R,
-        key: usize,
-        group: usize,
-        application: usize,
-        why: Why,
-    ) -> io::Result<()> {
-        let alloc = self.house.alloc;
-        let House {
-            sockets,
-            groups,
-            ..
-        } = &mut self.house;
-        if let (Some(socket), Some(relay)) = (sockets.get_mut(key), relay_of(groups, group)) {
-            if let (true, Some((number, text))) = (
-                relay.unsent(application).is_empty(),
-                why.told(),
-            ) {
-                put_error(alloc, &mut socket.out, number, text)?;
-            }
-            socket.role = Role::Closing;
+    /// Whether an application waits for its connection to open.
+    fn is_opening(&self, key: usize) -> bool {
+        match self.house.sockets.get(key) {
+            Some(socket) => socket.seen.at == At::Opening,
+            None => false,
         }
-        self.house.leave(group, application)?;
-        self.house.obey(rt, group)?;
-        self.house.let_go(Whose::Application(group, application))?;
-        self.house.dismiss(rt, key)
+    }
+
+    /// An application has waited too long for its connection to open, and is told why.
+    fn tell_unreached(&mut self, key: usize) -> io::Result<()> {
+        match self.house.holding.sentence(self.house.alloc)? {
+            Some(why) => self.house.tell_not_opened(key, why.as_str()),
+            None => self.house.tell_not_opened(key, SILENT),
+        }
     }
 }
 
@@ -347,7 +355,8 @@ fn why_late(at: At, lasted: u64, age: u64, limits: &Limits) -> Option<Why> {
             Some(why) => Some(why),
             None => limited(limits.life, age, Why::Old),
         },
-        At::Quiet | At::Kept | At::Asking | At::Held => None,
+        At::Asking => limited(limits.request, lasted, Why::Request),
+        At::Quiet | At::Kept | At::Held => None,
     }
 }
 

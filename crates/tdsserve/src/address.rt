@@ -1,7 +1,7 @@
 //! Where a word says to listen.
 
 use crate::fault::ServeFault;
-use serve_drivers::Place;
+use socket_places::Place;
 use std::alloc::{AllocError, Global};
 use std::net::{HostAddrs, SocketAddr, ToSocketAddrs};
 

@@ -3,9 +3,10 @@
 use crate::address::find_place;
 use crate::fault::{Bar, ServeFault};
 use crate::words::Asked;
-use serve_drivers::{House, Log, Manner, Place};
+use serve_drivers::{House, Log, Manner};
 use serve_recordings::read_recording;
 use serve_scripts::{Script, read_script};
+use socket_places::Place;
 use std::fs;
 use std::io::{self, ErrorKind, Read, Stderr};
 use std::os::unix::fs::FileTypeExt;

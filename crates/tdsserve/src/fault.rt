@@ -2,9 +2,9 @@
 
 use clap::Error;
 use clap::error::ErrorKind as UsageKind;
-use serve_drivers::Place;
 use serve_recordings::RecordingFault;
 use serve_scripts::ScriptFault;
+use socket_places::Place;
 use std::alloc::AllocError;
 use std::io::{self, ErrorKind};
 

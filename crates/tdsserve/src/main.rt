@@ -9,7 +9,8 @@ mod words;
 
 use beginning::begin;
 use fault::ServeFault;
-use serve_drivers::{House, Place};
+use serve_drivers::House;
+use socket_places::Place;
 use std::io::{self, Stderr};
 use std::process::ExitCode;
 use std::{env, fs};

@@ -40,8 +40,10 @@ type Proxy struct {
 	Forward Address
 	// ForwardIsLocal refuses a forward connection that leaves this machine's loopback addresses.
 	ForwardIsLocal bool
-	Limits         Limits
-	Log            *log.Logger
+	// TellsClient has each forward connection begin with the header of the PROXY protocol, version 2.
+	TellsClient bool
+	Limits      Limits
+	Log         *log.Logger
 
 	mutex    sync.Mutex
 	sessions map[*session]struct{}

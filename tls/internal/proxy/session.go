@@ -103,7 +103,11 @@ func (s *session) dial() error {
 	if s.aborted {
 		socket.Close()
 	}
-	return s.far.conn.SetDeadline(s.deadline)
+	if err := s.far.conn.SetDeadline(s.deadline); err != nil || !s.proxy.TellsClient {
+		return err
+	}
+	_, err = socket.Write(headerFor(s.near.conn.RemoteAddr(), s.near.conn.LocalAddr()))
+	return err
 }
 
 // oneWay carries what one side sends to the other, and its end, and gives how many bytes. Where either

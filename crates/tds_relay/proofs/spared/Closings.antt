@@ -238,7 +238,7 @@ ended_at key other tag by old b (inl same) ends names are e =
     inr (
       same,
       subst (IsOrdered (orders.Close tag)) (sym are)
-      (closing_order old.orders.items (get old.applications key) tag (named old key tag (subst (λ (k : ℕ). open_name k (register_in old) ≡ Some tag) same e))),
+          (closing_order old.orders.items (get old.applications key) tag (named old key tag (subst (λ (k : ℕ). open_name k (register_in old) ≡ Some tag) same e))),
     )
 ended_at key other tag by old b (inr differs) ends names are e =
     inl (ap (λ (es : Ends). name_with (end_at es other) (slice_index_or b.names other None)) ends

@@ -94,6 +94,7 @@ impl Relay {
             ≡ waits_on other self.old.links.items }
         ensures rest { AllRest self.old self.new }
         ensures tells { TellsTheSame self.old self.new }
+        ensures orders { self.new.orders.items ≡ self.old.orders.items }
     {
         set_tag(&mut self.links, number, tag);
     }

@@ -14,6 +14,7 @@ ghost use Rattle.tds_relay.specs.Reads.{FillsBy, Sees, Stays, waits_on};
 ghost use Rattle.tds_relay.specs.Sparing.{AllRest, SendsOn};
 ghost use Rattle.tds_relay.specs.Ties.{GoesOn, IsReached, Neither, desk_in};
 ghost use Rattle.tds_relay.specs.Told.{TellsTheSame, held_name, holder_name, is_there};
+ghost use Rattle.tds_relay.specs.Waking.{IsWoken};
 ghost use Rattle.tds_relay.specs.Walkers.{AllStand};
 ghost use Rattle.tds_relay.specs.declared.outgoing.TheConstants.{PIECE};
 
@@ -57,6 +58,7 @@ impl Relay {
         ensures rest { AllRest self.old self.new }
         ensures whose { result ≡ held_name key self.old }
         ensures tells { TellsTheSame self.old self.new }
+        ensures orders { self.new.orders.items ≡ self.old.orders.items }
     {
         self.forget_sent(key, count);
         let hold = self.desk.hold_of(key)?;
@@ -73,6 +75,7 @@ impl Relay {
         ensures links { self.new.links.items ≡ self.old.links.items }
         ensures asks { AskAsBefore self.old.applications self.new.applications }
         ensures tells { TellsTheSame self.old self.new }
+        ensures orders { self.new.orders.items ≡ self.old.orders.items }
     {
         match self.applications.get_mut(key) {
             Some(application) => application.out.sent(count),
@@ -95,6 +98,7 @@ impl Relay {
         ensures whose { result ≡ (if is_there number self.old.links.items
             then holder_name number self.old else None) }
         ensures tells { TellsTheSame self.old self.new }
+        ensures orders { self.new.orders.items ≡ self.old.orders.items }
     {
         if !forget_sent(&mut self.links, number, count) {
             return None;
@@ -140,7 +144,11 @@ impl Relay {
             (register_in self.old) (register_in self.new)) }
     {
         let fits = self.fits_on(number)?;
-        if fits { Ok(()) } else { self.lose_own(key, number) }
+        if fits {
+            Ok(())
+        } else {
+            self.lose_own(key, number)
+        }
     }
 
     /// The same of one that nobody holds.
@@ -177,6 +185,8 @@ impl Relay {
         ensures moves { OnOk result (MovedOn (hall_in self.old) (hall_in self.new)) }
         ensures links { OnOk result (self.new.links.items ≡ self.old.links.items) }
         ensures asks { OnOk result (AskOn self.old.applications self.new.applications) }
+        ensures ordered { OnOk result (StayOrdered self.old.orders.items self.new.orders.items) }
+        ensures wakes { OnOk result (IsWoken key self.new.applications self.new.orders.items) }
         ensures closes { OnOk result (ClosesOnly (Itself key)
             (register_in self.old) (register_in self.new)) }
     {

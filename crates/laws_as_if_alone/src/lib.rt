@@ -1,0 +1,4 @@
+//! Laws alone: an application behind `tds_relay` is answered as by a server of its own.
+#![tactic(auto)]
+
+pub mod laws;

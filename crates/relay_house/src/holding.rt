@@ -1,0 +1,237 @@
+//! Connections that are to be dialed later: while no server can be reached, and where all groups together have
+//! as many as may be. Who waits for one waits until `--wait`.
+
+use crate::group::Group;
+use crate::house::{House, relay_of};
+use crate::upstream::Failure;
+use relay_logins::Groups;
+use relay_sockets::{Cause, Sockets, Whose};
+use std::alloc::{AllocError, Global};
+use std::io;
+use std::net::Net;
+use tds_relay::PlaceOn;
+
+/// The milliseconds from one try to the next, where servers can't be reached: twice as long each time.
+const SHORTEST: u64 = 250;
+
+const LONGEST: u64 = 5_000;
+
+/// A connection of a group that is to be dialed, from this millisecond on.
+#[derive(Clone, Copy)]
+struct Held {
+    group: usize,
+    number: u64,
+    next: u64,
+}
+
+/// Those that are to be dialed later.
+#[derive(Drop)]
+pub struct Holding {
+    held: Vec<Held>,
+    /// The milliseconds to the next try.
+    pause: u64,
+    /// Why no server could be reached, since one let a login in.
+    unreached: Option<Failure>,
+}
+
+impl Holding {
+    pub fn new(alloc: Global) -> Holding {
+        Holding {
+            held: Vec::new(alloc),
+            pause: SHORTEST,
+            unreached: None,
+        }
+    }
+
+    /// A server has let a login in.
+    pub fn is_back(&mut self) {
+        self.pause = SHORTEST;
+        self.unreached = None;
+    }
+
+    /// Why no server could be reached, as an application is told that has waited for that.
+    pub fn sentence(&self, alloc: Global) -> Result<Option<String>, AllocError> {
+        match &self.unreached {
+            Some(failure) => Ok(Some(failure.sentence(alloc)?)),
+            None => Ok(None),
+        }
+    }
+
+    /// A connection is dialed once there is room.
+    fn hold(&mut self, group: usize, number: u64, now: u64) -> Result<(), AllocError> {
+        self.held.push(Held {
+            group,
+            number,
+            next: now,
+        })?;
+        Ok(())
+    }
+
+    /// No server could be reached: it is dialed again later.
+    fn hold_back(
+        &mut self,
+        group: usize,
+        number: u64,
+        failure: Failure,
+        now: u64,
+    ) -> Result<(), AllocError> {
+        self.unreached = Some(failure);
+        let next = now.saturating_add(self.pause);
+        self.pause = self.pause.saturating_mul(2).min(LONGEST);
+        self.held.push(Held {
+            group,
+            number,
+            next,
+        })?;
+        Ok(())
+    }
+
+    /// Takes out the first one whose time has come.
+    fn take(&mut self, now: u64) -> Option<(usize, u64)> {
+        for place in 0..self.held.len() {
+            let held = *self.held.get(place)?;
+            if held.next <= now {
+                let _ = self.held.remove(place);
+                return Some((held.group, held.number));
+            }
+        }
+        None
+    }
+
+    fn len(&self) -> usize {
+        self.held.len()
+    }
+}
+
+impl House {
+    /// A connection of a group is to be opened: at once, or once there is room for it.
+    pub(crate) fn open<R: Net>(&mut self, rt: &R, group: usize, number: u64) -> io::Result<()> {
+        if count_all(&self.groups) > self.asked.total {
+            let now = self.now();
+            return Ok(self.holding.hold(group, number, now)?);
+        }
+        self.open_now(rt, group, number)
+    }
+
+    fn open_now<R: Net>(&mut self, rt: &R, group: usize, number: u64) -> io::Result<()> {
+        self.upstream.begin();
+        if self.reach(rt, Whose::Opening(group, number), 0)? {
+            return Ok(());
+        }
+        self.fail_to_open(group, number)
+    }
+
+    /// No server was reached for a connection: it is dialed again later, or where that wouldn't help, who waits
+    /// for it is told why.
+    pub(crate) fn fail_to_open(&mut self, group: usize, number: u64) -> io::Result<()> {
+        let now = self.now();
+        match self.upstream.failed {
+            Some(failure) if failure.cause.is_failure() && self.asked.limits.wait > 0 => {
+                return Ok(self.holding.hold_back(group, number, failure, now)?);
+            }
+            _ => {}
+        }
+        let why = self.upstream.sentence(self.alloc)?;
+        self.not_opened(group, number, why.as_str())
+    }
+
+    /// Dials those whose time has come, as far as there is room.
+    pub fn dial_held<R: Net>(&mut self, rt: &R) -> io::Result<()> {
+        for _ in 0..self.holding.len() {
+            let now = self.now();
+            let Some((group, number)) = self.holding.take(now) else {
+                return Ok(());
+            };
+            self.dial_held_one(rt, group, number)?;
+        }
+        Ok(())
+    }
+
+    fn dial_held_one<R: Net>(&mut self, rt: &R, group: usize, number: u64) -> io::Result<()> {
+        if !is_wanted(&mut self.groups, group, number) {
+            if let Some(relay) = relay_of(&mut self.groups, group) {
+                relay.lost(number)?;
+            }
+            return self.obey(rt, group);
+        }
+        if count_all(&self.groups) > self.asked.total && !self.free_one(rt)? {
+            let now = self.now();
+            return Ok(
+                self.holding
+                    .hold(group, number, now.saturating_add(SHORTEST))?,
+            );
+        }
+        self.open_now(rt, group, number)?;
+        self.obey(rt, group)
+    }
+
+    /// Makes room for one more connection beside those of all groups. False where there is none.
+    pub(crate) fn has_connection<R: Net>(&mut self, rt: &R) -> io::Result<bool> {
+        if count_all(&self.groups) < self.asked.total {
+            return Ok(true);
+        }
+        self.free_one(rt)
+    }
+
+    /// Closes the connection that nobody has held for longest. False where there is none.
+    fn free_one<R: Net>(&mut self, rt: &R) -> io::Result<bool> {
+        let House {
+            sockets,
+            groups,
+            ..
+        } = self;
+        let Some(key) = longest_free(sockets, groups) else {
+            return Ok(false);
+        };
+        self.ended(rt, key, Cause::Own)?;
+        Ok(true)
+    }
+}
+
+/// How many connections all groups have together, those too that are being opened.
+fn count_all(groups: &Groups<Group>) -> usize {
+    let mut count: usize = 0;
+    for (_, entry) in groups.iter() {
+        let group = &entry.value.inner;
+        let more = if group.is_judged() {
+            1
+        } else {
+            group.connections()
+        };
+        count = count.saturating_add(more);
+    }
+    count
+}
+
+/// Whether somebody waits for a connection that isn't open yet.
+fn is_wanted(groups: &mut Groups<Group>, group: usize, number: u64) -> bool {
+    let Some(relay) = relay_of(groups, group) else {
+        return false;
+    };
+    match relay.place_on(number) {
+        Some(PlaceOn::Opening) => relay.sent_on(number, 0).is_some() || relay.waiting() > 0,
+        _ => false,
+    }
+}
+
+/// The free connection that has been one for longest.
+fn longest_free(sockets: &Sockets, groups: &mut Groups<Group>) -> Option<usize> {
+    let (mut found, mut since) = (None, u64::MAX);
+    for (_, entry) in sockets.iter() {
+        let socket = &entry.value;
+        if let Whose::Connection(group, number) = socket.whose() {
+            if socket.seen.since < since && is_free(groups, group, number) {
+                found = Some(entry.key);
+                since = socket.seen.since;
+            }
+        }
+    }
+    found
+}
+
+fn is_free(groups: &mut Groups<Group>, group: usize, number: u64) -> bool {
+    match relay_of(groups, group) {
+        Some(relay) => relay.place_on(number) == Some(PlaceOn::Free),
+        None => false,
+    }
+}

@@ -1,0 +1,103 @@
+//! The settings: each word and what it is.
+
+/// The words that take a value: the name, and what it is.
+pub const SETTINGS: [(&str, &str); 20] = [
+    (
+        "most",
+        "CONNECTIONS at most for equal logins, 1 to 1024 [16]",
+    ),
+    (
+        "alone",
+        "CONNECTIONS at most of logins that can't be shared, 0 to 4096 [256]",
+    ),
+    (
+        "total",
+        "CONNECTIONS at most of all logins together, 1 to 10000 [10000]",
+    ),
+    (
+        "least",
+        "CONNECTIONS of equal logins that are kept however idle they are, 0 to 1024 [0]",
+    ),
+    (
+        "login",
+        "SECONDS that a login may take, on either side [10]; of these words 0 is no limit",
+    ),
+    (
+        "wait",
+        "SECONDS that an application waits for a connection at most [120]",
+    ),
+    (
+        "cancel",
+        "SECONDS until a cancel is acknowledged, or a cleaning done, at most [30]",
+    ),
+    (
+        "idle",
+        "SECONDS that a connection which nobody holds is kept [600]",
+    ),
+    (
+        "life",
+        "SECONDS from its login after which a connection is closed once nobody holds it [3600]",
+    ),
+    (
+        "hold",
+        "SECONDS that an application may hold a connection and ask nothing [0]",
+    ),
+    (
+        "transaction",
+        "SECONDS that an application may leave a transaction open and ask nothing [0]",
+    ),
+    ("request", "SECONDS that a request may run [0]"),
+    (
+        "drain",
+        "SECONDS at most from the end of standard input to the relay's own [30]",
+    ),
+    (
+        "check",
+        "SECONDS after which connections that nobody holds are reset once more, to find dead ones [30]",
+    ),
+    (
+        "away",
+        "SECONDS for which other servers are preferred to one that has failed [10]",
+    ),
+    (
+        "spin",
+        "MICROSECONDS behind a report for which the system is asked again at once, 0 to 1000 [0]",
+    ),
+    (
+        "keepalive",
+        "SECONDS of silence behind which the system asks whether the other end is there, 0 for never [60]",
+    ),
+    (
+        "unacknowledged",
+        "SECONDS for which an end may acknowledge nothing of what it is sent; 0 is the system's own [0]",
+    ),
+    (
+        "config",
+        "FILE in TOML that has these settings; a word stands over it",
+    ),
+    (
+        "stats",
+        "PLACE where it tells what it does, over HTTP: an address, or unix:PATH",
+    ),
+];
+
+/// The words that take none.
+pub const FLAGS: [(&str, &str); 5] = [
+    (
+        "until-input-ends",
+        "ends in order once its standard input, a pipe, has ended",
+    ),
+    (
+        "judge",
+        "a line for each breach and each risk of applications and servers, on standard error",
+    ),
+    (
+        "log",
+        "a line for each application and each connection, on standard error",
+    ),
+    (
+        "any-application",
+        "logins share that differ in the application's name alone; the server is told the relay's",
+    ),
+    ("log-json", "the same, each line as an object of JSON"),
+];

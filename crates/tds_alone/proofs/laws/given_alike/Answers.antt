@@ -1,5 +1,0 @@
-use Rattle.tds_alone.proofs.Told.{given_alike}
-use Rattle.tds_alone.proofs.laws.given_alike.Goals as goal
-
-pub returns : goal.returns
-returns g c = given_alike

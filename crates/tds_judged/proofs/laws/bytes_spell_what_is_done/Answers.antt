@@ -1,5 +1,0 @@
-use Rattle.tds_judged.proofs.Blameless.{heard_of}
-use Rattle.tds_judged.proofs.laws.bytes_spell_what_is_done.Goals as goal
-
-pub returns : goal.returns
-returns c = heard_of c.cuts_do_not_matter.ensures

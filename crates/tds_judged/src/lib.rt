@@ -1,4 +1,0 @@
-//! What the judge says of our client.
-#![tactic(auto)]
-
-pub mod laws;

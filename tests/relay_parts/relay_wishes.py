@@ -1,0 +1,145 @@
+"""Scenes of tests/relay_limits: what an operator may wish: a log as JSON, limits of requests, connections that stay,
+groups by fewer names, and figures for which nobody waits.
+
+What is wanted is written by hand.
+"""
+
+import datetime
+import json
+import selectors
+import socket
+import struct
+import time
+
+from peers import PATIENCE, batch, connect, message, packet
+from relay_operator import all_of, until
+from relay_servers import DONE, Before
+from relay_told import Relay, error_in, error_packet, let_in, rows
+
+LATE = 50108
+
+
+def json_log(program, cases, server):
+    """Each line of the log is an object of JSON, with whose it is."""
+    with Relay(program, server, "--log-json") as relay:
+        one = let_in(relay, "web-1", "billing", "anna", "sales")
+        until(relay, lambda it: it["connections_free"] == 1)
+        port = one.getsockname()[1]
+        one.close()
+        until(relay, lambda it: it["connections_free"] == 1 and it["applications_quiet"] == 0)
+        lines = [json.loads(it) for it in relay.end()[1].decode().splitlines()]
+        times = [datetime.datetime.fromisoformat(it.pop("time").replace("Z", "+00:00")) for it in lines[:-1]]
+        cases.check("each object has the time", all(abs(time.time() - it.timestamp()) < 60 for it in times), times)
+        at = {"from": f"127.0.0.1:{port}"}
+        whose = {"user": "anna", "database": "sales", **at}
+        cases.same("the log as JSON", lines, [
+            {"text": "socket 1 has come", **at}, {"text": f"connection 2 is dialed at 127.0.0.1:{server}"},
+            {"text": "connection 2 is opened"}, {"text": "application 1 is let in, group 0", **whose},
+            {"text": "socket 1 has ended: the other end has closed the connection", **whose},
+            {"text": "the relay is to end, since its standard input has ended"}, {"text": "ended: applications 0"}])
+
+
+def named_groups(program, cases, server):
+    """A group is told by the user, the database and the application that its login names."""
+    with Relay(program, server) as relay:
+        one = let_in(relay, "web-1", "billing", "anna", "sales")
+        found = relay.json()["groups"][0]
+        cases.same("a group's names", [found[it] for it in ("user", "database", "program")], ["anna", "sales", "billing"])
+        cases.check("the page says them", "\ngroup 0, shared, user anna, database sales, application billing, at most 16"
+                    in relay.ask("/")[1].decode())
+        one.close()
+
+
+def requests(program, cases, server):
+    """A request that runs too long is cancelled, and its application told, where nothing of the answer has come."""
+    with Before(server) as before, Relay(program, before.port, "--request", "2", "--log") as relay:
+        one, two = let_in(relay), let_in(relay)
+        cases.check("rows before a long request", rows(one, 1) and rows(two, 2))
+        before.is_deaf = True
+        one.sendall(batch("rows 3 1"))
+        two.sendall(batch("rows 4 1"))
+        found = until(relay, lambda it: it["applications_asking"] == 2)
+        limits = {it["limit"] for it in found["sockets"] if it["at"] == "has a request underway"}
+        cases.same("the limit is told", limits, {2})
+        # The first token of an answer, DONE with more behind it, in a packet that isn't the last one.
+        before.link_of("rows 4 1").sendall(packet(4, b"\xfd\x01\x00" + bytes(10), 0))
+        begun = time.monotonic()
+        cases.same("who asks for long is told", all_of(one), error_packet(
+            LATE, "The relay cancels a request that runs too long (--request)."))
+        cases.check("and that within the limit", time.monotonic() - begun < 10)
+        told = all_of(two)
+        cases.check("within an answer nothing is told", len(told) == 8 + 13 and error_in(told) is None, told)
+        cases.same("both are counted", relay.json()["total_limits_request"], 2)
+        said = [it[8:] for it in before.said.values() if it.endswith(packet(6, b""))]
+        cases.same("the server is sent a cancel of each", len(said), 2)
+        before.is_deaf = False
+        lines = relay.lines()
+        cases.check("a line says so", any(it.endswith("has a request that runs too long (--request)") for it in lines), lines)
+
+
+def kept(program, cases, server):
+    """Connections that stay however idle they are."""
+    with Relay(program, server, "--idle", "1", "--least", "1") as relay:
+        links = [let_in(relay) for _ in range(3)]
+        cases.check("rows of three", all(rows(it, number) for number, it in enumerate(links)))
+        cases.same("each has a connection", relay.json()["connections_held"], 3)
+        for it in links:
+            it.close()
+        found = until(relay, lambda it: it["total_limits_idle"] == 2)
+        time.sleep(2.5)
+        found = relay.json()
+        cases.same("one stays", (found["total_limits_idle"], found["connections_free"]), (2, 1))
+
+
+def joined(program, cases, server):
+    """Logins that differ in the application's name alone share; the server is told the relay's."""
+    for words, count in (((), 2), (("--any-application",), 1)):
+        with Before(server) as before, Relay(program, before.port, *words) as relay:
+            one, two = let_in(relay, "web-1", "billing", "anna", "sales"), let_in(relay, "", "a longer name", "anna", "sales")
+            cases.check(f"rows of two applications {words}", rows(one, 1) and rows(two, 2))
+            found = relay.json()
+            cases.same(f"the groups of two applications {words}", found["groups_shared"], count)
+            told = {name_in(it, 48) for it in before.logins}
+            cases.same(f"what the server is told {words}", told, {"tdsrelay"} if words else {"billing", "a longer name"})
+            cases.same(f"and of all else {words}", {(name_in(it, 40), name_in(it, 68)) for it in before.logins}, {("anna", "sales")})
+            cases.same(f"each LOGIN7 says its length {words}", [struct.unpack_from("<I", it)[0] for it in before.logins],
+                       [len(it) for it in before.logins])
+            names = {it["program"] for it in found["sockets"] if it["kind"] == "application"}
+            cases.same(f"who is who {words}", names, {"billing", "a longer name"})
+            other = let_in(relay, "", "billing", "otto", "sales")
+            cases.same(f"another user has a group of his own {words}", relay.json()["groups_shared"], count + 1)
+            other.close()
+
+
+def name_in(login, place):
+    """A text of LOGIN7, by the place of its place (MS-TDS 2.2.6.4)."""
+    start, count = struct.unpack_from("<HH", login, place)
+    return login[start:start + 2 * count].decode("utf-16le")
+
+
+def pieces(program, cases, server):
+    """Who asks for JSON holds nobody up: an application has its answer meanwhile."""
+    with Relay(program, server, "--login", "0") as relay:
+        one = let_in(relay)
+        cases.check("a row before JSON", rows(one, 1))
+        crowd = [connect(relay.port) for _ in range(3000)]
+        until(relay, lambda it: it["applications_logging_in"] == 3000)
+        first = 0
+        for number in range(8):
+            with socket.create_connection(("127.0.0.1", relay.stats), PATIENCE) as link:
+                link.sendall(f"GET /json HTTP/1.1\r\nHost: 127.0.0.1:{relay.stats}\r\n\r\n".encode())
+                time.sleep(0.003)
+                one.sendall(batch(f"rows {number} 1"))
+                with selectors.DefaultSelector() as both:
+                    for it in (one, link):
+                        both.register(it, selectors.EVENT_READ)
+                    first += [it.fileobj for it, _ in both.select(PATIENCE)] == [one]
+                cases.check(f"the row comes {number}", struct.pack("<Bi", 0xD1, number) in message(one))
+                got = b""
+                while more := link.recv(65536):
+                    got += more
+                found = json.loads(got.partition(b"\r\n\r\n")[2])
+                cases.check(f"all are told {number}", len(found["sockets"]) >= 3002, len(found["sockets"]))
+        cases.check("the row comes before", first > 0, first)
+        for it in crowd:
+            it.close()
