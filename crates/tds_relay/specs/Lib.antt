@@ -5,6 +5,7 @@ pub mod Away
 pub mod Behind
 pub mod Bodies
 pub mod Bounds
+pub mod Bringing
 pub mod Coming
 pub mod Closings
 pub mod Cutting

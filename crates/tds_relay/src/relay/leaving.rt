@@ -65,8 +65,8 @@ impl Relay {
         ensures goes_on { OnOk result (AllGo self.old self.new) }
         ensures only { OnOk result (LosesOnly number (hall_in self.old) (hall_in self.new)) }
         ensures ordered { OnOk result (StayOrdered self.old.orders.items self.new.orders.items) }
-        ensures closes { OnOk result (ClosesOnly (WhoOrWaiting (holder (desk_in self.old.desk) number)
-            (desk_in self.old.desk).line)
+        ensures closes { OnOk result (ClosesOnly
+            (WhoOrWaiting (holder (desk_in self.old.desk) number) (desk_in self.old.desk).line)
             (register_in self.old) (register_in self.new)) }
     {
         self.lose(number)?;

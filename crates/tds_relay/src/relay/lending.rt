@@ -1,11 +1,12 @@
 //! Connections that are lent to those who wait, opened, and asked.
-ghost use Rattle.std.specs.Prelude.{◌≡◌, ◌≢◌, ◌⊎◌, ◌++◌, [], ℕ, Bool, IfOk, IfSome, IsSome, List, None, OnOk, Some};
+ghost use Rattle.std.specs.Prelude.{◌≡◌, ◌≢◌, ◌⊎◌, ◌++◌, [], ℕ, Bool, IfNone, IfOk, IfSome, IsSome, List, None, OnOk, Some};
 ghost use Rattle.std.specs.Prelude.{false, option_map, true};
 ghost use Rattle.slab.specs.Slab.{get};
 ghost use Rattle.tds_packet.specs.declared.status.Reset.TheVariants.{KeepTransaction};
 ghost use Rattle.tds_relay.specs.Apart.{Alone, UnlessServed};
 ghost use Rattle.tds_relay.specs.Asking.{IsUnderway, waits_of};
 ghost use Rattle.tds_relay.specs.Bodies.{AskAsBefore, Grows, Starts, body_of, going_of, held_of};
+ghost use Rattle.tds_relay.specs.Bringing.{IsNotBrought};
 ghost use Rattle.tds_relay.specs.Closings.{ClosesOnly, IsWaiting, IsWho, Itself, Nobody, WhoOrWaiting};
 ghost use Rattle.tds_relay.specs.Closings.{register_in};
 ghost use Rattle.tds_relay.specs.Desk.{find_number, key_of};
@@ -54,6 +55,8 @@ impl Relay {
         ensures ordered { OnOk result (StayOrdered self.old.orders.items self.new.orders.items) }
         ensures closes { OnOk result (ClosesOnly (IsWaiting (desk_in self.old.desk).line)
             (register_in self.old) (register_in self.new)) }
+        ensures tries { IfOk result (λ brought. IfNone brought (IsNotBrought self.old.links.items
+            (desk_in self.old.desk) (desk_in self.new.desk))) }
     {
         if !self.links.is_empty() {
             return Ok(None);
@@ -113,8 +116,8 @@ impl Relay {
         ensures starts { IsReached (desk_in self.old.desk)
             → OnOk result (StartsOn number self.old self.new) }
         ensures ordered { OnOk result (StayOrdered self.old.orders.items self.new.orders.items) }
-        ensures closes { OnOk result (ClosesOnly (WhoOrWaiting (holder (desk_in self.old.desk) number)
-            (desk_in self.old.desk).line)
+        ensures closes { OnOk result (ClosesOnly
+            (WhoOrWaiting (holder (desk_in self.old.desk) number) (desk_in self.old.desk).line)
             (register_in self.old) (register_in self.new)) }
     {
         self.set_open(number);

@@ -1,4 +1,4 @@
-use Rattle.std.proofs.Common.{◌≡◌, ◌∙◌, ◌==◌, ap, refl, rules, sym, true, ℕ, inl}
+use Rattle.std.proofs.Common.{◌≡◌, ◌∙◌, ◌==◌, ap, refl, rules, sym, true, ℕ, inl, inr, false}
 use Rattle.tds_relay.specs.Fronts.{house_in}
 use Rattle.tds_relay.specs.Ties.{Neither, desk_in}
 use Rattle.tds_relay.proofs.steps.Fronts.{moves_does}
@@ -93,3 +93,14 @@ returns-clause-closes c =
     (closes_more (IsWaiting mid.line) (IsWaiting old.line) _ _
     (λ key. waited Neither old mid key (λ none. none) (λ from h. c.in_ok-send_unheld.ensures.goes Neither from (reaches_turn Neither from _ _ _ _ _ c.in_ok-left.ensures.turns.2 refl h)))
     c.in_ok-serve_line.ensures.closes)
+
+pub returns-then-not-is_empty-clause-tries : goal.returns-then-not-is_empty-clause-tries
+returns-then-not-is_empty-clause-tries c =
+    let some : c.is_empty.result ≡ false = search rules in
+    inl (sym (ap (λ (k : ℕ). k == 0) c.args.self.now.links.ok.0) ∙ sym c.is_empty.ensures ∙ some)
+
+pub returns-in_default-clause-tries : goal.returns-in_default-clause-tries
+returns-in_default-clause-tries c = inr (c.in_ok-left.ensures.turns.0, c.in_ok-left.ensures.turns.1, c.in_ok-left.ensures.turns.2.desk_is)
+
+pub returns-then-not-left-clause-tries : goal.returns-then-not-left-clause-tries
+returns-then-not-left-clause-tries c = inr (c.in_ok-left.ensures.turns.0, c.in_ok-left.ensures.turns.1, c.in_ok-left.ensures.turns.2.desk_is)
