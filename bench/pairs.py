@@ -57,6 +57,13 @@ def wire(room):
                            "byte", os.path.getsize(file), 3)
 
 
+def places(room):
+    for stream, told in WIRE.items():
+        words = lambda n, file=f"{room}/{stream}": [file, str(n)]
+        yield Pair("where values stand, from C, by `libtds_c.a` (`bench/places.c`)", told, "places", words, "plain_places.c", words, "byte",
+                   os.path.getsize(f"{room}/{stream}"), 4)
+
+
 def judge(room):
     for stream in ("rows1.4096", "rows8.4096"):
         file = f"{room}/{stream}"
@@ -94,5 +101,5 @@ def client(_room):
 
 
 def all_of(room):
-    for group in (walks, wire, judge, servers, client, service):
+    for group in (walks, wire, places, judge, servers, client, service):
         yield from group(room)

@@ -1,7 +1,7 @@
 """Draws the table that bench/run prints as bars: of each thing that has one beside it in plain C, how many instructions that one
 takes for each of this repository's.
 
-usage: python3 bench/picture.py FILE PICTURE      the table is looked for in FILE, as docs/SPEED.md
+usage: python3 bench/picture.py FILE PICTURE      the table is looked for in FILE, as bench/measured.txt
 """
 import html
 import sys

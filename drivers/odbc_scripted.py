@@ -60,3 +60,7 @@ cancelled("crossed")
 times_out("begin_crossed")
 is_cut("cut")
 ask(connect("split"), "rows 1 3;say x;rows 5 1")
+if "twice" in PORTS:
+    twice = connect("twice")
+    for text in ("say twice;rows 1 1", "rows 7 1", "rows 9 1"):
+        ask(twice, text)

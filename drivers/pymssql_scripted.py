@@ -38,3 +38,5 @@ asks("crossed", "rows 1 1;rows 5 1;rows 9 1", "rows 7 1", patience=1)
 asks("begin_crossed", "begin", "commit", "commit", patience=1)
 asks("cut", "rows 1 1", "rows 1 9", "rows 3 1")
 asks("split", "rows 1 3;say x;rows 5 1")
+if "twice" in PORTS:
+    asks("twice", "say twice;rows 1 1", "rows 7 1", "rows 9 1")

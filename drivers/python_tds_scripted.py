@@ -66,6 +66,21 @@ def in_pieces(name):
     ask(connection.cursor(), "rows 1 3;say x;rows 5 1")
 
 
+def answered_twice(name):
+    connection = connect(name)
+    ask(connection.cursor(), "say twice;rows 1 1")
+    ask(connection.cursor(), "rows 7 1")
+    ask(connection.cursor(), "rows 9 1")
+
+
+def reset_times_out(name):
+    """The pool's next borrower gives up before the reset that its first request asks for is done."""
+    connect(name, pooling=True, timeout=1).close()
+    connection = connect(name, pooling=True, timeout=1)
+    ask(connection.cursor(), "say borrower")
+    ask(connection.cursor(), "rows 7 1")
+
+
 cancelled("held")
 cancelled("crossed")
 times_out("begin_crossed")
@@ -73,3 +88,7 @@ if "begin_request_crossed" in PORTS:
     request_times_out("begin_request_crossed")
 is_cut("cut")
 in_pieces("split")
+if "reset_held" in PORTS:
+    reset_times_out("reset_held")
+if "twice" in PORTS:
+    answered_twice("twice")

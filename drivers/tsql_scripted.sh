@@ -10,7 +10,10 @@ for word in "$@"; do
         # it asks for no begin but by a text
         begin_request_crossed) continue ;;
         cut) texts=('rows 1 1' 'rows 1 9' 'rows 3 1') ;;
-        *) texts=('rows 1 3;say x;rows 5 1') ;;
+        twice) texts=('say twice;rows 1 1' 'rows 7 1' 'rows 9 1') ;;
+        split) texts=('rows 1 3;say x;rows 5 1') ;;
+        # it has no pool
+        *) continue ;;
     esac
     echo "${word%%=*}"
     (printf '%s\ngo\n' "${texts[@]}"; echo exit) |

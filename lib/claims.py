@@ -6,6 +6,9 @@ import functools
 import os
 import re
 
+import law_definitions
+import law_sources
+
 ROOT = os.path.dirname(os.path.dirname(os.path.abspath(__file__)))
 SOURCE = "docs/claims"
 PAGES = ("README.md", "docs/RELAY.md", "docs/proof/PROVED.md")
@@ -49,9 +52,39 @@ def clauses_of(crate):
     for folder, _, files in os.walk(f"{ROOT}/crates/{crate}/src"):
         for file in (it for it in files if it.endswith(".rt")):
             text = text_of(os.path.relpath(f"{folder}/{file}", ROOT))
-            found |= set(re.findall(r"(?m)^ *ensures (\w+) \{", text))
-            found |= set(re.findall(r"(?m)^ *(?:pub(?:\([\w ]+\))? )?(?:extern \"C\" )?(?:const )?fn (\w+)[^{;]*?^ *ensures\b", text, re.S))
+            name = None
+            for line in text.splitlines():
+                said = re.match(r" *(?:ensures(?: (\w+))? \{|(?:pub(?:\([\w ]+\))? )?(?:extern \"C\" )?(?:const )?fn (\w+))", line)
+                if said and said[2]:
+                    name = said[2]
+                elif said:
+                    found |= {it for it in (name, said[1]) if it}
+                elif line.strip() in ("{", "}"):
+                    name = None
     return found
+
+
+@functools.cache
+def sources_of(crate):
+    """The public functions of a crate that have clauses, methods too, each with what its file brings in."""
+    found = []
+    for folder, _, files in os.walk(f"{ROOT}/crates/{crate}/src"):
+        for file in (it for it in files if it.endswith(".rt")):
+            text = text_of(os.path.relpath(f"{folder}/{file}", ROOT))
+            imports = law_definitions.brought_in(text)
+            for form in (text, re.sub("(?m)^    ", "", text)):
+                found += [(law, imports) for law in law_sources.laws_of(form)]
+    return found
+
+
+def cited(claim):
+    """The definitions that a claim's clauses name: of a function all of its clauses, else those of this name."""
+    for name in claim.clauses:
+        crate, _, own = name.rpartition(":") if re.fullmatch(r"\w+:\w+", name) else (claim.crate, "", name)
+        own = own.rpartition("::")[2]
+        for law, imports in sources_of(crate):
+            words = law_definitions.words_in("\n".join(it.text for it in law.clauses if own in (law.name, it.name)))
+            yield from (imports[word] for word in words if word in imports)
 
 
 def is_clause(claim, name):
@@ -69,13 +102,13 @@ def every_clause():
     return found
 
 
-def shown(claim):
-    """The clauses of a claim as a page has them."""
+def shown(claim, usual):
+    """The clauses of a claim as a page has them: the crate is named where it isn't the usual one of its table."""
     own = [it for it in claim.clauses if not re.fullmatch(r"\w+:\w+", it)]
     others = collections.defaultdict(list)
     for crate, name in (it.split(":") for it in claim.clauses if it not in own):
         others[crate].append(name)
-    parts = [", ".join(f"`{it}`" for it in own) + f" (`{claim.crate}`)"] * bool(own)
+    parts = [", ".join(f"`{it}`" for it in own) + f" (`{claim.crate}`)" * (claim.crate != usual)] * bool(own)
     return "; ".join(parts + [", ".join(f"`{it}`" for it in names) + f" (`{crate}`)" for crate, names in others.items()])
 
 
@@ -88,13 +121,26 @@ def table(name):
         chosen = [it for it in every[name.removeprefix("not proved of ")] if it.proved == (not name.startswith("not proved"))]
     if name.startswith("not proved"):
         return "".join(f"- {it.sentence}{f' ({it.premise})' if it.premise else ''}\n" for it in chosen)
-    rows = "".join(f"| {it.sentence} | {it.premise} | {shown(it)} |\n" for it in chosen)
-    return f"| Claim | Where | Clause |\n|---|---|---|\n{rows}"
+    lines, files = law_definitions.lines_of({it for claim in chosen for it in cited(claim)})
+    usual, count = collections.Counter(it.crate for it in chosen).most_common(1)[0]
+    usual = usual if 2 * count > len(chosen) else None
+    rows = "".join(f"| {it.sentence} | {it.premise} | {shown(it, usual)} |\n" for it in chosen)
+    head = f"| Claim | Where | Clause{f' of `{usual}`' if usual else ''} |\n|---|---|---|\n"
+    return f"Definitions to read: {lines:,} lines in {files} files.\n\n{head}{rows}"
 
 
 def made(text):
     """A page's text with its tables as they are to be."""
     return BLOCK.sub(lambda it: f"{it[1]}{table(it[2])}{it[4]}", text)
+
+
+def write_pages():
+    """Makes the tables of the pages anew. The count of claims."""
+    for page in PAGES:
+        text = made(text_of(page))
+        with open(f"{ROOT}/{page}", "w", encoding="utf-8") as it:
+            it.write(text)
+    return sum(map(len, groups().values()))
 
 
 def wrong_claims():

@@ -70,6 +70,15 @@ func main() {
 		must(err)
 		return len(told)
 	})
+	fewest("by a client that tells nothing", func() int {
+		out = out[:0]
+		must(client.StartBatch("a"))
+		_, err := client.Send(&out)
+		must(err)
+		_, err = client.Hear(packet, nil)
+		must(err)
+		return 0
+	})
 	fewest("by a table", func() int {
 		out, told = out[:0], told[:0]
 		_, err := service.AskBatch(lent.Lease, "a", &out)

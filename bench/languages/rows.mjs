@@ -26,6 +26,12 @@ fewest("tokens heard by a client", () => {
   client.send();
   return client.hear(PACKET).tokens.length;
 });
+fewest("by a client that tells nothing", () => {
+  client.startBatch("a");
+  client.send();
+  client.follow(PACKET);
+  return 0;
+});
 fewest("by a table", () => {
   service.askBatch(lease, "a");
   return service.hear(number, PACKET).tokens.length;

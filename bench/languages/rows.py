@@ -26,6 +26,12 @@ def by_client():
     return client.hear(PACKET).tokens
 
 
+def told_nothing():
+    client.start_batch("a")
+    client.send()
+    return client.follow(PACKET)
+
+
 def by_table():
     # What is sent isn't looked at: it asks for a reset once.
     service.ask_batch(lease, "a")
@@ -38,6 +44,7 @@ own = PACKET[8:]
 rows = [own[it.start: it.start + it.length] for it in by_client() if it.kind == ROW]
 columns = Columns(own)
 fewest(f"{len(by_client())} tokens heard by a client", by_client)
+fewest("by a client that tells nothing", told_nothing)
 fewest(f"{len(by_table())} by a table", by_table)
 fewest("places alone", lambda: [columns.places(row) for row in rows])
 fewest("values alone", lambda: [columns.values(row) for row in rows])

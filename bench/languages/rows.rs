@@ -41,6 +41,13 @@ fn main() -> Result<(), Fault> {
         client.hear(&packet, &mut told)?;
         Ok(told.len())
     })?;
+    fewest("by a client that tells nothing", || {
+        out.clear();
+        client.start(Request::Batch("a"))?;
+        client.send(&mut out)?;
+        client.follow(&packet)?;
+        Ok(0)
+    })?;
     fewest("by a table", || {
         out.clear();
         told.clear();

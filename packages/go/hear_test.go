@@ -53,6 +53,11 @@ func TestHear(t *testing.T) {
 	is(t, len(told), nil, 301)
 	_, err = client.Hear(nil, &told)
 	refuses(t, err, Fault(24))
+	// Where nobody wants the tokens the client hears the same.
+	quiet := asked(t)
+	answer, err = quiet.HearData(data, true, nil)
+	is(t, answer, err, Finished)
+	is(t, quiet.Idle(), nil, true)
 }
 
 // Nothing is allocated for a packet whose tokens have room.

@@ -30,6 +30,7 @@ type Columns struct {
 	Columns []Column
 	raw     []C.struct_tds_column // one more than there are: an address for none
 	found   []C.struct_tds_place
+	next    C.size_t
 	taken   C.size_t
 }
 
@@ -98,4 +99,39 @@ func (columns *Columns) Places(row []byte, places []RowPlace) (int, error) {
 		places[i] = RowPlace{uint64(it.start), uint64(it.length), it.null != 0}
 	}
 	return int(columns.taken), nil
+}
+
+// Come writes to places, at each column's own place, where each value stands that is whole in bytes that begin with the value of the column
+// first, from the first of these bytes on; it gives the column whose value comes next, and where that begins. nulls is the null bitmap of
+// an NBCROW.
+func (columns *Columns) Come(first int, nulls, bytes []byte, places []RowPlace) (next, taken int, err error) {
+	count := len(columns.Columns)
+	if len(places) < count {
+		return 0, 0, Fault(C.TDS_NO_ROOM)
+	}
+	answer := C.tds_row_values(&columns.raw[0], C.size_t(count), C.size_t(first), at(nulls), C.size_t(len(nulls)), at(bytes), C.size_t(len(bytes)),
+		&columns.found[0], C.size_t(count), &columns.next, &columns.taken)
+	if answer > C.TDS_WIRE_MORE {
+		return 0, 0, Fault(answer)
+	}
+	for next = first; next < int(columns.next); next++ {
+		it := &columns.found[next]
+		places[next] = RowPlace{uint64(it.start), uint64(it.length), it.null != 0}
+	}
+	return next, int(columns.taken), nil
+}
+
+// Parts is a value in parts as its bytes come, from its first one on: zero before it.
+type Parts struct {
+	raw                 C.struct_tds_parts
+	start, count, taken C.size_t
+	IsOver, IsNull      bool
+}
+
+// Next takes what comes next of it, up to the end of a part: its own bytes among these, and how many of these are done with. Call it again
+// with the bytes behind them, until there are none or it is over.
+func (parts *Parts) Next(bytes []byte) ([]byte, int) {
+	answer := C.tds_parts_next(&parts.raw, at(bytes), C.size_t(len(bytes)), &parts.start, &parts.count, &parts.taken)
+	parts.IsOver, parts.IsNull = answer != C.TDS_WIRE_MORE, answer == C.TDS_PARTS_NULL
+	return bytes[parts.start : parts.start+parts.count], int(parts.taken)
 }

@@ -33,6 +33,35 @@ func TestRows(t *testing.T) {
 	if _, err = columns.Places(row[:20], places); err != Fault(24) {
 		t.Error(err)
 	}
+	// Its bytes up to anywhere: the values that are whole, from any column on, and one in parts as it comes.
+	if next, taken, err := columns.Come(0, nil, row[1:20], places); err != nil || next != 2 || taken != 9 || places[1] != (RowPlace{7, 2, false}) {
+		t.Error(next, taken, places, err)
+	}
+	if next, taken, err := columns.Come(1, nil, row[6:], places); err != nil || next != 3 || taken != 28 || places[2] != (RowPlace{12, 12, false}) {
+		t.Error(next, taken, places, err)
+	}
+	if next, taken, err := columns.Come(0, []byte{6}, []byte{4, 9, 0, 0, 0}, places); err != nil || next != 3 || taken != 5 || !places[2].Null {
+		t.Error(next, taken, places, err)
+	}
+	if _, _, err := columns.Come(4, nil, row, places); err != Fault(72) {
+		t.Error(err)
+	}
+	var parts, null Parts
+	own, at := []byte(nil), 10
+	for at < len(row) && !parts.IsOver {
+		end := at + 3
+		if end > len(row) {
+			end = len(row)
+		}
+		piece, taken := parts.Next(row[at:end])
+		own, at = append(own, piece...), at+taken
+	}
+	if !parts.IsOver || parts.IsNull || at != len(row)-1 || string(own) != "x\x00y\x00" {
+		t.Error(own, at, parts)
+	}
+	if piece, taken := null.Next(decode("FFFFFFFFFFFFFFFFD1")); len(piece) != 0 || taken != 8 || !null.IsOver || !null.IsNull {
+		t.Error(piece, taken, null)
+	}
 	if same, err := NewColumns(decode("81FFFF"), false); same != nil || err != nil {
 		t.Error(same, err)
 	}

@@ -211,7 +211,7 @@ func (service *Service) Cancel(lease uint64, out *[]byte) (Answer, error) {
 }
 
 // Hear hears one packet on the connection of this number, whoever holds it, as Client.Hear: the lease that holds it and its request,
-// which are told what is appended. A connection that drained is free behind Acknowledged.
+// which are told what is appended, or with nil would be. A connection that drained is free behind Acknowledged.
 func (service *Service) Hear(number uint64, packet []byte, told *[]Walked) (Answer, Whose, error) {
 	_, err := service.seat(number)
 	if err == nil && len(packet) < 8 {
@@ -220,15 +220,15 @@ func (service *Service) Hear(number uint64, packet []byte, told *[]Walked) (Answ
 	if err != nil {
 		return 0, Whose{}, err
 	}
-	found, walk, before := rooms.Get().(*room), service.walk(number), len(*told)
+	found, walk, isTold := rooms.Get().(*room), service.walk(number), false
 	defer rooms.Put(found)
 	for data := packet[8:]; ; {
 		answer := C.tds_service_hear(&service.value, &service.seats[0], service.most(), C.uint64_t(number), &walk.value, &walk.memory,
 			at(data), C.size_t(len(data)), oneWhere(packet[1]&1 == 1), &found.taken, &found.tokens[0], atOnce, &found.count, &found.whose)
-		data = found.tells(data, told)
+		data, isTold = found.tells(data, told), isTold || found.count > 0
 		if answer != C.TDS_TELL {
 			is, err := walk.answer(answer)
-			return is, Whose{uint64(found.whose.lease), uint64(found.whose.request), len(*told) > before}, err
+			return is, Whose{uint64(found.whose.lease), uint64(found.whose.request), isTold}, err
 		}
 	}
 }

@@ -128,10 +128,12 @@ func hears(raw *C.struct_tds_client, walk *Walk, data []byte, ends bool, told *[
 	}
 }
 
-// tells appends what a call has told. It gives the data that are left.
+// tells appends what a call has told, where somebody wants it. It gives the data that are left.
 func (found *room) tells(data []byte, told *[]Walked) []byte {
-	for i := range found.tokens[:found.count] {
-		*told = append(*told, walked(&found.tokens[i]))
+	if told != nil {
+		for i := range found.tokens[:found.count] {
+			*told = append(*told, walked(&found.tokens[i]))
+		}
 	}
 	return data[found.taken:]
 }
@@ -160,7 +162,8 @@ func (client *Client) HearBy(walk *Walk) { client.walk = walk }
 
 // Hear hears one packet of any server's answer, from its first byte to its last, and appends the tokens that end in it and that the
 // caller who asked is told of, also before a fault: More, Finished or Acknowledged. Where they stand is counted from their message's
-// first byte: keep its packets' data until it ends, if you read rows or texts. Behind a cancel nothing is told.
+// first byte: keep its packets' data until it ends, if you read rows or texts. Behind a cancel nothing is told. With nil nothing is:
+// for who reads rows by a reader of his own, and wants the client's state alone.
 func (client *Client) Hear(packet []byte, told *[]Walked) (Answer, error) {
 	if len(packet) < 8 {
 		return 0, Fault(C.TDS_WANTS_BYTES)

@@ -99,6 +99,10 @@ function heardAtOnce() {
   assert.deepEqual([answer, client.stage, tokens.map(whole)], [Answer.FINISHED, Stage.IDLE, [...new Walk().tokens(many)].map(whole)]);
   client.startBatch("say a");
   client.sendAll();
+  assert.deepEqual([client.follow(bytes("0401000000000000" + hex(many))), client.stage], [Answer.FINISHED, Stage.IDLE]);
+  refuses(24, () => client.follow(new Uint8Array(7)));
+  client.startBatch("say a");
+  client.sendAll();
   const [told] = client.hear(bytes(SAID)).tokens;
   assert.deepEqual([told.tells, told.kind, told.number, told.text], [Tells.MESSAGE, 0xab, 50000, { start: 11, length: 2 }]);
   client.cancel();

@@ -93,6 +93,10 @@ def heard_at_once():
     assert client.stage == Stage.IDLE
     client.start_batch("say a")
     client.send_all()
+    assert client.follow(b"\4\1" + bytes(6) + many) == Answer.FINISHED and client.stage == Stage.IDLE
+    refuses(24, client.follow, b"\4\1")
+    client.start_batch("say a")
+    client.send_all()
     told = client.hear(SAID).tokens[0]
     assert (told.tells, told.kind, told.number, told.state, told.text) == (Tells.MESSAGE, 0xAB, 50000, 1, Place(11, 2))
     client.cancel()

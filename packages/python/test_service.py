@@ -70,7 +70,7 @@ def drains():
     assert service.holder(1) == 0
     refuses(ALL_IN_USE, service.lease)
     # The answer's end crosses the cancel.
-    assert service.hear(1, ENDED) == Came(0, 1, Answer.MORE, [])
+    assert service.follow(1, ENDED) == Came(0, 1, Answer.MORE, [])
     assert service.drained(1) == Rest.DRAINING
     refuses(ALL_IN_USE, service.lease)
     refuses(NOT_NOW, service.clean, 1)

@@ -1,5 +1,5 @@
 """10,000 random rows of all types, a ROW or an NBCROW each: each value as it was made is what its bytes are read as, by `mouktelf.rows`
-and, where it is installed, by python-tds. The bytes are written here, by MS-TDS 2.2.5.5.
+and, where it is installed, by python-tds; and a row cut anywhere gives the same values. The bytes are written here, by MS-TDS 2.2.5.5.
 
 usage: test_values.py [SEED]"""
 
@@ -10,8 +10,8 @@ import sys
 import uuid
 from decimal import Decimal
 
-from mouktelf.rows import Columns
-from mouktelf.values import Type
+from mouktelf.rows import Columns, RowParts
+from mouktelf.values import Type, joined_parts
 
 ROWS = 10_000
 DAY = 86_400 * 10 ** 7
@@ -266,6 +266,18 @@ def plain(it):
     return bytes(it) if isinstance(it, (bytearray, memoryview)) else it
 
 
+def in_pieces(it, columns, token):
+    """The values of a row that comes in pieces of any size: as bytes, or None; and what is left behind it."""
+    reader, values, at = RowParts(columns), {}, 0
+    while at < len(token):
+        count = it.choice((1, 2, 7, it.randint(1, len(token))))
+        for index, piece, is_over in reader.feed(token[at:at + count]):
+            assert index == len(values) - (index in values) and values.get(index, (0, False))[1] is False, "one behind the other"
+            values[index] = None if piece is None else values.get(index, (b"", 0))[0] + piece, is_over
+        at += count
+    return [own for own, is_over in values.values() if is_over], reader.rest
+
+
 def described():
     """The COLMETADATA of all columns."""
     told = b"\x81" + little(len(COLUMNS), 2)
@@ -297,6 +309,10 @@ def main(seed):
             nulls += data is None
         token = (b"\xd2" + bits if is_bits else b"\xd1") + plain_row
         places, found = columns.places(token + b"\xd1"), columns.values(token)
+        whole = [place if place is None or not own.is_in_parts else joined_parts(place) for (_, place, _), own in zip(made, columns)]
+        if row % 10 == 0 and in_pieces(it, columns, token + b"\xd1") != (whole, b"\xd1"):
+            wrong += 1
+            print(f"row {row} is another one in pieces: {token.hex()}")
         for index, (sent, place, expected) in enumerate(made):
             (start, length, null), own, column = places[index], found[index], COLUMNS[index][3]
             if null != (place is None) or token[start:start + length] != (place or b"") or own != expected or type(own) is not type(expected):

@@ -15,8 +15,17 @@ from layer import parts, structs
 
 TYPES = {"size_t": "uint64", "uint64_t": "uint64", "int64_t": "int64", "uint32_t": "uint32", "int32_t": "int32",
          "uint16_t": "uint16", "uint8_t": "uint8"}
-# Nobody reads its fields, and it is long: it crosses as it is.
+# Nobody reads its fields, and it is long: of its columns those cross that there are, and the others, of which no walk says anything, stay.
 WHOLE = "tds_wire_memory"
+USED = """
+// used says how many bytes its columns have, which stand first.
+func (v *c_struct_{name}) used() uint64 {{
+	if n := 2 * (uint64(v.image[{count}]) | uint64(v.image[{count}+1])<<8); n < {behind} {{
+		return n
+	}}
+	return {behind}
+}}
+"""
 IMPORTS = ("sync", "unicode/utf16", "unsafe")
 
 
@@ -26,7 +35,8 @@ def go_type(kind):
 
 def declaration(it):
     if it.name == WHOLE:
-        return f"type c_struct_{it.name} struct {{ image [{it.size}]byte }}"
+        behind, count = (it.fields[field][3] for field in (1, 2))
+        return f"type c_struct_{it.name} struct {{ image [{it.size}]byte }}\n" + USED.format(name=it.name, behind=behind, count=count)
     fields = "; ".join(f"{name} {f'[{many}]' if many else ''}{go_type(kind)}" for kind, name, many, _, _ in it.fields)
     return f"type c_struct_{it.name} struct {{ {fields} }}"
 
@@ -46,7 +56,9 @@ def image(it, writes):
             way = f"{value} = {TYPES[kind]}(m.read{8 * size}({place}))"
         lines.append(f"{loop}{{ {way} }}" if loop else way)
     if it.name == WHOLE:
-        lines = ["copy(m.b[p:], v.image[:])" if writes else "copy(v.image[:], m.b[p:])"]
+        behind = it.fields[1][3]
+        lines = [f"copy(m.b[p:], v.image[:v.used()]); copy(m.b[p+{behind}:], v.image[{behind}:])" if writes else
+                 f"copy(v.image[{behind}:], m.b[p+{behind}:]); copy(v.image[:v.used()], m.b[p:])"]
     return f"func (v *c_struct_{it.name}) {'to' if writes else 'from'}(m *machine, p uint64) {{ {'; '.join(lines)} }}"
 
 

@@ -119,6 +119,38 @@ BY_HAND["tds_service_hear"] = SEATS.format(size=72) + """    _Alignas(16) unsign
     return answer;
 """
 
+# Of columns and places images are made for each call.
+COLUMNS = """    unsigned char *of_columns = calloc({many} + 1, 40);
+    _Alignas(16) unsigned char {counts};
+    uint8_t answer = TDS_NO_MEMORY;
+"""
+ROWS = COLUMNS.replace("    _Alignas", "    unsigned char *of_places = calloc(room + 1, 24);\n    _Alignas") + """    if (of_columns && of_places) {{
+        for (size_t k = 0; k < count; k++) one_to_tds_column(of_columns + 40 * k, &columns[k]);
+        for (size_t k = 0; k < room; k++) one_to_tds_place(of_places + 24 * k, &places[k]);
+        answer = {call};
+        for (size_t k = 0; k < room; k++) one_from_tds_place(&places[k], of_places + 24 * k);
+{back}    }}
+    free(of_columns);
+    free(of_places);
+    return answer;
+"""
+TAKEN = "        *{name} = (size_t)one_read64(ONE_BYTES(of_{name}));\n"
+BY_HAND["tds_columns"] = COLUMNS.format(many="room", counts="of_count[8] = {0}, of_taken[8] = {0}") + """    *count = *taken = 0;
+    if (of_columns) {
+        answer = core_tds_columns(ONE_BYTES(bytes), length, encryption, ONE_BYTES(of_columns), room, ONE_BYTES(of_count), ONE_BYTES(of_taken));
+""" + TAKEN.format(name="count") + TAKEN.format(name="taken") + """        for (size_t k = 0; k < *count; k++) one_from_tds_column(&columns[k], of_columns + 40 * k);
+    }
+    free(of_columns);
+    return answer;
+"""
+BY_HAND["tds_row_places"] = ROWS.format(
+    many="count", counts="of_taken[8] = {0}", back=TAKEN.format(name="taken"),
+    call="core_tds_row_places(ONE_BYTES(of_columns), count, ONE_BYTES(bytes), length, ONE_BYTES(of_places), room, ONE_BYTES(of_taken))")
+BY_HAND["tds_row_values"] = ROWS.format(
+    many="count", counts="of_next[8] = {0}, of_taken[8] = {0}", back=TAKEN.format(name="next") + TAKEN.format(name="taken"),
+    call="""core_tds_row_values(ONE_BYTES(of_columns), count, first, ONE_BYTES(nulls), bits, ONE_BYTES(bytes), length,
+                                     ONE_BYTES(of_places), room, ONE_BYTES(of_next), ONE_BYTES(of_taken))""")
+
 OPENING = """/* ---- The layer: the header's calls over the core above.
  *
  * The core sees memory as the proved build for x86-64 does: a pointer and a length have 8 bytes, a number its low byte

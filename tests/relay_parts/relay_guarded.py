@@ -187,7 +187,8 @@ def server_vanished(program, cases, serve):
                 begun = time.monotonic()
                 one.sendall(batch("rows 2 1"))
                 one.settimeout(40)
-                cases.same("who waits for a server that vanished is closed", one.recv(100), b"")
+                cases.same("who waits for a server that vanished is told", all_of(one), error_packet(
+                    50109, f"The server {FAR}:1433 fails with ETIMEDOUT: Connection timed out (os error 110)."))
                 took = time.monotonic() - begun
                 cases.check("and that within the limit", took < 12, took)
 

@@ -16,7 +16,7 @@ from relay_operator import all_of, until
 from relay_servers import DONE, Before
 from relay_told import Relay, error_in, error_packet, let_in, rows
 
-LATE = 50108
+LATE, LOST = 50108, 50109
 
 
 def json_log(program, cases, server):
@@ -109,6 +109,25 @@ def joined(program, cases, server):
             other = let_in(relay, "", "billing", "otto", "sales")
             cases.same(f"another user has a group of his own {words}", relay.json()["groups_shared"], count + 1)
             other.close()
+
+
+def lost(program, cases, server):
+    """A server ends connections: who asks there and has nothing of the answer is told, who asks nothing is not."""
+    with Before(server) as before, Relay(program, before.port) as relay:
+        one, two, three = let_in(relay), let_in(relay), let_in(relay)
+        cases.check("rows before a connection's end", all(rows(it, number) for number, it in enumerate((one, two, three))))
+        before.is_deaf = True
+        one.sendall(batch("rows 3 1"))
+        two.sendall(batch("rows 4 1"))
+        until(relay, lambda it: it["applications_asking"] == 2)
+        # DONE with more behind it, in a packet that isn't the last one.
+        before.link_of("rows 4 1").sendall(packet(4, b"\xfd\x01\x00" + bytes(10), 0))
+        begun = two.recv(8 + 13, socket.MSG_WAITALL)
+        before.drop()
+        cases.same("who asks is told", all_of(one), error_packet(
+            LOST, f"The server 127.0.0.1:{before.port} has closed the connection."))
+        cases.same("who is within an answer isn't", (len(begun), all_of(two)), (21, b""))
+        cases.same("nor who asks nothing", all_of(three), b"")
 
 
 def name_in(login, place):

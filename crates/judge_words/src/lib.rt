@@ -52,6 +52,10 @@ fn later_word(name: Name) -> &'static str {
         Name::IgnoreUnended => "ignore-unended",
         Name::WrongDirection => "wrong-direction",
         Name::AcknowledgementNotLast => "acknowledgement-not-last",
+        Name::WrongHeaders => "wrong-headers",
+        Name::PacketNotFull => "packet-not-full",
+        Name::RequestBeforeLogin => "request-before-login",
+        Name::ResetToldLate => "reset-told-late",
         _ => "",
     }
 }
@@ -105,6 +109,10 @@ fn later_section(name: Name) -> &'static str {
         Name::IgnoreUnended => "2.2.3.1.2",
         Name::WrongDirection => "2.2.3.1.1",
         Name::AcknowledgementNotLast => "2.2.7.6",
+        Name::WrongHeaders => "2.2.5.3",
+        Name::PacketNotFull => "2.2.3.1.3",
+        Name::RequestBeforeLogin => "2.2.7.14",
+        Name::ResetToldLate => "2.2.3.1.2",
         _ => "",
     }
 }
@@ -160,6 +168,10 @@ fn later_sentence(name: Name) -> &'static str {
         Name::IgnoreUnended => "a packet that is to be ignored doesn't end its message",
         Name::WrongDirection => "a packet of a type of the other direction",
         Name::AcknowledgementNotLast => "an acknowledgement isn't the last token of its message",
+        Name::WrongHeaders => "ALL_HEADERS of a request is missing or wrong",
+        Name::PacketNotFull => "a packet of a request isn't full, and isn't its last",
+        Name::RequestBeforeLogin => "a request before the end of the login",
+        Name::ResetToldLate => "ENVCHANGE 18 behind something of what was asked for",
         _ => "",
     }
 }

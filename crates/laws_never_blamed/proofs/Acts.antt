@@ -157,7 +157,7 @@ send_moves eye n (Broken fault) h w past last k a well = record { knows = k; at 
 
 -- the packet of an attention, where one may be sent
 abbrev attends : Eye → List Said → List Said
-attends eye past = sees eye (sees eye past (events.Packet 8)) (events.Attention 8 1)
+attends eye past = sees eye (sees eye past (events.Packet 8 false)) (events.Attention 8 1)
 
 attention_known : (eye : Eye) (h : Heard) (past : List Said) → MayStop (place_of past) → Knows h past → Knows h (attends eye past)
 unfolding IsLawful agreed_last size_told last_told place_of

@@ -54,19 +54,19 @@ spot_is (y ∷ front) past x =
     (ne_eqb (length (front ++ (x ∷ past))) (length past) (λ (e : length (front ++ (x ∷ past)) ≡ length past). omega (arith, e, length-append front (x ∷ past))))
     ∙ spot_is front past x
 
-abbrev pub eye_at : List Said → ℕ → Bool → Eye
-eye_at behind size headers = record { spot = λ past. spot_behind behind (length past); length = λ past. size; headers = λ past. headers }
+abbrev pub eye_at : List Said → ℕ → Bool → Bool → Eye
+eye_at behind size headers fills = record { spot = λ past. spot_behind behind (length past); length = λ past. size; headers = λ past. headers; fills = λ past. fills }
 
 abbrev pub sees_all : Eye → List Said → List Event → List Said
 sees_all eye past [] = past
 sees_all eye past (event ∷ events) = sees_all eye (sees eye past event) events
 
-pub seen_so : (behind : List Said) (size : ℕ) (headers : Bool) (events : List Event) (past : List Said) → Follows events past behind
-    → sees_all (eye_at behind size headers) past events ≡ behind
-seen_so behind size headers [] past f = sym f
-seen_so behind size headers (event ∷ events) past f =
+pub seen_so : (behind : List Said) (size : ℕ) (headers fills : Bool) (events : List Event) (past : List Said) → Follows events past behind
+    → sees_all (eye_at behind size headers fills) past events ≡ behind
+seen_so behind size headers fills [] past f = sym f
+seen_so behind size headers fills (event ∷ events) past f =
     let rest = front_of events (says f.0 event past) behind f.1 in
     let one : Said = record { spot = f.0; event = event } in
     let there : spot_behind behind (length past) ≡ f.0 = ap (λ (xs : List Said). spot_behind xs (length past)) rest.is ∙ spot_is rest.front past one in
-    ap (λ (spot : Spot). sees_all (eye_at behind size headers) (says spot event past) events) there
-    ∙ seen_so behind size headers events (says f.0 event past) f.1
+    ap (λ (spot : Spot). sees_all (eye_at behind size headers fills) (says spot event past) events) there
+    ∙ seen_so behind size headers fills events (says f.0 event past) f.1

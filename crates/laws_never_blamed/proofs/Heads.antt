@@ -16,7 +16,7 @@ use Rattle.tds_judge.specs.declared.talk.Event.TheVariants as events
 use Rattle.tds_judge.specs.declared.talk.Limits.{Limits}
 use Rattle.tds_judge.specs.declared.talk.Talk.{Talk}
 use Rattle.tds_wire.specs.Reading.{Reading, restarted}
-use Rattle.tds_judge.specs.Framing.{Run, begins, due_by, event_of, frame_of, goes_on, head_of, headed, headed_by, inside_of, is_plausible, opened, shifted, step, steps, taken_up}
+use Rattle.tds_judge.specs.Framing.{Run, begins, due_by, event_of, frame_of, goes_on, head_of, headed, headed_by, inside_of, is_plausible, is_to_fill, opened, shifted, step, steps, taken_up}
 use Rattle.tds_judge.specs.History.{Said, found_in, further}
 
 -- ---- A judge that goes on from a talk, behind what was said since
@@ -144,14 +144,14 @@ server_spot offset time = record { direction = ToClient; offset = offset; time =
 
 pub client_begins : (base : Base) (c s : Frame) (r : Reading) (past : List Said) (o t : ℕ) (head : Head) (event : Event) → event_of head ≡ event
     → begins (client_spot o t) head (run_at base c s r past)
-    ≡ opened (client_spot o t) parts.Within (inside_of head.kind) head (run_at base c s r (says (client_spot o t) event (says (client_spot o t) (events.Packet head.size) past)))
+    ≡ opened (client_spot o t) parts.Within (inside_of head.kind) head (run_at base c s r (says (client_spot o t) event (says (client_spot o t) (events.Packet head.size (is_to_fill ToServer head)) past)))
 unfolding begins further found_in
 client_begins base c s r past o t head event e =
-    ap (λ (x : Event). opened (client_spot o t) parts.Within (inside_of head.kind) head (run_at base c s r (says (client_spot o t) x (says (client_spot o t) (events.Packet head.size) past)))) e
+    ap (λ (x : Event). opened (client_spot o t) parts.Within (inside_of head.kind) head (run_at base c s r (says (client_spot o t) x (says (client_spot o t) (events.Packet head.size (is_to_fill ToServer head)) past)))) e
 
 pub client_goes_on : (base : Base) (c s : Frame) (r : Reading) (past : List Said) (o t : ℕ) (head : Head) → ((head.kind == c.kind) && not (head.kind == 6)) ≡ true
     → goes_on (client_spot o t) c head (run_at base c s r past)
-    ≡ opened (client_spot o t) parts.Within c.inside head (run_at base c s r (says (client_spot o t) (events.Later head.status) (says (client_spot o t) (events.Packet head.size) past)))
+    ≡ opened (client_spot o t) parts.Within c.inside head (run_at base c s r (says (client_spot o t) (events.Later head.status) (says (client_spot o t) (events.Packet head.size (is_to_fill ToServer head)) past)))
 unfolding goes_on further found_in
 client_goes_on base c s r past o t head e = rw e refl
 
@@ -159,12 +159,12 @@ client_goes_on base c s r past o t head e = rw e refl
 
 pub server_begins : (base : Base) (c s : Frame) (r : Reading) (past : List Said) (o t : ℕ) (head : Head) → (head.kind == 18) ≡ false → (c.kind == 18) ≡ false
     → begins (server_spot o t) head (run_at base c s r past)
-    ≡ opened (server_spot o t) parts.Within inside.Walked head (run_at base c s (restarted r) (says (server_spot o t) events.Answer (says (server_spot o t) (events.Packet head.size) past)))
+    ≡ opened (server_spot o t) parts.Within inside.Walked head (run_at base c s (restarted r) (says (server_spot o t) events.Answer (says (server_spot o t) (events.Packet head.size false) past)))
 unfolding begins further found_in
 server_begins base c s r past o t head e f = rw (e, f) refl
 
 pub server_goes_on : (base : Base) (c s : Frame) (r : Reading) (past : List Said) (o t : ℕ) (head : Head) → ((head.kind == s.kind) && not (head.kind == 6)) ≡ true
     → goes_on (server_spot o t) s head (run_at base c s r past)
-    ≡ opened (server_spot o t) parts.Within s.inside head (run_at base c s r (says (server_spot o t) (events.Packet head.size) past))
+    ≡ opened (server_spot o t) parts.Within s.inside head (run_at base c s r (says (server_spot o t) (events.Packet head.size false) past))
 unfolding goes_on further found_in
 server_goes_on base c s r past o t head e = rw e refl

@@ -180,13 +180,13 @@ pub answer_begins : (cuts : Cuts) (base : Base) (t status spid id window : ℕ) 
     → Quiet s → IsNumbered s id → (c.kind == 18) ≡ false → Small status (8 + length content) spid id window → (status % 2 == 1) ≡ ends
     → restarted j ≡ r → tokens_in r content ≡ all → all.stop ≡ Stands u
     → Told base t ends (answer_bytes status (8 + length content) spid id window content) c s j u past
-    (events.Packet (8 + length content) ∷ events.Answer ∷ (says_of all.tokens ++ ended_by ends u))
+    (events.Packet (8 + length content) false ∷ events.Answer ∷ (says_of all.tokens ++ ended_by ends u))
 answer_begins cuts base t status spid id window ends content c s j r u past all quiet numbered other small e anew is stop =
     let size : ℕ = 8 + length content in
     let there : Frame = headed_frame status (8 + length content) spid id s in
     let head = answer_head status (8 + length content) id in
     let spot : Spot = head_spot ToClient s.offset t in
-    let said : List Said = says spot events.Answer (says spot (events.Packet (8 + length content)) past) in
+    let said : List Said = says spot events.Answer (says spot (events.Packet (8 + length content) false) past) in
     let data_read = reads cuts base spot.offset t ends status id content c there r u said all e is stop in
     record {
       frame = answer_frame ends data_read.frame;
@@ -206,12 +206,12 @@ answer_begins cuts base t status spid id window ends content c s j r u past all 
 pub answer_goes_on : (cuts : Cuts) (base : Base) (t status spid id window : ℕ) (ends : Bool) (content : List ℕ) (c s : Frame) (r u : Reading) (past : List Said) (all : Tokens)
     → Comes s → Small status (8 + length content) spid id window → (status % 2 == 1) ≡ ends → tokens_in r content ≡ all → all.stop ≡ Stands u
     → Told base t ends (answer_bytes status (8 + length content) spid id window content) c s r u past
-    (events.Packet (8 + length content) ∷ (says_of all.tokens ++ ended_by ends u))
+    (events.Packet (8 + length content) false ∷ (says_of all.tokens ++ ended_by ends u))
 answer_goes_on cuts base t status spid id window ends content c s r u past all comes small e is stop =
     let there : Frame = headed_frame status (8 + length content) spid id s in
     let head = answer_head status (8 + length content) id in
     let spot : Spot = head_spot ToClient s.offset t in
-    let said : List Said = says spot (events.Packet (8 + length content)) past in
+    let said : List Said = says spot (events.Packet (8 + length content) false) past in
     let data_read = reads cuts base spot.offset t ends status id content c there r u said all e is stop in
     let same : ((4 == s.kind) && not (4 == 6)) ≡ true = ap (λ (n : ℕ). (4 == n) && not (4 == 6)) comes.kind in
     record {

@@ -1,5 +1,5 @@
 -- What a packet that goes out says to a judge.
-use Rattle.std.proofs.Common.{◌≡◌, ◌∙◌, ◌+◌, ◌-◌, ◌*◌, ◌/◌, ◌%◌, ◌<◌, ◌≤◌, ◌==◌, ◌&&◌, not, nat_lt, Bool, true, false, ℕ, List, [], ◌∷◌, ◌++◌, length, refl, ap, arith}
+use Rattle.std.proofs.Common.{◌≡◌, ◌∙◌, ◌+◌, ◌-◌, ◌*◌, ◌/◌, ◌%◌, ◌<◌, ◌≤◌, ◌==◌, ◌&&◌, ◌||◌, not, nat_lt, Bool, true, false, ℕ, List, [], ◌∷◌, ◌++◌, length, refl, ap, arith}
 use Rattle.std.proofs.lemmas.Bool.{le-ltb, ne_eqb}
 use Rattle.std.proofs.lemmas.Nat.{from_le_bytes-to_le_bytes_8}
 use Rattle.std.specs.Prelude.{◌^◌}
@@ -24,10 +24,11 @@ use Rattle.tds_judge.specs.declared.talk.Event.{Event}
 use Rattle.tds_judge.specs.declared.talk.Event.TheVariants as events
 use Rattle.tds_wire.specs.Reading.{Reading}
 use Rattle.tds_judge.specs.Framing.{begins, event_of, head_of, headed, inside_of, is_plausible, opened, opened_frame, over, shifted, steps}
+use Rattle.tds_judge.specs.Headers.{new_heading}
 use Rattle.tds_judge.specs.History.{Said, found_in, further}
 use Rattle.laws_never_blamed.specs.Spelled.{headers_of}
 use Rattle.laws_never_blamed.proofs.Heads.{Base, between_begins, client_begins, client_goes_on, client_head, client_spot, first_begins, head_spot, next, run_at, says, seven, spelled7, spelled_head, within_goes_on}
-use Rattle.laws_never_blamed.proofs.Contents.{descriptor, descriptor_is, front, last as last_of, names, on, skipped, skips_all}
+use Rattle.laws_never_blamed.proofs.Contents.{descriptor, descriptor_is, front, headers_end, last as last_of, names, on, prefix, rest_of, skipped, skips_all}
 use Rattle.laws_never_blamed.proofs.Follows.{Follows}
 
 -- ---- The header
@@ -42,6 +43,10 @@ kind_small kinds.Transaction = omega arith
 
 abbrev pub head_for : Kind → ℕ → ℕ → ℕ → Head
 head_for kind status size before = record { kind = kind_byte kind; status = status; size = size; id = (before + 1) % 256 }
+
+-- whether a packet has to be full
+abbrev pub fills : Kind → ℕ → Bool
+fills kind status = not (status % 2 == 1) && ((kind_byte kind == 1) || (kind_byte kind == 3) || (kind_byte kind == 7) || (kind_byte kind == 14))
 
 -- the number that a header's bytes spell
 abbrev pub value_of : Kind → ℕ → ℕ → ℕ → ℕ
@@ -118,11 +123,11 @@ abbrev behind_frame : Bool → Frame → Frame
 behind_frame true c = record c { due = due.Head 0 0; part = parts.Between }
 behind_frame false c = record c { due = due.Head 0 0; part = parts.Within }
 
-over_packet : (base : Base) (o t : ℕ) (last : Bool) (c s : Frame) (r : Reading) (past : List Said) → (c.status % 2 == 1) ≡ last → (c.status / 2 % 2 == 1) ≡ false
+over_packet : (base : Base) (o t : ℕ) (last : Bool) (c s : Frame) (r : Reading) (past : List Said) → (c.status % 2 == 1) ≡ last → (c.status / 2 % 2 == 1) ≡ false → c.inside ≡ inside.Skipped
     → over (client_spot o t) (run_at base (record c { part = parts.Within }) s r past) ≡ run_at base (behind_frame last c) s r past
 unfolding over
-over_packet base o t true c s r past ends plain = rw (ends, plain) refl
-over_packet base o t false c s r past ends plain = rw ends refl
+over_packet base o t true c s r past ends plain passed = rw (ends, plain, passed) refl
+over_packet base o t false c s r past ends plain passed = rw ends refl
 
 -- ---- A header
 
@@ -149,7 +154,7 @@ unfolding steps
 opened_skips base o t last kind status before [] c s r past ends plain =
     let head = of_request kind status [] before in
     let there : Frame = opened_frame c parts.Within inside.Skipped head in
-    (there, opened_empty base o t inside.Skipped head c s r past refl ∙ over_packet base o t last there s r past ends plain, refl, refl)
+    (there, opened_empty base o t inside.Skipped head c s r past refl ∙ over_packet base o t last there s r past ends plain refl, refl, refl)
 opened_skips base o t last kind status before (b ∷ bytes) c s r past ends plain =
     let head = of_request kind status (b ∷ bytes) before in
     let there : Frame = opened_frame c parts.Within inside.Skipped head in
@@ -159,7 +164,7 @@ opened_skips base o t last kind status before (b ∷ bytes) c s r past ends plai
       behind,
       ap (steps ToServer t (b ∷ bytes)) (opened_more base o t inside.Skipped head c s r past more)
           ∙ (skips_all base t b (8 + length (b ∷ bytes) - 8) c.offset bytes there s r past n
-          ∙ over_packet base (last_of c.offset b bytes) t last behind s r past ends plain),
+          ∙ over_packet base (last_of c.offset b bytes) t last behind s r past ends plain refl),
       refl,
       refl,
     )
@@ -168,13 +173,13 @@ opened_skips base o t last kind status before (b ∷ bytes) c s r past ends plai
 opened_names : (base : Base) (o t : ℕ) (last : Bool) (kind : MessageKind) (status before named : ℕ) (body : List ℕ) (c s : Frame) (r : Reading) (past : List Said)
     → (status % 2 == 1) ≡ last → (status / 2 % 2 == 1) ≡ false → named < 2 ^ 64
     → (f : Frame) × (spot : Spot)
-    × (steps ToServer t (all_headers named ++ body) (opened (client_spot o t) parts.Within (inside.Prefix 0 true 0) (of_request kind status (all_headers named ++ body) before) (run_at base c s r past))
+    × (steps ToServer t (all_headers named ++ body) (opened (client_spot o t) parts.Within (inside.Prefix new_heading) (of_request kind status (all_headers named ++ body) before) (run_at base c s r past))
     ≡ run_at base (behind_frame last f) s r (says spot (events.Names named) past))
     × (f.kind ≡ kind_byte (packets_are kind)) × (f.inside ≡ inside.Skipped)
 opened_names base o t last kind status before named body c s r past ends plain ranged =
     let content : List ℕ = all_headers named ++ body in
     let head = of_request kind status content before in
-    let there : Frame = opened_frame c parts.Within (inside.Prefix 0 true 0) head in
+    let there : Frame = opened_frame c parts.Within (inside.Prefix new_heading) head in
     let a = named % 256 in
     let b = named / 256 % 256 in
     let d = named / 65536 % 256 in
@@ -195,11 +200,11 @@ opened_names base o t last kind status before named body c s r past ends plain r
     ∙ from_le_bytes-to_le_bytes_8 named ranged in (
       behind,
       spot,
-      ap (steps ToServer t content) (opened_more base o t (inside.Prefix 0 true 0) head c s r past more)
+      ap (steps ToServer t content) (opened_more base o t (inside.Prefix new_heading) head c s r past more)
           ∙ (names base t a b d e f g h i (size - 8) c.offset (1 ∷ 0 ∷ 0 ∷ 0 ∷ body) there s r past many
-          ∙ (ap (λ (n : ℕ). steps ToServer t (1 ∷ 0 ∷ 0 ∷ 0 ∷ body) (run_at base (skipped there (size - 8 - 18) (next place)) s r (says spot (events.Names n) past))) is_named
-          ∙ (skips_all base t 1 (size - 8 - 18) (next place) (0 ∷ 0 ∷ 0 ∷ body) there s r (says spot (events.Names named) past) rest
-          ∙ over_packet base (last_of (next place) 1 (0 ∷ 0 ∷ 0 ∷ body)) t last behind s r (says spot (events.Names named) past) ends plain))),
+          ∙ (ap (λ (n : ℕ). steps ToServer t (1 ∷ 0 ∷ 0 ∷ 0 ∷ body) (run_at base (prefix there (size - 8 - 18) (rest_of 4 0) (next place)) s r (says spot (events.Names n) past))) is_named
+          ∙ (headers_end base t (size - 8 - 18) (next place) body there s r (says spot (events.Names named) past) rest
+          ∙ over_packet base (last_of (next place) 1 (0 ∷ 0 ∷ 0 ∷ body)) t last behind s r (says spot (events.Names named) past) ends plain refl))),
       refl,
       refl,
     )
@@ -239,13 +244,13 @@ header_goes_on : (base : Base) (t : ℕ) (kind : MessageKind) (status before : �
     → steps ToServer t (packet_bytes (packets_are kind) status before content) (run_at base c s r past)
     ≡ steps ToServer t content (opened (head_spot ToServer c.offset t) parts.Within inside.Skipped (of_request kind status content before)
     (run_at base (headed_frame (packets_are kind) status (8 + length content) before c) s r
-    (says (head_spot ToServer c.offset t) (events.Later status) (says (head_spot ToServer c.offset t) (events.Packet (8 + length content)) past))))
+    (says (head_spot ToServer c.offset t) (events.Later status) (says (head_spot ToServer c.offset t) (events.Packet (8 + length content) (fills (packets_are kind) status)) past))))
 header_goes_on base t kind status before content c s r past amid small few =
     let size : ℕ = 8 + length content in
     let head = of_request kind status content before in
     let there : Frame = headed_frame (packets_are kind) status (8 + length content) before c in
     let spot : Spot = head_spot ToServer c.offset t in
-    let said : List Said = says spot (events.Later status) (says spot (events.Packet (8 + length content)) past) in
+    let said : List Said = says spot (events.Later status) (says spot (events.Packet (8 + length content) (fills (packets_are kind) status)) past) in
     let same : ((head.kind == c.kind) && not (head.kind == 6)) ≡ true =
     ap (λ (n : ℕ). (kind_byte (packets_are kind) == n) && not (kind_byte (packets_are kind) == 6)) amid.kind_is ∙ request_again kind in
     ap (λ (d : Due). steps ToServer t (packet_bytes (packets_are kind) status before content) (run_at base (record c { due = d }) s r past)) amid.due
@@ -265,15 +270,15 @@ names_of BulkLoad named = []
 names_of Transaction named = events.Names named ∷ []
 
 named_first : (base : Base) (t : ℕ) (last : Bool) (kind : MessageKind) (status named : ℕ) (body : List ℕ) (c s : Frame) (r : Reading) (past : List Said) → Rests c
-    → status < 256 → 8 + length (all_headers named ++ body) < 65536 → (status % 2 == 1) ≡ last → (status / 2 % 2 == 1) ≡ false → named < 2 ^ 64 → inside_of (kind_byte (packets_are kind)) ≡ inside.Prefix 0 true 0
+    → status < 256 → 8 + length (all_headers named ++ body) < 65536 → (status % 2 == 1) ≡ last → (status / 2 % 2 == 1) ≡ false → named < 2 ^ 64 → inside_of (kind_byte (packets_are kind)) ≡ inside.Prefix new_heading
     → Spoken base t (packet_bytes (packets_are kind) status 0 (all_headers named ++ body)) c s r past
-    (events.Packet (8 + length (all_headers named ++ body)) ∷ events.Request status ∷ events.Names named ∷ []) (After last kind)
+    (events.Packet (8 + length (all_headers named ++ body)) (fills (packets_are kind) status) ∷ events.Request status ∷ events.Names named ∷ []) (After last kind)
 named_first base t last kind status named body c s r past rests small few ends plain ranged prefix_is =
     let content : List ℕ = all_headers named ++ body in
     let head = of_request kind status content 0 in
     let there : Frame = headed_frame (packets_are kind) status (8 + length content) 0 c in
     let spot : Spot = head_spot ToServer c.offset t in
-    let said : List Said = says spot (events.Request status) (says spot (events.Packet (8 + length content)) past) in
+    let said : List Said = says spot (events.Request status) (says spot (events.Packet (8 + length content) (fills (packets_are kind) status)) past) in
     let (f, place, is, kind_is, inside_is) = opened_names base spot.offset t last kind status 0 named body there s r said ends plain ranged in
     record {
       frame = behind_frame last f;
@@ -290,12 +295,12 @@ named_first base t last kind status named body c s r past rests small few ends p
 
 bulk_first : (base : Base) (t : ℕ) (last : Bool) (status : ℕ) (content : List ℕ) (c s : Frame) (r : Reading) (past : List Said) → Rests c
     → status < 256 → 8 + length content < 65536 → (status % 2 == 1) ≡ last → (status / 2 % 2 == 1) ≡ false
-    → Spoken base t (packet_bytes (packets_are BulkLoad) status 0 content) c s r past (events.Packet (8 + length content) ∷ events.Request status ∷ []) (After last BulkLoad)
+    → Spoken base t (packet_bytes (packets_are BulkLoad) status 0 content) c s r past (events.Packet (8 + length content) (fills (packets_are BulkLoad) status) ∷ events.Request status ∷ []) (After last BulkLoad)
 bulk_first base t last status content c s r past rests small few ends plain =
     let head = of_request BulkLoad status content 0 in
     let there : Frame = headed_frame (packets_are BulkLoad) status (8 + length content) 0 c in
     let spot : Spot = head_spot ToServer c.offset t in
-    let said : List Said = says spot (events.Request status) (says spot (events.Packet (8 + length content)) past) in
+    let said : List Said = says spot (events.Request status) (says spot (events.Packet (8 + length content) (fills (packets_are BulkLoad) status)) past) in
     let (f, is, kind_is, inside_is) = opened_skips base spot.offset t last BulkLoad status 0 content there s r said ends plain in
     record {
       frame = behind_frame last f;
@@ -311,7 +316,7 @@ bulk_first base t last status content c s r past rests small few ends plain =
 pub request_first : (base : Base) (t : ℕ) (last : Bool) (kind : MessageKind) (status named : ℕ) (body : List ℕ) (c s : Frame) (r : Reading) (past : List Said) → Rests c
     → status < 256 → 8 + length (headers_of kind named ++ body) < 65536 → (status % 2 == 1) ≡ last → (status / 2 % 2 == 1) ≡ false → named < 2 ^ 64
     → Spoken base t (packet_bytes (packets_are kind) status 0 (headers_of kind named ++ body)) c s r past
-    (events.Packet (8 + length (headers_of kind named ++ body)) ∷ events.Request status ∷ names_of kind named) (After last kind)
+    (events.Packet (8 + length (headers_of kind named ++ body)) (fills (packets_are kind) status) ∷ events.Request status ∷ names_of kind named) (After last kind)
 request_first base t last Batch status named body c s r past rests small few ends plain ranged = named_first base t last Batch status named body c s r past rests small few ends plain ranged refl
 request_first base t last Procedure status named body c s r past rests small few ends plain ranged = named_first base t last Procedure status named body c s r past rests small few ends plain ranged refl
 request_first base t last BulkLoad status named body c s r past rests small few ends plain ranged = bulk_first base t last status body c s r past rests small few ends plain
@@ -319,11 +324,11 @@ request_first base t last Transaction status named body c s r past rests small f
 
 pub request_later : (base : Base) (t : ℕ) (last : Bool) (kind : MessageKind) (status before : ℕ) (content : List ℕ) (c s : Frame) (r : Reading) (past : List Said) → Amid kind c
     → status < 256 → 8 + length content < 65536 → (status % 2 == 1) ≡ last → (status / 2 % 2 == 1) ≡ false
-    → Spoken base t (packet_bytes (packets_are kind) status before content) c s r past (events.Packet (8 + length content) ∷ events.Later status ∷ []) (After last kind)
+    → Spoken base t (packet_bytes (packets_are kind) status before content) c s r past (events.Packet (8 + length content) (fills (packets_are kind) status) ∷ events.Later status ∷ []) (After last kind)
 request_later base t last kind status before content c s r past amid small few ends plain =
     let there : Frame = headed_frame (packets_are kind) status (8 + length content) before c in
     let spot : Spot = head_spot ToServer c.offset t in
-    let said : List Said = says spot (events.Later status) (says spot (events.Packet (8 + length content)) past) in
+    let said : List Said = says spot (events.Later status) (says spot (events.Packet (8 + length content) (fills (packets_are kind) status)) past) in
     let (f, is, kind_is, inside_is) = opened_skips base spot.offset t last kind status before content there s r said ends plain in
     record {
       frame = behind_frame last f;
@@ -340,13 +345,13 @@ unfolding over further found_in
 over_ignored base o t c s r past = refl
 
 pub request_ignored : (base : Base) (t : ℕ) (kind : MessageKind) (before : ℕ) (c s : Frame) (r : Reading) (past : List Said) → Amid kind c
-    → Spoken base t (ignore (packets_are kind) before) c s r past (events.Packet 8 ∷ events.Later 3 ∷ events.Ignored ∷ []) Rests
+    → Spoken base t (ignore (packets_are kind) before) c s r past (events.Packet 8 false ∷ events.Later 3 ∷ events.Ignored ∷ []) Rests
 unfolding steps
 request_ignored base t kind before c s r past amid =
     let head = of_request kind 3 [] before in
     let there : Frame = headed_frame (packets_are kind) 3 8 before c in
     let spot : Spot = head_spot ToServer c.offset t in
-    let said : List Said = says spot (events.Later 3) (says spot (events.Packet 8) past) in
+    let said : List Said = says spot (events.Later 3) (says spot (events.Packet 8 false) past) in
     let open_frame : Frame = opened_frame there parts.Within inside.Skipped head in
     record {
       frame = record open_frame { due = due.Head 0 0; part = parts.Between };
@@ -359,13 +364,13 @@ request_ignored base t kind before c s r past amid =
     }
 
 pub attention_out : (base : Base) (t : ℕ) (c s : Frame) (r : Reading) (past : List Said) → Rests c
-    → Spoken base t attention c s r past (events.Packet 8 ∷ events.Attention 8 1 ∷ []) Rests
+    → Spoken base t attention c s r past (events.Packet 8 false ∷ events.Attention 8 1 ∷ []) Rests
 unfolding steps
 attention_out base t c s r past rests =
     let head = head_for kinds.Attention 1 8 0 in
     let there : Frame = headed_frame kinds.Attention 1 8 0 c in
     let spot : Spot = head_spot ToServer c.offset t in
-    let said : List Said = says spot (events.Attention 8 1) (says spot (events.Packet 8) past) in
+    let said : List Said = says spot (events.Attention 8 1) (says spot (events.Packet 8 false) past) in
     let open_frame : Frame = opened_frame there parts.Within inside.Skipped head in
     record {
       frame = record open_frame { due = due.Head 0 0; part = parts.Between };
@@ -375,6 +380,6 @@ attention_out base t c s r past rests =
           header_begins base t kinds.Attention 1 [] c s r past rests (omega arith) (omega arith) refl
           ∙ (client_begins base there s r past spot.offset t head (events.Attention 8 1) refl
           ∙ (opened_empty base spot.offset t inside.Skipped head there s r said refl
-          ∙ over_packet base spot.offset t true open_frame s r said refl refl));
+          ∙ over_packet base spot.offset t true open_frame s r said refl refl refl));
       so = record { due = refl; edge = Behind refl; kind = refl };
     }

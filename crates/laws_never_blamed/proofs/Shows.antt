@@ -37,7 +37,7 @@ use Rattle.laws_never_blamed.specs.Spelled.{AreOut, IsIn, IsOut, Pen, Wire, head
 use Rattle.laws_never_blamed.proofs.Heads.{Base, run_at}
 use Rattle.laws_never_blamed.proofs.Follows.{Follows, eye_at, follows_more, seen_so, sees_all}
 use Rattle.laws_never_blamed.proofs.Tokens.{says_of}
-use Rattle.laws_never_blamed.proofs.Out.{After, Amid, Rests, attention_out, names_of, request_first, request_ignored, request_later}
+use Rattle.laws_never_blamed.proofs.Out.{After, Amid, Rests, attention_out, fills, names_of, request_first, request_ignored, request_later}
 use Rattle.laws_never_blamed.proofs.In.{BehindAnswer, Comes, Quiet, Small, Told, answer_begins, answer_bytes, answer_goes_on, ended_by}
 
 -- ---- Where both directions are
@@ -85,17 +85,17 @@ facts (Some KeepTransaction) true = record { ends = refl; plain = refl; small = 
 facts (Some KeepTransaction) false = record { ends = refl; plain = refl; small = omega arith; is = refl }
 
 -- what an eye sees of a request's first packet
-seen_first : (kind : MessageKind) (behind : List Said) (size st n named : ℕ) (reset : Option Reset) (last : Bool) (past : List Said) → st ≡ status reset last
-    → sees_all (eye_at behind size (has_headers kind)) past (events.Packet size ∷ events.Request st ∷ names_of kind named)
-    ≡ sees_outs (eye_at behind size (has_headers kind)) named past (OfRequest n true reset last ∷ [])
-seen_first Batch behind size st n named reset last past e = ap (λ (x : ℕ). sees_all (eye_at behind size true) past (events.Packet size ∷ events.Request x ∷ names_of Batch named)) e
-seen_first Procedure behind size st n named reset last past e = ap (λ (x : ℕ). sees_all (eye_at behind size true) past (events.Packet size ∷ events.Request x ∷ names_of Procedure named)) e
-seen_first BulkLoad behind size st n named reset last past e = ap (λ (x : ℕ). sees_all (eye_at behind size false) past (events.Packet size ∷ events.Request x ∷ names_of BulkLoad named)) e
-seen_first Transaction behind size st n named reset last past e = ap (λ (x : ℕ). sees_all (eye_at behind size true) past (events.Packet size ∷ events.Request x ∷ names_of Transaction named)) e
+seen_first : (kind : MessageKind) (behind : List Said) (size st n named : ℕ) (full : Bool) (reset : Option Reset) (last : Bool) (past : List Said) → st ≡ status reset last
+    → sees_all (eye_at behind size (has_headers kind) full) past (events.Packet size full ∷ events.Request st ∷ names_of kind named)
+    ≡ sees_outs (eye_at behind size (has_headers kind) full) named past (OfRequest n true reset last ∷ [])
+seen_first Batch behind size st n named full reset last past e = ap (λ (x : ℕ). sees_all (eye_at behind size true full) past (events.Packet size full ∷ events.Request x ∷ names_of Batch named)) e
+seen_first Procedure behind size st n named full reset last past e = ap (λ (x : ℕ). sees_all (eye_at behind size true full) past (events.Packet size full ∷ events.Request x ∷ names_of Procedure named)) e
+seen_first BulkLoad behind size st n named full reset last past e = ap (λ (x : ℕ). sees_all (eye_at behind size false full) past (events.Packet size full ∷ events.Request x ∷ names_of BulkLoad named)) e
+seen_first Transaction behind size st n named full reset last past e = ap (λ (x : ℕ). sees_all (eye_at behind size true full) past (events.Packet size full ∷ events.Request x ∷ names_of Transaction named)) e
 
-seen_later : (behind : List Said) (size st n named : ℕ) (reset : Option Reset) (last : Bool) (past : List Said) → st ≡ status reset last
-    → sees_all (eye_at behind size false) past (events.Packet size ∷ events.Later st ∷ []) ≡ sees_outs (eye_at behind size false) named past (OfRequest n false reset last ∷ [])
-seen_later behind size st n named reset last past e = ap (λ (x : ℕ). sees_all (eye_at behind size false) past (events.Packet size ∷ events.Later x ∷ [])) e
+seen_later : (behind : List Said) (size st n named : ℕ) (full : Bool) (reset : Option Reset) (last : Bool) (past : List Said) → st ≡ status reset last
+    → sees_all (eye_at behind size false full) past (events.Packet size full ∷ events.Later st ∷ []) ≡ sees_outs (eye_at behind size false full) named past (OfRequest n false reset last ∷ [])
+seen_later behind size st n named full reset last past e = ap (λ (x : ℕ). sees_all (eye_at behind size false full) past (events.Packet size full ∷ events.Later x ∷ [])) e
 
 -- behind the last packet the answer is awaited
 out_behind : (last : Bool) (kind : MessageKind) (pen : Pen) (c : Frame) → pen.kind ≡ kind → After last kind c → OutAt (line.stage_behind last) pen c
@@ -122,11 +122,12 @@ sends_first base t n named reset last begun wire behind bytes run past state out
     let (kind, body, few, ranged, bytes_are, pen_is) = alone named wire.pen (OfRequest n true reset last) bytes behind.pen out in
     let f = facts reset last in
     let size : ℕ = 8 + length (headers_of kind named ++ body) in
+    let full : Bool = fills (packets_are kind) (end_bit last + reset_bit reset) in
     let spoken = request_first base t last kind (end_bit last + reset_bit reset) named body state.client state.server state.walker past state.out f.small few f.ends f.plain ranged in
-    let eye : Eye = eye_at spoken.behind size (has_headers kind) in
+    let eye : Eye = eye_at spoken.behind size (has_headers kind) full in
     let seen : spoken.behind ≡ sees_outs eye named past (OfRequest n true reset last ∷ []) =
-    sym (seen_so spoken.behind size (has_headers kind) (events.Packet size ∷ events.Request (end_bit last + reset_bit reset) ∷ names_of kind named) past spoken.follows)
-    ∙ seen_first kind spoken.behind size (end_bit last + reset_bit reset) n named reset last past f.is in
+    sym (seen_so spoken.behind size (has_headers kind) full (events.Packet size full ∷ events.Request (end_bit last + reset_bit reset) ∷ names_of kind named) past spoken.follows)
+    ∙ seen_first kind spoken.behind size (end_bit last + reset_bit reset) n named full reset last past f.is in
     record {
       eye = eye;
       state = record {
@@ -150,11 +151,12 @@ sends_later base t n named reset last begun wire behind bytes run past state out
     let (content, few, bytes_are, pen_is) = alone named wire.pen (OfRequest n false reset last) bytes behind.pen out in
     let f = facts reset last in
     let size : ℕ = 8 + length content in
+    let full : Bool = fills (packets_are wire.pen.kind) (end_bit last + reset_bit reset) in
     let spoken = request_later base t last wire.pen.kind (end_bit last + reset_bit reset) wire.pen.packets content state.client state.server state.walker past state.out f.small few f.ends f.plain in
-    let eye : Eye = eye_at spoken.behind size false in
+    let eye : Eye = eye_at spoken.behind size false full in
     let seen : spoken.behind ≡ sees_outs eye named past (OfRequest n false reset last ∷ []) =
-    sym (seen_so spoken.behind size false (events.Packet size ∷ events.Later (end_bit last + reset_bit reset) ∷ []) past spoken.follows)
-    ∙ seen_later spoken.behind size (end_bit last + reset_bit reset) n named reset last past f.is in
+    sym (seen_so spoken.behind size false full (events.Packet size full ∷ events.Later (end_bit last + reset_bit reset) ∷ []) past spoken.follows)
+    ∙ seen_later spoken.behind size (end_bit last + reset_bit reset) n named full reset last past f.is in
     record {
       eye = eye;
       state = record {
@@ -179,7 +181,7 @@ stops_reading base t named begun wire behind bytes run past state out same first
     let (bytes_are, pen_is) = alone named wire.pen Attention bytes behind.pen out in
     let spoken = attention_out base t state.client state.server state.walker past state.out in
     record {
-      eye = eye_at spoken.behind 8 false;
+      eye = eye_at spoken.behind 8 false false;
       state = record {
         client = spoken.frame;
         server = state.server;
@@ -187,7 +189,7 @@ stops_reading base t named begun wire behind bytes run past state out same first
         run_is =
             ap (λ (xs : List ℕ). steps ToServer t xs run) bytes_are
             ∙ (ap (steps ToServer t attention) state.run_is
-            ∙ (spoken.is ∙ ap (run_at base spoken.frame state.server state.walker) (sym (seen_so spoken.behind 8 false (events.Packet 8 ∷ events.Attention 8 1 ∷ []) past spoken.follows))));
+            ∙ (spoken.is ∙ ap (run_at base spoken.frame state.server state.walker) (sym (seen_so spoken.behind 8 false false (events.Packet 8 false ∷ events.Attention 8 1 ∷ []) past spoken.follows))));
         out = spoken.so;
         into = subst (λ (b : Bool). InAt begun b state.server state.walker behind.reading) (sym first) (subst (InAt begun wire.is_first state.server state.walker) (sym same) state.into);
       };
@@ -201,11 +203,11 @@ stops_sending base t n named begun wire behind bytes run past state out same fir
     let (rest_is, pen_is) = alone named middle Attention rest behind.pen more in
     let one = request_ignored base t wire.pen.kind wire.pen.packets state.client state.server state.walker past state.out in
     let two = attention_out base t one.frame state.server state.walker one.behind one.so in
-    let all : List Event = events.Packet 8 ∷ events.Later 3 ∷ events.Ignored ∷ events.Packet 8 ∷ events.Attention 8 1 ∷ [] in
+    let all : List Event = events.Packet 8 false ∷ events.Later 3 ∷ events.Ignored ∷ events.Packet 8 false ∷ events.Attention 8 1 ∷ [] in
     let follows : Follows all past two.behind =
-    follows_more (events.Packet 8 ∷ events.Later 3 ∷ events.Ignored ∷ []) (events.Packet 8 ∷ events.Attention 8 1 ∷ []) past one.behind two.behind one.follows two.follows in
+    follows_more (events.Packet 8 false ∷ events.Later 3 ∷ events.Ignored ∷ []) (events.Packet 8 false ∷ events.Attention 8 1 ∷ []) past one.behind two.behind one.follows two.follows in
     record {
-      eye = eye_at two.behind 8 false;
+      eye = eye_at two.behind 8 false false;
       state = record {
         client = two.frame;
         server = state.server;
@@ -217,7 +219,7 @@ stops_sending base t n named begun wire behind bytes run past state out same fir
             ∙ (ap (λ (xs : List ℕ). steps ToServer t rest (steps ToServer t xs (run_at base state.client state.server state.walker past))) ignored.0
             ∙ (ap (steps ToServer t rest) one.is
             ∙ (ap (λ (xs : List ℕ). steps ToServer t xs (run_at base one.frame state.server state.walker one.behind)) rest_is
-            ∙ (two.is ∙ ap (run_at base two.frame state.server state.walker) (sym (seen_so two.behind 8 false all past follows))))))));
+            ∙ (two.is ∙ ap (run_at base two.frame state.server state.walker) (sym (seen_so two.behind 8 false false all past follows))))))));
         out = two.so;
         into = subst (λ (b : Bool). InAt begun b state.server state.walker behind.reading) (sym first) (subst (InAt begun wire.is_first state.server state.walker) (sym same) state.into);
       };
@@ -248,10 +250,10 @@ begins_by false = events.Answer ∷ []
 -- what an eye sees of a packet of an answer
 seen_come : (behind : List Said) (size : ℕ) (begun ends : Bool) (tokens : List Token) (u : Reading) (past : List Said) (part : Part Token)
     → part ≡ record { items = items_from tokens; close = close_from ends (Stands u) }
-    → sees_all (eye_at behind size false) (sees_begin (eye_at behind size false) begun (sees_packet (eye_at behind size false) past)) (says_of tokens ++ ended_by ends u)
-    ≡ sees_come (eye_at behind size false) begun past part
+    → sees_all (eye_at behind size false false) (sees_begin (eye_at behind size false false) begun (sees_packet (eye_at behind size false false) past)) (says_of tokens ++ ended_by ends u)
+    ≡ sees_come (eye_at behind size false false) begun past part
 seen_come behind size begun ends tokens u past part is =
-    let eye : Eye = eye_at behind size false in
+    let eye : Eye = eye_at behind size false false in
     let there : List Said = sees_begin eye begun (sees_packet eye past) in
     all_more eye there (says_of tokens) (ended_by ends u)
     ∙ (ap (λ (xs : List Said). sees_all eye xs (ended_by ends u)) (items_seen eye there tokens)
@@ -300,7 +302,7 @@ told_by : (cuts : Cuts) (base : Base) (t st size spid id window : ℕ) (begun fi
     → InAt begun first s j r → (first ≡ true → id < 2) → (c.kind == 18) ≡ false → Small st (8 + length content) spid id window → (st % 2 == 1) ≡ ends
     → tokens_in r content ≡ all → all.stop ≡ Stands u
     → Told base t ends (answer_bytes st (8 + length content) spid id window content) c s j u past
-    (events.Packet (8 + length content) ∷ (begins_by begun ++ (says_of all.tokens ++ ended_by ends u)))
+    (events.Packet (8 + length content) false ∷ (begins_by begun ++ (says_of all.tokens ++ ended_by ends u)))
 told_by cuts base t st size spid id window true first ends content c s j r u past all into numbered other small e is stop =
     answer_goes_on cuts base t st spid id window ends content c s j u past all into.0 small e (ap (λ (x : Reading). tokens_in x content) into.1 ∙ is) stop
 told_by cuts base t st size spid id window false true ends content c s j r u past all into numbered other small e is stop =
@@ -310,7 +312,7 @@ told_by cuts base t st size spid id window false false ends content c s j r u pa
     (λ lost. let between : parts.Between ≡ parts.Lost = sym (into.1 refl) ∙ lost in absurd cc) other small e into.2 is stop
 
 begin_seen : (eye : Eye) (begun : Bool) (size : ℕ) (past : List Said) (others : List Event)
-    → sees_all eye past (events.Packet size ∷ (begins_by begun ++ others)) ≡ sees_all eye (sees_begin eye begun (sees eye past (events.Packet size))) others
+    → sees_all eye past (events.Packet size false ∷ (begins_by begun ++ others)) ≡ sees_all eye (sees_begin eye begun (sees eye past (events.Packet size false))) others
 begin_seen eye true size past others = refl
 begin_seen eye false size past others = refl
 
@@ -345,9 +347,9 @@ comes cuts base t begun wire behind bytes run past stage after part answer state
     i.part_is ∙ (let with_stop : Stop → Part Token = λ stop. record { items = items_from all.tokens; close = close_from ends stop } in ap with_stop stop_is) in
     let told = told_by cuts base t st size h.spid h.packet_id h.window begun wire.is_first ends i.content state.client state.server state.walker wire.reading u past all
     state.into i.numbered rests.kind small bits.ends refl stop_is in
-    let eye : Eye = eye_at told.behind size false in
+    let eye : Eye = eye_at told.behind size false false in
     let seen : told.behind ≡ sees_come eye begun past part =
-    sym (seen_so told.behind size false (events.Packet size ∷ (begins_by begun ++ (says_of all.tokens ++ ended_by ends u))) past told.follows)
+    sym (seen_so told.behind size false false (events.Packet size false ∷ (begins_by begun ++ (says_of all.tokens ++ ended_by ends u))) past told.follows)
     ∙ (begin_seen eye begun size past (says_of all.tokens ++ ended_by ends u)
     ∙ seen_come told.behind size begun ends all.tokens u past part part_are) in
     let is : is_end part.close ≡ ends = ap (λ (p : Part Token). is_end p.close) part_are ∙ end_is ends u in

@@ -14,18 +14,19 @@ use Rattle.tds_judge.specs.declared.talk.Event.TheVariants as events
 use Rattle.tds_judge.specs.History.{Said}
 use Rattle.laws_never_blamed.specs.Tokens.{AcknowledgesAsDone, TellsNoSize}
 
--- What isn't said of a connection there, by what was seen so far: where and when the next thing is seen, how long the next packet is,
--- and whether the data of the next request begin with ALL_HEADERS (MS-TDS 2.2.5.3).
+-- What isn't said of a connection there, by what was seen so far: where and when the next thing is seen, how long the next packet is and
+-- whether it has to be full, and whether the data of the next request begin with ALL_HEADERS (MS-TDS 2.2.3.1.3, 2.2.5.3).
 pub record Eye : Type 0 where
   pub spot : List Said → Spot
   pub length : List Said → ℕ
+  pub fills : List Said → Bool
   pub headers : List Said → Bool
 
 abbrev pub sees : Eye → List Said → Event → List Said
 sees eye past event = (record { spot = eye.spot past; event = event }) ∷ past
 
 abbrev pub sees_packet : Eye → List Said → List Said
-sees_packet eye past = sees eye past (events.Packet (eye.length past))
+sees_packet eye past = sees eye past (events.Packet (eye.length past) (eye.fills past))
 
 -- ---- What goes out (MS-TDS 2.2.3.1.2)
 
@@ -42,7 +43,7 @@ sees_part eye named past false reset last = sees eye (sees_packet eye past) (eve
 abbrev pub sees_out : Eye → ℕ → List Said → Packet → List Said
 sees_out eye named past (OfRequest request first reset last) = sees_part eye named past first reset last
 sees_out eye named past (Ignore request) = sees eye (sees eye (sees_packet eye past) (events.Later 3)) events.Ignored
-sees_out eye named past Attention = sees eye (sees eye past (events.Packet 8)) (events.Attention 8 1)
+sees_out eye named past Attention = sees eye (sees eye past (events.Packet 8 false)) (events.Attention 8 1)
 
 abbrev pub sees_outs : Eye → ℕ → List Said → List Packet → List Said
 sees_outs eye named past [] = past

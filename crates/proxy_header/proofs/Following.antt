@@ -158,8 +158,8 @@ whole_stays bytes more source h =
     let n : ℕ = high_first_at bytes 14 in
     let w = whole_of (c == 32 || c == 33) (nat_lt 2032 n || nat_lt n (least c f)) (nat_lt (length bytes) (16 + n)) _ _ _ begun.found in
     let long : 16 + n ≤ length bytes = not_short _ _ w.is_long in
-    let few : least c f ≤ n = not_short _ _ (right_of _ _ w.is_right) in
     let longer : nat_lt (length (bytes ++ more)) (16 + n) ≡ false = is_not_short _ _ (omega (arith, long, length-append bytes more)) in
+    let few : least c f ≤ n = not_short _ _ (right_of _ _ w.is_right) in
     fields_on bytes more (Whole source) (not_short _ _ begun.long) begun.begun
     (ap (λ (x : Bool). choice x (nat_lt 2032 n || nat_lt n (least c f)) (nat_lt (length (bytes ++ more)) (16 + n)) (16 + n - length (bytes ++ more)) (source_in (bytes ++ more))) w.is_known
     ∙ ap (λ (x : Bool). choice true x (nat_lt (length (bytes ++ more)) (16 + n)) (16 + n - length (bytes ++ more)) (source_in (bytes ++ more))) w.is_right

@@ -72,7 +72,7 @@ fn put_last(
 
 /// Whether an error may stand behind what an application was sent: nothing else waits for it, and it isn't
 /// within an answer of its server's.
-fn may_be_told(relay: &mut Relay, application: usize, is_answered: bool) -> bool {
+pub(crate) fn may_be_told(relay: &Relay, application: usize, is_answered: bool) -> bool {
     match relay.place_of(application) {
         Some(Place::Asking(_)) if is_answered => false,
         _ => relay.unsent(application).is_empty(),

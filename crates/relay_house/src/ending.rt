@@ -1,10 +1,17 @@
 //! What follows where a socket ends.
 
+use crate::dismissing::may_be_told;
 use crate::house::{House, relay_of};
+use crate::upstream::Failure;
+use relay_logins::put_error;
 use relay_sockets::{Cause, Gone, Whose};
 use relay_status::raise;
 use std::io;
 use std::net::Net;
+use tds_relay::Place;
+
+/// The number of the error of who asks on a connection that has ended.
+const LOST: u32 = 50_109;
 
 impl House {
     /// Takes a socket out, behind what the system still takes of what waits for it. Answers what it was.
@@ -47,6 +54,7 @@ impl House {
         let Some(gone) = self.remove(key)? else {
             return Ok(());
         };
+        self.tell_lost(&gone, cause)?;
         if self.part(gone.whose, key)? {
             return Ok(());
         }
@@ -90,6 +98,47 @@ impl House {
             return Ok(());
         }
         self.missed(rt, gone.whose)
+    }
+
+    /// Who asks on a connection that has ended is told so, where nothing of its answer has come.
+    fn tell_lost(&mut self, gone: &Gone, cause: Cause) -> io::Result<()> {
+        let (Some(address), Whose::Connection(group, number)) = (gone.dialed, gone.whose) else {
+            return Ok(());
+        };
+        if !cause.is_failure() {
+            return Ok(());
+        }
+        let Some(key) = self.who_asks_on(group, number) else {
+            return Ok(());
+        };
+        let alloc = self.alloc;
+        let why = Failure { address, cause }.sentence(alloc)?;
+        if let Some(socket) = self.sockets.get_mut(key) {
+            put_error(alloc, &mut socket.out, LOST, why.as_str())?;
+        }
+        Ok(())
+    }
+
+    /// The socket of the application whose request is underway on a connection, if nothing of its answer has
+    /// come.
+    fn who_asks_on(&mut self, group: usize, number: u64) -> Option<usize> {
+        let House {
+            sockets,
+            groups,
+            ..
+        } = self;
+        let relay = relay_of(groups, group)?;
+        let key = relay.sent_on(number, 0)?;
+        let socket = sockets.get(key)?;
+        let Whose::Application(_, application) = socket.whose() else {
+            return None;
+        };
+        let is_asking = matches!(relay.place_of(application), Some(Place::Asking(_)));
+        if is_asking && may_be_told(relay, application, socket.is_answered) {
+            Some(key)
+        } else {
+            None
+        }
     }
 
     /// A connection of a group has ended.

@@ -67,7 +67,8 @@ impl House {
             raise(&mut self.journal.counts.refused);
             return Ok(());
         }
-        let gate = Role::Gate(Gate::new(self.alloc));
+        let is_proxy = self.asked.proxies.has(from);
+        let gate = Role::Gate(Gate::new(self.alloc, is_proxy));
         let (out, now) = (Vec::new(self.alloc), self.now());
         let Some(key) = self.sockets.take_in(stream, gate, out, now)? else {
             return Ok(());

@@ -75,6 +75,9 @@ impl House {
             return Ok(());
         };
         let passed = gate.take(piece, &mut socket.out)?;
+        if let Some(source) = gate.source.take() {
+            socket.peer = Some(source);
+        }
         match passed {
             Passed::More => self.send_or_close(rt, key),
             Passed::Refused(why) => {

@@ -1,7 +1,9 @@
 //! An application's login, as it comes.
 
 use crate::notice::{put_refusal, words_of};
+use proxy_header::{HeaderReader, Taken};
 use std::alloc::{AllocError, Global};
+use std::net::SocketAddr;
 use tds_login::{Login, LoginAnswer, put_answer};
 
 /// The most bytes of LOGIN7 (MS-TDS 2.2.6.4).
@@ -21,6 +23,9 @@ pub enum Passed {
 #[derive(Drop)]
 pub struct Gate {
     alloc: Global,
+    /// The header of the PROXY protocol, while it is due; and whom it named.
+    header: Option<HeaderReader>,
+    pub source: Option<SocketAddr>,
     login: Login,
     /// Which byte of a packet's header is due, 8 in its data.
     place: u8,
@@ -31,9 +36,12 @@ pub struct Gate {
 }
 
 impl Gate {
-    pub fn new(alloc: Global) -> Gate {
+    /// Nothing has come. A proxy's begins with who is behind it.
+    pub fn new(alloc: Global, is_proxy: bool) -> Gate {
         Gate {
             alloc,
+            header: header_of(alloc, is_proxy),
+            source: None,
             login: Login::new(),
             place: 0,
             high: 0,
@@ -44,6 +52,32 @@ impl Gate {
 
     /// Takes bytes. What is answered is appended to `out`.
     pub fn take(&mut self, piece: &[u8], out: &mut Vec<u8>) -> Result<Passed, AllocError> {
+        match self.pass_header(piece)? {
+            Some(rest) => self.take_login(rest, out),
+            None => Ok(Passed::Refused(
+                "its proxy begins with no header of the PROXY protocol, version 2",
+            )),
+        }
+    }
+
+    /// What of a piece stands behind the header, where one is due. None where that is no header.
+    fn pass_header<'a>(&mut self, piece: &'a [u8]) -> Result<Option<&'a [u8]>, AllocError> {
+        let Some(header) = &mut self.header else {
+            return Ok(Some(piece));
+        };
+        let (count, taken) = header.take(piece)?;
+        match taken {
+            Taken::More => Ok(Some(&[])),
+            Taken::Wrong => Ok(None),
+            Taken::Whole(source) => {
+                self.header = None;
+                self.source = source.address();
+                Ok(Some(&piece[count..]))
+            }
+        }
+    }
+
+    fn take_login(&mut self, piece: &[u8], out: &mut Vec<u8>) -> Result<Passed, AllocError> {
         let mut rest = piece;
         for _ in 0..piece.len() {
             if rest.is_empty() {
@@ -102,5 +136,14 @@ impl Gate {
             }
         }
         Ok(())
+    }
+}
+
+/// A header that is due of a proxy.
+fn header_of(alloc: Global, is_proxy: bool) -> Option<HeaderReader> {
+    if is_proxy {
+        Some(HeaderReader::new(alloc))
+    } else {
+        None
     }
 }

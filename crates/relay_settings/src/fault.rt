@@ -28,6 +28,9 @@ pub enum RelayFault {
     Count(&'static str, usize, usize, &'static str, String),
     #[error("error: there are more than 8 servers: leave some out")]
     Servers,
+    /// As what the addresses of proxies are given.
+    #[error("error: --proxy takes one to four IP addresses, as 127.0.0.1,::1, and not {0:?}")]
+    Proxies(String),
     /// What is wrong with the configuration file.
     #[error("error: {0}")]
     Config(String),

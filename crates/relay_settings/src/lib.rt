@@ -6,6 +6,7 @@ mod counts;
 mod fault;
 mod limits;
 mod near;
+mod proxies;
 mod servers;
 mod system;
 mod table;
@@ -13,6 +14,7 @@ mod words;
 
 pub use fault::{Bar, RelayFault};
 pub use limits::{Limits, is_beyond, lesser};
+pub use proxies::Proxies;
 pub use servers::{MOST as MOST_SERVERS, Servers, bit};
 pub use system::SystemError;
 pub use words::{Asked, Settings, is_reached_at, read_words};

@@ -1,7 +1,7 @@
 //! The settings: each word and what it is.
 
 /// The words that take a value: the name, and what it is.
-pub const SETTINGS: [(&str, &str); 20] = [
+pub const SETTINGS: [(&str, &str); 21] = [
     (
         "most",
         "CONNECTIONS at most for equal logins, 1 to 1024 [16]",
@@ -70,6 +70,10 @@ pub const SETTINGS: [(&str, &str); 20] = [
     (
         "unacknowledged",
         "SECONDS for which an end may acknowledge nothing of what it is sent; 0 is the system's own [0]",
+    ),
+    (
+        "proxy",
+        "ADDRESSES, up to four with commas, from which each connection begins with a PROXY header, version 2",
     ),
     (
         "config",

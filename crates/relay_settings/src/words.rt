@@ -4,6 +4,7 @@ use crate::config::Config;
 use crate::counts::{COUNT_ALONE, COUNT_LEAST, COUNT_MOST, COUNT_SPIN, COUNT_TOTAL, Count};
 use crate::fault::RelayFault;
 use crate::limits::{Limits, MOST as MOST_SECONDS, USUAL as USUAL_LIMITS};
+use crate::proxies::Proxies;
 use crate::servers::Servers;
 use crate::table::{FLAGS, SETTINGS};
 use clap::{Arg, ArgAction, ArgMatches, Command};
@@ -17,6 +18,8 @@ use std::net::SocketAddr;
 pub struct Asked {
     pub listen: SocketAddr,
     pub servers: Servers,
+    /// Who says for whom it comes.
+    pub proxies: Proxies,
     /// The most connections that equal logins share.
     pub most: usize,
     /// The most connections of logins that can't be shared.
@@ -71,6 +74,7 @@ fn asked_by(alloc: Global, matches: &ArgMatches, config: &Config) -> Result<Aske
     Ok(Asked {
         listen,
         servers: servers_of(alloc, listen, matches.get_strs("SERVER").unwrap_or(&[]))?,
+        proxies: proxies_of(alloc, matches, config)?,
         most: count_of(alloc, matches, config, &COUNT_MOST)?,
         alone: count_of(alloc, matches, config, &COUNT_ALONE)?,
         total: count_of(alloc, matches, config, &COUNT_TOTAL)?,
@@ -192,6 +196,24 @@ fn servers_of(alloc: Global, listen: SocketAddr, words: &[&str]) -> Result<Serve
         }
     }
     Ok(servers)
+}
+
+/// The proxies that say for whom they come.
+fn proxies_of(alloc: Global, matches: &ArgMatches, config: &Config) -> Result<Proxies, RelayFault> {
+    let set = config.text("proxy")?;
+    let Some(word) = matches.get_str("proxy") else {
+        return match set {
+            None => Ok(Proxies::none()),
+            Some(text) => match Proxies::read(text) {
+                Some(proxies) => Ok(proxies),
+                None => Err(config.fault("proxy", "up to four IP addresses are wanted")?),
+            },
+        };
+    };
+    match Proxies::read(word) {
+        Some(proxies) => Ok(proxies),
+        None => Err(RelayFault::Proxies(String::from_str(alloc, word)?)),
+    }
 }
 
 /// Whether who listens at the one address is reached at the other one.

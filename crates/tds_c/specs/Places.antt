@@ -1,8 +1,10 @@
 -- What the exports tell of columns, and of the places of a row's values.
-use Rattle.std.specs.Prelude.{◌≡◌, ℕ, Option, Some, None, Result, Ok, Err}
+use Rattle.std.specs.Prelude.{◌≡◌, ℕ, ◌==◌, if◌then◌else◌, Option, Some, None, Result, Ok, Err}
 use Rattle.tds_rows.specs.declared.place.Described.{Described}
 use Rattle.tds_rows.specs.declared.place.RowFault.{RowFault}
+use Rattle.tds_rows.specs.declared.come.Come.{Come}
 use Rattle.tds_rows.specs.Faults.{row_fault_number}
+use Rattle.tds_rows.specs.Pieces.{PartsAt, InLength, InCount, InPart, PartsOver, PartsNull, Beyond}
 
 -- 2 where nothing is described, so that the columns that are known stay
 abbrev pub described_number : Option ℕ → ℕ
@@ -20,3 +22,20 @@ TellsColumns (Err fault) answer count taken = (answer ≡ row_fault_number fault
 abbrev pub TellsRow : Result ℕ RowFault → ℕ → ℕ → Type 0
 TellsRow (Ok n) answer taken = (answer ≡ 0) × (taken ≡ n)
 TellsRow (Err fault) answer taken = (answer ≡ row_fault_number fault) × (taken ≡ 0)
+
+-- 1 where the value of a column isn't whole
+abbrev pub come_number : ℕ → ℕ → ℕ
+come_number next count = if next == count then 0 else 1
+
+abbrev pub TellsCome : Result Come RowFault → ℕ → ℕ → ℕ → ℕ → Type 0
+TellsCome (Ok c) count answer next taken = (answer ≡ come_number c.next count) × (next ≡ c.next) × (taken ≡ c.taken)
+TellsCome (Err fault) count answer next taken = (answer ≡ row_fault_number fault) × (next ≡ 0) × (taken ≡ 0)
+
+-- a value in parts: 0 it is over, 2 it is over and null, 1 more is to come
+abbrev pub parts_number : PartsAt → ℕ
+parts_number (InLength seen ones) = 1
+parts_number (InCount came) = 1
+parts_number (InPart left) = 1
+parts_number PartsOver = 0
+parts_number PartsNull = 2
+parts_number Beyond = 0

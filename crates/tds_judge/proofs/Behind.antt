@@ -11,9 +11,9 @@ use Rattle.tds_wire.specs.declared.told.ChangeValue.{ChangeValue}
 use Rattle.tds_wire.specs.declared.told.ChangeValue.TheVariants as changes
 use Rattle.tds_wire.specs.declared.told.Told.{Told}
 use Rattle.tds_wire.specs.declared.told.Told.TheVariants as told
-use Rattle.tds_judge.specs.Breaches.{agreed_last, asked_last, gone_last, has_begun, idle_since, is_dated, is_lent, is_other_shown, is_over, is_plain_answer, is_unheard, size_told}
+use Rattle.tds_judge.specs.Breaches.{agreed_last, asked_last, gone_last, has_begun, has_worked, idle_since, is_dated, is_entering, is_lent, is_other_shown, is_over, is_plain_answer, is_unheard, size_told}
 use Rattle.tds_judge.specs.History.{Said, asks_of, further, has_asked_since, has_ended, is_acknowledged, is_cleared, is_out, is_twice, is_underway, last_told, left_underway, talk_behind, course_of}
-use Rattle.tds_judge.specs.Talking.{begun_as, descriptor_of, has_begun as begun_at, has_ended as ended_at, keeps, owed, talk_by}
+use Rattle.tds_judge.specs.Talking.{begun_as, descriptor_of, has_begun as begun_at, has_ended as ended_at, keeps, kind_heard, owed, talk_by}
 
 -- the talk that a history makes
 abbrev pub talk_as : List Said → Talk
@@ -38,6 +38,8 @@ talk_as past = record {
   most = size_told past;
   dated = is_dated past;
   other = is_other_shown past;
+  entering = is_entering past;
+  worked = has_worked past;
 }
 
 abbrev behind_of : List Said → Spot → Event → Talk
@@ -81,10 +83,10 @@ plainly t = ap (λ (b : Bool). record t { acknowledges = b }) (sym (or-false t.a
 by_change : (past : List Said) (spot : Spot) (kind start length type : ℕ) (value : ChangeValue)
     → talk_by (talk_as past) spot.time (said_token kind start length (told.Change (record { kind = type; value = value })))
     ≡ behind_of past spot (said_token kind start length (told.Change (record { kind = type; value = value })))
-unfolding talk_by asked_last course_of is_out is_twice is_dated is_other_shown asks_of is_cleared last_told has_begun is_unheard gone_last is_over is_acknowledged is_lent idle_since agreed_last size_told
+unfolding talk_by asked_last course_of is_out is_twice is_dated is_other_shown asks_of is_cleared last_told has_begun is_unheard gone_last is_over is_acknowledged is_lent idle_since agreed_last size_told is_entering has_worked
 by_change past spot kind start length type (changes.Transaction new old) =
-    changed ((type == 8) || (type == 11)) (talk_as past) spot.time type new
-    ∙ plainly (record (talk_as past) {
+    changed ((type == 8) || (type == 11)) (kind_heard (talk_as past) kind) spot.time type new
+    ∙ plainly (record (kind_heard (talk_as past) kind) {
       transaction = if (type == 8) || (type == 11) then begun_as type new else transactions.Told 0;
       begun = (type == 8) || (type == 11);
       begun_unheard = ((type == 8) || (type == 11)) && is_out past;
@@ -92,28 +94,28 @@ by_change past spot kind start length type (changes.Transaction new old) =
       since = spot.time;
     })
 by_change past spot kind start length type changes.ResetDone =
-    cleared (keeps (owed (is_cleared past) (asks_of past))) (talk_as past)
-    ∙ plainly (record (talk_as past) {
+    cleared (keeps (owed (is_cleared past) (asks_of past))) (kind_heard (talk_as past) kind)
+    ∙ plainly (record (kind_heard (talk_as past) kind) {
       reset_done = true;
       borrowed = false;
       transaction = if keeps (owed (is_cleared past) (asks_of past)) then last_told past else transactions.Told 0;
       begun_unheard = if keeps (owed (is_cleared past) (asks_of past)) then is_unheard past else false;
     })
-by_change past spot kind start length type (changes.PacketSize size) = plainly (record (talk_as past) { agreed = size })
-by_change past spot kind start length type (changes.Values new old) = plainly (talk_as past)
-by_change past spot kind start length type changes.Other = plainly (talk_as past)
+by_change past spot kind start length type (changes.PacketSize size) = plainly (record (kind_heard (talk_as past) kind) { agreed = size })
+by_change past spot kind start length type (changes.Values new old) = plainly (kind_heard (talk_as past) kind)
+by_change past spot kind start length type changes.Other = plainly (kind_heard (talk_as past) kind)
 
 by_token : (past : List Said) (spot : Spot) (kind start length : ℕ) (x : Told)
     → talk_by (talk_as past) spot.time (said_token kind start length x) ≡ behind_of past spot (said_token kind start length x)
-unfolding talk_by asked_last course_of is_out is_twice is_dated is_other_shown asks_of is_cleared last_told has_begun is_unheard gone_last is_over is_acknowledged is_lent idle_since agreed_last size_told
+unfolding talk_by asked_last course_of is_out is_twice is_dated is_other_shown asks_of is_cleared last_told has_begun is_unheard gone_last is_over is_acknowledged is_lent idle_since agreed_last size_told is_entering has_worked
 by_token past spot kind start length (told.Done done) = refl
 by_token past spot kind start length (told.Change change) = by_change past spot kind start length change.kind change.value
-by_token past spot kind start length (told.Message message) = plainly (talk_as past)
-by_token past spot kind start length (told.ReturnStatus value) = plainly (talk_as past)
-by_token past spot kind start length (told.SessionState state) = plainly (talk_as past)
+by_token past spot kind start length (told.Message message) = plainly (kind_heard (talk_as past) kind)
+by_token past spot kind start length (told.ReturnStatus value) = plainly (kind_heard (talk_as past) kind)
+by_token past spot kind start length (told.SessionState state) = plainly (kind_heard (talk_as past) kind)
 by_token past spot kind start length told.Unclear =
-    unclear (kind == 0xE3) (talk_as past) ∙ plainly (record (talk_as past) { transaction = if kind == 0xE3 then transactions.Unknown else last_told past })
-by_token past spot kind start length told.Other = plainly (talk_as past)
+    unclear (kind == 0xE3) (kind_heard (talk_as past) kind) ∙ plainly (record (kind_heard (talk_as past) kind) { transaction = if kind == 0xE3 then transactions.Unknown else last_told past })
+by_token past spot kind start length told.Other = plainly (kind_heard (talk_as past) kind)
 
 -- ---- The end of an answer
 
@@ -140,12 +142,12 @@ ends false cut t time =
 -- ---- An event
 
 said_next : (past : List Said) (spot : Spot) (event : Event) → talk_by (talk_as past) spot.time event ≡ behind_of past spot event
-unfolding talk_by asked_last course_of is_out is_twice is_dated is_other_shown asks_of is_cleared last_told has_begun is_unheard gone_last is_over is_acknowledged is_lent idle_since agreed_last size_told
+unfolding talk_by asked_last course_of is_out is_twice is_dated is_other_shown asks_of is_cleared last_told has_begun is_unheard gone_last is_over is_acknowledged is_lent idle_since agreed_last size_told is_entering has_worked
 said_next past spot (events.Says token) = by_token past spot token.kind token.start token.length token.told
 said_next past spot (events.Answered whole) = ends (is_acknowledged past) (is_plain_answer past && (not whole && not (is_dated past))) (talk_as past) spot.time
 said_next past spot _ = refl
 
 pub talk_is : (past : List Said) → talk_behind past ≡ talk_as past
-unfolding further asked_last course_of is_out is_twice is_dated is_other_shown asks_of is_cleared last_told has_begun is_unheard gone_last is_over is_acknowledged is_lent idle_since agreed_last size_told
+unfolding further asked_last course_of is_out is_twice is_dated is_other_shown asks_of is_cleared last_told has_begun is_unheard gone_last is_over is_acknowledged is_lent idle_since agreed_last size_told is_entering has_worked
 talk_is [] = refl
 talk_is (x ∷ past) = ap (λ (t : Talk). talk_by t x.spot.time x.event) (talk_is past) ∙ said_next past x.spot x.event

@@ -155,7 +155,7 @@ pub token_told : (limits : Limits) (past : List Said) (spot : Spot) (event : Eve
 token_told limits past spot event = found_told 21 limits past spot event ∙ ap (λ (b : Bool). is_judged past && b) (token_by limits past spot event)
 
 size_by : (limits : Limits) (past : List Said) (spot : Spot) (event : Event) → any (λ (m : ℕ). m == 22) (notes_of limits (talk_as past) spot event) ≡ told.is_wrong_size past event
-size_by limits past spot (events.Packet size) = or-false (told.is_wrong_size past (events.Packet size))
+size_by limits past spot (events.Packet size fills) = or-false (told.is_wrong_size past (events.Packet size fills))
 size_by limits past spot _ = refl
 
 pub size_told : (limits : Limits) (past : List Said) (spot : Spot) (event : Event) → is_found 22 (told_by [] limits (talk_behind past) spot event) ≡ is_judged past && told.is_wrong_size past event
@@ -176,7 +176,7 @@ pub attention_told : (limits : Limits) (past : List Said) (spot : Spot) (event :
 attention_told limits past spot event = found_told 24 limits past spot event ∙ ap (λ (b : Bool). is_judged past && b) (attention_by limits past spot event)
 
 unfinished_by : (limits : Limits) (past : List Said) (spot : Spot) (event : Event) → any (λ (m : ℕ). m == 25) (notes_of limits (talk_as past) spot event) ≡ told.is_unfinished_message event
-unfinished_by limits past spot (events.Packet size) = refl
+unfinished_by limits past spot (events.Packet size fills) = refl
 unfinished_by limits past spot _ = refl
 
 pub unfinished_told : (limits : Limits) (past : List Said) (spot : Spot) (event : Event) → is_found 25 (told_by [] limits (talk_behind past) spot event) ≡ is_judged past && told.is_unfinished_message event
@@ -190,7 +190,7 @@ pub unclear_told : (limits : Limits) (past : List Said) (spot : Spot) (event : E
 unclear_told limits past spot event = found_told 26 limits past spot event ∙ ap (λ (b : Bool). is_judged past && b) (unclear_by limits past spot event)
 
 taken_up_by : (limits : Limits) (past : List Said) (spot : Spot) (event : Event) → any (λ (m : ℕ). m == 27) (notes_of limits (talk_as past) spot event) ≡ told.is_taken_up event
-taken_up_by limits past spot (events.Packet size) = refl
+taken_up_by limits past spot (events.Packet size fills) = refl
 taken_up_by limits past spot _ = refl
 
 pub taken_up_told : (limits : Limits) (past : List Said) (spot : Spot) (event : Event) → is_found 27 (told_by [] limits (talk_behind past) spot event) ≡ is_judged past && told.is_taken_up event
@@ -267,6 +267,34 @@ last_by limits past spot _ = refl
 pub last_told : (limits : Limits) (past : List Said) (spot : Spot) (event : Event) → is_found 39 (told_by [] limits (talk_behind past) spot event) ≡ is_judged past && told.is_not_last past event
 last_told limits past spot event = found_told 39 limits past spot event ∙ ap (λ (b : Bool). is_judged past && b) (last_by limits past spot event)
 
+headers_by : (limits : Limits) (past : List Said) (spot : Spot) (event : Event) → any (λ (m : ℕ). m == 40) (notes_of limits (talk_as past) spot event) ≡ told.is_wrong_headers past event
+headers_by limits past spot (events.Headers fault) = or-false (told.is_wrong_headers past (events.Headers fault))
+headers_by limits past spot _ = refl
+
+pub headers_told : (limits : Limits) (past : List Said) (spot : Spot) (event : Event) → is_found 40 (told_by [] limits (talk_behind past) spot event) ≡ is_judged past && told.is_wrong_headers past event
+headers_told limits past spot event = found_told 40 limits past spot event ∙ ap (λ (b : Bool). is_judged past && b) (headers_by limits past spot event)
+
+not_full_by : (limits : Limits) (past : List Said) (spot : Spot) (event : Event) → any (λ (m : ℕ). m == 41) (notes_of limits (talk_as past) spot event) ≡ told.is_not_full past event
+not_full_by limits past spot (events.Packet size fills) = or-false (told.is_not_full past (events.Packet size fills))
+not_full_by limits past spot _ = refl
+
+pub not_full_told : (limits : Limits) (past : List Said) (spot : Spot) (event : Event) → is_found 41 (told_by [] limits (talk_behind past) spot event) ≡ is_judged past && told.is_not_full past event
+not_full_told limits past spot event = found_told 41 limits past spot event ∙ ap (λ (b : Bool). is_judged past && b) (not_full_by limits past spot event)
+
+before_by : (limits : Limits) (past : List Said) (spot : Spot) (event : Event) → any (λ (m : ℕ). m == 42) (notes_of limits (talk_as past) spot event) ≡ told.is_before_login past event
+before_by limits past spot (events.Request status) = or-false (told.is_before_login past (events.Request status))
+before_by limits past spot _ = refl
+
+pub before_told : (limits : Limits) (past : List Said) (spot : Spot) (event : Event) → is_found 42 (told_by [] limits (talk_behind past) spot event) ≡ is_judged past && told.is_before_login past event
+before_told limits past spot event = found_told 42 limits past spot event ∙ ap (λ (b : Bool). is_judged past && b) (before_by limits past spot event)
+
+late_by : (limits : Limits) (past : List Said) (spot : Spot) (event : Event) → any (λ (m : ℕ). m == 43) (notes_of limits (talk_as past) spot event) ≡ told.is_reset_late past event
+late_by limits past spot (events.Says token) = or-false (told.is_reset_late past (events.Says token))
+late_by limits past spot _ = refl
+
+pub late_told : (limits : Limits) (past : List Said) (spot : Spot) (event : Event) → is_found 43 (told_by [] limits (talk_behind past) spot event) ≡ is_judged past && told.is_reset_late past event
+late_told limits past spot event = found_told 43 limits past spot event ∙ ap (λ (b : Bool). is_judged past && b) (late_by limits past spot event)
+
 idle_by : (limits : Limits) (past : List Said) (spot : Spot) (event : Event) → any (λ (m : ℕ). m == 11) (notes_of limits (talk_as past) spot event) ≡ told.is_idle limits past spot event
 idle_by limits past spot (events.Request status) = refl
 idle_by limits past spot events.Closed = or-false (told.is_idle_at limits past spot.time)
@@ -278,7 +306,7 @@ idle_told limits past spot event = found_told 11 limits past spot event ∙ ap (
 -- ---- All breaches
 
 breach_by : (limits : Limits) (past : List Said) (spot : Spot) (event : Event) → any is_breach_number (notes_of limits (talk_as past) spot event) ≡ told.breaks_rules past event
-breach_by limits past spot (events.Packet size) = refl
+breach_by limits past spot (events.Packet size fills) = refl
 breach_by limits past spot _ = refl
 
 pub breach_told : (limits : Limits) (past : List Said) (spot : Spot) (event : Event) → has_breach (told_by [] limits (talk_behind past) spot event) ≡ is_breach past event

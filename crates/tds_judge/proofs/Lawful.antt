@@ -1,9 +1,7 @@
 -- A lawful conversation has no breach.
 use Rattle.std.specs.Prelude.{if◌then◌else◌}
-use Rattle.std.proofs.Common.{Option, Some, None, subst, ◌≡◌, ◌∙◌, ◌==◌, ◌&&◌, ◌||◌, not, nat_lt, Bool, true, false, ℕ, List, [], ◌∷◌, ◌++◌, refl, sym, ap}
-use Rattle.tds_judge.specs.declared.finding.Direction.TheVariants.{ToServer}
+use Rattle.std.proofs.Common.{◌≡◌, ◌∙◌, ◌==◌, ◌&&◌, ◌||◌, not, nat_lt, Bool, true, false, ℕ, List, [], ◌∷◌, ◌++◌, refl, sym, ap}
 use Rattle.tds_judge.specs.declared.finding.Spot.{Spot}
-use Rattle.tds_judge.specs.declared.judge.Judge.{Judge}
 use Rattle.tds_judge.specs.declared.talk.Asked.{Asked}
 use Rattle.tds_judge.specs.declared.talk.Asked.TheVariants as asks
 use Rattle.tds_judge.specs.declared.talk.Ending.{Ending}
@@ -19,32 +17,32 @@ use Rattle.tds_wire.specs.declared.told.ChangeValue.TheVariants as changes
 use Rattle.tds_wire.specs.declared.told.Told.{Told}
 use Rattle.tds_wire.specs.declared.told.Told.TheVariants as told
 use Rattle.tds_wire.specs.declared.told.Token.{Token}
-use Rattle.tds_judge.specs.Breaches.{asked_last, final_by_token, gone_last, is_dated, is_over, is_unheard, size_told}
-use Rattle.tds_judge.specs.Conversation.{IsLawful, MayAnswer, MayAsk, MayAt, MayEnd, MayGreet, MayLend, MayName, MaySay, MayStay, MayStop, Names, Piece, Bytes, Lends, Closes, Place, Quiet, Greeting, Asking, Answering, Stopping, Skipping, begun_at, ended_at, forgotten_at, heard_at, left_by, left_by_change, place_by, place_of, piece_seen, seen, stopped_at}
-use Rattle.tds_judge.specs.Framing.{Run, closed, closed_by, closing, event_by, event_said, run_of, spot_of}
-use Rattle.tds_judge.specs.History.{Said, Tells, cleared_by_change, cleared_by_token, further, asks_of, has_asked_since, has_ended, is_acknowledged, is_another, is_cleared, is_out, is_twice, is_underway, last_told, left_underway, course_of}
-use Rattle.tds_judge.specs.Talking.{acknowledges, changes_wrongly, ignores_early, is_asked, is_both, is_full, is_known, is_request, new_talk, reset_of}
-use Rattle.tds_judge.specs.Told.{breaks_rules, has_breach, is_breach, is_broken, is_judged}
-use Rattle.tds_wire.specs.Reading.{Reading}
-use Rattle.tds_judge.proofs.Breaking.{breaks_by}
-use Rattle.tds_judge.proofs.Telling.{on, said_so, same, steps_so, stopped_so}
+use Rattle.tds_judge.specs.Breaches.{asked_last, final_by_token, gone_last, is_dated, is_entering, is_over, is_unheard, size_told}
+use Rattle.tds_judge.specs.Conversation.{IsLawful, MayAnswer, MayAsk, MayAt, MayEnd, MayGreet, MayHead, MayLend, MayName, MaySay, MayStay, MayStop, Names, Place, Quiet, Greeting, Entering, Asking, Answering, Stopping, Skipping, begun_at, ended_at, forgotten_at, heard_at, left_by, left_by_change, place_by, place_of, stopped_at}
+use Rattle.tds_judge.specs.History.{Said, cleared_by_change, cleared_by_token, asks_of, has_asked_since, has_ended, is_acknowledged, is_another, is_cleared, is_out, is_twice, is_underway, last_told, left_underway, course_of}
+use Rattle.tds_judge.specs.Talking.{acknowledges, admits, changes_wrongly, ignores_early, is_asked, is_both, is_full, is_known, is_request, reset_of}
+use Rattle.tds_judge.specs.Told.{breaks_rules, is_breach, is_broken, is_judged}
 
 -- ---- What stands behind a lawful history
 
 -- of each place, by what the history says: an attention is out, a request is underway, the message acknowledges, is over, and has told a
--- reset done; a request was sent since the attention; what was asked last, and for which reset
-abbrev StandsBy : Place → (out underway acknowledged over cleared since : Bool) → Asked → Reset → Type 0
-StandsBy Quiet out underway acknowledged over cleared since asked reset = (out ≡ false) × (underway ≡ false)
-StandsBy Greeting out underway acknowledged over cleared since asked reset = (out ≡ false) × (asked ≡ asks.Login) × (underway ≡ true)
-StandsBy (Asking wanted) out underway acknowledged over cleared since asked reset = (out ≡ false) × (reset ≡ wanted) × (cleared ≡ false) × (underway ≡ true)
-StandsBy (Answering left final) out underway acknowledged over cleared since asked reset =
-    (out ≡ false) × (acknowledged ≡ false) × (over ≡ final) × (is_asked reset && not cleared ≡ is_asked left)
-StandsBy Stopping out underway acknowledged over cleared since asked reset = (out ≡ true) × (since ≡ false)
-StandsBy (Skipping done) out underway acknowledged over cleared since asked reset = (out ≡ true) × (since ≡ false) × (acknowledged ≡ done)
+-- reset done; a request was sent since the attention; a login goes on; what was asked last, and for which reset
+abbrev StandsBy : Place → (out underway acknowledged over cleared since entering : Bool) → Asked → Reset → Type 0
+StandsBy Quiet out underway acknowledged over cleared since entering asked reset = (out ≡ false) × (underway ≡ false) × (entering ≡ false)
+StandsBy (Greeting enters) out underway acknowledged over cleared since entering asked reset =
+    (out ≡ false) × (asked ≡ asks.Login) × (underway ≡ true) × (entering ≡ enters)
+StandsBy Entering out underway acknowledged over cleared since entering asked reset = (out ≡ false) × (underway ≡ false)
+StandsBy (Asking wanted) out underway acknowledged over cleared since entering asked reset =
+    (out ≡ false) × (reset ≡ wanted) × (cleared ≡ false) × (underway ≡ true) × (entering ≡ false)
+StandsBy (Answering left final) out underway acknowledged over cleared since entering asked reset =
+    (out ≡ false) × (acknowledged ≡ false) × (over ≡ final) × (is_asked reset && not cleared ≡ is_asked left) × (entering ≡ false)
+StandsBy Stopping out underway acknowledged over cleared since entering asked reset = (out ≡ true) × (since ≡ false) × (entering ≡ false)
+StandsBy (Skipping done) out underway acknowledged over cleared since entering asked reset =
+    (out ≡ true) × (since ≡ false) × (acknowledged ≡ done) × (entering ≡ false)
 
 abbrev Stands : Place → List Said → Type 0
 Stands place past =
-    StandsBy place (is_out past) (is_underway past) (is_acknowledged past) (is_over past) (is_cleared past) (has_asked_since past) (asked_last past) (asks_of past)
+    StandsBy place (is_out past) (is_underway past) (is_acknowledged past) (is_over past) (is_cleared past) (has_asked_since past) (is_entering past) (asked_last past) (asks_of past)
 
 abbrev behind : List Said → Spot → Event → List Said
 behind past spot event = (record { spot = spot; event = event }) ∷ past
@@ -79,70 +77,87 @@ none_left true out since twice before o t =
 none_left false out since twice before o t = refl
 
 asks_there : (place : Place) (past : List Said) (spot : Spot) (status : ℕ) → Stands place past → MayAsk place status → Stands (Asking (reset_of status)) (behind past spot (events.Request status))
-unfolding is_out is_cleared asks_of course_of
-asks_there Quiet past spot status so may = (so.0, refl, refl, refl)
+unfolding is_out is_cleared asks_of course_of is_entering
+asks_there Quiet past spot status so may = (so.0, refl, refl, refl, refl)
 asks_there _ past spot status so may = absurd may
 
-greets_there : (place : Place) (past : List Said) (spot : Spot) → Stands place past → MayGreet place → Stands Greeting (behind past spot events.Login)
-unfolding is_out asked_last course_of
-greets_there Quiet past spot so may = (so.0, refl, refl)
-greets_there Greeting past spot so may = (so.0, refl, refl)
+greets_there : (place : Place) (past : List Said) (spot : Spot) → Stands place past → MayGreet place → Stands (Greeting true) (behind past spot events.Login)
+unfolding is_out asked_last course_of is_entering
+greets_there Quiet past spot so may = (so.0, refl, refl, refl)
+greets_there (Greeting enters) past spot so may = (so.0, refl, refl, refl)
+greets_there Entering past spot so may = (so.0, refl, refl, refl)
 greets_there _ past spot so may = absurd may
 
 stops_there : (place : Place) (past : List Said) (spot : Spot) (size status : ℕ) → Stands place past → MayStop place → Stands (stopped_at place) (behind past spot (events.Attention size status))
-unfolding is_out course_of is_acknowledged
-stops_there Quiet past spot size status so may = (refl, refl)
-stops_there (Asking reset) past spot size status so may = (refl, refl)
-stops_there (Answering reset final) past spot size status so may = (refl, refl, so.1)
+unfolding is_out course_of is_acknowledged is_entering
+stops_there Quiet past spot size status so may = (refl, refl, so.2)
+stops_there (Asking reset) past spot size status so may = (refl, refl, so.4)
+stops_there (Answering reset final) past spot size status so may = (refl, refl, so.1, so.4)
 stops_there _ past spot size status so may = absurd may
 
 forgets_there : (place : Place) (past : List Said) (spot : Spot) → Stands place past → Stands (forgotten_at place) (behind past spot events.Ignored)
-unfolding is_out course_of is_acknowledged is_over is_cleared asked_last asks_of
-forgets_there Quiet past spot so = (so.0, refl)
-forgets_there (Asking reset) past spot so = (so.0, refl)
-forgets_there Greeting past spot so = (so.0, refl)
+unfolding is_out course_of is_acknowledged is_over is_cleared asked_last asks_of is_entering
+forgets_there Quiet past spot so = (so.0, refl, so.2)
+forgets_there (Asking reset) past spot so = (so.0, refl, so.4)
+forgets_there (Greeting enters) past spot so = (so.0, refl)
+forgets_there Entering past spot so = (so.0, refl)
 forgets_there (Answering reset final) past spot so = so
 forgets_there Stopping past spot so = so
 forgets_there (Skipping done) past spot so = so
 
 answers_there : (place : Place) (past : List Said) (spot : Spot) → Stands place past → MayAnswer place → Stands (begun_at place) (behind past spot events.Answer)
-unfolding is_out course_of is_acknowledged is_over is_cleared asked_last asks_of
-answers_there Greeting past spot so may = so
+unfolding is_out course_of is_acknowledged is_over is_cleared asked_last asks_of is_entering
+answers_there (Greeting enters) past spot so may = so
 answers_there (Asking reset) past spot so may =
-    (so.0, refl, refl, ap (λ (b : Bool). is_asked (asks_of past) && not b) so.2 ∙ (and_true (is_asked (asks_of past)) ∙ ap is_asked so.1))
-answers_there Stopping past spot so may = (so.0, so.1, refl)
+    (so.0, refl, refl, ap (λ (b : Bool). is_asked (asks_of past) && not b) so.2 ∙ (and_true (is_asked (asks_of past)) ∙ ap is_asked so.1), so.4)
+answers_there Stopping past spot so may = (so.0, so.1, refl, so.2)
 answers_there _ past spot so may = absurd may
 
+-- nothing goes on with a login that is over
+stays_in : (b entering : Bool) → entering ≡ false → (if b then false else entering) ≡ false
+stays_in true entering so = refl
+stays_in false entering so = so
+
 says_there : (place : Place) (past : List Said) (spot : Spot) (token : Token) → Stands place past → MaySay place token → Stands (heard_at token place) (behind past spot (events.Says token))
-unfolding is_out course_of is_acknowledged is_over is_cleared asked_last asks_of
-says_there Greeting past spot token so may = so
+unfolding is_out course_of is_acknowledged is_over is_cleared asked_last asks_of is_entering
+says_there (Greeting enters) past spot token so may = (so.0, so.1, so.2, ap (λ (b : Bool). if admits token.kind then false else b) so.3)
 says_there (Answering reset final) past spot token so may = (
   so.0,
   ap (λ (b : Bool). b || acknowledges token) so.1 ∙ may,
   ap (final_by_token token.told) so.2,
   left_token token.told (is_asked (asks_of past)) (is_cleared past) reset so.3,
+  stays_in (admits token.kind) (is_entering past) so.4,
 )
-says_there (Skipping done) past spot token so may = (so.0, so.1, ap (λ (b : Bool). b || acknowledges token) so.2)
+says_there (Skipping done) past spot token so may =
+    (so.0, so.1, ap (λ (b : Bool). b || acknowledges token) so.2, stays_in (admits token.kind) (is_entering past) so.3)
 says_there _ past spot token so may = absurd may
 
 ends_there : (place : Place) (past : List Said) (spot : Spot) (whole : Bool) → is_twice past ≡ false → Stands place past → MayEnd place whole → Stands (ended_at place) (behind past spot (events.Answered whole))
-unfolding is_out course_of is_acknowledged is_over is_cleared asked_last asks_of
-ends_there Greeting past spot whole once so may = (
+unfolding is_out course_of is_acknowledged is_over is_cleared asked_last asks_of is_entering
+ends_there (Greeting true) past spot whole once so may = (
   ap (λ (b : Bool). b && not (is_acknowledged past)) so.0,
   none_left (is_acknowledged past) (is_out past) (has_asked_since past) (is_twice past) (is_underway past) so.0 once,
+)
+ends_there (Greeting false) past spot whole once so may = (
+  ap (λ (b : Bool). b && not (is_acknowledged past)) so.0,
+  none_left (is_acknowledged past) (is_out past) (has_asked_since past) (is_twice past) (is_underway past) so.0 once,
+  so.3,
 )
 ends_there (Answering reset final) past spot whole once so may = (
   ap (λ (b : Bool). b && not (is_acknowledged past)) so.0,
   none_left (is_acknowledged past) (is_out past) (has_asked_since past) (is_twice past) (is_underway past) so.0 once,
+  so.4,
 )
 ends_there (Skipping true) past spot whole once so may = (
   ap (λ (b : Bool). is_out past && not b) so.2 ∙ and_false (is_out past),
   ap (λ (b : Bool). left_underway b (is_out past) (has_asked_since past) (is_twice past) (is_underway past)) so.2
       ∙ (ap (λ (b : Bool). left_underway true b (has_asked_since past) (is_twice past) (is_underway past)) so.0 ∙ so.1),
+  so.3,
 )
 ends_there (Skipping false) past spot whole once so may = (
   ap (λ (b : Bool). is_out past && not b) so.2 ∙ (and_true (is_out past) ∙ so.0),
   ap (λ (b : Bool). not (is_acknowledged past) && (b && not (has_ended past))) so.1 ∙ and_false (not (is_acknowledged past)),
+  so.3,
 )
 ends_there _ past spot whole once so may = absurd may
 
@@ -158,22 +173,23 @@ once_stopped (Answering reset final) past once so may = ap (λ (b : Bool). b || 
 once_stopped _ past once so may = absurd may
 
 stays_once : (place : Place) (past : List Said) (spot : Spot) (event : Event) → is_twice past ≡ false → Stands place past
-    → MayAt place (last_told past) (size_told past) event → is_twice (behind past spot event) ≡ false
+    → MayAt place (last_told past) (size_told past) (is_dated past) event → is_twice (behind past spot event) ≡ false
 unfolding is_twice
 stays_once place past spot (events.Attention size status) once so may = once_stopped place past once so may.0
 stays_once place past spot (events.Answered whole) once so may = once_ended (is_acknowledged past) (is_out past) (is_twice past) once
 stays_once place past spot _ once so may = once
 
 goes : (place : Place) (past : List Said) (spot : Spot) (event : Event) → is_twice past ≡ false → Stands place past
-    → MayAt place (last_told past) (size_told past) event → Stands (place_by event place) (behind past spot event)
-unfolding is_out course_of is_acknowledged is_over is_cleared asked_last asks_of
-goes place past spot (events.Packet size) once so may = so
+    → MayAt place (last_told past) (size_told past) (is_dated past) event → Stands (place_by event place) (behind past spot event)
+unfolding is_out course_of is_acknowledged is_over is_cleared asked_last asks_of is_entering
+goes place past spot (events.Packet size fills) once so may = so
 goes place past spot events.Unfinished once so may = so
 goes place past spot (events.Request status) once so may = asks_there place past spot status so may
 goes place past spot events.Login once so may = greets_there place past spot so may
 goes place past spot (events.Attention size status) once so may = stops_there place past spot size status so may.0
 goes place past spot (events.Later status) once so may = so
 goes place past spot (events.Names descriptor) once so may = so
+goes place past spot (events.Headers fault) once so may = so
 goes place past spot events.Ignored once so may = forgets_there place past spot so
 goes place past spot events.Answer once so may = answers_there place past spot so may
 goes place past spot (events.Says token) once so may = says_there place past spot token so may.0
@@ -184,8 +200,8 @@ goes place past spot events.Borrowed once so may = so
 goes place past spot events.Closed once so may = so
 
 lawful_stands : (past : List Said) → IsLawful past → Stands (place_of past) past × (is_twice past ≡ false)
-unfolding IsLawful place_of is_out course_of is_twice
-lawful_stands [] lawful = ((refl, refl), refl)
+unfolding IsLawful place_of is_out course_of is_twice is_entering
+lawful_stands [] lawful = ((refl, refl, refl), refl)
 lawful_stands (x ∷ past) lawful =
     let (so, once) = lawful_stands past lawful.0 in
     (goes (place_of past) past x.spot x.event once so lawful.1, stays_once (place_of past) past x.spot x.event once so lawful.1)
@@ -194,9 +210,10 @@ lawful_stands (x ∷ past) lawful =
 
 no_asking : (place : Place) (past : List Said) (status : ℕ) → Stands place past → MayAsk place status → breaks_rules past (events.Request status) ≡ false
 no_asking Quiet past status so may =
-    ap (λ (b : Bool). b || ((is_underway past && not b) || (is_both (reset_of status) || (ignores_early status || false)))) so.0
-    ∙ (ap (λ (b : Bool). (b && true) || (is_both (reset_of status) || (ignores_early status || false))) so.1
-    ∙ (ap (λ (b : Bool). b || (ignores_early status || false)) may.0 ∙ ap (λ (b : Bool). b || false) may.1))
+    ap (λ (b : Bool). b || ((is_underway past && not b) || (is_both (reset_of status) || (ignores_early status || (is_entering past || false))))) so.0
+    ∙ (ap (λ (b : Bool). (b && true) || (is_both (reset_of status) || (ignores_early status || (is_entering past || false)))) so.1
+    ∙ (ap (λ (b : Bool). b || (ignores_early status || (is_entering past || false))) may.0
+    ∙ (ap (λ (b : Bool). b || (is_entering past || false)) may.1 ∙ ap (λ (b : Bool). b || false) so.2)))
 no_asking _ past status so may = absurd may
 
 no_stop : (place : Place) (past : List Said) (size status : ℕ) → Stands place past → MayStop place → size ≡ 8 → status ≡ 1 → breaks_rules past (events.Attention size status) ≡ false
@@ -228,7 +245,7 @@ no_name _ past descriptor so may = absurd may
 
 no_saying : (place : Place) (past : List Said) (token : Token) → Stands place past → MaySay place token
     → acknowledges token && (is_request (asked_last past) && (not (is_out past) && not (is_twice past))) ≡ false
-no_saying Greeting past token so may =
+no_saying (Greeting enters) past token so may =
     ap (λ (a : Asked). acknowledges token && (is_request a && (not (is_out past) && not (is_twice past)))) so.1 ∙ and_false (acknowledges token)
 no_saying (Answering reset final) past token so may = ap (λ (b : Bool). b && (is_request (asked_last past) && (not (is_out past) && not (is_twice past)))) may
 no_saying (Skipping done) past token so may =
@@ -257,7 +274,7 @@ fits : (most size : ℕ) → ((most == 0) || not (nat_lt most size)) ≡ true �
 fits most size so = fits_by (most == 0) (nat_lt most size) so
 
 no_ending : (place : Place) (past : List Said) (whole : Bool) → Stands place past → MayEnd place whole → breaks_rules past (events.Answered whole) ≡ false
-no_ending Greeting past whole so may =
+no_ending (Greeting enters) past whole so may =
     ap (λ (a : Asked). ending_by (plain_by a (is_out past) (is_acknowledged past)) whole (is_dated past) (is_over past) (is_asked (asks_of past) && not (is_cleared past))
     (is_out past && (not (is_acknowledged past) && (has_asked_since past && has_ended past)))) so.1
     ∙ ap (λ (b : Bool). (b && (not (is_acknowledged past) && (has_asked_since past && has_ended past))) || false) so.0
@@ -280,7 +297,7 @@ no_ending (Skipping done) past whole so may =
 no_ending _ past whole so may = absurd may
 
 no_answer : (place : Place) (past : List Said) → Stands place past → MayAnswer place → breaks_rules past events.Answer ≡ false
-no_answer Greeting past so may =
+no_answer (Greeting enters) past so may =
     ap (λ (b : Bool). (is_known (asked_last past) && (not b && (not (is_out past) && not (is_twice past)))) || false) so.2
     ∙ ap (λ (b : Bool). b || false) (and_false (is_known (asked_last past)))
 no_answer (Asking reset) past so may =
@@ -296,6 +313,9 @@ no_loan : (place : Place) (past : List Said) → Stands place past → MayLend p
 no_loan Quiet past so may =
     ap (λ (b : Bool). (b || (is_underway past && is_request (asked_last past))) || false) so.0
     ∙ ap (λ (b : Bool). (b && is_request (asked_last past)) || false) so.1
+no_loan Entering past so may =
+    ap (λ (b : Bool). (b || (is_underway past && is_request (asked_last past))) || false) so.0
+    ∙ ap (λ (b : Bool). (b && is_request (asked_last past)) || false) so.1
 no_loan _ past so may = absurd may
 
 no_stay : (past : List Said) (ending : Ending) (value : ℕ) → MayStay ending → breaks_rules past (events.Stops ending value) ≡ false
@@ -304,8 +324,12 @@ no_stay past endings.WrongLength value may = absurd may
 no_stay past endings.WrongDirection value may = absurd may
 no_stay past _ value may = refl
 
-no_breach : (place : Place) (past : List Said) (event : Event) → Stands place past → MayAt place (last_told past) (size_told past) event → breaks_rules past event ≡ false
-no_breach place past (events.Packet size) so may = ap (λ (b : Bool). b || false) (fits (size_told past) size may)
+no_head : (dated : Bool) → MayHead dated → dated ≡ false
+no_head true may = absurd may
+no_head false may = refl
+
+no_breach : (place : Place) (past : List Said) (event : Event) → Stands place past → MayAt place (last_told past) (size_told past) (is_dated past) event → breaks_rules past event ≡ false
+no_breach place past (events.Packet size fills) so may = ap (λ (b : Bool). b || false) (fits (size_told past) size may)
 no_breach place past events.Unfinished so may = absurd may
 no_breach place past (events.Request status) so may = no_asking place past status so may
 no_breach place past events.Login so may = refl
@@ -313,6 +337,7 @@ no_breach place past (events.Attention size status) so may = no_stop place past 
 no_breach place past (events.Later status) so may =
     ap (λ (r : Reset). is_asked r || (ignores_early status || false)) may.0 ∙ ap (λ (b : Bool). b || false) may.1
 no_breach place past (events.Names descriptor) so may = no_name place past descriptor so may
+no_breach place past (events.Headers fault) so may = ap (λ (b : Bool). b || false) (no_head (is_dated past) may)
 no_breach place past events.Ignored so may = refl
 no_breach place past events.Answer so may = no_answer place past so may
 no_breach place past (events.Says token) so may =
@@ -334,37 +359,3 @@ not_broken past (x ∷ later) lawful =
     (ap (λ (b : Bool). is_judged (later ++ past) && b)
     (no_breach (place_of (later ++ past)) (later ++ past) x.event (lawful_stands (later ++ past) lawful.0).0 lawful.1)
     ∙ and_false (is_judged (later ++ past)))
-
--- ---- Whatever is handed in
-
-event_so_by : (o : Option Reading) (spot : Spot) (event : Event) (a : Run) → Tells a (event_by o spot event a)
-event_so_by None spot event a = same a
-event_so_by (Some r) spot event a = said_so spot event a
-
-closed_so_by : (o : Option Reading) (spot : Spot) (a : Run) → Tells a (closed_by o spot a)
-closed_so_by None spot a = same a
-closed_so_by (Some r) spot a = stopped_so spot (closing a.judge) a
-
-piece_so : (piece : Piece) (a : Run) → Tells a (piece_seen piece a)
-unfolding event_said closed
-piece_so (Bytes direction time bytes) a = steps_so direction time bytes a
-piece_so (Lends time) a = event_so_by a.judge.walker (spot_of ToServer time a) events.Borrowed a
-piece_so (Closes time) a = closed_so_by a.judge.walker (spot_of ToServer time a) a
-
-pub seen_so : (pieces : List Piece) (a : Run) → Tells a (seen pieces a)
-unfolding seen
-seen_so [] a = same a
-seen_so (piece ∷ pieces) a = on a (piece_seen piece a) (seen pieces (piece_seen piece a)) (piece_so piece a) (seen_so pieces (piece_seen piece a))
-
-without_end : (xs : List Said) → xs ++ [] ≡ xs
-without_end [] = refl
-without_end (x ∷ xs) = ap (λ (ys : List Said). x ∷ ys) (without_end xs)
-
-lawful_end : (xs ys : List Said) → ys ≡ xs → IsLawful xs → IsLawful ys
-lawful_end xs ys so lawful = subst IsLawful (sym so) lawful
-
-pub not_blamed : (judge : Judge) (after : Run) (tells : Tells (run_of judge []) after) → judge.talk ≡ new_talk → IsLawful tells.events → has_breach after.told ≡ false
-unfolding further
-not_blamed judge after tells so lawful =
-    breaks_by [] (run_of judge []) after so tells
-    ∙ not_broken [] tells.events (lawful_end tells.events (tells.events ++ []) (without_end tells.events) lawful)

@@ -7,6 +7,7 @@ pub mod Notes
 pub mod Each
 pub mod Breaking
 pub mod Lawful
+pub mod Handing
 pub mod Conversations
 pub mod SomeRuns
 pub mod Mute

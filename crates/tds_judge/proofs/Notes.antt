@@ -11,9 +11,10 @@ use Rattle.tds_judge.specs.declared.talk.Event.TheVariants as events
 use Rattle.tds_judge.specs.declared.talk.Limits.{Limits}
 use Rattle.tds_judge.specs.declared.talk.Talk.{Talk}
 use Rattle.tds_judge.specs.Findings.{noted, number_of}
+use Rattle.tds_judge.specs.Headers.{header_fault_number}
 use Rattle.tds_judge.specs.History.{Said, is_found, talk_behind}
 use Rattle.tds_judge.specs.Talking.{changes_wrongly, descriptor_of, ended_descriptor, ignores_early, is_asked, is_both, is_full, is_plain, is_request, is_short, is_unclear, reset_of}
-use Rattle.tds_judge.specs.Noting.{ends_by_compute, ends_by_direction, ends_by_length, ends_by_protocol, ends_by_tls, ends_by_token, ends_by_version, is_behind, is_idle_long, ends_in_vain, goes_on_acknowledged, resets_unasked, is_unasked, is_unawaited, names_wrongly, told_by, told_here}
+use Rattle.tds_judge.specs.Noting.{ends_by_compute, ends_by_direction, ends_by_length, ends_by_protocol, ends_by_tls, ends_by_token, ends_by_version, is_behind, is_idle_long, ends_in_vain, goes_on_acknowledged, resets_late, resets_unasked, is_unasked, is_unawaited, names_wrongly, told_by, told_here}
 use Rattle.tds_judge.specs.Told.{has_breach, is_breach_number, is_judged}
 use Rattle.tds_judge.proofs.Behind.{talk_as, talk_is}
 
@@ -79,7 +80,8 @@ breach_among (x ∷ xs) = ap (λ (b : Bool). is_breach_number (number_of x.name)
 -- ---- What an event notes
 
 abbrev pub notes_of : Limits → Talk → Spot → Event → List Note
-notes_of limits t spot (events.Packet size) = note (not (t.most == 0) && nat_lt t.most size) names.PacketSize size ∷ []
+notes_of limits t spot (events.Packet size fills) =
+    note (not (t.most == 0) && nat_lt t.most size) names.PacketSize size ∷ note (fills && nat_lt size t.most) names.PacketNotFull size ∷ []
 notes_of limits t spot events.Unfinished = note true names.UnfinishedMessage 0 ∷ []
 notes_of limits t spot (events.Request status) =
     note t.attention names.AttentionUnanswered 0
@@ -90,6 +92,7 @@ notes_of limits t spot (events.Request status) =
     ∷ note (t.borrowed && not (is_asked (reset_of status))) names.SessionReusedWithoutReset 0
     ∷ note (is_idle_long limits t spot.time) names.IdleInTransaction (spot.time - t.since)
     ∷ note (ignores_early status) names.IgnoreUnended status
+    ∷ note t.entering names.RequestBeforeLogin 0
     ∷ []
 notes_of limits t spot (events.Attention size status) =
     note t.attention names.SecondAttention 0 ∷ note (not (size == 8) || not (status == 1)) names.WrongAttention size ∷ []
@@ -100,6 +103,7 @@ notes_of limits t spot (events.Names descriptor) =
     ∷ note (names_wrongly t descriptor && t.begun_unheard) names.CancelledBeginKept (descriptor_of t.transaction)
     ∷ note (names_wrongly t descriptor && (not (t.ended == 0) && (t.ended == descriptor))) names.TransactionEndedUnheard descriptor
     ∷ []
+notes_of limits t spot (events.Headers fault) = note t.dated names.WrongHeaders (header_fault_number fault) ∷ []
 notes_of limits t spot (events.Says token) =
     note (is_unasked t token) names.AcknowledgementUnasked 0
     ∷ note (is_behind t token) names.TokenAfterFinalDone token.kind
@@ -109,6 +113,7 @@ notes_of limits t spot (events.Says token) =
     ∷ note (changes_wrongly t.transaction token) names.WrongChange (descriptor_of t.transaction)
     ∷ note (ends_in_vain t token) names.NoneEnded (ended_descriptor token)
     ∷ note (goes_on_acknowledged t token) names.AcknowledgementNotLast token.kind
+    ∷ note (resets_late t token) names.ResetToldLate 0
     ∷ []
 notes_of limits t spot (events.Answered whole) =
     note (is_plain t && (not whole && t.dated)) names.CutToken 0
@@ -137,7 +142,7 @@ notes_of limits t spot events.Closed =
 notes_of limits t spot _ = []
 
 pub told_is : (xs : List Finding) (limits : Limits) (t : Talk) (spot : Spot) (event : Event) → told_here xs limits t spot event ≡ put xs spot (notes_of limits t spot event)
-told_is xs limits t spot (events.Packet size) = refl
+told_is xs limits t spot (events.Packet size fills) = refl
 told_is xs limits t spot _ = refl
 
 -- where it is judged

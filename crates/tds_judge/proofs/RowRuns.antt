@@ -18,7 +18,7 @@ pub row_steps : (cuts : Cuts) (t n : ℕ) (bytes : List ℕ) (j : Judge) (told :
     → 0 < n → n ≤ length bytes → length bytes < left
     → run_of (passed ToClient left n (record j { walker = Some s })) told ≡ steps ToClient t (take n bytes) (run_of j told)
 row_steps cuts t n bytes j told r s left d i w unended h some few less =
-    mute (spot_at (place j.server.offset n) t) (row_token n r) (passed ToClient left n (record j { walker = Some s })) told refl unended
+    mute (spot_at (place j.server.offset n) t) (row_token n r) (passed ToClient left n (record j { walker = Some s })) told refl unended refl refl
     ∙ some_over cuts t n bytes j told r s left (row_token n r) d i w h some few less
 
 -- no byte, and nothing is done

@@ -18,9 +18,13 @@ use Rattle.tds_judge.specs.declared.talk.Event.TheVariants as events
 use Rattle.tds_judge.specs.declared.talk.Limits.{Limits}
 use Rattle.tds_judge.specs.declared.talk.Talk.{Talk}
 use Rattle.tds_wire.specs.Reading.{Reading, Found, Sees, Inside as Amid, Refuses, next_token}
+use Rattle.tds_judge.specs.declared.headers.Headed.{Headed}
+use Rattle.tds_judge.specs.declared.headers.Headed.TheVariants as headings
+use Rattle.tds_judge.specs.declared.headers.HeaderFault.TheVariants as faults
+use Rattle.tds_judge.specs.Headers.{heading_by}
 use Rattle.tds_judge.specs.Talking.{talk_by}
 use Rattle.tds_judge.specs.Noting.{told_by}
-use Rattle.tds_judge.specs.Framing.{Run, answer_begun, begins, begun_by, counted, counted_by, due_by, event_of, fault_of, fits_prefix, frame_of, framed, goes_on, head_of, head_taken, headed, headed_by, inside_by, inside_of, is_judged_version, is_plausible, is_tls, is_walked, is_whole, later_by, lost, message_over, moved, named_if, named_with, opened, opened_frame, over, over_by, prefixed, read_by, restarted_by, said, shifted, slid, slid_frame, spot_of, step, step_by, steps, stops, taken_up, walked, walked_by, refused_as, versioned, versioned_if}
+use Rattle.tds_judge.specs.Framing.{Run, answer_begun, begins, begun_by, counted, counted_by, due_by, event_of, fault_of, frame_of, framed, goes_on, head_of, head_taken, headed, headed_at_end, headed_by, inside_by, inside_of, inside_put, is_to_fill, is_judged_version, is_plausible, is_tls, is_walked, is_whole, later_by, lost, message_over, moved, opened, opened_frame, over, over_by, prefixed, read_by, restarted_by, said, shifted, slid, slid_frame, spot_of, step, step_by, steps, stops, taken_up, walked, walked_by, refused_as, versioned, versioned_if}
 use Rattle.tds_judge.specs.History.{Said, Tells, found_in, further}
 
 further_more : (later earlier : List Said) (t : Talk) → further later (further earlier t) ≡ further (later ++ earlier) t
@@ -76,8 +80,15 @@ framed_so ToClient f a = nothing a (framed ToClient f a) refl refl refl
 
 -- ---- Packets
 
+headers_so : (i : Inside) (spot : Spot) (a : Run) → Tells a (headed_at_end i spot a)
+headers_so inside.Skipped spot a = same a
+headers_so (inside.Prefix heading) spot a = said_so spot (events.Headers faults.Length) a
+headers_so inside.Walked spot a = same a
+headers_so (inside.Version place) spot a = same a
+
 message_so : (d : Direction) (spot : Spot) (f : Frame) (a : Run) → Tells a (message_over d spot f a)
-message_so ToServer spot f a = either a (said spot events.Ignored a) a (f.status / 2 % 2 == 1) (said_so spot events.Ignored a) (same a)
+message_so ToServer spot f a =
+    either a (said spot events.Ignored a) (headed_at_end f.inside spot a) (f.status / 2 % 2 == 1) (said_so spot events.Ignored a) (headers_so f.inside spot a)
 message_so ToClient spot f a =
     either a a (said spot (events.Answered (is_whole f.inside a.judge.walker)) a) (f.kind == 18) (same a) (said_so spot (events.Answered (is_whole f.inside a.judge.walker)) a)
 
@@ -131,8 +142,8 @@ begun_so ToClient spot head a =
 begins_so : (spot : Spot) (head : Head) (a : Run) → Tells a (begins spot head a)
 unfolding begins
 begins_so spot head a =
-    let b = said spot (events.Packet head.size) a in
-    on a b (begun_by spot.direction spot head b) (said_so spot (events.Packet head.size) a) (begun_so spot.direction spot head b)
+    let b = said spot (events.Packet head.size (is_to_fill spot.direction head)) a in
+    on a b (begun_by spot.direction spot head b) (said_so spot (events.Packet head.size (is_to_fill spot.direction head)) a) (begun_so spot.direction spot head b)
 
 later_so : (d : Direction) (spot : Spot) (head : Head) (a : Run) → Tells a (later_by d spot head a)
 later_so ToServer spot head a = said_so spot (events.Later head.status) a
@@ -141,11 +152,11 @@ later_so ToClient spot head a = same a
 goes_so : (spot : Spot) (f : Frame) (head : Head) (a : Run) → Tells a (goes_on spot f head a)
 unfolding goes_on
 goes_so spot f head a =
-    let b = said spot (events.Packet head.size) a in
+    let b = said spot (events.Packet head.size (is_to_fill spot.direction head)) a in
     let c = later_by spot.direction spot head b in
     let u = said spot events.Unfinished a in
     either a (opened spot parts.Within f.inside head c) (if head.kind == 6 then begins spot head a else begins spot head u) ((head.kind == f.kind) && not (head.kind == 6))
-    (on a b (opened spot parts.Within f.inside head c) (said_so spot (events.Packet head.size) a)
+    (on a b (opened spot parts.Within f.inside head c) (said_so spot (events.Packet head.size (is_to_fill spot.direction head)) a)
     (on b c (opened spot parts.Within f.inside head c) (later_so spot.direction spot head b) (opened_so spot parts.Within f.inside head c)))
     (either a (begins spot head a) (begins spot head u) (head.kind == 6) (begins_so spot head a) (on a u (begins spot head u) (said_so spot events.Unfinished a) (begins_so spot head u)))
 
@@ -173,17 +184,18 @@ head_so spot got value a =
 
 -- ---- Data
 
-named_so : (fits : Bool) (spot : Spot) (value : ℕ) (a : Run) → Tells a (named_if fits spot value a)
-named_so true spot value a = said_so spot (events.Names value) a
-named_so false spot value a = same a
+put_so : (spot : Spot) (i : Inside) (a : Run) → Tells a (inside_put spot i a)
+put_so spot i a = framed_so spot.direction (record (frame_of spot.direction a) { inside = i }) a
 
-prefixed_so : (spot : Spot) (place : ℕ) (fits : Bool) (value : ℕ) (a : Run) → Tells a (prefixed spot place fits value a)
-prefixed_so spot place fits value a =
-    let f = record (frame_of spot.direction a) { inside = inside.Prefix (place + 1) fits value } in
-    let g = record (frame_of spot.direction a) { inside = inside.Skipped } in
-    let b = framed spot.direction g a in
-    either a (framed spot.direction f a) (named_if fits spot value b) (nat_lt place 17) (framed_so spot.direction f a)
-    (on a b (named_if fits spot value b) (framed_so spot.direction g a) (named_so fits spot value b))
+prefixed_so : (spot : Spot) (found : Headed) (a : Run) → Tells a (prefixed spot found a)
+prefixed_so spot (headings.On heading) a = put_so spot (inside.Prefix heading) a
+prefixed_so spot (headings.Names descriptor heading) a =
+    let b = inside_put spot (inside.Prefix heading) a in
+    on a b (said spot (events.Names descriptor) b) (put_so spot (inside.Prefix heading) a) (said_so spot (events.Names descriptor) b)
+prefixed_so spot headings.Over a = put_so spot inside.Skipped a
+prefixed_so spot (headings.Wrong fault) a =
+    let b = inside_put spot inside.Skipped a in
+    on a b (said spot (events.Headers fault) b) (put_so spot inside.Skipped a) (said_so spot (events.Headers fault) b)
 
 versioned_so_by : (judged : Bool) (spot : Spot) (byte : ℕ) (a : Run) → Tells a (versioned_if judged spot byte a)
 versioned_so_by true spot byte a = same a
@@ -212,7 +224,7 @@ walked_so (Some r) spot byte a = found_so (next_token r (byte ∷ [])) spot a
 inside_so : (i : Inside) (spot : Spot) (byte : ℕ) (a : Run) → Tells a (inside_by i spot byte a)
 unfolding inside_by
 inside_so inside.Skipped spot byte a = same a
-inside_so (inside.Prefix place fits value) spot byte a = prefixed_so spot place (fits && fits_prefix place byte) (named_with place value byte) a
+inside_so (inside.Prefix heading) spot byte a = prefixed_so spot (heading_by heading byte) a
 inside_so inside.Walked spot byte a = walked_so a.judge.walker spot byte a
 inside_so (inside.Version place) spot byte a = versioned_so spot place byte a
 

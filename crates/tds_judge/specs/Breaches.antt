@@ -11,7 +11,7 @@ use Rattle.tds_wire.specs.declared.told.ChangeValue.TheVariants as changes
 use Rattle.tds_wire.specs.declared.told.Told.{Told}
 use Rattle.tds_wire.specs.declared.told.Told.TheVariants as told
 use Rattle.tds_judge.specs.History.{Said, is_acknowledged, is_out, is_underway, last_told, owed_of}
-use Rattle.tds_judge.specs.Talking.{descriptor_of, is_asked, is_long, is_request, keeps, reset_of}
+use Rattle.tds_judge.specs.Talking.{admits, descriptor_of, is_asked, is_long, is_request, keeps, reset_of, shows_work}
 
 -- ---- The answer that comes, and its request
 
@@ -87,6 +87,27 @@ is_lent (x ∷ past) = lent_by x.event (is_lent past)
 -- the answer to a request that wasn't cancelled
 abbrev pub is_plain_answer : List Said → Bool
 is_plain_answer past = is_request (asked_last past) && (not (is_out past) && not (is_acknowledged past))
+
+-- a login has begun, and nothing has let the client in (2.2.7.14); a request before that is told once
+abbrev pub entering_by : Event → Bool → Bool
+entering_by events.Login before = true
+entering_by (events.Request status) before = false
+entering_by (events.Says token) before = if admits token.kind then false else before
+entering_by _ before = before
+
+unfoldable pub is_entering : List Said → Bool
+is_entering [] = false
+is_entering (x ∷ past) = entering_by x.event (is_entering past)
+
+-- the answer that comes tells that something of the request was done
+abbrev pub working_by : Event → Bool → Bool
+working_by events.Answer before = false
+working_by (events.Says token) before = if shows_work token.kind then true else before
+working_by _ before = before
+
+unfoldable pub has_worked : List Said → Bool
+has_worked [] = false
+has_worked (x ∷ past) = working_by x.event (has_worked past)
 
 -- ---- Versions
 

@@ -1,6 +1,6 @@
 -- Lawful conversations: one exchange behind the other, in the order in which somebody on the way sees both directions (MS-TDS 3.2.5, 3.3.5).
 -- That an attention is seen before the end of the answer that it stops, or behind it, is lawful both.
-use Rattle.std.specs.Prelude.{◌≡◌, ℕ, ◌==◌, ◌&&◌, ◌||◌, not, nat_lt, Bool, true, false, List, [], ◌∷◌}
+use Rattle.std.specs.Prelude.{◌≡◌, ℕ, ◌==◌, ◌&&◌, ◌||◌, not, nat_lt, Bool, true, false, List, [], ◌∷◌, if◌then◌else◌}
 use Rattle.tds_judge.specs.declared.finding.Direction.{Direction}
 use Rattle.tds_judge.specs.declared.talk.Ending.{Ending}
 use Rattle.tds_judge.specs.declared.talk.Ending.TheVariants as endings
@@ -15,17 +15,19 @@ use Rattle.tds_wire.specs.declared.told.ChangeValue.TheVariants as changes
 use Rattle.tds_wire.specs.declared.told.Told.{Told}
 use Rattle.tds_wire.specs.declared.told.Told.TheVariants as told
 use Rattle.tds_wire.specs.declared.told.Token.{Token}
-use Rattle.tds_judge.specs.Breaches.{final_by_token, size_told}
+use Rattle.tds_judge.specs.Breaches.{final_by_token, is_dated, size_told}
 use Rattle.tds_judge.specs.Framing.{Run, closed, event_said, steps}
 use Rattle.tds_judge.specs.History.{Said, last_told}
-use Rattle.tds_judge.specs.Talking.{acknowledges, changes_wrongly, ignores_early, is_both, is_full, reset_of}
+use Rattle.tds_judge.specs.Talking.{acknowledges, admits, changes_wrongly, ignores_early, is_both, is_full, reset_of}
 
 -- Where a conversation is.
 pub data Place : Type 0 where
   -- nothing is awaited
   Quiet : Place
-  -- a message of the login was sent
-  Greeting : Place
+  -- a message of the login was sent, and nothing let the client in so far, or it did
+  Greeting : (enters : Bool) → Place
+  -- it was answered, and the login goes on
+  Entering : Place
   -- a request was begun that asks for this reset, and its answer wasn't
   Asking : (reset : Reset) → Place
   -- its answer comes: this reset is still to be told done, and the newest DONE was final or not
@@ -47,6 +49,7 @@ left_by (told.Change change) reset = left_by_change change.value reset
 left_by _ reset = reset
 
 abbrev pub heard_at : Token → Place → Place
+heard_at token (Greeting enters) = Greeting (if admits token.kind then false else enters)
 heard_at token (Answering reset final) = Answering (left_by token.told reset) (final_by_token token.told final)
 heard_at token (Skipping acknowledged) = Skipping (acknowledged || acknowledges token)
 heard_at token place = place
@@ -58,6 +61,7 @@ begun_at Stopping = Skipping false
 begun_at place = place
 
 abbrev pub ended_at : Place → Place
+ended_at (Greeting true) = Entering
 ended_at (Skipping false) = Stopping
 ended_at place = Quiet
 
@@ -68,12 +72,12 @@ stopped_at place = Stopping
 -- what the server is to ignore isn't answered (2.2.3.1.2)
 abbrev pub forgotten_at : Place → Place
 forgotten_at (Asking reset) = Quiet
-forgotten_at Greeting = Quiet
+forgotten_at (Greeting enters) = Entering
 forgotten_at place = place
 
 abbrev pub place_by : Event → Place → Place
 place_by (events.Request status) place = Asking (reset_of status)
-place_by events.Login place = Greeting
+place_by events.Login place = Greeting true
 place_by (events.Attention size status) place = stopped_at place
 place_by events.Ignored place = forgotten_at place
 place_by events.Answer place = begun_at place
@@ -92,10 +96,11 @@ abbrev pub MayAsk : Place → ℕ → Type 0
 MayAsk Quiet status = (is_both (reset_of status) ≡ false) × (ignores_early status ≡ false)
 MayAsk _ status = ⊥
 
--- A login is of several messages (2.2.6).
+-- A login is of several messages (2.2.6), up to the one that lets the client in.
 abbrev pub MayGreet : Place → Type 0
 MayGreet Quiet = Unit {0}
-MayGreet Greeting = Unit {0}
+MayGreet (Greeting enters) = Unit {0}
+MayGreet Entering = Unit {0}
 MayGreet _ = ⊥
 
 -- One attention is out at a time. Where nothing is awaited it has crossed the end of the answer (2.2.1.7).
@@ -116,21 +121,21 @@ MayName _ last descriptor = ⊥
 
 -- A message of the server begins where one is awaited.
 abbrev pub MayAnswer : Place → Type 0
-MayAnswer Greeting = Unit {0}
+MayAnswer (Greeting enters) = Unit {0}
 MayAnswer (Asking reset) = Unit {0}
 MayAnswer Stopping = Unit {0}
 MayAnswer _ = ⊥
 
 -- The answer to a request acknowledges no attention (2.2.7.6). None begins a transaction inside another one, or ends another one (2.2.7.9).
 abbrev pub MaySay : Place → Token → Type 0
-MaySay Greeting token = Unit {0}
+MaySay (Greeting enters) token = Unit {0}
 MaySay (Answering reset final) token = acknowledges token ≡ false
 MaySay (Skipping acknowledged) token = Unit {0}
 MaySay _ token = ⊥
 
 -- It ends between two tokens, behind a final DONE and the end of the reset that was asked for. What an attention stops ends anywhere.
 abbrev pub MayEnd : Place → Bool → Type 0
-MayEnd Greeting whole = Unit {0}
+MayEnd (Greeting enters) whole = Unit {0}
 MayEnd (Answering resets.None true) true = Unit {0}
 MayEnd (Skipping acknowledged) whole = Unit {0}
 MayEnd _ whole = ⊥
@@ -138,6 +143,7 @@ MayEnd _ whole = ⊥
 -- It is lent where nothing is awaited.
 abbrev pub MayLend : Place → Type 0
 MayLend Quiet = Unit {0}
+MayLend Entering = Unit {0}
 MayLend _ = ⊥
 
 -- Encryption, other versions, other protocols and COMPUTE aren't judged; they are lawful.
@@ -147,26 +153,32 @@ MayStay endings.WrongLength = ⊥
 MayStay endings.WrongDirection = ⊥
 MayStay _ = Unit {0}
 
--- by the transaction and the packet size that were told last; 0 where no size was
-abbrev pub MayAt : Place → Transaction → ℕ → Event → Type 0
-MayAt place last most (events.Packet size) = ((most == 0) || not (nat_lt most size)) ≡ true
-MayAt place last most events.Unfinished = ⊥
-MayAt place last most (events.Request status) = MayAsk place status
-MayAt place last most events.Login = MayGreet place
-MayAt place last most (events.Attention size status) = MayStop place × (size ≡ 8) × (status ≡ 1)
-MayAt place last most (events.Later status) = (reset_of status ≡ resets.None) × (ignores_early status ≡ false)
-MayAt place last most (events.Names descriptor) = MayName place last descriptor
-MayAt place last most events.Ignored = Unit {0}
-MayAt place last most events.Answer = MayAnswer place
-MayAt place last most (events.Says token) = MaySay place token × (changes_wrongly last token ≡ false)
-MayAt place last most (events.Answered whole) = MayEnd place whole
-MayAt place last most events.TakenUp = Unit {0}
-MayAt place last most (events.Stops ending value) = MayStay ending
-MayAt place last most events.Borrowed = MayLend place
-MayAt place last most events.Closed = Unit {0}
+-- ALL_HEADERS is as it has to be (2.2.5.3) from TDS 7.2 on, and isn't there before.
+abbrev pub MayHead : Bool → Type 0
+MayHead false = Unit {0}
+MayHead true = ⊥
+
+-- by the transaction and the packet size that were told last, 0 where no size was, and by whether TDS 7.2 or later was shown
+abbrev pub MayAt : Place → Transaction → ℕ → Bool → Event → Type 0
+MayAt place last most dated (events.Packet size fills) = ((most == 0) || not (nat_lt most size)) ≡ true
+MayAt place last most dated events.Unfinished = ⊥
+MayAt place last most dated (events.Request status) = MayAsk place status
+MayAt place last most dated events.Login = MayGreet place
+MayAt place last most dated (events.Attention size status) = MayStop place × (size ≡ 8) × (status ≡ 1)
+MayAt place last most dated (events.Later status) = (reset_of status ≡ resets.None) × (ignores_early status ≡ false)
+MayAt place last most dated (events.Names descriptor) = MayName place last descriptor
+MayAt place last most dated (events.Headers fault) = MayHead dated
+MayAt place last most dated events.Ignored = Unit {0}
+MayAt place last most dated events.Answer = MayAnswer place
+MayAt place last most dated (events.Says token) = MaySay place token × (changes_wrongly last token ≡ false)
+MayAt place last most dated (events.Answered whole) = MayEnd place whole
+MayAt place last most dated events.TakenUp = Unit {0}
+MayAt place last most dated (events.Stops ending value) = MayStay ending
+MayAt place last most dated events.Borrowed = MayLend place
+MayAt place last most dated events.Closed = Unit {0}
 
 abbrev pub May : List Said → Event → Type 0
-May past event = MayAt (place_of past) (last_told past) (size_told past) event
+May past event = MayAt (place_of past) (last_told past) (size_told past) (is_dated past) event
 
 -- ---- A lawful conversation, the newest first
 

@@ -47,9 +47,13 @@ number_of names.NoneEnded = 36
 number_of names.IgnoreUnended = 37
 number_of names.WrongDirection = 38
 number_of names.AcknowledgementNotLast = 39
+number_of names.WrongHeaders = 40
+number_of names.PacketNotFull = 41
+number_of names.RequestBeforeLogin = 42
+number_of names.ResetToldLate = 43
 
 abbrev pub is_risk : ℕ → Bool
-is_risk n = (n == 6) || (n == 10) || (n == 11) || (n == 12) || (n == 17) || (n == 18) || (n == 26) || (n == 36) || (n == 39)
+is_risk n = (n == 6) || (n == 10) || (n == 11) || (n == 12) || (n == 17) || (n == 18) || (n == 26) || (n == 36) || (n == 39) || (n == 41) || (n == 43)
 
 abbrev pub is_note : ℕ → Bool
 is_note n = (n == 16) || (n == 27) || (n == 28) || (n == 29) || (n == 30) || (n == 31) || (n == 34)

@@ -12,11 +12,15 @@ use Rattle.tds_judge.specs.declared.frame.Inside.{Inside}
 use Rattle.tds_judge.specs.declared.frame.Inside.TheVariants as inside
 use Rattle.tds_judge.specs.declared.frame.Part.{Part}
 use Rattle.tds_judge.specs.declared.frame.Part.TheVariants as parts
+use Rattle.tds_judge.specs.declared.headers.Headed.{Headed}
+use Rattle.tds_judge.specs.declared.headers.Headed.TheVariants as headings
+use Rattle.tds_judge.specs.declared.headers.HeaderFault.TheVariants as faults
 use Rattle.tds_judge.specs.declared.judge.Judge.{Judge}
 use Rattle.tds_judge.specs.declared.talk.Ending.TheVariants as endings
 use Rattle.tds_judge.specs.declared.talk.Event.{Event}
 use Rattle.tds_judge.specs.declared.talk.Event.TheVariants as events
 use Rattle.tds_judge.specs.declared.talk.Limits.{Limits}
+use Rattle.tds_judge.specs.Headers.{heading_by, new_heading}
 use Rattle.tds_judge.specs.Talking.{new_talk, talk_by}
 use Rattle.tds_judge.specs.Noting.{told_by}
 use Rattle.tds_wire.specs.declared.fault.Refusal.{Refusal}
@@ -67,20 +71,15 @@ event_of head =
     else if (head.kind == 1) || (head.kind == 3) || (head.kind == 7) || (head.kind == 14) then events.Request head.status
     else events.Login
 
--- ---- ALL_HEADERS (MS-TDS 2.2.5.3): a total length in 4 bytes, the header's own in 4, its type in 2, and the descriptor in 8
+-- A packet of a request that doesn't end its message has to be full (2.2.3.1.3).
+abbrev pub is_to_fill : Direction → Head → Bool
+is_to_fill ToServer head = not (head.status % 2 == 1) && ((head.kind == 1) || (head.kind == 3) || (head.kind == 7) || (head.kind == 14))
+is_to_fill ToClient head = false
 
+-- ALL_HEADERS is read of a batch, an RPC and a request to the transaction manager (2.2.5.3)
 abbrev pub inside_of : ℕ → Inside
-inside_of kind = if (kind == 1) || (kind == 3) || (kind == 14) then inside.Prefix 0 true 0 else if kind == 16 then inside.Version 0 else inside.Skipped
-
-abbrev pub fits_prefix : ℕ → ℕ → Bool
-fits_prefix place byte =
-    if place == 4 then byte == 18
-    else if place == 8 then byte == 2
-    else if (place == 5) || (place == 6) || (place == 7) || (place == 9) then byte == 0
-    else true
-
-abbrev pub named_with : ℕ → ℕ → ℕ → ℕ
-named_with place value byte = if nat_lt place 10 then 0 else value / 256 + byte * 72057594037927936
+inside_of kind =
+    if (kind == 1) || (kind == 3) || (kind == 14) then inside.Prefix new_heading else if kind == 16 then inside.Version 0 else inside.Skipped
 
 -- ---- Frames
 
@@ -128,14 +127,21 @@ stops spot event run = said spot event (record { judge = record run.judge { walk
 
 abbrev pub is_whole : Inside → Option Reading → Bool
 is_whole inside.Skipped walker = true
-is_whole (inside.Prefix place fits value) walker = true
+is_whole (inside.Prefix heading) walker = true
 is_whole (inside.Version place) walker = true
 is_whole inside.Walked None = true
 is_whole inside.Walked (Some r) = is_between r
 
--- a message whose beginning was seen ends
+-- a request ends before the end of its ALL_HEADERS
+abbrev pub headed_at_end : Inside → Spot → Run → Run
+headed_at_end inside.Skipped spot run = run
+headed_at_end (inside.Prefix heading) spot run = said spot (events.Headers faults.Length) run
+headed_at_end inside.Walked spot run = run
+headed_at_end (inside.Version place) spot run = run
+
+-- A message whose beginning was seen ends. What is to be ignored need not be whole.
 abbrev pub message_over : Direction → Spot → Frame → Run → Run
-message_over ToServer spot f run = if f.status / 2 % 2 == 1 then said spot events.Ignored run else run
+message_over ToServer spot f run = if f.status / 2 % 2 == 1 then said spot events.Ignored run else headed_at_end f.inside spot run
 message_over ToClient spot f run = if f.kind == 18 then run else said spot (events.Answered (is_whole f.inside run.judge.walker)) run
 
 abbrev pub over_by : Part → Spot → Frame → Run → Run
@@ -193,7 +199,7 @@ begun_by ToClient spot head run =
 
 -- a message begins
 unfoldable pub begins : Spot → Head → Run → Run
-begins spot head run = begun_by spot.direction spot head (said spot (events.Packet head.size) run)
+begins spot head run = begun_by spot.direction spot head (said spot (events.Packet head.size (is_to_fill spot.direction head)) run)
 
 abbrev pub later_by : Direction → Spot → Head → Run → Run
 later_by ToServer spot head run = said spot (events.Later head.status) run
@@ -203,7 +209,7 @@ later_by ToClient spot head run = run
 unfoldable pub goes_on : Spot → Frame → Head → Run → Run
 goes_on spot f head run =
     if (head.kind == f.kind) && not (head.kind == 6)
-    then opened spot parts.Within f.inside head (later_by spot.direction spot head (said spot (events.Packet head.size) run))
+    then opened spot parts.Within f.inside head (later_by spot.direction spot head (said spot (events.Packet head.size (is_to_fill spot.direction head)) run))
     else if head.kind == 6 then begins spot head run
     else begins spot head (said spot events.Unfinished run)
 
@@ -234,14 +240,15 @@ head_taken spot got value run =
 
 -- ---- Data
 
-abbrev pub named_if : Bool → Spot → ℕ → Run → Run
-named_if fits spot value run = if fits then said spot (events.Names value) run else run
+abbrev pub inside_put : Spot → Inside → Run → Run
+inside_put spot inside run = framed spot.direction (record (frame_of spot.direction run) { inside = inside }) run
 
-abbrev pub prefixed : Spot → ℕ → Bool → ℕ → Run → Run
-prefixed spot place fits value run =
-    if nat_lt place 17
-    then framed spot.direction (record (frame_of spot.direction run) { inside = inside.Prefix (place + 1) fits value }) run
-    else named_if fits spot value (framed spot.direction (record (frame_of spot.direction run) { inside = inside.Skipped }) run)
+-- a byte of ALL_HEADERS has come
+abbrev pub prefixed : Spot → Headed → Run → Run
+prefixed spot (headings.On heading) run = inside_put spot (inside.Prefix heading) run
+prefixed spot (headings.Names descriptor heading) run = said spot (events.Names descriptor) (inside_put spot (inside.Prefix heading) run)
+prefixed spot headings.Over run = inside_put spot inside.Skipped run
+prefixed spot (headings.Wrong fault) run = said spot (events.Headers fault) (inside_put spot inside.Skipped run)
 
 -- LOGIN7 has its length in 4 bytes, then its version, whose highest byte comes last: 72 to 74 (MS-TDS 2.2.6.4)
 abbrev pub is_judged_version : ℕ → Bool
@@ -277,7 +284,7 @@ walked (Some r) spot byte run = walked_by (next_token r (byte ∷ [])) spot run
 
 unfoldable pub inside_by : Inside → Spot → ℕ → Run → Run
 inside_by inside.Skipped spot byte run = run
-inside_by (inside.Prefix place fits value) spot byte run = prefixed spot place (fits && fits_prefix place byte) (named_with place value byte) run
+inside_by (inside.Prefix heading) spot byte run = prefixed spot (heading_by heading byte) run
 inside_by inside.Walked spot byte run = walked run.judge.walker spot byte run
 inside_by (inside.Version place) spot byte run = versioned spot place byte run
 

@@ -1,4 +1,5 @@
 pub mod Findings
+pub mod Headers
 pub mod Talking
 pub mod Noting
 pub mod Framing

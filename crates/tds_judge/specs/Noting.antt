@@ -9,8 +9,10 @@ use Rattle.tds_judge.specs.declared.talk.Event.{Event}
 use Rattle.tds_judge.specs.declared.talk.Event.TheVariants as events
 use Rattle.tds_judge.specs.declared.talk.Limits.{Limits}
 use Rattle.tds_judge.specs.declared.talk.Talk.{Talk}
+use Rattle.tds_judge.specs.declared.headers.HeaderFault.{HeaderFault}
 use Rattle.tds_wire.specs.declared.told.Token.{Token}
 use Rattle.tds_judge.specs.Findings.{noted}
+use Rattle.tds_judge.specs.Headers.{header_fault_number}
 use Rattle.tds_judge.specs.Talking.{acknowledges, changes_wrongly, descriptor_of, ended_descriptor, ends_none, says_more, ignores_early, is_asked, is_both, is_full, is_known, is_plain, is_request, is_short, is_told, is_unclear, owed, reset_of, tells_reset}
 
 -- in a transaction, with nothing asked for since longer than the limit
@@ -37,8 +39,10 @@ reset_noted xs t spot status =
 abbrev pub request_noted : List Finding → Limits → Talk → Spot → ℕ → List Finding
 request_noted xs limits t spot status =
     noted
+    (noted
     (noted (reset_noted (turn_noted xs t spot) t spot status) spot (is_idle_long limits t spot.time) names.IdleInTransaction (spot.time - t.since))
-    spot (ignores_early status) names.IgnoreUnended status
+    spot (ignores_early status) names.IgnoreUnended status)
+    spot t.entering names.RequestBeforeLogin 0
 
 abbrev pub attention_noted : List Finding → Talk → Spot → ℕ → ℕ → List Finding
 attention_noted xs t spot size status =
@@ -68,6 +72,10 @@ is_behind t token = t.is_final && (is_request t.asked && (not t.attention && not
 abbrev pub resets_unasked : Talk → Token → Bool
 resets_unasked t token = tells_reset token && (is_request t.asked && not (is_asked (owed t.reset_done t.reset)))
 
+-- a reset that is to be told done is told behind what was asked for
+abbrev pub resets_late : Talk → Token → Bool
+resets_late t token = tells_reset token && (is_asked (owed t.reset_done t.reset) && t.worked)
+
 -- behind a reset the end of what it ended may be told
 abbrev pub ends_in_vain : Talk → Token → Bool
 ends_in_vain t token = ends_none t.transaction token && not t.reset_done
@@ -81,10 +89,12 @@ change_noted xs t spot token =
     noted
     (noted
     (noted
+    (noted
     (noted xs spot (resets_unasked t token) names.ResetUnasked 0)
     spot (changes_wrongly t.transaction token) names.WrongChange (descriptor_of t.transaction))
     spot (ends_in_vain t token) names.NoneEnded (ended_descriptor token))
-    spot (goes_on_acknowledged t token) names.AcknowledgementNotLast token.kind
+    spot (goes_on_acknowledged t token) names.AcknowledgementNotLast token.kind)
+    spot (resets_late t token) names.ResetToldLate 0
 
 abbrev pub token_noted : List Finding → Talk → Spot → Token → List Finding
 token_noted xs t spot token =
@@ -175,8 +185,15 @@ stop_noted xs t spot ending value =
     spot (ends_by_compute ending) names.Compute value)
     spot (ends_by_direction ending) names.WrongDirection value
 
-abbrev pub size_noted : List Finding → Talk → Spot → ℕ → List Finding
-size_noted xs t spot size = noted xs spot (not (t.most == 0) && nat_lt t.most size) names.PacketSize size
+abbrev pub size_noted : List Finding → Talk → Spot → ℕ → Bool → List Finding
+size_noted xs t spot size fills =
+    noted
+    (noted xs spot (not (t.most == 0) && nat_lt t.most size) names.PacketSize size)
+    spot (fills && nat_lt size t.most) names.PacketNotFull size
+
+-- of ALL_HEADERS, which TDS has from 7.2 on
+abbrev pub headers_noted : List Finding → Talk → Spot → HeaderFault → List Finding
+headers_noted xs t spot fault = noted xs spot t.dated names.WrongHeaders (header_fault_number fault)
 
 abbrev pub later_noted : List Finding → Spot → ℕ → List Finding
 later_noted xs spot status =
@@ -184,13 +201,14 @@ later_noted xs spot status =
 
 -- what is found, behind what was found so far
 abbrev pub told_here : List Finding → Limits → Talk → Spot → Event → List Finding
-told_here xs limits t spot (events.Packet size) = size_noted xs t spot size
+told_here xs limits t spot (events.Packet size fills) = size_noted xs t spot size fills
 told_here xs limits t spot events.Unfinished = noted xs spot true names.UnfinishedMessage 0
 told_here xs limits t spot (events.Request status) = request_noted xs limits t spot status
 told_here xs limits t spot events.Login = xs
 told_here xs limits t spot (events.Attention size status) = attention_noted xs t spot size status
 told_here xs limits t spot (events.Later status) = later_noted xs spot status
 told_here xs limits t spot (events.Names descriptor) = names_noted xs t spot descriptor
+told_here xs limits t spot (events.Headers fault) = headers_noted xs t spot fault
 told_here xs limits t spot events.Ignored = xs
 told_here xs limits t spot events.Answer = begin_noted xs t spot
 told_here xs limits t spot (events.Says token) = token_noted xs t spot token

@@ -85,6 +85,14 @@ told_acknowledges told.Other = false
 abbrev pub acknowledges : Token → Bool
 acknowledges token = told_acknowledges token.told
 
+-- LOGINACK (MS-TDS 2.2.7.14) lets a client in
+abbrev pub admits : ℕ → Bool
+admits kind = kind == 0xAD
+
+-- COLMETADATA (2.2.7.4) and each DONE tell that something of a request was done
+abbrev pub shows_work : ℕ → Bool
+shows_work kind = (kind == 0x81) || (kind == 0xFD) || (kind == 0xFE) || (kind == 0xFF)
+
 -- a packet that is to be ignored, and doesn't end its message (MS-TDS 2.2.3.1.2)
 abbrev pub ignores_early : ℕ → Bool
 ignores_early status = (status / 2 % 2 == 1) && not (status % 2 == 1)
@@ -204,10 +212,10 @@ is_short token = told_short token.told
 
 abbrev pub begins_request : Talk → ℕ → Talk
 begins_request t status =
-    record t { asked = asks.Request; underway = true; late = t.attention; reset = reset_of status; reset_done = false; begun = false; borrowed = t.borrowed && is_asked (reset_of status) }
+    record t { asked = asks.Request; underway = true; late = t.attention; reset = reset_of status; reset_done = false; begun = false; borrowed = t.borrowed && is_asked (reset_of status); entering = false }
 
 abbrev pub begins_login : Talk → Talk
-begins_login t = record t { asked = asks.Login; underway = true; reset = resets.None; reset_done = false; begun = false; transaction = transactions.Told 0 }
+begins_login t = record t { asked = asks.Login; underway = true; reset = resets.None; reset_done = false; begun = false; transaction = transactions.Told 0; entering = true }
 
 -- a transaction that the answer underway has begun was begun by an answer that is cancelled now
 abbrev pub cancels : Talk → Talk
@@ -226,7 +234,7 @@ has_named t = record t { begun_unheard = false; ended = 0; dated = true }
 -- ---- What an answer says
 
 abbrev pub begins_answer : Talk → Talk
-begins_answer t = record t { is_final = false; acknowledges = false }
+begins_answer t = record t { is_final = false; acknowledges = false; worked = false }
 
 -- of the three kinds of DONE the last decides
 abbrev pub is_done : Talk → Done → Talk
@@ -275,8 +283,12 @@ told_heard t time kind (told.SessionState state) = t
 told_heard t time kind told.Unclear = unclear_heard t (kind == 0xE3)
 told_heard t time kind told.Other = t
 
+-- by its first byte
+abbrev pub kind_heard : Talk → ℕ → Talk
+kind_heard t kind = record t { entering = if admits kind then false else t.entering; worked = if shows_work kind then true else t.worked }
+
 abbrev pub token_heard : Talk → ℕ → Token → Talk
-token_heard t time token = told_heard t time token.kind token.told
+token_heard t time token = told_heard (kind_heard t token.kind) time token.kind token.told
 
 -- ---- The beginning and the end of an answer
 
@@ -303,13 +315,14 @@ ends_answer t time whole =
 
 -- and what has been said then
 unfoldable pub talk_by : Talk → ℕ → Event → Talk
-talk_by t time (events.Packet size) = t
+talk_by t time (events.Packet size fills) = t
 talk_by t time events.Unfinished = t
 talk_by t time (events.Request status) = begins_request t status
 talk_by t time events.Login = begins_login t
 talk_by t time (events.Attention size status) = cancels t
 talk_by t time (events.Later status) = t
 talk_by t time (events.Names descriptor) = has_named t
+talk_by t time (events.Headers fault) = t
 talk_by t time events.Ignored = record t { underway = false }
 talk_by t time events.Answer = begins_answer t
 talk_by t time (events.Says token) = token_heard t time token
@@ -342,4 +355,6 @@ new_talk = record {
   most = 0;
   dated = false;
   other = false;
+  entering = false;
+  worked = false;
 }

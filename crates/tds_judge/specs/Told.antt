@@ -7,7 +7,7 @@ use Rattle.tds_judge.specs.declared.talk.Event.{Event}
 use Rattle.tds_judge.specs.declared.talk.Event.TheVariants as events
 use Rattle.tds_judge.specs.declared.talk.Limits.{Limits}
 use Rattle.tds_wire.specs.declared.told.Token.{Token}
-use Rattle.tds_judge.specs.Breaches.{asked_last, gone_last, idle_since, is_dated, is_lent, is_other_shown, is_over, is_plain_answer, is_unheard, size_told}
+use Rattle.tds_judge.specs.Breaches.{asked_last, gone_last, idle_since, has_worked, is_dated, is_entering, is_lent, is_other_shown, is_over, is_plain_answer, is_unheard, size_told}
 use Rattle.tds_judge.specs.Framing.{Run}
 use Rattle.tds_judge.specs.Findings.{is_note, is_risk, number_of}
 use Rattle.tds_judge.specs.History.{Said, Tells, asks_of, has_asked_since, has_ended, is_acknowledged, is_another, is_attention_unanswered, is_both_resets, is_cleared, is_out, is_request_while_answering, is_second_attention, is_twice, is_underway, is_wrong_descriptor, last_told, of_names, of_request, owed_of}
@@ -20,9 +20,14 @@ abbrev pub of_attention_as : Event → (ℕ → ℕ → Bool) → Bool
 of_attention_as (events.Attention size status) is = is size status
 of_attention_as _ is = false
 
-abbrev pub of_packet : Event → (ℕ → Bool) → Bool
-of_packet (events.Packet size) is = is size
+abbrev pub of_packet : Event → (ℕ → Bool → Bool) → Bool
+of_packet (events.Packet size fills) is = is size fills
 of_packet _ is = false
+
+-- where ALL_HEADERS of a request is wrong
+abbrev pub of_headers : Event → Bool → Bool
+of_headers (events.Headers fault) is = is
+of_headers _ is = false
 
 abbrev pub of_later : Event → (ℕ → Bool) → Bool
 of_later (events.Later status) is = is status
@@ -131,6 +136,10 @@ is_reused past event = of_request event (λ status. is_lent past && not (is_aske
 abbrev pub is_reset_unasked : List Said → Event → Bool
 is_reset_unasked past event = of_token event (λ token. tells_reset token && (is_request (asked_last past) && not (is_asked (owed_of past))))
 
+-- a reset that is to be told done is told behind what was asked for (2.2.3.1.2)
+abbrev pub is_reset_late : List Said → Event → Bool
+is_reset_late past event = of_token event (λ token. tells_reset token && (is_asked (owed_of past) && has_worked past))
+
 -- lent while an answer isn't read, or an attention isn't acknowledged
 abbrev pub is_lent_early : List Said → Event → Bool
 is_lent_early past event = of_loan event (is_out past || (is_underway past && is_request (asked_last past)))
@@ -167,7 +176,19 @@ is_answer_unread past event = of_close event (is_underway past && is_request (as
 -- ---- Packets
 
 abbrev pub is_wrong_size : List Said → Event → Bool
-is_wrong_size past event = of_packet event (λ size. not (size_told past == 0) && nat_lt (size_told past) size)
+is_wrong_size past event = of_packet event (λ size fills. not (size_told past == 0) && nat_lt (size_told past) size)
+
+-- a packet that has to be full is shorter than was told (2.2.3.1.3)
+abbrev pub is_not_full : List Said → Event → Bool
+is_not_full past event = of_packet event (λ size fills. fills && nat_lt size (size_told past))
+
+-- of TDS 7.2 and later, which was shown (2.2.5.3)
+abbrev pub is_wrong_headers : List Said → Event → Bool
+is_wrong_headers past event = of_headers event (is_dated past)
+
+-- a request before a login's end (2.2.7.14)
+abbrev pub is_before_login : List Said → Event → Bool
+is_before_login past event = of_request event (λ status. is_entering past)
 
 abbrev pub is_wrong_token : List Said → Event → Bool
 is_wrong_token past event = of_ending event (λ ending. ends_by_token ending (is_dated past))
@@ -210,8 +231,8 @@ breaks_rules past event =
     || (is_acknowledgement_unasked past event
     || (is_cut_token past event || (is_without_end past event || (is_reset_unanswered past event || (is_attention_ignored past event
     || (is_late_reset event || (is_wrong_token past event || (is_wrong_size past event
-    || (is_wrong_length event || (is_wrong_direction event || (is_ignore_unended event || (is_answer_unasked past event || (is_wrong_change past event
-    || (is_lent_early past event || is_unfinished_message event)))))))))))))))))))))
+    || (is_wrong_length event || (is_wrong_direction event || (is_ignore_unended event || (is_before_login past event || (is_wrong_headers past event
+    || (is_answer_unasked past event || (is_wrong_change past event || (is_lent_early past event || is_unfinished_message event)))))))))))))))))))))))
 
 abbrev pub is_breach : List Said → Event → Bool
 is_breach past event = is_judged past && breaks_rules past event

@@ -5,42 +5,50 @@ ghost use Rattle.tds_judge.specs.Framing as framing;
 ghost use Rattle.tds_judge.specs.Framing.{run_of};
 
 use crate::finding::{Direction, Finding, Spot};
-use crate::frame::{Due, Inside, fits_prefix, named_with, refused, shifted};
+use crate::frame::{Due, Inside, refused, shifted};
+use crate::headers::Headed;
 use crate::judge::Judge;
 use crate::talk::{Ending, Event};
 
 impl Judge {
-    /// A byte of ALL_HEADERS has come: whether all that came fits, and the descriptor so far.
-    fn read_prefix(&mut self, out: &mut Vec<Finding>, spot: Spot, place: u8, fits: bool, value: u64)
-        requires { vec_len out.old + 8 ≤ vec_capacity out.old }
-        ensures run { (run_of self.new out.new.items)
-            ≡ framing.prefixed spot place fits value (run_of self.old out.old.items) }
-        ensures few { vec_len out.new ≤ vec_len out.old + 8 }
-        ensures capacity { vec_capacity out.new ≡ vec_capacity out.old }
+    /// What is done with a message's data from here on.
+    fn put_inside(&mut self, spot: Spot, inside: Inside)
+        ensures { self.new ≡ framing.with_frame spot.direction
+            (record (framing.frame_by spot.direction self.old) { inside = inside }) self.old }
     {
         let mut frame = self.frame(spot.direction);
-        if place < 17 {
-            frame.inside = Inside::Prefix {
-                place: place + 1,
-                fits,
-                value,
-            };
-            self.put_frame(spot.direction, frame);
-        } else {
-            frame.inside = Inside::Skipped;
-            self.put_frame(spot.direction, frame);
-            if fits {
-                self.say(out, spot, Event::Names(value));
+        frame.inside = inside;
+        self.put_frame(spot.direction, frame);
+    }
+
+    /// A byte of ALL_HEADERS has come.
+    fn read_headers(&mut self, out: &mut Vec<Finding>, spot: Spot, headed: Headed)
+        requires { vec_len out.old + 9 ≤ vec_capacity out.old }
+        ensures run { (run_of self.new out.new.items)
+            ≡ framing.prefixed spot headed (run_of self.old out.old.items) }
+        ensures few { vec_len out.new ≤ vec_len out.old + 9 }
+        ensures capacity { vec_capacity out.new ≡ vec_capacity out.old }
+    {
+        match headed {
+            Headed::On(heading) => self.put_inside(spot, Inside::Prefix(heading)),
+            Headed::Names(descriptor, heading) => {
+                self.put_inside(spot, Inside::Prefix(heading));
+                self.say(out, spot, Event::Names(descriptor));
+            }
+            Headed::Over => self.put_inside(spot, Inside::Skipped),
+            Headed::Wrong(fault) => {
+                self.put_inside(spot, Inside::Skipped);
+                self.say(out, spot, Event::Headers(fault));
             }
         }
     }
 
     /// A byte of LOGIN7 has come, up to its version's last.
     fn read_version(&mut self, out: &mut Vec<Finding>, spot: Spot, place: u8, byte: u8)
-        requires { vec_len out.old + 8 ≤ vec_capacity out.old }
+        requires { vec_len out.old + 9 ≤ vec_capacity out.old }
         ensures run { (run_of self.new out.new.items)
             ≡ framing.versioned spot place byte (run_of self.old out.old.items) }
-        ensures few { vec_len out.new ≤ vec_len out.old + 8 }
+        ensures few { vec_len out.new ≤ vec_len out.old + 9 }
         ensures capacity { vec_capacity out.new ≡ vec_capacity out.old }
     {
         let mut frame = self.frame(spot.direction);
@@ -59,10 +67,10 @@ impl Judge {
 
     /// The walker reads a byte.
     fn walk(&mut self, out: &mut Vec<Finding>, spot: Spot, byte: u8)
-        requires { vec_len out.old + 8 ≤ vec_capacity out.old }
+        requires { vec_len out.old + 9 ≤ vec_capacity out.old }
         ensures run { (run_of self.new out.new.items)
             ≡ framing.walked self.old.walker spot byte (run_of self.old out.old.items) }
-        ensures few { vec_len out.new ≤ vec_len out.old + 8 }
+        ensures few { vec_len out.new ≤ vec_len out.old + 9 }
         ensures capacity { vec_capacity out.new ≡ vec_capacity out.old }
     {
         let Some(walker) = &mut self.walker else {
@@ -81,18 +89,15 @@ impl Judge {
     /// A byte of data is read.
     #[tactic(auto, unfolding(crate::specs::Framing::inside_by))]
     fn read(&mut self, out: &mut Vec<Finding>, spot: Spot, inside: Inside, byte: u8)
-        requires { vec_len out.old + 8 ≤ vec_capacity out.old }
+        requires { vec_len out.old + 9 ≤ vec_capacity out.old }
         ensures run { (run_of self.new out.new.items)
             ≡ framing.inside_by inside spot byte (run_of self.old out.old.items) }
-        ensures few { vec_len out.new ≤ vec_len out.old + 8 }
+        ensures few { vec_len out.new ≤ vec_len out.old + 9 }
         ensures capacity { vec_capacity out.new ≡ vec_capacity out.old }
     {
         match inside {
             Inside::Skipped => {}
-            Inside::Prefix { place, fits, value } => {
-                let fits = fits && fits_prefix(place, byte);
-                self.read_prefix(out, spot, place, fits, named_with(place, value, byte));
-            }
+            Inside::Prefix(heading) => self.read_headers(out, spot, heading.take(byte)),
             Inside::Walked => self.walk(out, spot, byte),
             Inside::Version { place } => self.read_version(out, spot, place, byte),
         }
@@ -100,10 +105,10 @@ impl Judge {
 
     /// One byte of data less is to come.
     fn count(&mut self, out: &mut Vec<Finding>, spot: Spot, left: u16)
-        requires { vec_len out.old + 8 ≤ vec_capacity out.old }
+        requires { vec_len out.old + 9 ≤ vec_capacity out.old }
         ensures run { (run_of self.new out.new.items)
             ≡ framing.counted spot left (run_of self.old out.old.items) }
-        ensures few { vec_len out.new ≤ vec_len out.old + 8 }
+        ensures few { vec_len out.new ≤ vec_len out.old + 9 }
         ensures capacity { vec_capacity out.new ≡ vec_capacity out.old }
     {
         if self.has_stopped() {
@@ -121,10 +126,10 @@ impl Judge {
     /// A byte has come.
     #[tactic(auto, unfolding(crate::specs::Framing::due_by))]
     fn take_byte(&mut self, out: &mut Vec<Finding>, spot: Spot, due: Due, byte: u8)
-        requires { vec_len out.old + 32 ≤ vec_capacity out.old }
+        requires { vec_len out.old + 36 ≤ vec_capacity out.old }
         ensures run { (run_of self.new out.new.items)
             ≡ framing.due_by due spot byte (run_of self.old out.old.items) }
-        ensures few { vec_len out.new ≤ vec_len out.old + 32 }
+        ensures few { vec_len out.new ≤ vec_len out.old + 36 }
         ensures capacity { vec_capacity out.new ≡ vec_capacity out.old }
     {
         match due {
@@ -141,10 +146,10 @@ impl Judge {
     #[inline(never)]
     #[tactic(auto, unfolding(crate::specs::Framing::step))]
     pub fn step(&mut self, out: &mut Vec<Finding>, direction: Direction, time: u64, byte: u8)
-        requires { vec_len out.old + 32 ≤ vec_capacity out.old }
+        requires { vec_len out.old + 36 ≤ vec_capacity out.old }
         ensures run { (run_of self.new out.new.items)
             ≡ framing.step direction time byte (run_of self.old out.old.items) }
-        ensures few { vec_len out.new ≤ vec_len out.old + 32 }
+        ensures few { vec_len out.new ≤ vec_len out.old + 36 }
         ensures capacity { vec_capacity out.new ≡ vec_capacity out.old }
     {
         if self.has_stopped() {

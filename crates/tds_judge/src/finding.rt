@@ -103,6 +103,15 @@ pub enum Name {
     /// 39: a token behind an acknowledgement in its message, or an acknowledgement that says that more come.
     /// With it: the token's first byte.
     AcknowledgementNotLast,
+    /// 40: ALL_HEADERS of a request is missing or wrong. With it: why, 1 a length, 2 no transaction, 3 two,
+    /// 4 a type.
+    WrongHeaders,
+    /// 41: a packet of a request is shorter than packets are, and doesn't end its message. With it: its length.
+    PacketNotFull,
+    /// 42: a request before the end of the login.
+    RequestBeforeLogin,
+    /// 43: a reset is told done behind something of what was asked for.
+    ResetToldLate,
 }
 
 /// How much a finding weighs.
@@ -126,7 +135,7 @@ pub struct Finding {
 }
 
 impl Name {
-    /// The finding's number, 1 to 39.
+    /// The finding's number, 1 to 43.
     pub fn number(self) -> u8
         ensures { result ≡ number_of self }
     {
@@ -179,6 +188,10 @@ impl Name {
             Name::IgnoreUnended => 37,
             Name::WrongDirection => 38,
             Name::AcknowledgementNotLast => 39,
+            Name::WrongHeaders => 40,
+            Name::PacketNotFull => 41,
+            Name::RequestBeforeLogin => 42,
+            Name::ResetToldLate => 43,
             _ => 0,
         }
     }
@@ -188,7 +201,7 @@ impl Name {
         ensures { result ≡ level_of (number_of self) }
     {
         match self.number() {
-            6 | 10 | 11 | 12 | 17 | 18 | 26 | 36 | 39 => Level::Risk,
+            6 | 10 | 11 | 12 | 17 | 18 | 26 | 36 | 39 | 41 | 43 => Level::Risk,
             16 | 27 | 28 | 29 | 30 | 31 | 34 => Level::Note,
             _ => Level::Breach,
         }

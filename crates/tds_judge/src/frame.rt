@@ -4,6 +4,7 @@ ghost use Rattle.std.specs.Prelude.{◌≡◌};
 ghost use Rattle.tds_judge.specs.Framing as framing;
 
 use crate::finding::Direction;
+use crate::headers::Heading;
 use crate::talk::{Ending, Event};
 use tds_wire::Refusal;
 
@@ -32,9 +33,8 @@ pub enum Part {
 pub enum Inside {
     /// Nothing.
     Skipped,
-    /// ALL_HEADERS of a request is read (MS-TDS 2.2.5.3), up to the descriptor: so many bytes of it have
-    /// come, whether they are those of a transaction descriptor header, and the descriptor so far.
-    Prefix { place: u8, fits: bool, value: u64 },
+    /// ALL_HEADERS of a request is read (MS-TDS 2.2.5.3).
+    Prefix(Heading),
     /// The walker reads it.
     Walked,
     /// The version in LOGIN7 is read (MS-TDS 2.2.6.4): so many bytes have come.
@@ -74,11 +74,7 @@ fn inside_of(kind: u8) -> Inside
     ensures { result ≡ framing.inside_of kind }
 {
     if kind == 1 || kind == 3 || kind == 14 {
-        Inside::Prefix {
-            place: 0,
-            fits: true,
-            value: 0,
-        }
+        Inside::Prefix(Heading::new())
     } else if kind == 16 {
         Inside::Version { place: 0 }
     } else {
@@ -160,6 +156,19 @@ impl Head {
         }
     }
 
+    /// Whether it is that of a packet of a request that doesn't end its message, and so has to be full.
+    pub fn is_to_fill(self, direction: Direction) -> bool
+        ensures { result ≡ framing.is_to_fill direction self }
+    {
+        match direction {
+            Direction::ToServer => {
+                self.status % 2 != 1
+                    && (self.kind == 1 || self.kind == 3 || self.kind == 7 || self.kind == 14)
+            }
+            Direction::ToClient => false,
+        }
+    }
+
     /// What a message to the server is that begins with it.
     pub fn event(self) -> Event
         ensures { result ≡ framing.event_of self }
@@ -213,22 +222,6 @@ impl Frame {
     }
 }
 
-/// Whether a byte of ALL_HEADERS is that of a transaction descriptor header that stands first: its
-/// length is 18, its type 2.
-pub fn fits_prefix(place: u8, byte: u8) -> bool
-    ensures { result ≡ framing.fits_prefix place byte }
-{
-    if place == 4 {
-        byte == 18
-    } else if place == 8 {
-        byte == 2
-    } else if place == 5 || place == 6 || place == 7 || place == 9 {
-        byte == 0
-    } else {
-        true
-    }
-}
-
 /// Why the judging ends at bytes that the walker refuses: ALTMETADATA or ALTROW, or no token.
 pub fn refused(refusal: &Refusal) -> Event
     ensures { result ≡ framing.refused_as refusal.now }
@@ -237,16 +230,5 @@ pub fn refused(refusal: &Refusal) -> Event
         Event::Stops(Ending::Compute, u64::from(refusal.byte))
     } else {
         Event::Stops(Ending::WrongToken, u64::from(refusal.fault.number()))
-    }
-}
-
-/// The descriptor so far: its lowest byte comes first.
-pub fn named_with(place: u8, value: u64, byte: u8) -> u64
-    ensures { result ≡ framing.named_with place value byte }
-{
-    if place < 10 {
-        0
-    } else {
-        value / 256 + u64::from(byte) * 72_057_594_037_927_936
     }
 }

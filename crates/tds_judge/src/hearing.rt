@@ -5,7 +5,7 @@ ghost use Rattle.tds_judge.specs.Noting as noting;
 ghost use Rattle.tds_judge.specs.Talking as talking;
 
 use crate::finding::{Finding, Spot};
-use crate::talk::{Asked, Event, Limits, Reset, Talk, Transaction, is_long};
+use crate::talk::{Asked, Event, Limits, Reset, Talk, Transaction, admits, is_long, shows_work};
 use tds_wire::{ChangeValue, Done, Token, Told};
 
 impl Talk {
@@ -34,6 +34,8 @@ impl Talk {
             most: 0,
             dated: false,
             other: false,
+            entering: false,
+            worked: false,
         }
     }
 
@@ -47,6 +49,7 @@ impl Talk {
         self.reset_done = false;
         self.begun = false;
         self.borrowed = self.borrowed && self.reset.is_asked();
+        self.entering = false;
     }
 
     fn begin_login(&mut self)
@@ -58,6 +61,7 @@ impl Talk {
         self.reset_done = false;
         self.begun = false;
         self.transaction = Transaction::Told(0);
+        self.entering = true;
     }
 
     fn cancel(&mut self)
@@ -131,9 +135,22 @@ impl Talk {
         self.dated = self.dated || long;
     }
 
+    /// What the first byte of a token tells.
+    fn hear_kind(&mut self, kind: u8)
+        ensures { self.new ≡ talking.kind_heard self.old kind }
+    {
+        if admits(kind) {
+            self.entering = false;
+        }
+        if shows_work(kind) {
+            self.worked = true;
+        }
+    }
+
     fn hear_token(&mut self, time: u64, token: &Token)
         ensures { self.new ≡ talking.token_heard self.old time token.now }
     {
+        self.hear_kind(token.kind);
         match token.told {
             Told::Done(done) => self.hear_done(done),
             Told::Change(change) => self.hear_change(time, change.kind, change.value),
@@ -189,22 +206,23 @@ impl Talk {
             Event::Answer => {
                 self.is_final = false;
                 self.acknowledges = false;
+                self.worked = false;
             }
             Event::Says(token) => self.hear_token(time, &token),
             Event::Answered(whole) => self.end_answer(time, whole),
             Event::Borrowed => self.borrowed = true,
-            Event::Packet(_) | Event::Unfinished | Event::Later(_) => {}
+            Event::Packet(_, _) | Event::Unfinished | Event::Later(_) | Event::Headers(_) => {}
             Event::TakenUp | Event::Stops(_, _) | Event::Closed => {}
         }
     }
 
     /// Something is said: appends what is wrong with it.
     pub fn hear(&mut self, out: &mut Vec<Finding>, limits: &Limits, spot: Spot, event: Event)
-        requires { vec_len out.old + 8 ≤ vec_capacity out.old }
+        requires { vec_len out.old + 9 ≤ vec_capacity out.old }
         ensures items { out.new.items
             ≡ noting.told_by out.old.items limits.now self.old spot event }
         ensures talk { self.new ≡ talking.talk_by self.old spot.time event }
-        ensures few { vec_len out.new ≤ vec_len out.old + 8 }
+        ensures few { vec_len out.new ≤ vec_len out.old + 9 }
         ensures capacity { vec_capacity out.new ≡ vec_capacity out.old }
     {
         self.note_event(out, limits, spot, event);

@@ -123,6 +123,9 @@ pub fn resets_are_told()
     ensures told_unasked { (limits : Limits) (past : List Said) (spot : Spot) (event : Event)
         → is_found 34 (told_by [] limits (talk_behind past) spot event)
         ≡ is_judged past && told.is_reset_unasked past event }
+    ensures told_late { (limits : Limits) (past : List Said) (spot : Spot) (event : Event)
+        → is_found 43 (told_by [] limits (talk_behind past) spot event)
+        ≡ is_judged past && told.is_reset_late past event }
 {}
 
 /// And these: an answer that isn't read, a token behind the final DONE, an answer without one, one that
@@ -178,9 +181,18 @@ pub fn packets_are_told()
     ensures direction { (limits : Limits) (past : List Said) (spot : Spot) (event : Event)
         → is_found 38 (told_by [] limits (talk_behind past) spot event)
         ≡ is_judged past && told.is_wrong_direction event }
+    ensures headers { (limits : Limits) (past : List Said) (spot : Spot) (event : Event)
+        → is_found 40 (told_by [] limits (talk_behind past) spot event)
+        ≡ is_judged past && told.is_wrong_headers past event }
+    ensures full { (limits : Limits) (past : List Said) (spot : Spot) (event : Event)
+        → is_found 41 (told_by [] limits (talk_behind past) spot event)
+        ≡ is_judged past && told.is_not_full past event }
+    ensures login { (limits : Limits) (past : List Said) (spot : Spot) (event : Event)
+        → is_found 42 (told_by [] limits (talk_behind past) spot event)
+        ≡ is_judged past && told.is_before_login past event }
 {}
 
-/// Behind any history, an event gives a finding of level breach exactly where it is one of the 23
+/// Behind any history, an event gives a finding of level breach exactly where it is one of the 25
 /// breaches by what was said before: no other alarm, and no silence.
 pub fn alarms_are_exact()
     ensures { (limits : Limits) (past : List Said) (spot : Spot) (event : Event)

@@ -5,6 +5,7 @@
 mod data;
 mod finding;
 mod frame;
+mod headers;
 mod hearing;
 mod judge;
 pub mod laws;

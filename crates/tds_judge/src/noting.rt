@@ -56,10 +56,10 @@ impl Talk {
     }
 
     fn note_request(&self, out: &mut Vec<Finding>, limits: &Limits, spot: Spot, status: u8)
-        requires { vec_len out.old + 8 ≤ vec_capacity out.old }
+        requires { vec_len out.old + 9 ≤ vec_capacity out.old }
         ensures items { out.new.items
             ≡ noting.request_noted out.old.items limits.now self.now spot status }
-        ensures few { vec_len out.new ≤ vec_len out.old + 8 }
+        ensures few { vec_len out.new ≤ vec_len out.old + 9 }
         ensures capacity { vec_capacity out.new ≡ vec_capacity out.old }
     {
         self.note_turn(out, spot);
@@ -69,6 +69,7 @@ impl Talk {
         note(out, spot, idle, Name::IdleInTransaction, long);
         let early = ignores_early(status);
         note(out, spot, early, Name::IgnoreUnended, u64::from(status));
+        note(out, spot, self.entering, Name::RequestBeforeLogin, 0);
     }
 
     fn note_attention(&self, out: &mut Vec<Finding>, spot: Spot, size: u16, status: u8)
@@ -114,11 +115,18 @@ impl Talk {
         tells_reset(token) && self.asked.is_request() && !self.owed().is_asked()
     }
 
+    /// What is still to be told done is told behind something that was done of the request.
+    fn is_reset_late(&self, token: &Token) -> bool
+        ensures { result ≡ noting.resets_late self.now token.now }
+    {
+        tells_reset(token) && self.owed().is_asked() && self.worked
+    }
+
     fn note_change(&self, out: &mut Vec<Finding>, spot: Spot, token: &Token)
-        requires { vec_len out.old + 4 ≤ vec_capacity out.old }
+        requires { vec_len out.old + 5 ≤ vec_capacity out.old }
         ensures items { out.new.items
             ≡ noting.change_noted out.old.items self.now spot token.now }
-        ensures few { vec_len out.new ≤ vec_len out.old + 4 }
+        ensures few { vec_len out.new ≤ vec_len out.old + 5 }
         ensures capacity { vec_capacity out.new ≡ vec_capacity out.old }
     {
         let unasked = self.is_reset_unasked(token);
@@ -131,13 +139,15 @@ impl Talk {
         note(out, spot, none, Name::NoneEnded, ended_by(token));
         let kind = u64::from(token.kind);
         note(out, spot, more, Name::AcknowledgementNotLast, kind);
+        let late = self.is_reset_late(token);
+        note(out, spot, late, Name::ResetToldLate, 0);
     }
 
     fn note_token(&self, out: &mut Vec<Finding>, spot: Spot, token: &Token)
-        requires { vec_len out.old + 8 ≤ vec_capacity out.old }
+        requires { vec_len out.old + 9 ≤ vec_capacity out.old }
         ensures items { out.new.items
             ≡ noting.token_noted out.old.items self.now spot token.now }
-        ensures few { vec_len out.new ≤ vec_len out.old + 8 }
+        ensures few { vec_len out.new ≤ vec_len out.old + 9 }
         ensures capacity { vec_capacity out.new ≡ vec_capacity out.old }
     {
         let acknowledges = acknowledges(token);
@@ -223,13 +233,26 @@ impl Talk {
         }
     }
 
+    fn note_size(&self, out: &mut Vec<Finding>, spot: Spot, size: u16, fills: bool)
+        requires { vec_len out.old + 2 ≤ vec_capacity out.old }
+        ensures items { out.new.items
+            ≡ noting.size_noted out.old.items self.now spot size fills }
+        ensures few { vec_len out.new ≤ vec_len out.old + 2 }
+        ensures capacity { vec_capacity out.new ≡ vec_capacity out.old }
+    {
+        let over = self.most != 0 && u32::from(size) > self.most;
+        let under = fills && u32::from(size) < self.most;
+        note(out, spot, over, Name::PacketSize, u64::from(size));
+        note(out, spot, under, Name::PacketNotFull, u64::from(size));
+    }
+
     /// Appends what is wrong with what is said now. Of another version nothing is.
     #[tactic(auto, unfolding(crate::specs::Noting::told_by))]
     pub fn note_event(&self, out: &mut Vec<Finding>, limits: &Limits, spot: Spot, event: Event)
-        requires { vec_len out.old + 8 ≤ vec_capacity out.old }
+        requires { vec_len out.old + 9 ≤ vec_capacity out.old }
         ensures items { out.new.items
             ≡ noting.told_by out.old.items limits.now self.now spot event }
-        ensures few { vec_len out.new ≤ vec_len out.old + 8 }
+        ensures few { vec_len out.new ≤ vec_len out.old + 9 }
         ensures capacity { vec_capacity out.new ≡ vec_capacity out.old }
     {
         if !self.other {
@@ -238,17 +261,14 @@ impl Talk {
     }
 
     fn note_said(&self, out: &mut Vec<Finding>, limits: &Limits, spot: Spot, event: Event)
-        requires { vec_len out.old + 8 ≤ vec_capacity out.old }
+        requires { vec_len out.old + 9 ≤ vec_capacity out.old }
         ensures items { out.new.items
             ≡ noting.told_here out.old.items limits.now self.now spot event }
-        ensures few { vec_len out.new ≤ vec_len out.old + 8 }
+        ensures few { vec_len out.new ≤ vec_len out.old + 9 }
         ensures capacity { vec_capacity out.new ≡ vec_capacity out.old }
     {
         match event {
-            Event::Packet(size) => {
-                let over = self.most != 0 && u32::from(size) > self.most;
-                note(out, spot, over, Name::PacketSize, u64::from(size));
-            }
+            Event::Packet(size, fills) => self.note_size(out, spot, size, fills),
             Event::Unfinished => note(out, spot, true, Name::UnfinishedMessage, 0),
             Event::Request(status) => self.note_request(out, limits, spot, status),
             Event::Attention(size, status) => self.note_attention(out, spot, size, status),
@@ -259,6 +279,10 @@ impl Talk {
                 note(out, spot, unended, Name::IgnoreUnended, u64::from(status));
             }
             Event::Names(descriptor) => self.note_names(out, spot, descriptor),
+            Event::Headers(fault) => {
+                let why = u64::from(fault.number());
+                note(out, spot, self.dated, Name::WrongHeaders, why);
+            }
             Event::Says(token) => self.note_token(out, spot, &token),
             Event::Answered(whole) => self.note_answered(out, spot, whole),
             Event::TakenUp => note(out, spot, true, Name::TakenUp, 0),

@@ -1,20 +1,22 @@
 //! Runs of a packet's data, as one step whatever their length.
 
-ghost use Rattle.std.specs.Prelude.{◌≡◌, ◌≤◌, ◌<◌, ◌+◌, ◌-◌, ℕ, List, true, vec_len, vec_capacity, length, take, IfSome};
+ghost use Rattle.std.specs.Prelude.{◌≡◌, ◌≤◌, ◌<◌, ◌+◌, ◌-◌, ℕ, List, true, false, vec_len, vec_capacity, length, take, IfSome};
 ghost use Rattle.tds_judge.specs.Framing as framing;
 ghost use Rattle.tds_judge.specs.Framing.{run_of};
 ghost use Rattle.tds_judge.specs.Rows.{IsAtRow};
+ghost use Rattle.tds_judge.specs.Talking as talking;
 ghost use Rattle.tds_judge.specs.Runs as runs;
 ghost use Rattle.tds_judge.specs.declared.finding.Finding.{Finding};
 ghost use Rattle.tds_judge.specs.declared.finding.Direction.TheVariants.{ToClient};
 ghost use Rattle.tds_judge.specs.declared.frame.Due.TheVariants as dues;
 ghost use Rattle.tds_judge.specs.declared.frame.Inside.TheVariants as insides;
 ghost use Rattle.tds_judge.specs.declared.talk.Event.TheVariants as events;
+ghost use Rattle.tds_wire.specs.declared.told.Told.TheVariants as heard;
 
 use crate::finding::{Direction, Finding, Spot};
 use crate::frame::{Due, Inside, refused};
 use crate::judge::Judge;
-use crate::talk::Event;
+use crate::talk::{Event, admits, shows_work};
 use crate::walker::Went;
 use tds_wire::{Refusal, Token, Told, cuts_do_not_matter};
 
@@ -35,30 +37,42 @@ impl Judge {
     #[inline(always)]
     fn end_run(&mut self, out: &mut Vec<Finding>, spot: Spot, left: u16, count: u16, token: Token)
         requires few { count < left }
-        requires room { vec_len out.old + 8 ≤ vec_capacity out.old }
+        requires room { vec_len out.old + 9 ≤ vec_capacity out.old }
         ensures run { (run_of self.new out.new.items)
             ≡ framing.said spot (events.Says token)
             (run_of (runs.passed ToClient left count self.old) out.old.items) }
-        ensures few { vec_len out.new ≤ vec_len out.old + 8 }
+        ensures few { vec_len out.new ≤ vec_len out.old + 9 }
         ensures capacity { vec_capacity out.new ≡ vec_capacity out.old }
     {
         self.pass(Direction::ToClient, left, count);
         self.say_token(out, spot, token);
     }
 
-    /// A token is said. Rows, most of an answer, say nothing of the connection unless a final DONE came
-    /// before them: that is seen here, where it costs little.
+    /// Whether a token says nothing of the connection: rows, most of an answer, do only behind a final DONE.
     #[inline(always)]
-    fn say_token(&mut self, out: &mut Vec<Finding>, spot: Spot, token: Token)
-        requires { vec_len out.old + 8 ≤ vec_capacity out.old }
-        ensures run { (run_of self.new out.new.items)
-            ≡ framing.said spot (events.Says token) (run_of self.old out.old.items) }
-        ensures few { vec_len out.new ≤ vec_len out.old + 8 }
-        ensures capacity { vec_capacity out.new ≡ vec_capacity out.old }
+    fn is_mute(&self, token: &Token) -> bool
+        ensures other { result ≡ true → token.now.told ≡ heard.Other }
+        ensures open { result ≡ true → self.now.talk.is_final ≡ false }
+        ensures outside { result ≡ true → talking.admits token.now.kind ≡ false }
+        ensures idle { result ≡ true → talking.shows_work token.now.kind ≡ false }
     {
         match token.told {
-            Told::Other if !self.talk.is_final => {}
-            _ => self.say(out, spot, Event::Says(token)),
+            Told::Other => { !self.talk.is_final && !admits(token.kind) && !shows_work(token.kind) }
+            _ => false,
+        }
+    }
+
+    /// A token is said: what is mute is seen here, where it costs little.
+    #[inline(always)]
+    fn say_token(&mut self, out: &mut Vec<Finding>, spot: Spot, token: Token)
+        requires { vec_len out.old + 9 ≤ vec_capacity out.old }
+        ensures run { (run_of self.new out.new.items)
+            ≡ framing.said spot (events.Says token) (run_of self.old out.old.items) }
+        ensures few { vec_len out.new ≤ vec_len out.old + 9 }
+        ensures capacity { vec_capacity out.new ≡ vec_capacity out.old }
+    {
+        if !self.is_mute(&token) {
+            self.say(out, spot, Event::Says(token));
         }
     }
 
@@ -74,11 +88,11 @@ impl Judge {
     )
         requires some { 0 < count }
         requires few { count < left }
-        requires room { vec_len out.old + 8 ≤ vec_capacity out.old }
+        requires room { vec_len out.old + 9 ≤ vec_capacity out.old }
         ensures run { (run_of self.new out.new.items)
             ≡ framing.stops spot (framing.refused_as refusal)
             (run_of (runs.failed left count self.old) out.old.items) }
-        ensures few { vec_len out.new ≤ vec_len out.old + 8 }
+        ensures few { vec_len out.new ≤ vec_len out.old + 9 }
         ensures capacity { vec_capacity out.new ≡ vec_capacity out.old }
     {
         self.server.due = Due::Data {
@@ -93,14 +107,14 @@ impl Judge {
     fn walk_run(&mut self, out: &mut Vec<Finding>, time: u64, left: u16, run: &[u8]) -> usize
         requires some { 0 < length run.now }
         requires few { length run.now < left }
-        requires room { vec_len out.old + 32 ≤ vec_capacity out.old }
+        requires room { vec_len out.old + 36 ≤ vec_capacity out.old }
         requires due { self.old.server.due ≡ dues.Data left }
         requires inside { self.old.server.inside ≡ insides.Walked }
         ensures some { 0 < result }
         ensures within { result ≤ length run.now }
         ensures run { (run_of self.new out.new.items)
             ≡ framing.steps ToClient time (take result run.now) (run_of self.old out.old.items) }
-        ensures few { vec_len out.new ≤ vec_len out.old + 32 }
+        ensures few { vec_len out.new ≤ vec_len out.old + 36 }
         ensures capacity { vec_capacity out.new ≡ vec_capacity out.old }
     {
         let Some(walker) = &mut self.walker else {
@@ -213,7 +227,7 @@ impl Judge {
         bytes: &[u8],
     ) -> usize
         requires some { 0 < length bytes.now }
-        requires room { vec_len out.old + 32 ≤ vec_capacity out.old }
+        requires room { vec_len out.old + 36 ≤ vec_capacity out.old }
         ensures some { 0 < result }
         ensures within { result ≤ length bytes.now }
         ensures run { (run_of self.new out.new.items)

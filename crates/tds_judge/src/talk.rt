@@ -3,6 +3,7 @@
 ghost use Rattle.std.specs.Prelude.{◌≡◌};
 ghost use Rattle.tds_judge.specs.Talking as talking;
 
+use crate::headers::HeaderFault;
 use tds_wire::{ChangeValue, Done, Features, Token, Told};
 
 /// What a judge goes by.
@@ -62,8 +63,8 @@ pub enum Ending {
 /// What is said on a connection.
 #[derive(Clone, Copy)]
 pub enum Event {
-    /// A packet of this Length, in either direction.
-    Packet(u16),
+    /// A packet of this Length, in either direction; and whether it has to be full.
+    Packet(u16, bool),
     /// A message begins, and the one before has not ended.
     Unfinished,
     /// A request begins, with this status.
@@ -76,6 +77,8 @@ pub enum Event {
     Later(u8),
     /// A request's header names a transaction.
     Names(u64),
+    /// A request's ALL_HEADERS is wrong.
+    Headers(HeaderFault),
     /// A message to the server ends, and is to be ignored.
     Ignored,
     /// A message to the client begins.
@@ -130,6 +133,10 @@ pub struct Talk {
     /// TDS 7.2 or later was shown; or what can only be of an earlier version.
     pub dated: bool,
     pub other: bool,
+    /// A login has begun, and nothing has let the client in.
+    pub entering: bool,
+    /// The answer has told that something of what was asked for was done.
+    pub worked: bool,
 }
 
 impl Reset {
@@ -260,6 +267,20 @@ pub fn is_short(token: &Token) -> bool
         Told::Done(done) => !is_long(done),
         _ => false,
     }
+}
+
+/// Whether a token of this first byte lets a client in (MS-TDS 2.2.7.14).
+pub fn admits(kind: u8) -> bool
+    ensures { result ≡ talking.admits kind }
+{
+    kind == 0xAD
+}
+
+/// Whether it tells that something of a request was done: of columns, or a DONE.
+pub fn shows_work(kind: u8) -> bool
+    ensures { result ≡ talking.shows_work kind }
+{
+    kind == 0x81 || kind == 0xFD || kind == 0xFE || kind == 0xFF
 }
 
 /// Whether a packet is to be ignored and doesn't end its message (MS-TDS 2.2.3.1.2).

@@ -1,14 +1,14 @@
 -- The places of values divide a row.
-use Rattle.std.proofs.Common.{◌≡◌, ◌∙◌, ◌≤◌, ◌<◌, ℕ, zero, suc, ◌+◌, ◌-◌, ◌*◌, ◌==◌, ◌&&◌, ◌||◌, Bool, true, false, List, [], ◌∷◌, length, get_or, drop, if◌then◌else◌, ◌⊎◌, inl, inr, refl, sym, ap, subst, rules, arith}
+use Rattle.std.proofs.Common.{◌≡◌, ◌∙◌, ◌≤◌, ◌<◌, ℕ, zero, suc, ◌+◌, ◌-◌, ◌*◌, ◌==◌, ◌&&◌, Bool, true, false, List, [], ◌∷◌, length, drop, if◌then◌else◌, ◌⊎◌, inl, inr, refl, sym, ap, subst, arith}
 use Rattle.std.proofs.lemmas.Bool.{cases_lt}
 use Rattle.std.proofs.lemmas.List.{drop-drop, length-drop}
 use Rattle.tds_wire.specs.declared.shape.Shape.{Shape}
 use Rattle.tds_wire.specs.declared.shape.Shape.TheVariants as shape
-use Rattle.tds_wire.specs.Layout.{Read, Got, Short, Wrong, ◌>>=◌, four, is_null, long_value, one, parts, run, two, value, value_in_parts}
+use Rattle.tds_wire.specs.Layout.{Read, Got, Short, Wrong, ◌>>=◌, four, is_null, long_value, parts, run, value, value_in_parts}
 use Rattle.tds_rows.specs.declared.place.Place.{Place}
 use Rattle.tds_rows.specs.Laws.{Divides, extent, start_of}
-use Rattle.tds_rows.specs.Places.{value_closing, column_value_at, four_from, is_absent, lead, no_value, null_mark, value_place, values_placed, two_from, value_at}
-use Rattle.tds_rows.proofs.Fronts.{four_got, four_short, run_got, run_short}
+use Rattle.tds_rows.specs.Places.{value_closing, column_value_at, four_from, is_absent, lead, no_value, value_place, values_placed, value_at}
+use Rattle.tds_rows.proofs.Fronts.{run_got, run_short}
 
 -- what is read is so many bytes at the front, of which some at least belong to a value besides its own
 pub record Takes (fewest : ℕ) (bytes left : List ℕ) : Type 0 where

@@ -1,6 +1,7 @@
 -- The values of a row, one column behind the other.
 use Rattle.std.proofs.Common.{◌≡◌, ◌∙◌, ◌≤◌, ◌<◌, ℕ, ◌+◌, ◌-◌, ◌&&◌, Bool, List, [], ◌∷◌, ◌++◌, map, length, take, drop, get_or, refl, sym, ap, arith, append_assoc, Option, subst}
-use Rattle.std.proofs.lemmas.List.{append-nil, drop_all, drop_more, get_or-map, length-drop, length-map, take_rest}
+use Rattle.std.proofs.lemmas.List.{append-nil, drop_all, drop-append-le, drop_more, get_or-map, get_or-take, length-drop, length-map, length-take-le, take_more_set, take_rest}
+use Rattle.std.proofs.Math.ListN.{set}
 use Rattle.tds_wire.specs.declared.shape.Shape.{Shape}
 use Rattle.tds_wire.specs.Layout.{Read, Got, Short, Wrong, ◌>>=◌, is_null}
 use Rattle.tds_wire.specs.Memory.{shape_of}
@@ -98,3 +99,44 @@ pub rest_stands : (skipped : Bool) (at : ℕ) (s : Shape) (bytes : List ℕ) (i 
     → ValueFound (column_value_at skipped at s (take (length bytes - i) (drop i bytes))) (take (length bytes - i) (drop i bytes)) found
     → ValueFound (column_value_at skipped at s (drop i bytes)) (drop i bytes) found
 rest_stands skipped at s bytes i found h = subst (λ (xs : List ℕ). ValueFound (column_value_at skipped at s xs) xs found) (take_rest bytes i) h
+
+-- ---- Before the row has ended
+
+-- the columns up to one, which are there
+as_many_taken : (columns : List RowColumn) (m : ℕ) → m ≤ length columns → length (take m columns) ≡ m
+as_many_taken columns m h = length-take-le m columns h
+
+pub step_of_front : (columns : List RowColumn) (m i : ℕ) (d : RowColumn) (front : List Place) (with_nulls : Bool) (nulls : List ℕ) (at n : ℕ) (p : Place) (bytes : List ℕ) (skipped : Bool)
+    → i < m → m ≤ length columns → skipped ≡ (with_nulls && is_null nulls i)
+    → (n ≤ length bytes) × (column_value_at skipped at (shape_of (get_or columns i d).shape) bytes ≡ Got p (drop n bytes))
+    → with_front front (values_placed with_nulls nulls i (drop i (column_shapes (take m columns))) at bytes)
+    ≡ with_front (front ++ p ∷ []) (values_placed with_nulls nulls (i + 1) (drop (i + 1) (column_shapes (take m columns))) (at + n) (drop n bytes))
+step_of_front columns m i d front with_nulls nulls at n p bytes skipped l le f e =
+    column_step (take m columns) i d front with_nulls nulls at n p bytes skipped (omega (arith, l, as_many_taken columns m le)) f
+    (e.0, ap (λ (c : RowColumn). column_value_at skipped at (shape_of c.shape) bytes) (get_or-take m columns i d l) ∙ e.1)
+
+pub end_of_front : (columns : List RowColumn) (i : ℕ) (front : List Place) (with_nulls : Bool) (nulls : List ℕ) (at : ℕ) (bytes : List ℕ) → i ≤ length columns
+    → with_front front (values_placed with_nulls nulls i (drop i (column_shapes (take i columns))) at bytes) ≡ Got front bytes
+end_of_front columns i front with_nulls nulls at bytes l = columns_end (take i columns) i front with_nulls nulls at bytes (omega (arith, as_many_taken columns i l))
+
+same_shape : (s t : Shape) (xs ys : List Shape) → s ∷ xs ≡ t ∷ ys → s ≡ t
+same_shape s t xs ys e = cc
+
+-- the bytes of the next value end first
+pub next_lacks : (columns : List RowColumn) (i : ℕ) (d : RowColumn) (skipped other : Bool) (at : ℕ) (bytes : List ℕ) (s : Shape) (others : List Shape)
+    → i < length columns → skipped ≡ other → column_value_at skipped at (shape_of (get_or columns i d).shape) bytes ≡ Short → drop i (column_shapes columns) ≡ s ∷ others
+    → column_value_at other at s bytes ≡ Short
+next_lacks columns i d skipped other at bytes s others l o e f =
+    let same : s ≡ shape_of (get_or columns i d).shape = same_shape s _ others (drop (i + 1) (column_shapes columns)) (sym f ∙ shapes_left columns i d l) in
+    ap (λ (b : Bool). column_value_at b at s bytes) (sym o) ∙ (ap (λ (x : Shape). column_value_at skipped at x bytes) same ∙ e)
+
+pub none_next : {A : Type 0} → (columns : List RowColumn) (i : ℕ) (s : Shape) (others : List Shape) → length columns ≤ i → drop i (column_shapes columns) ≡ s ∷ others → A
+none_next columns i s others l e = absurd (let none : drop i (column_shapes columns) ≡ [] = shapes_over columns i l in cc)
+
+-- a place more, behind those from the first one on
+pub front_push : (places : List Place) (first i : ℕ) (p : Place) → first ≤ i → i < length places → drop first (take (i + 1) (set places i p)) ≡ drop first (take i places) ++ p ∷ []
+front_push places first i p l k =
+    ap (drop first) (take_more_set places i p k) ∙ drop-append-le first (take i places) (p ∷ []) (omega (arith, l, length-take-le i places (omega (arith, k))))
+
+pub front_begun : (places : List Place) (first : ℕ) → first ≤ length places → drop first (take first places) ≡ []
+front_begun places first l = drop_all first (take first places) (omega (arith, length-take-le first places l))

@@ -6,3 +6,6 @@ mod Loops
 mod Metadata
 mod Laid
 mod Divided
+mod Listed
+mod Coming
+mod Ending

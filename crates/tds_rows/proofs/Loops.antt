@@ -30,12 +30,12 @@ name_parts_over bytes = refl
 
 -- ---- Tables of keys
 
-bind_bind : {A B C : Type 0} → (r : Read A) (f : A → List ℕ → Read B) (g : B → List ℕ → Read C) → ((r >>= f) >>= g) ≡ (r >>= λ x rest. f x rest >>= g)
+pub bind_bind : {A B C : Type 0} → (r : Read A) (f : A → List ℕ → Read B) (g : B → List ℕ → Read C) → ((r >>= f) >>= g) ≡ (r >>= λ x rest. f x rest >>= g)
 bind_bind (Got x rest) f g = refl
 bind_bind Short f g = refl
 bind_bind (Wrong fault rest) f g = refl
 
-same_bind : {A B : Type 0} → (r : Read A) (f g : A → List ℕ → Read B) → ((x : A) (rest : List ℕ) → f x rest ≡ g x rest) → (r >>= f) ≡ (r >>= g)
+pub same_bind : {A B : Type 0} → (r : Read A) (f g : A → List ℕ → Read B) → ((x : A) (rest : List ℕ) → f x rest ≡ g x rest) → (r >>= f) ≡ (r >>= g)
 same_bind (Got x rest) f g h = h x rest
 same_bind Short f g h = refl
 same_bind (Wrong fault rest) f g h = refl

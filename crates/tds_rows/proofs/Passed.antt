@@ -164,10 +164,10 @@ pointer_cut bytes f l h = pointer_on bytes l f ∙ cut_by bytes h l (cases_lt (l
 
 -- ---- In parts
 
-abbrev behind_length : Bool → List ℕ → Read (Unit {0})
-behind_length absent bytes = if absent then Got tt (drop 8 bytes) else parts (length (drop 8 bytes)) (drop 8 bytes)
+abbrev behind_whole_length : Bool → List ℕ → Read (Unit {0})
+behind_whole_length absent bytes = if absent then Got tt (drop 8 bytes) else parts (length (drop 8 bytes)) (drop 8 bytes)
 
-parts_on : (bytes : List ℕ) → 8 ≤ length bytes → value shape.Parts bytes ≡ behind_length (is_absent shape.Parts bytes) bytes
+parts_on : (bytes : List ℕ) → 8 ≤ length bytes → value shape.Parts bytes ≡ behind_whole_length (is_absent shape.Parts bytes) bytes
 unfolding value
 parts_on bytes l =
     ap (λ (r : Read ℕ). r >>= λ low rest. four rest >>= λ high more. if (low == 4294967295) && (high == 4294967295) then Got tt more else parts (length more) more)
@@ -176,7 +176,7 @@ parts_on bytes l =
     (four_got 4 bytes (omega (arith, l)))
 
 pub parts_null : (bytes : List ℕ) → 8 ≤ length bytes → is_absent shape.Parts bytes ≡ true → value shape.Parts bytes ≡ Got tt (drop 8 bytes)
-parts_null bytes l e = parts_on bytes l ∙ ap (λ (b : Bool). behind_length b bytes) e
+parts_null bytes l e = parts_on bytes l ∙ ap (λ (b : Bool). behind_whole_length b bytes) e
 
 none_by : (bytes : List ℕ) → length bytes < 8 → (length bytes < 4) ⊎ (4 ≤ length bytes) → value_in_parts bytes ≡ Short
 none_by bytes h (inl c) = rw (four_short 0 bytes c) refl
@@ -189,11 +189,11 @@ parts_none bytes h = none_by bytes h (cases_lt (length bytes) 4)
 pub parts_got : (n m : ℕ) (bytes : List ℕ) → 8 ≤ length bytes → is_absent shape.Parts bytes ≡ false → parts (length (drop 8 bytes)) (drop 8 bytes) ≡ Got tt (drop m (drop 8 bytes))
     → n ≡ 8 + m → value shape.Parts bytes ≡ Got tt (drop n bytes)
 parts_got n m bytes l f e k =
-    parts_on bytes l ∙ (ap (λ (b : Bool). behind_length b bytes) f ∙ (e ∙ ap (Got tt) (drop-drop m 8 bytes ∙ ap (λ (i : ℕ). drop i bytes) (sym k))))
+    parts_on bytes l ∙ (ap (λ (b : Bool). behind_whole_length b bytes) f ∙ (e ∙ ap (Got tt) (drop-drop m 8 bytes ∙ ap (λ (i : ℕ). drop i bytes) (sym k))))
 
 pub parts_short : (bytes : List ℕ) → 8 ≤ length bytes → is_absent shape.Parts bytes ≡ false → parts (length (drop 8 bytes)) (drop 8 bytes) ≡ Short
     → value shape.Parts bytes ≡ Short
-parts_short bytes l f e = parts_on bytes l ∙ (ap (λ (b : Bool). behind_length b bytes) f ∙ e)
+parts_short bytes l f e = parts_on bytes l ∙ (ap (λ (b : Bool). behind_whole_length b bytes) f ∙ e)
 
 -- so many parts at most: an empty one, another, or the bytes end
 pub parts_zero : (bytes : List ℕ) → parts 0 bytes ≡ Short

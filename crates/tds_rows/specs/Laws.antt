@@ -1,9 +1,11 @@
 -- How rows stand beside the layout of tds_wire.
-use Rattle.std.specs.Prelude.{◌≡◌, ◌≤◌, ℕ, ◌+◌, ◌/◌, ◌==◌, ◌&&◌, ◌||◌, Bool, true, false, List, [], ◌∷◌, drop, get_or, length, take}
+use Rattle.std.specs.Prelude.{◌≡◌, ◌≤◌, ℕ, ◌+◌, ◌/◌, ◌==◌, ◌&&◌, ◌||◌, Bool, true, false, List, [], ◌∷◌, drop, get_or, length, take, Option, Some, None, ◌⊎◌}
 use Rattle.tds_wire.specs.declared.shape.Shape.{Shape}
-use Rattle.tds_wire.specs.Layout.{Read, Got, ◌>>=◌, Seen, is_null}
+use Rattle.tds_wire.specs.Layout.{Read, Got, ◌>>=◌, Seen, is_null, with_columns}
 use Rattle.tds_rows.specs.declared.place.Place.{Place}
-use Rattle.tds_rows.specs.Places.{value_closing, is_absent, lead}
+use Rattle.tds_rows.specs.declared.place.RowColumn.{RowColumn}
+use Rattle.tds_rows.specs.Finding.{column_shapes}
+use Rattle.tds_rows.specs.Places.{value_closing, is_absent, lead, two_from}
 
 -- the first byte of a ROW, or of an NBCROW
 abbrev pub begins_row : ℕ → Bool
@@ -40,3 +42,15 @@ DividesBehind true shapes bytes found rest =
 
 abbrev pub DividesRow : List Shape → List ℕ → List Place → List ℕ → Type 0
 DividesRow shapes bytes found rest = DividesBehind (get_or bytes 0 0 == 0xD2) shapes bytes found rest
+
+-- The columns that are known behind a COLMETADATA: those that it describes; where it describes none, those from before.
+abbrev pub behind_metadata : Seen → Option (List RowColumn) → Seen
+behind_metadata s None = s
+behind_metadata s (Some columns) = with_columns s (column_shapes columns)
+
+abbrev pub described_as : Seen → Read (Option (List RowColumn)) → Read Seen
+described_as s r = r >>= λ found rest. Got (behind_metadata s found) rest
+
+-- A walk that has room for so many columns has room for those that a COLMETADATA counts.
+abbrev pub HasRoomFor : ℕ → List ℕ → Type 0
+HasRoomFor most bytes = (two_from 1 bytes ≡ 65535) ⊎ (two_from 1 bytes ≤ most)

@@ -5,3 +5,5 @@ pub mod Kinds
 pub mod Columns
 pub mod Finding
 pub mod Laws
+pub mod Pieces
+pub mod Come

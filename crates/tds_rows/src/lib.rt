@@ -3,17 +3,24 @@
 #![tactic(auto)]
 
 mod columns;
+mod come;
 mod fields;
 mod keys;
 mod laws;
 mod numbers;
 mod parts;
+mod pieces;
 mod place;
 mod rows;
 mod types;
 mod values;
 
 pub use columns::columns_of;
-pub use laws::{places_divide_rows, rows_are_those_of_the_layout};
+pub use come::{Come, row_values};
+pub use laws::{
+    columns_are_those_of_the_layout, parts_end_where_the_layout_ends_them, places_divide_rows,
+    rows_are_those_of_the_layout,
+};
+pub use pieces::{PartsReader, Piece};
 pub use place::{Described, Place, RowColumn, RowFault};
 pub use rows::row_places;

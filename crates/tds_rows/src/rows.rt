@@ -25,7 +25,7 @@ fn is_null(nulls: &[u8], column: usize) -> bool
 
 /// The same where a row may have no null bitmap.
 #[inline(always)]
-fn is_skipped(with_nulls: bool, nulls: &[u8], column: usize) -> bool
+pub(crate) fn is_skipped(with_nulls: bool, nulls: &[u8], column: usize) -> bool
     requires { with_nulls ≡ true → column < 8 * length nulls.now }
     ensures { result ≡ (with_nulls && is_null nulls.now column) }
 {

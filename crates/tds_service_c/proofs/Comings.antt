@@ -302,7 +302,7 @@ kept_broken (Refuses refusal) c z fault m = kept_on (part_of (Refuses refusal)) 
 
 -- ---- Where it is found
 
-reading_is : (s : Stage) → is_reading s ≡ true → s ≡ line.Reading
+pub reading_is : (s : Stage) → is_reading s ≡ true → s ≡ line.Reading
 reading_is line.Idle e = absurd (let u : ⊥ = cc in u)
 reading_is (line.Sending begun) e = absurd (let u : ⊥ = cc in u)
 reading_is line.Reading e = refl

@@ -8,3 +8,4 @@ pub mod Arrivals
 pub mod Hearings
 pub mod Leaving
 pub mod Comings
+mod Passing

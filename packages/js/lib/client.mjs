@@ -195,10 +195,21 @@ export class Client {
     return this.hearData(packet.subarray(HEADER), packet[1] & 1);
   }
 
+  /** The same, where nobody wants the tokens: for who reads rows by a reader of his own, and wants the client's state alone. The answer. */
+  follow(packet) {
+    if (packet.length < HEADER) throw new Fault(WANTS_BYTES);
+    return this.#hears(packet.subarray(HEADER), packet[1] & 1, false).answer;
+  }
+
   /** The same of a packet's data, behind its header, or of a piece of them; `ends` is bit 1 of the packet's status, with its last piece. */
   hearData(data, ends) {
-    const value = this.#value, { answer, tokens } = hears((...words) => calls.tds_client_hear(value, ...words), this.walk, data, ends);
+    const { answer, tokens } = this.#hears(data, ends, true);
     return { answer, tokens };
+  }
+
+  #hears(data, ends, tells) {
+    const value = this.#value;
+    return hears((...words) => calls.tds_client_hear(value, ...words), this.walk, data, ends, [], tells);
   }
 
   /** Hears a token that a walk of your own has found, in place of `hear`. Whether the caller that asked is told of it: behind a cancel nobody is. */

@@ -7,7 +7,7 @@ export { Fault, Refused } from "./fault.mjs";
 export { VERSION } from "./library.mjs";
 export { isLetIn, login } from "./login.mjs";
 export { Outgoing } from "./outgoing.mjs";
-export { Columns } from "./rows.mjs";
+export { Columns, Parts } from "./rows.mjs";
 export { Rest, Service } from "./service.mjs";
 export { StrictClient } from "./strict.mjs";
 export { Tells, Walk } from "./wire.mjs";

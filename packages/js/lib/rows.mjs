@@ -6,7 +6,7 @@ import { Fault } from "./fault.mjs";
 // The sizes of the header's structs, and where their fields lie.
 const COLUMN = { size: 40, nameStart: 0, nameLength: 8, most: 16, userType: 20, flags: 24, kind: 26, precision: 27, scale: 28, collation: 29, form: 34 };
 const PLACE = { size: 24, start: 0, length: 8, isNull: 16 };
-const COUNT = 8, CUT = 1, SAME = 2, MOST = 4096, IN_PARTS = 5, WANTS_BYTES = 24;
+const COUNT = 8, PARTS = 16, CUT = 1, SAME = 2, MOST = 4096, IN_PARTS = 5, WANTS_BYTES = 24;
 
 function done(answer) {
   if (answer === CUT) throw new Fault(WANTS_BYTES);
@@ -41,8 +41,8 @@ export class Columns {
 
   constructor(raw, token) {
     this.#count = raw.length / COLUMN.size;
-    // Behind the columns there is room for what is taken of a row, and for its places.
-    this.#at = memory.keep(this, raw.length + COUNT + this.#count * PLACE.size);
+    // Behind the columns there is room for what is taken of a row and what comes next, and for its places.
+    this.#at = memory.keep(this, raw.length + 2 * COUNT + this.#count * PLACE.size);
     memory.bytes(this.#at, raw.length).set(raw);
     const view = new DataView(raw.buffer, raw.byteOffset, raw.length);
     for (let at = 0; at < raw.length; at += COLUMN.size) this.columns.push(columnIn(view, at, token));
@@ -50,14 +50,61 @@ export class Columns {
 
   /** Where each value stands in the row that these bytes begin with, a ROW or an NBCROW: [start, length], or null where it is null. */
   places(row) {
-    const places = this.#at + this.#count * COLUMN.size + COUNT, bytes = memory.lend(row.length), all = [];
+    const places = this.#places(), bytes = memory.lend(row.length);
     memory.bytes(bytes, row.length).set(row);
     done(calls.tds_row_places(
       BigInt(this.#at), BigInt(this.#count), BigInt(bytes), BigInt(row.length), BigInt(places), BigInt(this.#count), BigInt(places - COUNT)));
-    const view = memory.view();
-    for (let index = 0, at = places; index < this.#count; index++, at += PLACE.size)
+    return this.#found(0, this.#count);
+  }
+
+  /**
+   * Of bytes that begin with the value of the column `first` of a row: the places of those values that are whole, as above, and where
+   * the next value begins. `nulls` is the null bitmap of an NBCROW.
+   */
+  come(bytes, first = 0, nulls = new Uint8Array()) {
+    const places = this.#places(), room = memory.lend(nulls.length + bytes.length), next = places - 2 * COUNT;
+    memory.bytes(room, nulls.length).set(nulls);
+    memory.bytes(room + nulls.length, bytes.length).set(bytes);
+    const answer = calls.tds_row_values(
+      BigInt(this.#at), BigInt(this.#count), BigInt(first), BigInt(room), BigInt(nulls.length), BigInt(room + nulls.length),
+      BigInt(bytes.length), BigInt(places), BigInt(this.#count), BigInt(next), BigInt(next + COUNT));
+    if (answer > CUT) throw new Fault(answer);
+    return { places: this.#found(first, memory.count(next)), taken: memory.count(next + COUNT) };
+  }
+
+  #places() {
+    return this.#at + this.#count * COLUMN.size + 2 * COUNT;
+  }
+
+  #found(first, behind) {
+    const view = memory.view(), all = [];
+    for (let index = first, at = this.#places() + first * PLACE.size; index < behind; index++, at += PLACE.size)
       all.push(view.getUint8(at + PLACE.isNull) ? null : [placeAt(view, at), placeAt(view, at + PLACE.length)]);
     return all;
+  }
+}
+
+/** A value in parts as its bytes come, from its first one on. */
+export class Parts {
+  #at = memory.keep(this, PARTS + 3 * COUNT);
+  isOver = false;
+  isNull = false;
+
+  /** Its own bytes among these, a piece for each part, and how many of these belong to the value: all of them, until it is over. */
+  feed(bytes) {
+    const pieces = [], room = memory.lend(bytes.length), counts = this.#at + PARTS;
+    let at = 0;
+    memory.bytes(room, bytes.length).set(bytes);
+    while (!this.isOver && at < bytes.length) {
+      const answer = calls.tds_parts_next(
+        BigInt(this.#at), BigInt(room + at), BigInt(bytes.length - at), BigInt(counts), BigInt(counts + COUNT), BigInt(counts + 2 * COUNT));
+      const start = at + memory.count(counts), count = memory.count(counts + COUNT);
+      if (count) pieces.push(bytes.slice(start, start + count));
+      at += memory.count(counts + 2 * COUNT);
+      this.isOver = answer !== CUT;
+      this.isNull = answer === SAME;
+    }
+    return { pieces, taken: at };
   }
 }
 

@@ -172,12 +172,22 @@ export class Service {
    * ACKNOWLEDGED.
    */
   hear(number, packet) {
+    return this.#hears(number, packet, true);
+  }
+
+  /** The same, where nobody wants the tokens: there are none. */
+  follow(number, packet) {
+    return this.#hears(number, packet, false);
+  }
+
+  #hears(number, packet, tells) {
     const key = id(number);
     this.#seat("tds_service_at", key);
     if (packet.length < HEADER) throw new Fault(WANTS_BYTES);
     const table = [BigInt(this.#at), BigInt(this.#at + TABLE.size), BigInt(this.#most), key];
     const { answer, tokens, at } = hears(
-      (...words) => calls.tds_service_hear(...table, ...words), this.#walkOf(key), packet.subarray(HEADER), packet[1] & 1, [WHOSE_AT]);
+      (...words) => calls.tds_service_hear(...table, ...words), this.#walkOf(key), packet.subarray(HEADER), packet[1] & 1, [WHOSE_AT],
+      tells);
     return { answer, tokens, ...whoseAt(at + WHOSE_AT) };
   }
 

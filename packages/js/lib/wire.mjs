@@ -76,9 +76,10 @@ export class Walk {
 
 /**
  * Hears what ends in these data by this walk: {answer, tokens}. `call` is that of a client or of a table, to which the words behind are
- * handed, for 256 tokens at once; behind them come `more`. A Fault has in `tokens` what was told before it.
+ * handed, for 256 tokens at once; behind them come `more`. A Fault has in `tokens` what was told before it. Where nobody wants the tokens,
+ * there are none.
  */
-export function hears(call, walk, data, ends, more = []) {
+export function hears(call, walk, data, ends, more = [], tells = true) {
   const room = AT_ONCE * WALKED.size, at = memory.lend(2 * COUNT + WHOSE + room + data.length);
   const found = at + 2 * COUNT + WHOSE, bytes = found + room, tokens = [], [value, own] = walk[BOTH];
   const [first, count, taken, most, last] = [BigInt(found), BigInt(at + COUNT), BigInt(at), BigInt(AT_ONCE), Number(ends)];
@@ -87,7 +88,7 @@ export function hears(call, walk, data, ends, more = []) {
   for (let passed = 0, answer = TELL; ;) {
     answer = call(value, own, BigInt(bytes + passed), BigInt(data.length - passed), last, taken, first, most, count, ...behind);
     const view = memory.view();
-    for (let place = 0, all = memory.count(at + COUNT); place < all; place++) tokens.push(walkedIn(view, found + place * WALKED.size));
+    for (let place = 0, all = tells ? memory.count(at + COUNT) : 0; place < all; place++) tokens.push(walkedIn(view, found + place * WALKED.size));
     if (answer !== TELL) {
       if (answer < FIRST_FAULT) return { answer: answer || MORE, tokens, at };
       throw Object.assign(walk.fault(answer), { tokens });

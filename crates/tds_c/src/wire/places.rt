@@ -1,14 +1,19 @@
 //! The columns of a COLMETADATA, and where the values of a row stand.
 
-ghost use Rattle.std.specs.Prelude.{◌≡◌, ◌<◌, ℕ, Err, Result, drop, false, length};
-ghost use Rattle.tds_c.specs.Places.{TellsColumns, TellsRow};
+ghost use Rattle.std.specs.Prelude.{◌≡◌, ◌<◌, ℕ, Err, Result, drop, false, length, take};
+ghost use Rattle.tds_c.specs.Places.{TellsColumns, TellsCome, TellsRow, parts_number};
 ghost use Rattle.tds_walk.specs.Wire.{truth};
+ghost use Rattle.tds_rows.specs.Come.{ValuesCome};
+ghost use Rattle.tds_rows.specs.Pieces.{PartsGoOn, parts_at};
+ghost use Rattle.tds_rows.specs.declared.come.Come.{Come as AnyCome};
 ghost use Rattle.tds_rows.specs.Finding.{Describes, PlacesFound, column_shapes};
 ghost use Rattle.tds_rows.specs.declared.place.Described.{Described as AnyDescribed};
 ghost use Rattle.tds_rows.specs.declared.place.RowFault.{RowFault as AnyFault};
 ghost use Rattle.tds_rows.specs.declared.place.RowFault.TheVariants as faults;
 
-use tds_rows::{Described, Place, RowColumn, RowFault, columns_of, row_places};
+use tds_rows::{
+    Come, Described, PartsReader, Place, RowColumn, RowFault, columns_of, row_places, row_values,
+};
 use tds_wire::Features;
 
 /// The number of what was found of columns.
@@ -90,4 +95,84 @@ pub extern "C" fn tds_row_places(
         × (drop (length columns.now) places.new ≡ drop (length columns.now) places.old) }
 {
     tell_row(row_places(columns, bytes, places), taken)
+}
+
+/// The number of what has come of a row of so many columns.
+fn tell_come(
+    found: Result<Come, RowFault>,
+    columns: usize,
+    next: &mut usize,
+    taken: &mut usize,
+) -> u8
+    ensures { TellsCome found columns result next.new taken.new }
+{
+    match found {
+        Ok(come) => {
+            *next = come.next;
+            *taken = come.taken;
+            if come.next == columns { 0 } else { 1 }
+        }
+        Err(fault) => {
+            *next = 0;
+            *taken = 0;
+            fault.number()
+        }
+    }
+}
+
+/// Where each value stands that is whole, in bytes of a row that begin with the value of the column of this
+/// number, from the first of these bytes on. `nulls` is the null bitmap of an NBCROW, and empty for a ROW. 0
+/// where all values are whole; 1 where that of the column `next` isn't; 72 where there are fewer columns, 74
+/// where there are fewer places, or bits.
+#[unsafe(no_mangle)]
+pub extern "C" fn tds_row_values(
+    columns: &[RowColumn],
+    first: usize,
+    nulls: &[u8],
+    bytes: &[u8],
+    places: &mut [Place],
+    next: &mut usize,
+    taken: &mut usize,
+) -> u8
+    ensures { (found : Result AnyCome AnyFault)
+        × TellsCome found (length columns.now) result next.new taken.new
+        × ValuesCome found columns.now first nulls.now bytes.now places.new
+        × (length places.new ≡ length places.old)
+        × (take first places.new ≡ take first places.old)
+        × (drop (length columns.now) places.new ≡ drop (length columns.now) places.old) }
+{
+    tell_come(
+        row_values(columns, first, nulls, bytes, places),
+        columns.len(),
+        next,
+        taken,
+    )
+}
+
+/// Takes what comes next of a value in parts, from its first byte on, up to the end of a part: `count` bytes of
+/// its own stand at `start`, and `taken` bytes are done with. 0 where it is over, 2 where it is over and null; 1
+/// where there is more to come.
+#[unsafe(no_mangle)]
+pub extern "C" fn tds_parts_next(
+    parts: &mut PartsReader,
+    bytes: &[u8],
+    start: &mut usize,
+    count: &mut usize,
+    taken: &mut usize,
+) -> u8
+    ensures on { PartsGoOn parts.old parts.new bytes.now
+        (record { start = start.new; length = count.new; taken = taken.new }) }
+    ensures answer { result ≡ parts_number (parts_at parts.new) }
+{
+    let piece = parts.next(bytes);
+    *start = piece.start;
+    *count = piece.length;
+    *taken = piece.taken;
+    if parts.is_null() {
+        2
+    } else if parts.is_over() {
+        0
+    } else {
+        1
+    }
 }

@@ -74,8 +74,39 @@ pub(super) fn fail(seat: &mut TdsSeat, refusal: Refusal) -> ListenFault
     fault
 }
 
+/// Whether a token of this sign is told and changes nothing: it says nothing to a session, and the client reads an answer.
+#[inline(always)]
+fn passes_on(seat: &TdsSeat, sign: Sign) -> bool
+    ensures { result ≡ true
+        → (sign ≡ Sign.Nothing) × (is_reading (stage_of seat.now.client) ≡ true) }
+{
+    match sign {
+        Sign::Nothing => seat.may_tell(),
+        Sign::Change(_) => false,
+        Sign::Done { .. } => false,
+    }
+}
+
 /// The seat's client hears the sign of a token. Whether the token is told.
+#[inline(always)]
 fn hear_sign(seat: &mut TdsSeat, sign: Sign) -> Result<bool, ListenFault>
+    ensures ok { IfOk result (λ told. (token : AnyToken)
+        → HeardOn (one_part sign token) seat.old seat.new line.More (told_if told token)) }
+    ensures tells { IfOk result (λ told. (token : AnyToken) → told ≡ true
+        → is_reading (stage_of seat.old.client) ≡ true) }
+    ensures fault { IfErr result (λ fault. (token : AnyToken)
+        → HeardOn (one_part sign token) seat.old seat.new (line.Fault fault) []) }
+{
+    // Most tokens do: a seat is not read out and written back for each of them.
+    if passes_on(seat, sign) {
+        return Ok(true);
+    }
+    hear_other(seat, sign)
+}
+
+/// The same, whatever the token says.
+#[inline(never)]
+fn hear_other(seat: &mut TdsSeat, sign: Sign) -> Result<bool, ListenFault>
     ensures ok { IfOk result (λ told. (token : AnyToken)
         → HeardOn (one_part sign token) seat.old seat.new line.More (told_if told token)) }
     ensures tells { IfOk result (λ told. (token : AnyToken) → told ≡ true

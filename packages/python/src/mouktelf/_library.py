@@ -82,6 +82,12 @@ class ColumnValue(Structure):
     ]
 
 
+class PartsValue(Structure):
+    _fields_ = [
+        ("left", c_uint32), ("stage", c_uint8), ("seen", c_uint8), ("first", c_uint8), ("second", c_uint8), ("third", c_uint8),
+    ]
+
+
 class SeatValue(Structure):
     _fields_ = [
         ("client", ClientValue), ("number", c_uint64), ("holder", c_uint64), ("asked", c_uint64), ("place", c_uint8),
@@ -149,6 +155,10 @@ _CALLS = {
     "tds_tokens_next": (_BYTES, c_size_t, POINTER(Cursor), POINTER(TokenValue), c_size_t, _COUNT),
     "tds_columns": (_BYTES, c_size_t, c_uint8, POINTER(ColumnValue), c_size_t, _COUNT, _COUNT),
     "tds_row_places": (POINTER(ColumnValue), c_size_t, _BYTES, c_size_t, _ROOM, c_size_t, _COUNT),
+    "tds_row_values": (
+        POINTER(ColumnValue), c_size_t, c_size_t, _BYTES, c_size_t, _BYTES, c_size_t, _ROOM, c_size_t, _COUNT, _COUNT,
+    ),
+    "tds_parts_next": (POINTER(PartsValue), _BYTES, c_size_t, _COUNT, _COUNT, _COUNT),
     "tds_service_lease": (*_TABLE, _LENT),
     "tds_service_find": (*_TABLE, c_uint64, _COUNT),
     "tds_service_at": (*_TABLE, c_uint64, _COUNT),

@@ -160,6 +160,17 @@ pub struct RowPlace {
 }
 
 #[repr(C)]
+#[derive(Clone, Copy, Default, PartialEq, Eq, Debug)]
+pub struct Parts {
+    pub left: u32,
+    pub stage: u8,
+    pub seen: u8,
+    pub first: u8,
+    pub second: u8,
+    pub third: u8,
+}
+
+#[repr(C)]
 #[derive(Clone, Copy, Default, Debug)]
 pub struct WireToken {
     pub start: u64,
@@ -209,6 +220,9 @@ extern "C" {
     pub fn tds_wire_restart(walk: &mut Wire, memory: &mut WireMemory) -> u8;
     pub fn tds_columns(bytes: *const u8, length: usize, encryption: u8, columns: *mut Column, room: usize, count: &mut usize, taken: &mut usize) -> u8;
     pub fn tds_row_places(columns: *const Column, count: usize, bytes: *const u8, length: usize, places: *mut RowPlace, room: usize, taken: &mut usize) -> u8;
+    #[allow(clippy::too_many_arguments)]
+    pub fn tds_row_values(columns: *const Column, count: usize, first: usize, nulls: *const u8, bits: usize, bytes: *const u8, length: usize, places: *mut RowPlace, room: usize, next: &mut usize, taken: &mut usize) -> u8;
+    pub fn tds_parts_next(parts: &mut Parts, bytes: *const u8, length: usize, start: &mut usize, count: &mut usize, taken: &mut usize) -> u8;
     #[allow(clippy::too_many_arguments)]
     pub fn tds_client_hear(client: &mut Client, walk: &mut Wire, memory: &mut WireMemory, bytes: *const u8, length: usize, ends: u8, taken: &mut usize, tokens: *mut WireToken, room: usize, count: &mut usize) -> u8;
     #[cfg(feature = "play")]

@@ -62,6 +62,22 @@ impl Columns {
         Ok(taken)
     }
 
+    /// Of bytes that begin with the value of the column `first` of a row, where each value stands that is whole, from the first of these
+    /// bytes on; gives which column's value comes next, and where it begins. `nulls` is the null bitmap of an NBCROW. Those places of
+    /// `places` are written that are these columns'.
+    pub fn come(&self, first: usize, nulls: &[u8], bytes: &[u8], places: &mut Vec<RowPlace>) -> Result<(usize, usize), Fault> {
+        let (mut next, mut taken) = (0, 0);
+        places.resize(self.raw.len(), RowPlace::default());
+        // SAFETY: each pointer and length is that of one slice or vector.
+        let answer = unsafe {
+            raw::tds_row_values(
+                self.raw.as_ptr(), self.raw.len(), first, nulls.as_ptr(), nulls.len(), bytes.as_ptr(), bytes.len(), places.as_mut_ptr(),
+                places.len(), &mut next, &mut taken,
+            )
+        };
+        if answer > 1 { Err(Fault::of(answer)) } else { Ok((next, taken)) }
+    }
+
     /// The values of a row.
     pub fn values(&self, row: &[u8]) -> Result<Vec<Value>, Fault> {
         let mut places = Vec::with_capacity(self.raw.len());
@@ -88,5 +104,32 @@ fn column(it: &raw::Column, token: &[u8]) -> Column {
         is_in_parts: it.shape.form == 5,
         flags: it.flags,
         user_type: it.user_type,
+    }
+}
+
+/// A value in parts as its bytes come, from its first one on.
+#[derive(Clone, Copy, Default, PartialEq, Eq, Debug)]
+pub struct Parts {
+    raw: raw::Parts,
+    answer: Option<u8>,
+}
+
+impl Parts {
+    pub fn is_over(&self) -> bool {
+        matches!(self.answer, Some(0 | 2))
+    }
+
+    pub fn is_null(&self) -> bool {
+        self.answer == Some(2)
+    }
+
+    /// What comes next of it, up to the end of a part: its own bytes among these, and how many of these are done with. Call it again
+    /// with the bytes behind them, until there are none or it is over.
+    pub fn next<'a>(&mut self, bytes: &'a [u8]) -> (&'a [u8], usize) {
+        let (mut start, mut count, mut taken) = (0, 0, 0);
+        // SAFETY: the pointer and the length are that of one slice.
+        let answer = unsafe { raw::tds_parts_next(&mut self.raw, bytes.as_ptr(), bytes.len(), &mut start, &mut count, &mut taken) };
+        self.answer = Some(answer);
+        (&bytes[start..start + count], taken)
     }
 }

@@ -1,6 +1,6 @@
 //! A table of connections that callers share, in front of any server: who holds each one, and what becomes of it.
 
-use crate::streams::{each_room, AT_ONCE};
+use crate::streams::{each_room, Nobody, AT_ONCE};
 use crate::{raw, Cancelled, Client, Fault, MessageKind, Taken, Told, Walk, Walked};
 use std::collections::HashMap;
 use std::mem::take;
@@ -200,17 +200,28 @@ impl Service {
     /// Hears one packet on the connection of this number, whoever holds it, as `Client::hear`: the lease that holds it and its
     /// request, which are told what is appended. A connection that drained is free behind `Acknowledged`.
     pub fn hear(&mut self, number: u64, packet: &[u8], told: &mut Vec<Walked>) -> Result<(Taken, Whose), Fault> {
+        self.hears(number, packet, told)
+    }
+
+    /// The same, where nobody wants the tokens.
+    pub fn follow(&mut self, number: u64, packet: &[u8]) -> Result<(Taken, Whose), Fault> {
+        self.hears(number, packet, &mut Nobody)
+    }
+
+    fn hears(&mut self, number: u64, packet: &[u8], told: &mut impl Extend<Walked>) -> Result<(Taken, Whose), Fault> {
         let (head, data) = packet.split_at(if packet.len() < 8 { return Err(Fault::NoPacket) } else { 8 });
         self.at(number)?;
-        let (before, ends, mut whose) = (told.len(), head[1] & 1, raw::Whose::default());
+        let (mut is_told, ends, mut whose) = (false, head[1] & 1, raw::Whose::default());
         let (value, seats, most, walk) = (&self.value, self.seats.as_mut_ptr(), self.seats.len(), self.walks.entry(number).or_default());
         let taken = each_room(data, told, |data, found, taken, count| {
             // SAFETY: as in `lease`, and of one slice and one array more; walk and memory belong together.
-            unsafe {
+            let answer = unsafe {
                 raw::tds_service_hear(value, seats, most, number, &mut walk.value, &mut walk.memory, data.as_ptr(), data.len(), ends, taken, found.as_mut_ptr(), AT_ONCE, count, &mut whose)
-            }
+            };
+            is_told |= *count > 0;
+            answer
         })?;
-        Ok((taken, whose_of(whose, told.len() > before)))
+        Ok((taken, whose_of(whose, is_told)))
     }
 
     /// The connection of this number, which is new, is logged in, and the login agreed on packets of this size; `walk` is the one

@@ -98,6 +98,13 @@ impl Client {
         self.hear_data(data, head[1] & 1 == 1, told)
     }
 
+    /// The same, where nobody wants the tokens: for who reads rows by a reader of his own, and wants the client's state alone.
+    pub fn follow(&mut self, packet: &[u8]) -> Result<Taken, Fault> {
+        let (head, data) = packet.split_at(if packet.len() < 8 { return Err(Fault::NoPacket) } else { 8 });
+        let walk = self.walk.get_or_insert_with(Walk::default);
+        hears(&mut self.raw, walk, data, head[1] & 1 == 1, &mut Nobody)
+    }
+
     /// The same of a packet's data, behind its header, or of a piece of them; `ends` is bit 1 of the packet's status, with its last
     /// piece.
     pub fn hear_data(&mut self, data: &[u8], ends: bool, told: &mut Vec<Walked>) -> Result<Taken, Fault> {
@@ -118,7 +125,7 @@ impl Client {
 }
 
 /// `Walk::next`, `heard` and `message_ended` in one, for many tokens in one call.
-pub(crate) fn hears(raw: &mut raw::Client, walk: &mut Walk, data: &[u8], ends: bool, told: &mut Vec<Walked>) -> Result<Taken, Fault> {
+pub(crate) fn hears(raw: &mut raw::Client, walk: &mut Walk, data: &[u8], ends: bool, told: &mut impl Extend<Walked>) -> Result<Taken, Fault> {
     each_room(data, told, |data, found, taken, count| {
         // SAFETY: each pointer and length is that of one slice or array; walk and memory belong together.
         unsafe {
@@ -127,8 +134,15 @@ pub(crate) fn hears(raw: &mut raw::Client, walk: &mut Walk, data: &[u8], ends: b
     })
 }
 
+/// Nobody wants the tokens.
+pub(crate) struct Nobody;
+
+impl Extend<Walked> for Nobody {
+    fn extend<T: IntoIterator<Item = Walked>>(&mut self, _: T) {}
+}
+
 /// Hears all of these data by `call`, which has room for so many tokens: what it answers at last.
-pub(crate) fn each_room(mut data: &[u8], told: &mut Vec<Walked>, mut call: impl FnMut(&[u8], &mut [raw::WireToken; AT_ONCE], &mut usize, &mut usize) -> u8) -> Result<Taken, Fault> {
+pub(crate) fn each_room(mut data: &[u8], told: &mut impl Extend<Walked>, mut call: impl FnMut(&[u8], &mut [raw::WireToken; AT_ONCE], &mut usize, &mut usize) -> u8) -> Result<Taken, Fault> {
     let mut found = [raw::WireToken::default(); AT_ONCE];
     loop {
         let (mut taken, mut count) = (0, 0);

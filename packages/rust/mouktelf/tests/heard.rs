@@ -40,6 +40,9 @@ fn all_at_once() {
     assert_eq!(client.hear(&packet(&data), &mut told), Ok(Taken::Finished));
     assert_eq!(told, walked(&data));
     assert_eq!(client.hear(&[4, 1], &mut told), Err(Fault::NoPacket));
+    let mut quiet = asked();
+    assert_eq!((quiet.follow(&packet(&data)), quiet.state()), (Ok(Taken::Finished), State::Idle));
+    assert_eq!(quiet.follow(&[4, 1]), Err(Fault::NoPacket));
 }
 
 /// A peer's fault is a peer's also at a message's end.

@@ -1,7 +1,7 @@
 //! 10,000 random rows of all types: each value as it was made is what its bytes are read as. The bytes are written here, by MS-TDS
 //! 2.2.5.5. (packages/python/test_values.py compares the same with python-tds.)
 
-use mouktelf::rows::Columns;
+use mouktelf::rows::{Columns, Parts};
 use mouktelf::values::{joined_parts, value_of, Day, Decimal, Type, Value};
 
 const ROWS: usize = 10_000;
@@ -199,6 +199,24 @@ fn rows_are_read() {
     assert_eq!(columns.places(&[&row[..], &[0xD1]].concat(), &mut places), Ok(row.len()));
     assert_eq!(places.iter().map(|it| (it.start, it.length, it.null)).collect::<Vec<_>>(), [(2, 4, 0), (8, 2, 0), (18, 12, 0)]);
     assert!(columns.values(&row[..20]).is_err());
+    // Its bytes up to anywhere: the values that are whole, from any column on, and one in parts as it comes.
+    assert_eq!(columns.come(0, &[], &row[1..20], &mut places), Ok((2, 9)));
+    assert_eq!((places[1].start, places[1].length), (7, 2));
+    assert_eq!(columns.come(1, &[], &row[6..], &mut places), Ok((3, 28)));
+    assert_eq!((places[2].start, places[2].length), (12, 12));
+    assert_eq!(columns.come(0, &[6], &[4, 9, 0, 0, 0], &mut places), Ok((3, 5)));
+    assert!(columns.come(4, &[], &row, &mut places).is_err());
+    for size in 1..30 {
+        let (mut parts, mut own, mut at) = (Parts::default(), Vec::new(), 10);
+        while !parts.is_over() {
+            let (piece, taken) = parts.next(&row[at..row.len().min(at + size)]);
+            own.extend(piece);
+            at += taken;
+        }
+        assert_eq!((own, at, parts.is_null()), (vec![0x78, 0, 0x79, 0], row.len(), false));
+    }
+    let mut null = Parts::default();
+    assert_eq!((null.next(&[0xFF; 9]), null.is_over(), null.is_null()), ((&[][..], 8), true, true));
     assert!(Columns::of(&[0x81, 0xFF, 0xFF], false).unwrap().is_none());
 }
 

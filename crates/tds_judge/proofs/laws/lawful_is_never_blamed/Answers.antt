@@ -1,7 +1,8 @@
 use Rattle.tds_judge.specs.Conversation.{seen}
 use Rattle.tds_judge.specs.Framing.{run_of}
 use Rattle.std.proofs.Common.{[]}
-use Rattle.tds_judge.proofs.Lawful.{not_blamed, not_broken}
+use Rattle.tds_judge.proofs.Handing.{not_blamed}
+use Rattle.tds_judge.proofs.Lawful.{not_broken}
 use Rattle.tds_judge.proofs.laws.lawful_is_never_blamed.Goals as goal
 
 pub returns-clause-said : goal.returns-clause-said

@@ -1,4 +1,4 @@
-use Rattle.tds_judge.proofs.Each.{compute_told, direction_told, ignore_told, length_told, size_told, taken_up_told, token_told, unfinished_told, version_told}
+use Rattle.tds_judge.proofs.Each.{before_told, compute_told, direction_told, headers_told, ignore_told, length_told, not_full_told, size_told, taken_up_told, token_told, unfinished_told, version_told}
 use Rattle.tds_judge.proofs.laws.packets_are_told.Goals as goal
 
 pub returns-clause-token : goal.returns-clause-token
@@ -27,3 +27,12 @@ returns-clause-ignore c limits past spot event = ignore_told limits past spot ev
 
 pub returns-clause-direction : goal.returns-clause-direction
 returns-clause-direction c limits past spot event = direction_told limits past spot event
+
+pub returns-clause-headers : goal.returns-clause-headers
+returns-clause-headers c limits past spot event = headers_told limits past spot event
+
+pub returns-clause-full : goal.returns-clause-full
+returns-clause-full c limits past spot event = not_full_told limits past spot event
+
+pub returns-clause-login : goal.returns-clause-login
+returns-clause-login c limits past spot event = before_told limits past spot event

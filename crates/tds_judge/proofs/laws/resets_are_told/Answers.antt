@@ -1,4 +1,4 @@
-use Rattle.tds_judge.proofs.Each.{early_told, later_told, reused_told, told_unasked_told, twice_told, unanswered_told}
+use Rattle.tds_judge.proofs.Each.{early_told, late_told, later_told, reused_told, told_unasked_told, twice_told, unanswered_told}
 use Rattle.tds_judge.proofs.laws.resets_are_told.Goals as goal
 
 pub returns-clause-later : goal.returns-clause-later
@@ -18,3 +18,6 @@ returns-clause-early c limits past spot event = early_told limits past spot even
 
 pub returns-clause-told_unasked : goal.returns-clause-told_unasked
 returns-clause-told_unasked c limits past spot event = told_unasked_told limits past spot event
+
+pub returns-clause-told_late : goal.returns-clause-told_late
+returns-clause-told_late c limits past spot event = late_told limits past spot event

@@ -1,15 +1,8 @@
-use Rattle.std.proofs.Common.{Bool, subst}
-use Rattle.tds_service.specs.Packets.{outcome_answer}
-use Rattle.tds_service.specs.Ties.{Hears}
-use Rattle.tds_service_c.specs.Hearing.{one_part, told_if}
-use Rattle.tds_service_c.specs.Plain.{line_of}
-use Rattle.tds_service_c.proofs.Comings.{may_be_told}
+use Rattle.tds_service_c.proofs.Passing.{passed_on}
 use Rattle.tds_service_c.proofs.packet.listening.hear_sign.Goals as goal
 
-pub returns-in-More-clause-tells : goal.returns-in-More-clause-tells
-returns-in-More-clause-tells c = λ token told.
-    let l = line_of c.args.seat.now in
-    let new = line_of c.hear-heard.result.seat in
-    let answer = outcome_answer c.args.seat.now.asked c.hear-heard.result.outcome in
-    may_be_told (one_part c.args.sign token) l new answer token
-    (subst (λ (b : Bool). Hears (one_part c.args.sign token) l new answer (told_if b token)) told (c.hear-heard.ensures.hears token))
+pub returns-then-passes_on-clause-ok : goal.returns-then-passes_on-clause-ok
+returns-then-passes_on-clause-ok c = λ token. passed_on c.args.seat.now c.args.sign token (c.passes_on.ensures c.if-passes_on.true)
+
+pub returns-then-passes_on-clause-tells : goal.returns-then-passes_on-clause-tells
+returns-then-passes_on-clause-tells c = λ token told. (c.passes_on.ensures c.if-passes_on.true).1

@@ -1,0 +1,15 @@
+use Rattle.std.proofs.Common.{Bool, subst}
+use Rattle.tds_service.specs.Packets.{outcome_answer}
+use Rattle.tds_service.specs.Ties.{Hears}
+use Rattle.tds_service_c.specs.Hearing.{one_part, told_if}
+use Rattle.tds_service_c.specs.Plain.{line_of}
+use Rattle.tds_service_c.proofs.Comings.{may_be_told}
+use Rattle.tds_service_c.proofs.packet.listening.hear_other.Goals as goal
+
+pub returns-in-More-clause-tells : goal.returns-in-More-clause-tells
+returns-in-More-clause-tells c = λ token told.
+    let l = line_of c.args.seat.now in
+    let new = line_of c.hear-heard.result.seat in
+    let answer = outcome_answer c.args.seat.now.asked c.hear-heard.result.outcome in
+    may_be_told (one_part c.args.sign token) l new answer token
+    (subst (λ (b : Bool). Hears (one_part c.args.sign token) l new answer (told_if b token)) told (c.hear-heard.ensures.hears token))
