@@ -1,6 +1,7 @@
 """What users of the DB-API module of packages/python send first: mouktelf_tds_first_hour.py PORT PACED_PORT."""
 import sys
 
+import pytds
 from mouktelf import tds
 
 
@@ -76,6 +77,14 @@ def others():
     print(count, "rows in packets of up to 32767")
 
 
+def bulk():
+    connection = connect()
+    columns = [tds.Column("n", type=pytds.tds_types.IntType()), tds.Column("t", type=pytds.tds_types.NVarCharType(20))]
+    loaded = connection.cursor().copy_to(data=[(1, "one"), (2, None), (3, "three")], table_or_view="t", columns=columns)
+    print("bulk done", loaded.rowcount)
+    ask(connection, "select 4")
+
+
 def sqlalchemy():
     """An ORM's engine over the module's dialect, and over its pool."""
     try:
@@ -98,6 +107,6 @@ def sqlalchemy():
     return print("sqlalchemy:", *told, own.statistics().opened)
 
 
-for part in (queries, parameters, databases, others, sqlalchemy):
+for part in (queries, parameters, databases, others, bulk, sqlalchemy):
     print("=", part.__name__, flush=True)
     part()

@@ -1,79 +1,92 @@
 """Rows of ten types, by python-tds alone and by mouktelf.tds over it, from the same server in another process, which sends bytes that
-lie ready: microseconds of a processor a row, the fewest of some runs, and rows a second by the clock.
+lie ready (ready.go): microseconds of a processor a row, the fewest of some runs, and rows a second by the clock; a query of one row;
+how long a cancel takes, until the next query is answered; and leases of 1,000 threads over 10 connections.
 
-    PYTHONPATH=FOLDER:packages/python python3 bench/languages/dbapi.py     FOLDER has the package, built"""
+    PYTHONPATH=FOLDER python3 bench/languages/dbapi.py PORT     FOLDER has the package, built, and PORT is ready.go's"""
 
-import os
-import signal
-import struct
+import sys
+import threading
 import time
 
 import pytds
-import tds_server
 from mouktelf import tds
 
-ROWS, TURNS, SIZE = 20_000, 5, 4096
-LATIN = "0904D00034"
-# A column's type (MS-TDS 2.2.5.4) and its value.
-TYPES = (
-    ("2604", "0406000000"), ("2608", "08FFFFFFFFFFFFFFFF"), ("6801", "0101"), ("6D08", "08000000000000F83F"),
-    ("6A090A02", "05019D000000"), ("E73C00" + LATIN, "1600" + "something .".encode("utf-16-le").hex()),
-    ("A71E00" + LATIN, "0500" + b"plain".hex()), ("A51000", "0800" + "0102030405060708"), ("28", "03B3470B"),
-    ("2A07", "08" + (432010000000).to_bytes(5, "little").hex() + "B3470B"),
-)
+ROWS, TURNS, QUERIES, CANCELS, CALLERS, LEASES = 20_000, 7, 150, 200, 1_000, 20
 
 
-def answer():
-    """The whole answer, in packets."""
-    columns = b"".join(bytes(4) + b"\x09\0" + bytes.fromhex(it[0]) + b"\1c\0" for it in TYPES)
-    row = b"\xD1" + b"".join(bytes.fromhex(it[1]) for it in TYPES)
-    data = b"\x81" + struct.pack("<H", len(TYPES)) + columns + row * ROWS + tds_server.done(tds_server.COUNT, ROWS)
-    parts = [data[at: at + SIZE - 8] for at in range(0, len(data), SIZE - 8)]
-    return b"".join(tds_server.packet(it, int(it is parts[-1])) for it in parts)
+def fewest(times, each, once):
+    """The least that one of so many turns takes, of a processor and by the clock."""
+    processor = clock = 1e9
+    for _ in range(times):
+        began, since = time.process_time(), time.monotonic()
+        once()
+        processor = min(processor, (time.process_time() - began) / each * 1e6)
+        clock = min(clock, (time.monotonic() - since) / each * 1e6)
+    return processor, clock
 
 
-class Ready(tds_server.Peer):
-    """Answers each request with the same bytes."""
+def given(cursor, text):
+    cursor.execute(text)
+    return cursor.fetchall()
 
-    answer = answer()
 
-    def request(self, kind, status, data):
-        self.link.sendall(self.answer)
+def cancelled(connection):
+    """Microseconds from a cancel, behind the first row of an answer that goes on, to the next query's answer."""
+    took = 0.0
+    for _ in range(CANCELS):
+        cursor = connection.cursor()
+        cursor.execute("endless")
+        cursor.fetchone()
+        since = time.monotonic()
+        cursor.cancel()
+        rows = given(connection.cursor(), "one")
+        took += (time.monotonic() - since) / CANCELS * 1e6
+        assert [tuple(it) for it in rows] == [(1,)], rows
+    return took
 
 
 def measured(name, connect, port):
-    """What one driver takes."""
+    """What one driver takes: of a row, and the first row."""
     connection = connect("127.0.0.1", port=port, user="a", password="b", autocommit=True)
     cursor = connection.cursor()
-    fewest, fastest = 1e9, 0.0
-    for _ in range(TURNS):
-        began, clock = time.process_time(), time.monotonic()
-        cursor.execute("rows")
-        rows = cursor.fetchall()
-        fewest = min(fewest, (time.process_time() - began) / ROWS * 1e6)
-        fastest = max(fastest, ROWS / (time.monotonic() - clock))
-        assert len(rows) == ROWS
-    print(f"{name}: {fewest:.2f} us a row, {fastest:,.0f} rows a second")
-    return fewest, rows[0]
+    rows = given(cursor, "rows")
+    assert len(rows) == ROWS
+    row, by_clock = fewest(TURNS, ROWS, lambda: given(cursor, "rows"))
+    query = fewest(100, QUERIES, lambda: [given(cursor, "one") for _ in range(QUERIES)])
+    print(f"{name}: {row:.2f} us of a processor a row, {1e6 / by_clock:,.0f} rows a second; a query of one row {query[0]:.0f} us, "
+          f"{query[1]:.0f} by the clock; a cancel {cancelled(connection):.0f} us by the clock")
+    return row, rows[0]
 
 
-def main():
-    tds_server.Peer = Ready
-    here, there = os.pipe()
-    child = os.fork()
-    if child == 0:
-        os.write(there, str(tds_server.Server().port).encode())
-        signal.pause()
-    try:
-        port = int(os.read(here, 16))
-        alone, first = measured("python-tds alone", pytds.connect, port)
-        over, same = measured("mouktelf.tds", tds.connect, port)
-        assert tuple(first) == same, (first, same)
-        print(f"{len(TYPES)} types, {ROWS:,} rows: python-tds takes {alone / over:.2f} times as long")
-    finally:
-        os.kill(child, signal.SIGKILL)
-        os.waitpid(child, 0)
+def shared(port):
+    """Leases a second of many threads over ten connections."""
+    wrong = []
+
+    def calls():
+        for _ in range(LEASES):
+            with pool.connection() as connection:
+                if given(connection.cursor(), "one") != [(1,)]:
+                    wrong.append(1)
+
+    threading.stack_size(1 << 18)
+    with tds.Pool("127.0.0.1", port=port, most=10, wait=120, user="a", password="b", autocommit=True) as pool:
+        callers, since = [threading.Thread(target=calls) for _ in range(CALLERS)], time.monotonic()
+        for it in callers:
+            it.start()
+        for it in callers:
+            it.join()
+        took, statistics = time.monotonic() - since, pool.statistics()
+    print(f"mouktelf.tds.Pool: {statistics.leases} leases of {CALLERS} threads over {statistics.opened} connections: "
+          f"{statistics.leases / took:,.0f} a second, {len(wrong)} wrong, the longest wait {statistics.longest_wait:.1f} s")
+
+
+def main(port):
+    alone, first = measured("python-tds alone", pytds.connect, port)
+    over, same = measured("mouktelf.tds", tds.connect, port)
+    assert tuple(first) == same, (first, same)
+    print(f"ten types, {ROWS:,} rows: python-tds takes {alone / over:.2f} times as long")
+    shared(port)
 
 
 if __name__ == "__main__":
-    main()
+    main(int(sys.argv[1]))

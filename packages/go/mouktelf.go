@@ -48,7 +48,8 @@ type Client struct {
 	message []byte
 	kept    []byte // of a message that is put in parts, the room for what waits
 	waiting C.size_t
-	walk    *Walk // by which it hears
+	packet  []byte // the room for a packet that goes out
+	walk    *Walk  // by which it hears
 }
 
 // New makes a client for packets of 512 to 32,767 bytes.
@@ -117,9 +118,17 @@ func (client *Client) StartRollback(next uint8) error {
 
 // Send appends the request's next packet: More or Last.
 func (client *Client) Send(out *[]byte) (Answer, error) {
-	packet, count := make([]byte, client.raw.size), C.size_t(0)
+	packet, count := client.room(), C.size_t(0)
 	answer := C.tds_client_send(&client.raw, at(client.message), C.size_t(len(client.message)), at(packet), C.size_t(len(packet)), &count)
 	return client.wrote(answer, out, packet[:count])
+}
+
+// room is room for a packet.
+func (client *Client) room() []byte {
+	if size := int(client.raw.size); len(client.packet) < size {
+		client.packet = make([]byte, size)
+	}
+	return client.packet[:client.raw.size]
 }
 
 // Cancel cancels the request underway. After Asked, send what was appended.

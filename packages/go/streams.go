@@ -15,7 +15,10 @@ const (
 
 // StartMessage begins a message. Its body comes by Put, and Finish ends it.
 func (client *Client) StartMessage(kind uint8) error {
-	kept := make([]byte, client.raw.size-8)
+	kept, size := client.kept, int(client.raw.size-8)
+	if len(kept) != size {
+		kept = make([]byte, size)
+	}
 	var count C.size_t
 	err := done(C.tds_client_start_message(&client.raw, C.uint8_t(kind), at(kept), C.size_t(len(kept)), &count))
 	if err == nil {
@@ -26,7 +29,7 @@ func (client *Client) StartMessage(kind uint8) error {
 
 // Put puts bytes of the message's body, and appends the packets that are full.
 func (client *Client) Put(bytes []byte, out *[]byte) error {
-	packet := make([]byte, client.raw.size)
+	packet := client.room()
 	for {
 		var taken, count C.size_t
 		answer := C.tds_client_put(&client.raw, at(client.kept), C.size_t(len(client.kept)), &client.waiting,
@@ -41,7 +44,7 @@ func (client *Client) Put(bytes []byte, out *[]byte) error {
 
 // Finish ends the message, and appends its last packet.
 func (client *Client) Finish(out *[]byte) error {
-	packet, count := make([]byte, client.raw.size), C.size_t(0)
+	packet, count := client.room(), C.size_t(0)
 	err := done(C.tds_client_finish(&client.raw, at(client.kept), client.waiting, at(packet), C.size_t(len(packet)), &count))
 	if err == nil {
 		*out = append(*out, packet[:count]...)

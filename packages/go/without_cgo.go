@@ -33215,7 +33215,8 @@ type Client struct {
 	message []byte
 	kept    []byte // of a message that is put in parts, the room for what waits
 	waiting c_size_t
-	walk    *Walk // by which it hears
+	packet  []byte // the room for a packet that goes out
+	walk    *Walk  // by which it hears
 }
 
 // New makes a client for packets of 512 to 32,767 bytes.
@@ -33284,9 +33285,17 @@ func (client *Client) StartRollback(next uint8) error {
 
 // Send appends the request's next packet: More or Last.
 func (client *Client) Send(out *[]byte) (Answer, error) {
-	packet, count := make([]byte, client.raw.size), c_size_t(0)
+	packet, count := client.room(), c_size_t(0)
 	answer := c_tds_client_send(&client.raw, at(client.message), c_size_t(len(client.message)), at(packet), c_size_t(len(packet)), &count)
 	return client.wrote(answer, out, packet[:count])
+}
+
+// room is room for a packet.
+func (client *Client) room() []byte {
+	if size := int(client.raw.size); len(client.packet) < size {
+		client.packet = make([]byte, size)
+	}
+	return client.packet[:client.raw.size]
 }
 
 // Cancel cancels the request underway. After Asked, send what was appended.
@@ -33423,7 +33432,10 @@ const (
 
 // StartMessage begins a message. Its body comes by Put, and Finish ends it.
 func (client *Client) StartMessage(kind uint8) error {
-	kept := make([]byte, client.raw.size-8)
+	kept, size := client.kept, int(client.raw.size-8)
+	if len(kept) != size {
+		kept = make([]byte, size)
+	}
 	var count c_size_t
 	err := done(c_tds_client_start_message(&client.raw, c_uint8_t(kind), at(kept), c_size_t(len(kept)), &count))
 	if err == nil {
@@ -33434,7 +33446,7 @@ func (client *Client) StartMessage(kind uint8) error {
 
 // Put puts bytes of the message's body, and appends the packets that are full.
 func (client *Client) Put(bytes []byte, out *[]byte) error {
-	packet := make([]byte, client.raw.size)
+	packet := client.room()
 	for {
 		var taken, count c_size_t
 		answer := c_tds_client_put(&client.raw, at(client.kept), c_size_t(len(client.kept)), &client.waiting,
@@ -33449,7 +33461,7 @@ func (client *Client) Put(bytes []byte, out *[]byte) error {
 
 // Finish ends the message, and appends its last packet.
 func (client *Client) Finish(out *[]byte) error {
-	packet, count := make([]byte, client.raw.size), c_size_t(0)
+	packet, count := client.room(), c_size_t(0)
 	err := done(c_tds_client_finish(&client.raw, at(client.kept), client.waiting, at(packet), c_size_t(len(packet)), &count))
 	if err == nil {
 		*out = append(*out, packet[:count]...)

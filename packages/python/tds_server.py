@@ -9,7 +9,7 @@ import struct
 import threading
 import time
 
-BATCH, CALL, ATTENTION, TRANSACTION, LOGIN, PRELOGIN = 1, 3, 6, 14, 16, 18
+BATCH, CALL, ATTENTION, BULK, TRANSACTION, LOGIN, PRELOGIN = 1, 3, 6, 7, 14, 16, 18
 MORE, ERROR, COUNT, CANCELLED = 1, 2, 0x10, 0x20
 PATIENCE = 30
 
@@ -92,6 +92,9 @@ class Peer:
     def request(self, kind, status, data):
         if kind == ATTENTION:
             return self.link.sendall(packet(done(CANCELLED)))
+        if kind == BULK:
+            self.server.loaded.append(data)
+            return self.link.sendall(packet(done(COUNT, 2)))
         answer = []
         if status & 0x18:
             self.values.clear()
@@ -181,7 +184,7 @@ class Server:
     `before` is what stands before each transaction request."""
 
     def __init__(self, answers=()):
-        self.answers, self.heard, self.peers, self.before = dict(answers), [], [], []
+        self.answers, self.heard, self.peers, self.before, self.loaded = dict(answers), [], [], [], []
         self.socket = socket.create_server(("127.0.0.1", 0))
         self.port = self.socket.getsockname()[1]
         threading.Thread(target=self.accept, daemon=True).start()

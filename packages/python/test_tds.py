@@ -5,13 +5,14 @@ are by MS-TDS.
 
 import datetime
 import decimal
+import io
 import sys
 import threading
 import time
 import uuid
 
 try:
-    import pytds  # noqa: F401
+    import pytds
 except ImportError:
     print("test_tds: left out: python-tds isn't here")
     sys.exit(0)
@@ -301,7 +302,28 @@ def procedures():
         raises(tds.NotSupportedError, lambda: connect(server, use_mars=True))
 
 
-PARTS = (first_steps, told_errors, spelled, types, transactions, cancels, timeouts, ends_time_out, shared, breaks, procedures)
+def bulk_loads():
+    begins = "INSERT BULK [d].[t]([n] NVARCHAR(4000),[i] INT) WITH (TABLOCK,ORDER(n ASC))"
+    with Server({begins: done(), "INSERT BULK [t]([n] NVARCHAR(4000))": done()}) as server, connect(server) as connection:
+        cursor, columns = connection.cursor(), ("n", tds.Column("i", pytds.tds_types.IntType()))
+        how = dict(table_or_view="t", schema="d", columns=columns, tablock=True, order=["n ASC"])
+        assert cursor.copy_to(data=[("a", 7), (None, -1)], **how).rowcount == 2
+        # Two columns (2.2.7.4): nvarchar(4000), which may be null, and int; a ROW each, and a DONE.
+        assert server.loaded.pop().hex().upper() == (
+            "810200" "00000000" "0100" "E7" "401F" "0904D00034" "01" "6E00" "00000000" "0000" "26" "04" "01" "6900"
+            "D1" "0200" "6100" "04" "07000000" "D1" "FFFF" "04" "FFFFFFFF" "FD" + "00" * 12)
+        # Nothing goes out of a load that can't be spelled, and the connection lives on.
+        asked = len(server.heard)
+        raises(tds.DataError, lambda: cursor.copy_to(data=[("a", "seven")], **how))
+        raises(tds.DataError, lambda: cursor.copy_to(data=[("a",)], **how))
+        raises(tds.NotSupportedError, lambda: cursor.copy_to(data=[], **how, nowhere=True))
+        assert len(server.heard) == asked and not server.loaded
+        assert cursor.copy_to(io.StringIO("a\nNULL\n"), "t", columns=["n"], null_string="NULL").rowcount == 2
+        assert server.loaded.pop().endswith(bytes.fromhex("D102006100D1FFFF") + b"\xFD" + bytes(12))
+        assert cursor.execute("rows 7 1").fetchall() == [(7,)]
+
+
+PARTS = (first_steps, told_errors, spelled, types, transactions, cancels, timeouts, ends_time_out, shared, breaks, procedures, bulk_loads)
 
 
 def run(parts, what):

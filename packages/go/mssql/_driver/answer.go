@@ -10,7 +10,7 @@ import (
 )
 
 // answers hears the answer of the request that is out, and gives the caller what the client tells. Behind the end of the channel the
-// client is idle, or broken, and no cancel of this answer comes any more.
+// client is idle, or broken.
 func (s *session) answers(ctx context.Context, sess *tdsSession, ch chan tokenStruct) {
 	defer close(ch)
 	if s.isHalfSent || s.isIdle() {
@@ -19,10 +19,10 @@ func (s *session) answers(ctx context.Context, sess *tdsSession, ch chan tokenSt
 	}
 	s.looks(func(*tds.Client) { s.isAnswering = true })
 	defer s.looks(func(*tds.Client) { s.isAnswering = false })
-	stop := s.cancelBehind(ctx)
+	over := s.cancelBehind(ctx)
 	to := &teller{sess: sess, ch: ch}
 	answer, err := s.hearAnswer(to)
-	stop()
+	close(over)
 	if err == nil && answer == tds.Acknowledged {
 		err = s.rollBackUntold()
 		if err == nil {

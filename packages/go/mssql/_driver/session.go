@@ -20,6 +20,7 @@ import (
 type session struct {
 	lock        sync.Mutex // of the client and of what stands below it: a cancel comes from another goroutine than the one that reads
 	client      *tds.Client
+	requests    uint64 // how many were asked
 	isAnswering bool   // an answer is given on: its caller has all of it once that is over
 	isTold      bool   // what comes is told: no cancel went out
 	open        uint64 // the transaction that its caller knows of: at a begin, and at the cancel of any other request
@@ -101,6 +102,7 @@ func (s *session) begun(kind packetType, start func(client *tds.Client, out *[]b
 			return errors.New("mssql: a part of a packet has come where nothing was asked")
 		}
 		s.kind, s.isTold, s.open, s.cancelAt = kind, true, client.Descriptor(), time.Time{}
+		s.requests++
 		return nil
 	})
 }
@@ -139,9 +141,12 @@ func (s *session) lost(why error) error {
 	return fmt.Errorf("mssql: the connection is lost: %w", why)
 }
 
-// cancel sends an attention where a request is underway, and one only.
-func (s *session) cancel() error {
+// cancel sends an attention where this request is underway still, and one only: never one for a later request.
+func (s *session) cancel(request uint64) error {
 	return s.asks(func(client *tds.Client, out *[]byte) error {
+		if request != s.requests {
+			return nil
+		}
 		answer, err := client.Cancel(out)
 		if err == nil && answer == tds.Asked {
 			s.isTold, s.cancelAt = false, time.Now()
@@ -153,24 +158,22 @@ func (s *session) cancel() error {
 	})
 }
 
-// cancelBehind cancels where the context ends first. Once what it gives was called, no cancel comes of this any more.
-func (s *session) cancelBehind(ctx context.Context) (stop func()) {
+// cancelBehind cancels the newest request where the context ends before what it gives is closed.
+func (s *session) cancelBehind(ctx context.Context) (over chan struct{}) {
+	over = make(chan struct{})
 	if ctx.Done() == nil {
-		return func() {}
+		return over
 	}
-	over, gone := make(chan struct{}), make(chan struct{})
+	request := uint64(0)
+	s.looks(func(*tds.Client) { request = s.requests })
 	go func() {
-		defer close(gone)
 		select {
 		case <-ctx.Done():
-			s.cancel()
+			s.cancel(request)
 		case <-over:
 		}
 	}()
-	return func() {
-		close(over)
-		<-gone
-	}
+	return over
 }
 
 // rollBack ends the open transaction, and waits for the answer.
@@ -205,7 +208,7 @@ func (s *session) giveUp() {
 		return
 	}
 	s.isHalfSent = false
-	if s.cancel() == nil && !s.isIdle() {
+	if s.cancel(s.requests) == nil && !s.isIdle() {
 		s.hearAnswer(nil)
 	}
 }

@@ -1,13 +1,13 @@
 """The client's end of one connection."""
 
-from ctypes import byref, c_char_p, c_size_t, c_uint8, c_uint16
+from ctypes import byref, c_size_t, c_uint8, c_uint16, string_at
 from enum import IntEnum
 from functools import partial
-from typing import List, NamedTuple, Optional, Tuple
+from typing import Any, List, NamedTuple, Optional, Tuple
 
 from ._library import LIBRARY, ClientValue, Packet
 from .fault import Fault
-from .wire import Tells, Walk, Walked, address_of, hears
+from .wire import Tells, Walk, Walked, from_place, hears
 
 _MESSAGE_MOST = 4022
 _NO_NEXT = 255
@@ -30,6 +30,7 @@ class Answer(IntEnum):
 
 
 Acknowledged = Answer.ACKNOWLEDGED
+_ANSWERS = (None, *Answer)
 
 
 class MessageKind(IntEnum):
@@ -78,6 +79,9 @@ class Client:
         """`walk` is the one that it hears by, where the login acknowledged what a `Walk` has to know."""
         self._value, self._message, self._walk = ClientValue(), b"", walk
         self._kept, self._waiting = (c_uint8 * 1)(), c_size_t()
+        # What calls write to, once for all of them.
+        self._out, self._count, self._taken = (c_uint8 * 16)(), c_size_t(), c_size_t()
+        self._hears = partial(LIBRARY.tds_client_hear, byref(self._value))
         if not 0 <= size <= 0xFFFF:
             raise Fault(23)
         _done(LIBRARY.tds_client_new(size, byref(self._value)))
@@ -121,10 +125,17 @@ class Client:
 
     def send(self) -> Tuple[Answer, bytes]:
         """In sending: the request's next packet, and whether it is the LAST or there are MORE."""
-        room, count = self._value.size, c_size_t()
-        out = (c_uint8 * max(room, 1))()
+        room, out, count = self._room()
         number = _done(LIBRARY.tds_client_send(byref(self._value), self._message, len(self._message), out, room, byref(count)))
-        return Answer(number), bytes(out[: count.value])
+        return Answer(number), string_at(out, count.value)
+
+    def _room(self) -> Tuple[int, Any, c_size_t]:
+        """Room for a packet: how much, where, and where its length is written."""
+        room = self._value.size
+        if len(self._out) < room:
+            self._out = (c_uint8 * room)()
+        self._count.value = 0
+        return room, self._out, self._count
 
     def send_all(self) -> bytes:
         """The packets of the request that are still to go out."""
@@ -136,34 +147,36 @@ class Client:
 
     def cancel(self) -> Tuple[Answer, bytes]:
         """Cancels what is underway. Behind ASKED send the bytes, and hear packets until ACKNOWLEDGED."""
-        out, count = (c_uint8 * 16)(), c_size_t()
+        _, out, count = self._room()
         number = _done(LIBRARY.tds_client_cancel(byref(self._value), out, 16, byref(count)))
-        return Answer(number), bytes(out[: count.value])
+        return Answer(number), string_at(out, count.value)
 
     def start_message(self, kind: MessageKind) -> None:
         """In idle: begins a message that is sent in parts. Its body comes by `put`, and `finish` ends it."""
-        kept, waiting = (c_uint8 * (self._value.size - _HEADER))(), c_size_t()
-        _done(LIBRARY.tds_client_start_message(byref(self._value), kind, kept, len(kept), byref(waiting)))
+        room = self._value.size - _HEADER
+        # A call that is refused writes nothing.
+        kept, waiting = self._kept if len(self._kept) == room else (c_uint8 * room)(), c_size_t()
+        _done(LIBRARY.tds_client_start_message(byref(self._value), kind, kept, room, byref(waiting)))
         self._kept, self._waiting = kept, waiting
 
     def put(self, data: bytes) -> bytes:
         """In sending: puts bytes of the message's body, and gives the packets that are full."""
-        room, packets = self._value.size, b""
-        out, taken, count, answer = (c_uint8 * max(room, 1))(), c_size_t(), c_size_t(), _FULL
+        room, out, count = self._room()
+        taken, packets, answer, at = self._taken, b"", _FULL, 0
         while answer == _FULL:
             answer = _done(LIBRARY.tds_client_put(
-                byref(self._value), self._kept, len(self._kept), byref(self._waiting), data, len(data), byref(taken), out,
-                room, byref(count)))
-            packets += bytes(out[: count.value])
-            data = data[taken.value:]
+                byref(self._value), self._kept, len(self._kept), byref(self._waiting), from_place(data, at), len(data) - at,
+                byref(taken), out, room, byref(count)))
+            if count.value:
+                packets += string_at(out, count.value)
+            at += taken.value
         return packets
 
     def finish(self) -> bytes:
         """Ends the message, and gives its last packet."""
-        room, count = self._value.size, c_size_t()
-        out = (c_uint8 * max(room, 1))()
+        room, out, count = self._room()
         _done(LIBRARY.tds_client_finish(byref(self._value), self._kept, self._waiting, out, room, byref(count)))
-        return bytes(out[: count.value])
+        return string_at(out, count.value)
 
     def heard(self, token: Walked) -> bool:
         """Hears a token that a walk of your own has found, in place of `hear`. Whether the caller that asked is told of it: behind
@@ -214,8 +227,8 @@ class Client:
 
     def _hear(self, data: bytes, at: int, ends: int, tells: bool = True) -> Heard:
         # It is `walk.tokens`, `heard` and `message_ended`, for 256 tokens in one call.
-        answer, told = hears(partial(LIBRARY.tds_client_hear, byref(self._value)), self.walk, data, at, ends, tells=tells)
-        return Heard(Answer(answer), told)
+        answer, told = hears(self._hears, self.walk, data, at, ends, tells=tells)
+        return Heard(_ANSWERS[answer], told)
 
     def message_ended(self) -> Answer:
         """Hears that a message has ended, behind the packet whose status has bit 1: MORE, FINISHED or ACKNOWLEDGED."""
@@ -238,12 +251,12 @@ def packets_of(data: bytes, size: int) -> Tuple[List[bytes], bytes]:
         raise Fault(23)
     data = bytes(data)
     found, packets, count, at = (Packet * 16)(), [], c_size_t(), 0
-    first = address_of(data)
     while True:
-        number = LIBRARY.tds_packets_read(c_char_p(first + at), len(data) - at, size, _TO_CLIENT, found, 16, byref(count))
-        for packet in found[: count.value]:
-            packets.append(data[at: at + packet.length])
-            at += packet.length
+        number = LIBRARY.tds_packets_read(from_place(data, at), len(data) - at, size, _TO_CLIENT, found, 16, byref(count))
+        for place in range(count.value):
+            length = found[place].length
+            packets.append(data[at: at + length])
+            at += length
         if number == _WANTS_BYTES:
             return packets, data[at:]
         _done(number)

@@ -1,15 +1,15 @@
 """A table of connections that callers share, in front of any server: who holds each one, and what becomes of it."""
 
-from ctypes import byref, c_size_t, c_uint8, c_uint64
+from ctypes import byref, c_size_t, c_uint8, c_uint64, string_at
 from dataclasses import dataclass
 from enum import IntEnum
 from functools import partial
-from typing import Dict, List, NamedTuple, Optional, Tuple
+from typing import Any, Dict, List, NamedTuple, Optional, Tuple
 
 from ._library import LIBRARY, AskedValue, ClientValue, LentValue, SeatValue, ServiceValue, WhoseValue, WireToken
 from .client import Answer, Client, MessageKind
 from .fault import Fault
-from .wire import TOKEN, Walk, Walked, hears
+from .wire import TOKEN, Walk, Walked, from_place, hears
 
 _FULL, _TELL, _FIRST_FAULT, _OUT_OF_RANGE, _WANTS_BYTES, _NOT_NOW, _ATTENTION_MOST, _HEADER = 1, 10, 20, 23, 24, 36, 16, 8
 # Where a seat is: lent, being cleaned, kept for a ticket.
@@ -123,37 +123,36 @@ class Service:
 
     def ask(self, lease: int, kind: MessageKind) -> Asked:
         """Begins a request of a lease. Its body comes by `put`, and `finish` ends it."""
-        kept, waiting, asked = (c_uint8 * (self._size(lease) - _HEADER))(), c_size_t(), AskedValue()
+        kept, out, _ = self._kept.get(lease) or self._room(lease)
+        waiting, asked = c_size_t(), AskedValue()
+        # A call that is refused writes nothing.
         self._call(LIBRARY.tds_service_ask, _number(lease), kind, kept, len(kept), byref(waiting), byref(asked))
-        self._kept[lease] = kept, waiting
+        self._kept[lease] = kept, out, waiting
         return Asked(asked.number, asked.request)
+
+    def _room(self, lease: int) -> Tuple[Any, Any, c_size_t]:
+        """Room for a message's packets: for what waits, for a packet, and how much waits."""
+        size = self._seat(LIBRARY.tds_service_find, lease).client.size
+        return (c_uint8 * (size - _HEADER))(), (c_uint8 * size)(), c_size_t()
 
     def put(self, lease: int, data: bytes) -> bytes:
         """Puts bytes of the request's body, and gives the packets that are full."""
-        kept, waiting = self._waits(lease)
-        room, packets, answer = self._size(lease), b"", _FULL
-        out, taken, count = (c_uint8 * room)(), c_size_t(), c_size_t()
+        kept, out, waiting = self._kept.get(lease) or self._room(lease)
+        taken, count, packets, answer, at = c_size_t(), c_size_t(), b"", _FULL, 0
         while answer == _FULL:
-            answer = self._call(LIBRARY.tds_service_put, _number(lease), kept, len(kept), byref(waiting), data, len(data),
-                                byref(taken), out, room, byref(count))
-            packets += bytes(out[: count.value])
-            data = data[taken.value:]
+            answer = self._call(LIBRARY.tds_service_put, _number(lease), kept, len(kept), byref(waiting), from_place(data, at),
+                                len(data) - at, byref(taken), out, len(out), byref(count))
+            if count.value:
+                packets += string_at(out, count.value)
+            at += taken.value
         return packets
 
     def finish(self, lease: int) -> bytes:
         """Ends the request, and gives its last packet."""
-        kept, waiting = self._waits(lease)
-        room, count = self._size(lease), c_size_t()
-        out = (c_uint8 * room)()
-        self._call(LIBRARY.tds_service_finish, _number(lease), kept, waiting, out, room, byref(count))
-        return bytes(out[: count.value])
-
-    def _waits(self, lease: int) -> Tuple:
-        return self._kept.get(lease) or ((c_uint8 * (self._size(lease) - _HEADER))(), c_size_t())
-
-    def _size(self, lease: int) -> int:
-        """The packet size of a lease's connection."""
-        return self._seat(LIBRARY.tds_service_find, lease).client.size
+        kept, out, waiting = self._kept.get(lease) or self._room(lease)
+        count = c_size_t()
+        self._call(LIBRARY.tds_service_finish, _number(lease), kept, waiting, out, len(out), byref(count))
+        return string_at(out, count.value)
 
     def ask_batch(self, lease: int, text: str) -> Tuple[Asked, bytes]:
         """Asks a batch, whole: which request it is, and its packets."""
@@ -293,10 +292,15 @@ class _Held(Client):
         self._service, self._by, self._key = service, call, key
         self._message = b""
         self._kept, self._waiting = (c_uint8 * 1)(), c_size_t()
+        self._out, self._count, self._taken = (c_uint8 * 16)(), c_size_t(), c_size_t()
 
     @property
     def _value(self) -> ClientValue:
         return self._service._seat(self._by, self._key).client
+
+    @property
+    def _hears(self) -> Any:  # type: ignore[override]
+        return partial(LIBRARY.tds_client_hear, byref(self._value))
 
     @property
     def walk(self) -> Walk:

@@ -6,7 +6,7 @@ from ctypes import byref, c_char_p, c_size_t, c_uint8, c_void_p, cast
 from enum import IntEnum
 from functools import partial
 from operator import itemgetter
-from typing import Iterator, List, NamedTuple, Optional, Tuple
+from typing import Any, Iterator, List, NamedTuple, Optional, Tuple
 
 from ._library import LIBRARY, WireMemory, WireWalk
 from .fault import Fault, Refused
@@ -132,11 +132,10 @@ class Walk:
 def hears(call, walk: Walk, data: bytes, at: int, ends: int, *whose, tells: bool = True) -> Tuple[int, List[Walked]]:
     """Lets a client or a table hear what ends in these data from a place on, by this walk and by `call`, in one call for 256 tokens:
     what it answers, and the tokens that are told, unless nobody wants them. A Fault has those that were told before it."""
-    room, told, answer = ROOM, [], _TELL
-    first, value, memory = address_of(data), byref(walk._value), byref(walk._memory)
-    taken, count = byref(room.taken), byref(room.count)
+    room, told, answer, length = ROOM, [], _TELL, len(data)
+    value, memory, taken, count = byref(walk._value), byref(walk._memory), byref(room.taken), byref(room.count)
     while answer == _TELL:
-        answer = call(value, memory, c_char_p(first + at), len(data) - at, ends, taken, room.tokens, AT_ONCE, count, *whose)
+        answer = call(value, memory, from_place(data, at), length - at, ends, taken, room.tokens, AT_ONCE, count, *whose)
         if tells:
             told += room.told(room.count.value)
         at += room.taken.value
@@ -145,6 +144,11 @@ def hears(call, walk: Walk, data: bytes, at: int, ends: int, *whose, tells: bool
     fault = walk.fault(answer)
     fault.tokens = told
     raise fault
+
+
+def from_place(data: bytes, at: int) -> Any:
+    """These bytes from a place on, as a call takes them; whoever asks keeps them."""
+    return c_char_p(address_of(data) + at) if at else data
 
 
 def address_of(data: bytes) -> int:

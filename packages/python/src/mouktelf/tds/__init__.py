@@ -20,7 +20,7 @@ from .errors import (
 )
 from .pool import Pool, Pooled
 from .rows import BINARY, DATETIME, NUMBER, ROWID, STRING
-from .spelling import Binary, default, output
+from .spelling import Binary, Column, default, output
 from .table import Statistics
 
 apilevel, paramstyle = "2.0", "pyformat"
@@ -46,7 +46,7 @@ def TimestampFromTicks(ticks: float) -> _datetime.datetime:
 
 
 __all__ = [
-    "BINARY", "Binary", "Cancelled", "Connection", "ConnectionLost", "Cursor", "DATETIME", "DataError", "DatabaseError", "Date",
+    "BINARY", "Binary", "Cancelled", "Column", "Connection", "ConnectionLost", "Cursor", "DATETIME", "DataError", "DatabaseError", "Date",
     "DateFromTicks", "Error", "IntegrityError", "InterfaceError", "InternalError", "Message", "NUMBER", "NotSupportedError",
     "OperationalError", "Pool", "Pooled", "ProgrammingError", "ROWID", "STRING", "Statistics", "Time", "TimeFromTicks", "TimeoutError",
     "Timestamp", "TimestampFromTicks", "Warning", "apilevel", "connect", "default", "output", "paramstyle", "threadsafety",

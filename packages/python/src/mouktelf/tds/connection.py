@@ -5,7 +5,7 @@ from typing import Any, Iterable, Iterator, List, Optional
 
 from ..client import Client, MessageKind
 from ..outgoing import Outgoing
-from . import errors
+from . import bulk, errors
 from .exchange import COMMIT, ROLL_BACK, Alone, begin
 from .place import Place, Row
 from .session import Session
@@ -150,6 +150,23 @@ class Cursor(Place):
         self._ask(MessageKind.PROCEDURE, self._spelling.procedure(name, parameters))
         self._wait(lambda: False)
         return self._with_outputs(parameters)
+
+    def copy_to(self, file: Any = None, table_or_view: str = "", sep: str = "\t", columns: Any = None, *, data: Any = None,
+                schema: str = "", null_string: Optional[str] = None, **options: Any) -> "Cursor":
+        """Loads the rows of `data`, or of a text with separators, as python-tds's; `rowcount` says how many the server took. A column
+        is a name, for nvarchar(4000), or a `Column`; all of the table's where none is said. The load lies in memory, whole, before
+        anything is sent. Options: check_constraints, fire_triggers, keep_nulls, kb_per_batch, rows_per_batch, order, tablock."""
+        table = (bulk.quoted(schema) + "." if schema else "") + bulk.quoted(table_or_view)
+        with self.connection.session.turn:
+            if not columns:
+                self.execute(f"select top 1 * from {table} where 1<>1")
+                columns = [it[0] for it in self.description or ()]
+            told = bulk.columns_of(columns)
+            body, _ = bulk.body(self._spelling, told, bulk.rows_of(file, sep, null_string) if data is None else data)
+            self.execute(bulk.statement(table, told, options))
+            while self.nextset():
+                pass
+            return self._ask(MessageKind.BULK_LOAD, body)
 
     @property
     def return_value(self) -> Optional[int]:

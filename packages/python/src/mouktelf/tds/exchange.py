@@ -3,7 +3,7 @@ to the answer of the request that asked. Threads and asyncio have the same (`ses
 
 import contextlib
 import time
-from typing import Callable, Iterator, List, Optional, Tuple, Union
+from typing import Callable, List, Optional, Tuple, Union
 
 from ..client import Answer as Did
 from ..client import Client, MessageKind, packets_of
@@ -131,6 +131,34 @@ def _parts(body: bytes) -> List[bytes]:
     return [body[at: at + _PART] for at in range(0, len(body), _PART)]
 
 
+class _Calling:
+    """A block of calls, and of what they give to be written. Where writing fails, or is cut off, the connection is lost."""
+
+    __slots__ = ("_exchange",)
+
+    def __init__(self, exchange: "Exchange") -> None:
+        self._exchange = exchange
+
+    def __enter__(self) -> None:
+        self._exchange.outgoing.__enter__()
+
+    def __exit__(self, kind: Optional[type], *rest: object) -> None:
+        exchange = self._exchange
+        is_whole = kind is None or issubclass(kind, Exception)
+        try:
+            exchange.outgoing.__exit__(kind, *rest)
+        except OSError as why:
+            raise exchange.lost(f"nothing can be sent: {why}") from why
+        except Exception:
+            raise
+        except BaseException:
+            is_whole = False
+            raise
+        finally:
+            if not is_whole:
+                exchange.lost("it was interrupted in the middle of what was to be sent")
+
+
 class Exchange:
     """What is asked on one connection, one request at a time. `current` is the answer that is awaited; `failure` makes the error of
     a connection that is lost. Whoever asks, and whoever takes what comes, is one at a time; `cancel` may be called meanwhile."""
@@ -145,20 +173,6 @@ class Exchange:
         self.owes_rollback = False
         self._size, self._came, self._descriptor = size, b"", 0
 
-    @contextlib.contextmanager
-    def _calling(self) -> Iterator[None]:
-        """A block of calls, and of what they give to be written. Where writing fails, or is cut off, the connection is lost."""
-        try:
-            with self.outgoing:
-                yield
-        except OSError as why:
-            raise self.lost(f"nothing can be sent: {why}") from why
-        except Exception:
-            raise
-        except BaseException:
-            self.lost("it was interrupted in the middle of what was to be sent")
-            raise
-
     def start(self, answer: Answer, kind: MessageKind, body: bytes) -> None:
         """Asks, where nothing is underway: from here on what comes is this answer's."""
         if self.failure:
@@ -166,7 +180,7 @@ class Exchange:
         if self._came:
             raise self.lost("a part of a packet has come where nothing was asked")
         try:
-            with self._calling():
+            with _Calling(self):
                 packets = self.link.ask(kind, body)
                 self.current, answer.is_ended = answer, False
                 self.outgoing.put(packets)
@@ -175,7 +189,7 @@ class Exchange:
 
     def cancel(self, answer: Answer) -> bool:
         """Cancels the request of this answer, where it is underway still: never another one's. From any thread."""
-        with self._calling():
+        with _Calling(self):
             if self.current is not answer or answer.is_cancelled:
                 return False
             attention = self.link.cancel()[1]
@@ -203,7 +217,7 @@ class Exchange:
         try:
             packets, self._came = packets_of(self._came + piece, self._size)
             for packet in packets:
-                with self._calling():
+                with _Calling(self):
                     self._hear(packet)
         except Fault as why:
             error = self.lost(f"the server broke the protocol: {why}")

@@ -15,7 +15,7 @@ try:
 except ImportError as why:
     raise ImportError("mouktelf.tds wants python-tds: pip install python-tds, or Debian's package python3-tds") from why
 
-output, default, Binary = pytds.output, pytds.default, pytds.Binary
+output, default, Binary, Column = pytds.output, pytds.default, pytds.Binary, _tds.tds_base.Column
 _BY_NUMBER, _EXECUTE_SQL = 0xFFFF, 10
 # What python-tds does with cursors, rows and connections of its own.
 _NOT_OURS = ("use_mars", "pooling", "use_tz", "as_dict", "row_strategy")
@@ -108,14 +108,31 @@ class Spelling:
     def _write(self, parameter: Any, into: "_Body") -> None:
         into.write_b_varchar(parameter.column_name)
         into.put_byte(parameter.flags)
+        serializer = self.serializer(parameter)
+        into.put_byte(serializer.type)
+        serializer.write_info(into)
+        self.spelled(serializer, parameter.value, into)
+
+    def serializer(self, column: Any) -> Any:
+        """What writes the values of a column, or of a parameter."""
         collation = self.inner.collation or pytds.collate.raw_collation
+        return column.choose_serializer(type_factory=self.inner.type_factory, collation=collation)
+
+    def spelled(self, serializer: Any, value: Any, into: "_Body") -> None:
+        """Writes a value. DataError where its type can't spell it."""
         try:
-            serializer = parameter.choose_serializer(type_factory=self.inner.type_factory, collation=collation)
-            into.put_byte(serializer.type)
-            serializer.write_info(into)
-            serializer.write(into, parameter.value)
-        except (pytds.Error, ValueError, OverflowError, struct.error) as why:
-            raise errors.DataError(f"a value that its type can't spell: {parameter.value!r}") from why
+            serializer.write(into, value)
+        except (pytds.Error, ValueError, TypeError, AttributeError, OverflowError, struct.error) as why:
+            raise errors.DataError(f"a value that its type can't spell: {value!r}") from why
+
+    def body(self) -> "_Body":
+        """Where what is spelled goes."""
+        return _Body(self.session)
+
+
+def text_column(name: str) -> Any:
+    """A column of nvarchar(4000), which may be null."""
+    return Column(name=name, type=pytds.tds_types.NVarCharType(size=4000), flags=Column.fNullable)
 
 
 class _Body(_tds._TdsWriter):
