@@ -1,5 +1,6 @@
 //! A connection's turn: it reads, does some steps, and sends.
-ghost use Rattle.std.specs.Prelude.{◌≡◌, ◌-◌, ◌<◌, ◌≤◌, ◌↔◌, length, vec_len, IsTrue, IfOk, IfSome};
+ghost use Rattle.std.specs.Prelude.{◌≡◌, ◌-◌, ◌<◌, ◌≤◌, ◌↔◌, length, vec_len};
+ghost use Rattle.std.specs.Prelude.{IsTrue, IfOk, IfSome};
 ghost use Rattle.serve_drivers.specs.declared.connection.TheConstants.{MOST_READ};
 ghost use Rattle.serve_sessions.specs.declared.peer.TheConstants.{MOST_WAITING};
 
@@ -244,7 +245,8 @@ impl Connection {
 
     /// What of a piece stands behind the header, where one is due. None where that is no header.
     fn pass_header<'a>(&mut self, piece: &'a [u8]) -> Result<Option<&'a [u8]>, AllocError>
-        ensures { IfOk result (λ behind. IfSome behind (λ rest. length rest.now ≤ length piece.now)) }
+        ensures { IfOk result (λ behind. IfSome behind (λ rest.
+            length rest.now ≤ length piece.now)) }
     {
         let Some(header) = &mut self.header else {
             return Ok(Some(piece));

@@ -123,12 +123,7 @@ fn parser<'a>(alloc: Global) -> Result<Command<'a>, AllocError> {
         "answers have the shapes of a SQL Server's: more types, null values, orders",
     );
     let parser = parser.arg(real)?;
-    let proxy = flag(
-        alloc,
-        "proxy",
-        "each connection is a proxy's, and begins with a PROXY header, version 2",
-    );
-    let parser = parser.arg(proxy)?;
+    let parser = parser.arg(proxy(alloc))?;
     let until = flag(
         alloc,
         "until-input-ends",
@@ -140,6 +135,14 @@ fn parser<'a>(alloc: Global) -> Result<Command<'a>, AllocError> {
         "let-others-in",
         "listen on an address that isn't this machine's own, and let everybody in who can reach it",
     ))
+}
+
+fn proxy<'a>(alloc: Global) -> Arg<'a> {
+    flag(
+        alloc,
+        "proxy",
+        "each connection is a proxy's, and begins with a PROXY header, version 2",
+    )
 }
 
 fn no_words<'a>(alloc: Global) -> Command<'a> {
