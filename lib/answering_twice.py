@@ -57,7 +57,9 @@ class Twice:
     def answer(self, server, client, asked):
         with contextlib.suppress(OSError):
             for message in messages(server):
-                client.sendall(message * 2 if asked.is_set() else message)
-                asked.clear()
+                if asked.is_set():
+                    asked.clear()
+                    message *= 2
+                client.sendall(message)
         with contextlib.suppress(OSError):
             client.shutdown(socket.SHUT_WR)
