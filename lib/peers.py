@@ -126,6 +126,11 @@ def packet(kind, data, status=1):
     return struct.pack(">BBHHBB", kind, status, len(data) + 8, 0, 1, 0) + data
 
 
+# A header of the PROXY protocol, version 2, by hand: PROXY, TCP over IPv4, twelve bytes: from 192.0.2.7, port 50000, to
+# 198.51.100.1, port 1433.
+PROXY_HEADER = bytes.fromhex("0d0a0d0a000d0a515549540a" "2111000c" "c0000207" "c6336401" "c350" "0599")
+
+
 def prelogin(encryption):
     """PRELOGIN with VERSION and ENCRYPTION (MS-TDS 2.2.6.5)."""
     return packet(0x12, bytes([0, 0, 11, 0, 6, 1, 0, 17, 0, 1, 0xFF]) + bytes(6) + bytes([encryption]))

@@ -11,10 +11,10 @@ import socket
 import struct
 import time
 
-from peers import PATIENCE, batch, connect, message, packet
+from peers import PATIENCE, PROXY_HEADER, batch, connect, message, packet
 from relay_operator import all_of, until
 from relay_servers import DONE, Before
-from relay_told import Relay, error_in, error_packet, let_in, rows
+from relay_told import Relay, error_in, error_packet, let_in, login_of, rows
 
 LATE, LOST = 50108, 50109
 
@@ -162,3 +162,28 @@ def pieces(program, cases, server):
         cases.check("the row comes before", first > 0, first)
         for it in crowd:
             it.close()
+
+
+def proxied(program, cases, server):
+    """Who comes by a proxy is told by the address of the client behind it, however the header is cut."""
+    with Relay(program, server, "--proxy", "127.0.0.1", "--log-json") as relay:
+        link = connect(relay.port)
+        for piece in (PROXY_HEADER[:5], PROXY_HEADER[5:20], PROXY_HEADER[20:] + login_of("web-1", "billing", "anna", "sales")[:3]):
+            link.sendall(piece)
+            time.sleep(0.02)
+        link.sendall(login_of("web-1", "billing", "anna", "sales")[3:])
+        message(link)
+        cases.check("a row behind a proxy", rows(link, 1))
+        cases.check("its address is the client's", "192.0.2.7:50000" in relay.ask("/json")[1].decode())
+        other = connect(relay.port)
+        other.sendall(login_of("web-1"))
+        cases.same("a proxy without a header is closed", all_of(other), b"")
+        link.close()
+        said = [json.loads(it) for it in relay.end()[1].decode().splitlines()]
+        cases.check("the log has the client's address", any(
+            it.get("from") == "192.0.2.7:50000" and "is let in" in it["text"] for it in said), said)
+        cases.check("and why the other one was closed", any("no header of the PROXY protocol" in it["text"] for it in said), said)
+    with Relay(program, server) as relay:
+        link = connect(relay.port)
+        link.sendall(PROXY_HEADER + login_of("web-1"))
+        cases.same("a header that isn't due is no login", all_of(link), b"")

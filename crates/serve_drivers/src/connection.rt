@@ -1,14 +1,17 @@
 //! A connection's turn: it reads, does some steps, and sends.
-ghost use Rattle.std.specs.Prelude.{◌≡◌, ◌-◌, ◌<◌, ◌≤◌, ◌↔◌, length, vec_len, IsTrue};
+ghost use Rattle.std.specs.Prelude.{◌≡◌, ◌-◌, ◌<◌, ◌≤◌, ◌↔◌, length, vec_len};
+ghost use Rattle.std.specs.Prelude.{IsTrue, IfOk, IfSome};
 ghost use Rattle.serve_drivers.specs.declared.connection.TheConstants.{MOST_READ};
 ghost use Rattle.serve_sessions.specs.declared.peer.TheConstants.{MOST_WAITING};
 
+use proxy_header::{HeaderReader, Taken};
 use serve_scripts::Script;
 use serve_sessions::{CROWDED, FULL, MOST_WAITING, Next, Note, Peer};
 use serve_values::Moment;
 use socket_places::Link;
 use std::alloc::{AllocError, Global};
 use std::io::{self, ErrorKind, Read, Write};
+use std::net::SocketAddr;
 use tds_session::OnAttention;
 
 /// How many milliseconds a peer may take nothing while something waits for it, and how many its login may
@@ -25,6 +28,10 @@ const MOST_READ: usize = 4096;
 #[derive(Drop)]
 pub struct Connection {
     stream: Link,
+    /// The header of the PROXY protocol, while it is due.
+    header: Option<HeaderReader>,
+    /// Whom it has named, until that is logged.
+    pub source: Option<SocketAddr>,
     peer: Peer,
     /// Its number, from 1, for the log.
     pub number: u64,
@@ -86,10 +93,13 @@ impl Connection {
         number: u64,
         on_attention: OnAttention,
         is_real: bool,
+        is_proxied: bool,
         now: u64,
     ) -> Result<Connection, AllocError> {
         Ok(Connection {
             stream,
+            header: header_of(alloc, is_proxied),
+            source: None,
             peer: Peer::new(alloc, on_attention, is_real, number),
             number,
             rest: Vec::with_capacity(alloc, MOST_READ)?,
@@ -226,8 +236,31 @@ impl Connection {
         } else {
             return Ok(true);
         };
-        self.take(script, &buffer[..count], now, notes)?;
+        match self.pass_header(&buffer[..count])? {
+            Some(piece) => self.take(script, piece, now, notes)?,
+            None => return Ok(false),
+        }
         Ok(true)
+    }
+
+    /// What of a piece stands behind the header, where one is due. None where that is no header.
+    fn pass_header<'a>(&mut self, piece: &'a [u8]) -> Result<Option<&'a [u8]>, AllocError>
+        ensures { IfOk result (λ behind. IfSome behind (λ rest.
+            length rest.now ≤ length piece.now)) }
+    {
+        let Some(header) = &mut self.header else {
+            return Ok(Some(piece));
+        };
+        let (count, taken) = header.take(piece)?;
+        match taken {
+            Taken::More => Ok(Some(&piece[count..])),
+            Taken::Wrong => Ok(None),
+            Taken::Whole(source) => {
+                self.header = None;
+                self.source = source.address();
+                Ok(Some(&piece[count..]))
+            }
+        }
     }
 
     /// Takes what came, and keeps what can't be taken yet.
@@ -315,4 +348,13 @@ fn is_too_long(most: u64, since: u64, now: u64) -> bool
 /// This, where it is so.
 fn late_where(is_late: bool, late: Late) -> Option<Late> {
     if is_late { Some(late) } else { None }
+}
+
+/// A header that is due of a proxy.
+fn header_of(alloc: Global, is_proxied: bool) -> Option<HeaderReader> {
+    if is_proxied {
+        Some(HeaderReader::new(alloc))
+    } else {
+        None
+    }
 }

@@ -40,6 +40,20 @@ impl<W: Write + Drop> Log<W> {
         let _ = put_opened(&mut self.writer, number, from, words);
     }
 
+    /// A proxy's connection comes for a client at this address.
+    pub fn named(&mut self, number: u64, source: SocketAddr) {
+        let words = match self.style {
+            Style::Off => return,
+            Style::Words => ["connection ", " comes for ", "\n"],
+            Style::Json => [
+                "{\"connection\":",
+                ",\"event\":\"proxied\",\"for\":\"",
+                "\"}\n",
+            ],
+        };
+        let _ = put_opened(&mut self.writer, number, Some(source), words);
+    }
+
     /// This happened on a connection, so many milliseconds behind its newest request.
     pub fn noted(&mut self, number: u64, note: &Note, elapsed: u64) {
         let _ = match self.style {

@@ -42,6 +42,8 @@ pub struct Manner {
     pub silence: u64,
     /// Whether answers have the shapes of a SQL Server's.
     pub is_real: bool,
+    /// Whether each connection begins with who is behind it (the PROXY protocol, version 2).
+    pub is_proxied: bool,
 }
 
 /// A server with all its connections.
@@ -250,6 +252,9 @@ impl<W: Write + Drop> House<W> {
         let paced = self.manner.pace > 0;
         let then = connection.turn(&self.script, paced, now, &mut notes);
         let elapsed = connection.elapsed(now);
+        if let Some(source) = connection.source.take() {
+            self.log.named(number, source);
+        }
         for note in notes.iter() {
             self.log.noted(number, note, elapsed);
         }
@@ -307,7 +312,16 @@ impl<W: Write + Drop> House<W> {
         let number = self.opened;
         let on_attention = self.manner.on_attention;
         let is_real = self.manner.is_real;
-        let made = Connection::new(self.alloc, link, number, on_attention, is_real, now);
+        let is_proxied = self.manner.is_proxied;
+        let made = Connection::new(
+            self.alloc,
+            link,
+            number,
+            on_attention,
+            is_real,
+            is_proxied,
+            now,
+        );
         let Ok(connection) = made else {
             return false;
         };

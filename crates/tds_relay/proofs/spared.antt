@@ -1,8 +1,12 @@
 pub mod Apart
 pub mod Aside
+pub mod Closings
+pub mod Coming
 pub mod Held
 pub mod Letting
+pub mod Lines
 pub mod Ordered
 pub mod Resting
 pub mod Starting
 pub mod Waits
+pub mod Waking

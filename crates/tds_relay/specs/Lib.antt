@@ -5,6 +5,9 @@ pub mod Away
 pub mod Behind
 pub mod Bodies
 pub mod Bounds
+pub mod Bringing
+pub mod Coming
+pub mod Closings
 pub mod Cutting
 pub mod Desk
 pub mod Faults
@@ -26,4 +29,5 @@ pub mod Taking
 pub mod Telling
 pub mod Ties
 pub mod Told
+pub mod Waking
 pub mod Walkers

@@ -1,5 +1,5 @@
 //! An application, as the relay knows it.
-ghost use Rattle.std.specs.Prelude.{◌≡◌, ◌≤◌, ◌-◌, ◌++◌, [], IfOk, None, Some, false, length, true, vec_len};
+ghost use Rattle.std.specs.Prelude.{◌≡◌, ◌≤◌, ◌<◌, ◌-◌, ◌++◌, [], IfOk, None, Some, false, length, true, vec_len};
 ghost use Rattle.tds_relay.specs.declared.application.TheConstants.{MOST_HELD};
 ghost use Rattle.tds_relay.specs.declared.outgoing.TheConstants.{PIECE};
 
@@ -63,7 +63,8 @@ impl Application {
     ghost use Rattle.tds_relay.specs.House.{hears_of_reset, is_said};
     ghost use Rattle.tds_relay.specs.Posts.{tagged, nothing, post_of};
     ghost use Rattle.tds_relay.specs.Told.{own_room, room_to_keep};
-    ghost use Rattle.tds_relay.specs.declared.desk.coming.What.TheVariants.{Goes};
+    ghost use Rattle.tds_relay.specs.Coming.{IsDoneWith};
+    ghost use Rattle.tds_relay.specs.declared.desk.coming.What.TheVariants.{Acknowledged, Goes};
 
     pub(crate) fn new(alloc: Global, tag: usize, size: PacketSize) -> Application
         ensures size { result.out.size ≡ size }
@@ -154,6 +155,8 @@ impl Application {
         ensures end { end_of self.new ≡ end_of self.old }
         ensures body { IfOk result (λ is. is ≡ true → (self.new.is_over ≡ self.old.is_over)
             × (self.new.held.items ≡ self.old.held.items ++ bytes.now)) }
+        ensures long { IfOk result (λ is. is ≡ false
+            → room_to_keep self.old < length bytes.now) }
     {
         if bytes.len() > self.room_to_keep() {
             return Ok(false);
@@ -167,9 +170,22 @@ impl Application {
     pub(crate) fn goes_on(&mut self)
         ensures post { post_of self.new ≡ post_of self.old }
         ensures end { end_of self.new ≡ hears (end_of self.old) }
+        ensures body { (goes : Body)
+            → body_in (Some self.new) goes ≡ body_in (Some self.old) goes }
     {
         if !self.is_withdrawn {
             self.reset = None;
+        }
+    }
+
+    /// What goes on of its request is done. One that waits hasn't been asked, and stays.
+    fn end_request(&mut self)
+        ensures post { post_of self.new ≡ post_of self.old }
+        ensures end { end_of self.new ≡ end_of self.old }
+        ensures body { IsDoneWith (Some self.old) (Some self.new) }
+    {
+        if matches!(self.asking, Asking::Goes) {
+            self.asking = Asking::Nothing;
         }
     }
 
@@ -177,8 +193,9 @@ impl Application {
     pub(crate) fn answered(&mut self)
         ensures post { post_of self.new ≡ post_of self.old }
         ensures end { end_of self.new ≡ move_stage rules.answered (hears (end_of self.old)) }
+        ensures body { IsDoneWith (Some self.old) (Some self.new) }
     {
-        self.asking = Asking::Nothing;
+        self.end_request();
         self.goes_on();
         self.front.answered();
     }
@@ -188,14 +205,17 @@ impl Application {
     pub(crate) fn acknowledged(&mut self) -> bool
         ensures post { post_of self.new ≡ post_of self.old }
         ensures end { end_of self.new ≡ acknowledged (hears (end_of self.old)) }
+        ensures body { IsDoneWith (Some self.old) (Some self.new) }
+        ensures silent { result ≡ true
+            → is_said Acknowledged (Some (end_of self.old)) ≡ false }
     {
         if self.is_withdrawn {
             self.is_withdrawn = false;
             return true;
         }
-        self.asking = Asking::Nothing;
         self.reset = None;
         self.front.acknowledged();
+        self.end_request();
         false
     }
 

@@ -5,6 +5,7 @@ ghost use Rattle.slab.specs.Slab.{get, slab_len};
 ghost use Rattle.tds_relay.specs.Asking.{IsUnderway};
 ghost use Rattle.tds_relay.specs.Bodies.{AskAsBefore, Nowhere, body_of};
 ghost use Rattle.tds_relay.specs.Bounds.{waiting_for};
+ghost use Rattle.tds_relay.specs.Closings.{ClosesOnly, Nobody, register_in};
 ghost use Rattle.tds_relay.specs.Desk.{find_key, find_number, key_of, new_desk};
 ghost use Rattle.tds_relay.specs.Fronts.{Moved, ends_in, hall_in, house_in};
 ghost use Rattle.tds_relay.specs.Hall.{HasNoTransaction, IfOpen, IsAway, IsHere, MayPart, change_end, end_at};
@@ -118,6 +119,7 @@ impl Relay {
         ensures nothing { IfOk result (λ key. (body_of key self.new ≡ Nowhere)
             × (begun_in (get self.new.applications key) ≡ 0)) }
         ensures tells { TellsTheSame self.old self.new }
+        ensures orders { self.new.orders.items ≡ self.old.orders.items }
     {
         let application = Application::new(self.alloc, tag, self.size);
         let Ok(key) = self.applications.insert(application) else {
@@ -228,6 +230,7 @@ impl Relay {
         ensures links { self.new.links.items ≡ self.old.links.items }
         ensures asks { AskAsBefore self.old.applications self.new.applications }
         ensures orders { self.new.orders.items ≡ self.old.orders.items }
+        ensures closes { ClosesOnly Nobody (register_in self.old) (register_in self.new) }
     {
         match self.applications.get_mut(key) {
             Some(application) => application.let_go(),
@@ -273,6 +276,7 @@ impl Relay {
     fn wait(&mut self, key: usize) -> Result<(), NoMemory>
         ensures goes { OnOk result ((by : Cause) → CausesRequest by key
             → Goes by (desk_in self.old.desk) (desk_in self.new.desk)) }
+        ensures orders { self.new.orders.items ≡ self.old.orders.items }
         ensures kept { posts_in self.new.applications ≡ posts_in self.old.applications }
         ensures moves { OnOk result ((by : Cause) → CausesRequest by key
             → Moved by (hall_in self.old) (hall_in self.new)) }
@@ -283,6 +287,7 @@ impl Relay {
         ensures stand { OnOk result (AllStand self.old.desk.service
             self.new.desk.service) }
         ensures body { (other : ℕ) → body_of other self.new ≡ body_of other self.old }
+        ensures closes { ClosesOnly Nobody (register_in self.old) (register_in self.new) }
     {
         if self.is_away(key) {
             self.desk.wait(key)

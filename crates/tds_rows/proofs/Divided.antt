@@ -115,14 +115,14 @@ in_parts_takes u (a ∷ b ∷ c ∷ d ∷ bytes) rest e =
 short_if : (b : Bool) (n : ℕ) (u : Unit {0}) (bytes rest : List ℕ) → (if b then Got tt bytes else run n bytes) ≡ Got u rest → Takes 0 bytes rest
 short_if b n u bytes rest e = long_if b n u bytes rest e
 
-abbrev around : Shape → List ℕ → ℕ
+abbrev pub around : Shape → List ℕ → ℕ
 around s bytes = lead s bytes + value_closing s (is_absent s bytes)
 
 pointer_least : (z : Bool) (n : ℕ) → (if z then 1 else n + 13) + 0 ≤ 1 + (if z then 0 else n + 12)
 pointer_least true n = omega arith
 pointer_least false n = omega arith
 
-value_takes : (s : Shape) (u : Unit {0}) (bytes rest : List ℕ) → value s bytes ≡ Got u rest → Takes (around s bytes) bytes rest
+pub value_takes : (s : Shape) (u : Unit {0}) (bytes rest : List ℕ) → value s bytes ≡ Got u rest → Takes (around s bytes) bytes rest
 unfolding value
 value_takes (shape.Fixed n) u bytes rest e = fewer 0 n bytes rest (omega arith) (run_takes n u bytes rest e)
 value_takes shape.Byte u [] rest e = absurd cc

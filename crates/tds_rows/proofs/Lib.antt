@@ -9,3 +9,4 @@ mod Divided
 mod Listed
 mod Coming
 mod Ending
+mod Staying

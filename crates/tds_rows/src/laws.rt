@@ -1,5 +1,5 @@
 //! What follows from the definitions alone. Each function does nothing when it runs: its contract is the law.
-ghost use Rattle.std.specs.Prelude.{◌≡◌, ◌<◌, ℕ, Bool, List, false, get_or, true};
+ghost use Rattle.std.specs.Prelude.{◌≡◌, ◌<◌, ◌++◌, ℕ, Bool, List, false, get_or, true};
 ghost use Rattle.tds_rows.specs.Columns.{metadata_at};
 ghost use Rattle.tds_rows.specs.Laws.{Divides, HasRoomFor, begins_row, described_as, passed_as};
 ghost use Rattle.tds_rows.specs.Places.{values_placed, placed_row};
@@ -27,6 +27,15 @@ pub fn places_divide_rows()
         (bytes : List ℕ) (found : List AnyPlace) (rest : List ℕ)
         → values_placed with_nulls nulls 0 shapes at bytes ≡ Got found rest
         → Divides with_nulls nulls 0 shapes at bytes found rest }
+{}
+
+/// What is found of a row's first bytes stays, whatever comes behind them: each place is the whole row's.
+pub fn places_stay_as_bytes_come()
+    ensures { (with_nulls : Bool) (nulls : List ℕ) (first : ℕ) (shapes : List AnyShape) (at : ℕ)
+        (bytes more : List ℕ) (found : List AnyPlace) (rest : List ℕ)
+        → values_placed with_nulls nulls first shapes at bytes ≡ Got found rest
+        → values_placed with_nulls nulls first shapes at (bytes ++ more)
+        ≡ Got found (rest ++ more) }
 {}
 
 /// A value in parts is over, byte by byte, where the layout of tds_wire ends it, and not before: in any cutting of its

@@ -19,7 +19,7 @@ pub use columns::columns_of;
 pub use come::{Come, row_values};
 pub use laws::{
     columns_are_those_of_the_layout, parts_end_where_the_layout_ends_them, places_divide_rows,
-    rows_are_those_of_the_layout,
+    places_stay_as_bytes_come, rows_are_those_of_the_layout,
 };
 pub use pieces::{PartsReader, Piece};
 pub use place::{Described, Place, RowColumn, RowFault};

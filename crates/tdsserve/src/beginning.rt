@@ -22,6 +22,7 @@ pub fn begin(rt: &HostRuntime, asked: &Asked) -> Result<(House<Stderr>, Place), 
         pace: asked.pace,
         silence: asked.silence,
         is_real: asked.is_real,
+        is_proxied: asked.is_proxied,
     };
     let script = script_of(rt, asked)?;
     let log = Log::new(rt.stderr(), asked.style);

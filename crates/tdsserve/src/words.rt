@@ -29,6 +29,8 @@ pub struct Asked {
     pub recording: Option<String>,
     /// Whether answers have the shapes of a SQL Server's.
     pub is_real: bool,
+    /// Whether each connection begins with who is behind it.
+    pub is_proxied: bool,
     /// How each connection and each request has a line on standard error.
     pub style: Style,
 }
@@ -45,6 +47,7 @@ pub fn read_words(alloc: Global, words: &[String]) -> Result<Asked, ServeFault> 
         lets_others_in: matches.get_flag("let-others-in"),
         ends_with_input: matches.get_flag("until-input-ends"),
         is_real: matches.get_flag("real"),
+        is_proxied: matches.get_flag("proxy"),
         style: style_of(&matches),
         address: String::from_str(alloc, matches.get_str("ADDRESS").unwrap_or(""))?,
         script: file_of(alloc, &matches, "script")?,
@@ -120,6 +123,7 @@ fn parser<'a>(alloc: Global) -> Result<Command<'a>, AllocError> {
         "answers have the shapes of a SQL Server's: more types, null values, orders",
     );
     let parser = parser.arg(real)?;
+    let parser = parser.arg(proxy(alloc))?;
     let until = flag(
         alloc,
         "until-input-ends",
@@ -131,6 +135,14 @@ fn parser<'a>(alloc: Global) -> Result<Command<'a>, AllocError> {
         "let-others-in",
         "listen on an address that isn't this machine's own, and let everybody in who can reach it",
     ))
+}
+
+fn proxy<'a>(alloc: Global) -> Arg<'a> {
+    flag(
+        alloc,
+        "proxy",
+        "each connection is a proxy's, and begins with a PROXY header, version 2",
+    )
 }
 
 fn no_words<'a>(alloc: Global) -> Command<'a> {

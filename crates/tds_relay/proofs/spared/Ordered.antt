@@ -20,6 +20,10 @@ pub ordered_on : {A E : Type 0} (r : Result A E) (a b c : List Order) → OnOk r
 ordered_on (Ok x) a b c k h = ordered_both a b c h k
 ordered_on (Err e) a b c k h = tt
 
+-- nothing is ordered in between
+pub ordered_more : (a b c d : List Order) → StayOrdered a b → c ≡ b → StayOrdered c d → StayOrdered a d
+ordered_more a b c d h same k = ordered_both a c d (ordered_both a b c h (ordered_same b c same)) k
+
 closing_by : (b : Bool) (x : Order) (all : List Order) → StayOrdered all (if b then all else all ++ x ∷ [])
 closing_by true x all = ordered_refl all
 closing_by false x all = (x ∷ [], refl)
@@ -28,6 +32,11 @@ closing_by false x all = (x ∷ [], refl)
 pub closing_stays : (o : Option Application) (all : List Order) → StayOrdered all (closing o all)
 closing_stays None all = ordered_refl all
 closing_stays (Some a) all = closing_by a.is_over (orders.Close a.tag) all
+
+pub ordered_closed : (o : Option Application) (a b : List Order) → b ≡ closing o a → StayOrdered a b
+ordered_closed o a b is =
+    let x = closing_stays o a in
+    (x.0, is ∙ x.1)
 
 pub ordered_closing : {A E : Type 0} (r : Result A E) (o : Option Application) (a b c : List Order) → OnOk r (c ≡ closing o b) → StayOrdered a b → OnOk r (StayOrdered a c)
 ordered_closing (Ok x) o a b c is h =

@@ -9,14 +9,17 @@ use Rattle.tds_front.specs.declared.front.Said.{Said}
 use Rattle.tds_service.specs.Line.{Packet}
 use Rattle.tds_relay.specs.Desk as desk
 use Rattle.tds_relay.specs.Desk.{Desk}
-use Rattle.tds_relay.specs.Fronts.{ClosesInstead, FedOn, IsFed, LetsGoFirst, Moved, MovedOn, TakesBetween, given_by, hall_of_ends, house_with}
+use Rattle.tds_relay.specs.declared.desk.coming.Heard.{Heard}
+use Rattle.tds_relay.specs.declared.desk.coming.What.{What}
+use Rattle.tds_relay.specs.declared.desk.coming.What.TheVariants as whats
+use Rattle.tds_relay.specs.Fronts.{ClosesInstead, FedOn, IsFed, LetsGoFirst, Moved, MovedOn, TakesBetween, given_by, hall_of_ends, house_with, told_by}
 use Rattle.tds_relay.specs.Hall as hall
-use Rattle.tds_relay.specs.Hall.{End, Ends, Feeds, Hall, IsQuiet, Move, Moves, Open, Over, change_end, closes, closes_for, end_at, ends_behind, goes_on, hands_on, holder, lets_go, moved, moved_all, sent_by, takes_back}
+use Rattle.tds_relay.specs.Hall.{End, Ends, Feeds, Hall, IsQuiet, Move, Moves, Open, Over, change_end, closes, closes_for, end_at, ends_behind, goes_on, hands_on, holder, lets_go, moved, moved_all, sent_by, takes_back, told}
 use Rattle.tds_relay.specs.House.{House, Step, Admits, CausesStep, Hands, Makes, MayAll, Removes, Steps, Takes, Writes, after, after_all, owed, put_some}
 use Rattle.tds_relay.specs.Posts.{Posts, change}
 use Rattle.tds_relay.specs.Promises.{Each}
 use Rattle.tds_relay.specs.Taking.{AreTaken, IsDeaf, Tells, left_by}
-use Rattle.tds_relay.specs.Ties.{Application}
+use Rattle.tds_relay.specs.Ties.{Application, Cause}
 use Rattle.tds_relay.proofs.steps.Fed.{fed_is, left_fed, waits_fed}
 use Rattle.tds_relay.proofs.steps.Fronts.{each_both, moves_closes, no_moves}
 use Rattle.tds_relay.proofs.steps.Slots.{changed_at}
@@ -60,6 +63,12 @@ over_goes : (packets : List Packet) → IsFirm (goes_on packets)
 over_goes [] why = refl
 over_goes (packet ∷ packets) why = refl
 
+over_told : (what : What) → IsFirm (told what)
+over_told whats.Goes why = refl
+over_told whats.Finished why = refl
+over_told whats.Acknowledged why = refl
+over_told whats.Closed why = refl
+
 deaf_moved : (key : ℕ) (h : Hall) (move : Move) → IsQuiet move → IsDeaf (end_at h.ends key) → IsDeaf (end_at (ends_behind h move) key)
 deaf_moved key h (hall.Does event) quiet d = d
 deaf_moved key h (hall.Sends k deed) quiet d = deaf_changed h.ends k key (goes_on (sent_by h.desk (desk.Does k deed))) (over_goes (sent_by h.desk (desk.Does k deed))) d
@@ -78,6 +87,21 @@ deaf_along key h (move ∷ moves) quiet d = deaf_along key (moved h move) moves 
 
 pub deaf_behind : (key : ℕ) (old new : Hall) → Moves (Application key) old new → IsDeaf (end_at old.ends key) → IsDeaf (end_at new.ends key)
 deaf_behind key old new m d = subst (λ (h : Hall). IsDeaf (end_at h.ends key)) m.are (deaf_along key old m.moves m.quiet d)
+
+-- whoever caused them
+pub deaf_led : (by : Cause) (key : ℕ) (old new : Hall) → Moved by old new → IsDeaf (end_at old.ends key) → IsDeaf (end_at new.ends key)
+deaf_led by key old new m d =
+    let x : Moves by old new = m old (no_moves by old) in
+    subst (λ (h : Hall). IsDeaf (end_at h.ends key)) x.are (deaf_along key old x.moves x.quiet d)
+
+pub deaf_led_on : {A E : Type 0} (r : Result A E) (by : Cause) (key : ℕ) (old new : Hall) → OnOk r (Moved by old new) → IsDeaf (end_at old.ends key) → OnOk r (IsDeaf (end_at new.ends key))
+deaf_led_on (Ok x) by key old new m d = deaf_led by key old new m d
+deaf_led_on (Err e) by key old new m d = tt
+
+-- what is heard is told to it
+pub deaf_told : (heard : Option Heard) (key : ℕ) (es : Ends) → IsDeaf (end_at es key) → IsDeaf (end_at (told_by heard es) key)
+deaf_told None key es d = d
+deaf_told (Some heard) key es d = deaf_whose es heard.key key (told heard.what) (over_told heard.what) d
 
 -- where it lets its connection go first
 pub lets_go_deaf : (key : ℕ) (d : Desk) (es : Ends) (new : Hall) → IsDeaf (end_at es key) → LetsGoFirst key (hall_of_ends d es) new → IsDeaf (end_at new.ends key)

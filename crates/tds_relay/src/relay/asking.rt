@@ -1,11 +1,13 @@
 //! What applications say: requests, and cancels.
-ghost use Rattle.std.specs.Prelude.{◌≡◌, [], Bool, IfOk, IfSome, OnOk, Some, drop, false, true};
+ghost use Rattle.std.specs.Prelude.{◌≡◌, [], Bool, IfNone, IfOk, IfSome, OnOk, Some, drop, false, true};
 ghost use Rattle.slab.specs.Slab.{get};
 ghost use Rattle.tds_relay.specs.Asking.{Asks, AsksOn, IfAsks, IsUnderway, waits_of};
 ghost use Rattle.tds_client.specs.Streams.{packets_are};
 ghost use Rattle.tds_packet.specs.declared.status.Reset.TheVariants.{KeepTransaction};
 ghost use Rattle.tds_relay.specs.Bodies.{Begins, Body, Carries, CarriesOn, Grows, Obeys, Starts};
 ghost use Rattle.tds_relay.specs.Bodies.{body_of, last_of};
+ghost use Rattle.tds_relay.specs.Closings.{ClosesOnly, IsNoRequest, Itself, ItselfOrWaiting};
+ghost use Rattle.tds_relay.specs.Closings.{register_in};
 ghost use Rattle.tds_relay.specs.Fronts.{FedOn, Moved, ends_in, given_by, hall_in, house_in};
 ghost use Rattle.tds_relay.specs.Hall.{AsksFor, AsksToPart, IfAsked, end_at};
 ghost use Rattle.tds_relay.specs.House.{Steps};
@@ -44,6 +46,9 @@ impl Relay {
         ensures carries { IsReached (desk_in self.old.desk) → OnOk result (Carries key
             (house_in self.old) piece.now [] (body_of key self.old) (body_of key self.new)
             (house_in self.new)) }
+        ensures closes { OnOk result (ClosesOnly
+            (ItselfOrWaiting key (desk_in self.old.desk).line)
+            (register_in self.old) (register_in self.new)) }
     {
         self.take_all(key, piece)?;
         self.serve_line()
@@ -65,6 +70,8 @@ impl Relay {
             self.new.desk.service) }
         ensures carries { OnOk result (Carries key (house_in self.old) piece.now []
             (body_of key self.old) (body_of key self.new) (house_in self.new)) }
+        ensures closes { OnOk result (ClosesOnly (Itself key)
+            (register_in self.old) (register_in self.new)) }
     {
         let mut rest = piece;
         'taking: for _ in 0..=piece.len() {
@@ -93,6 +100,8 @@ impl Relay {
             self.new.desk.service) }
         ensures carries { IfOk result (λ count. CarriesOn key piece.now (drop count piece.now)
             (body_of key self.old) (body_of key self.new) (house_in self.old) (house_in self.new)) }
+        ensures closes { OnOk result (ClosesOnly (Itself key)
+            (register_in self.old) (register_in self.new)) }
     {
         let Some(application) = self.applications.get_mut(key) else {
             return Ok(piece.len());
@@ -127,6 +136,8 @@ impl Relay {
             self.new.desk.service) }
         ensures body { OnOk result (Obeys said bytes.now (body_of key self.old)
             (body_of key self.new)) }
+        ensures closes { OnOk result (ClosesOnly (Itself key)
+            (register_in self.old) (register_in self.new)) }
     {
         bytes_are_packets();
         match said {
@@ -162,6 +173,8 @@ impl Relay {
             self.new.desk.service) }
         ensures body { OnOk result ((mid : Body) × Begins kind mid
             × Starts mid (body_of key self.new)) }
+        ensures closes { OnOk result (ClosesOnly (Itself key)
+            (register_in self.old) (register_in self.new)) }
     {
         let Some(application) = self.applications.get_mut(key) else {
             return Ok(());
@@ -202,6 +215,8 @@ impl Relay {
         ensures stand { OnOk result (AllStand self.old.desk.service
             self.new.desk.service) }
         ensures body { OnOk result (Starts (body_of key self.old) (body_of key self.new)) }
+        ensures closes { OnOk result (ClosesOnly (Itself key)
+            (register_in self.old) (register_in self.new)) }
     {
         match self.desk.hold_of(key) {
             Some(_) => self.start_kept(key),
@@ -244,6 +259,8 @@ impl Relay {
             self.new.desk.service) }
         ensures body { (whole : Bool) → waits_of (get self.old.applications key) ≡ Some whole
             → OnOk result (Starts (body_of key self.old) (body_of key self.new)) }
+        ensures closes { OnOk result (ClosesOnly (Itself key)
+            (register_in self.old) (register_in self.new)) }
     {
         if !self.has_nothing_out(key) {
             return self.expel(key);
@@ -272,6 +289,8 @@ impl Relay {
             self.new.desk.service) }
         ensures body { (whole : Bool) → waits_of (get self.old.applications key) ≡ Some whole
             → OnOk result (Starts (body_of key self.old) (body_of key self.new)) }
+        ensures closes { OnOk result (ClosesOnly (Itself key)
+            (register_in self.old) (register_in self.new)) }
     {
         match self.desk.renew(key)? {
             Renewed::Kept(hold) => {
@@ -306,6 +325,8 @@ impl Relay {
         ensures body { OnOk result ((mid : Body)
             × Grows whole bytes.now (body_of key self.old) mid
             × Starts mid (body_of key self.new)) }
+        ensures closes { OnOk result (ClosesOnly (Itself key)
+            (register_in self.old) (register_in self.new)) }
     {
         let Some(application) = self.applications.get_mut(key) else {
             return Ok(());
@@ -346,7 +367,8 @@ fn last(bytes: &[u8], count: usize) -> &[u8]
 
 /// The request that packets of this type are.
 fn message_kind(kind: Kind) -> Option<MessageKind>
-    ensures { IfSome result (λ message. packets_are message ≡ kind) }
+    ensures is { IfSome result (λ message. packets_are message ≡ kind) }
+    ensures none { IfNone result (IsNoRequest kind) }
 {
     match kind {
         Kind::Batch => Some(MessageKind::Batch),

@@ -1,17 +1,22 @@
 //! What comes on connections.
-ghost use Rattle.std.specs.Prelude.{◌≡◌, ◌+◌, ◌&&◌, not, None, Some, drop, false, length, true, IfOk, IsNone, OnOk};
+ghost use Rattle.std.specs.Prelude.{◌≡◌, ◌+◌, ◌&&◌, ℕ, not, None, Some, drop, false, length, true};
+ghost use Rattle.std.specs.Prelude.{IfOk, IsNone, OnOk};
 ghost use Rattle.tds_service.specs.Table.{reading_on};
+ghost use Rattle.tds_relay.specs.Bodies.{AskAsBefore, Body, body_in};
+ghost use Rattle.tds_relay.specs.Coming.{AllAlong, MayBeDone};
 ghost use Rattle.tds_relay.specs.Faults.{IsHeaderOf};
 ghost use Rattle.tds_relay.specs.Fronts.{Moved, end_of, ends_in, hall_in, hall_of_ends, told_by, house_in, house_of};
 ghost use Rattle.tds_relay.specs.Fronts.{house_with};
-ghost use Rattle.tds_relay.specs.Hall.{change_end, change_whose, told};
+ghost use Rattle.tds_relay.specs.Hall.{change_end, change_whose, end_at, told};
 ghost use Rattle.tds_relay.specs.Handing.{Brings, HearsBy, Passes, news_for, fed};
-ghost use Rattle.tds_relay.specs.House.{Steps};
+ghost use Rattle.tds_relay.specs.House.{Steps, is_said};
 ghost use Rattle.tds_relay.specs.Posts.{names_in, post_of, posts_in};
 ghost use Rattle.tds_relay.specs.Reads.{Comes, Continues, OpensOthers, Stays, StreamsAll, if_heard, open_at};
 ghost use Rattle.tds_relay.specs.Reads.{reader_at};
 ghost use Rattle.tds_relay.specs.Bounds.{IsRoom};
-ghost use Rattle.tds_relay.specs.Ties.{Connection, Goes, NobodyWaits, desk_in};
+ghost use Rattle.tds_relay.specs.Ordering.{StayOrdered};
+ghost use Rattle.tds_relay.specs.Ties.{Connection, Goes, IsReached, NobodyWaits, desk_in};
+ghost use Rattle.tds_relay.specs.Waking.{HandsTo, IsWoken, PutsFor, Wakes};
 ghost use Rattle.tds_relay.specs.Walkers.{AllStand, HasRead, ReadsBy};
 ghost use Rattle.tds_relay.specs.declared.desk.coming.What.TheVariants as whats;
 
@@ -42,6 +47,11 @@ impl Relay {
             (open_at number self.new.links.items) (house_in self.new) self.new.desk.service) }
         ensures others { OnOk result (OpensOthers number
             self.old.links.items self.new.links.items) }
+        ensures bodies { IsReached (desk_in self.old.desk)
+            → OnOk result (AllAlong self.old self.new) }
+        ensures ordered { OnOk result (StayOrdered self.old.orders.items self.new.orders.items) }
+        ensures wakes { OnOk result (Wakes (posts_in self.old.applications)
+            self.new.applications self.new.orders.items) }
     {
         self.hear_all(number, piece)?;
         self.serve_line()
@@ -58,6 +68,11 @@ impl Relay {
             (open_at number self.new.links.items) (house_in self.new) self.new.desk.service) }
         ensures others { OnOk result (OpensOthers number
             self.old.links.items self.new.links.items) }
+        ensures bodies { IsReached (desk_in self.old.desk)
+            → OnOk result (AllAlong self.old self.new) }
+        ensures ordered { OnOk result (StayOrdered self.old.orders.items self.new.orders.items) }
+        ensures wakes { OnOk result (Wakes (posts_in self.old.applications)
+            self.new.applications self.new.orders.items) }
     {
         let mut rest = piece;
         'taking: for _ in 0..=piece.len() {
@@ -88,6 +103,10 @@ impl Relay {
             self.new.desk.service) }
         ensures others { OnOk result (OpensOthers number
             self.old.links.items self.new.links.items) }
+        ensures asks { OnOk result (AskAsBefore self.old.applications self.new.applications) }
+        ensures orders { self.new.orders.items ≡ self.old.orders.items }
+        ensures puts { IfOk result (λ heard. PutsFor heard.1 (ends_in self.old.applications)
+            (posts_in self.old.applications) (posts_in self.new.applications)) }
     {
         let Relay {
             desk,
@@ -121,6 +140,11 @@ impl Relay {
         ensures gone { IsNone heard → OnOk result (reader_at number self.new.links.items ≡ None) }
         ensures stand { OnOk result (AllStand self.old.desk.service
             self.new.desk.service) }
+        ensures bodies { IsReached (desk_in self.old.desk)
+            → OnOk result (AllAlong self.old self.new) }
+        ensures ordered { OnOk result (StayOrdered self.old.orders.items self.new.orders.items) }
+        ensures wakes { OnOk result ((key : ℕ) → HandsTo heard key (ends_in self.old.applications)
+            → IsWoken key self.new.applications self.new.orders.items) }
     {
         let Some(heard) = heard else {
             return self.lose(number);
@@ -157,6 +181,10 @@ impl Relay {
         ensures ends { OnOk result (ends_in self.new.applications
             ≡ change_whose heard.key (told heard.what) (ends_in self.old.applications)) }
         ensures read { OnOk result (Stays self.old.links.items self.new.links.items) }
+        ensures asks { OnOk result (MayBeDone self.old.applications self.new.applications) }
+        ensures ordered { OnOk result (StayOrdered self.old.orders.items self.new.orders.items) }
+        ensures silent { IfOk result (λ resumes. resumes ≡ true → (key : ℕ)
+            → ¬ HandsTo (Some heard) key (ends_in self.old.applications)) }
     {
         let Some(key) = heard.key else {
             return Ok(false);
@@ -185,6 +213,8 @@ impl Relay {
         ensures ends { ends_in self.new.applications
             ≡ change_end key (told whats.Goes) (ends_in self.old.applications) }
         ensures links { self.new.links.items ≡ self.old.links.items }
+        ensures orders { self.new.orders.items ≡ self.old.orders.items }
+        ensures asks { AskAsBefore self.old.applications self.new.applications }
     {
         match self.applications.get_mut(key) {
             Some(application) => application.goes_on(),
@@ -199,6 +229,8 @@ impl Relay {
         ensures ends { ends_in self.new.applications
             ≡ change_end key (told whats.Finished) (ends_in self.old.applications) }
         ensures links { self.new.links.items ≡ self.old.links.items }
+        ensures orders { self.new.orders.items ≡ self.old.orders.items }
+        ensures asks { MayBeDone self.old.applications self.new.applications }
     {
         match self.applications.get_mut(key) {
             Some(application) => application.answered(),
@@ -213,6 +245,10 @@ impl Relay {
         ensures ends { ends_in self.new.applications
             ≡ change_end key (told whats.Acknowledged) (ends_in self.old.applications) }
         ensures links { self.new.links.items ≡ self.old.links.items }
+        ensures orders { self.new.orders.items ≡ self.old.orders.items }
+        ensures asks { MayBeDone self.old.applications self.new.applications }
+        ensures silent { result ≡ true
+            → is_said whats.Acknowledged (end_at (ends_in self.old.applications) key) ≡ false }
     {
         match self.applications.get_mut(key) {
             Some(application) => application.acknowledged(),
@@ -251,6 +287,9 @@ fn hear_on(
     ensures out { link.new.out ≡ link.old.out }
     ensures tag { link.new.tag ≡ link.old.tag }
     ensures ends { OnOk result (ends_in applications.new ≡ ends_in applications.old) }
+    ensures asks { OnOk result (AskAsBefore applications.old applications.new) }
+    ensures puts { IfOk result (λ heard. PutsFor heard.1 (ends_in applications.old)
+        (posts_in applications.old) (posts_in applications.new)) }
     ensures refused { IfOk result (λ heard. IsHeaderOf number
         (fed link.old.reader piece.now) heard.1 refused.old refused.new) }
 {
@@ -290,6 +329,7 @@ fn hear_packet(
     ensures out { link.new.out ≡ link.old.out }
     ensures tag { link.new.tag ≡ link.old.tag }
     ensures ends { OnOk result (ends_in applications.new ≡ ends_in applications.old) }
+    ensures asks { OnOk result (AskAsBefore applications.old applications.new) }
 {
     let Some(packet) = link.reader.packet() else {
         return Ok(NOTHING);
@@ -340,6 +380,8 @@ fn hand_on(
     ensures passes { OnOk result (Passes news answer.old packet.entry.header
         packet.entry.«data».now (post_of application.old) (post_of application.new)) }
     ensures end { OnOk result (end_of application.new ≡ end_of application.old) }
+    ensures body { OnOk result ((goes : Body)
+        → body_in (Some application.new) goes ≡ body_in (Some application.old) goes) }
     ensures fits { IsRoom news application.old.out packet.entry.header.length
         → application.new.out.is_full ≡ false }
 {

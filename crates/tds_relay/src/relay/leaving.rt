@@ -8,6 +8,8 @@ ghost use Rattle.tds_relay.specs.Fronts.{LetsGoFirst, Moved, MovedOn, ends_in, h
 ghost use Rattle.tds_relay.specs.Fronts.{house_in};
 ghost use Rattle.tds_relay.specs.Hall.{change_end, change_whose, closes, closes_for, end_at, holder};
 ghost use Rattle.tds_relay.specs.House.{Steps, StepsOn};
+ghost use Rattle.tds_relay.specs.Closings.{ClosesOnly, IsWaiting, IsWho, Itself, Nobody, WhoOrWaiting};
+ghost use Rattle.tds_relay.specs.Closings.{register_in, without_key};
 ghost use Rattle.tds_relay.specs.Law.{closing};
 ghost use Rattle.tds_relay.specs.Posts.{names_in, posts_in};
 ghost use Rattle.tds_relay.specs.Ordering.{StayOrdered};
@@ -40,6 +42,8 @@ impl Relay {
             self.new.desk.service) }
         ensures goes_on { OnOk result (AllGo self.old self.new) }
         ensures ordered { OnOk result (StayOrdered self.old.orders.items self.new.orders.items) }
+        ensures closes { OnOk result (ClosesOnly (IsWaiting (desk_in self.old.desk).line)
+            (without_key key (register_in self.old)) (register_in self.new)) }
     {
         let _ = self.applications.try_remove(key).is_some();
         self.release(key)?;
@@ -61,6 +65,9 @@ impl Relay {
         ensures goes_on { OnOk result (AllGo self.old self.new) }
         ensures only { OnOk result (LosesOnly number (hall_in self.old) (hall_in self.new)) }
         ensures ordered { OnOk result (StayOrdered self.old.orders.items self.new.orders.items) }
+        ensures closes { OnOk result (ClosesOnly
+            (WhoOrWaiting (holder (desk_in self.old.desk) number) (desk_in self.old.desk).line)
+            (register_in self.old) (register_in self.new)) }
     {
         self.lose(number)?;
         self.serve_line()
@@ -81,6 +88,8 @@ impl Relay {
         ensures asks { OnOk result (AskOn self.old.applications self.new.applications) }
         ensures others { IsReached (desk_in self.old.desk)
             → OnOk result (OthersRest key self.old self.new) }
+        ensures closes { OnOk result (ClosesOnly (Itself key)
+            (register_in self.old) (register_in self.new)) }
     {
         self.expel_for(key, None)
     }
@@ -102,6 +111,8 @@ impl Relay {
         ensures asks { OnOk result (AskOn self.old.applications self.new.applications) }
         ensures others { IsReached (desk_in self.old.desk)
             → OnOk result (OthersRest key self.old self.new) }
+        ensures closes { OnOk result (ClosesOnly (Itself key)
+            (register_in self.old) (register_in self.new)) }
     {
         self.end_for(key, why)?;
         self.release(key)
@@ -120,6 +131,8 @@ impl Relay {
             → body_in (get self.new.applications key) goes ≡ Closed) }
         ensures ordered { OnOk result (self.new.orders.items
             ≡ closing (get self.old.applications key) self.old.orders.items) }
+        ensures closes { OnOk result (ClosesOnly (Itself key)
+            (register_in self.old) (register_in self.new)) }
     {
         self.end_for(key, None)
     }
@@ -137,6 +150,8 @@ impl Relay {
             → body_in (get self.new.applications key) goes ≡ Closed) }
         ensures ordered { OnOk result (self.new.orders.items
             ≡ closing (get self.old.applications key) self.old.orders.items) }
+        ensures closes { OnOk result (ClosesOnly (Itself key)
+            (register_in self.old) (register_in self.new)) }
     {
         match self.applications.get_mut(key) {
             Some(application) => {
@@ -166,6 +181,8 @@ impl Relay {
         ensures others { IsReached (desk_in self.old.desk)
             → OnOk result (OthersRest key self.old self.new) }
         ensures ordered { OnOk result (StayOrdered self.old.orders.items self.new.orders.items) }
+        ensures closes { OnOk result (ClosesOnly Nobody
+            (register_in self.old) (register_in self.new)) }
     {
         self.outbox.clear();
         let left = self.desk.leave(key, &mut self.outbox)?;
@@ -175,7 +192,7 @@ impl Relay {
         };
         if left.is_there {
             self.counts.cleanings = self.counts.cleanings.saturating_add(1);
-            self.send_on(left.number)
+            self.send_unheld(left.number)
         } else {
             self.counts.failed = self.counts.failed.saturating_add(1);
             self.close(left.number, None)
@@ -206,6 +223,8 @@ impl Relay {
         ensures line { OnOk result ((desk_in self.new.desk).line
             ≡ (desk_in self.old.desk).line) }
         ensures ordered { OnOk result (StayOrdered self.old.orders.items self.new.orders.items) }
+        ensures closes { OnOk result (ClosesOnly (IsWho (holder (desk_in self.old.desk) number))
+            (register_in self.old) (register_in self.new)) }
     {
         let key = self.desk.lose(number)?;
         self.close(number, key)
@@ -223,8 +242,11 @@ impl Relay {
             self.new.desk.service) }
         ensures rests { IsReached (desk_in self.old.desk)
             → OnOk result (AllRest self.old self.new) }
+        ensures asks { OnOk result (AskOn self.old.applications self.new.applications) }
         ensures alone { OnOk result (Alone key (hall_in self.old) (hall_in self.new)) }
         ensures ordered { OnOk result (StayOrdered self.old.orders.items self.new.orders.items) }
+        ensures closes { OnOk result (ClosesOnly (Itself key)
+            (register_in self.old) (register_in self.new)) }
     {
         match self.desk.key_on(number) {
             Some(holder) => {
@@ -251,6 +273,8 @@ impl Relay {
         ensures others { OnOk result ((other : ℕ) → other ≢ number
             → waits_on other self.new.links.items ≡ waits_on other self.old.links.items) }
         ensures ordered { OnOk result (StayOrdered self.old.orders.items self.new.orders.items) }
+        ensures closes { OnOk result (ClosesOnly Nobody
+            (register_in self.old) (register_in self.new)) }
     {
         let tag = match self.link(number) {
             Some(link) => link.tag,
@@ -281,6 +305,8 @@ impl Relay {
         ensures shuts { OnOk result ((other : ℕ) → key ≡ Some other → (goes : Body)
             → body_in (get self.new.applications other) goes ≡ Closed) }
         ensures ordered { OnOk result (StayOrdered self.old.orders.items self.new.orders.items) }
+        ensures closes { OnOk result (ClosesOnly (IsWho key)
+            (register_in self.old) (register_in self.new)) }
     {
         self.close_link(number)?;
         match key {

@@ -1,14 +1,17 @@
 //! Connections that are lent to those who wait, opened, and asked.
-ghost use Rattle.std.specs.Prelude.{◌≡◌, ◌≢◌, ◌⊎◌, ◌++◌, [], ℕ, Bool, IfOk, IfSome, IsSome, List, None, OnOk, Some};
+ghost use Rattle.std.specs.Prelude.{◌≡◌, ◌≢◌, ◌⊎◌, ◌++◌, [], ℕ, Bool, IfNone, IfOk, IfSome, IsSome, List, None, OnOk, Some};
 ghost use Rattle.std.specs.Prelude.{false, option_map, true};
 ghost use Rattle.slab.specs.Slab.{get};
 ghost use Rattle.tds_packet.specs.declared.status.Reset.TheVariants.{KeepTransaction};
 ghost use Rattle.tds_relay.specs.Apart.{Alone, UnlessServed};
 ghost use Rattle.tds_relay.specs.Asking.{IsUnderway, waits_of};
 ghost use Rattle.tds_relay.specs.Bodies.{AskAsBefore, Grows, Starts, body_of, going_of, held_of};
+ghost use Rattle.tds_relay.specs.Bringing.{IsNotBrought};
+ghost use Rattle.tds_relay.specs.Closings.{ClosesOnly, IsWaiting, IsWho, Itself, Nobody, WhoOrWaiting};
+ghost use Rattle.tds_relay.specs.Closings.{register_in};
 ghost use Rattle.tds_relay.specs.Desk.{find_number, key_of};
 ghost use Rattle.tds_relay.specs.Fronts.{MovedOn, ends_in, hall_in, house_in};
-ghost use Rattle.tds_relay.specs.Hall.{AsksFor, IsReset, end_at};
+ghost use Rattle.tds_relay.specs.Hall.{AsksFor, IsReset, end_at, holder};
 ghost use Rattle.tds_relay.specs.House.{Steps, StepsOn};
 ghost use Rattle.tds_relay.specs.Posts.{names_in, posts_in};
 ghost use Rattle.tds_relay.specs.Reads.{IsCalled, Opens, OpensFirst, OpensOne, Stays, named_seen, open_at};
@@ -50,6 +53,10 @@ impl Relay {
             self.new.desk.service) }
         ensures goes_on { OnOk result (AllGo self.old self.new) }
         ensures ordered { OnOk result (StayOrdered self.old.orders.items self.new.orders.items) }
+        ensures closes { OnOk result (ClosesOnly (IsWaiting (desk_in self.old.desk).line)
+            (register_in self.old) (register_in self.new)) }
+        ensures tries { IfOk result (λ brought. IfNone brought (IsNotBrought self.old.links.items
+            (desk_in self.old.desk) (desk_in self.new.desk))) }
     {
         if !self.links.is_empty() {
             return Ok(None);
@@ -65,7 +72,7 @@ impl Relay {
         link.tag = Some(tag);
         link.is_open = true;
         self.links.push(link)?;
-        self.send_on(left.number)?;
+        self.send_unheld(left.number)?;
         self.serve_line()?;
         Ok(Some(left.number))
     }
@@ -90,6 +97,7 @@ impl Relay {
             ≡ waits_on other self.old.links.items }
         ensures rest { AllRest self.old self.new }
         ensures tells { TellsTheSame self.old self.new }
+        ensures orders { self.new.orders.items ≡ self.old.orders.items }
     {
         set_tag(&mut self.links, number, tag);
     }
@@ -108,6 +116,9 @@ impl Relay {
         ensures starts { IsReached (desk_in self.old.desk)
             → OnOk result (StartsOn number self.old self.new) }
         ensures ordered { OnOk result (StayOrdered self.old.orders.items self.new.orders.items) }
+        ensures closes { OnOk result (ClosesOnly
+            (WhoOrWaiting (holder (desk_in self.old.desk) number) (desk_in self.old.desk).line)
+            (register_in self.old) (register_in self.new)) }
     {
         self.set_open(number);
         self.order_write_on(number)?;
@@ -127,6 +138,7 @@ impl Relay {
             ≡ waits_on other self.old.links.items }
         ensures same { AllRest self.old self.new }
         ensures orders { self.new.orders.items ≡ self.old.orders.items }
+        ensures closes { ClosesOnly Nobody (register_in self.old) (register_in self.new) }
     {
         set_open(&mut self.links, number);
     }
@@ -146,6 +158,8 @@ impl Relay {
             → key_of (find_number number (desk_in self.old.desk).holds) ≡ Some key
             → IsUnkept (body_of key self.new) ⊎ IsHeldBack key self.old) }
         ensures ordered { OnOk result (StayOrdered self.old.orders.items self.new.orders.items) }
+        ensures closes { OnOk result (ClosesOnly (IsWho (holder (desk_in self.old.desk) number))
+            (register_in self.old) (register_in self.new)) }
     {
         match self.desk.key_on(number) {
             Some(key) => self.start_kept(key),
@@ -167,6 +181,8 @@ impl Relay {
         ensures goes_on { OnOk result (AllGo self.old self.new) }
         ensures apart { OnOk result (UnlessServed (hall_in self.old) (hall_in self.new)) }
         ensures ordered { OnOk result (StayOrdered self.old.orders.items self.new.orders.items) }
+        ensures closes { OnOk result (ClosesOnly (IsWaiting (desk_in self.old.desk).line)
+            (register_in self.old) (register_in self.new)) }
     {
         'line: for _ in 0..u64::MAX {
             match self.desk.serve()? {
@@ -195,6 +211,8 @@ impl Relay {
         ensures alone { OnOk result (Alone served.hold.key (hall_in self.old)
             (hall_in self.new)) }
         ensures ordered { OnOk result (StayOrdered self.old.orders.items self.new.orders.items) }
+        ensures closes { OnOk result (ClosesOnly (Itself served.hold.key)
+            (register_in self.old) (register_in self.new)) }
     {
         let number = served.hold.number;
         if served.had {
@@ -217,6 +235,7 @@ impl Relay {
         ensures read { Stays self.old.links.items self.new.links.items }
         ensures rests { AllRest self.old self.new }
         ensures orders { self.new.orders.items ≡ self.old.orders.items }
+        ensures closes { ClosesOnly Nobody (register_in self.old) (register_in self.new) }
     {
         restart(&mut self.links, number);
     }
@@ -254,6 +273,8 @@ impl Relay {
             ⊎ IsHeldBack key self.old) }
         ensures alone { OnOk result (Alone key (hall_in self.old) (hall_in self.new)) }
         ensures ordered { OnOk result (StayOrdered self.old.orders.items self.new.orders.items) }
+        ensures closes { OnOk result (ClosesOnly (Itself key)
+            (register_in self.old) (register_in self.new)) }
     {
         let Some(application) = self.applications.get(key) else {
             return Ok(());
@@ -296,6 +317,8 @@ impl Relay {
             → OnOk result (AllRest self.old self.new) }
         ensures alone { OnOk result (Alone key (hall_in self.old) (hall_in self.new)) }
         ensures ordered { OnOk result (StayOrdered self.old.orders.items self.new.orders.items) }
+        ensures closes { OnOk result (ClosesOnly (Itself key)
+            (register_in self.old) (register_in self.new)) }
     {
         self.lose_own(key, number)?;
         self.end(key)
@@ -320,6 +343,8 @@ impl Relay {
         ensures gone { OnOk result (IsUnkept (body_of key self.new)) }
         ensures alone { OnOk result (Alone key (hall_in self.old) (hall_in self.new)) }
         ensures ordered { OnOk result (StayOrdered self.old.orders.items self.new.orders.items) }
+        ensures closes { OnOk result (ClosesOnly (Itself key)
+            (register_in self.old) (register_in self.new)) }
     {
         let Some(application) = self.applications.get_mut(key) else {
             return Ok(());
@@ -347,6 +372,8 @@ impl Relay {
         ensures others { OnOk result ((other : ℕ) → other ≢ number
             → waits_on other self.new.links.items ≡ waits_on other self.old.links.items) }
         ensures ordered { OnOk result (StayOrdered self.old.orders.items self.new.orders.items) }
+        ensures closes { OnOk result (ClosesOnly Nobody
+            (register_in self.old) (register_in self.new)) }
     {
         let fits = append_to(&mut self.links, number, &self.outbox)?;
         self.outbox.clear();

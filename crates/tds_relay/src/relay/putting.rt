@@ -3,6 +3,7 @@ ghost use Rattle.std.specs.Prelude.{◌≡◌, OnOk, true};
 ghost use Rattle.tds_relay.specs.Apart.{Alone};
 ghost use Rattle.tds_relay.specs.Asking.{IsUnderway, SendsOn};
 ghost use Rattle.tds_relay.specs.Bodies.{AskAsBefore, ClientPuts, PutsOn};
+ghost use Rattle.tds_relay.specs.Closings.{ClosesOnly, Itself, Nobody, register_in};
 ghost use Rattle.tds_relay.specs.Fronts.{MayPut, MovedOn, ends_in, goes_by, hall_in, puts};
 ghost use Rattle.tds_relay.specs.Hall.{IfOpen, change_end, end_at};
 ghost use Rattle.tds_relay.specs.Ordering.{StayOrdered};
@@ -34,6 +35,8 @@ impl Relay {
             → OnOk result (OthersRest key self.old self.new) }
         ensures alone { OnOk result (Alone key (hall_in self.old) (hall_in self.new)) }
         ensures ordered { OnOk result (StayOrdered self.old.orders.items self.new.orders.items) }
+        ensures closes { OnOk result (ClosesOnly (Itself key)
+            (register_in self.old) (register_in self.new)) }
     {
         let Some(hold) = self.desk.hold_of(key) else {
             return self.end(key);
@@ -75,6 +78,7 @@ impl Relay {
         ensures asks { AskAsBefore self.old.applications self.new.applications }
         ensures outbox { self.new.outbox.items ≡ self.old.outbox.items }
         ensures orders { self.new.orders.items ≡ self.old.orders.items }
+        ensures closes { ClosesOnly Nobody (register_in self.old) (register_in self.new) }
     {
         if self.outbox.is_empty() {
             return;

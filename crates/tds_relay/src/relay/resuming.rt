@@ -1,11 +1,13 @@
 //! What an application that took its request back asks next, once the server has acknowledged that.
 ghost use Rattle.std.specs.Prelude.{◌≡◌, true, OnOk};
 ghost use Rattle.tds_packet.specs.declared.status.Reset.TheVariants.{KeepTransaction};
+ghost use Rattle.tds_relay.specs.Coming.{AllAlong};
 ghost use Rattle.tds_relay.specs.Fronts.{Moved, ends_in, hall_in};
 ghost use Rattle.tds_relay.specs.Hall.{AsksFor, IfWhose, MayPart, end_at, holder};
+ghost use Rattle.tds_relay.specs.Ordering.{StayOrdered};
 ghost use Rattle.tds_relay.specs.Posts.{posts_in};
 ghost use Rattle.tds_relay.specs.Reads.{Stays};
-ghost use Rattle.tds_relay.specs.Ties.{Connection, Goes, desk_in};
+ghost use Rattle.tds_relay.specs.Ties.{Connection, Goes, IsReached, desk_in};
 ghost use Rattle.tds_relay.specs.Walkers.{AllStand};
 
 use super::Relay;
@@ -24,6 +26,9 @@ impl Relay {
         ensures read { OnOk result (Stays self.old.links.items self.new.links.items) }
         ensures stand { OnOk result (AllStand self.old.desk.service
             self.new.desk.service) }
+        ensures bodies { IsReached (desk_in self.old.desk)
+            → OnOk result (AllAlong self.old self.new) }
+        ensures ordered { OnOk result (StayOrdered self.old.orders.items self.new.orders.items) }
     {
         if self.asks_to_keep(key) {
             self.keep(number, key)
@@ -45,6 +50,9 @@ impl Relay {
         ensures read { OnOk result (Stays self.old.links.items self.new.links.items) }
         ensures stand { OnOk result (AllStand self.old.desk.service
             self.new.desk.service) }
+        ensures bodies { IsReached (desk_in self.old.desk)
+            → OnOk result (AllAlong self.old self.new) }
+        ensures ordered { OnOk result (StayOrdered self.old.orders.items self.new.orders.items) }
     {
         match self.desk.renew(key)? {
             Renewed::Kept(hold) => {
@@ -69,6 +77,9 @@ impl Relay {
         ensures read { OnOk result (Stays self.old.links.items self.new.links.items) }
         ensures stand { OnOk result (AllStand self.old.desk.service
             self.new.desk.service) }
+        ensures bodies { IsReached (desk_in self.old.desk)
+            → OnOk result (AllAlong self.old self.new) }
+        ensures ordered { OnOk result (StayOrdered self.old.orders.items self.new.orders.items) }
     {
         if !self.may_replace(number) {
             return self.lose(number);

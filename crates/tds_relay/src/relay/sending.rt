@@ -3,7 +3,9 @@ ghost use Rattle.std.specs.Prelude.{◌≡◌, ◌≢◌, ◌+◌, ◌≤◌, �
 ghost use Rattle.slab.specs.Slab.{get};
 ghost use Rattle.tds_relay.specs.Bodies.{AskAsBefore, AskOn};
 ghost use Rattle.tds_relay.specs.Bounds.{most_for};
+ghost use Rattle.tds_relay.specs.Closings.{ClosesOnly, IsWho, Itself, Nobody, register_in};
 ghost use Rattle.tds_relay.specs.Fronts.{MovedOn, ends_in, hall_in, house_in};
+ghost use Rattle.tds_relay.specs.Hall.{holder};
 ghost use Rattle.tds_relay.specs.House.{Steps};
 ghost use Rattle.tds_relay.specs.Ordering.{StayOrdered};
 ghost use Rattle.tds_relay.specs.Posts.{change, posts_in, unsent_of, without_first};
@@ -12,6 +14,7 @@ ghost use Rattle.tds_relay.specs.Reads.{FillsBy, Sees, Stays, waits_on};
 ghost use Rattle.tds_relay.specs.Sparing.{AllRest, SendsOn};
 ghost use Rattle.tds_relay.specs.Ties.{GoesOn, IsReached, Neither, desk_in};
 ghost use Rattle.tds_relay.specs.Told.{TellsTheSame, held_name, holder_name, is_there};
+ghost use Rattle.tds_relay.specs.Waking.{IsWoken};
 ghost use Rattle.tds_relay.specs.Walkers.{AllStand};
 ghost use Rattle.tds_relay.specs.declared.outgoing.TheConstants.{PIECE};
 
@@ -55,6 +58,7 @@ impl Relay {
         ensures rest { AllRest self.old self.new }
         ensures whose { result ≡ held_name key self.old }
         ensures tells { TellsTheSame self.old self.new }
+        ensures orders { self.new.orders.items ≡ self.old.orders.items }
     {
         self.forget_sent(key, count);
         let hold = self.desk.hold_of(key)?;
@@ -71,6 +75,7 @@ impl Relay {
         ensures links { self.new.links.items ≡ self.old.links.items }
         ensures asks { AskAsBefore self.old.applications self.new.applications }
         ensures tells { TellsTheSame self.old self.new }
+        ensures orders { self.new.orders.items ≡ self.old.orders.items }
     {
         match self.applications.get_mut(key) {
             Some(application) => application.out.sent(count),
@@ -93,6 +98,7 @@ impl Relay {
         ensures whose { result ≡ (if is_there number self.old.links.items
             then holder_name number self.old else None) }
         ensures tells { TellsTheSame self.old self.new }
+        ensures orders { self.new.orders.items ≡ self.old.orders.items }
     {
         if !forget_sent(&mut self.links, number, count) {
             return None;
@@ -117,9 +123,58 @@ impl Relay {
         ensures puts { OnOk result (FillsBy self.old.outbox.items
             (waits_on number self.old.links.items) (waits_on number self.new.links.items)) }
         ensures ordered { OnOk result (StayOrdered self.old.orders.items self.new.orders.items) }
+        ensures closes { OnOk result (ClosesOnly (IsWho (holder (desk_in self.old.desk) number))
+            (register_in self.old) (register_in self.new)) }
     {
         let fits = self.fits_on(number)?;
         if fits { Ok(()) } else { self.lose(number) }
+    }
+
+    /// The same of one that this application holds.
+    pub(super) fn send_for(&mut self, key: usize, number: u64) -> Result<(), NoMemory>
+        ensures goes { OnOk result (GoesOn (desk_in self.old.desk) (desk_in self.new.desk)) }
+        ensures kept { OnOk result (posts_in self.new.applications
+            ≡ posts_in self.old.applications) }
+        ensures moves { OnOk result (MovedOn (hall_in self.old) (hall_in self.new)) }
+        ensures read { OnOk result (Stays self.old.links.items self.new.links.items) }
+        ensures stand { OnOk result (AllStand self.old.desk.service
+            self.new.desk.service) }
+        ensures asks { OnOk result (AskOn self.old.applications self.new.applications) }
+        ensures closes { OnOk result (ClosesOnly (Itself key)
+            (register_in self.old) (register_in self.new)) }
+    {
+        let fits = self.fits_on(number)?;
+        if fits {
+            Ok(())
+        } else {
+            self.lose_own(key, number)
+        }
+    }
+
+    /// The same of one that nobody holds.
+    pub(super) fn send_unheld(&mut self, number: u64) -> Result<(), NoMemory>
+        ensures goes { OnOk result (GoesOn (desk_in self.old.desk) (desk_in self.new.desk)) }
+        ensures kept { OnOk result (posts_in self.new.applications
+            ≡ posts_in self.old.applications) }
+        ensures moves { OnOk result (MovedOn (hall_in self.old) (hall_in self.new)) }
+        ensures read { OnOk result (Stays self.old.links.items self.new.links.items) }
+        ensures stand { OnOk result (AllStand self.old.desk.service
+            self.new.desk.service) }
+        ensures asks { OnOk result (AskOn self.old.applications self.new.applications) }
+        ensures sends { IsReached (desk_in self.old.desk)
+            → OnOk result (SendsOn number self.old self.new) }
+        ensures ordered { OnOk result (StayOrdered self.old.orders.items self.new.orders.items) }
+        ensures closes { OnOk result (ClosesOnly Nobody
+            (register_in self.old) (register_in self.new)) }
+    {
+        let fits = self.fits_on(number)?;
+        if fits {
+            return Ok(());
+        }
+        match self.desk.key_on(number) {
+            Some(_) => Ok(()),
+            None => self.lose(number),
+        }
     }
 
     /// Something is to be sent to an application. One for which more would wait than may is closed.
@@ -130,6 +185,10 @@ impl Relay {
         ensures moves { OnOk result (MovedOn (hall_in self.old) (hall_in self.new)) }
         ensures links { OnOk result (self.new.links.items ≡ self.old.links.items) }
         ensures asks { OnOk result (AskOn self.old.applications self.new.applications) }
+        ensures ordered { OnOk result (StayOrdered self.old.orders.items self.new.orders.items) }
+        ensures wakes { OnOk result (IsWoken key self.new.applications self.new.orders.items) }
+        ensures closes { OnOk result (ClosesOnly (Itself key)
+            (register_in self.old) (register_in self.new)) }
     {
         let Some(application) = self.applications.get(key) else {
             return Ok(());
@@ -152,6 +211,8 @@ impl Relay {
         ensures links { OnOk result (self.new.links.items ≡ self.old.links.items) }
         ensures asks { OnOk result (AskAsBefore self.old.applications self.new.applications) }
         ensures ordered { OnOk result (StayOrdered self.old.orders.items self.new.orders.items) }
+        ensures closes { OnOk result (ClosesOnly Nobody
+            (register_in self.old) (register_in self.new)) }
     {
         let Some(link) = self.link(number) else {
             return Ok(());

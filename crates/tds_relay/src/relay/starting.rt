@@ -4,6 +4,7 @@ ghost use Rattle.slab.specs.Slab.{get};
 ghost use Rattle.tds_relay.specs.Apart.{Alone};
 ghost use Rattle.tds_relay.specs.Asking.{IsUnderway, waits_of};
 ghost use Rattle.tds_relay.specs.Bodies.{Starts, body_of};
+ghost use Rattle.tds_relay.specs.Closings.{ClosesOnly, Itself, register_in};
 ghost use Rattle.tds_relay.specs.Desk.{find_key};
 ghost use Rattle.tds_relay.specs.Fronts.{MovedOn, ends_in, hall_in};
 ghost use Rattle.tds_relay.specs.Hall.{IsReset, end_at};
@@ -39,6 +40,8 @@ impl Relay {
             ⊎ IsHeldBack key self.old) }
         ensures alone { OnOk result (Alone key (hall_in self.old) (hall_in self.new)) }
         ensures ordered { OnOk result (StayOrdered self.old.orders.items self.new.orders.items) }
+        ensures closes { OnOk result (ClosesOnly (Itself key)
+            (register_in self.old) (register_in self.new)) }
     {
         let Some(hold) = self.desk.hold_of(key) else {
             return self.start(key);

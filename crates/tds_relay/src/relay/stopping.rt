@@ -5,6 +5,7 @@ ghost use Rattle.tds_front.specs.declared.front.Said.TheVariants.{Forget, HandOn
 ghost use Rattle.tds_relay.specs.Anew.{AsksNothing};
 ghost use Rattle.tds_relay.specs.Bodies.{AskAsBefore, AskOn, Body, Halts, IsHalting, Nowhere, Starts};
 ghost use Rattle.tds_relay.specs.Bodies.{StopsOn, body_in, body_of};
+ghost use Rattle.tds_relay.specs.Closings.{ClosesOnly, Itself, Nobody, register_in};
 ghost use Rattle.tds_relay.specs.Desk.{Does, Stops, Unwaits};
 ghost use Rattle.tds_relay.specs.Fronts.{FedOn, Moved, MovedOn, ends_in, hall_in, hall_of_ends, withdraws};
 ghost use Rattle.tds_relay.specs.Hall.{Ends, IfOpen, IsHere, change_end, end_at};
@@ -37,6 +38,8 @@ impl Relay {
             self.new.desk.service) }
         ensures body { OnOk result ((goes : Body)
             → Starts Nowhere (body_in (get self.new.applications key) goes)) }
+        ensures closes { OnOk result (ClosesOnly (Itself key)
+            (register_in self.old) (register_in self.new)) }
     {
         let was_asked = self.forget_request(key);
         if was_asked { self.unask(key) } else { Ok(()) }
@@ -51,6 +54,7 @@ impl Relay {
         ensures links { self.new.links.items ≡ self.old.links.items }
         ensures stand { AllStand self.old.desk.service self.new.desk.service }
         ensures body { (goes : Body) → Starts Nowhere (body_in (get self.new.applications key) goes) }
+        ensures closes { ClosesOnly Nobody (register_in self.old) (register_in self.new) }
     {
         self.desk.unwait(key);
         let Some(application) = self.applications.get_mut(key) else {
@@ -74,13 +78,15 @@ impl Relay {
         ensures stand { OnOk result (AllStand self.old.desk.service
             self.new.desk.service) }
         ensures asks { OnOk result (AskOn self.old.applications self.new.applications) }
+        ensures closes { OnOk result (ClosesOnly (Itself key)
+            (register_in self.old) (register_in self.new)) }
     {
         if !self.has_nothing_out(key) {
             return self.expel(key);
         }
         self.outbox.clear();
         match self.desk.cancel(key, &mut self.outbox) {
-            Ok((hold, _)) => self.send_on(hold.number),
+            Ok((hold, _)) => self.send_for(key, hold.number),
             Err(_) => self.expel(key),
         }
     }
@@ -100,12 +106,14 @@ impl Relay {
             self.new.desk.service) }
         ensures body { OnOk result ((goes : Body)
             → Starts Nowhere (body_in (get self.new.applications key) goes)) }
+        ensures closes { OnOk result (ClosesOnly (Itself key)
+            (register_in self.old) (register_in self.new)) }
     {
         let _ = self.forget_request(key);
         match self.stop(key) {
             Some(number) => {
                 self.withdraw(key);
-                self.send_on(number)
+                self.send_for(key, number)
             }
             None => self.expel(key),
         }
@@ -125,6 +133,7 @@ impl Relay {
         ensures stand { AllStand self.old.desk.service self.new.desk.service }
         ensures asks { AskAsBefore self.old.applications self.new.applications }
         ensures stops { IfSome result (λ number. IsHalting number key self.old self.new) }
+        ensures closes { ClosesOnly Nobody (register_in self.old) (register_in self.new) }
     {
         self.outbox.clear();
         match self.desk.cancel(key, &mut self.outbox) {
@@ -147,6 +156,7 @@ impl Relay {
             ≡ change_end key withdraws (ends_in self.old.applications) }
         ensures links { self.new.links.items ≡ self.old.links.items }
         ensures asks { AskAsBefore self.old.applications self.new.applications }
+        ensures closes { ClosesOnly Nobody (register_in self.old) (register_in self.new) }
     {
         match self.applications.get_mut(key) {
             Some(application) => application.withdraw(),
@@ -162,6 +172,8 @@ impl Relay {
         ensures moves { OnOk result (MovedOn (hall_in self.old) (hall_in self.new)) }
         ensures links { OnOk result (self.new.links.items ≡ self.old.links.items) }
         ensures asks { OnOk result (AskOn self.old.applications self.new.applications) }
+        ensures closes { OnOk result (ClosesOnly (Itself key)
+            (register_in self.old) (register_in self.new)) }
     {
         match self.applications.get_mut(key) {
             Some(application) => {
@@ -184,6 +196,8 @@ impl Relay {
         ensures stand { OnOk result (AllStand self.old.desk.service
             self.new.desk.service) }
         ensures body { OnOk result (Halts (body_of key self.old) (body_of key self.new)) }
+        ensures closes { OnOk result (ClosesOnly (Itself key)
+            (register_in self.old) (register_in self.new)) }
     {
         match self.stop(key) {
             Some(number) => {
@@ -205,6 +219,8 @@ impl Relay {
         ensures stand { OnOk result (AllStand self.old.desk.service
             self.new.desk.service) }
         ensures sends { OnOk result (StopsOn number key self.old self.new) }
+        ensures closes { OnOk result (ClosesOnly (Itself key)
+            (register_in self.old) (register_in self.new)) }
     {
         let fits = self.fits_on(number)?;
         if fits { Ok(()) } else { self.fail(key, number) }

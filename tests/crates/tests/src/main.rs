@@ -30,6 +30,7 @@ fn run(rt: &HostRuntime, words: &[String]) -> ExitCode {
         "test_listen" => test_listen::run(rt, others),
         "test_judge" => test_judge::run(rt, others),
         "test_relay" => test_relay::run(rt, others),
+        "test_state" => test_state::run(rt, others),
         "bench_calls" => bench_calls::run(rt, others),
         "tdsplay" => ended(rt, play_all(rt, others)),
         "tdsview" => ended(rt, explain_all(rt, others)),

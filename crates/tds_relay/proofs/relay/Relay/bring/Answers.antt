@@ -1,6 +1,6 @@
-use Rattle.std.proofs.Common.{◌≡◌, ◌∙◌, ◌==◌, ap, refl, rules, sym, true, ℕ, inl}
+use Rattle.std.proofs.Common.{◌≡◌, ◌∙◌, ◌==◌, ap, refl, rules, sym, true, ℕ, inl, inr, false}
 use Rattle.tds_relay.specs.Fronts.{house_in}
-use Rattle.tds_relay.specs.Ties.{Neither}
+use Rattle.tds_relay.specs.Ties.{Neither, desk_in}
 use Rattle.tds_relay.proofs.steps.Fronts.{moves_does}
 use Rattle.tds_relay.proofs.steps.Reaching.{reaches_turn, reached_on}
 use Rattle.tds_relay.proofs.steps.Stepping.{no_steps, steps_moved}
@@ -9,6 +9,9 @@ use Rattle.tds_relay.proofs.spared.Resting.{go_both, none_go, go_refl}
 use Rattle.tds_relay.proofs.steps.Renaming.{first_called}
 use Rattle.tds_relay.specs.Posts.{names_of}
 use Rattle.tds_relay.proofs.spared.Ordered.{ordered_both}
+use Rattle.tds_relay.proofs.spared.Closings.{closes_both, closes_brought, closes_more, closes_nobody}
+use Rattle.tds_relay.proofs.spared.Lines.{waited}
+use Rattle.tds_relay.specs.Closings.{IsWaiting, Nobody}
 use Rattle.tds_relay.proofs.relay.Relay.bring.Goals as goal
 
 pub returns-in_default-clause-goes : goal.returns-in_default-clause-goes
@@ -20,7 +23,7 @@ returns-then-not-left-clause-goes c = λ from h. reaches_turn Neither from _ _ _
 pub returns-clause-goes : goal.returns-clause-goes
 returns-clause-goes c = λ from h.
     c.in_ok-serve_line.ensures.goes Neither from
-    (c.in_ok-send_on.ensures.goes Neither from (reaches_turn Neither from _ _ _ _ _ c.in_ok-left.ensures.turns.2 refl h))
+    (c.in_ok-send_unheld.ensures.goes Neither from (reaches_turn Neither from _ _ _ _ _ c.in_ok-left.ensures.turns.2 refl h))
 
 pub returns-in_default-clause-steps : goal.returns-in_default-clause-steps
 returns-in_default-clause-steps c =
@@ -33,17 +36,17 @@ returns-then-not-left-clause-steps c =
 pub returns-clause-steps : goal.returns-clause-steps
 returns-clause-steps c =
     steps_moved Neither (house_in c.args.self.now) _ _ _ _ (c.in_ok-serve_line.ensures.moves Neither) c.in_ok-serve_line.ensures.kept
-    (steps_moved Neither (house_in c.args.self.now) _ _ _ _ (c.in_ok-send_on.ensures.moves Neither) c.in_ok-send_on.ensures.kept
+    (steps_moved Neither (house_in c.args.self.now) _ _ _ _ (c.in_ok-send_unheld.ensures.moves Neither) c.in_ok-send_unheld.ensures.kept
     (steps_moved Neither (house_in c.args.self.now) _ _ _ _ (λ from h. moves_does Neither from _ _ _ _ _ _ _ c.in_ok-left.ensures.turns.2 tt refl refl h) refl (no_steps Neither (house_in c.args.self.now))))
 
 pub returns-clause-opens : goal.returns-clause-opens
 returns-clause-opens c =
     let none : c.is_empty.result ≡ true = search rules in
     first_opens _ _ c.args.self.now.links.items _ _ _ (sym (ap (λ (k : ℕ). k == 0) c.args.self.now.links.ok.0) ∙ sym c.is_empty.ensures ∙ none) c.in_ok-push.ensures.items c.in_ok-link.ensures.number c.in_ok-link.ensures.unread refl
-    c.in_ok-send_on.ensures.read c.in_ok-serve_line.ensures.opens
+    c.in_ok-send_unheld.ensures.read c.in_ok-serve_line.ensures.opens
 
 pub returns-clause-stand : goal.returns-clause-stand
-returns-clause-stand c = λ n r h. c.in_ok-serve_line.ensures.stand n r (c.in_ok-send_on.ensures.stand n r (c.in_ok-left.ensures.stand n r h))
+returns-clause-stand c = λ n r h. c.in_ok-serve_line.ensures.stand n r (c.in_ok-send_unheld.ensures.stand n r (c.in_ok-left.ensures.stand n r h))
 
 pub returns-in_default-clause-goes_on : goal.returns-in_default-clause-goes_on
 returns-in_default-clause-goes_on c =
@@ -58,25 +61,46 @@ returns-then-not-left-clause-goes_on c =
 pub returns-clause-goes_on : goal.returns-clause-goes_on
 returns-clause-goes_on c =
     let none : c.is_empty.result ≡ true = search rules in
-    go_both c.args.self.now c.send_on.new.self c.serve_line.new.self
-    (λ r. reached_on Neither _ _ (λ from h. c.in_ok-send_on.ensures.goes Neither from (reaches_turn Neither from _ _ _ _ _ c.in_ok-left.ensures.turns.2 refl h)) r)
-    (none_go c.args.self.now c.send_on.new.self (none_there c.args.self.now.links.items (sym (ap (λ (k : ℕ). k == 0) c.args.self.now.links.ok.0) ∙ sym c.is_empty.ensures ∙ none)) c.in_ok-send_on.ensures.asks)
+    go_both c.args.self.now c.send_unheld.new.self c.serve_line.new.self
+    (λ r. reached_on Neither _ _ (λ from h. c.in_ok-send_unheld.ensures.goes Neither from (reaches_turn Neither from _ _ _ _ _ c.in_ok-left.ensures.turns.2 refl h)) r)
+    (none_go c.args.self.now c.send_unheld.new.self (none_there c.args.self.now.links.items (sym (ap (λ (k : ℕ). k == 0) c.args.self.now.links.ok.0) ∙ sym c.is_empty.ensures ∙ none)) c.in_ok-send_unheld.ensures.asks)
     c.in_ok-serve_line.ensures.goes_on
 
 pub returns-then-not-is_empty-clause-goes_on : goal.returns-then-not-is_empty-clause-goes_on
 returns-then-not-is_empty-clause-goes_on c = go_refl c.args.self.now
 
 pub returns-clause-names : goal.returns-clause-names
-returns-clause-names c = ap names_of (c.in_ok-serve_line.ensures.kept ∙ c.in_ok-send_on.ensures.kept)
+returns-clause-names c = ap names_of (c.in_ok-serve_line.ensures.kept ∙ c.in_ok-send_unheld.ensures.kept)
 
 pub returns-clause-named : goal.returns-clause-named
 returns-clause-named c =
     let none : c.is_empty.result ≡ true = search rules in
     first_called _ c.args.tag _ c.args.self.now.links.items _ _ _ (sym (ap (λ (k : ℕ). k == 0) c.args.self.now.links.ok.0) ∙ sym c.is_empty.ensures ∙ none) c.in_ok-push.ensures.items refl refl
-    c.in_ok-send_on.ensures.read c.in_ok-serve_line.ensures.opens
+    c.in_ok-send_unheld.ensures.read c.in_ok-serve_line.ensures.opens
 
 pub returns-clause-ordered : goal.returns-clause-ordered
-returns-clause-ordered c = ordered_both _ _ _ c.in_ok-send_on.ensures.ordered c.in_ok-serve_line.ensures.ordered
+returns-clause-ordered c = ordered_both _ _ _ c.in_ok-send_unheld.ensures.ordered c.in_ok-serve_line.ensures.ordered
 
 pub returns-clause-kept : goal.returns-clause-kept
-returns-clause-kept c = c.in_ok-serve_line.ensures.kept ∙ c.in_ok-send_on.ensures.kept
+returns-clause-kept c = c.in_ok-serve_line.ensures.kept ∙ c.in_ok-send_unheld.ensures.kept
+
+pub returns-clause-closes : goal.returns-clause-closes
+returns-clause-closes c =
+    let old = desk_in c.args.self.now.desk in
+    let mid = desk_in c.send_unheld.new.self.desk in
+    closes_both (IsWaiting old.line) _ _ _
+    (closes_nobody (IsWaiting old.line) _ _ (closes_both Nobody _ _ _ (closes_brought Nobody _ _ _ refl refl refl c.in_ok-push.ensures.items refl refl) c.in_ok-send_unheld.ensures.closes))
+    (closes_more (IsWaiting mid.line) (IsWaiting old.line) _ _
+    (λ key. waited Neither old mid key (λ none. none) (λ from h. c.in_ok-send_unheld.ensures.goes Neither from (reaches_turn Neither from _ _ _ _ _ c.in_ok-left.ensures.turns.2 refl h)))
+    c.in_ok-serve_line.ensures.closes)
+
+pub returns-then-not-is_empty-clause-tries : goal.returns-then-not-is_empty-clause-tries
+returns-then-not-is_empty-clause-tries c =
+    let some : c.is_empty.result ≡ false = search rules in
+    inl (sym (ap (λ (k : ℕ). k == 0) c.args.self.now.links.ok.0) ∙ sym c.is_empty.ensures ∙ some)
+
+pub returns-in_default-clause-tries : goal.returns-in_default-clause-tries
+returns-in_default-clause-tries c = inr (c.in_ok-left.ensures.turns.0, c.in_ok-left.ensures.turns.1, c.in_ok-left.ensures.turns.2.desk_is)
+
+pub returns-then-not-left-clause-tries : goal.returns-then-not-left-clause-tries
+returns-then-not-left-clause-tries c = inr (c.in_ok-left.ensures.turns.0, c.in_ok-left.ensures.turns.1, c.in_ok-left.ensures.turns.2.desk_is)

@@ -5,6 +5,14 @@ use Rattle.tds_relay.proofs.bytes.Streaming.{comes, streams_steps}
 use Rattle.tds_relay.proofs.steps.Staying.{others_served}
 use Rattle.tds_relay.specs.Posts.{names_in}
 use Rattle.tds_relay.proofs.steps.Renaming.{names_on}
+use Rattle.tds_relay.specs.Fronts.{hall_in}
+use Rattle.tds_relay.specs.Posts.{posts_in}
+use Rattle.tds_relay.specs.Ties.{Neither}
+use Rattle.tds_relay.proofs.spared.Coming.{along_on, go_along}
+use Rattle.tds_relay.proofs.spared.Ordered.{ordered_on}
+use Rattle.tds_relay.proofs.spared.Waking.{wakes_on}
+use Rattle.tds_relay.proofs.steps.Reaching.{ok_more, reached_on}
+use Rattle.tds_relay.proofs.steps.Told.{deaf_led_on}
 use Rattle.tds_relay.proofs.relay.Relay.came.Goals as goal
 
 pub returns-clause-steps : goal.returns-clause-steps
@@ -22,3 +30,16 @@ returns-clause-others c = others_served c.serve_line.result c.args.number _ _ _ 
 
 pub returns-clause-names : goal.returns-clause-names
 returns-clause-names c = names_on c.serve_line.result (names_in c.args.self.now.applications) c.hear_all.new.self.applications c.serve_line.new.self.applications c.in_ok-hear_all.ensures.names c.serve_line.ensures.kept
+
+pub returns-clause-bodies : goal.returns-clause-bodies
+returns-clause-bodies c = λ reached.
+    along_on c.serve_line.result c.args.self.now c.hear_all.new.self c.serve_line.new.self (c.in_ok-hear_all.ensures.bodies reached)
+    (go_along c.serve_line.result c.hear_all.new.self c.serve_line.new.self (reached_on (Connection c.args.number) _ _ c.in_ok-hear_all.ensures.goes reached) c.serve_line.ensures.goes_on)
+
+pub returns-clause-ordered : goal.returns-clause-ordered
+returns-clause-ordered c = ordered_on c.serve_line.result _ _ _ c.serve_line.ensures.ordered c.in_ok-hear_all.ensures.ordered
+
+pub returns-clause-wakes : goal.returns-clause-wakes
+returns-clause-wakes c =
+    wakes_on c.serve_line.result (posts_in c.args.self.now.applications) c.hear_all.new.self.applications c.serve_line.new.self.applications _ _ c.in_ok-hear_all.ensures.wakes c.serve_line.ensures.kept c.serve_line.ensures.ordered
+    (λ key d. deaf_led_on c.serve_line.result Neither key (hall_in c.hear_all.new.self) (hall_in c.serve_line.new.self) (ok_more c.serve_line.result _ _ (λ m. m Neither) c.serve_line.ensures.moves) d)

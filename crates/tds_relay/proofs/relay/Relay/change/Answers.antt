@@ -9,6 +9,8 @@ use Rattle.tds_relay.specs.Bodies.{body_of, going_of}
 use Rattle.slab.specs.Slab.{get}
 use Rattle.tds_relay.proofs.steps.Bodied.{shut_starts}
 use Rattle.tds_relay.proofs.steps.Going.{waits_starts}
+use Rattle.tds_relay.proofs.spared.Closings.{closes_both, closes_first, closes_nobody}
+use Rattle.tds_relay.specs.Closings.{Itself, Nobody}
 use Rattle.tds_relay.proofs.relay.Relay.change.Goals as goal
 
 pub returns-then-not-has_nothing_out-clause-moves : goal.returns-then-not-has_nothing_out-clause-moves
@@ -63,3 +65,9 @@ pub returns-clause-body : goal.returns-clause-body
 returns-clause-body c = λ whole waits.
     ok_if c.wait.result _ (waits_starts (get c.args.self.now.applications c.args.key) (get c.release.new.self.applications c.args.key) whole (going_of c.args.key c.args.self.now) (going_of c.args.key c.release.new.self) (body_of c.args.key c.wait.new.self) waits
     (c.in_ok-release.ensures.asks c.args.key (going_of c.args.key c.release.new.self)) (c.wait.ensures.body c.args.key))
+
+pub returns-then-is_some-clause-closes : goal.returns-then-is_some-clause-closes
+returns-then-is_some-clause-closes c = closes_first c.expel-then-is_some.result (Itself c.args.key) _ _ _ c.expel-then-is_some.ensures.closes c.in_ok-release.ensures.closes
+
+pub returns-clause-closes : goal.returns-clause-closes
+returns-clause-closes c = ok_if c.wait.result _ (closes_nobody (Itself c.args.key) _ _ (closes_both Nobody _ _ _ c.in_ok-release.ensures.closes c.wait.ensures.closes))

@@ -10,6 +10,8 @@ use Rattle.tds_relay.specs.Taking.{IsDeaf}
 use Rattle.tds_relay.proofs.steps.Told.{deaf_for, lets_go_deaf}
 use Rattle.tds_relay.proofs.bytes.Calls.{stand_from}
 use Rattle.tds_relay.proofs.spared.Resting.{all_others, all_rest, others_on}
+use Rattle.tds_relay.proofs.spared.Closings.{closes_behind}
+use Rattle.tds_relay.specs.Closings.{Itself}
 use Rattle.tds_relay.proofs.relay.Relay.expel_for.Goals as goal
 
 pub returns-clause-goes : goal.returns-clause-goes
@@ -43,3 +45,6 @@ pub returns-clause-others : goal.returns-clause-others
 returns-clause-others c = λ reached.
     others_on c.release.result c.args.key c.args.self.now c.end_for.new.self c.release.new.self (c.release.ensures.others (subst (λ (d : code.Desk). IsReached (desk_in d)) (sym c.end_for.ensures.desk) reached))
     (all_others c.args.key c.args.self.now c.end_for.new.self (all_rest c.args.self.now c.end_for.new.self c.end_for.ensures.desk c.in_ok-end_for.ensures.links c.in_ok-end_for.ensures.asks))
+
+pub returns-clause-closes : goal.returns-clause-closes
+returns-clause-closes c = closes_behind c.release.result (Itself c.args.key) _ _ _ c.release.ensures.closes c.in_ok-end_for.ensures.closes

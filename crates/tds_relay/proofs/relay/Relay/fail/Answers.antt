@@ -12,6 +12,8 @@ use Rattle.tds_relay.proofs.spared.Resting.{all_on, same_on}
 use Rattle.tds_relay.specs.Fronts.{hall_in}
 use Rattle.tds_relay.proofs.spared.Apart.{alone_both, alone_changed}
 use Rattle.tds_relay.proofs.spared.Ordered.{ordered_closing}
+use Rattle.tds_relay.proofs.spared.Closings.{closes_on}
+use Rattle.tds_relay.specs.Closings.{Itself}
 use Rattle.tds_relay.proofs.relay.Relay.fail.Goals as goal
 
 pub returns-clause-goes : goal.returns-clause-goes
@@ -44,3 +46,6 @@ returns-clause-alone c = ok_more c.end.result _ _ (λ e. alone_both c.args.key (
 
 pub returns-clause-ordered : goal.returns-clause-ordered
 returns-clause-ordered c = ordered_closing c.end.result _ _ _ _ c.end.ensures.ordered c.in_ok-lose_own.ensures.ordered
+
+pub returns-clause-closes : goal.returns-clause-closes
+returns-clause-closes c = closes_on c.end.result (Itself c.args.key) _ _ _ c.end.ensures.closes c.in_ok-lose_own.ensures.closes

@@ -5,6 +5,8 @@ use Rattle.tds_relay.proofs.steps.Reaching.{ok_more}
 use Rattle.tds_relay.proofs.steps.Staying.{stays_from, stays_refl, stays_then}
 use Rattle.tds_relay.proofs.bytes.Calls.{stand_on}
 use Rattle.tds_relay.proofs.steps.Bodied.{forgot_on}
+use Rattle.tds_relay.proofs.spared.Closings.{closes_first, closes_nobody}
+use Rattle.tds_relay.specs.Closings.{Itself}
 use Rattle.tds_relay.proofs.relay.Relay.forget.Goals as goal
 
 pub returns-then-was_asked-clause-moves : goal.returns-then-was_asked-clause-moves
@@ -31,3 +33,9 @@ returns-else-was_asked-clause-body c = c.forget_request-was_asked.ensures.body
 
 pub returns-then-was_asked-clause-body : goal.returns-then-was_asked-clause-body
 returns-then-was_asked-clause-body c = forgot_on c.unask.result c.forget_request-was_asked.new.self.applications c.unask.new.self.applications c.args.key c.forget_request-was_asked.ensures.body c.unask.ensures.asks
+
+pub returns-then-was_asked-clause-closes : goal.returns-then-was_asked-clause-closes
+returns-then-was_asked-clause-closes c = closes_first c.unask.result (Itself c.args.key) _ _ _ c.unask.ensures.closes c.forget_request-was_asked.ensures.closes
+
+pub returns-else-was_asked-clause-closes : goal.returns-else-was_asked-clause-closes
+returns-else-was_asked-clause-closes c = closes_nobody (Itself c.args.key) _ _ c.forget_request-was_asked.ensures.closes

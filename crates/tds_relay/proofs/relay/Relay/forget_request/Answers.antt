@@ -1,9 +1,13 @@
-use Rattle.std.proofs.Common.{refl, rules}
+use Rattle.std.proofs.Common.{refl, rules, ap}
 use Rattle.tds_relay.specs.Ties.{Application}
 use Rattle.tds_relay.proofs.steps.Fronts.{ends_kept}
 use Rattle.tds_relay.proofs.steps.Posting.{posts_kept}
 use Rattle.tds_relay.proofs.steps.Reaching.{reaches_turn}
 use Rattle.tds_relay.proofs.steps.Bodied.{none_starts, nothing_starts}
+use Rattle.tds_relay.proofs.spared.Ordered.{ordered_refl}
+use Rattle.tds_relay.specs.Posts.{names_of}
+use Rattle.tds_relay.proofs.spared.Closings.{closes_kept, sees_refl}
+use Rattle.tds_relay.specs.Closings.{Nobody}
 use Rattle.tds_relay.proofs.relay.Relay.forget_request.Goals as goal
 
 pub returns-in_default-clause-goes : goal.returns-in_default-clause-goes
@@ -23,3 +27,6 @@ returns-in_default-clause-body c = λ goes. none_starts c.args.self.now.applicat
 
 pub returns-clause-body : goal.returns-clause-body
 returns-clause-body c = λ goes. nothing_starts c.args.self.now.applications c.args.key c.in-Some.application.now _ goes c.in-Some.ensures.value c.forget.ensures.asking
+
+pub returns-clause-closes : goal.returns-clause-closes
+returns-clause-closes c = closes_kept Nobody _ _ (ends_kept c.args.self.now.applications c.args.key c.in-Some.application.now _ c.in-Some.ensures.value c.forget.ensures.end) (ap names_of (posts_kept c.args.self.now.applications c.args.key c.in-Some.application.now _ c.in-Some.ensures.value c.forget.ensures.post)) refl (sees_refl c.args.self.now.links.items) (ordered_refl c.args.self.now.orders.items)

@@ -9,6 +9,11 @@ use Rattle.slab.specs.Slab.{get, with_value}
 use Rattle.tds_relay.proofs.steps.Bodied.{none_closed, shut_starts}
 use Rattle.tds_relay.proofs.steps.Going.{grows_going, grows_kept, grows_then}
 use Rattle.tds_relay.proofs.steps.Underway.{written_there}
+use Rattle.tds_relay.proofs.spared.Ordered.{ordered_refl}
+use Rattle.tds_relay.specs.Posts.{names_of}
+use Rattle.tds_relay.proofs.steps.Posting.{posts_kept}
+use Rattle.tds_relay.proofs.spared.Closings.{closes_kept, closes_on, sees_refl}
+use Rattle.tds_relay.specs.Closings.{Itself}
 use Rattle.tds_relay.proofs.relay.Relay.go_on.Goals as goal
 
 pub returns-then-not-branch-clause-moves : goal.returns-then-not-branch-clause-moves
@@ -58,3 +63,19 @@ returns-in-Goes-clause-body c =
       Stays,
     ))
     c.put.ensures.body
+
+pub returns-in-Nothing-clause-closes : goal.returns-in-Nothing-clause-closes
+returns-in-Nothing-clause-closes c = closes_on c.expel.result (Itself c.args.key) _ _ _ c.expel.ensures.closes
+    (closes_kept (Itself c.args.key) _ _ (ends_kept c.args.self.now.applications c.args.key c.in-Some.application.now c.in-Some.application.now c.in-Some.ensures.value refl) (ap names_of (posts_kept c.args.self.now.applications c.args.key c.in-Some.application.now c.in-Some.application.now c.in-Some.ensures.value refl)) refl (sees_refl c.args.self.now.links.items) (ordered_refl c.args.self.now.orders.items))
+
+pub returns-then-not-branch-clause-closes : goal.returns-then-not-branch-clause-closes
+returns-then-not-branch-clause-closes c = closes_on c.expel-then-not-branch.result (Itself c.args.key) _ _ _ c.expel-then-not-branch.ensures.closes
+    (closes_kept (Itself c.args.key) _ _ (ends_kept c.args.self.now.applications c.args.key c.in-Some.application.now c.keep.new.self c.in-Some.ensures.value c.keep.ensures.end) (ap names_of (posts_kept c.args.self.now.applications c.args.key c.in-Some.application.now c.keep.new.self c.in-Some.ensures.value c.keep.ensures.post)) refl (sees_refl c.args.self.now.links.items) (ordered_refl c.args.self.now.orders.items))
+
+pub returns-else-not-branch-clause-closes : goal.returns-else-not-branch-clause-closes
+returns-else-not-branch-clause-closes c = closes_on c.seek.result (Itself c.args.key) _ _ _ c.seek.ensures.closes
+    (closes_kept (Itself c.args.key) _ _ (ends_kept c.args.self.now.applications c.args.key c.in-Some.application.now _ c.in-Some.ensures.value c.keep.ensures.end) (ap names_of (posts_kept c.args.self.now.applications c.args.key c.in-Some.application.now _ c.in-Some.ensures.value c.keep.ensures.post)) refl (sees_refl c.args.self.now.links.items) (ordered_refl c.args.self.now.orders.items))
+
+pub returns-in-Goes-clause-closes : goal.returns-in-Goes-clause-closes
+returns-in-Goes-clause-closes c = closes_on c.put.result (Itself c.args.key) _ _ _ c.put.ensures.closes
+    (closes_kept (Itself c.args.key) _ _ (ends_kept c.args.self.now.applications c.args.key c.in-Some.application.now c.in-Some.application.now c.in-Some.ensures.value refl) (ap names_of (posts_kept c.args.self.now.applications c.args.key c.in-Some.application.now c.in-Some.application.now c.in-Some.ensures.value refl)) refl (sees_refl c.args.self.now.links.items) (ordered_refl c.args.self.now.orders.items))

@@ -11,6 +11,8 @@ use Rattle.tds_relay.proofs.bytes.Calls.{stand_on}
 use Rattle.tds_relay.specs.Bodies.{ByClosing, Halts, body_of, going_of}
 use Rattle.tds_relay.proofs.steps.Bodied.{shut}
 use Rattle.tds_relay.proofs.steps.Halting.{halted}
+use Rattle.tds_relay.proofs.spared.Closings.{closes_first}
+use Rattle.tds_relay.specs.Closings.{Itself}
 use Rattle.tds_relay.proofs.relay.Relay.hand_on.Goals as goal
 
 pub returns-in-Some-clause-moves : goal.returns-in-Some-clause-moves
@@ -67,3 +69,9 @@ returns-in-Some-clause-body c =
 pub returns-in-None-clause-body : goal.returns-in-None-clause-body
 returns-in-None-clause-body c =
     ok_more c.expel.result _ _ (λ d. subst (Halts (body_of c.args.key c.args.self.now)) (sym (shut c.expel.new.self.applications c.args.key (going_of c.args.key c.expel.new.self) d)) ByClosing) c.expel.ensures.over
+
+pub returns-in-Some-clause-closes : goal.returns-in-Some-clause-closes
+returns-in-Some-clause-closes c = closes_first c.send_stop.result (Itself c.args.key) _ _ _ c.send_stop.ensures.closes c.stop.ensures.closes
+
+pub returns-in-None-clause-closes : goal.returns-in-None-clause-closes
+returns-in-None-clause-closes c = closes_first c.expel.result (Itself c.args.key) _ _ _ c.expel.ensures.closes c.stop.ensures.closes

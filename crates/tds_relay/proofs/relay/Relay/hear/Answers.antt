@@ -10,6 +10,7 @@ use Rattle.tds_relay.proofs.bytes.Streaming.{hear_at, unheard, unopened}
 use Rattle.tds_relay.proofs.steps.Placed.{others_written}
 use Rattle.tds_relay.proofs.steps.Staying.{others_open, opens_refl}
 use Rattle.tds_relay.proofs.steps.Reaching.{ok_if}
+use Rattle.std.proofs.Common.{inl}
 use Rattle.tds_relay.proofs.relay.Relay.hear.Goals as goal
 
 pub returns-in_default-clause-continues : goal.returns-in_default-clause-continues
@@ -49,3 +50,15 @@ returns-clause-others c =
     (c.hear_on.ensures.is_open ∙ ap (λ (l : Link). l.is_open) c.index_mut-link.ensures.value)
     (c.hear_on.ensures.tag ∙ ap (λ (l : Link). l.tag) c.index_mut-link.ensures.value)
     (ap (λ (o : Outgoing). (post_in o).bytes) c.hear_on.ensures.out ∙ ap bytes_on c.index_mut-link.ensures.value))
+
+pub returns-in_default-clause-puts : goal.returns-in_default-clause-puts
+returns-in_default-clause-puts c = λ key. inl refl
+
+pub returns-then-not-link-clause-puts : goal.returns-then-not-link-clause-puts
+returns-then-not-link-clause-puts c = λ key. inl refl
+
+pub returns-in_default-clause-asks : goal.returns-in_default-clause-asks
+returns-in_default-clause-asks c = λ key goes. refl
+
+pub returns-then-not-link-clause-asks : goal.returns-then-not-link-clause-asks
+returns-then-not-link-clause-asks c = λ key goes. refl

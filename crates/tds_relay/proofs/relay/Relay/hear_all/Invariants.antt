@@ -1,8 +1,11 @@
 use Rattle.std.proofs.Common.{◌≡◌}
+use Rattle.tds_relay.specs.Coming.{AllAlong}
 use Rattle.tds_relay.specs.Fronts.{house_in}
-use Rattle.tds_relay.specs.Posts.{names_in}
+use Rattle.tds_relay.specs.Ordering.{StayOrdered}
+use Rattle.tds_relay.specs.Posts.{names_in, posts_in}
 use Rattle.tds_relay.specs.Reads.{OpensOthers, Streams, open_at}
-use Rattle.tds_relay.specs.Ties.{Connection, Goes, desk_in}
+use Rattle.tds_relay.specs.Ties.{Connection, Goes, IsReached, desk_in}
+use Rattle.tds_relay.specs.Waking.{Wakes}
 use Rattle.tds_relay.proofs.relay.Relay.hear_all.Given as goal
 
 abbrev pub invariant-taking : goal.invariant-taking
@@ -11,4 +14,7 @@ invariant-taking l = record {
   names : names_in l.self.applications ≡ names_in l.fn.self.applications;
   streams : Streams l.fn.number (open_at l.fn.number l.fn.self.links.items) (house_in l.fn.self) l.fn.self.desk.service l.fn.piece l.rest (open_at l.fn.number l.self.links.items) (house_in l.self) l.self.desk.service;
   others : OpensOthers l.fn.number l.fn.self.links.items l.self.links.items;
+  bodies : IsReached (desk_in l.fn.self.desk) → AllAlong l.fn.self l.self;
+  ordered : StayOrdered l.fn.self.orders.items l.self.orders.items;
+  wakes : Wakes (posts_in l.fn.self.applications) l.self.applications l.self.orders.items;
 }

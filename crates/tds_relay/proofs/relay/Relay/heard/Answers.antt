@@ -1,9 +1,15 @@
-use Rattle.std.proofs.Common.{◌∙◌, ap, refl}
-use Rattle.tds_relay.specs.Ties.{Connection, desk_in}
+use Rattle.std.proofs.Common.{◌∙◌, ap, refl, rules, subst, sym}
+use Rattle.tds_relay.specs.Fronts.{ends_in}
+use Rattle.tds_relay.specs.Ties.{Connection, IsReached, desk_in}
 use Rattle.tds_relay.proofs.steps.Fronts.{moves_same, told_none, told_some}
 use Rattle.tds_relay.proofs.steps.Reaching.{ok_more, ok_if}
 use Rattle.tds_relay.proofs.steps.Staying.{stays_both, stays_on, stays_same}
 use Rattle.tds_relay.proofs.bytes.Calls.{stand_at, stand_back, stand_on}
+use Rattle.tds_relay.proofs.spared.Coming.{along_both, along_on, asks_along, asks_along_on, done_along, rest_along, same_along_on}
+use Rattle.tds_relay.proofs.spared.Ordered.{ordered_both, ordered_on}
+use Rattle.tds_relay.specs.declared.desk.Desk as desks
+use Rattle.tds_relay.proofs.spared.Resting.{put_reached}
+use Rattle.tds_relay.proofs.spared.Waking.{hands_as, hands_nobody, not_closed, not_nobody, woken_mine}
 use Rattle.tds_relay.proofs.relay.Relay.heard.Goals as goal
 
 pub returns-in_default-clause-moves : goal.returns-in_default-clause-moves
@@ -121,3 +127,113 @@ returns-in-Closed-Some-clause-stand c = ok_if c.close_link.result _ (stand_at _ 
 
 pub returns-in-Closed-None-clause-stand : goal.returns-in-Closed-None-clause-stand
 returns-in-Closed-None-clause-stand c = ok_if c.close_link-in-Closed-None.result _ (stand_at _ _ _ (stand_back _ _ _ c.in_ok-resumes.ensures.desk c.in_ok-send_on.ensures.stand) c.close_link-in-Closed-None.ensures.desk)
+
+pub returns-in_default-clause-bodies : goal.returns-in_default-clause-bodies
+returns-in_default-clause-bodies c = λ reached. rest_along c.lose.result c.args.self.now c.lose.new.self (c.lose.ensures.rests reached)
+
+pub returns-in-Goes-Some-clause-bodies : goal.returns-in-Goes-Some-clause-bodies
+returns-in-Goes-Some-clause-bodies c = λ reached.
+    let sent = along_both c.args.self.now c.tell.new.self c.send_on.new.self (done_along c.args.self.now c.tell.new.self c.in_ok-resumes.ensures.asks) (asks_along c.tell.new.self c.send_on.new.self c.in_ok-send_on.ensures.asks) in
+    along_on c.order_write.result c.args.self.now c.send_on.new.self c.order_write.new.self sent (asks_along_on c.order_write.result c.send_on.new.self c.order_write.new.self c.order_write.ensures.asks)
+
+pub returns-in-Finished-Some-clause-bodies : goal.returns-in-Finished-Some-clause-bodies
+returns-in-Finished-Some-clause-bodies c = λ reached.
+    let sent = along_both c.args.self.now c.tell.new.self c.send_on.new.self (done_along c.args.self.now c.tell.new.self c.in_ok-resumes.ensures.asks) (asks_along c.tell.new.self c.send_on.new.self c.in_ok-send_on.ensures.asks) in
+    along_on c.order_write-in-Finished-Some.result c.args.self.now c.send_on.new.self c.order_write-in-Finished-Some.new.self sent (asks_along_on c.order_write-in-Finished-Some.result c.send_on.new.self c.order_write-in-Finished-Some.new.self c.order_write-in-Finished-Some.ensures.asks)
+
+pub returns-else-resumes-clause-bodies : goal.returns-else-resumes-clause-bodies
+returns-else-resumes-clause-bodies c = λ reached.
+    let sent = along_both c.args.self.now c.tell.new.self c.send_on.new.self (done_along c.args.self.now c.tell.new.self c.in_ok-resumes.ensures.asks) (asks_along c.tell.new.self c.send_on.new.self c.in_ok-send_on.ensures.asks) in
+    along_on c.order_write-else-resumes.result c.args.self.now c.send_on.new.self c.order_write-else-resumes.new.self sent (asks_along_on c.order_write-else-resumes.result c.send_on.new.self c.order_write-else-resumes.new.self c.order_write-else-resumes.ensures.asks)
+
+pub returns-in-Closed-Some-clause-bodies : goal.returns-in-Closed-Some-clause-bodies
+returns-in-Closed-Some-clause-bodies c = λ reached.
+    let sent = along_both c.args.self.now c.tell.new.self c.send_on.new.self (done_along c.args.self.now c.tell.new.self c.in_ok-resumes.ensures.asks) (asks_along c.tell.new.self c.send_on.new.self c.in_ok-send_on.ensures.asks) in
+    along_on c.close_link.result c.args.self.now c.send_on.new.self c.close_link.new.self sent (same_along_on c.close_link.result c.send_on.new.self c.close_link.new.self c.close_link.ensures.asks)
+
+pub returns-in-Closed-None-clause-bodies : goal.returns-in-Closed-None-clause-bodies
+returns-in-Closed-None-clause-bodies c = λ reached.
+    let sent = along_both c.args.self.now c.tell.new.self c.send_on.new.self (done_along c.args.self.now c.tell.new.self c.in_ok-resumes.ensures.asks) (asks_along c.tell.new.self c.send_on.new.self c.in_ok-send_on.ensures.asks) in
+    along_on c.close_link-in-Closed-None.result c.args.self.now c.send_on.new.self c.close_link-in-Closed-None.new.self sent (same_along_on c.close_link-in-Closed-None.result c.send_on.new.self c.close_link-in-Closed-None.new.self c.close_link-in-Closed-None.ensures.asks)
+
+pub returns-in-Goes-None-clause-bodies : goal.returns-in-Goes-None-clause-bodies
+returns-in-Goes-None-clause-bodies c = λ reached.
+    along_both c.args.self.now c.tell.new.self c.send_on.new.self (done_along c.args.self.now c.tell.new.self c.in_ok-resumes.ensures.asks) (asks_along c.tell.new.self c.send_on.new.self c.in_ok-send_on.ensures.asks)
+
+pub returns-in-Finished-None-clause-bodies : goal.returns-in-Finished-None-clause-bodies
+returns-in-Finished-None-clause-bodies c = λ reached.
+    along_both c.args.self.now c.tell.new.self c.send_on.new.self (done_along c.args.self.now c.tell.new.self c.in_ok-resumes.ensures.asks) (asks_along c.tell.new.self c.send_on.new.self c.in_ok-send_on.ensures.asks)
+
+pub returns-in-Acknowledged-None-clause-bodies : goal.returns-in-Acknowledged-None-clause-bodies
+returns-in-Acknowledged-None-clause-bodies c = λ reached.
+    along_both c.args.self.now c.tell.new.self c.send_on.new.self (done_along c.args.self.now c.tell.new.self c.in_ok-resumes.ensures.asks) (asks_along c.tell.new.self c.send_on.new.self c.in_ok-send_on.ensures.asks)
+
+pub returns-then-resumes-clause-bodies : goal.returns-then-resumes-clause-bodies
+returns-then-resumes-clause-bodies c = λ reached.
+    let sent = along_both c.args.self.now c.tell.new.self c.send_on.new.self (done_along c.args.self.now c.tell.new.self c.in_ok-resumes.ensures.asks) (asks_along c.tell.new.self c.send_on.new.self c.in_ok-send_on.ensures.asks) in
+    let told : IsReached (desk_in c.tell.new.self.desk) = subst (λ (d : desks.Desk). IsReached (desk_in d)) (sym c.in_ok-resumes.ensures.desk) reached in
+    let there : IsReached (desk_in c.send_on.new.self.desk) = put_reached c.tell.new.self.desk c.send_on.new.self.desk c.send_on.new.self.desk c.in_ok-send_on.ensures.goes refl told in
+    along_on c.resume.result c.args.self.now c.send_on.new.self c.resume.new.self sent (c.resume.ensures.bodies there)
+
+pub returns-in-Goes-Some-clause-ordered : goal.returns-in-Goes-Some-clause-ordered
+returns-in-Goes-Some-clause-ordered c = ordered_on c.order_write.result _ _ _ c.order_write.ensures.ordered (ordered_both _ _ _ c.in_ok-resumes.ensures.ordered c.in_ok-send_on.ensures.ordered)
+
+pub returns-in-Finished-Some-clause-ordered : goal.returns-in-Finished-Some-clause-ordered
+returns-in-Finished-Some-clause-ordered c = ordered_on c.order_write-in-Finished-Some.result _ _ _ c.order_write-in-Finished-Some.ensures.ordered (ordered_both _ _ _ c.in_ok-resumes.ensures.ordered c.in_ok-send_on.ensures.ordered)
+
+pub returns-else-resumes-clause-ordered : goal.returns-else-resumes-clause-ordered
+returns-else-resumes-clause-ordered c = ordered_on c.order_write-else-resumes.result _ _ _ c.order_write-else-resumes.ensures.ordered (ordered_both _ _ _ c.in_ok-resumes.ensures.ordered c.in_ok-send_on.ensures.ordered)
+
+pub returns-then-resumes-clause-ordered : goal.returns-then-resumes-clause-ordered
+returns-then-resumes-clause-ordered c = ordered_on c.resume.result _ _ _ c.resume.ensures.ordered (ordered_both _ _ _ c.in_ok-resumes.ensures.ordered c.in_ok-send_on.ensures.ordered)
+
+pub returns-in-Closed-Some-clause-ordered : goal.returns-in-Closed-Some-clause-ordered
+returns-in-Closed-Some-clause-ordered c = ordered_on c.close_link.result _ _ _ c.close_link.ensures.ordered (ordered_both _ _ _ c.in_ok-resumes.ensures.ordered c.in_ok-send_on.ensures.ordered)
+
+pub returns-in-Closed-None-clause-ordered : goal.returns-in-Closed-None-clause-ordered
+returns-in-Closed-None-clause-ordered c = ordered_on c.close_link-in-Closed-None.result _ _ _ c.close_link-in-Closed-None.ensures.ordered (ordered_both _ _ _ c.in_ok-resumes.ensures.ordered c.in_ok-send_on.ensures.ordered)
+
+pub returns-in-Goes-None-clause-ordered : goal.returns-in-Goes-None-clause-ordered
+returns-in-Goes-None-clause-ordered c = ordered_both _ _ _ c.in_ok-resumes.ensures.ordered c.in_ok-send_on.ensures.ordered
+
+pub returns-in-Finished-None-clause-ordered : goal.returns-in-Finished-None-clause-ordered
+returns-in-Finished-None-clause-ordered c = ordered_both _ _ _ c.in_ok-resumes.ensures.ordered c.in_ok-send_on.ensures.ordered
+
+pub returns-in-Acknowledged-None-clause-ordered : goal.returns-in-Acknowledged-None-clause-ordered
+returns-in-Acknowledged-None-clause-ordered c = ordered_both _ _ _ c.in_ok-resumes.ensures.ordered c.in_ok-send_on.ensures.ordered
+
+pub returns-in-Goes-Some-clause-wakes : goal.returns-in-Goes-Some-clause-wakes
+returns-in-Goes-Some-clause-wakes c =
+    ok_more c.order_write.result _ _
+    (λ w key h. woken_mine c.in-Some.heard c.in-Goes-Some.key key (ends_in c.args.self.now.applications) c.order_write.new.self.applications c.order_write.new.self.orders.items (search rules) w (hands_as c.args.heard c.in-Some.heard key _ c.in-Some.is h)) c.order_write.ensures.wakes
+
+pub returns-in-Finished-Some-clause-wakes : goal.returns-in-Finished-Some-clause-wakes
+returns-in-Finished-Some-clause-wakes c =
+    ok_more c.order_write-in-Finished-Some.result _ _
+    (λ w key h. woken_mine c.in-Some.heard c.in-Finished-Some.key key (ends_in c.args.self.now.applications) c.order_write-in-Finished-Some.new.self.applications c.order_write-in-Finished-Some.new.self.orders.items (search rules) w (hands_as c.args.heard c.in-Some.heard key _ c.in-Some.is h)) c.order_write-in-Finished-Some.ensures.wakes
+
+pub returns-else-resumes-clause-wakes : goal.returns-else-resumes-clause-wakes
+returns-else-resumes-clause-wakes c =
+    ok_more c.order_write-else-resumes.result _ _
+    (λ w key h. woken_mine c.in-Some.heard c.in-Acknowledged-Some.key key (ends_in c.args.self.now.applications) c.order_write-else-resumes.new.self.applications c.order_write-else-resumes.new.self.orders.items (search rules) w (hands_as c.args.heard c.in-Some.heard key _ c.in-Some.is h)) c.order_write-else-resumes.ensures.wakes
+
+pub returns-in_default-clause-wakes : goal.returns-in_default-clause-wakes
+returns-in_default-clause-wakes c = ok_if c.lose.result _ (λ key h. absurd (hands_nobody c.args.heard key _ c.in_default.is h))
+
+pub returns-in-Goes-None-clause-wakes : goal.returns-in-Goes-None-clause-wakes
+returns-in-Goes-None-clause-wakes c = λ key h. absurd (not_nobody c.in-Some.heard key _ (search rules) (hands_as c.args.heard c.in-Some.heard key _ c.in-Some.is h))
+
+pub returns-in-Finished-None-clause-wakes : goal.returns-in-Finished-None-clause-wakes
+returns-in-Finished-None-clause-wakes c = λ key h. absurd (not_nobody c.in-Some.heard key _ (search rules) (hands_as c.args.heard c.in-Some.heard key _ c.in-Some.is h))
+
+pub returns-in-Acknowledged-None-clause-wakes : goal.returns-in-Acknowledged-None-clause-wakes
+returns-in-Acknowledged-None-clause-wakes c = λ key h. absurd (not_nobody c.in-Some.heard key _ (search rules) (hands_as c.args.heard c.in-Some.heard key _ c.in-Some.is h))
+
+pub returns-then-resumes-clause-wakes : goal.returns-then-resumes-clause-wakes
+returns-then-resumes-clause-wakes c = ok_if c.resume.result _ (λ key h. absurd (c.in_ok-resumes.ensures.silent (search rules) key (hands_as c.args.heard c.in-Some.heard key _ c.in-Some.is h)))
+
+pub returns-in-Closed-Some-clause-wakes : goal.returns-in-Closed-Some-clause-wakes
+returns-in-Closed-Some-clause-wakes c = ok_if c.close_link.result _ (λ key h. absurd (not_closed c.in-Some.heard key _ (search rules) (hands_as c.args.heard c.in-Some.heard key _ c.in-Some.is h)))
+
+pub returns-in-Closed-None-clause-wakes : goal.returns-in-Closed-None-clause-wakes
+returns-in-Closed-None-clause-wakes c = ok_if c.close_link-in-Closed-None.result _ (λ key h. absurd (not_closed c.in-Some.heard key _ (search rules) (hands_as c.args.heard c.in-Some.heard key _ c.in-Some.is h)))

@@ -5,6 +5,10 @@ use Rattle.tds_relay.proofs.steps.Fronts.{moves_closes, moves_does, moves_same}
 use Rattle.tds_relay.proofs.steps.Reaching.{ok_if, ok_more, reaches_turn}
 use Rattle.tds_relay.proofs.steps.Staying.{stays_on}
 use Rattle.tds_relay.proofs.bytes.Calls.{stand_at, stand_on}
+use Rattle.tds_relay.proofs.spared.Coming.{alike_along, along_on, asks_along_on, start_along}
+use Rattle.tds_relay.proofs.spared.Ordered.{ordered_on, ordered_same}
+use Rattle.tds_relay.specs.Ties.{IsReached}
+use Rattle.tds_relay.proofs.steps.Reaching.{reached_on}
 use Rattle.tds_relay.proofs.relay.Relay.keep.Goals as goal
 
 pub returns-in-Kept-clause-goes : goal.returns-in-Kept-clause-goes
@@ -43,3 +47,23 @@ returns-in-NotKept-clause-stand c = stand_on c.replace.result _ _ _ c.in_ok-hold
 
 pub returns-in-Closed-clause-stand : goal.returns-in-Closed-clause-stand
 returns-in-Closed-clause-stand c = ok_if c.close.result _ (stand_at _ _ _ c.in_ok-hold.ensures.stand c.close.ensures.desk)
+
+pub returns-in-Kept-clause-bodies : goal.returns-in-Kept-clause-bodies
+returns-in-Kept-clause-bodies c = λ reached.
+    let there : IsReached (desk_in c.restart.new.self.desk) =
+    reached_on (Connection c.args.number) (desk_in c.args.self.now.desk) (desk_in c.restart.new.self.desk)
+    (λ from h. subst (λ (d : code.Desk). Reaches (Connection c.args.number) from (desk_in d)) (sym c.restart.ensures.desk) (reaches_turn (Connection c.args.number) from _ _ _ _ _ c.in_ok-hold.ensures.turns.1 tt h)) reached in
+    along_on c.start_kept.result c.args.self.now c.restart.new.self c.start_kept.new.self (alike_along c.args.self.now c.restart.new.self c.restart.ensures.same)
+    (start_along c.start_kept.result c.args.key c.restart.new.self c.start_kept.new.self there c.start_kept.ensures.body c.start_kept.ensures.others)
+
+pub returns-in-NotKept-clause-bodies : goal.returns-in-NotKept-clause-bodies
+returns-in-NotKept-clause-bodies c = λ reached.
+    along_on c.replace.result c.args.self.now _ c.replace.new.self (alike_along c.args.self.now _ refl)
+    (c.replace.ensures.bodies
+    (reached_on (Connection c.args.number) (desk_in c.args.self.now.desk) _ (λ from h. reaches_turn (Connection c.args.number) from _ _ _ _ _ c.in_ok-hold.ensures.turns.1 tt h) reached))
+
+pub returns-in-Closed-clause-bodies : goal.returns-in-Closed-clause-bodies
+returns-in-Closed-clause-bodies c = λ reached. asks_along_on c.close.result c.args.self.now c.close.new.self c.close.ensures.asks
+
+pub returns-in-Kept-clause-ordered : goal.returns-in-Kept-clause-ordered
+returns-in-Kept-clause-ordered c = ordered_on c.start_kept.result _ _ _ c.start_kept.ensures.ordered (ordered_same _ _ c.restart.ensures.orders)

@@ -14,7 +14,10 @@ use Rattle.tds_relay.specs.Bodies.{body_in}
 use Rattle.tds_relay.specs.declared.application.Application.{Application as AnApplication}
 use Rattle.tds_relay.proofs.steps.Renaming.{names_left, names_on}
 use Rattle.tds_relay.specs.Posts.{names_in, names_of}
-use Rattle.tds_relay.proofs.spared.Ordered.{ordered_on}
+use Rattle.tds_relay.proofs.spared.Ordered.{ordered_on, ordered_refl}
+use Rattle.tds_relay.proofs.spared.Closings.{closes_both, closes_kept, closes_nobody, closes_with, sees_refl}
+use Rattle.tds_relay.proofs.spared.Lines.{waited_left}
+use Rattle.tds_relay.specs.Closings.{IsWaiting, Nobody, register_in, without_key}
 use Rattle.tds_relay.proofs.relay.Relay.left.Goals as goal
 
 pub returns-clause-left : goal.returns-clause-left
@@ -56,3 +59,10 @@ returns-clause-names c =
 
 pub returns-clause-ordered : goal.returns-clause-ordered
 returns-clause-ordered c = ordered_on c.serve_line.result _ _ _ c.serve_line.ensures.ordered c.in_ok-release.ensures.ordered
+
+pub returns-clause-closes : goal.returns-clause-closes
+returns-clause-closes c = let old = c.args.self.now in
+    let quit = ends_quit old.applications c.try_remove.new.self c.args.key c.try_remove.result c.try_remove.ensures.value c.try_remove.ensures.slots c.try_remove.ensures.absent in
+    let gone = quits_is old.applications c.try_remove.new.self c.args.key c.try_remove.result c.try_remove.ensures.value c.try_remove.ensures.slots c.try_remove.ensures.absent in
+    closes_with c.serve_line.result (IsWaiting (desk_in c.release.new.self.desk).line) (IsWaiting (desk_in c.args.self.now.desk).line) _ _ _ (waited_left c.args.key (desk_in old.desk) (desk_in c.release.new.self.desk) c.in_ok-release.ensures.leaving) c.serve_line.ensures.closes
+    (closes_nobody (IsWaiting (desk_in c.args.self.now.desk).line) _ _ (closes_both Nobody _ _ _ (closes_kept Nobody (without_key c.args.key (register_in old)) _ quit (ap names_of gone ∙ names_left c.args.key (posts_in old.applications)) refl (sees_refl old.links.items) (ordered_refl old.orders.items)) c.in_ok-release.ensures.closes))

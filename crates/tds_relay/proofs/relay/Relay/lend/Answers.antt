@@ -9,6 +9,8 @@ use Rattle.tds_relay.proofs.spared.Resting.{go_on, go_on_one, pushed_rest, rest_
 use Rattle.tds_relay.specs.Fronts.{hall_in}
 use Rattle.tds_relay.proofs.spared.Apart.{alone_on, alone_refl, alone_same}
 use Rattle.tds_relay.proofs.spared.Ordered.{ordered_on, ordered_same}
+use Rattle.tds_relay.proofs.spared.Closings.{closes_first, closes_pushed}
+use Rattle.tds_relay.specs.Closings.{Itself}
 use Rattle.tds_relay.proofs.relay.Relay.lend.Goals as goal
 
 pub returns-then-served-clause-opens : goal.returns-then-served-clause-opens
@@ -44,3 +46,9 @@ returns-then-served-clause-ordered c = ordered_on c.start_kept.result _ _ _ c.st
 
 pub returns-clause-ordered : goal.returns-clause-ordered
 returns-clause-ordered c = (_, c.in_ok-push-2.ensures.items)
+
+pub returns-then-served-clause-closes : goal.returns-then-served-clause-closes
+returns-then-served-clause-closes c = closes_first c.start_kept.result (Itself c.args.served.hold.key) _ _ _ c.start_kept.ensures.closes c.restart.ensures.closes
+
+pub returns-clause-closes : goal.returns-clause-closes
+returns-clause-closes c = closes_pushed (Itself c.args.served.hold.key) _ _ _ c.args.served.hold.number refl refl refl c.in_ok-push.ensures.items c.in_ok-link.ensures.number c.in_ok-push-2.ensures.items

@@ -6,8 +6,10 @@ use Rattle.tds_relay.proofs.steps.Reaching.{ok_if, ok_more, reaches_turn, reache
 use Rattle.tds_relay.proofs.bytes.Calls.{stand_at}
 use Rattle.tds_relay.proofs.spared.Resting.{lost_on}
 use Rattle.tds_relay.specs.Fronts.{ends_in}
-use Rattle.tds_relay.specs.Hall.{change_whose, closes}
+use Rattle.tds_relay.specs.Hall.{change_whose, closes, holder}
 use Rattle.tds_relay.proofs.spared.Apart.{line_loses}
+use Rattle.tds_relay.proofs.spared.Closings.{closes_more_on}
+use Rattle.tds_relay.specs.Closings.{IsWho}
 use Rattle.tds_relay.proofs.relay.Relay.lose.Goals as goal
 
 pub returns-clause-lost : goal.returns-clause-lost
@@ -42,3 +44,6 @@ returns-clause-ends c = ok_more c.close.result _ _ (λ e. e ∙ ap (λ (o : Opti
 
 pub returns-clause-line : goal.returns-clause-line
 returns-clause-line c = ok_if c.close.result _ (ap (λ (d : code.Desk). (desk_in d).line) c.close.ensures.desk ∙ line_loses c.args.number _ _ _ _ c.in_ok-key.ensures.turns)
+
+pub returns-clause-closes : goal.returns-clause-closes
+returns-clause-closes c = closes_more_on c.close.result (IsWho c.in_ok-key.key) (IsWho (holder (desk_in c.args.self.now.desk) c.args.number)) _ _ (λ key e. sym c.in_ok-key.ensures.whose ∙ e) c.close.ensures.closes

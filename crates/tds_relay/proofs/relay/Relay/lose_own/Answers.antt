@@ -2,6 +2,10 @@ use Rattle.std.proofs.Common.{◌≡◌, ◌==◌, ◌∙◌, Some, ap, rules, s
 use Rattle.std.proofs.lemmas.Bool.{eqb-true}
 use Rattle.tds_relay.specs.Fronts.{hall_in}
 use Rattle.tds_relay.proofs.spared.Apart.{alone_lost}
+use Rattle.tds_relay.proofs.spared.Closings.{closes_more_on}
+use Rattle.tds_relay.specs.Closings.{IsWho, Itself}
+use Rattle.tds_relay.specs.Hall.{holder}
+use Rattle.tds_relay.specs.Ties.{desk_in}
 use Rattle.tds_relay.proofs.relay.Relay.lose_own.Goals as goal
 
 pub returns-then-holder-key-clause-alone : goal.returns-then-holder-key-clause-alone
@@ -9,3 +13,11 @@ returns-then-holder-key-clause-alone c =
     let same : (c.in-Some.holder == c.args.key) ≡ true = search rules in
     alone_lost c.lose.result c.args.key c.args.number (hall_in c.args.self.now) (hall_in c.lose.new.self)
     (sym c.key_on.ensures ∙ c.in-Some.is ∙ ap (λ (k : ℕ). Some k) (eqb-true c.in-Some.holder c.args.key same)) c.lose.ensures.ends c.lose.ensures.line
+
+pub returns-then-holder-key-clause-closes : goal.returns-then-holder-key-clause-closes
+returns-then-holder-key-clause-closes c = closes_more_on c.lose.result (IsWho (holder (desk_in c.args.self.now.desk) c.args.number)) (Itself c.args.key) _ _
+    (λ key e.
+    let same : (c.in-Some.holder == c.args.key) ≡ true = search rules in
+    let its : Some key ≡ Some c.in-Some.holder = sym e ∙ sym c.key_on.ensures ∙ c.in-Some.is in
+    let one : key ≡ c.in-Some.holder = cc in
+    one ∙ eqb-true c.in-Some.holder c.args.key same) c.lose.ensures.closes

@@ -8,8 +8,11 @@ use Rattle.tds_relay.proofs.spared.Resting.{go_on, reached_on_does, rest_go}
 use Rattle.tds_relay.proofs.steps.Reaching.{ok_more}
 use Rattle.tds_relay.proofs.steps.Renaming.{names_on}
 use Rattle.tds_relay.specs.Posts.{names_in, names_of}
-use Rattle.std.proofs.Common.{ap}
+use Rattle.std.proofs.Common.{ap, ◌∙◌, inl, inr, sym}
 use Rattle.tds_relay.proofs.spared.Ordered.{ordered_on}
+use Rattle.tds_relay.proofs.spared.Closings.{closes_more, closes_with}
+use Rattle.tds_relay.specs.Closings.{IsWaiting, IsWho, WhoOrWaiting}
+use Rattle.tds_relay.specs.Hall.{holder, is_in}
 use Rattle.tds_relay.proofs.relay.Relay.lost.Goals as goal
 
 pub returns-clause-steps : goal.returns-clause-steps
@@ -40,3 +43,7 @@ returns-clause-only c = loses_only c.serve_line.result c.args.number (hall_in c.
 
 pub returns-clause-ordered : goal.returns-clause-ordered
 returns-clause-ordered c = ordered_on c.serve_line.result _ _ _ c.serve_line.ensures.ordered c.in_ok-lose.ensures.ordered
+
+pub returns-clause-closes : goal.returns-clause-closes
+returns-clause-closes c = closes_with c.serve_line.result (IsWaiting (desk_in c.lose.new.self.desk).line) (WhoOrWaiting (holder (desk_in c.args.self.now.desk) c.args.number) (desk_in c.args.self.now.desk).line) _ _ _ (λ key e. inr (ap (is_in key) (sym c.in_ok-lose.ensures.line) ∙ e)) c.serve_line.ensures.closes
+    (closes_more (IsWho (holder (desk_in c.args.self.now.desk) c.args.number)) (WhoOrWaiting (holder (desk_in c.args.self.now.desk) c.args.number) (desk_in c.args.self.now.desk).line) _ _ (λ key e. inl e) c.in_ok-lose.ensures.closes)

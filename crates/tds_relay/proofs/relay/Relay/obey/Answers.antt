@@ -15,6 +15,8 @@ use Rattle.tds_relay.proofs.bytes.Calls.{stand_at}
 use Rattle.tds_relay.specs.Bodies.{Grows, Nowhere, Obeys, Stays, body_of, going_of}
 use Rattle.tds_relay.proofs.steps.Bodied.{forgot_on}
 use Rattle.tds_relay.proofs.steps.Quieting.{Drops, quiet_fed}
+use Rattle.tds_relay.proofs.spared.Closings.{closes_on}
+use Rattle.tds_relay.specs.Closings.{Itself}
 use Rattle.tds_relay.proofs.relay.Relay.obey.Goals as goal
 
 pub returns-in-Begin-clause-given : goal.returns-in-Begin-clause-given
@@ -144,3 +146,6 @@ returns-in_ok-forget-in-Acknowledge-clause-body c = ok_more c.acknowledge.result
 
 pub returns-in-HandOn-clause-body : goal.returns-in-HandOn-clause-body
 returns-in-HandOn-clause-body c = ok_more c.hand_on.result _ _ (λ h. subst (λ (s : Said). Obeys s c.args.bytes.now (body_of c.args.key c.args.self.now) (body_of c.args.key c.hand_on.new.self)) (sym c.in-HandOn.is) (record { mid = body_of c.args.key c.hand_on.new.self; does = h; starts = Stays })) c.hand_on.ensures.body
+
+pub returns-in_ok-forget-in-Acknowledge-clause-closes : goal.returns-in_ok-forget-in-Acknowledge-clause-closes
+returns-in_ok-forget-in-Acknowledge-clause-closes c = closes_on c.acknowledge.result (Itself c.args.key) _ _ _ c.acknowledge.ensures.closes c.in_ok-forget-in-Acknowledge.ensures.closes

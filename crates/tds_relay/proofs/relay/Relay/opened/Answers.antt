@@ -1,4 +1,4 @@
-use Rattle.std.proofs.Common.{◌∙◌, ap, subst, sym}
+use Rattle.std.proofs.Common.{◌∙◌, ap, subst, sym, inl, inr}
 use Rattle.tds_relay.specs.Fronts.{house_in}
 use Rattle.tds_relay.specs.Ties.{desk_in, IsReached}
 use Rattle.tds_relay.proofs.steps.Stepping.{no_steps, steps_moved, steps_same, steps_whoever}
@@ -11,6 +11,10 @@ use Rattle.tds_relay.proofs.spared.Starting.{started_on}
 use Rattle.tds_relay.proofs.steps.Renaming.{names_on}
 use Rattle.tds_relay.specs.Posts.{names_in, names_of}
 use Rattle.tds_relay.proofs.spared.Ordered.{ordered_both, ordered_on, ordered_same}
+use Rattle.tds_relay.proofs.spared.Closings.{closes_both, closes_more, closes_nobody, closes_with}
+use Rattle.tds_relay.proofs.spared.Lines.{waited_on}
+use Rattle.tds_relay.specs.Closings.{IsWaiting, IsWho, Nobody, WhoOrWaiting}
+use Rattle.tds_relay.specs.Hall.{holder, is_in}
 use Rattle.tds_relay.proofs.relay.Relay.opened.Goals as goal
 
 pub returns-clause-steps : goal.returns-clause-steps
@@ -66,3 +70,11 @@ returns-clause-names c =
 pub returns-clause-ordered : goal.returns-clause-ordered
 returns-clause-ordered c = ordered_on c.serve_line.result _ _ _ c.serve_line.ensures.ordered
     (ordered_both _ _ _ (ordered_both _ _ _ (ordered_same _ _ c.set_open.ensures.orders) c.in_ok-order_write_on.ensures.ordered) c.in_ok-start_on.ensures.ordered)
+
+pub returns-clause-closes : goal.returns-clause-closes
+returns-clause-closes c = let same = c.order_write_on.ensures.desk ∙ c.set_open.ensures.desk in
+    let first = closes_both Nobody _ _ _ c.set_open.ensures.closes c.in_ok-order_write_on.ensures.closes in
+    closes_with c.serve_line.result (IsWaiting (desk_in c.start_on.new.self.desk).line) (WhoOrWaiting (holder (desk_in c.args.self.now.desk) c.args.number) (desk_in c.args.self.now.desk).line) _ _ _
+    (λ key e. inr (ap (λ (d : code.Desk). is_in key (desk_in d).line) (sym same) ∙ waited_on (desk_in c.order_write_on.new.self.desk) (desk_in c.start_on.new.self.desk) c.in_ok-start_on.ensures.goes key e)) c.serve_line.ensures.closes
+    (closes_both (WhoOrWaiting (holder (desk_in c.args.self.now.desk) c.args.number) (desk_in c.args.self.now.desk).line) _ _ _ (closes_nobody (WhoOrWaiting (holder (desk_in c.args.self.now.desk) c.args.number) (desk_in c.args.self.now.desk).line) _ _ first)
+    (closes_more (IsWho (holder (desk_in c.order_write_on.new.self.desk) c.args.number)) (WhoOrWaiting (holder (desk_in c.args.self.now.desk) c.args.number) (desk_in c.args.self.now.desk).line) _ _ (λ key e. inl (ap (λ (d : code.Desk). holder (desk_in d) c.args.number) (sym same) ∙ e)) c.in_ok-start_on.ensures.closes))

@@ -1,8 +1,33 @@
-use Rattle.std.proofs.Common.{ap}
+use Rattle.std.proofs.Common.{ap, inl, inr, refl, rules, subst, sym}
+use Rattle.tds_relay.specs.Hall.{Ends, end_at}
+use Rattle.tds_relay.specs.Taking.{IsDeaf}
 use Rattle.tds_relay.specs.Ties.{desk_in}
+use Rattle.tds_relay.specs.declared.order.Order.TheVariants as orders
+use Rattle.tds_relay.proofs.spared.Ordered.{ordered_closing, ordered_refl}
+use Rattle.tds_relay.proofs.spared.Waking.{name_there, to_do_last}
 use Rattle.tds_relay.proofs.steps.Fronts.{moves_closes}
 use Rattle.tds_relay.proofs.steps.Reaching.{ok_more}
+use Rattle.tds_relay.proofs.steps.Told.{deaf_closed}
+use Rattle.tds_relay.proofs.steps.Underway.{none_deaf}
+use Rattle.tds_relay.proofs.spared.Closings.{closes_kept, sees_refl}
+use Rattle.tds_relay.specs.Closings.{Itself}
 use Rattle.tds_relay.proofs.relay.Relay.order_write.Goals as goal
 
 pub returns-then-is_full-clause-moves : goal.returns-then-is_full-clause-moves
 returns-then-is_full-clause-moves c = ok_more c.end.result _ _ (λ e by from h. moves_closes by from _ _ _ _ c.args.key (ap desk_in c.end.ensures.desk) e h) c.end.ensures.ends
+
+pub returns-then-is_full-clause-ordered : goal.returns-then-is_full-clause-ordered
+returns-then-is_full-clause-ordered c = ordered_closing c.end.result _ _ _ _ c.end.ensures.ordered (ordered_refl _)
+
+pub returns-in_default-clause-wakes : goal.returns-in_default-clause-wakes
+returns-in_default-clause-wakes c = inl (none_deaf c.args.key c.args.self.now.applications (search rules))
+
+pub returns-then-is_full-clause-wakes : goal.returns-then-is_full-clause-wakes
+returns-then-is_full-clause-wakes c = ok_more c.end.result _ _ (λ e. inl (subst (λ (es : Ends). IsDeaf (end_at es c.args.key)) (sym e) (deaf_closed c.args.key _))) c.end.ensures.ends
+
+pub returns-clause-wakes : goal.returns-clause-wakes
+returns-clause-wakes c =
+    inr (c.in-Some.application.now.tag, name_there c.args.self.now.applications c.args.key c.in-Some.application.now c.in-Some.ensures, to_do_last (orders.Write c.in-Some.application.now.tag) c.args.self.now.orders.items c.push.new.self.items (search rules))
+
+pub returns-clause-closes : goal.returns-clause-closes
+returns-clause-closes c = closes_kept (Itself c.args.key) _ _ refl refl refl (sees_refl c.args.self.now.links.items) (_, c.in_ok-push.ensures.items)

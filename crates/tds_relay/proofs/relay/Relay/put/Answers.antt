@@ -19,6 +19,8 @@ use Rattle.tds_relay.specs.Fronts.{MayPut, hall_in}
 use Rattle.tds_relay.specs.Hall.{closes}
 use Rattle.tds_relay.proofs.spared.Apart.{alone_both, alone_changed, alone_on, alone_same}
 use Rattle.tds_relay.proofs.spared.Ordered.{ordered_both, ordered_closing, ordered_on, ordered_refl, ordered_same}
+use Rattle.tds_relay.proofs.spared.Closings.{closes_both, closes_first, closes_nobody}
+use Rattle.tds_relay.specs.Closings.{Itself, Nobody}
 use Rattle.tds_relay.proofs.relay.Relay.put.Goals as goal
 
 pub returns-in_default-clause-moves : goal.returns-in_default-clause-moves
@@ -173,3 +175,12 @@ returns-then-fits-clause-ordered c = ordered_both _ _ _ (ordered_same _ _ c.note
 
 pub returns-else-fits-clause-ordered : goal.returns-else-fits-clause-ordered
 returns-else-fits-clause-ordered c = ordered_on c.fail-else-fits.result _ _ _ c.fail-else-fits.ensures.ordered (ordered_both _ _ _ (ordered_same _ _ c.note_went_on.ensures.orders) c.in_ok-fits.ensures.ordered)
+
+pub returns-then-not-is_put-clause-closes : goal.returns-then-not-is_put-clause-closes
+returns-then-not-is_put-clause-closes c = closes_first c.fail-then-not-is_put.result (Itself c.args.key) _ _ _ c.fail-then-not-is_put.ensures.closes c.note_went_on.ensures.closes
+
+pub returns-then-fits-clause-closes : goal.returns-then-fits-clause-closes
+returns-then-fits-clause-closes c = closes_nobody (Itself c.args.key) _ _ (closes_both Nobody _ _ _ c.note_went_on.ensures.closes c.in_ok-fits.ensures.closes)
+
+pub returns-else-fits-clause-closes : goal.returns-else-fits-clause-closes
+returns-else-fits-clause-closes c = closes_first c.fail-else-fits.result (Itself c.args.key) _ _ _ c.fail-else-fits.ensures.closes (closes_both Nobody _ _ _ c.note_went_on.ensures.closes c.in_ok-fits.ensures.closes)

@@ -11,6 +11,11 @@ use Rattle.tds_relay.specs.Fronts.{ends_in, hall_in, hall_of_ends}
 use Rattle.tds_relay.specs.Ties.{desk_in}
 use Rattle.tds_relay.proofs.steps.Fronts.{ends_kept}
 use Rattle.tds_relay.proofs.spared.Apart.{alone_on, alone_same}
+use Rattle.tds_relay.proofs.spared.Ordered.{ordered_refl}
+use Rattle.tds_relay.specs.Posts.{names_of}
+use Rattle.tds_relay.proofs.steps.Posting.{posts_kept}
+use Rattle.tds_relay.proofs.spared.Closings.{closes_kept, closes_on, sees_refl}
+use Rattle.tds_relay.specs.Closings.{Itself}
 use Rattle.tds_relay.proofs.relay.Relay.put_held.Goals as goal
 
 pub returns-in_default-clause-body : goal.returns-in_default-clause-body
@@ -42,3 +47,7 @@ returns-clause-alone c =
     let kept = ends_kept c.args.self.now.applications c.args.key c.in-Some.application.now c.forget.new.self c.in-Some.ensures.value c.forget.ensures.end in
     alone_on c.put.result c.args.key (hall_in c.args.self.now) (hall_of_ends (desk_in c.args.self.now.desk) (ends_in (with_value c.args.self.now.applications c.args.key c.forget.new.self))) _ c.put.ensures.alone
     (alone_same c.args.key (hall_in c.args.self.now) (hall_of_ends (desk_in c.args.self.now.desk) (ends_in (with_value c.args.self.now.applications c.args.key c.forget.new.self))) kept refl)
+
+pub returns-clause-closes : goal.returns-clause-closes
+returns-clause-closes c = closes_on c.put.result (Itself c.args.key) _ _ _ c.put.ensures.closes
+    (closes_kept (Itself c.args.key) _ _ (ends_kept c.args.self.now.applications c.args.key c.in-Some.application.now _ c.in-Some.ensures.value c.forget.ensures.end) (ap names_of (posts_kept c.args.self.now.applications c.args.key c.in-Some.application.now _ c.in-Some.ensures.value c.forget.ensures.post)) refl (sees_refl c.args.self.now.links.items) (ordered_refl c.args.self.now.orders.items))

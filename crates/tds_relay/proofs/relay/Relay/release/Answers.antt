@@ -1,4 +1,4 @@
-use Rattle.std.proofs.Common.{◌∙◌, ap, refl, rules, subst, sym}
+use Rattle.std.proofs.Common.{◌∙◌, ap, refl, rules, subst, sym, None}
 use Rattle.tds_relay.specs.Ties.{desk_in, Reaches}
 use Rattle.tds_relay.proofs.steps.Fronts.{lets_go_first, moved_same, moves_same}
 use Rattle.tds_relay.proofs.steps.Reaching.{ok_more, ok_if, reaches_turned}
@@ -8,6 +8,8 @@ use Rattle.tds_relay.proofs.spared.Letting.{left_rest, shut_rest, unheld_rest, l
 use Rattle.tds_relay.specs.Desk.{find_key}
 use Rattle.tds_relay.specs.declared.desk.Desk as code
 use Rattle.tds_relay.proofs.spared.Ordered.{ordered_on, ordered_same}
+use Rattle.tds_relay.proofs.spared.Closings.{closes_on, closes_with}
+use Rattle.tds_relay.specs.Closings.{IsWho, Nobody}
 use Rattle.tds_relay.proofs.relay.Relay.release.Goals as goal
 
 pub returns-in_default-clause-lets_go : goal.returns-in_default-clause-lets_go
@@ -15,7 +17,7 @@ returns-in_default-clause-lets_go c = lets_go_first c.args.key _ _ _ _ _ c.in_ok
 
 pub returns-then-left-clause-lets_go : goal.returns-then-left-clause-lets_go
 returns-then-left-clause-lets_go c =
-    ok_more c.send_on.result _ _ (λ m. lets_go_first c.args.key _ _ _ _ _ c.in_ok-left.ensures.turns.0 c.in_ok-left.ensures.turns.1 _ _ c.in_ok-left.ensures.turns.2 c.let_go.ensures.ends (λ by. moved_same by _ _ _ _ _ (ap desk_in c.let_go.ensures.desk) refl (m by))) c.send_on.ensures.moves
+    ok_more c.send_unheld.result _ _ (λ m. lets_go_first c.args.key _ _ _ _ _ c.in_ok-left.ensures.turns.0 c.in_ok-left.ensures.turns.1 _ _ c.in_ok-left.ensures.turns.2 c.let_go.ensures.ends (λ by. moved_same by _ _ _ _ _ (ap desk_in c.let_go.ensures.desk) refl (m by))) c.send_unheld.ensures.moves
 
 pub returns-else-left-clause-lets_go : goal.returns-else-left-clause-lets_go
 returns-else-left-clause-lets_go c =
@@ -25,7 +27,7 @@ pub returns-in_default-clause-read : goal.returns-in_default-clause-read
 returns-in_default-clause-read c = stays_then _ _ _ (stays_refl c.args.self.now.links.items) c.let_go.ensures.links
 
 pub returns-then-left-clause-read : goal.returns-then-left-clause-read
-returns-then-left-clause-read c = stays_from c.send_on.result _ _ _ c.let_go.ensures.links c.send_on.ensures.read
+returns-then-left-clause-read c = stays_from c.send_unheld.result _ _ _ c.let_go.ensures.links c.send_unheld.ensures.read
 
 pub returns-else-left-clause-read : goal.returns-else-left-clause-read
 returns-else-left-clause-read c = stays_from c.close.result _ _ _ c.let_go.ensures.links c.close.ensures.read
@@ -34,7 +36,7 @@ pub returns-in_default-clause-stand : goal.returns-in_default-clause-stand
 returns-in_default-clause-stand c = stand_at _ _ _ c.in_ok-left.ensures.stand c.let_go.ensures.desk
 
 pub returns-then-left-clause-stand : goal.returns-then-left-clause-stand
-returns-then-left-clause-stand c = stand_on c.send_on.result _ _ _ (stand_at _ _ _ c.in_ok-left.ensures.stand c.let_go.ensures.desk) c.send_on.ensures.stand
+returns-then-left-clause-stand c = stand_on c.send_unheld.result _ _ _ (stand_at _ _ _ c.in_ok-left.ensures.stand c.let_go.ensures.desk) c.send_unheld.ensures.stand
 
 pub returns-else-left-clause-stand : goal.returns-else-left-clause-stand
 returns-else-left-clause-stand c = ok_if c.close.result _ (stand_at _ _ _ c.in_ok-left.ensures.stand (c.close.ensures.desk ∙ c.let_go.ensures.desk))
@@ -45,9 +47,9 @@ returns-in_default-clause-others c = λ reached.
 
 pub returns-then-left-clause-others : goal.returns-then-left-clause-others
 returns-then-left-clause-others c = λ reached.
-    left_rest c.send_on.result c.args.key c.in-Some.left (find_key c.args.key c.args.self.now.desk.holds.items) c.args.self.now _ c.send_on.new.self c.leave.new.self refl (search rules) reached c.in_ok-left.ensures.others c.let_go.ensures.desk c.let_go.ensures.links
-    c.let_go.ensures.asks c.send_on.ensures.asks
-    (c.send_on.ensures.sends (left_reached c.args.key c.args.self.now.desk c.leave.new.self c.let_go.new.self.desk _ _ _ _ c.in_ok-left.ensures.turns.2 c.let_go.ensures.desk reached))
+    left_rest c.send_unheld.result c.args.key c.in-Some.left (find_key c.args.key c.args.self.now.desk.holds.items) c.args.self.now _ c.send_unheld.new.self c.leave.new.self refl (search rules) reached c.in_ok-left.ensures.others c.let_go.ensures.desk c.let_go.ensures.links
+    c.let_go.ensures.asks c.send_unheld.ensures.asks
+    (c.send_unheld.ensures.sends (left_reached c.args.key c.args.self.now.desk c.leave.new.self c.let_go.new.self.desk _ _ _ _ c.in_ok-left.ensures.turns.2 c.let_go.ensures.desk reached))
 
 pub returns-else-left-clause-others : goal.returns-else-left-clause-others
 returns-else-left-clause-others c = λ reached.
@@ -55,18 +57,27 @@ returns-else-left-clause-others c = λ reached.
     c.let_go.ensures.asks c.close.ensures.desk c.close.ensures.asks c.close.ensures.others
 
 pub returns-then-left-clause-leaving : goal.returns-then-left-clause-leaving
-returns-then-left-clause-leaving c = ok_more c.send_on.result _ _
+returns-then-left-clause-leaving c = ok_more c.send_unheld.result _ _
     (λ g. (
       c.in_ok-left.ensures.turns.0,
       c.in_ok-left.ensures.turns.1,
       λ by from h. g by from (subst (λ (d : code.Desk). Reaches by from (desk_in d)) (sym c.let_go.ensures.desk) (reaches_turned by from _ _ _ _ _ c.in_ok-left.ensures.turns.2 h)),
-    )) c.send_on.ensures.goes
+    )) c.send_unheld.ensures.goes
 
 pub returns-in_default-clause-ordered : goal.returns-in_default-clause-ordered
 returns-in_default-clause-ordered c = ordered_same _ _ c.let_go.ensures.orders
 
 pub returns-then-left-clause-ordered : goal.returns-then-left-clause-ordered
-returns-then-left-clause-ordered c = ordered_on c.send_on.result _ _ _ c.send_on.ensures.ordered (ordered_same _ _ c.let_go.ensures.orders)
+returns-then-left-clause-ordered c = ordered_on c.send_unheld.result _ _ _ c.send_unheld.ensures.ordered (ordered_same _ _ c.let_go.ensures.orders)
 
 pub returns-else-left-clause-ordered : goal.returns-else-left-clause-ordered
 returns-else-left-clause-ordered c = ordered_on c.close.result _ _ _ c.close.ensures.ordered (ordered_same _ _ c.let_go.ensures.orders)
+
+pub returns-in_default-clause-closes : goal.returns-in_default-clause-closes
+returns-in_default-clause-closes c = c.let_go.ensures.closes
+
+pub returns-then-left-clause-closes : goal.returns-then-left-clause-closes
+returns-then-left-clause-closes c = closes_on c.send_unheld.result Nobody _ _ _ c.send_unheld.ensures.closes c.let_go.ensures.closes
+
+pub returns-else-left-clause-closes : goal.returns-else-left-clause-closes
+returns-else-left-clause-closes c = closes_with c.close.result (IsWho None) Nobody _ _ _ (λ key e. (let u : ⊥ = cc in u)) c.close.ensures.closes c.let_go.ensures.closes

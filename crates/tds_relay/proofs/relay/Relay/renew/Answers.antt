@@ -1,4 +1,4 @@
-use Rattle.std.proofs.Common.{ap, inr, refl, rules, subst, sym}
+use Rattle.std.proofs.Common.{ap, inr, refl, rules, subst, sym, ◌≡◌, Some}
 use Rattle.tds_relay.specs.declared.desk.Desk as code
 use Rattle.tds_relay.specs.Ties.{Application, Reaches, desk_in}
 use Rattle.tds_relay.proofs.steps.Fronts.{moves_closes, moves_does, moves_same}
@@ -11,6 +11,8 @@ use Rattle.slab.specs.Slab.{Slab, get}
 use Rattle.tds_relay.specs.declared.application.Application as an
 use Rattle.tds_relay.proofs.steps.Bodied.{closed_body, closed_starts, shut_starts}
 use Rattle.tds_relay.proofs.steps.Going.{waits_from}
+use Rattle.tds_relay.proofs.spared.Closings.{closes_first, closes_more_on}
+use Rattle.tds_relay.specs.Closings.{IsWho, Itself}
 use Rattle.tds_relay.proofs.relay.Relay.renew.Goals as goal
 
 pub returns-in-Kept-clause-goes : goal.returns-in-Kept-clause-goes
@@ -83,3 +85,9 @@ returns-then-has_transaction-clause-stand c = stand_on c.expel.result _ _ _ c.in
 
 pub returns-then-has_transaction-clause-body : goal.returns-then-has_transaction-clause-body
 returns-then-has_transaction-clause-body c = λ whole waits. ok_more c.expel.result _ _ (λ d. shut_starts c.expel.new.self.applications c.args.key (body_of c.args.key c.args.self.now) (going_of c.args.key c.expel.new.self) d) c.expel.ensures.over
+
+pub returns-in-Kept-clause-closes : goal.returns-in-Kept-clause-closes
+returns-in-Kept-clause-closes c = closes_first c.start_kept.result (Itself c.args.key) _ _ _ c.start_kept.ensures.closes c.restart.ensures.closes
+
+pub returns-in-Closed-clause-closes : goal.returns-in-Closed-clause-closes
+returns-in-Closed-clause-closes c = closes_more_on c.close.result (IsWho (Some c.args.key)) (Itself c.args.key) _ _ (λ key e. (let u : Some c.args.key ≡ Some key = e in cc)) c.close.ensures.closes

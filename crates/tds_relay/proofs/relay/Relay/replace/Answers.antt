@@ -7,6 +7,8 @@ use Rattle.tds_relay.proofs.steps.Fronts.{moves_loses, moves_replaces, moves_sam
 use Rattle.tds_relay.proofs.steps.Reaching.{ok_if, ok_more, reaches_turn}
 use Rattle.tds_relay.proofs.steps.Staying.{stays_then}
 use Rattle.tds_relay.proofs.bytes.Calls.{stand_at, stand_on}
+use Rattle.tds_relay.proofs.spared.Coming.{along_both, body_along, rest_along, same_along, same_along_on}
+use Rattle.tds_relay.proofs.spared.Ordered.{ordered_both, ordered_same}
 use Rattle.tds_relay.proofs.relay.Relay.replace.Goals as goal
 
 pub returns-in_default-clause-goes : goal.returns-in_default-clause-goes
@@ -45,3 +47,18 @@ returns-in_default-clause-stand c = ok_if c.close_link.result _ (stand_at _ _ _ 
 
 pub returns-clause-stand : goal.returns-clause-stand
 returns-clause-stand c = stand_on c.wait.result _ _ _ (stand_at _ _ _ c.in_ok-holder.ensures.stand (c.in_ok-close_link.ensures.desk ∙ c.let_go.ensures.desk)) c.wait.ensures.stand
+
+pub returns-then-not-may_replace-clause-bodies : goal.returns-then-not-may_replace-clause-bodies
+returns-then-not-may_replace-clause-bodies c = λ reached. rest_along c.lose.result c.args.self.now c.lose.new.self (c.lose.ensures.rests reached)
+
+pub returns-in_default-clause-bodies : goal.returns-in_default-clause-bodies
+returns-in_default-clause-bodies c = λ reached. same_along_on c.close_link.result c.args.self.now c.close_link.new.self c.close_link.ensures.asks
+
+pub returns-clause-bodies : goal.returns-clause-bodies
+returns-clause-bodies c = λ reached.
+    body_along c.wait.result c.args.self.now c.close_link-2.new.self c.wait.new.self
+    (along_both c.args.self.now c.let_go.new.self c.close_link-2.new.self (same_along c.args.self.now c.let_go.new.self c.let_go.ensures.asks) (same_along c.let_go.new.self c.close_link-2.new.self c.in_ok-close_link.ensures.asks))
+    c.wait.ensures.body
+
+pub returns-clause-ordered : goal.returns-clause-ordered
+returns-clause-ordered c = ok_if c.wait.result _ (ordered_both _ _ _ (ordered_both _ _ _ (ordered_same _ _ c.let_go.ensures.orders) c.in_ok-close_link.ensures.ordered) (ordered_same _ _ c.wait.ensures.orders))

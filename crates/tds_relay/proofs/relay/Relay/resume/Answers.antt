@@ -1,6 +1,11 @@
 use Rattle.std.proofs.Common.{rules}
 use Rattle.tds_relay.proofs.steps.Reaching.{ok_more}
+use Rattle.tds_relay.proofs.spared.Coming.{start_along}
 use Rattle.tds_relay.proofs.relay.Relay.resume.Goals as goal
 
 pub returns-then-asks_to_keep-clause-moves : goal.returns-then-asks_to_keep-clause-moves
 returns-then-asks_to_keep-clause-moves c = ok_more c.keep.result _ _ (λ m. m (c.asks_to_keep.ensures (search rules))) c.keep.ensures.moves
+
+pub returns-else-asks_to_keep-clause-bodies : goal.returns-else-asks_to_keep-clause-bodies
+returns-else-asks_to_keep-clause-bodies c = λ reached.
+    start_along c.start_kept.result c.args.key c.args.self.now c.start_kept.new.self reached c.start_kept.ensures.body c.start_kept.ensures.others

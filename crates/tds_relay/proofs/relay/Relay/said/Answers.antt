@@ -1,5 +1,5 @@
 use Rattle.tds_relay.specs.Fronts.{house_in}
-use Rattle.tds_relay.specs.Ties.{Application}
+use Rattle.tds_relay.specs.Ties.{Application, desk_in}
 use Rattle.tds_relay.proofs.steps.Staying.{opens_served}
 use Rattle.tds_relay.proofs.steps.Stepping.{steps_on_ok}
 use Rattle.tds_relay.proofs.steps.Told.{tells_ok, tells_steps}
@@ -10,6 +10,10 @@ use Rattle.tds_relay.proofs.steps.Carried.{carries_ok}
 use Rattle.tds_relay.proofs.steps.Reaching.{ok_more, reached_on}
 use Rattle.tds_relay.specs.Posts.{names_in}
 use Rattle.tds_relay.proofs.steps.Renaming.{names_on}
+use Rattle.tds_relay.proofs.spared.Closings.{closes_more, closes_with}
+use Rattle.tds_relay.proofs.spared.Lines.{waited_or}
+use Rattle.tds_relay.specs.Closings.{IsWaiting, Itself, ItselfOrWaiting}
+use Rattle.std.proofs.Common.{inl}
 use Rattle.tds_relay.proofs.relay.Relay.said.Goals as goal
 
 pub returns-clause-steps : goal.returns-clause-steps
@@ -38,3 +42,7 @@ returns-clause-carries c = λ reached.
 
 pub returns-clause-names : goal.returns-clause-names
 returns-clause-names c = names_on c.serve_line.result (names_in c.args.self.now.applications) c.take_all.new.self.applications c.serve_line.new.self.applications c.in_ok-take_all.ensures.names c.serve_line.ensures.kept
+
+pub returns-clause-closes : goal.returns-clause-closes
+returns-clause-closes c = closes_with c.serve_line.result (IsWaiting (desk_in c.take_all.new.self.desk).line) (ItselfOrWaiting c.args.key (desk_in c.args.self.now.desk).line) _ _ _ (waited_or c.args.key (desk_in c.args.self.now.desk) (desk_in c.take_all.new.self.desk) c.in_ok-take_all.ensures.goes) c.serve_line.ensures.closes
+    (closes_more (Itself c.args.key) (ItselfOrWaiting c.args.key (desk_in c.args.self.now.desk).line) _ _ (λ key e. inl e) c.in_ok-take_all.ensures.closes)

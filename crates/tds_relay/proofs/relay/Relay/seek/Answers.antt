@@ -4,6 +4,8 @@ use Rattle.tds_relay.proofs.steps.Reaching.{ok_if, ok_more}
 use Rattle.tds_relay.proofs.steps.Staying.{stays_refl, stays_same}
 use Rattle.tds_relay.specs.Bodies.{body_of}
 use Rattle.tds_relay.proofs.steps.Bodied.{same_starts}
+use Rattle.tds_relay.proofs.spared.Closings.{closes_nobody}
+use Rattle.tds_relay.specs.Closings.{Itself}
 use Rattle.tds_relay.proofs.relay.Relay.seek.Goals as goal
 
 pub returns-in-None-clause-goes : goal.returns-in-None-clause-goes
@@ -20,3 +22,6 @@ returns-in-None-clause-read c = stays_same c.wait.result _ _ _ (stays_refl c.arg
 
 pub returns-in-None-clause-body : goal.returns-in-None-clause-body
 returns-in-None-clause-body c = ok_if c.wait.result _ (same_starts (body_of c.args.key c.args.self.now) (body_of c.args.key c.wait.new.self) (c.wait.ensures.body c.args.key))
+
+pub returns-in-None-clause-closes : goal.returns-in-None-clause-closes
+returns-in-None-clause-closes c = ok_if c.wait.result _ (closes_nobody (Itself c.args.key) _ _ c.wait.ensures.closes)

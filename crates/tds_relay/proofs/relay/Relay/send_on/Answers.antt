@@ -1,4 +1,4 @@
-use Rattle.std.proofs.Common.{ap, inl, rules, subst, sym}
+use Rattle.std.proofs.Common.{ap, inl, rules, subst, sym, ◌∙◌}
 use Rattle.tds_relay.specs.Ties.{desk_in, IsReached}
 use Rattle.tds_relay.proofs.steps.Fronts.{moves_same}
 use Rattle.tds_relay.proofs.steps.Reaching.{ok_more}
@@ -7,6 +7,9 @@ use Rattle.tds_relay.proofs.bytes.Calls.{stand_from}
 use Rattle.tds_relay.proofs.spared.Letting.{sent_all}
 use Rattle.tds_relay.specs.declared.desk.Desk as code
 use Rattle.tds_relay.proofs.spared.Ordered.{ordered_on}
+use Rattle.tds_relay.proofs.spared.Closings.{closes_nobody, closes_next}
+use Rattle.tds_relay.specs.Closings.{IsWho}
+use Rattle.tds_relay.specs.Hall.{holder}
 use Rattle.tds_relay.proofs.relay.Relay.send_on.Goals as goal
 
 pub returns-else-fits-clause-read : goal.returns-else-fits-clause-read
@@ -38,3 +41,9 @@ returns-else-fits-clause-puts c = ok_more c.lose.result _ _ (λ g. gone_filled c
 
 pub returns-else-fits-clause-ordered : goal.returns-else-fits-clause-ordered
 returns-else-fits-clause-ordered c = ordered_on c.lose.result _ _ _ c.lose.ensures.ordered c.in_ok-fits.ensures.ordered
+
+pub returns-then-fits-clause-closes : goal.returns-then-fits-clause-closes
+returns-then-fits-clause-closes c = closes_nobody (IsWho (holder (desk_in c.args.self.now.desk) c.args.number)) _ _ c.in_ok-fits.ensures.closes
+
+pub returns-else-fits-clause-closes : goal.returns-else-fits-clause-closes
+returns-else-fits-clause-closes c = closes_next c.lose.result (IsWho (holder (desk_in c.fits_on.new.self.desk) c.args.number)) (IsWho (holder (desk_in c.args.self.now.desk) c.args.number)) _ _ _ (λ key e. ap (λ (d : code.Desk). holder (desk_in d) c.args.number) (sym c.fits_on.ensures.desk) ∙ e) c.lose.ensures.closes c.in_ok-fits.ensures.closes

@@ -4,6 +4,8 @@ use Rattle.tds_relay.proofs.steps.Fronts.{moves_same}
 use Rattle.tds_relay.proofs.steps.Reaching.{ok_more}
 use Rattle.tds_relay.proofs.steps.Staying.{stays_on}
 use Rattle.tds_relay.proofs.bytes.Calls.{stand_from}
+use Rattle.tds_relay.proofs.spared.Closings.{closes_first, closes_nobody}
+use Rattle.tds_relay.specs.Closings.{Itself}
 use Rattle.tds_relay.proofs.relay.Relay.send_stop.Goals as goal
 
 pub returns-else-fits-clause-read : goal.returns-else-fits-clause-read
@@ -24,3 +26,9 @@ returns-then-fits-clause-sends c = inr (c.fits_on.ensures.desk, c.in_ok-fits.ens
 
 pub returns-else-fits-clause-sends : goal.returns-else-fits-clause-sends
 returns-else-fits-clause-sends c = ok_more c.fail.result _ _ (λ d. inl d) c.fail.ensures.over
+
+pub returns-then-fits-clause-closes : goal.returns-then-fits-clause-closes
+returns-then-fits-clause-closes c = closes_nobody (Itself c.args.key) _ _ c.in_ok-fits.ensures.closes
+
+pub returns-else-fits-clause-closes : goal.returns-else-fits-clause-closes
+returns-else-fits-clause-closes c = closes_first c.fail.result (Itself c.args.key) _ _ _ c.fail.ensures.closes c.in_ok-fits.ensures.closes

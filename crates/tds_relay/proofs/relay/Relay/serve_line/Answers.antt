@@ -5,6 +5,11 @@ use Rattle.tds_relay.proofs.steps.Fronts.{moves_does}
 use Rattle.tds_relay.proofs.steps.Reaching.{reaches_turn}
 use Rattle.tds_relay.proofs.steps.Staying.{opens_both}
 use Rattle.tds_relay.proofs.spared.Resting.{go_both, reached_on_does, reached_serves, served_go}
+use Rattle.tds_relay.specs.Closings.{IsWaiting, Itself}
+use Rattle.tds_relay.specs.Fronts.{hall_in}
+use Rattle.tds_relay.specs.Ties.{desk_in}
+use Rattle.tds_relay.proofs.spared.Closings.{closes_both, closes_more, closes_refl}
+use Rattle.tds_relay.proofs.spared.Lines.{served_waited}
 use Rattle.tds_relay.proofs.relay.Relay.serve_line.Goals as goal
 
 pub line-preserved : goal.line-preserved
@@ -18,6 +23,10 @@ line-preserved c = record {
       go_both _ _ _ (λ r. reached_serves _ _ _ _ c.in_ok-served.ensures.ok.0 (reached_on_does _ _ c.line.invariant.goes r))
       (served_go _ _ _ c.line.invariant.goes c.line.invariant.going c.in_ok-served.ensures.holds refl refl) c.in_ok-lend-in-Some.ensures.goes_on;
   ordered = ordered_both _ _ _ c.line.invariant.ordered c.in_ok-lend-in-Some.ensures.ordered;
+  closes =
+      closes_both (IsWaiting (desk_in c.args.self.now.desk).line) _ _ _ c.line.invariant.closes
+      (closes_more (Itself c.in-Some.served.hold.key) (IsWaiting (desk_in c.args.self.now.desk).line) _ _
+      (served_waited (hall_in c.args.self.now) (hall_in c.line.self) _ c.in-Some.served c.line.invariant.unserved c.in_ok-served.ensures.ok.1 c.in-Some.is) c.in_ok-lend-in-Some.ensures.closes);
   unserved =
       unserved_on _ _ _ _ _ c.in-Some.served _ _ c.line.invariant.unserved c.in_ok-served.ensures.ok.1 c.in-Some.is c.in_ok-served.ensures.ok.0 refl c.in_ok-lend-in-Some.ensures.alone;
 }

@@ -7,6 +7,7 @@ use Rattle.tds_relay.specs.Sparing.{AllGo}
 use Rattle.tds_relay.specs.Ties.{GoesOn, desk_in}
 use Rattle.tds_relay.specs.Walkers.{AllStand}
 use Rattle.tds_relay.proofs.spared.Apart.{Unserved}
+use Rattle.tds_relay.specs.Closings.{ClosesOnly, IsWaiting, register_in}
 use Rattle.tds_relay.proofs.relay.Relay.serve_line.Given as goal
 
 abbrev pub invariant-line : goal.invariant-line
@@ -19,4 +20,5 @@ invariant-line l = record {
   going : AllGo l.fn.self l.self;
   ordered : StayOrdered l.fn.self.orders.items l.self.orders.items;
   unserved : Unserved (hall_in l.fn.self) (hall_in l.self);
+  closes : ClosesOnly (IsWaiting (desk_in l.fn.self.desk).line) (register_in l.fn.self) (register_in l.self);
 }

@@ -129,3 +129,9 @@ returns-in-Err-clause-alone c =
 
 pub returns-in_default-hold_of-clause-ordered : goal.returns-in_default-hold_of-clause-ordered
 returns-in_default-hold_of-clause-ordered c = ordered_closing c.end.result _ _ _ _ c.end.ensures.ordered (ordered_refl _)
+
+pub returns-in-Ok-clause-closes : goal.returns-in-Ok-clause-closes
+returns-in-Ok-clause-closes c = c.put_held.ensures.closes
+
+pub returns-in-Err-clause-closes : goal.returns-in-Err-clause-closes
+returns-in-Err-clause-closes c = c.fail.ensures.closes

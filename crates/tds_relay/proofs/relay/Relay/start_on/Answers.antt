@@ -1,8 +1,12 @@
-use Rattle.std.proofs.Common.{sym, ◌∙◌, ◌⊎◌, ℕ}
+use Rattle.std.proofs.Common.{sym, ◌∙◌, ◌⊎◌, ℕ, ap, Some}
 use Rattle.tds_relay.proofs.spared.Resting.{go_on_one, go_refl}
 use Rattle.tds_relay.specs.Bodies.{body_of}
 use Rattle.tds_relay.specs.Sparing.{IsHeldBack, IsUnkept}
 use Rattle.tds_relay.proofs.spared.Starting.{none_own, own_on}
+use Rattle.tds_relay.proofs.spared.Closings.{closes_more_on}
+use Rattle.tds_relay.specs.Closings.{IsWho, Itself}
+use Rattle.tds_relay.specs.Hall.{holder}
+use Rattle.tds_relay.specs.Ties.{desk_in}
 use Rattle.tds_relay.proofs.relay.Relay.start_on.Goals as goal
 
 pub returns-in-Some-clause-goes_on : goal.returns-in-Some-clause-goes_on
@@ -16,3 +20,6 @@ returns-in-Some-clause-waits c = own_on c.start_kept.result _ c.in-Some.key (λ 
 
 pub returns-in-None-clause-waits : goal.returns-in-None-clause-waits
 returns-in-None-clause-waits c = none_own _ (λ (k : ℕ). IsUnkept (body_of k c.args.self.now) ⊎ IsHeldBack k c.args.self.now) (sym c.key_on.ensures ∙ c.in-None.is)
+
+pub returns-in-Some-clause-closes : goal.returns-in-Some-clause-closes
+returns-in-Some-clause-closes c = closes_more_on c.start_kept.result (Itself c.in-Some.key) (IsWho (holder (desk_in c.args.self.now.desk) c.args.number)) _ _ (λ key e. sym c.key_on.ensures ∙ c.in-Some.is ∙ ap (λ (k : ℕ). Some k) (sym e)) c.start_kept.ensures.closes

@@ -2,7 +2,7 @@ use Rattle.std.proofs.Common.{◌≡◌, ◌∙◌, Some, false, ap, refl, rules
 use Rattle.std.specs.Prelude.{take}
 use Rattle.tds_relay.specs.Fronts.{end_of, ends_in, given_by, hall_in, house_in, hall_of_ends}
 use Rattle.tds_relay.specs.Hall.{closes_for}
-use Rattle.tds_relay.specs.Posts.{Posts, posts_in}
+use Rattle.tds_relay.specs.Posts.{Posts, posts_in, names_of}
 use Rattle.tds_relay.specs.Ties.{Application, desk_in}
 use Rattle.tds_relay.proofs.steps.Fed.{closed_fed, end_open, end_there, ends_written, is_fed, refused_is, waits_refused}
 use Rattle.tds_relay.proofs.steps.Fronts.{moved_same, ends_kept, moves_same}
@@ -17,6 +17,9 @@ use Rattle.tds_relay.proofs.steps.Bodied.{asks_kept, same_starts, shut_starts}
 use Rattle.tds_relay.proofs.steps.Carried.{carries_deaf, carries_fed, carries_moved, carries_refused}
 use Rattle.tds_relay.proofs.steps.Renaming.{names_given}
 use Rattle.tds_relay.specs.Posts.{names_of}
+use Rattle.tds_relay.proofs.spared.Ordered.{ordered_refl}
+use Rattle.tds_relay.proofs.spared.Closings.{closes_both, closes_kept, closes_written, sees_refl}
+use Rattle.tds_relay.specs.Closings.{Itself}
 use Rattle.tds_relay.proofs.relay.Relay.take.Goals as goal
 
 pub returns-in-Err-clause-tells : goal.returns-in-Err-clause-tells
@@ -140,3 +143,14 @@ returns-clause-names c =
 
 pub returns-then-application-clause-names : goal.returns-then-application-clause-names
 returns-then-application-clause-names c = ap names_of (posts_kept c.args.self.now.applications c.args.key c.in-Some.application.now c.in-Some.application.now c.in-Some.ensures.value refl)
+
+pub returns-then-application-clause-closes : goal.returns-then-application-clause-closes
+returns-then-application-clause-closes c = closes_kept (Itself c.args.key) _ _ (ends_kept c.args.self.now.applications c.args.key c.in-Some.application.now c.in-Some.application.now c.in-Some.ensures.value refl) (ap names_of (posts_kept c.args.self.now.applications c.args.key c.in-Some.application.now c.in-Some.application.now c.in-Some.ensures.value refl)) refl (sees_refl c.args.self.now.links.items) (ordered_refl c.args.self.now.orders.items)
+
+pub returns-in-Err-clause-closes : goal.returns-in-Err-clause-closes
+returns-in-Err-clause-closes c = closes_both (Itself c.args.key) _ _ _
+    (closes_written (Itself c.args.key) c.args.self.now.applications c.args.key c.in-Some.application.now c.feed.new.self _ _ c.in-Some.ensures.value c.feed.ensures.over refl refl (ap names_of (posts_kept c.args.self.now.applications c.args.key c.in-Some.application.now c.feed.new.self c.in-Some.ensures.value c.feed.ensures.post)) refl (sees_refl c.args.self.now.links.items) (ordered_refl c.args.self.now.orders.items)) c.in_ok-expel_for-in-Err.ensures.closes
+
+pub returns-clause-closes : goal.returns-clause-closes
+returns-clause-closes c = closes_both (Itself c.args.key) _ _ _ (closes_written (Itself c.args.key) c.args.self.now.applications c.args.key c.in-Some.application.now c.feed.new.self _ _ c.in-Some.ensures.value c.feed.ensures.over refl refl (ap names_of (posts_kept c.args.self.now.applications c.args.key c.in-Some.application.now c.feed.new.self c.in-Some.ensures.value c.feed.ensures.post)) refl (sees_refl c.args.self.now.links.items) (ordered_refl c.args.self.now.orders.items))
+    c.in_ok-obey.ensures.closes

@@ -14,6 +14,8 @@ use Rattle.tds_relay.proofs.steps.Asked.{asks_begin, asks_expelled, asks_left, e
 use Rattle.tds_relay.specs.Bodies.{Carries, body_of, going_of}
 use Rattle.tds_relay.proofs.steps.Bodied.{shut_starts}
 use Rattle.tds_relay.proofs.steps.Carried.{carries_begin, carries_expelled, carries_left}
+use Rattle.tds_relay.specs.Closings.{ClosesOnly, Itself, register_in}
+use Rattle.tds_relay.proofs.spared.Closings.{closes_both, closes_on, closes_refl}
 use Rattle.tds_relay.proofs.relay.Relay.take_all.Goals as goal
 use Rattle.tds_relay.proofs.relay.Relay.take_all.Goals.{else-taking-test, then-taking-test+else-is_empty+in_ok-count+else-counter-end}
 
@@ -24,6 +26,7 @@ taking-init c = record {
   tells = tells_begin c.args.key (house_in c.args.self.now) c.args.piece.now;
   asks = asks_begin c.args.key (house_in c.args.self.now) c.args.piece.now c.args.self.now.links.items;
   read = stays_refl c.args.self.now.links.items;
+  closes = closes_refl (Itself c.args.key) (register_in c.args.self.now);
   carries = carries_begin c.args.key (house_in c.args.self.now) c.args.piece.now (body_of c.args.key c.args.self.now);
   stand = λ n r h. h;
 }
@@ -35,6 +38,7 @@ taking-preserved c = record {
   tells = tells_left c.args.key _ _ _ _ _ c.behind-rest.ensures (c.in_ok-count.ensures.tells (house_in c.args.self.now) c.args.piece.now c.taking.invariant.tells);
   asks = asks_left c.args.key _ _ _ _ _ _ c.behind-rest.ensures (c.in_ok-count.ensures.asks (house_in c.args.self.now) c.args.piece.now c.taking.invariant.asks);
   read = stays_both _ _ _ c.taking.invariant.read c.in_ok-count.ensures.read;
+  closes = closes_both (Itself c.args.key) _ _ _ c.taking.invariant.closes c.in_ok-count.ensures.closes;
   carries = carries_left c.args.key _ _ _ _ _ _ _ c.behind-rest.ensures (c.in_ok-count.ensures.carries (house_in c.args.self.now) c.args.piece.now (body_of c.args.key c.args.self.now) c.taking.invariant.carries);
   stand = λ n r h. c.in_ok-count.ensures.stand n r (c.taking.invariant.stand n r h);
 }
@@ -113,3 +117,15 @@ returns-clause-carries c =
 pub returns-then-is_empty-clause-carries : goal.returns-then-is_empty-clause-carries
 returns-then-is_empty-clause-carries c =
     carries_left c.args.key _ _ _ _ _ _ _ (empty_is c.taking.rest.now (sym c.is_empty.ensures ∙ c.if-is_empty.true)) c.taking.invariant.carries
+
+pub returns-clause-closes : goal.returns-clause-closes
+returns-clause-closes c =
+    let may = Itself c.args.key in
+    let old = register_in c.args.self.now in
+    let to : Relay → Type 0 = λ r. ClosesOnly may old (register_in r) in
+    let led : to c.taking-test.self =
+    elim c.taking-test.branch [
+      | else-taking-test w ↦ subst to (sym w.self-is) c.taking.invariant.closes
+      | then-taking-test+else-is_empty+in_ok-count+else-counter-end w ↦ subst to (sym w.self-is) (closes_both may old _ _ c.taking.invariant.closes w.in_ok-count.ensures.closes)
+    ] in
+    closes_on c.expel.result may old _ _ c.expel.ensures.closes led

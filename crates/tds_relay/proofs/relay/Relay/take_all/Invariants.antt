@@ -7,6 +7,7 @@ use Rattle.tds_relay.specs.Reads.{Stays}
 use Rattle.tds_relay.specs.Taking.{Tells}
 use Rattle.tds_relay.specs.Ties.{Application, Goes, desk_in}
 use Rattle.tds_relay.specs.Walkers.{AllStand}
+use Rattle.tds_relay.specs.Closings.{ClosesOnly, Itself, register_in}
 use Rattle.tds_relay.proofs.relay.Relay.take_all.Given as goal
 
 abbrev pub invariant-taking : goal.invariant-taking
@@ -18,4 +19,5 @@ invariant-taking l = record {
   carries : Carries l.fn.key (house_in l.fn.self) l.fn.piece l.rest (body_of l.fn.key l.fn.self) (body_of l.fn.key l.self) (house_in l.self);
   read : Stays l.fn.self.links.items l.self.links.items;
   stand : AllStand l.fn.self.desk.service l.self.desk.service;
+  closes : ClosesOnly (Itself l.fn.key) (register_in l.fn.self) (register_in l.self);
 }

@@ -11,6 +11,8 @@ use Rattle.tds_relay.proofs.steps.Told.{deaf_behind, deaf_closed}
 use Rattle.tds_relay.proofs.steps.Staying.{stays_from}
 use Rattle.tds_relay.proofs.bytes.Calls.{stand_at, stand_on}
 use Rattle.tds_relay.proofs.steps.Bodied.{asks_then, forgot_on, kept_on_ok}
+use Rattle.tds_relay.proofs.spared.Closings.{closes_both, closes_first}
+use Rattle.tds_relay.specs.Closings.{Itself, Nobody}
 use Rattle.tds_relay.proofs.relay.Relay.take_back.Goals as goal
 
 pub returns-in-Some-clause-moves : goal.returns-in-Some-clause-moves
@@ -20,16 +22,16 @@ returns-in-Some-clause-moves c =
     let same = c.stop.ensures.ends ∙ c.forget_request.ensures.ends in
     let behind = c.withdraw.ensures.ends ∙ ap (change_end c.args.key withdraws) same in
     let d = desk_in c.args.self.now.desk in
-    ok_more c.send_on.result _ _
+    ok_more c.send_for.result _ _
     (λ m quiet before bytes f. inl (record {
       mid = hall_of_ends d before;
       first = no_moves by (hall_of_ends d before);
       same = refl;
-      next = subst (λ (h : Hall). Moves by h (hall_in c.send_on.new.self)) (sym (taken_back_at c.args.key d before now (ends_in c.withdraw.new.self.applications) bytes f behind))
+      next = subst (λ (h : Hall). Moves by h (hall_in c.send_for.new.self)) (sym (taken_back_at c.args.key d before now (ends_in c.withdraw.new.self.applications) bytes f behind))
           (m by _ (moves_same by _ _ _ _ _ (ap desk_in c.withdraw.ensures.desk) refl
           (moves_unwaits c.args.key _ _ _ now _ (stops_unwaits c.args.key _ _ _ _ _ _ _ c.forget_request.ensures.turns c.in-Some.ensures.some.2) behind quiet (no_moves by _))));
     }))
-    c.send_on.ensures.moves
+    c.send_for.ensures.moves
 
 pub returns-in-None-clause-moves : goal.returns-in-None-clause-moves
 returns-in-None-clause-moves c =
@@ -53,24 +55,30 @@ returns-in-None-clause-moves c =
     c.expel.ensures.moves
 
 pub returns-in-Some-clause-read : goal.returns-in-Some-clause-read
-returns-in-Some-clause-read c = stays_from c.send_on.result _ _ _ (c.withdraw.ensures.links ∙ c.stop.ensures.links ∙ c.forget_request.ensures.links) c.send_on.ensures.read
+returns-in-Some-clause-read c = stays_from c.send_for.result _ _ _ (c.withdraw.ensures.links ∙ c.stop.ensures.links ∙ c.forget_request.ensures.links) c.send_for.ensures.read
 
 pub returns-in-None-clause-read : goal.returns-in-None-clause-read
 returns-in-None-clause-read c = stays_from c.expel.result _ _ _ (c.stop.ensures.links ∙ c.forget_request.ensures.links) c.expel.ensures.read
 
 pub returns-in-Some-clause-stand : goal.returns-in-Some-clause-stand
-returns-in-Some-clause-stand c = stand_on c.send_on.result _ _ _ (stand_at _ _ _ (λ n r h. c.stop.ensures.stand n r (c.forget_request.ensures.stand n r h)) c.withdraw.ensures.desk) c.send_on.ensures.stand
+returns-in-Some-clause-stand c = stand_on c.send_for.result _ _ _ (stand_at _ _ _ (λ n r h. c.stop.ensures.stand n r (c.forget_request.ensures.stand n r h)) c.withdraw.ensures.desk) c.send_for.ensures.stand
 
 pub returns-in-None-clause-stand : goal.returns-in-None-clause-stand
 returns-in-None-clause-stand c = stand_on c.expel.result _ _ _ (λ n r h. c.stop.ensures.stand n r (c.forget_request.ensures.stand n r h)) c.expel.ensures.stand
 
 pub returns-in-Some-clause-body : goal.returns-in-Some-clause-body
 returns-in-Some-clause-body c =
-    forgot_on c.send_on.result c.forget_request.new.self.applications c.send_on.new.self.applications c.args.key c.forget_request.ensures.body
-    (kept_on_ok c.send_on.result c.forget_request.new.self.applications c.withdraw.new.self.applications c.send_on.new.self.applications
-    (asks_then c.forget_request.new.self.applications c.stop.new.self.applications c.withdraw.new.self.applications c.stop.ensures.asks c.withdraw.ensures.asks) c.send_on.ensures.asks)
+    forgot_on c.send_for.result c.forget_request.new.self.applications c.send_for.new.self.applications c.args.key c.forget_request.ensures.body
+    (kept_on_ok c.send_for.result c.forget_request.new.self.applications c.withdraw.new.self.applications c.send_for.new.self.applications
+    (asks_then c.forget_request.new.self.applications c.stop.new.self.applications c.withdraw.new.self.applications c.stop.ensures.asks c.withdraw.ensures.asks) c.send_for.ensures.asks)
 
 pub returns-in-None-clause-body : goal.returns-in-None-clause-body
 returns-in-None-clause-body c =
     forgot_on c.expel.result c.forget_request.new.self.applications c.expel.new.self.applications c.args.key c.forget_request.ensures.body
     (kept_on_ok c.expel.result c.forget_request.new.self.applications c.stop.new.self.applications c.expel.new.self.applications c.stop.ensures.asks c.expel.ensures.asks)
+
+pub returns-in-Some-clause-closes : goal.returns-in-Some-clause-closes
+returns-in-Some-clause-closes c = closes_first c.send_for.result (Itself c.args.key) _ _ _ c.send_for.ensures.closes (closes_both Nobody _ _ _ (closes_both Nobody _ _ _ c.forget_request.ensures.closes c.stop.ensures.closes) c.withdraw.ensures.closes)
+
+pub returns-in-None-clause-closes : goal.returns-in-None-clause-closes
+returns-in-None-clause-closes c = closes_first c.expel.result (Itself c.args.key) _ _ _ c.expel.ensures.closes (closes_both Nobody _ _ _ c.forget_request.ensures.closes c.stop.ensures.closes)

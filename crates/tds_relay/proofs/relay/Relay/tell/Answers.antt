@@ -1,5 +1,9 @@
 use Rattle.tds_relay.specs.declared.desk.coming.What.TheVariants as whats
 use Rattle.tds_relay.proofs.steps.Fronts.{told_as, told_nobody}
+use Rattle.tds_relay.proofs.spared.Ordered.{ordered_closed}
+use Rattle.tds_relay.proofs.spared.Waking.{not_silent}
+use Rattle.tds_relay.proofs.steps.Reaching.{ok_more}
+use Rattle.std.proofs.Common.{inl, rules}
 use Rattle.tds_relay.proofs.relay.Relay.tell.Goals as goal
 
 pub returns-in_default-clause-ends : goal.returns-in_default-clause-ends
@@ -16,3 +20,9 @@ returns-in-Acknowledged-clause-ends c = told_as c.args.heard.key c.in-Some.key c
 
 pub returns-in_ok-end-in-Closed-clause-ends : goal.returns-in_ok-end-in-Closed-clause-ends
 returns-in_ok-end-in-Closed-clause-ends c = told_as c.args.heard.key c.in-Some.key c.args.heard.what whats.Closed _ _ c.in-Some.is c.in-Closed.is c.in_ok-end-in-Closed.ensures.ends
+
+pub returns-in_ok-end-in-Closed-clause-ordered : goal.returns-in_ok-end-in-Closed-clause-ordered
+returns-in_ok-end-in-Closed-clause-ordered c = ordered_closed _ _ _ c.in_ok-end-in-Closed.ensures.ordered
+
+pub returns-in-Acknowledged-clause-silent : goal.returns-in-Acknowledged-clause-silent
+returns-in-Acknowledged-clause-silent c = λ resumes key h. not_silent c.args.heard c.in-Some.key key _ c.in-Some.is c.in-Acknowledged.is (c.acknowledged.ensures.silent resumes) h

@@ -3,6 +3,8 @@ use Rattle.tds_packet.specs.declared.kind.Direction.TheVariants.{ToClient}
 use Rattle.tds_service.specs.Table.{reading_on}
 use Rattle.tds_relay.proofs.steps.Handed.{done_keeps, hears_is}
 use Rattle.tds_relay.proofs.bytes.Reader.{reads_by}
+use Rattle.tds_relay.proofs.spared.Waking.{puts_brings}
+use Rattle.std.proofs.Common.{inl, refl}
 use Rattle.tds_relay.proofs.relay.coming.hear_on.Goals as goal
 
 pub invariant_of-link-2 : goal.invariant_of-link-2
@@ -22,3 +24,12 @@ returns-clause-hears c =
 
 pub returns-clause-read : goal.returns-clause-read
 returns-clause-read c = reads_by c.reads_packets.ensures.one c.args.number _ _ c.in_ok-heard.heard _ _ c.feed.ensures.taken c.in_ok-heard.ensures.read
+
+pub returns-in-Err-clause-puts : goal.returns-in-Err-clause-puts
+returns-in-Err-clause-puts c = λ key. inl refl
+
+pub returns-clause-puts : goal.returns-clause-puts
+returns-clause-puts c = puts_brings c.args.number _ _ _ _ _ _ c.in_ok-heard.ensures.brings
+
+pub returns-in-Err-clause-asks : goal.returns-in-Err-clause-asks
+returns-in-Err-clause-asks c = λ key goes. refl

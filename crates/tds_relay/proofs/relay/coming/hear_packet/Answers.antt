@@ -18,6 +18,7 @@ use Rattle.tds_relay.proofs.steps.Resets.{heard_so, told_for, unowed}
 use Rattle.tds_relay.proofs.bytes.Reader.{has_read}
 use Rattle.tds_relay.proofs.steps.Renaming.{names_handed}
 use Rattle.tds_relay.specs.Posts.{names_of}
+use Rattle.tds_relay.proofs.steps.Bodied.{asks_kept}
 use Rattle.tds_relay.proofs.relay.coming.hear_packet.Goals as goal
 
 -- where it isn't handed on
@@ -165,3 +166,23 @@ returns-clause-names c =
     ap names_of (handed_is (Some c.in-Some-key.key) c.in-Some-key.key header content passes.manner c.args.applications.now c.in-Some-get_mut.application.now c.hand_on.new.application refl
     c.in-Some-get_mut.ensures.value passes.is)
     ∙ names_handed (Some c.in-Some-key.key) (handed passes.manner header content) (posts_in c.args.applications.now)
+
+pub returns-then-not-hears-clause-asks : goal.returns-then-not-hears-clause-asks
+returns-then-not-hears-clause-asks c =
+    asks_kept c.args.applications.now c.in-Some-key.key c.in-Some-get_mut.application.now c.in-Some-get_mut.application.now c.in-Some-get_mut.ensures.value (λ goes. refl)
+
+pub returns-clause-asks : goal.returns-clause-asks
+returns-clause-asks c =
+    asks_kept c.args.applications.now c.in-Some-key.key c.in-Some-get_mut.application.now c.hand_on.new.application c.in-Some-get_mut.ensures.value c.in_ok-hand_on.ensures.body
+
+pub returns-in_default-clause-asks : goal.returns-in_default-clause-asks
+returns-in_default-clause-asks c = λ key goes. refl
+
+pub returns-then-matches-clause-asks : goal.returns-then-matches-clause-asks
+returns-then-matches-clause-asks c = λ key goes. refl
+
+pub returns-in_default-key-clause-asks : goal.returns-in_default-key-clause-asks
+returns-in_default-key-clause-asks c = λ key goes. refl
+
+pub returns-in_default-get_mut-clause-asks : goal.returns-in_default-get_mut-clause-asks
+returns-in_default-get_mut-clause-asks c = λ key goes. refl

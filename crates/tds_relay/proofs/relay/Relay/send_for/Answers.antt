@@ -1,0 +1,32 @@
+use Rattle.std.proofs.Common.{ap, inl, rules, subst, sym, ◌∙◌}
+use Rattle.tds_relay.specs.Ties.{desk_in, IsReached}
+use Rattle.tds_relay.proofs.steps.Fronts.{moves_same}
+use Rattle.tds_relay.proofs.steps.Reaching.{ok_more}
+use Rattle.tds_relay.proofs.steps.Staying.{filled_by, gone_filled, stays_on}
+use Rattle.tds_relay.proofs.bytes.Calls.{stand_from}
+use Rattle.tds_relay.proofs.spared.Letting.{sent_all}
+use Rattle.tds_relay.specs.declared.desk.Desk as code
+use Rattle.tds_relay.proofs.spared.Ordered.{ordered_on}
+use Rattle.tds_relay.proofs.spared.Closings.{closes_nobody, closes_next, closes_first}
+use Rattle.tds_relay.specs.Closings.{IsWho, Itself}
+use Rattle.tds_relay.specs.Hall.{holder}
+use Rattle.tds_relay.proofs.relay.Relay.send_for.Goals as goal
+
+pub returns-else-fits-clause-read : goal.returns-else-fits-clause-read
+returns-else-fits-clause-read c = stays_on c.lose_own.result _ _ _ c.in_ok-fits.ensures.read c.lose_own.ensures.read
+
+pub returns-then-fits-clause-moves : goal.returns-then-fits-clause-moves
+returns-then-fits-clause-moves c = λ by from h. moves_same by from _ _ _ _ (ap desk_in c.fits_on.ensures.desk) c.in_ok-fits.ensures.ends h
+
+pub returns-else-fits-clause-moves : goal.returns-else-fits-clause-moves
+returns-else-fits-clause-moves c =
+    ok_more c.lose_own.result _ _ (λ m by from h. m by from (moves_same by from _ _ _ _ (ap desk_in c.fits_on.ensures.desk) c.in_ok-fits.ensures.ends h)) c.lose_own.ensures.moves
+
+pub returns-else-fits-clause-stand : goal.returns-else-fits-clause-stand
+returns-else-fits-clause-stand c = stand_from c.lose_own.result _ _ _ c.fits_on.ensures.desk c.lose_own.ensures.stand
+
+pub returns-then-fits-clause-closes : goal.returns-then-fits-clause-closes
+returns-then-fits-clause-closes c = closes_nobody (Itself c.args.key) _ _ c.in_ok-fits.ensures.closes
+
+pub returns-else-fits-clause-closes : goal.returns-else-fits-clause-closes
+returns-else-fits-clause-closes c = closes_first c.lose_own.result (Itself c.args.key) _ _ _ c.lose_own.ensures.closes c.in_ok-fits.ensures.closes

@@ -1,0 +1,47 @@
+use Rattle.std.proofs.Common.{ap, inl, rules, subst, sym, ◌∙◌, ◌≡◌, None, Some}
+use Rattle.tds_relay.specs.Ties.{desk_in, IsReached}
+use Rattle.tds_relay.proofs.steps.Fronts.{moves_same}
+use Rattle.tds_relay.proofs.steps.Reaching.{ok_more}
+use Rattle.tds_relay.proofs.steps.Staying.{filled_by, gone_filled, stays_on}
+use Rattle.tds_relay.proofs.bytes.Calls.{stand_from}
+use Rattle.tds_relay.proofs.spared.Letting.{sent_all}
+use Rattle.tds_relay.specs.declared.desk.Desk as code
+use Rattle.tds_relay.proofs.spared.Ordered.{ordered_on}
+use Rattle.tds_relay.proofs.spared.Closings.{closes_nobody, closes_next, closes_with}
+use Rattle.tds_relay.specs.Closings.{IsWho, Nobody}
+use Rattle.tds_relay.specs.Hall.{holder}
+use Rattle.tds_relay.proofs.relay.Relay.send_unheld.Goals as goal
+
+pub returns-in-None-clause-read : goal.returns-in-None-clause-read
+returns-in-None-clause-read c = stays_on c.lose.result _ _ _ c.in_ok-fits.ensures.read c.lose.ensures.read
+
+pub returns-then-fits-clause-moves : goal.returns-then-fits-clause-moves
+returns-then-fits-clause-moves c = λ by from h. moves_same by from _ _ _ _ (ap desk_in c.fits_on.ensures.desk) c.in_ok-fits.ensures.ends h
+
+pub returns-in-Some-clause-moves : goal.returns-in-Some-clause-moves
+returns-in-Some-clause-moves c = λ by from h. moves_same by from _ _ _ _ (ap desk_in c.fits_on.ensures.desk) c.in_ok-fits.ensures.ends h
+
+pub returns-in-None-clause-moves : goal.returns-in-None-clause-moves
+returns-in-None-clause-moves c =
+    ok_more c.lose.result _ _ (λ m by from h. m by from (moves_same by from _ _ _ _ (ap desk_in c.fits_on.ensures.desk) c.in_ok-fits.ensures.ends h)) c.lose.ensures.moves
+
+pub returns-in-None-clause-stand : goal.returns-in-None-clause-stand
+returns-in-None-clause-stand c = stand_from c.lose.result _ _ _ c.fits_on.ensures.desk c.lose.ensures.stand
+
+pub returns-then-fits-clause-sends : goal.returns-then-fits-clause-sends
+returns-then-fits-clause-sends c = λ reached. inl (c.fits_on.ensures.desk, c.in_ok-fits.ensures.others)
+
+pub returns-in-Some-clause-sends : goal.returns-in-Some-clause-sends
+returns-in-Some-clause-sends c = λ reached. inl (c.fits_on.ensures.desk, c.in_ok-fits.ensures.others)
+
+pub returns-in-None-clause-sends : goal.returns-in-None-clause-sends
+returns-in-None-clause-sends c = λ reached.
+    sent_all c.lose.result c.args.number c.args.self.now c.fits_on.new.self c.lose.new.self reached c.fits_on.ensures.desk c.in_ok-fits.ensures.asks c.in_ok-fits.ensures.others
+    (c.lose.ensures.rests (subst (λ (d : code.Desk). IsReached (desk_in d)) (sym c.fits_on.ensures.desk) reached)) c.lose.ensures.shuts
+
+pub returns-in-None-clause-ordered : goal.returns-in-None-clause-ordered
+returns-in-None-clause-ordered c = ordered_on c.lose.result _ _ _ c.lose.ensures.ordered c.in_ok-fits.ensures.ordered
+
+pub returns-in-None-clause-closes : goal.returns-in-None-clause-closes
+returns-in-None-clause-closes c = closes_with c.lose.result (IsWho (holder (desk_in c.fits_on.new.self.desk) c.args.number)) Nobody _ _ _
+    (λ key e. (let u : None ≡ Some key = sym (sym c.key_on.ensures ∙ c.in-None.is) ∙ e in let v : ⊥ = cc in v)) c.lose.ensures.closes c.in_ok-fits.ensures.closes

@@ -1,0 +1,37 @@
+-- Who is to be written to behind a call: whoever something was put for.
+use Rattle.std.specs.Prelude.{◌≡◌, ◌⊎◌, ℕ, true, List, ◌∷◌, ◌++◌, Option, Some, None, slice_index_or}
+use Rattle.slab.specs.Slab.{Slab}
+use Rattle.tds_relay.specs.declared.application.Application.{Application}
+use Rattle.tds_relay.specs.declared.desk.coming.Heard.{Heard}
+use Rattle.tds_relay.specs.declared.order.Order.{Order}
+use Rattle.tds_relay.specs.declared.order.Order.TheVariants as orders
+use Rattle.tds_relay.specs.Fronts.{ends_in}
+use Rattle.tds_relay.specs.Hall.{Ends, end_at}
+use Rattle.tds_relay.specs.House.{is_said}
+use Rattle.tds_relay.specs.Posts.{Posts, names_of, post_at, posts_in}
+use Rattle.tds_relay.specs.Taking.{IsDeaf}
+
+-- It is among what is to be done.
+abbrev pub IsToDo : Order → List Order → Type 0
+IsToDo order all = (before : List Order) × (after : List Order) × (all ≡ before ++ order ∷ after)
+
+-- what whoever carries an application's bytes calls it
+abbrev pub name_at : Posts → ℕ → Option (Option ℕ)
+name_at posts key = slice_index_or (names_of posts) key None
+
+-- Its bytes are to be written; or it is to be closed.
+abbrev pub IsWoken : ℕ → Slab Application → List Order → Type 0
+IsWoken key slab all = IsDeaf (end_at (ends_in slab) key) ⊎ ((tag : ℕ) × (name_at (posts_in slab) key ≡ Some (Some tag)) × IsToDo (orders.Write tag) all)
+
+-- For each application nothing was put since this waited; or it is woken.
+abbrev pub Wakes : Posts → Slab Application → List Order → Type 0
+Wakes old slab all = (key : ℕ) → (post_at (posts_in slab) key ≡ post_at old key) ⊎ IsWoken key slab all
+
+-- A packet by which this was heard is this application's, and is handed to it.
+abbrev pub HandsTo : Option Heard → ℕ → Ends → Type 0
+HandsTo None key ends = ⊥
+HandsTo (Some heard) key ends = (heard.key ≡ Some key) × (is_said heard.what (end_at ends key) ≡ true)
+
+-- Nothing was put for another by it.
+abbrev pub PutsFor : Option Heard → Ends → Posts → Posts → Type 0
+PutsFor heard ends old new = (key : ℕ) → (post_at new key ≡ post_at old key) ⊎ HandsTo heard key ends

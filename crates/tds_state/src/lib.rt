@@ -1,0 +1,22 @@
+//! What a server said of its session (MS-TDS 2.2.7.9, 2.2.7.11, 2.2.7.21), and whether it rests: whether,
+//! by all that was said, a reset would change nothing of it.
+#![tactic(auto)]
+
+mod asked;
+mod hearing;
+mod kept;
+pub mod laws;
+mod session;
+mod states;
+mod tracker;
+mod values;
+
+pub use asked::{Asked, Request};
+pub use kept::Kept;
+pub use session::{Flight, Session};
+pub use states::StateSpot;
+pub use tracker::Tracker;
+pub use values::Values;
+
+/// The answer of a growth that was refused.
+pub type NoMemory = std::alloc::AllocError;

@@ -1,0 +1,125 @@
+//! A tracker of one connection.
+
+ghost use Rattle.std.specs.Prelude.{◌≡◌, ◌++◌, get_or, IfOk};
+ghost use Rattle.tds_state.specs.Sessions.{session_asked, session_cancelled, session_ended, session_rests, session_sent};
+ghost use Rattle.tds_state.specs.Tracking.{is_needed, needed, new_tracker, tracks, with_bytes};
+
+use crate::NoMemory;
+use crate::asked::Request;
+use crate::kept::{Kept, first_of};
+use crate::session::Session;
+use std::alloc::Global;
+use tds_packet::Reset;
+use tds_wire::Token;
+
+/// What the server of a connection said of its session, from the login's answer on.
+#[derive(Drop)]
+pub struct Tracker {
+    pub session: Session,
+    /// What has come of a token that goes on.
+    pub partial: Kept,
+}
+
+/// The most bytes of a token that are kept.
+const TOKEN: usize = 8_192;
+
+/// Whether the bytes of a token of this kind are needed: ENVCHANGE, SESSIONSTATE, FEATUREEXTACK.
+fn is_needed(kind: u8) -> bool
+    ensures { result ≡ is_needed kind }
+{
+    matches!(kind, 0xe3 | 0xe4 | 0xae)
+}
+
+/// The byte that the first of these begins with, or else the second.
+fn first_byte(before: &[u8], bytes: &[u8]) -> u8
+    ensures { result ≡ get_or (before.now ++ bytes.now) 0 0 }
+{
+    match (before, bytes) {
+        ([first, ..], _) => *first,
+        ([], [first, ..]) => *first,
+        ([], []) => 0,
+    }
+}
+
+/// The bytes of these that are needed behind those that are kept.
+fn needed<'a>(kept: &Kept, bytes: &'a [u8]) -> &'a [u8]
+    ensures { result.now ≡ needed kept.now bytes.now }
+{
+    let before = kept.bytes();
+    if is_needed(first_byte(before, bytes)) {
+        bytes
+    } else {
+        first_of(1usize.saturating_sub(before.len()), bytes)
+    }
+}
+
+impl Tracker {
+    /// A tracker of a connection whose login is answered next. It takes memory here alone.
+    ///
+    /// # Errors
+    ///
+    /// Where a growth was refused.
+    pub fn new(alloc: Global) -> Result<Tracker, NoMemory>
+        ensures { IfOk result (λ tracker. tracker ≡ new_tracker) }
+    {
+        Ok(Tracker {
+            session: Session::new(alloc)?,
+            partial: Kept::new(alloc, TOKEN)?,
+        })
+    }
+
+    /// Bytes of an answer have come, up to the end of this token, or of none: then they are inside one. A
+    /// message's first one begins a token.
+    pub fn hear(&mut self, bytes: &[u8], token: &Option<Token>)
+        ensures { self.new ≡ tracks self.old bytes.now token.now }
+    {
+        self.keep(bytes);
+        if let Some(token) = token {
+            self.session.hear(token, self.partial.bytes());
+            self.partial.clear();
+        }
+    }
+
+    fn keep(&mut self, bytes: &[u8])
+        ensures { self.new ≡ record self.old { partial = with_bytes self.old.partial bytes.now } }
+    {
+        let more = needed(&self.partial, bytes);
+        self.partial.keep(more);
+    }
+
+    /// A message of the server's has ended.
+    pub fn end(&mut self)
+        ensures { self.new ≡ record self.old { session = session_ended self.old.session } }
+    {
+        self.session.end();
+    }
+
+    /// A request begins, whose first packet asks for this reset.
+    pub fn ask(&mut self, kind: Request, reset: Option<Reset>)
+        ensures { self.new
+            ≡ record self.old { session = session_asked self.old.session kind reset } }
+    {
+        self.session.ask(kind, reset);
+    }
+
+    /// Bytes of its body go on, behind ALL_HEADERS (MS-TDS 2.2.5.3).
+    pub fn send(&mut self, bytes: &[u8])
+        ensures { self.new ≡ record self.old { session = session_sent self.old.session bytes.now } }
+    {
+        self.session.send(bytes);
+    }
+
+    /// The newest request is cancelled.
+    pub fn cancel(&mut self)
+        ensures { self.new ≡ record self.old { session = session_cancelled self.old.session } }
+    {
+        self.session.cancel();
+    }
+
+    /// Whether the session rests: by all that was said, a reset would change nothing of it.
+    pub fn rests(&self) -> bool
+        ensures { result ≡ session_rests self.now.session }
+    {
+        self.session.rests()
+    }
+}

@@ -1,0 +1,76 @@
+//! Tracks connections whose bytes were written by hand: whether each rests where the file says, in pieces
+//! of several sizes.
+#![tactic(auto)]
+
+mod follower;
+
+use follower::{Follower, StepFault};
+use std::process::ExitCode;
+use std::{fs, io};
+
+/// How many bytes a piece has.
+const SIZES: [usize; 4] = [1, 3, 7, 4096];
+
+/// Follows the cases of the file that the first word names, with each size: whether all came out as they are
+/// written.
+pub fn run(rt: &HostRuntime, words: &[String]) -> ExitCode {
+    match obey(rt, words) {
+        Ok(true) => ExitCode::SUCCESS,
+        Ok(false) => ExitCode::FAILURE,
+        Err(error) => {
+            let _ = eprintln!(rt; "error: {error}");
+            ExitCode::FAILURE
+        }
+    }
+}
+
+fn obey(rt: &HostRuntime, words: &[String]) -> io::Result<bool> {
+    let Some(file) = words.first() else {
+        return Err(io::Error::from(io::ErrorKind::InvalidInput));
+    };
+    let text = fs::read_to_string(rt, file.as_str())?;
+    let mut is_well = true;
+    for size in SIZES.iter() {
+        is_well &= follow(rt, text.as_str(), *size)?;
+    }
+    Ok(is_well)
+}
+
+/// Follows all cases in pieces of this size, and prints how many there are and how often they ask whether the
+/// connection rests. Whether each answer is the one that is written.
+fn follow(rt: &HostRuntime, text: &str, size: usize) -> io::Result<bool> {
+    let mut cases = 0u32;
+    let mut questions = 0u32;
+    let mut is_well = true;
+    let mut name = "";
+    let mut follower = Follower::new(rt.alloc())?;
+    for line in text.lines() {
+        if let Some(new) = line.strip_prefix("case ") {
+            follower = Follower::new(rt.alloc())?;
+            cases = cases.saturating_add(1);
+            name = new;
+            continue;
+        }
+        if line.is_empty() || line.starts_with("#") {
+            continue;
+        }
+        let wanted = match line {
+            "rests" => true,
+            "holds" => false,
+            step => {
+                if let Err(StepFault) = follower.step(rt.alloc(), step, size)? {
+                    eprintln!(rt; "{name}: {step}")?;
+                    is_well = false;
+                }
+                continue;
+            }
+        };
+        questions = questions.saturating_add(1);
+        if follower.rests() != wanted {
+            eprintln!(rt; "{name}, in pieces of {size}, question {questions}: not {line}")?;
+            is_well = false;
+        }
+    }
+    println!(rt; "in pieces of {size}: {cases} cases, {questions} questions")?;
+    Ok(is_well)
+}
