@@ -125,11 +125,11 @@ impl House {
     /// for it is told why.
     pub(crate) fn fail_to_open(&mut self, group: usize, number: u64) -> io::Result<()> {
         let now = self.now();
-        match self.upstream.failed {
-            Some(failure) if failure.cause.is_failure() && self.asked.limits.wait > 0 => {
+        let failed = self.upstream.failed;
+        if let Some(failure) = failed {
+            if failure.cause.is_failure() && self.asked.limits.wait > 0 {
                 return Ok(self.holding.hold_back(group, number, failure, now)?);
             }
-            _ => {}
         }
         let why = self.upstream.sentence(self.alloc)?;
         self.not_opened(group, number, why.as_str())
