@@ -533,6 +533,48 @@ uint8_t tds_columns(const uint8_t *bytes, size_t length, uint8_t encryption, str
 uint8_t tds_row_places(const struct tds_column *columns, size_t count, const uint8_t *bytes, size_t length,
                        struct tds_place *places, size_t room, size_t *taken);
 
+/* ---- A row that isn't whole yet, and a value in parts as it comes */
+
+/* Bytes of a row are read from the value on that wasn't whole; one in parts (form 5) needn't ever be kept:
+ *
+ *     answer = tds_row_values(columns, count, first, nulls, bits, bytes, length, places, count, &next, &taken);
+ *     if (answer == TDS_WIRE_MORE && columns[next].shape.form == 5) {
+ *         struct tds_parts parts = {0};                // the bytes from `taken` on, and those that come behind them
+ *         do {
+ *             answer = tds_parts_next(&parts, bytes, length, &start, &own, &taken);
+ *             ..                                       // `own` bytes of the value, from bytes + start on
+ *             bytes += taken, length -= taken;
+ *         } while (answer == TDS_WIRE_MORE);           // where no byte is left: with those that come
+ *     }                                                // and then tds_row_values from next + 1 on
+ */
+
+/* Where a value in parts is that comes in pieces; zeros before its first byte. Only the library writes it. */
+struct tds_parts {
+    uint32_t left;
+    uint8_t stage, seen, first, second, third;
+};
+
+/* Where each value stands that is whole, in bytes of a row that begin with the value of the column `first`:
+ * places[first] and so on, from the first of these bytes on. A ROW's values begin behind its first byte, an
+ * NBCROW's behind its null bitmap too, which is `nulls` then, (count + 7) / 8 bytes; else `bits` is 0.
+ *
+ * TDS_WIRE_ENDED (0): all values up to the row's end are whole; TDS_WIRE_MORE (1): that of the column `next` isn't,
+ * and it begins at `taken`. 72: there are fewer columns; 74: fewer places than columns, or bits. Then nothing is
+ * written but `next` and `taken`, which are 0. */
+uint8_t tds_row_values(const struct tds_column *columns, size_t count, size_t first, const uint8_t *nulls, size_t bits,
+                       const uint8_t *bytes, size_t length, struct tds_place *places, size_t room, size_t *next,
+                       size_t *taken);
+
+#define TDS_PARTS_NULL 2 /* next: it is over, and null */
+
+/* Takes what comes next of a value in parts, from its first byte on, up to the end of a part: `count` bytes of its
+ * own stand at `start`, and `taken` bytes are done with. Call it again with the bytes behind them.
+ *
+ * TDS_WIRE_ENDED (0): it is over, and no byte behind `taken` is its; TDS_PARTS_NULL (2): the same, and it is null;
+ * TDS_WIRE_MORE (1): there is more to come. Where `count` is 0 then, all bytes are done with. */
+uint8_t tds_parts_next(struct tds_parts *parts, const uint8_t *bytes, size_t length, size_t *start, size_t *count,
+                       size_t *taken);
+
 /* ---- A client and a walk in one call */
 
 struct tds_client; /* of tds.h, as are the names TDS_.. below */
@@ -809,7 +851,7 @@ struct tds_judge_finding {
     uint64_t offset;   /* the byte of its direction, from 0 */
     uint64_t time;     /* of its piece */
     uint64_t value;    /* what goes with it, or 0 */
-    uint8_t number;    /* 1 to 39 */
+    uint8_t number;    /* 1 to 43 */
     uint8_t level;     /* a breach, a risk, a note */
     uint8_t direction; /* to the server, to the client */
 };
