@@ -146,8 +146,10 @@ def pieces(program, cases, server):
         first = 0
         for number in range(8):
             with socket.create_connection(("127.0.0.1", relay.stats), PATIENCE) as link:
-                link.sendall(f"GET /json HTTP/1.1\r\nHost: 127.0.0.1:{relay.stats}\r\n\r\n".encode())
-                time.sleep(0.003)
+                # The relay has taken it in before it is whole, so that the request comes behind it.
+                link.sendall(f"GET /json HTTP/1.1\r\nHost: 127.0.0.1:{relay.stats}\r\n".encode())
+                time.sleep(0.05)
+                link.sendall(b"\r\n")
                 one.sendall(batch(f"rows {number} 1"))
                 with selectors.DefaultSelector() as both:
                     for it in (one, link):
