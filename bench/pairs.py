@@ -60,8 +60,10 @@ def wire(room):
 def places(room):
     for stream, told in WIRE.items():
         words = lambda n, file=f"{room}/{stream}": [file, str(n)]
-        yield Pair("where values stand, from C, by `libtds_c.a` (`bench/places.c`)", told, "places", words, "plain_places.c", words, "byte",
-                   os.path.getsize(f"{room}/{stream}"), 4)
+        for how, more in (("", []), (", a call a row", ["row"])):
+            yield Pair("where values stand, from C, by `libtds_c.a` (`bench/places.c`)", told + how, "places",
+                       lambda n, words=words, more=more: [*words(n), *more], "plain_places.c", words, "byte",
+                       os.path.getsize(f"{room}/{stream}"), 4)
 
 
 def judge(room):

@@ -2,7 +2,7 @@
    measured beside the proved `tds_row_places` (bench/places.c).
 
    usage: plain_places FILE TIMES     FILE has a COLMETADATA, rows, a DONE (bench/wire_streams.py); prints rows, values that are not
-   null, the sums of their places and lengths. */
+   null, the sums of their places in the file and of their lengths. */
 #include <stdint.h>
 #include <stdio.h>
 #include <stdlib.h>
@@ -170,7 +170,7 @@ int main(int argc, char **argv)
             rows++;
             for (size_t i = 0; i < count; i++) {
                 values += !places[i].null;
-                starts += places[i].start;
+                starts += at + places[i].start;
                 lengths += places[i].length;
             }
             at += taken;

@@ -73,6 +73,7 @@ class Relay(peers.Server):
     def __init__(self, words):
         self.said = tempfile.TemporaryFile()
         self.child = subprocess.Popen(words, stdout=subprocess.DEVNULL, stderr=self.said)
+        self.pid = self.child.pid
         while not (port := self.listens_on()):
             if self.child.poll() is not None:
                 raise OSError(f"{words} ends at once")

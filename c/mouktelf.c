@@ -6,9 +6,9 @@
  * printed from what came out. So besides what libmouktelf.a trusts (the checker, the kit's backend, the middle of
  * LLVM) it trusts the printer and the layer at its end (scripts/release_parts), and your C compiler. Never edit it.
  *
- * sources 69f553c1f44bc1912c60006e2b3e82f990512dfafd7098bc784b3cc4db578b9c of tds_c
- * module 7898e3a1bf3b692e8a02ca21ffc3ee4d03f51f4a1d0a16904c9b44e692ec7049: logic=proved functions=143 sum=dac8208d650f15bf
- * kit rattle-kit-13f logic dac8208d650f15bf
+ * sources f3110e837b72ebd29560f30611361ec5ed55158019f6376d929e09e61012f793 of tds_c
+ * module 7c042f507c40e280855f07da2f1709b32ede1e8e2abc2277fc256206ab4d6411: logic=proved functions=145 sum=dac8208d650f15bf
+ * kit rattle-kit-13b logic dac8208d650f15bf
  *
  * It wants memcpy, memmove, memset and abort. There is no state here: two calls on different values may run at the same time. */
 #include "mouktelf.h"
@@ -150,6 +150,7 @@ static uint8_t core_tds_wire_restart(one_pointer va0, one_pointer va1);
 static uint8_t core_tds_columns(one_pointer va0, uint64_t va1, uint8_t va2, one_pointer va3, uint64_t va4, one_pointer va5, one_pointer va6);
 static uint8_t core_tds_row_values(one_pointer va0, uint64_t va1, uint64_t va2, one_pointer va3, uint64_t va4, one_pointer va5, uint64_t va6, one_pointer va7, uint64_t va8, one_pointer va9, one_pointer va10);
 static uint8_t core_tds_row_places(one_pointer va0, uint64_t va1, one_pointer va2, uint64_t va3, one_pointer va4, uint64_t va5, one_pointer va6);
+static uint8_t core_tds_places_of_rows(one_pointer va0, uint64_t va1, one_pointer va2, uint64_t va3, one_pointer va4, uint64_t va5, one_pointer va6, one_pointer va7);
 static uint8_t core_tds_client_cancel(one_pointer va0, one_pointer va1, uint64_t va2, one_pointer va3);
 static uint8_t core_tds_client_finish(one_pointer va0, one_pointer va1, uint64_t va2, one_pointer va3, uint64_t va4, one_pointer va5);
 static uint8_t core_tds_client_hear(one_pointer va0, one_pointer va1, one_pointer va2, one_pointer va3, uint64_t va4, uint8_t va5, one_pointer va6, one_pointer va7, uint64_t va8, one_pointer va9);
@@ -14035,29 +14036,29 @@ static uint8_t core_tds_row_places(one_pointer va0, uint64_t va1, one_pointer va
     uint8_t vr19;
     uint64_t vr21;
     one_pointer vr22;
-    uint8_t vr28_i_i;
+    uint8_t vr21_i_i;
     uint8_t vr7_i_i_i;
-    uint8_t vr52_i_i;
-    uint8_t vr7_i51_i_i;
-    uint64_t vr10_0_i162_i_i;
-    uint64_t vr9_0_i160_i_i;
-    uint64_t vr38_i_i_i;
-    one_pointer vr41_i_i_i;
-    one_pointer vr43_i_i_i;
+    uint8_t vr19_i_i_i;
+    uint8_t vr7_i43_i_i;
+    uint64_t vr10_0_i151_i_i;
+    uint64_t vr9_0_i150_i_i;
+    uint64_t vr39_i_i_i;
+    one_pointer vr42_i_i_i;
+    one_pointer vr44_i_i_i;
     uint8_t vr12_sroa_0_0_copyload_i_i_i;
-    one_pointer vr12_sroa_3_0_r43_sroa_idx_i_i_i;
+    one_pointer vr12_sroa_3_0_r44_sroa_idx_i_i_i;
     uint8_t vr12_sroa_3_0_copyload_i_i_i;
-    one_pointer vr46_i_i_i;
-    uint64_t vr50_i17_i_i;
+    one_pointer vr47_i_i_i;
+    uint64_t vr51_i7_i_i;
     uint64_t vr1_i_i_i;
     uint8_t vr16_i17_i_i_i;
     uint8_t vr25_i19_i_i_i;
     uint8_t vr16_i23_i_i_i;
     uint8_t vr14_i_i_i_i;
-    uint64_t vr1_i53_i_i;
+    uint64_t vr1_i45_i_i;
     one_pointer vr20_i_i_i_i;
     uint8_t vr22_i30_i_i_i;
-    uint64_t vr1_i54_i_i;
+    uint64_t vr1_i46_i_i;
     uint64_t vr26_i_i_i_i;
     uint64_t vr29_i31_i_i_i;
     uint64_t vr28_i26_i_i_i;
@@ -14070,12 +14071,12 @@ static uint8_t core_tds_row_places(one_pointer va0, uint64_t va1, one_pointer va
     uint64_t v0;
     one_pointer vr45_i_i_i_i;
     uint8_t vr47_i49_i_i_i;
-    uint64_t vr1_i57_i_i;
+    uint64_t vr1_i49_i_i;
     uint64_t vr51_i50_i_i_i;
     uint64_t vr54_i_i_i_i;
     one_pointer vr58_i_i_i_i;
     uint8_t vr60_i_i_i_i;
-    uint64_t vr1_i58_i_i;
+    uint64_t vr1_i50_i_i;
     uint64_t vr64_i51_i_i_i;
     uint64_t vr67_i_i_i_i;
     uint64_t vr29_i39_i_i_i;
@@ -14084,9 +14085,9 @@ static uint8_t core_tds_row_places(one_pointer va0, uint64_t va1, one_pointer va
     uint8_t vr51_i_i_i_i;
     uint8_t vr61_i_i_i_i;
     uint64_t vr72_i_i_i_i;
-    uint8_t vr7_i60_i_i;
+    uint8_t vr7_i52_i_i;
     uint8_t vr37_i_i_i_i;
-    uint64_t vr1_i61_i_i;
+    uint64_t vr1_i53_i_i;
     uint8_t vr41_i54_i_i_i;
     uint64_t vr45_i61_i_i_i;
     uint64_t vr59_i_i_i_i;
@@ -14097,12 +14098,12 @@ static uint8_t core_tds_row_places(one_pointer va0, uint64_t va1, one_pointer va
     uint64_t v2;
     one_pointer vr45_i_i_i_i_i;
     uint8_t vr47_i_i_i_i_i;
-    uint64_t vr1_i64_i_i;
+    uint64_t vr1_i56_i_i;
     uint64_t vr51_i_i_i_i_i;
     uint64_t vr54_i_i_i_i_i;
     one_pointer vr58_i_i_i_i_i;
     uint8_t vr60_i_i_i_i_i;
-    uint64_t vr1_i65_i_i;
+    uint64_t vr1_i57_i_i;
     uint64_t vr64_i_i_i_i_i;
     uint64_t vr67_i_i_i_i_i;
     uint64_t vr78_i58_i_i_i;
@@ -14126,9 +14127,9 @@ static uint8_t core_tds_row_places(one_pointer va0, uint64_t va1, one_pointer va
     uint64_t vr60_i78_i_i_i;
     uint64_t vr71_i79_i_i_i;
     uint64_t vr78_i80_i_i_i;
-    uint8_t vr7_i74_i_i;
+    uint8_t vr7_i66_i_i;
     uint8_t vr28_i111_i_i_i;
-    uint64_t vr1_i75_i_i;
+    uint64_t vr1_i67_i_i;
     uint64_t vr34_i113_i_i_i;
     uint8_t vr37_i114_i_i_i;
     uint64_t vr45_i116_i_i_i;
@@ -14139,23 +14140,22 @@ static uint8_t core_tds_row_places(one_pointer va0, uint64_t va1, one_pointer va
     uint8_t vr5_i_i_sroa_74_2_shrunk_i_i;
     uint64_t vr5_i_i_sroa_120_2_i_i;
     uint8_t vr5_i_i_sroa_74_2_i_i;
-    uint64_t vr70_i_i_i;
-    one_pointer vr73_i_i_i;
-    one_pointer vr13_i_sroa_5_0_r73_i_sroa_idx_i_i;
-    one_pointer vr13_i_sroa_6_0_r73_i_sroa_idx_i_i;
-    one_pointer vr13_i_sroa_7_0_r73_i_sroa_idx_i_i;
-    uint64_t vr77_i_i_i;
+    uint64_t vr71_i_i_i;
+    one_pointer vr74_i_i_i;
+    one_pointer vr9_i_i_i;
+    one_pointer vr13_i9_i_i;
     uint64_t vr79_i_i_i;
-    uint8_t vexitcond164_not_i_i;
-    uint8_t vr7_i77_i_i;
-    uint64_t vr39_i_i_i;
-    uint64_t vr4122_i_i_i;
-    uint64_t vr45_i_i_i;
-    uint8_t vr48_i_i_i;
-    uint64_t vr58_i_i_i;
-    one_pointer vr60_i_i_i;
-    uint64_t vr10_0_i_i158_i_i;
-    uint64_t vr9_0_i_i155_i_i;
+    uint64_t vr81_i_i_i;
+    uint8_t vexitcond155_not_i_i;
+    uint8_t vr7_i69_i_i;
+    uint64_t vr41_i_i_i;
+    uint64_t vr4324_i_i_i;
+    uint64_t vr48_i_i_i;
+    uint8_t vr51_i12_i_i;
+    uint64_t vr62_i_i_i;
+    one_pointer vr65_i13_i_i;
+    uint64_t vr10_0_i_i149_i_i;
+    uint64_t vr9_0_i_i147_i_i;
     uint64_t vr101_i_i_i_i_i;
     one_pointer vr13_i_i_i_i_i;
     uint8_t vr15_i_i_i_i_i;
@@ -14164,52 +14164,52 @@ static uint8_t core_tds_row_places(one_pointer va0, uint64_t va1, one_pointer va
     uint8_t v5;
     uint8_t v6;
     uint8_t vr25_i_i_i_not_i_i;
-    uint64_t vr38_i_i23_i_i;
-    one_pointer vr41_i_i24_i_i;
-    one_pointer vr12_sroa_3_0_r43_sroa_idx_i_i_i_i;
+    uint64_t vr39_i_i15_i_i;
+    one_pointer vr42_i_i16_i_i;
+    one_pointer vr12_sroa_3_0_r44_sroa_idx_i_i_i_i;
     uint8_t vr12_sroa_3_0_copyload_i_i_i_i;
-    one_pointer vr46_i_i_i_i;
-    uint64_t vr50_i_i26_i_i;
-    one_pointer vr43_i_i25_i_i;
+    one_pointer vr47_i_i18_i_i;
+    uint64_t vr51_i_i19_i_i;
+    one_pointer vr44_i_i17_i_i;
     uint8_t vr12_sroa_0_0_copyload_i_i_i_i;
-    uint64_t vr1_i78_i_i;
+    uint64_t vr1_i70_i_i;
     uint8_t vr16_i17_i_i_i_i;
     uint8_t vr25_i19_i_i_i_i;
     uint8_t vr16_i23_i_i_i_i;
     uint8_t vr14_i_i_i_i_i;
-    uint64_t vr1_i80_i_i;
+    uint64_t vr1_i72_i_i;
     one_pointer vr20_i_i_i_i_i;
     uint8_t vr22_i30_i_i_i_i;
-    uint64_t vr1_i81_i_i;
-    uint64_t vr26_i_i_i47_i_i;
+    uint64_t vr1_i73_i_i;
+    uint64_t vr26_i_i_i39_i_i;
     uint64_t vr29_i31_i_i_i_i;
     uint64_t vr28_i26_i_i_i_i;
     uint8_t vr31_i_i_i_i_i;
-    uint64_t vr47_i_i_i48_i_i;
+    uint64_t vr47_i_i_i40_i_i;
     uint8_t vr50_i_i_i_i_i;
-    uint64_t vr64_i_i_i49_i_i;
+    uint64_t vr64_i_i_i41_i_i;
     uint8_t vr17_i36_i_i_i_i;
     uint16_t vr26_i46_i_i_i_i;
     uint64_t v7;
-    one_pointer vr45_i_i_i37_i_i;
+    one_pointer vr45_i_i_i29_i_i;
     uint8_t vr47_i49_i_i_i_i;
-    uint64_t vr1_i84_i_i;
+    uint64_t vr1_i76_i_i;
     uint64_t vr51_i50_i_i_i_i;
-    uint64_t vr54_i_i_i39_i_i;
-    one_pointer vr58_i_i_i40_i_i;
-    uint8_t vr60_i_i_i41_i_i;
-    uint64_t vr1_i85_i_i;
+    uint64_t vr54_i_i_i31_i_i;
+    one_pointer vr58_i_i_i32_i_i;
+    uint8_t vr60_i_i_i33_i_i;
+    uint64_t vr1_i77_i_i;
     uint64_t vr64_i51_i_i_i_i;
-    uint64_t vr67_i_i_i43_i_i;
+    uint64_t vr67_i_i_i35_i_i;
     uint64_t vr29_i39_i_i_i_i;
-    uint8_t vr32_i_i_i44_i_i;
+    uint8_t vr32_i_i_i36_i_i;
     uint64_t vr48_i_i_i_i_i;
-    uint8_t vr51_i_i_i45_i_i;
+    uint8_t vr51_i_i_i37_i_i;
     uint8_t vr61_i_i_i_i_i;
     uint64_t vr72_i_i_i_i_i;
-    uint8_t vr7_i87_i_i;
+    uint8_t vr7_i79_i_i;
     uint8_t vr37_i_i_i_i_i;
-    uint64_t vr1_i88_i_i;
+    uint64_t vr1_i80_i_i;
     uint8_t vr41_i54_i_i_i_i;
     uint64_t vr45_i61_i_i_i_i;
     uint64_t vr59_i_i_i_i_i;
@@ -14220,12 +14220,12 @@ static uint8_t core_tds_row_places(one_pointer va0, uint64_t va1, one_pointer va
     uint64_t v9;
     one_pointer vr45_i_i_i_i_i_i;
     uint8_t vr47_i_i_i_i_i_i;
-    uint64_t vr1_i91_i_i;
+    uint64_t vr1_i83_i_i;
     uint64_t vr51_i_i_i_i_i_i;
     uint64_t vr54_i_i_i_i_i_i;
     one_pointer vr58_i_i_i_i_i_i;
     uint8_t vr60_i_i_i_i_i_i;
-    uint64_t vr1_i92_i_i;
+    uint64_t vr1_i84_i_i;
     uint64_t vr64_i_i_i_i_i_i;
     uint64_t vr67_i_i_i_i_i_i;
     uint64_t vr78_i58_i_i_i_i;
@@ -14249,9 +14249,9 @@ static uint8_t core_tds_row_places(one_pointer va0, uint64_t va1, one_pointer va
     uint64_t vr60_i78_i_i_i_i;
     uint64_t vr71_i79_i_i_i_i;
     uint64_t vr78_i80_i_i_i_i;
-    uint8_t vr7_i101_i_i;
+    uint8_t vr7_i93_i_i;
     uint8_t vr28_i111_i_i_i_i;
-    uint64_t vr1_i102_i_i;
+    uint64_t vr1_i94_i_i;
     uint64_t vr34_i113_i_i_i_i;
     uint8_t vr37_i114_i_i_i_i;
     uint64_t vr45_i116_i_i_i_i;
@@ -14262,17 +14262,16 @@ static uint8_t core_tds_row_places(one_pointer va0, uint64_t va1, one_pointer va
     uint8_t vr5_i_i_i_sroa_74_2_shrunk_i_i;
     uint64_t vr5_i_i_i_sroa_120_2_i_i;
     uint8_t vr5_i_i_i_sroa_74_2_i_i;
-    uint64_t vr18_i_i_sroa_9_0154_i_i;
-    uint8_t vr18_i_i_sroa_6_sroa_8_0153_i_i;
-    uint64_t vr18_i_i_sroa_6_sroa_6_0152_i_i;
-    uint64_t vr18_i_i_sroa_6_sroa_0_0151_i_i;
-    uint64_t vr70_i_i32_i_i;
-    one_pointer vr73_i_i_i_i;
-    one_pointer vr13_i_i_sroa_5_0_r73_i_i_sroa_idx_i_i;
-    one_pointer vr13_i_i_sroa_6_0_r73_i_i_sroa_idx_i_i;
-    one_pointer vr13_i_i_sroa_7_0_r73_i_i_sroa_idx_i_i;
-    uint64_t vr77_i_i_i_i;
+    uint64_t vr18_i_i_sroa_9_0143_i_i;
+    uint8_t vr18_i_i_sroa_6_sroa_7_0142_i_i;
+    uint64_t vr18_i_i_sroa_6_sroa_6_0141_i_i;
+    uint64_t vr18_i_i_sroa_6_sroa_0_0140_i_i;
+    uint64_t vr71_i_i24_i_i;
+    one_pointer vr74_i_i_i_i;
+    one_pointer vr9_i_i_i_i;
+    one_pointer vr13_i25_i_i_i;
     uint64_t vr79_i_i_i_i;
+    uint64_t vr81_i_i_i_i;
     uint8_t vexitcond_not_i_i;
     uint64_t v_sink_i;
     uint8_t vr8_0_i_i;
@@ -14285,76 +14284,76 @@ static uint8_t core_tds_row_places(one_pointer va0, uint64_t va1, one_pointer va
     vr19 = ONE_NUMBER(va4) == ONE_NUMBER((one_pointer)0);
     vr21 = vr19 ? (uint64_t)4096 : (uint64_t)0;
     vr22 = (va4 + (one_distance)(vr21));
-    vr28_i_i = va5 < va1;
-    if (vr28_i_i) { v_sink_i = (uint64_t)0; vr8_0_i_i = 74u; goto b63; } goto b1;
+    vr21_i_i = va5 < va1;
+    if (vr21_i_i) { v_sink_i = (uint64_t)0; vr8_0_i_i = 74u; goto b63; } goto b1;
     b1:;
     vr7_i_i_i = va3 == (uint64_t)0;
     if (vr7_i_i_i) { v_sink_i = (uint64_t)0; vr8_0_i_i = 1u; goto b63; } goto b2;
     b2:;
-    vr52_i_i = one_read8(vr13);
-    switch (vr52_i_i) { case 209u: goto b3; case 210u: goto b31; default: v_sink_i = (uint64_t)0; vr8_0_i_i = 71u; goto b63; }
+    vr19_i_i_i = one_read8(vr13);
+    switch (vr19_i_i_i) { case 209u: goto b3; case 210u: goto b31; default: v_sink_i = (uint64_t)0; vr8_0_i_i = 71u; goto b63; }
     b3:;
-    vr7_i51_i_i = va1 == (uint64_t)0;
-    if (vr7_i51_i_i) { v_sink_i = (uint64_t)0; vr8_0_i_i = 72u; goto b63; } vr10_0_i162_i_i = (uint64_t)0; vr9_0_i160_i_i = (uint64_t)1; goto b4;
+    vr7_i43_i_i = va1 == (uint64_t)0;
+    if (vr7_i43_i_i) { v_sink_i = (uint64_t)0; vr8_0_i_i = 72u; goto b63; } vr10_0_i151_i_i = (uint64_t)0; vr9_0_i150_i_i = (uint64_t)1; goto b4;
     b4:;
-    vr38_i_i_i = vr10_0_i162_i_i * (uint64_t)40;
-    vr41_i_i_i = (vr4 + (one_distance)(vr38_i_i_i));
-    vr43_i_i_i = (vr41_i_i_i + 34);
-    vr12_sroa_0_0_copyload_i_i_i = one_read8(vr43_i_i_i);
-    vr12_sroa_3_0_r43_sroa_idx_i_i_i = (vr41_i_i_i + 35);
-    vr12_sroa_3_0_copyload_i_i_i = one_read8(vr12_sroa_3_0_r43_sroa_idx_i_i_i);
-    vr46_i_i_i = (vr13 + (one_distance)(vr9_0_i160_i_i));
-    vr50_i17_i_i = va3 - vr9_0_i160_i_i;
+    vr39_i_i_i = vr10_0_i151_i_i * (uint64_t)40;
+    vr42_i_i_i = (vr4 + (one_distance)(vr39_i_i_i));
+    vr44_i_i_i = (vr42_i_i_i + 34);
+    vr12_sroa_0_0_copyload_i_i_i = one_read8(vr44_i_i_i);
+    vr12_sroa_3_0_r44_sroa_idx_i_i_i = (vr42_i_i_i + 35);
+    vr12_sroa_3_0_copyload_i_i_i = one_read8(vr12_sroa_3_0_r44_sroa_idx_i_i_i);
+    vr47_i_i_i = (vr13 + (one_distance)(vr9_0_i150_i_i));
+    vr51_i7_i_i = va3 - vr9_0_i150_i_i;
     switch (vr12_sroa_0_0_copyload_i_i_i) { case 0u: goto b5; case 2u: goto b7; case 3u: goto b11; case 4u: goto b15; case 5u: goto b22; default: goto b27; }
     b5:;
     vr1_i_i_i = (uint64_t)vr12_sroa_3_0_copyload_i_i_i;
-    vr16_i17_i_i_i = vr50_i17_i_i < vr1_i_i_i;
+    vr16_i17_i_i_i = vr51_i7_i_i < vr1_i_i_i;
     if (vr16_i17_i_i_i) { v_sink_i = (uint64_t)0; vr8_0_i_i = 1u; goto b63; } goto b6;
     b6:;
     vr25_i19_i_i_i = vr12_sroa_3_0_copyload_i_i_i == 0u;
-    vr5_i_i_sroa_27_2_i_i = vr9_0_i160_i_i; vr5_i_i_sroa_51_2_i_i = vr1_i_i_i; vr5_i_i_sroa_74_2_shrunk_i_i = vr25_i19_i_i_i; vr5_i_i_sroa_120_2_i_i = vr1_i_i_i; goto b30;
+    vr5_i_i_sroa_27_2_i_i = vr9_0_i150_i_i; vr5_i_i_sroa_51_2_i_i = vr1_i_i_i; vr5_i_i_sroa_74_2_shrunk_i_i = vr25_i19_i_i_i; vr5_i_i_sroa_120_2_i_i = vr1_i_i_i; goto b30;
     b7:;
-    vr16_i23_i_i_i = vr50_i17_i_i < (uint64_t)2;
+    vr16_i23_i_i_i = vr51_i7_i_i < (uint64_t)2;
     if (vr16_i23_i_i_i) { v_sink_i = (uint64_t)0; vr8_0_i_i = 1u; goto b63; } goto b8;
     b8:;
-    vr14_i_i_i_i = one_read8(vr46_i_i_i);
-    vr1_i53_i_i = (uint64_t)vr14_i_i_i_i;
-    vr20_i_i_i_i = (vr46_i_i_i + 1);
+    vr14_i_i_i_i = one_read8(vr47_i_i_i);
+    vr1_i45_i_i = (uint64_t)vr14_i_i_i_i;
+    vr20_i_i_i_i = (vr47_i_i_i + 1);
     vr22_i30_i_i_i = one_read8(vr20_i_i_i_i);
-    vr1_i54_i_i = (uint64_t)vr22_i30_i_i_i;
-    vr26_i_i_i_i = vr1_i54_i_i << ((uint64_t)8 & 63u);
-    vr29_i31_i_i_i = vr26_i_i_i_i | vr1_i53_i_i;
-    vr28_i26_i_i_i = vr9_0_i160_i_i + (uint64_t)2;
+    vr1_i46_i_i = (uint64_t)vr22_i30_i_i_i;
+    vr26_i_i_i_i = vr1_i46_i_i << ((uint64_t)8 & 63u);
+    vr29_i31_i_i_i = vr26_i_i_i_i | vr1_i45_i_i;
+    vr28_i26_i_i_i = vr9_0_i150_i_i + (uint64_t)2;
     vr31_i_i_i_i = vr29_i31_i_i_i == (uint64_t)65535;
     if (vr31_i_i_i_i) { vr5_i_i_sroa_27_2_i_i = vr28_i26_i_i_i; vr5_i_i_sroa_51_2_i_i = (uint64_t)0; vr5_i_i_sroa_74_2_shrunk_i_i = 1u; vr5_i_i_sroa_120_2_i_i = (uint64_t)2; goto b30; } goto b9;
     b9:;
-    vr47_i_i_i_i = vr50_i17_i_i + 18446744073709551614ull;
+    vr47_i_i_i_i = vr51_i7_i_i + 18446744073709551614ull;
     vr50_i_i_i_i = vr47_i_i_i_i < vr29_i31_i_i_i;
     if (vr50_i_i_i_i) { v_sink_i = (uint64_t)0; vr8_0_i_i = 1u; goto b63; } goto b10;
     b10:;
     vr64_i_i_i_i = vr29_i31_i_i_i + (uint64_t)2;
     vr5_i_i_sroa_27_2_i_i = vr28_i26_i_i_i; vr5_i_i_sroa_51_2_i_i = vr29_i31_i_i_i; vr5_i_i_sroa_74_2_shrunk_i_i = 0u; vr5_i_i_sroa_120_2_i_i = vr64_i_i_i_i; goto b30;
     b11:;
-    vr17_i36_i_i_i = vr50_i17_i_i < (uint64_t)4;
+    vr17_i36_i_i_i = vr51_i7_i_i < (uint64_t)4;
     if (vr17_i36_i_i_i) { v_sink_i = (uint64_t)0; vr8_0_i_i = 1u; goto b63; } goto b12;
     b12:;
-    vr26_i46_i_i_i = one_read16(vr46_i_i_i);
+    vr26_i46_i_i_i = one_read16(vr47_i_i_i);
     v0 = (uint64_t)vr26_i46_i_i_i;
-    vr45_i_i_i_i = (vr46_i_i_i + 2);
+    vr45_i_i_i_i = (vr47_i_i_i + 2);
     vr47_i49_i_i_i = one_read8(vr45_i_i_i_i);
-    vr1_i57_i_i = (uint64_t)vr47_i49_i_i_i;
-    vr51_i50_i_i_i = vr1_i57_i_i << ((uint64_t)16 & 63u);
+    vr1_i49_i_i = (uint64_t)vr47_i49_i_i_i;
+    vr51_i50_i_i_i = vr1_i49_i_i << ((uint64_t)16 & 63u);
     vr54_i_i_i_i = vr51_i50_i_i_i | v0;
-    vr58_i_i_i_i = (vr46_i_i_i + 3);
+    vr58_i_i_i_i = (vr47_i_i_i + 3);
     vr60_i_i_i_i = one_read8(vr58_i_i_i_i);
-    vr1_i58_i_i = (uint64_t)vr60_i_i_i_i;
-    vr64_i51_i_i_i = vr1_i58_i_i << ((uint64_t)24 & 63u);
+    vr1_i50_i_i = (uint64_t)vr60_i_i_i_i;
+    vr64_i51_i_i_i = vr1_i50_i_i << ((uint64_t)24 & 63u);
     vr67_i_i_i_i = vr54_i_i_i_i | vr64_i51_i_i_i;
-    vr29_i39_i_i_i = vr9_0_i160_i_i + (uint64_t)4;
+    vr29_i39_i_i_i = vr9_0_i150_i_i + (uint64_t)4;
     vr32_i_i_i_i = vr67_i_i_i_i == 4294967295ull;
     if (vr32_i_i_i_i) { vr5_i_i_sroa_27_2_i_i = vr29_i39_i_i_i; vr5_i_i_sroa_51_2_i_i = (uint64_t)0; vr5_i_i_sroa_74_2_shrunk_i_i = 1u; vr5_i_i_sroa_120_2_i_i = (uint64_t)4; goto b30; } goto b13;
     b13:;
-    vr48_i_i_i_i = vr50_i17_i_i + 18446744073709551612ull;
+    vr48_i_i_i_i = vr51_i7_i_i + 18446744073709551612ull;
     vr51_i_i_i_i = vr48_i_i_i_i < vr67_i_i_i_i;
     if (vr51_i_i_i_i) { v_sink_i = (uint64_t)0; vr8_0_i_i = 1u; goto b63; } goto b14;
     b14:;
@@ -14362,62 +14361,62 @@ static uint8_t core_tds_row_places(one_pointer va0, uint64_t va1, one_pointer va
     vr72_i_i_i_i = vr67_i_i_i_i + (uint64_t)4;
     vr5_i_i_sroa_27_2_i_i = vr29_i39_i_i_i; vr5_i_i_sroa_51_2_i_i = vr67_i_i_i_i; vr5_i_i_sroa_74_2_shrunk_i_i = vr61_i_i_i_i; vr5_i_i_sroa_120_2_i_i = vr72_i_i_i_i; goto b30;
     b15:;
-    vr7_i60_i_i = va3 == vr9_0_i160_i_i;
-    if (vr7_i60_i_i) { v_sink_i = (uint64_t)0; vr8_0_i_i = 1u; goto b63; } goto b16;
+    vr7_i52_i_i = va3 == vr9_0_i150_i_i;
+    if (vr7_i52_i_i) { v_sink_i = (uint64_t)0; vr8_0_i_i = 1u; goto b63; } goto b16;
     b16:;
-    vr37_i_i_i_i = one_read8(vr46_i_i_i);
-    vr1_i61_i_i = (uint64_t)vr37_i_i_i_i;
+    vr37_i_i_i_i = one_read8(vr47_i_i_i);
+    vr1_i53_i_i = (uint64_t)vr37_i_i_i_i;
     vr41_i54_i_i_i = vr37_i_i_i_i == 0u;
     if (vr41_i54_i_i_i) { goto b17; } goto b18;
     b17:;
-    vr45_i61_i_i_i = vr9_0_i160_i_i + (uint64_t)1;
+    vr45_i61_i_i_i = vr9_0_i150_i_i + (uint64_t)1;
     vr5_i_i_sroa_27_2_i_i = vr45_i61_i_i_i; vr5_i_i_sroa_51_2_i_i = (uint64_t)0; vr5_i_i_sroa_74_2_shrunk_i_i = 1u; vr5_i_i_sroa_120_2_i_i = (uint64_t)1; goto b30;
     b18:;
-    vr59_i_i_i_i = vr1_i61_i_i + (uint64_t)13;
-    vr62_i56_i_i_i = vr50_i17_i_i < vr59_i_i_i_i;
+    vr59_i_i_i_i = vr1_i53_i_i + (uint64_t)13;
+    vr62_i56_i_i_i = vr51_i7_i_i < vr59_i_i_i_i;
     if (vr62_i56_i_i_i) { v_sink_i = (uint64_t)0; vr8_0_i_i = 1u; goto b63; } goto b19;
     b19:;
-    v1 = (vr46_i_i_i + (one_distance)(vr1_i61_i_i));
+    v1 = (vr47_i_i_i + (one_distance)(vr1_i53_i_i));
     vr24_i_i_i_i_i = (v1 + 9);
     vr26_i_i_i_i_i = one_read16(vr24_i_i_i_i_i);
     v2 = (uint64_t)vr26_i_i_i_i_i;
     vr45_i_i_i_i_i = (v1 + 11);
     vr47_i_i_i_i_i = one_read8(vr45_i_i_i_i_i);
-    vr1_i64_i_i = (uint64_t)vr47_i_i_i_i_i;
-    vr51_i_i_i_i_i = vr1_i64_i_i << ((uint64_t)16 & 63u);
+    vr1_i56_i_i = (uint64_t)vr47_i_i_i_i_i;
+    vr51_i_i_i_i_i = vr1_i56_i_i << ((uint64_t)16 & 63u);
     vr54_i_i_i_i_i = vr51_i_i_i_i_i | v2;
     vr58_i_i_i_i_i = (v1 + 12);
     vr60_i_i_i_i_i = one_read8(vr58_i_i_i_i_i);
-    vr1_i65_i_i = (uint64_t)vr60_i_i_i_i_i;
-    vr64_i_i_i_i_i = vr1_i65_i_i << ((uint64_t)24 & 63u);
+    vr1_i57_i_i = (uint64_t)vr60_i_i_i_i_i;
+    vr64_i_i_i_i_i = vr1_i57_i_i << ((uint64_t)24 & 63u);
     vr67_i_i_i_i_i = vr54_i_i_i_i_i | vr64_i_i_i_i_i;
-    vr78_i58_i_i_i = vr9_0_i160_i_i + (uint64_t)13;
-    vr80_i_i_i_i = vr78_i58_i_i_i + vr1_i61_i_i;
+    vr78_i58_i_i_i = vr9_0_i150_i_i + (uint64_t)13;
+    vr80_i_i_i_i = vr78_i58_i_i_i + vr1_i53_i_i;
     vr83_i_i_i_i = vr67_i_i_i_i_i == 4294967295ull;
     if (vr83_i_i_i_i) { vr5_i_i_sroa_27_2_i_i = vr80_i_i_i_i; vr5_i_i_sroa_51_2_i_i = (uint64_t)0; vr5_i_i_sroa_74_2_shrunk_i_i = 1u; vr5_i_i_sroa_120_2_i_i = vr59_i_i_i_i; goto b30; } goto b20;
     b20:;
-    vr105_i_i_i_i = vr50_i17_i_i - vr59_i_i_i_i;
+    vr105_i_i_i_i = vr51_i7_i_i - vr59_i_i_i_i;
     vr108_i_i_i_i = vr105_i_i_i_i < vr67_i_i_i_i_i;
     if (vr108_i_i_i_i) { v_sink_i = (uint64_t)0; vr8_0_i_i = 1u; goto b63; } goto b21;
     b21:;
     vr125_i_i_i_i = vr67_i_i_i_i_i + vr59_i_i_i_i;
     vr5_i_i_sroa_27_2_i_i = vr80_i_i_i_i; vr5_i_i_sroa_51_2_i_i = vr67_i_i_i_i_i; vr5_i_i_sroa_74_2_shrunk_i_i = 0u; vr5_i_i_sroa_120_2_i_i = vr125_i_i_i_i; goto b30;
     b22:;
-    vr20_i68_i_i_i = vr50_i17_i_i < (uint64_t)8;
+    vr20_i68_i_i_i = vr51_i7_i_i < (uint64_t)8;
     if (vr20_i68_i_i_i) { v_sink_i = (uint64_t)0; vr8_0_i_i = 1u; goto b63; } goto b23;
     b23:;
-    vr28_i70_i_i_i = vr9_0_i160_i_i + (uint64_t)8;
-    vr26_i4_i_i_i_i = one_read32(vr46_i_i_i);
+    vr28_i70_i_i_i = vr9_0_i150_i_i + (uint64_t)8;
+    vr26_i4_i_i_i_i = one_read32(vr47_i_i_i);
     vr11_i84_i_i_i = vr26_i4_i_i_i_i == 4294967295u;
     if (vr11_i84_i_i_i) { goto b24; } goto b25;
     b24:;
-    vr24_i_i88_i_i_i = (vr46_i_i_i + 4);
+    vr24_i_i88_i_i_i = (vr47_i_i_i + 4);
     vr26_i_i89_i_i_i = one_read32(vr24_i_i88_i_i_i);
     vr20_i106_i_i_i = vr26_i_i89_i_i_i == 4294967295u;
     if (vr20_i106_i_i_i) { vr5_i_i_sroa_27_2_i_i = vr28_i70_i_i_i; vr5_i_i_sroa_51_2_i_i = (uint64_t)0; vr5_i_i_sroa_74_2_shrunk_i_i = 1u; vr5_i_i_sroa_120_2_i_i = (uint64_t)8; goto b30; } goto b25;
     b25:;
-    vr47_i73_i_i_i = (vr46_i_i_i + 8);
-    vr50_i74_i_i_i = vr50_i17_i_i + 18446744073709551608ull;
+    vr47_i73_i_i_i = (vr47_i_i_i + 8);
+    vr50_i74_i_i_i = vr51_i7_i_i + 18446744073709551608ull;
     vr58_i75_i_i_i = tds_rows__parts__parts_length(vr47_i73_i_i_i, vr50_i74_i_i_i);
     vr59_i76_i_i_i = vr58_i75_i_i_i.f0;
     v3 = vr59_i76_i_i_i == 1u;
@@ -14428,179 +14427,177 @@ static uint8_t core_tds_row_places(one_pointer va0, uint64_t va1, one_pointer va
     vr78_i80_i_i_i = vr60_i78_i_i_i + (uint64_t)8;
     vr5_i_i_sroa_27_2_i_i = vr28_i70_i_i_i; vr5_i_i_sroa_51_2_i_i = vr71_i79_i_i_i; vr5_i_i_sroa_74_2_shrunk_i_i = 0u; vr5_i_i_sroa_120_2_i_i = vr78_i80_i_i_i; goto b30;
     b27:;
-    vr7_i74_i_i = va3 == vr9_0_i160_i_i;
-    if (vr7_i74_i_i) { v_sink_i = (uint64_t)0; vr8_0_i_i = 1u; goto b63; } goto b28;
+    vr7_i66_i_i = va3 == vr9_0_i150_i_i;
+    if (vr7_i66_i_i) { v_sink_i = (uint64_t)0; vr8_0_i_i = 1u; goto b63; } goto b28;
     b28:;
-    vr28_i111_i_i_i = one_read8(vr46_i_i_i);
-    vr1_i75_i_i = (uint64_t)vr28_i111_i_i_i;
-    vr34_i113_i_i_i = vr50_i17_i_i + 18446744073709551615ull;
-    vr37_i114_i_i_i = vr34_i113_i_i_i < vr1_i75_i_i;
+    vr28_i111_i_i_i = one_read8(vr47_i_i_i);
+    vr1_i67_i_i = (uint64_t)vr28_i111_i_i_i;
+    vr34_i113_i_i_i = vr51_i7_i_i + 18446744073709551615ull;
+    vr37_i114_i_i_i = vr34_i113_i_i_i < vr1_i67_i_i;
     if (vr37_i114_i_i_i) { v_sink_i = (uint64_t)0; vr8_0_i_i = 1u; goto b63; } goto b29;
     b29:;
-    vr45_i116_i_i_i = vr9_0_i160_i_i + (uint64_t)1;
+    vr45_i116_i_i_i = vr9_0_i150_i_i + (uint64_t)1;
     vr49_i117_i_i_i = vr28_i111_i_i_i == 0u;
-    vr60_i118_i_i_i = vr1_i75_i_i + (uint64_t)1;
-    vr5_i_i_sroa_27_2_i_i = vr45_i116_i_i_i; vr5_i_i_sroa_51_2_i_i = vr1_i75_i_i; vr5_i_i_sroa_74_2_shrunk_i_i = vr49_i117_i_i_i; vr5_i_i_sroa_120_2_i_i = vr60_i118_i_i_i; goto b30;
+    vr60_i118_i_i_i = vr1_i67_i_i + (uint64_t)1;
+    vr5_i_i_sroa_27_2_i_i = vr45_i116_i_i_i; vr5_i_i_sroa_51_2_i_i = vr1_i67_i_i; vr5_i_i_sroa_74_2_shrunk_i_i = vr49_i117_i_i_i; vr5_i_i_sroa_120_2_i_i = vr60_i118_i_i_i; goto b30;
     b30:;
     vr5_i_i_sroa_74_2_i_i = (uint8_t)vr5_i_i_sroa_74_2_shrunk_i_i;
-    vr70_i_i_i = vr10_0_i162_i_i * (uint64_t)24;
-    vr73_i_i_i = (vr22 + (one_distance)(vr70_i_i_i));
-    one_write64(vr73_i_i_i, vr5_i_i_sroa_27_2_i_i);
-    vr13_i_sroa_5_0_r73_i_sroa_idx_i_i = (vr73_i_i_i + 8);
-    one_write64(vr13_i_sroa_5_0_r73_i_sroa_idx_i_i, vr5_i_i_sroa_51_2_i_i);
-    vr13_i_sroa_6_0_r73_i_sroa_idx_i_i = (vr73_i_i_i + 16);
-    one_write8(vr13_i_sroa_6_0_r73_i_sroa_idx_i_i, vr5_i_i_sroa_74_2_i_i);
-    vr13_i_sroa_7_0_r73_i_sroa_idx_i_i = (vr73_i_i_i + 17);
-    memset(ONE_AT(vr13_i_sroa_7_0_r73_i_sroa_idx_i_i), 0u, (size_t)((uint64_t)7));
-    vr77_i_i_i = vr5_i_i_sroa_120_2_i_i + vr9_0_i160_i_i;
-    vr79_i_i_i = vr10_0_i162_i_i + (uint64_t)1;
-    vexitcond164_not_i_i = vr79_i_i_i == va1;
-    if (vexitcond164_not_i_i) { v_sink_i = vr77_i_i_i; vr8_0_i_i = 0u; goto b63; } vr10_0_i162_i_i = vr79_i_i_i; vr9_0_i160_i_i = vr77_i_i_i; goto b4;
+    vr71_i_i_i = vr10_0_i151_i_i * (uint64_t)24;
+    vr74_i_i_i = (vr22 + (one_distance)(vr71_i_i_i));
+    one_write64(vr74_i_i_i, vr5_i_i_sroa_27_2_i_i);
+    vr9_i_i_i = (vr74_i_i_i + 8);
+    one_write64(vr9_i_i_i, vr5_i_i_sroa_51_2_i_i);
+    vr13_i9_i_i = (vr74_i_i_i + 16);
+    one_write8(vr13_i9_i_i, vr5_i_i_sroa_74_2_i_i);
+    vr79_i_i_i = vr5_i_i_sroa_120_2_i_i + vr9_0_i150_i_i;
+    vr81_i_i_i = vr10_0_i151_i_i + (uint64_t)1;
+    vexitcond155_not_i_i = vr81_i_i_i == va1;
+    if (vexitcond155_not_i_i) { v_sink_i = vr79_i_i_i; vr8_0_i_i = 0u; goto b63; } vr10_0_i151_i_i = vr81_i_i_i; vr9_0_i150_i_i = vr79_i_i_i; goto b4;
     b31:;
-    vr7_i77_i_i = va1 == (uint64_t)0;
-    if (vr7_i77_i_i) { v_sink_i = (uint64_t)0; vr8_0_i_i = 72u; goto b63; } goto b32;
+    vr7_i69_i_i = va1 == (uint64_t)0;
+    if (vr7_i69_i_i) { v_sink_i = (uint64_t)0; vr8_0_i_i = 72u; goto b63; } goto b32;
     b32:;
-    vr39_i_i_i = va1 + (uint64_t)7;
-    vr4122_i_i_i = vr39_i_i_i >> ((uint64_t)3 & 63u);
-    vr45_i_i_i = va3 + 18446744073709551615ull;
-    vr48_i_i_i = vr45_i_i_i < vr4122_i_i_i;
-    if (vr48_i_i_i) { v_sink_i = (uint64_t)0; vr8_0_i_i = 1u; goto b63; } goto b33;
+    vr41_i_i_i = va1 + (uint64_t)7;
+    vr4324_i_i_i = vr41_i_i_i >> ((uint64_t)3 & 63u);
+    vr48_i_i_i = va3 + 18446744073709551615ull;
+    vr51_i12_i_i = vr48_i_i_i < vr4324_i_i_i;
+    if (vr51_i12_i_i) { v_sink_i = (uint64_t)0; vr8_0_i_i = 1u; goto b63; } goto b33;
     b33:;
-    vr58_i_i_i = vr4122_i_i_i + (uint64_t)1;
-    vr60_i_i_i = (vr13 + 1);
-    vr10_0_i_i158_i_i = (uint64_t)0; vr9_0_i_i155_i_i = vr58_i_i_i; goto b34;
+    vr62_i_i_i = vr4324_i_i_i + (uint64_t)1;
+    vr65_i13_i_i = (vr13 + 1);
+    vr10_0_i_i149_i_i = (uint64_t)0; vr9_0_i_i147_i_i = vr62_i_i_i; goto b34;
     b34:;
-    vr101_i_i_i_i_i = vr10_0_i_i158_i_i >> ((uint64_t)3 & 63u);
-    vr13_i_i_i_i_i = (vr60_i_i_i + (one_distance)(vr101_i_i_i_i_i));
+    vr101_i_i_i_i_i = vr10_0_i_i149_i_i >> ((uint64_t)3 & 63u);
+    vr13_i_i_i_i_i = (vr65_i13_i_i + (one_distance)(vr101_i_i_i_i_i));
     vr15_i_i_i_i_i = one_read8(vr13_i_i_i_i_i);
-    v4 = (uint8_t)vr10_0_i_i158_i_i;
+    v4 = (uint8_t)vr10_0_i_i149_i_i;
     vr18_i_i_i_i_i = (uint8_t)(v4 & 7u);
     v5 = (uint8_t)(1u << (vr18_i_i_i_i_i & 7u));
     v6 = (uint8_t)(v5 & vr15_i_i_i_i_i);
     vr25_i_i_i_not_i_i = v6 == 0u;
-    vr38_i_i23_i_i = vr10_0_i_i158_i_i * (uint64_t)40;
-    vr41_i_i24_i_i = (vr4 + (one_distance)(vr38_i_i23_i_i));
-    vr12_sroa_3_0_r43_sroa_idx_i_i_i_i = (vr41_i_i24_i_i + 35);
-    vr12_sroa_3_0_copyload_i_i_i_i = one_read8(vr12_sroa_3_0_r43_sroa_idx_i_i_i_i);
-    vr46_i_i_i_i = (vr13 + (one_distance)(vr9_0_i_i155_i_i));
-    vr50_i_i26_i_i = va3 - vr9_0_i_i155_i_i;
-    if (vr25_i_i_i_not_i_i) { goto b35; } vr18_i_i_sroa_9_0154_i_i = (uint64_t)0; vr18_i_i_sroa_6_sroa_8_0153_i_i = 1u; vr18_i_i_sroa_6_sroa_6_0152_i_i = (uint64_t)0; vr18_i_i_sroa_6_sroa_0_0151_i_i = vr9_0_i_i155_i_i; goto b62;
+    vr39_i_i15_i_i = vr10_0_i_i149_i_i * (uint64_t)40;
+    vr42_i_i16_i_i = (vr4 + (one_distance)(vr39_i_i15_i_i));
+    vr12_sroa_3_0_r44_sroa_idx_i_i_i_i = (vr42_i_i16_i_i + 35);
+    vr12_sroa_3_0_copyload_i_i_i_i = one_read8(vr12_sroa_3_0_r44_sroa_idx_i_i_i_i);
+    vr47_i_i18_i_i = (vr13 + (one_distance)(vr9_0_i_i147_i_i));
+    vr51_i_i19_i_i = va3 - vr9_0_i_i147_i_i;
+    if (vr25_i_i_i_not_i_i) { goto b35; } vr18_i_i_sroa_9_0143_i_i = (uint64_t)0; vr18_i_i_sroa_6_sroa_7_0142_i_i = 1u; vr18_i_i_sroa_6_sroa_6_0141_i_i = (uint64_t)0; vr18_i_i_sroa_6_sroa_0_0140_i_i = vr9_0_i_i147_i_i; goto b62;
     b35:;
-    vr43_i_i25_i_i = (vr41_i_i24_i_i + 34);
-    vr12_sroa_0_0_copyload_i_i_i_i = one_read8(vr43_i_i25_i_i);
+    vr44_i_i17_i_i = (vr42_i_i16_i_i + 34);
+    vr12_sroa_0_0_copyload_i_i_i_i = one_read8(vr44_i_i17_i_i);
     switch (vr12_sroa_0_0_copyload_i_i_i_i) { case 0u: goto b36; case 2u: goto b38; case 3u: goto b42; case 4u: goto b46; case 5u: goto b53; default: goto b58; }
     b36:;
-    vr1_i78_i_i = (uint64_t)vr12_sroa_3_0_copyload_i_i_i_i;
-    vr16_i17_i_i_i_i = vr50_i_i26_i_i < vr1_i78_i_i;
+    vr1_i70_i_i = (uint64_t)vr12_sroa_3_0_copyload_i_i_i_i;
+    vr16_i17_i_i_i_i = vr51_i_i19_i_i < vr1_i70_i_i;
     if (vr16_i17_i_i_i_i) { v_sink_i = (uint64_t)0; vr8_0_i_i = 1u; goto b63; } goto b37;
     b37:;
     vr25_i19_i_i_i_i = vr12_sroa_3_0_copyload_i_i_i_i == 0u;
-    vr5_i_i_i_sroa_27_2_i_i = vr9_0_i_i155_i_i; vr5_i_i_i_sroa_51_2_i_i = vr1_i78_i_i; vr5_i_i_i_sroa_74_2_shrunk_i_i = vr25_i19_i_i_i_i; vr5_i_i_i_sroa_120_2_i_i = vr1_i78_i_i; goto b61;
+    vr5_i_i_i_sroa_27_2_i_i = vr9_0_i_i147_i_i; vr5_i_i_i_sroa_51_2_i_i = vr1_i70_i_i; vr5_i_i_i_sroa_74_2_shrunk_i_i = vr25_i19_i_i_i_i; vr5_i_i_i_sroa_120_2_i_i = vr1_i70_i_i; goto b61;
     b38:;
-    vr16_i23_i_i_i_i = vr50_i_i26_i_i < (uint64_t)2;
+    vr16_i23_i_i_i_i = vr51_i_i19_i_i < (uint64_t)2;
     if (vr16_i23_i_i_i_i) { v_sink_i = (uint64_t)0; vr8_0_i_i = 1u; goto b63; } goto b39;
     b39:;
-    vr14_i_i_i_i_i = one_read8(vr46_i_i_i_i);
-    vr1_i80_i_i = (uint64_t)vr14_i_i_i_i_i;
-    vr20_i_i_i_i_i = (vr46_i_i_i_i + 1);
+    vr14_i_i_i_i_i = one_read8(vr47_i_i18_i_i);
+    vr1_i72_i_i = (uint64_t)vr14_i_i_i_i_i;
+    vr20_i_i_i_i_i = (vr47_i_i18_i_i + 1);
     vr22_i30_i_i_i_i = one_read8(vr20_i_i_i_i_i);
-    vr1_i81_i_i = (uint64_t)vr22_i30_i_i_i_i;
-    vr26_i_i_i47_i_i = vr1_i81_i_i << ((uint64_t)8 & 63u);
-    vr29_i31_i_i_i_i = vr26_i_i_i47_i_i | vr1_i80_i_i;
-    vr28_i26_i_i_i_i = vr9_0_i_i155_i_i + (uint64_t)2;
+    vr1_i73_i_i = (uint64_t)vr22_i30_i_i_i_i;
+    vr26_i_i_i39_i_i = vr1_i73_i_i << ((uint64_t)8 & 63u);
+    vr29_i31_i_i_i_i = vr26_i_i_i39_i_i | vr1_i72_i_i;
+    vr28_i26_i_i_i_i = vr9_0_i_i147_i_i + (uint64_t)2;
     vr31_i_i_i_i_i = vr29_i31_i_i_i_i == (uint64_t)65535;
     if (vr31_i_i_i_i_i) { vr5_i_i_i_sroa_27_2_i_i = vr28_i26_i_i_i_i; vr5_i_i_i_sroa_51_2_i_i = (uint64_t)0; vr5_i_i_i_sroa_74_2_shrunk_i_i = 1u; vr5_i_i_i_sroa_120_2_i_i = (uint64_t)2; goto b61; } goto b40;
     b40:;
-    vr47_i_i_i48_i_i = vr50_i_i26_i_i + 18446744073709551614ull;
-    vr50_i_i_i_i_i = vr47_i_i_i48_i_i < vr29_i31_i_i_i_i;
+    vr47_i_i_i40_i_i = vr51_i_i19_i_i + 18446744073709551614ull;
+    vr50_i_i_i_i_i = vr47_i_i_i40_i_i < vr29_i31_i_i_i_i;
     if (vr50_i_i_i_i_i) { v_sink_i = (uint64_t)0; vr8_0_i_i = 1u; goto b63; } goto b41;
     b41:;
-    vr64_i_i_i49_i_i = vr29_i31_i_i_i_i + (uint64_t)2;
-    vr5_i_i_i_sroa_27_2_i_i = vr28_i26_i_i_i_i; vr5_i_i_i_sroa_51_2_i_i = vr29_i31_i_i_i_i; vr5_i_i_i_sroa_74_2_shrunk_i_i = 0u; vr5_i_i_i_sroa_120_2_i_i = vr64_i_i_i49_i_i; goto b61;
+    vr64_i_i_i41_i_i = vr29_i31_i_i_i_i + (uint64_t)2;
+    vr5_i_i_i_sroa_27_2_i_i = vr28_i26_i_i_i_i; vr5_i_i_i_sroa_51_2_i_i = vr29_i31_i_i_i_i; vr5_i_i_i_sroa_74_2_shrunk_i_i = 0u; vr5_i_i_i_sroa_120_2_i_i = vr64_i_i_i41_i_i; goto b61;
     b42:;
-    vr17_i36_i_i_i_i = vr50_i_i26_i_i < (uint64_t)4;
+    vr17_i36_i_i_i_i = vr51_i_i19_i_i < (uint64_t)4;
     if (vr17_i36_i_i_i_i) { v_sink_i = (uint64_t)0; vr8_0_i_i = 1u; goto b63; } goto b43;
     b43:;
-    vr26_i46_i_i_i_i = one_read16(vr46_i_i_i_i);
+    vr26_i46_i_i_i_i = one_read16(vr47_i_i18_i_i);
     v7 = (uint64_t)vr26_i46_i_i_i_i;
-    vr45_i_i_i37_i_i = (vr46_i_i_i_i + 2);
-    vr47_i49_i_i_i_i = one_read8(vr45_i_i_i37_i_i);
-    vr1_i84_i_i = (uint64_t)vr47_i49_i_i_i_i;
-    vr51_i50_i_i_i_i = vr1_i84_i_i << ((uint64_t)16 & 63u);
-    vr54_i_i_i39_i_i = vr51_i50_i_i_i_i | v7;
-    vr58_i_i_i40_i_i = (vr46_i_i_i_i + 3);
-    vr60_i_i_i41_i_i = one_read8(vr58_i_i_i40_i_i);
-    vr1_i85_i_i = (uint64_t)vr60_i_i_i41_i_i;
-    vr64_i51_i_i_i_i = vr1_i85_i_i << ((uint64_t)24 & 63u);
-    vr67_i_i_i43_i_i = vr54_i_i_i39_i_i | vr64_i51_i_i_i_i;
-    vr29_i39_i_i_i_i = vr9_0_i_i155_i_i + (uint64_t)4;
-    vr32_i_i_i44_i_i = vr67_i_i_i43_i_i == 4294967295ull;
-    if (vr32_i_i_i44_i_i) { vr5_i_i_i_sroa_27_2_i_i = vr29_i39_i_i_i_i; vr5_i_i_i_sroa_51_2_i_i = (uint64_t)0; vr5_i_i_i_sroa_74_2_shrunk_i_i = 1u; vr5_i_i_i_sroa_120_2_i_i = (uint64_t)4; goto b61; } goto b44;
+    vr45_i_i_i29_i_i = (vr47_i_i18_i_i + 2);
+    vr47_i49_i_i_i_i = one_read8(vr45_i_i_i29_i_i);
+    vr1_i76_i_i = (uint64_t)vr47_i49_i_i_i_i;
+    vr51_i50_i_i_i_i = vr1_i76_i_i << ((uint64_t)16 & 63u);
+    vr54_i_i_i31_i_i = vr51_i50_i_i_i_i | v7;
+    vr58_i_i_i32_i_i = (vr47_i_i18_i_i + 3);
+    vr60_i_i_i33_i_i = one_read8(vr58_i_i_i32_i_i);
+    vr1_i77_i_i = (uint64_t)vr60_i_i_i33_i_i;
+    vr64_i51_i_i_i_i = vr1_i77_i_i << ((uint64_t)24 & 63u);
+    vr67_i_i_i35_i_i = vr54_i_i_i31_i_i | vr64_i51_i_i_i_i;
+    vr29_i39_i_i_i_i = vr9_0_i_i147_i_i + (uint64_t)4;
+    vr32_i_i_i36_i_i = vr67_i_i_i35_i_i == 4294967295ull;
+    if (vr32_i_i_i36_i_i) { vr5_i_i_i_sroa_27_2_i_i = vr29_i39_i_i_i_i; vr5_i_i_i_sroa_51_2_i_i = (uint64_t)0; vr5_i_i_i_sroa_74_2_shrunk_i_i = 1u; vr5_i_i_i_sroa_120_2_i_i = (uint64_t)4; goto b61; } goto b44;
     b44:;
-    vr48_i_i_i_i_i = vr50_i_i26_i_i + 18446744073709551612ull;
-    vr51_i_i_i45_i_i = vr48_i_i_i_i_i < vr67_i_i_i43_i_i;
-    if (vr51_i_i_i45_i_i) { v_sink_i = (uint64_t)0; vr8_0_i_i = 1u; goto b63; } goto b45;
+    vr48_i_i_i_i_i = vr51_i_i19_i_i + 18446744073709551612ull;
+    vr51_i_i_i37_i_i = vr48_i_i_i_i_i < vr67_i_i_i35_i_i;
+    if (vr51_i_i_i37_i_i) { v_sink_i = (uint64_t)0; vr8_0_i_i = 1u; goto b63; } goto b45;
     b45:;
-    vr61_i_i_i_i_i = vr67_i_i_i43_i_i == (uint64_t)0;
-    vr72_i_i_i_i_i = vr67_i_i_i43_i_i + (uint64_t)4;
-    vr5_i_i_i_sroa_27_2_i_i = vr29_i39_i_i_i_i; vr5_i_i_i_sroa_51_2_i_i = vr67_i_i_i43_i_i; vr5_i_i_i_sroa_74_2_shrunk_i_i = vr61_i_i_i_i_i; vr5_i_i_i_sroa_120_2_i_i = vr72_i_i_i_i_i; goto b61;
+    vr61_i_i_i_i_i = vr67_i_i_i35_i_i == (uint64_t)0;
+    vr72_i_i_i_i_i = vr67_i_i_i35_i_i + (uint64_t)4;
+    vr5_i_i_i_sroa_27_2_i_i = vr29_i39_i_i_i_i; vr5_i_i_i_sroa_51_2_i_i = vr67_i_i_i35_i_i; vr5_i_i_i_sroa_74_2_shrunk_i_i = vr61_i_i_i_i_i; vr5_i_i_i_sroa_120_2_i_i = vr72_i_i_i_i_i; goto b61;
     b46:;
-    vr7_i87_i_i = va3 == vr9_0_i_i155_i_i;
-    if (vr7_i87_i_i) { v_sink_i = (uint64_t)0; vr8_0_i_i = 1u; goto b63; } goto b47;
+    vr7_i79_i_i = va3 == vr9_0_i_i147_i_i;
+    if (vr7_i79_i_i) { v_sink_i = (uint64_t)0; vr8_0_i_i = 1u; goto b63; } goto b47;
     b47:;
-    vr37_i_i_i_i_i = one_read8(vr46_i_i_i_i);
-    vr1_i88_i_i = (uint64_t)vr37_i_i_i_i_i;
+    vr37_i_i_i_i_i = one_read8(vr47_i_i18_i_i);
+    vr1_i80_i_i = (uint64_t)vr37_i_i_i_i_i;
     vr41_i54_i_i_i_i = vr37_i_i_i_i_i == 0u;
     if (vr41_i54_i_i_i_i) { goto b48; } goto b49;
     b48:;
-    vr45_i61_i_i_i_i = vr9_0_i_i155_i_i + (uint64_t)1;
+    vr45_i61_i_i_i_i = vr9_0_i_i147_i_i + (uint64_t)1;
     vr5_i_i_i_sroa_27_2_i_i = vr45_i61_i_i_i_i; vr5_i_i_i_sroa_51_2_i_i = (uint64_t)0; vr5_i_i_i_sroa_74_2_shrunk_i_i = 1u; vr5_i_i_i_sroa_120_2_i_i = (uint64_t)1; goto b61;
     b49:;
-    vr59_i_i_i_i_i = vr1_i88_i_i + (uint64_t)13;
-    vr62_i56_i_i_i_i = vr50_i_i26_i_i < vr59_i_i_i_i_i;
+    vr59_i_i_i_i_i = vr1_i80_i_i + (uint64_t)13;
+    vr62_i56_i_i_i_i = vr51_i_i19_i_i < vr59_i_i_i_i_i;
     if (vr62_i56_i_i_i_i) { v_sink_i = (uint64_t)0; vr8_0_i_i = 1u; goto b63; } goto b50;
     b50:;
-    v8 = (vr46_i_i_i_i + (one_distance)(vr1_i88_i_i));
+    v8 = (vr47_i_i18_i_i + (one_distance)(vr1_i80_i_i));
     vr24_i_i_i_i_i_i = (v8 + 9);
     vr26_i_i_i_i_i_i = one_read16(vr24_i_i_i_i_i_i);
     v9 = (uint64_t)vr26_i_i_i_i_i_i;
     vr45_i_i_i_i_i_i = (v8 + 11);
     vr47_i_i_i_i_i_i = one_read8(vr45_i_i_i_i_i_i);
-    vr1_i91_i_i = (uint64_t)vr47_i_i_i_i_i_i;
-    vr51_i_i_i_i_i_i = vr1_i91_i_i << ((uint64_t)16 & 63u);
+    vr1_i83_i_i = (uint64_t)vr47_i_i_i_i_i_i;
+    vr51_i_i_i_i_i_i = vr1_i83_i_i << ((uint64_t)16 & 63u);
     vr54_i_i_i_i_i_i = vr51_i_i_i_i_i_i | v9;
     vr58_i_i_i_i_i_i = (v8 + 12);
     vr60_i_i_i_i_i_i = one_read8(vr58_i_i_i_i_i_i);
-    vr1_i92_i_i = (uint64_t)vr60_i_i_i_i_i_i;
-    vr64_i_i_i_i_i_i = vr1_i92_i_i << ((uint64_t)24 & 63u);
+    vr1_i84_i_i = (uint64_t)vr60_i_i_i_i_i_i;
+    vr64_i_i_i_i_i_i = vr1_i84_i_i << ((uint64_t)24 & 63u);
     vr67_i_i_i_i_i_i = vr54_i_i_i_i_i_i | vr64_i_i_i_i_i_i;
-    vr78_i58_i_i_i_i = vr9_0_i_i155_i_i + (uint64_t)13;
-    vr80_i_i_i_i_i = vr78_i58_i_i_i_i + vr1_i88_i_i;
+    vr78_i58_i_i_i_i = vr9_0_i_i147_i_i + (uint64_t)13;
+    vr80_i_i_i_i_i = vr78_i58_i_i_i_i + vr1_i80_i_i;
     vr83_i_i_i_i_i = vr67_i_i_i_i_i_i == 4294967295ull;
     if (vr83_i_i_i_i_i) { vr5_i_i_i_sroa_27_2_i_i = vr80_i_i_i_i_i; vr5_i_i_i_sroa_51_2_i_i = (uint64_t)0; vr5_i_i_i_sroa_74_2_shrunk_i_i = 1u; vr5_i_i_i_sroa_120_2_i_i = vr59_i_i_i_i_i; goto b61; } goto b51;
     b51:;
-    vr105_i_i_i_i_i = vr50_i_i26_i_i - vr59_i_i_i_i_i;
+    vr105_i_i_i_i_i = vr51_i_i19_i_i - vr59_i_i_i_i_i;
     vr108_i_i_i_i_i = vr105_i_i_i_i_i < vr67_i_i_i_i_i_i;
     if (vr108_i_i_i_i_i) { v_sink_i = (uint64_t)0; vr8_0_i_i = 1u; goto b63; } goto b52;
     b52:;
     vr125_i_i_i_i_i = vr67_i_i_i_i_i_i + vr59_i_i_i_i_i;
     vr5_i_i_i_sroa_27_2_i_i = vr80_i_i_i_i_i; vr5_i_i_i_sroa_51_2_i_i = vr67_i_i_i_i_i_i; vr5_i_i_i_sroa_74_2_shrunk_i_i = 0u; vr5_i_i_i_sroa_120_2_i_i = vr125_i_i_i_i_i; goto b61;
     b53:;
-    vr20_i68_i_i_i_i = vr50_i_i26_i_i < (uint64_t)8;
+    vr20_i68_i_i_i_i = vr51_i_i19_i_i < (uint64_t)8;
     if (vr20_i68_i_i_i_i) { v_sink_i = (uint64_t)0; vr8_0_i_i = 1u; goto b63; } goto b54;
     b54:;
-    vr28_i70_i_i_i_i = vr9_0_i_i155_i_i + (uint64_t)8;
-    vr26_i4_i_i_i_i_i = one_read32(vr46_i_i_i_i);
+    vr28_i70_i_i_i_i = vr9_0_i_i147_i_i + (uint64_t)8;
+    vr26_i4_i_i_i_i_i = one_read32(vr47_i_i18_i_i);
     vr11_i84_i_i_i_i = vr26_i4_i_i_i_i_i == 4294967295u;
     if (vr11_i84_i_i_i_i) { goto b55; } goto b56;
     b55:;
-    vr24_i_i88_i_i_i_i = (vr46_i_i_i_i + 4);
+    vr24_i_i88_i_i_i_i = (vr47_i_i18_i_i + 4);
     vr26_i_i89_i_i_i_i = one_read32(vr24_i_i88_i_i_i_i);
     vr20_i106_i_i_i_i = vr26_i_i89_i_i_i_i == 4294967295u;
     if (vr20_i106_i_i_i_i) { vr5_i_i_i_sroa_27_2_i_i = vr28_i70_i_i_i_i; vr5_i_i_i_sroa_51_2_i_i = (uint64_t)0; vr5_i_i_i_sroa_74_2_shrunk_i_i = 1u; vr5_i_i_i_sroa_120_2_i_i = (uint64_t)8; goto b61; } goto b56;
     b56:;
-    vr47_i73_i_i_i_i = (vr46_i_i_i_i + 8);
-    vr50_i74_i_i_i_i = vr50_i_i26_i_i + 18446744073709551608ull;
+    vr47_i73_i_i_i_i = (vr47_i_i18_i_i + 8);
+    vr50_i74_i_i_i_i = vr51_i_i19_i_i + 18446744073709551608ull;
     vr58_i75_i_i_i_i = tds_rows__parts__parts_length(vr47_i73_i_i_i_i, vr50_i74_i_i_i_i);
     vr59_i76_i_i_i_i = vr58_i75_i_i_i_i.f0;
     v10 = vr59_i76_i_i_i_i == 1u;
@@ -14611,39 +14608,680 @@ static uint8_t core_tds_row_places(one_pointer va0, uint64_t va1, one_pointer va
     vr78_i80_i_i_i_i = vr60_i78_i_i_i_i + (uint64_t)8;
     vr5_i_i_i_sroa_27_2_i_i = vr28_i70_i_i_i_i; vr5_i_i_i_sroa_51_2_i_i = vr71_i79_i_i_i_i; vr5_i_i_i_sroa_74_2_shrunk_i_i = 0u; vr5_i_i_i_sroa_120_2_i_i = vr78_i80_i_i_i_i; goto b61;
     b58:;
-    vr7_i101_i_i = va3 == vr9_0_i_i155_i_i;
-    if (vr7_i101_i_i) { v_sink_i = (uint64_t)0; vr8_0_i_i = 1u; goto b63; } goto b59;
+    vr7_i93_i_i = va3 == vr9_0_i_i147_i_i;
+    if (vr7_i93_i_i) { v_sink_i = (uint64_t)0; vr8_0_i_i = 1u; goto b63; } goto b59;
     b59:;
-    vr28_i111_i_i_i_i = one_read8(vr46_i_i_i_i);
-    vr1_i102_i_i = (uint64_t)vr28_i111_i_i_i_i;
-    vr34_i113_i_i_i_i = vr50_i_i26_i_i + 18446744073709551615ull;
-    vr37_i114_i_i_i_i = vr34_i113_i_i_i_i < vr1_i102_i_i;
+    vr28_i111_i_i_i_i = one_read8(vr47_i_i18_i_i);
+    vr1_i94_i_i = (uint64_t)vr28_i111_i_i_i_i;
+    vr34_i113_i_i_i_i = vr51_i_i19_i_i + 18446744073709551615ull;
+    vr37_i114_i_i_i_i = vr34_i113_i_i_i_i < vr1_i94_i_i;
     if (vr37_i114_i_i_i_i) { v_sink_i = (uint64_t)0; vr8_0_i_i = 1u; goto b63; } goto b60;
     b60:;
-    vr45_i116_i_i_i_i = vr9_0_i_i155_i_i + (uint64_t)1;
+    vr45_i116_i_i_i_i = vr9_0_i_i147_i_i + (uint64_t)1;
     vr49_i117_i_i_i_i = vr28_i111_i_i_i_i == 0u;
-    vr60_i118_i_i_i_i = vr1_i102_i_i + (uint64_t)1;
-    vr5_i_i_i_sroa_27_2_i_i = vr45_i116_i_i_i_i; vr5_i_i_i_sroa_51_2_i_i = vr1_i102_i_i; vr5_i_i_i_sroa_74_2_shrunk_i_i = vr49_i117_i_i_i_i; vr5_i_i_i_sroa_120_2_i_i = vr60_i118_i_i_i_i; goto b61;
+    vr60_i118_i_i_i_i = vr1_i94_i_i + (uint64_t)1;
+    vr5_i_i_i_sroa_27_2_i_i = vr45_i116_i_i_i_i; vr5_i_i_i_sroa_51_2_i_i = vr1_i94_i_i; vr5_i_i_i_sroa_74_2_shrunk_i_i = vr49_i117_i_i_i_i; vr5_i_i_i_sroa_120_2_i_i = vr60_i118_i_i_i_i; goto b61;
     b61:;
     vr5_i_i_i_sroa_74_2_i_i = (uint8_t)vr5_i_i_i_sroa_74_2_shrunk_i_i;
-    vr18_i_i_sroa_9_0154_i_i = vr5_i_i_i_sroa_120_2_i_i; vr18_i_i_sroa_6_sroa_8_0153_i_i = vr5_i_i_i_sroa_74_2_i_i; vr18_i_i_sroa_6_sroa_6_0152_i_i = vr5_i_i_i_sroa_51_2_i_i; vr18_i_i_sroa_6_sroa_0_0151_i_i = vr5_i_i_i_sroa_27_2_i_i; goto b62;
+    vr18_i_i_sroa_9_0143_i_i = vr5_i_i_i_sroa_120_2_i_i; vr18_i_i_sroa_6_sroa_7_0142_i_i = vr5_i_i_i_sroa_74_2_i_i; vr18_i_i_sroa_6_sroa_6_0141_i_i = vr5_i_i_i_sroa_51_2_i_i; vr18_i_i_sroa_6_sroa_0_0140_i_i = vr5_i_i_i_sroa_27_2_i_i; goto b62;
     b62:;
-    vr70_i_i32_i_i = vr10_0_i_i158_i_i * (uint64_t)24;
-    vr73_i_i_i_i = (vr22 + (one_distance)(vr70_i_i32_i_i));
-    one_write64(vr73_i_i_i_i, vr18_i_i_sroa_6_sroa_0_0151_i_i);
-    vr13_i_i_sroa_5_0_r73_i_i_sroa_idx_i_i = (vr73_i_i_i_i + 8);
-    one_write64(vr13_i_i_sroa_5_0_r73_i_i_sroa_idx_i_i, vr18_i_i_sroa_6_sroa_6_0152_i_i);
-    vr13_i_i_sroa_6_0_r73_i_i_sroa_idx_i_i = (vr73_i_i_i_i + 16);
-    one_write8(vr13_i_i_sroa_6_0_r73_i_i_sroa_idx_i_i, vr18_i_i_sroa_6_sroa_8_0153_i_i);
-    vr13_i_i_sroa_7_0_r73_i_i_sroa_idx_i_i = (vr73_i_i_i_i + 17);
-    memset(ONE_AT(vr13_i_i_sroa_7_0_r73_i_i_sroa_idx_i_i), 0u, (size_t)((uint64_t)7));
-    vr77_i_i_i_i = vr18_i_i_sroa_9_0154_i_i + vr9_0_i_i155_i_i;
-    vr79_i_i_i_i = vr10_0_i_i158_i_i + (uint64_t)1;
-    vexitcond_not_i_i = vr79_i_i_i_i == va1;
-    if (vexitcond_not_i_i) { v_sink_i = vr77_i_i_i_i; vr8_0_i_i = 0u; goto b63; } vr10_0_i_i158_i_i = vr79_i_i_i_i; vr9_0_i_i155_i_i = vr77_i_i_i_i; goto b34;
+    vr71_i_i24_i_i = vr10_0_i_i149_i_i * (uint64_t)24;
+    vr74_i_i_i_i = (vr22 + (one_distance)(vr71_i_i24_i_i));
+    one_write64(vr74_i_i_i_i, vr18_i_i_sroa_6_sroa_0_0140_i_i);
+    vr9_i_i_i_i = (vr74_i_i_i_i + 8);
+    one_write64(vr9_i_i_i_i, vr18_i_i_sroa_6_sroa_6_0141_i_i);
+    vr13_i25_i_i_i = (vr74_i_i_i_i + 16);
+    one_write8(vr13_i25_i_i_i, vr18_i_i_sroa_6_sroa_7_0142_i_i);
+    vr79_i_i_i_i = vr18_i_i_sroa_9_0143_i_i + vr9_0_i_i147_i_i;
+    vr81_i_i_i_i = vr10_0_i_i149_i_i + (uint64_t)1;
+    vexitcond_not_i_i = vr81_i_i_i_i == va1;
+    if (vexitcond_not_i_i) { v_sink_i = vr79_i_i_i_i; vr8_0_i_i = 0u; goto b63; } vr10_0_i_i149_i_i = vr81_i_i_i_i; vr9_0_i_i147_i_i = vr79_i_i_i_i; goto b34;
     b63:;
     one_write64(va6, v_sink_i);
     return vr8_0_i_i;
+}
+
+static uint8_t core_tds_places_of_rows(one_pointer va0, uint64_t va1, one_pointer va2, uint64_t va3, one_pointer va4, uint64_t va5, one_pointer va6, one_pointer va7) {
+    uint8_t vr1;
+    uint64_t vr3;
+    one_pointer vr4;
+    uint8_t vr10;
+    uint64_t vr12;
+    one_pointer vr13;
+    uint8_t vr19;
+    uint64_t vr21;
+    one_pointer vr22;
+    uint8_t vr28364_not_i_i;
+    uint8_t vr7_i102_i_i;
+    uint64_t vr41_i_i_i;
+    uint64_t vr4324_i_i_i;
+    uint64_t vr9_0367_i_i;
+    uint64_t vr8_0366_i_i;
+    uint64_t vr7_0365_i_i;
+    uint64_t vr36_i_i;
+    uint8_t vr41_i_i;
+    uint64_t vr59_i_i;
+    one_pointer vr62_i_i;
+    one_pointer vr17_i_i_i;
+    uint8_t vr19_i_i_i;
+    uint64_t vr34_i_i_i;
+    uint64_t vr10_0_i363_i_i;
+    uint64_t vr9_0_i362_i_i;
+    uint64_t vr39_i_i_i;
+    one_pointer vr42_i_i_i;
+    one_pointer vr44_i_i_i;
+    uint8_t vr12_sroa_0_0_copyload_i_i_i;
+    one_pointer vr12_sroa_3_0_r44_sroa_idx_i_i_i;
+    uint8_t vr12_sroa_3_0_copyload_i_i_i;
+    one_pointer vr47_i_i_i;
+    uint64_t vr51_i41_i_i;
+    uint64_t vr1_i_i_i;
+    uint8_t vr16_i17_i_i_i;
+    uint8_t vr25_i19_i_i_i;
+    uint8_t vr16_i23_i_i_i;
+    uint8_t vr14_i_i_i_i;
+    uint64_t vr1_i78_i_i;
+    one_pointer vr20_i_i_i_i;
+    uint8_t vr22_i30_i_i_i;
+    uint64_t vr1_i79_i_i;
+    uint64_t vr26_i_i_i_i;
+    uint64_t vr29_i31_i_i_i;
+    uint64_t vr28_i26_i_i_i;
+    uint8_t vr31_i_i_i_i;
+    uint64_t vr47_i_i_i_i;
+    uint8_t vr50_i_i_i_i;
+    uint64_t vr64_i_i_i_i;
+    uint8_t vr17_i36_i_i_i;
+    uint16_t vr26_i46_i_i_i;
+    uint64_t v0;
+    one_pointer vr45_i_i_i_i;
+    uint8_t vr47_i49_i_i_i;
+    uint64_t vr1_i82_i_i;
+    uint64_t vr51_i50_i_i_i;
+    uint64_t vr54_i_i_i_i;
+    one_pointer vr58_i_i_i_i;
+    uint8_t vr60_i_i_i_i;
+    uint64_t vr1_i83_i_i;
+    uint64_t vr64_i51_i_i_i;
+    uint64_t vr67_i_i_i_i;
+    uint64_t vr29_i39_i_i_i;
+    uint8_t vr32_i_i_i_i;
+    uint64_t vr48_i_i_i_i;
+    uint8_t vr51_i_i_i_i;
+    uint8_t vr61_i_i_i_i;
+    uint64_t vr72_i_i_i_i;
+    uint8_t vr7_i85_i_i;
+    uint8_t vr37_i_i_i_i;
+    uint64_t vr1_i86_i_i;
+    uint8_t vr41_i54_i_i_i;
+    uint64_t vr45_i61_i_i_i;
+    uint64_t vr59_i_i_i_i;
+    uint8_t vr62_i56_i_i_i;
+    one_pointer v1;
+    one_pointer vr24_i_i_i_i_i;
+    uint16_t vr26_i_i_i_i_i;
+    uint64_t v2;
+    one_pointer vr45_i_i_i_i_i;
+    uint8_t vr47_i_i_i_i_i;
+    uint64_t vr1_i89_i_i;
+    uint64_t vr51_i_i_i_i_i;
+    uint64_t vr54_i_i_i_i_i;
+    one_pointer vr58_i_i_i_i_i;
+    uint8_t vr60_i_i_i_i_i;
+    uint64_t vr1_i90_i_i;
+    uint64_t vr64_i_i_i_i_i;
+    uint64_t vr67_i_i_i_i_i;
+    uint64_t vr78_i58_i_i_i;
+    uint64_t vr80_i_i_i_i;
+    uint8_t vr83_i_i_i_i;
+    uint64_t vr105_i_i_i_i;
+    uint8_t vr108_i_i_i_i;
+    uint64_t vr125_i_i_i_i;
+    uint8_t vr20_i68_i_i_i;
+    uint64_t vr28_i70_i_i_i;
+    uint32_t vr26_i4_i_i_i_i;
+    uint8_t vr11_i84_i_i_i;
+    one_pointer vr24_i_i88_i_i_i;
+    uint32_t vr26_i_i89_i_i_i;
+    uint8_t vr20_i106_i_i_i;
+    one_pointer vr47_i73_i_i_i;
+    uint64_t vr50_i74_i_i_i;
+    struct one_2 vr58_i75_i_i_i;
+    uint8_t vr59_i76_i_i_i;
+    uint8_t v3;
+    uint64_t vr60_i78_i_i_i;
+    uint64_t vr71_i79_i_i_i;
+    uint64_t vr78_i80_i_i_i;
+    uint8_t vr7_i99_i_i;
+    uint8_t vr28_i111_i_i_i;
+    uint64_t vr1_i100_i_i;
+    uint64_t vr34_i113_i_i_i;
+    uint8_t vr37_i114_i_i_i;
+    uint64_t vr45_i116_i_i_i;
+    uint8_t vr49_i117_i_i_i;
+    uint64_t vr60_i118_i_i_i;
+    uint64_t vr5_i_i_sroa_27_5_i_i;
+    uint64_t vr5_i_i_sroa_51_5_i_i;
+    uint8_t vr5_i_i_sroa_74_5_shrunk_i_i;
+    uint64_t vr5_i_i_sroa_120_5_i_i;
+    uint8_t vr5_i_i_sroa_74_5_i_i;
+    uint64_t vr71_i_i_i;
+    one_pointer vr74_i_i_i;
+    one_pointer vr9_i_i_i;
+    one_pointer vr13_i43_i_i;
+    uint64_t vr79_i_i_i;
+    uint64_t vr81_i_i_i;
+    uint8_t vexitcond382_not_i_i;
+    uint64_t vr37_i_i_i;
+    uint64_t vr48_i_i_i;
+    uint8_t vr51_i46_i_i;
+    uint64_t vr62_i_i_i;
+    one_pointer vr65_i47_i_i;
+    uint64_t vr10_0_i_i361_i_i;
+    uint64_t vr9_0_i_i359_i_i;
+    uint64_t vr101_i_i_i_i_i;
+    one_pointer vr13_i_i_i_i_i;
+    uint8_t vr15_i_i_i_i_i;
+    uint8_t v4;
+    uint8_t vr18_i_i_i_i_i;
+    uint8_t v5;
+    uint8_t v6;
+    uint8_t vr25_i_i_i_not_i_i;
+    uint64_t vr39_i_i49_i_i;
+    one_pointer vr42_i_i50_i_i;
+    one_pointer vr12_sroa_3_0_r44_sroa_idx_i_i_i_i;
+    uint8_t vr12_sroa_3_0_copyload_i_i_i_i;
+    one_pointer vr47_i_i52_i_i;
+    uint64_t vr51_i_i53_i_i;
+    one_pointer vr44_i_i51_i_i;
+    uint8_t vr12_sroa_0_0_copyload_i_i_i_i;
+    uint64_t vr1_i103_i_i;
+    uint8_t vr16_i17_i_i_i_i;
+    uint8_t vr25_i19_i_i_i_i;
+    uint8_t vr16_i23_i_i_i_i;
+    uint8_t vr14_i_i_i_i_i;
+    uint64_t vr1_i105_i_i;
+    one_pointer vr20_i_i_i_i_i;
+    uint8_t vr22_i30_i_i_i_i;
+    uint64_t vr1_i106_i_i;
+    uint64_t vr26_i_i_i73_i_i;
+    uint64_t vr29_i31_i_i_i_i;
+    uint64_t vr28_i26_i_i_i_i;
+    uint8_t vr31_i_i_i_i_i;
+    uint64_t vr47_i_i_i74_i_i;
+    uint8_t vr50_i_i_i_i_i;
+    uint64_t vr64_i_i_i75_i_i;
+    uint8_t vr17_i36_i_i_i_i;
+    uint16_t vr26_i46_i_i_i_i;
+    uint64_t v7;
+    one_pointer vr45_i_i_i63_i_i;
+    uint8_t vr47_i49_i_i_i_i;
+    uint64_t vr1_i109_i_i;
+    uint64_t vr51_i50_i_i_i_i;
+    uint64_t vr54_i_i_i65_i_i;
+    one_pointer vr58_i_i_i66_i_i;
+    uint8_t vr60_i_i_i67_i_i;
+    uint64_t vr1_i110_i_i;
+    uint64_t vr64_i51_i_i_i_i;
+    uint64_t vr67_i_i_i69_i_i;
+    uint64_t vr29_i39_i_i_i_i;
+    uint8_t vr32_i_i_i70_i_i;
+    uint64_t vr48_i_i_i_i_i;
+    uint8_t vr51_i_i_i71_i_i;
+    uint8_t vr61_i_i_i_i_i;
+    uint64_t vr72_i_i_i_i_i;
+    uint8_t vr7_i112_i_i;
+    uint8_t vr37_i_i_i_i_i;
+    uint64_t vr1_i113_i_i;
+    uint8_t vr41_i54_i_i_i_i;
+    uint64_t vr45_i61_i_i_i_i;
+    uint64_t vr59_i_i_i_i_i;
+    uint8_t vr62_i56_i_i_i_i;
+    one_pointer v8;
+    one_pointer vr24_i_i_i_i_i_i;
+    uint16_t vr26_i_i_i_i_i_i;
+    uint64_t v9;
+    one_pointer vr45_i_i_i_i_i_i;
+    uint8_t vr47_i_i_i_i_i_i;
+    uint64_t vr1_i116_i_i;
+    uint64_t vr51_i_i_i_i_i_i;
+    uint64_t vr54_i_i_i_i_i_i;
+    one_pointer vr58_i_i_i_i_i_i;
+    uint8_t vr60_i_i_i_i_i_i;
+    uint64_t vr1_i117_i_i;
+    uint64_t vr64_i_i_i_i_i_i;
+    uint64_t vr67_i_i_i_i_i_i;
+    uint64_t vr78_i58_i_i_i_i;
+    uint64_t vr80_i_i_i_i_i;
+    uint8_t vr83_i_i_i_i_i;
+    uint64_t vr105_i_i_i_i_i;
+    uint8_t vr108_i_i_i_i_i;
+    uint64_t vr125_i_i_i_i_i;
+    uint8_t vr20_i68_i_i_i_i;
+    uint64_t vr28_i70_i_i_i_i;
+    uint32_t vr26_i4_i_i_i_i_i;
+    uint8_t vr11_i84_i_i_i_i;
+    one_pointer vr24_i_i88_i_i_i_i;
+    uint32_t vr26_i_i89_i_i_i_i;
+    uint8_t vr20_i106_i_i_i_i;
+    one_pointer vr47_i73_i_i_i_i;
+    uint64_t vr50_i74_i_i_i_i;
+    struct one_2 vr58_i75_i_i_i_i;
+    uint8_t vr59_i76_i_i_i_i;
+    uint8_t v10;
+    uint64_t vr60_i78_i_i_i_i;
+    uint64_t vr71_i79_i_i_i_i;
+    uint64_t vr78_i80_i_i_i_i;
+    uint8_t vr7_i126_i_i;
+    uint8_t vr28_i111_i_i_i_i;
+    uint64_t vr1_i127_i_i;
+    uint64_t vr34_i113_i_i_i_i;
+    uint8_t vr37_i114_i_i_i_i;
+    uint64_t vr45_i116_i_i_i_i;
+    uint8_t vr49_i117_i_i_i_i;
+    uint64_t vr60_i118_i_i_i_i;
+    uint64_t vr5_i_i_i_sroa_27_5_i_i;
+    uint64_t vr5_i_i_i_sroa_51_5_i_i;
+    uint8_t vr5_i_i_i_sroa_74_5_shrunk_i_i;
+    uint64_t vr5_i_i_i_sroa_120_5_i_i;
+    uint8_t vr5_i_i_i_sroa_74_5_i_i;
+    uint64_t vr18_i_i_sroa_9_4189_i_i;
+    uint8_t vr18_i_i_sroa_6_sroa_7_4186_i_i;
+    uint64_t vr18_i_i_sroa_6_sroa_6_4185_i_i;
+    uint64_t vr18_i_i_sroa_6_sroa_0_4184_i_i;
+    uint64_t vr71_i_i58_i_i;
+    one_pointer vr74_i_i_i_i;
+    one_pointer vr9_i_i_i_i;
+    one_pointer vr13_i25_i_i_i;
+    uint64_t vr79_i_i_i_i;
+    uint64_t vr81_i_i_i_i;
+    uint8_t vexitcond_not_i_i;
+    uint64_t vr10_i_sroa_17130_1_i_i;
+    uint64_t vr100_i_i;
+    uint64_t vr105_i_i;
+    uint8_t vr28_i_i;
+    uint64_t vr7_0365_i_lcssa_sink_i;
+    uint64_t vr9_0367_i_lcssa_sink_i;
+    uint8_t vr11_0_i_i;
+    vr1 = ONE_NUMBER(va0) == ONE_NUMBER((one_pointer)0);
+    vr3 = vr1 ? (uint64_t)4096 : (uint64_t)0;
+    vr4 = (va0 + (one_distance)(vr3));
+    vr10 = ONE_NUMBER(va2) == ONE_NUMBER((one_pointer)0);
+    vr12 = vr10 ? (uint64_t)4096 : (uint64_t)0;
+    vr13 = (va2 + (one_distance)(vr12));
+    vr19 = ONE_NUMBER(va4) == ONE_NUMBER((one_pointer)0);
+    vr21 = vr19 ? (uint64_t)4096 : (uint64_t)0;
+    vr22 = (va4 + (one_distance)(vr21));
+    vr28364_not_i_i = va3 == (uint64_t)0;
+    if (vr28364_not_i_i) { vr7_0365_i_lcssa_sink_i = (uint64_t)0; vr9_0367_i_lcssa_sink_i = (uint64_t)0; vr11_0_i_i = 0u; goto b66; } goto b1;
+    b1:;
+    vr7_i102_i_i = va1 == (uint64_t)0;
+    vr41_i_i_i = va1 + (uint64_t)7;
+    vr4324_i_i_i = vr41_i_i_i >> ((uint64_t)3 & 63u);
+    vr9_0367_i_i = (uint64_t)0; vr8_0366_i_i = (uint64_t)0; vr7_0365_i_i = (uint64_t)0; goto b2;
+    b2:;
+    vr36_i_i = va5 - vr8_0366_i_i;
+    vr41_i_i = vr36_i_i < va1;
+    if (vr41_i_i) { vr7_0365_i_lcssa_sink_i = vr7_0365_i_i; vr9_0367_i_lcssa_sink_i = vr9_0367_i_i; vr11_0_i_i = 74u; goto b66; } goto b3;
+    b3:;
+    vr59_i_i = vr8_0366_i_i * (uint64_t)24;
+    vr62_i_i = (vr22 + (one_distance)(vr59_i_i));
+    vr17_i_i_i = (vr13 + (one_distance)(vr9_0367_i_i));
+    vr19_i_i_i = one_read8(vr17_i_i_i);
+    switch (vr19_i_i_i) { case 209u: goto b4; case 210u: goto b33; default: vr7_0365_i_lcssa_sink_i = vr7_0365_i_i; vr9_0367_i_lcssa_sink_i = vr9_0367_i_i; vr11_0_i_i = 71u; goto b66; }
+    b4:;
+    if (vr7_i102_i_i) { vr7_0365_i_lcssa_sink_i = vr7_0365_i_i; vr9_0367_i_lcssa_sink_i = vr9_0367_i_i; vr11_0_i_i = 72u; goto b66; } goto b5;
+    b5:;
+    vr34_i_i_i = vr9_0367_i_i + (uint64_t)1;
+    vr10_0_i363_i_i = (uint64_t)0; vr9_0_i362_i_i = vr34_i_i_i; goto b6;
+    b6:;
+    vr39_i_i_i = vr10_0_i363_i_i * (uint64_t)40;
+    vr42_i_i_i = (vr4 + (one_distance)(vr39_i_i_i));
+    vr44_i_i_i = (vr42_i_i_i + 34);
+    vr12_sroa_0_0_copyload_i_i_i = one_read8(vr44_i_i_i);
+    vr12_sroa_3_0_r44_sroa_idx_i_i_i = (vr42_i_i_i + 35);
+    vr12_sroa_3_0_copyload_i_i_i = one_read8(vr12_sroa_3_0_r44_sroa_idx_i_i_i);
+    vr47_i_i_i = (vr13 + (one_distance)(vr9_0_i362_i_i));
+    vr51_i41_i_i = va3 - vr9_0_i362_i_i;
+    switch (vr12_sroa_0_0_copyload_i_i_i) { case 0u: goto b7; case 2u: goto b9; case 3u: goto b13; case 4u: goto b17; case 5u: goto b24; default: goto b29; }
+    b7:;
+    vr1_i_i_i = (uint64_t)vr12_sroa_3_0_copyload_i_i_i;
+    vr16_i17_i_i_i = vr51_i41_i_i < vr1_i_i_i;
+    if (vr16_i17_i_i_i) { vr7_0365_i_lcssa_sink_i = vr7_0365_i_i; vr9_0367_i_lcssa_sink_i = vr9_0367_i_i; vr11_0_i_i = 1u; goto b66; } goto b8;
+    b8:;
+    vr25_i19_i_i_i = vr12_sroa_3_0_copyload_i_i_i == 0u;
+    vr5_i_i_sroa_27_5_i_i = vr9_0_i362_i_i; vr5_i_i_sroa_51_5_i_i = vr1_i_i_i; vr5_i_i_sroa_74_5_shrunk_i_i = vr25_i19_i_i_i; vr5_i_i_sroa_120_5_i_i = vr1_i_i_i; goto b32;
+    b9:;
+    vr16_i23_i_i_i = vr51_i41_i_i < (uint64_t)2;
+    if (vr16_i23_i_i_i) { vr7_0365_i_lcssa_sink_i = vr7_0365_i_i; vr9_0367_i_lcssa_sink_i = vr9_0367_i_i; vr11_0_i_i = 1u; goto b66; } goto b10;
+    b10:;
+    vr14_i_i_i_i = one_read8(vr47_i_i_i);
+    vr1_i78_i_i = (uint64_t)vr14_i_i_i_i;
+    vr20_i_i_i_i = (vr47_i_i_i + 1);
+    vr22_i30_i_i_i = one_read8(vr20_i_i_i_i);
+    vr1_i79_i_i = (uint64_t)vr22_i30_i_i_i;
+    vr26_i_i_i_i = vr1_i79_i_i << ((uint64_t)8 & 63u);
+    vr29_i31_i_i_i = vr26_i_i_i_i | vr1_i78_i_i;
+    vr28_i26_i_i_i = vr9_0_i362_i_i + (uint64_t)2;
+    vr31_i_i_i_i = vr29_i31_i_i_i == (uint64_t)65535;
+    if (vr31_i_i_i_i) { vr5_i_i_sroa_27_5_i_i = vr28_i26_i_i_i; vr5_i_i_sroa_51_5_i_i = (uint64_t)0; vr5_i_i_sroa_74_5_shrunk_i_i = 1u; vr5_i_i_sroa_120_5_i_i = (uint64_t)2; goto b32; } goto b11;
+    b11:;
+    vr47_i_i_i_i = vr51_i41_i_i + 18446744073709551614ull;
+    vr50_i_i_i_i = vr47_i_i_i_i < vr29_i31_i_i_i;
+    if (vr50_i_i_i_i) { vr7_0365_i_lcssa_sink_i = vr7_0365_i_i; vr9_0367_i_lcssa_sink_i = vr9_0367_i_i; vr11_0_i_i = 1u; goto b66; } goto b12;
+    b12:;
+    vr64_i_i_i_i = vr29_i31_i_i_i + (uint64_t)2;
+    vr5_i_i_sroa_27_5_i_i = vr28_i26_i_i_i; vr5_i_i_sroa_51_5_i_i = vr29_i31_i_i_i; vr5_i_i_sroa_74_5_shrunk_i_i = 0u; vr5_i_i_sroa_120_5_i_i = vr64_i_i_i_i; goto b32;
+    b13:;
+    vr17_i36_i_i_i = vr51_i41_i_i < (uint64_t)4;
+    if (vr17_i36_i_i_i) { vr7_0365_i_lcssa_sink_i = vr7_0365_i_i; vr9_0367_i_lcssa_sink_i = vr9_0367_i_i; vr11_0_i_i = 1u; goto b66; } goto b14;
+    b14:;
+    vr26_i46_i_i_i = one_read16(vr47_i_i_i);
+    v0 = (uint64_t)vr26_i46_i_i_i;
+    vr45_i_i_i_i = (vr47_i_i_i + 2);
+    vr47_i49_i_i_i = one_read8(vr45_i_i_i_i);
+    vr1_i82_i_i = (uint64_t)vr47_i49_i_i_i;
+    vr51_i50_i_i_i = vr1_i82_i_i << ((uint64_t)16 & 63u);
+    vr54_i_i_i_i = vr51_i50_i_i_i | v0;
+    vr58_i_i_i_i = (vr47_i_i_i + 3);
+    vr60_i_i_i_i = one_read8(vr58_i_i_i_i);
+    vr1_i83_i_i = (uint64_t)vr60_i_i_i_i;
+    vr64_i51_i_i_i = vr1_i83_i_i << ((uint64_t)24 & 63u);
+    vr67_i_i_i_i = vr54_i_i_i_i | vr64_i51_i_i_i;
+    vr29_i39_i_i_i = vr9_0_i362_i_i + (uint64_t)4;
+    vr32_i_i_i_i = vr67_i_i_i_i == 4294967295ull;
+    if (vr32_i_i_i_i) { vr5_i_i_sroa_27_5_i_i = vr29_i39_i_i_i; vr5_i_i_sroa_51_5_i_i = (uint64_t)0; vr5_i_i_sroa_74_5_shrunk_i_i = 1u; vr5_i_i_sroa_120_5_i_i = (uint64_t)4; goto b32; } goto b15;
+    b15:;
+    vr48_i_i_i_i = vr51_i41_i_i + 18446744073709551612ull;
+    vr51_i_i_i_i = vr48_i_i_i_i < vr67_i_i_i_i;
+    if (vr51_i_i_i_i) { vr7_0365_i_lcssa_sink_i = vr7_0365_i_i; vr9_0367_i_lcssa_sink_i = vr9_0367_i_i; vr11_0_i_i = 1u; goto b66; } goto b16;
+    b16:;
+    vr61_i_i_i_i = vr67_i_i_i_i == (uint64_t)0;
+    vr72_i_i_i_i = vr67_i_i_i_i + (uint64_t)4;
+    vr5_i_i_sroa_27_5_i_i = vr29_i39_i_i_i; vr5_i_i_sroa_51_5_i_i = vr67_i_i_i_i; vr5_i_i_sroa_74_5_shrunk_i_i = vr61_i_i_i_i; vr5_i_i_sroa_120_5_i_i = vr72_i_i_i_i; goto b32;
+    b17:;
+    vr7_i85_i_i = va3 == vr9_0_i362_i_i;
+    if (vr7_i85_i_i) { vr7_0365_i_lcssa_sink_i = vr7_0365_i_i; vr9_0367_i_lcssa_sink_i = vr9_0367_i_i; vr11_0_i_i = 1u; goto b66; } goto b18;
+    b18:;
+    vr37_i_i_i_i = one_read8(vr47_i_i_i);
+    vr1_i86_i_i = (uint64_t)vr37_i_i_i_i;
+    vr41_i54_i_i_i = vr37_i_i_i_i == 0u;
+    if (vr41_i54_i_i_i) { goto b19; } goto b20;
+    b19:;
+    vr45_i61_i_i_i = vr9_0_i362_i_i + (uint64_t)1;
+    vr5_i_i_sroa_27_5_i_i = vr45_i61_i_i_i; vr5_i_i_sroa_51_5_i_i = (uint64_t)0; vr5_i_i_sroa_74_5_shrunk_i_i = 1u; vr5_i_i_sroa_120_5_i_i = (uint64_t)1; goto b32;
+    b20:;
+    vr59_i_i_i_i = vr1_i86_i_i + (uint64_t)13;
+    vr62_i56_i_i_i = vr51_i41_i_i < vr59_i_i_i_i;
+    if (vr62_i56_i_i_i) { vr7_0365_i_lcssa_sink_i = vr7_0365_i_i; vr9_0367_i_lcssa_sink_i = vr9_0367_i_i; vr11_0_i_i = 1u; goto b66; } goto b21;
+    b21:;
+    v1 = (vr47_i_i_i + (one_distance)(vr1_i86_i_i));
+    vr24_i_i_i_i_i = (v1 + 9);
+    vr26_i_i_i_i_i = one_read16(vr24_i_i_i_i_i);
+    v2 = (uint64_t)vr26_i_i_i_i_i;
+    vr45_i_i_i_i_i = (v1 + 11);
+    vr47_i_i_i_i_i = one_read8(vr45_i_i_i_i_i);
+    vr1_i89_i_i = (uint64_t)vr47_i_i_i_i_i;
+    vr51_i_i_i_i_i = vr1_i89_i_i << ((uint64_t)16 & 63u);
+    vr54_i_i_i_i_i = vr51_i_i_i_i_i | v2;
+    vr58_i_i_i_i_i = (v1 + 12);
+    vr60_i_i_i_i_i = one_read8(vr58_i_i_i_i_i);
+    vr1_i90_i_i = (uint64_t)vr60_i_i_i_i_i;
+    vr64_i_i_i_i_i = vr1_i90_i_i << ((uint64_t)24 & 63u);
+    vr67_i_i_i_i_i = vr54_i_i_i_i_i | vr64_i_i_i_i_i;
+    vr78_i58_i_i_i = vr9_0_i362_i_i + (uint64_t)13;
+    vr80_i_i_i_i = vr78_i58_i_i_i + vr1_i86_i_i;
+    vr83_i_i_i_i = vr67_i_i_i_i_i == 4294967295ull;
+    if (vr83_i_i_i_i) { vr5_i_i_sroa_27_5_i_i = vr80_i_i_i_i; vr5_i_i_sroa_51_5_i_i = (uint64_t)0; vr5_i_i_sroa_74_5_shrunk_i_i = 1u; vr5_i_i_sroa_120_5_i_i = vr59_i_i_i_i; goto b32; } goto b22;
+    b22:;
+    vr105_i_i_i_i = vr51_i41_i_i - vr59_i_i_i_i;
+    vr108_i_i_i_i = vr105_i_i_i_i < vr67_i_i_i_i_i;
+    if (vr108_i_i_i_i) { vr7_0365_i_lcssa_sink_i = vr7_0365_i_i; vr9_0367_i_lcssa_sink_i = vr9_0367_i_i; vr11_0_i_i = 1u; goto b66; } goto b23;
+    b23:;
+    vr125_i_i_i_i = vr67_i_i_i_i_i + vr59_i_i_i_i;
+    vr5_i_i_sroa_27_5_i_i = vr80_i_i_i_i; vr5_i_i_sroa_51_5_i_i = vr67_i_i_i_i_i; vr5_i_i_sroa_74_5_shrunk_i_i = 0u; vr5_i_i_sroa_120_5_i_i = vr125_i_i_i_i; goto b32;
+    b24:;
+    vr20_i68_i_i_i = vr51_i41_i_i < (uint64_t)8;
+    if (vr20_i68_i_i_i) { vr7_0365_i_lcssa_sink_i = vr7_0365_i_i; vr9_0367_i_lcssa_sink_i = vr9_0367_i_i; vr11_0_i_i = 1u; goto b66; } goto b25;
+    b25:;
+    vr28_i70_i_i_i = vr9_0_i362_i_i + (uint64_t)8;
+    vr26_i4_i_i_i_i = one_read32(vr47_i_i_i);
+    vr11_i84_i_i_i = vr26_i4_i_i_i_i == 4294967295u;
+    if (vr11_i84_i_i_i) { goto b26; } goto b27;
+    b26:;
+    vr24_i_i88_i_i_i = (vr47_i_i_i + 4);
+    vr26_i_i89_i_i_i = one_read32(vr24_i_i88_i_i_i);
+    vr20_i106_i_i_i = vr26_i_i89_i_i_i == 4294967295u;
+    if (vr20_i106_i_i_i) { vr5_i_i_sroa_27_5_i_i = vr28_i70_i_i_i; vr5_i_i_sroa_51_5_i_i = (uint64_t)0; vr5_i_i_sroa_74_5_shrunk_i_i = 1u; vr5_i_i_sroa_120_5_i_i = (uint64_t)8; goto b32; } goto b27;
+    b27:;
+    vr47_i73_i_i_i = (vr47_i_i_i + 8);
+    vr50_i74_i_i_i = vr51_i41_i_i + 18446744073709551608ull;
+    vr58_i75_i_i_i = tds_rows__parts__parts_length(vr47_i73_i_i_i, vr50_i74_i_i_i);
+    vr59_i76_i_i_i = vr58_i75_i_i_i.f0;
+    v3 = vr59_i76_i_i_i == 1u;
+    if (v3) { goto b28; } vr7_0365_i_lcssa_sink_i = vr7_0365_i_i; vr9_0367_i_lcssa_sink_i = vr9_0367_i_i; vr11_0_i_i = 1u; goto b66;
+    b28:;
+    vr60_i78_i_i_i = vr58_i75_i_i_i.f1;
+    vr71_i79_i_i_i = vr60_i78_i_i_i + 18446744073709551612ull;
+    vr78_i80_i_i_i = vr60_i78_i_i_i + (uint64_t)8;
+    vr5_i_i_sroa_27_5_i_i = vr28_i70_i_i_i; vr5_i_i_sroa_51_5_i_i = vr71_i79_i_i_i; vr5_i_i_sroa_74_5_shrunk_i_i = 0u; vr5_i_i_sroa_120_5_i_i = vr78_i80_i_i_i; goto b32;
+    b29:;
+    vr7_i99_i_i = va3 == vr9_0_i362_i_i;
+    if (vr7_i99_i_i) { vr7_0365_i_lcssa_sink_i = vr7_0365_i_i; vr9_0367_i_lcssa_sink_i = vr9_0367_i_i; vr11_0_i_i = 1u; goto b66; } goto b30;
+    b30:;
+    vr28_i111_i_i_i = one_read8(vr47_i_i_i);
+    vr1_i100_i_i = (uint64_t)vr28_i111_i_i_i;
+    vr34_i113_i_i_i = vr51_i41_i_i + 18446744073709551615ull;
+    vr37_i114_i_i_i = vr34_i113_i_i_i < vr1_i100_i_i;
+    if (vr37_i114_i_i_i) { vr7_0365_i_lcssa_sink_i = vr7_0365_i_i; vr9_0367_i_lcssa_sink_i = vr9_0367_i_i; vr11_0_i_i = 1u; goto b66; } goto b31;
+    b31:;
+    vr45_i116_i_i_i = vr9_0_i362_i_i + (uint64_t)1;
+    vr49_i117_i_i_i = vr28_i111_i_i_i == 0u;
+    vr60_i118_i_i_i = vr1_i100_i_i + (uint64_t)1;
+    vr5_i_i_sroa_27_5_i_i = vr45_i116_i_i_i; vr5_i_i_sroa_51_5_i_i = vr1_i100_i_i; vr5_i_i_sroa_74_5_shrunk_i_i = vr49_i117_i_i_i; vr5_i_i_sroa_120_5_i_i = vr60_i118_i_i_i; goto b32;
+    b32:;
+    vr5_i_i_sroa_74_5_i_i = (uint8_t)vr5_i_i_sroa_74_5_shrunk_i_i;
+    vr71_i_i_i = vr10_0_i363_i_i * (uint64_t)24;
+    vr74_i_i_i = (vr62_i_i + (one_distance)(vr71_i_i_i));
+    one_write64(vr74_i_i_i, vr5_i_i_sroa_27_5_i_i);
+    vr9_i_i_i = (vr74_i_i_i + 8);
+    one_write64(vr9_i_i_i, vr5_i_i_sroa_51_5_i_i);
+    vr13_i43_i_i = (vr74_i_i_i + 16);
+    one_write8(vr13_i43_i_i, vr5_i_i_sroa_74_5_i_i);
+    vr79_i_i_i = vr5_i_i_sroa_120_5_i_i + vr9_0_i362_i_i;
+    vr81_i_i_i = vr10_0_i363_i_i + (uint64_t)1;
+    vexitcond382_not_i_i = vr81_i_i_i == va1;
+    if (vexitcond382_not_i_i) { vr10_i_sroa_17130_1_i_i = vr79_i_i_i; goto b65; } vr10_0_i363_i_i = vr81_i_i_i; vr9_0_i362_i_i = vr79_i_i_i; goto b6;
+    b33:;
+    if (vr7_i102_i_i) { vr7_0365_i_lcssa_sink_i = vr7_0365_i_i; vr9_0367_i_lcssa_sink_i = vr9_0367_i_i; vr11_0_i_i = 72u; goto b66; } goto b34;
+    b34:;
+    vr37_i_i_i = vr9_0367_i_i + (uint64_t)1;
+    vr48_i_i_i = va3 - vr37_i_i_i;
+    vr51_i46_i_i = vr48_i_i_i < vr4324_i_i_i;
+    if (vr51_i46_i_i) { vr7_0365_i_lcssa_sink_i = vr7_0365_i_i; vr9_0367_i_lcssa_sink_i = vr9_0367_i_i; vr11_0_i_i = 1u; goto b66; } goto b35;
+    b35:;
+    vr62_i_i_i = vr37_i_i_i + vr4324_i_i_i;
+    vr65_i47_i_i = (vr13 + (one_distance)(vr37_i_i_i));
+    vr10_0_i_i361_i_i = (uint64_t)0; vr9_0_i_i359_i_i = vr62_i_i_i; goto b36;
+    b36:;
+    vr101_i_i_i_i_i = vr10_0_i_i361_i_i >> ((uint64_t)3 & 63u);
+    vr13_i_i_i_i_i = (vr65_i47_i_i + (one_distance)(vr101_i_i_i_i_i));
+    vr15_i_i_i_i_i = one_read8(vr13_i_i_i_i_i);
+    v4 = (uint8_t)vr10_0_i_i361_i_i;
+    vr18_i_i_i_i_i = (uint8_t)(v4 & 7u);
+    v5 = (uint8_t)(1u << (vr18_i_i_i_i_i & 7u));
+    v6 = (uint8_t)(v5 & vr15_i_i_i_i_i);
+    vr25_i_i_i_not_i_i = v6 == 0u;
+    vr39_i_i49_i_i = vr10_0_i_i361_i_i * (uint64_t)40;
+    vr42_i_i50_i_i = (vr4 + (one_distance)(vr39_i_i49_i_i));
+    vr12_sroa_3_0_r44_sroa_idx_i_i_i_i = (vr42_i_i50_i_i + 35);
+    vr12_sroa_3_0_copyload_i_i_i_i = one_read8(vr12_sroa_3_0_r44_sroa_idx_i_i_i_i);
+    vr47_i_i52_i_i = (vr13 + (one_distance)(vr9_0_i_i359_i_i));
+    vr51_i_i53_i_i = va3 - vr9_0_i_i359_i_i;
+    if (vr25_i_i_i_not_i_i) { goto b37; } vr18_i_i_sroa_9_4189_i_i = (uint64_t)0; vr18_i_i_sroa_6_sroa_7_4186_i_i = 1u; vr18_i_i_sroa_6_sroa_6_4185_i_i = (uint64_t)0; vr18_i_i_sroa_6_sroa_0_4184_i_i = vr9_0_i_i359_i_i; goto b64;
+    b37:;
+    vr44_i_i51_i_i = (vr42_i_i50_i_i + 34);
+    vr12_sroa_0_0_copyload_i_i_i_i = one_read8(vr44_i_i51_i_i);
+    switch (vr12_sroa_0_0_copyload_i_i_i_i) { case 0u: goto b38; case 2u: goto b40; case 3u: goto b44; case 4u: goto b48; case 5u: goto b55; default: goto b60; }
+    b38:;
+    vr1_i103_i_i = (uint64_t)vr12_sroa_3_0_copyload_i_i_i_i;
+    vr16_i17_i_i_i_i = vr51_i_i53_i_i < vr1_i103_i_i;
+    if (vr16_i17_i_i_i_i) { vr7_0365_i_lcssa_sink_i = vr7_0365_i_i; vr9_0367_i_lcssa_sink_i = vr9_0367_i_i; vr11_0_i_i = 1u; goto b66; } goto b39;
+    b39:;
+    vr25_i19_i_i_i_i = vr12_sroa_3_0_copyload_i_i_i_i == 0u;
+    vr5_i_i_i_sroa_27_5_i_i = vr9_0_i_i359_i_i; vr5_i_i_i_sroa_51_5_i_i = vr1_i103_i_i; vr5_i_i_i_sroa_74_5_shrunk_i_i = vr25_i19_i_i_i_i; vr5_i_i_i_sroa_120_5_i_i = vr1_i103_i_i; goto b63;
+    b40:;
+    vr16_i23_i_i_i_i = vr51_i_i53_i_i < (uint64_t)2;
+    if (vr16_i23_i_i_i_i) { vr7_0365_i_lcssa_sink_i = vr7_0365_i_i; vr9_0367_i_lcssa_sink_i = vr9_0367_i_i; vr11_0_i_i = 1u; goto b66; } goto b41;
+    b41:;
+    vr14_i_i_i_i_i = one_read8(vr47_i_i52_i_i);
+    vr1_i105_i_i = (uint64_t)vr14_i_i_i_i_i;
+    vr20_i_i_i_i_i = (vr47_i_i52_i_i + 1);
+    vr22_i30_i_i_i_i = one_read8(vr20_i_i_i_i_i);
+    vr1_i106_i_i = (uint64_t)vr22_i30_i_i_i_i;
+    vr26_i_i_i73_i_i = vr1_i106_i_i << ((uint64_t)8 & 63u);
+    vr29_i31_i_i_i_i = vr26_i_i_i73_i_i | vr1_i105_i_i;
+    vr28_i26_i_i_i_i = vr9_0_i_i359_i_i + (uint64_t)2;
+    vr31_i_i_i_i_i = vr29_i31_i_i_i_i == (uint64_t)65535;
+    if (vr31_i_i_i_i_i) { vr5_i_i_i_sroa_27_5_i_i = vr28_i26_i_i_i_i; vr5_i_i_i_sroa_51_5_i_i = (uint64_t)0; vr5_i_i_i_sroa_74_5_shrunk_i_i = 1u; vr5_i_i_i_sroa_120_5_i_i = (uint64_t)2; goto b63; } goto b42;
+    b42:;
+    vr47_i_i_i74_i_i = vr51_i_i53_i_i + 18446744073709551614ull;
+    vr50_i_i_i_i_i = vr47_i_i_i74_i_i < vr29_i31_i_i_i_i;
+    if (vr50_i_i_i_i_i) { vr7_0365_i_lcssa_sink_i = vr7_0365_i_i; vr9_0367_i_lcssa_sink_i = vr9_0367_i_i; vr11_0_i_i = 1u; goto b66; } goto b43;
+    b43:;
+    vr64_i_i_i75_i_i = vr29_i31_i_i_i_i + (uint64_t)2;
+    vr5_i_i_i_sroa_27_5_i_i = vr28_i26_i_i_i_i; vr5_i_i_i_sroa_51_5_i_i = vr29_i31_i_i_i_i; vr5_i_i_i_sroa_74_5_shrunk_i_i = 0u; vr5_i_i_i_sroa_120_5_i_i = vr64_i_i_i75_i_i; goto b63;
+    b44:;
+    vr17_i36_i_i_i_i = vr51_i_i53_i_i < (uint64_t)4;
+    if (vr17_i36_i_i_i_i) { vr7_0365_i_lcssa_sink_i = vr7_0365_i_i; vr9_0367_i_lcssa_sink_i = vr9_0367_i_i; vr11_0_i_i = 1u; goto b66; } goto b45;
+    b45:;
+    vr26_i46_i_i_i_i = one_read16(vr47_i_i52_i_i);
+    v7 = (uint64_t)vr26_i46_i_i_i_i;
+    vr45_i_i_i63_i_i = (vr47_i_i52_i_i + 2);
+    vr47_i49_i_i_i_i = one_read8(vr45_i_i_i63_i_i);
+    vr1_i109_i_i = (uint64_t)vr47_i49_i_i_i_i;
+    vr51_i50_i_i_i_i = vr1_i109_i_i << ((uint64_t)16 & 63u);
+    vr54_i_i_i65_i_i = vr51_i50_i_i_i_i | v7;
+    vr58_i_i_i66_i_i = (vr47_i_i52_i_i + 3);
+    vr60_i_i_i67_i_i = one_read8(vr58_i_i_i66_i_i);
+    vr1_i110_i_i = (uint64_t)vr60_i_i_i67_i_i;
+    vr64_i51_i_i_i_i = vr1_i110_i_i << ((uint64_t)24 & 63u);
+    vr67_i_i_i69_i_i = vr54_i_i_i65_i_i | vr64_i51_i_i_i_i;
+    vr29_i39_i_i_i_i = vr9_0_i_i359_i_i + (uint64_t)4;
+    vr32_i_i_i70_i_i = vr67_i_i_i69_i_i == 4294967295ull;
+    if (vr32_i_i_i70_i_i) { vr5_i_i_i_sroa_27_5_i_i = vr29_i39_i_i_i_i; vr5_i_i_i_sroa_51_5_i_i = (uint64_t)0; vr5_i_i_i_sroa_74_5_shrunk_i_i = 1u; vr5_i_i_i_sroa_120_5_i_i = (uint64_t)4; goto b63; } goto b46;
+    b46:;
+    vr48_i_i_i_i_i = vr51_i_i53_i_i + 18446744073709551612ull;
+    vr51_i_i_i71_i_i = vr48_i_i_i_i_i < vr67_i_i_i69_i_i;
+    if (vr51_i_i_i71_i_i) { vr7_0365_i_lcssa_sink_i = vr7_0365_i_i; vr9_0367_i_lcssa_sink_i = vr9_0367_i_i; vr11_0_i_i = 1u; goto b66; } goto b47;
+    b47:;
+    vr61_i_i_i_i_i = vr67_i_i_i69_i_i == (uint64_t)0;
+    vr72_i_i_i_i_i = vr67_i_i_i69_i_i + (uint64_t)4;
+    vr5_i_i_i_sroa_27_5_i_i = vr29_i39_i_i_i_i; vr5_i_i_i_sroa_51_5_i_i = vr67_i_i_i69_i_i; vr5_i_i_i_sroa_74_5_shrunk_i_i = vr61_i_i_i_i_i; vr5_i_i_i_sroa_120_5_i_i = vr72_i_i_i_i_i; goto b63;
+    b48:;
+    vr7_i112_i_i = va3 == vr9_0_i_i359_i_i;
+    if (vr7_i112_i_i) { vr7_0365_i_lcssa_sink_i = vr7_0365_i_i; vr9_0367_i_lcssa_sink_i = vr9_0367_i_i; vr11_0_i_i = 1u; goto b66; } goto b49;
+    b49:;
+    vr37_i_i_i_i_i = one_read8(vr47_i_i52_i_i);
+    vr1_i113_i_i = (uint64_t)vr37_i_i_i_i_i;
+    vr41_i54_i_i_i_i = vr37_i_i_i_i_i == 0u;
+    if (vr41_i54_i_i_i_i) { goto b50; } goto b51;
+    b50:;
+    vr45_i61_i_i_i_i = vr9_0_i_i359_i_i + (uint64_t)1;
+    vr5_i_i_i_sroa_27_5_i_i = vr45_i61_i_i_i_i; vr5_i_i_i_sroa_51_5_i_i = (uint64_t)0; vr5_i_i_i_sroa_74_5_shrunk_i_i = 1u; vr5_i_i_i_sroa_120_5_i_i = (uint64_t)1; goto b63;
+    b51:;
+    vr59_i_i_i_i_i = vr1_i113_i_i + (uint64_t)13;
+    vr62_i56_i_i_i_i = vr51_i_i53_i_i < vr59_i_i_i_i_i;
+    if (vr62_i56_i_i_i_i) { vr7_0365_i_lcssa_sink_i = vr7_0365_i_i; vr9_0367_i_lcssa_sink_i = vr9_0367_i_i; vr11_0_i_i = 1u; goto b66; } goto b52;
+    b52:;
+    v8 = (vr47_i_i52_i_i + (one_distance)(vr1_i113_i_i));
+    vr24_i_i_i_i_i_i = (v8 + 9);
+    vr26_i_i_i_i_i_i = one_read16(vr24_i_i_i_i_i_i);
+    v9 = (uint64_t)vr26_i_i_i_i_i_i;
+    vr45_i_i_i_i_i_i = (v8 + 11);
+    vr47_i_i_i_i_i_i = one_read8(vr45_i_i_i_i_i_i);
+    vr1_i116_i_i = (uint64_t)vr47_i_i_i_i_i_i;
+    vr51_i_i_i_i_i_i = vr1_i116_i_i << ((uint64_t)16 & 63u);
+    vr54_i_i_i_i_i_i = vr51_i_i_i_i_i_i | v9;
+    vr58_i_i_i_i_i_i = (v8 + 12);
+    vr60_i_i_i_i_i_i = one_read8(vr58_i_i_i_i_i_i);
+    vr1_i117_i_i = (uint64_t)vr60_i_i_i_i_i_i;
+    vr64_i_i_i_i_i_i = vr1_i117_i_i << ((uint64_t)24 & 63u);
+    vr67_i_i_i_i_i_i = vr54_i_i_i_i_i_i | vr64_i_i_i_i_i_i;
+    vr78_i58_i_i_i_i = vr9_0_i_i359_i_i + (uint64_t)13;
+    vr80_i_i_i_i_i = vr78_i58_i_i_i_i + vr1_i113_i_i;
+    vr83_i_i_i_i_i = vr67_i_i_i_i_i_i == 4294967295ull;
+    if (vr83_i_i_i_i_i) { vr5_i_i_i_sroa_27_5_i_i = vr80_i_i_i_i_i; vr5_i_i_i_sroa_51_5_i_i = (uint64_t)0; vr5_i_i_i_sroa_74_5_shrunk_i_i = 1u; vr5_i_i_i_sroa_120_5_i_i = vr59_i_i_i_i_i; goto b63; } goto b53;
+    b53:;
+    vr105_i_i_i_i_i = vr51_i_i53_i_i - vr59_i_i_i_i_i;
+    vr108_i_i_i_i_i = vr105_i_i_i_i_i < vr67_i_i_i_i_i_i;
+    if (vr108_i_i_i_i_i) { vr7_0365_i_lcssa_sink_i = vr7_0365_i_i; vr9_0367_i_lcssa_sink_i = vr9_0367_i_i; vr11_0_i_i = 1u; goto b66; } goto b54;
+    b54:;
+    vr125_i_i_i_i_i = vr67_i_i_i_i_i_i + vr59_i_i_i_i_i;
+    vr5_i_i_i_sroa_27_5_i_i = vr80_i_i_i_i_i; vr5_i_i_i_sroa_51_5_i_i = vr67_i_i_i_i_i_i; vr5_i_i_i_sroa_74_5_shrunk_i_i = 0u; vr5_i_i_i_sroa_120_5_i_i = vr125_i_i_i_i_i; goto b63;
+    b55:;
+    vr20_i68_i_i_i_i = vr51_i_i53_i_i < (uint64_t)8;
+    if (vr20_i68_i_i_i_i) { vr7_0365_i_lcssa_sink_i = vr7_0365_i_i; vr9_0367_i_lcssa_sink_i = vr9_0367_i_i; vr11_0_i_i = 1u; goto b66; } goto b56;
+    b56:;
+    vr28_i70_i_i_i_i = vr9_0_i_i359_i_i + (uint64_t)8;
+    vr26_i4_i_i_i_i_i = one_read32(vr47_i_i52_i_i);
+    vr11_i84_i_i_i_i = vr26_i4_i_i_i_i_i == 4294967295u;
+    if (vr11_i84_i_i_i_i) { goto b57; } goto b58;
+    b57:;
+    vr24_i_i88_i_i_i_i = (vr47_i_i52_i_i + 4);
+    vr26_i_i89_i_i_i_i = one_read32(vr24_i_i88_i_i_i_i);
+    vr20_i106_i_i_i_i = vr26_i_i89_i_i_i_i == 4294967295u;
+    if (vr20_i106_i_i_i_i) { vr5_i_i_i_sroa_27_5_i_i = vr28_i70_i_i_i_i; vr5_i_i_i_sroa_51_5_i_i = (uint64_t)0; vr5_i_i_i_sroa_74_5_shrunk_i_i = 1u; vr5_i_i_i_sroa_120_5_i_i = (uint64_t)8; goto b63; } goto b58;
+    b58:;
+    vr47_i73_i_i_i_i = (vr47_i_i52_i_i + 8);
+    vr50_i74_i_i_i_i = vr51_i_i53_i_i + 18446744073709551608ull;
+    vr58_i75_i_i_i_i = tds_rows__parts__parts_length(vr47_i73_i_i_i_i, vr50_i74_i_i_i_i);
+    vr59_i76_i_i_i_i = vr58_i75_i_i_i_i.f0;
+    v10 = vr59_i76_i_i_i_i == 1u;
+    if (v10) { goto b59; } vr7_0365_i_lcssa_sink_i = vr7_0365_i_i; vr9_0367_i_lcssa_sink_i = vr9_0367_i_i; vr11_0_i_i = 1u; goto b66;
+    b59:;
+    vr60_i78_i_i_i_i = vr58_i75_i_i_i_i.f1;
+    vr71_i79_i_i_i_i = vr60_i78_i_i_i_i + 18446744073709551612ull;
+    vr78_i80_i_i_i_i = vr60_i78_i_i_i_i + (uint64_t)8;
+    vr5_i_i_i_sroa_27_5_i_i = vr28_i70_i_i_i_i; vr5_i_i_i_sroa_51_5_i_i = vr71_i79_i_i_i_i; vr5_i_i_i_sroa_74_5_shrunk_i_i = 0u; vr5_i_i_i_sroa_120_5_i_i = vr78_i80_i_i_i_i; goto b63;
+    b60:;
+    vr7_i126_i_i = va3 == vr9_0_i_i359_i_i;
+    if (vr7_i126_i_i) { vr7_0365_i_lcssa_sink_i = vr7_0365_i_i; vr9_0367_i_lcssa_sink_i = vr9_0367_i_i; vr11_0_i_i = 1u; goto b66; } goto b61;
+    b61:;
+    vr28_i111_i_i_i_i = one_read8(vr47_i_i52_i_i);
+    vr1_i127_i_i = (uint64_t)vr28_i111_i_i_i_i;
+    vr34_i113_i_i_i_i = vr51_i_i53_i_i + 18446744073709551615ull;
+    vr37_i114_i_i_i_i = vr34_i113_i_i_i_i < vr1_i127_i_i;
+    if (vr37_i114_i_i_i_i) { vr7_0365_i_lcssa_sink_i = vr7_0365_i_i; vr9_0367_i_lcssa_sink_i = vr9_0367_i_i; vr11_0_i_i = 1u; goto b66; } goto b62;
+    b62:;
+    vr45_i116_i_i_i_i = vr9_0_i_i359_i_i + (uint64_t)1;
+    vr49_i117_i_i_i_i = vr28_i111_i_i_i_i == 0u;
+    vr60_i118_i_i_i_i = vr1_i127_i_i + (uint64_t)1;
+    vr5_i_i_i_sroa_27_5_i_i = vr45_i116_i_i_i_i; vr5_i_i_i_sroa_51_5_i_i = vr1_i127_i_i; vr5_i_i_i_sroa_74_5_shrunk_i_i = vr49_i117_i_i_i_i; vr5_i_i_i_sroa_120_5_i_i = vr60_i118_i_i_i_i; goto b63;
+    b63:;
+    vr5_i_i_i_sroa_74_5_i_i = (uint8_t)vr5_i_i_i_sroa_74_5_shrunk_i_i;
+    vr18_i_i_sroa_9_4189_i_i = vr5_i_i_i_sroa_120_5_i_i; vr18_i_i_sroa_6_sroa_7_4186_i_i = vr5_i_i_i_sroa_74_5_i_i; vr18_i_i_sroa_6_sroa_6_4185_i_i = vr5_i_i_i_sroa_51_5_i_i; vr18_i_i_sroa_6_sroa_0_4184_i_i = vr5_i_i_i_sroa_27_5_i_i; goto b64;
+    b64:;
+    vr71_i_i58_i_i = vr10_0_i_i361_i_i * (uint64_t)24;
+    vr74_i_i_i_i = (vr62_i_i + (one_distance)(vr71_i_i58_i_i));
+    one_write64(vr74_i_i_i_i, vr18_i_i_sroa_6_sroa_0_4184_i_i);
+    vr9_i_i_i_i = (vr74_i_i_i_i + 8);
+    one_write64(vr9_i_i_i_i, vr18_i_i_sroa_6_sroa_6_4185_i_i);
+    vr13_i25_i_i_i = (vr74_i_i_i_i + 16);
+    one_write8(vr13_i25_i_i_i, vr18_i_i_sroa_6_sroa_7_4186_i_i);
+    vr79_i_i_i_i = vr18_i_i_sroa_9_4189_i_i + vr9_0_i_i359_i_i;
+    vr81_i_i_i_i = vr10_0_i_i361_i_i + (uint64_t)1;
+    vexitcond_not_i_i = vr81_i_i_i_i == va1;
+    if (vexitcond_not_i_i) { vr10_i_sroa_17130_1_i_i = vr79_i_i_i_i; goto b65; } vr10_0_i_i361_i_i = vr81_i_i_i_i; vr9_0_i_i359_i_i = vr79_i_i_i_i; goto b36;
+    b65:;
+    vr100_i_i = vr7_0365_i_i + (uint64_t)1;
+    vr105_i_i = vr8_0366_i_i + va1;
+    vr28_i_i = vr10_i_sroa_17130_1_i_i < va3;
+    if (vr28_i_i) { vr9_0367_i_i = vr10_i_sroa_17130_1_i_i; vr8_0366_i_i = vr105_i_i; vr7_0365_i_i = vr100_i_i; goto b2; } vr7_0365_i_lcssa_sink_i = vr100_i_i; vr9_0367_i_lcssa_sink_i = vr10_i_sroa_17130_1_i_i; vr11_0_i_i = 0u; goto b66;
+    b66:;
+    one_write64(va6, vr7_0365_i_lcssa_sink_i);
+    one_write64(va7, vr9_0367_i_lcssa_sink_i);
+    return vr11_0_i_i;
 }
 
 static uint8_t core_tds_client_cancel(one_pointer va0, one_pointer va1, uint64_t va2, one_pointer va3) {
@@ -20200,17 +20838,23 @@ uint32_t mouktelf_version(void) {
 }
 
 uint8_t tds_packet_read(const uint8_t *bytes, size_t length, uint16_t size, uint8_t direction, struct tds_packet *packet) {
-    uint64_t none = 0;
-    if ((bytes ? length > PTRDIFF_MAX : length != 0) || !packet) return MOUKTELF_MISFIT;
-    if (!bytes) bytes = (const uint8_t *)(void *)&none;
+    uint64_t none;
+    if (!bytes || !packet || length > PTRDIFF_MAX / 1024) {
+        none = 0;
+        if ((bytes ? length > PTRDIFF_MAX : length != 0) || !packet) return MOUKTELF_MISFIT;
+        if (!bytes) bytes = (const uint8_t *)(void *)&none;
+    }
     return core_tds_packet_read(ONE_BYTES(bytes), length, size, direction, ONE_BYTES(packet));
 }
 
 uint8_t tds_packets_read(const uint8_t *bytes, size_t length, uint16_t size, uint8_t direction, struct tds_packet *packets, size_t room, size_t *count) {
-    uint64_t none = 0;
-    if ((bytes ? length > PTRDIFF_MAX : length != 0) || (packets ? room > PTRDIFF_MAX / sizeof(struct tds_packet) : room != 0) || !count) return MOUKTELF_MISFIT;
-    if (!bytes) bytes = (const uint8_t *)(void *)&none;
-    if (!packets) packets = (struct tds_packet *)(void *)&none;
+    uint64_t none;
+    if (!bytes || !packets || !count || (length | room) > PTRDIFF_MAX / 1024) {
+        none = 0;
+        if ((bytes ? length > PTRDIFF_MAX : length != 0) || (packets ? room > PTRDIFF_MAX / sizeof(struct tds_packet) : room != 0) || !count) return MOUKTELF_MISFIT;
+        if (!bytes) bytes = (const uint8_t *)(void *)&none;
+        if (!packets) packets = (struct tds_packet *)(void *)&none;
+    }
     return core_tds_packets_read(ONE_BYTES(bytes), length, size, direction, ONE_BYTES(packets), room, ONE_BYTES(count));
 }
 
@@ -20225,85 +20869,118 @@ uint8_t tds_client_mark_reset(struct tds_client *client, uint8_t reset) {
 }
 
 uint8_t tds_client_start_batch(struct tds_client *client, const uint16_t *text, size_t units, uint8_t *message, size_t room, size_t *count) {
-    uint64_t none = 0;
-    if (!client || (text ? units > PTRDIFF_MAX / sizeof(uint16_t) : units != 0) || (message ? room > PTRDIFF_MAX : room != 0) || !count) return MOUKTELF_MISFIT;
-    if (!text) text = (const uint16_t *)(void *)&none;
-    if (!message) message = (uint8_t *)(void *)&none;
+    uint64_t none;
+    if (!client || !text || !message || !count || (units | room) > PTRDIFF_MAX / 1024) {
+        none = 0;
+        if (!client || (text ? units > PTRDIFF_MAX / sizeof(uint16_t) : units != 0) || (message ? room > PTRDIFF_MAX : room != 0) || !count) return MOUKTELF_MISFIT;
+        if (!text) text = (const uint16_t *)(void *)&none;
+        if (!message) message = (uint8_t *)(void *)&none;
+    }
     return core_tds_client_start_batch(ONE_BYTES(client), ONE_BYTES(text), units, ONE_BYTES(message), room, ONE_BYTES(count));
 }
 
 uint8_t tds_client_start_begin(struct tds_client *client, uint8_t isolation, uint8_t *message, size_t room, size_t *count) {
-    uint64_t none = 0;
-    if (!client || (message ? room > PTRDIFF_MAX : room != 0) || !count) return MOUKTELF_MISFIT;
-    if (!message) message = (uint8_t *)(void *)&none;
+    uint64_t none;
+    if (!client || !message || !count || room > PTRDIFF_MAX / 1024) {
+        none = 0;
+        if (!client || (message ? room > PTRDIFF_MAX : room != 0) || !count) return MOUKTELF_MISFIT;
+        if (!message) message = (uint8_t *)(void *)&none;
+    }
     return core_tds_client_start_begin(ONE_BYTES(client), isolation, ONE_BYTES(message), room, ONE_BYTES(count));
 }
 
 uint8_t tds_client_start_commit(struct tds_client *client, uint8_t next, uint8_t *message, size_t room, size_t *count) {
-    uint64_t none = 0;
-    if (!client || (message ? room > PTRDIFF_MAX : room != 0) || !count) return MOUKTELF_MISFIT;
-    if (!message) message = (uint8_t *)(void *)&none;
+    uint64_t none;
+    if (!client || !message || !count || room > PTRDIFF_MAX / 1024) {
+        none = 0;
+        if (!client || (message ? room > PTRDIFF_MAX : room != 0) || !count) return MOUKTELF_MISFIT;
+        if (!message) message = (uint8_t *)(void *)&none;
+    }
     return core_tds_client_start_commit(ONE_BYTES(client), next, ONE_BYTES(message), room, ONE_BYTES(count));
 }
 
 uint8_t tds_client_start_rollback(struct tds_client *client, uint8_t next, uint8_t *message, size_t room, size_t *count) {
-    uint64_t none = 0;
-    if (!client || (message ? room > PTRDIFF_MAX : room != 0) || !count) return MOUKTELF_MISFIT;
-    if (!message) message = (uint8_t *)(void *)&none;
+    uint64_t none;
+    if (!client || !message || !count || room > PTRDIFF_MAX / 1024) {
+        none = 0;
+        if (!client || (message ? room > PTRDIFF_MAX : room != 0) || !count) return MOUKTELF_MISFIT;
+        if (!message) message = (uint8_t *)(void *)&none;
+    }
     return core_tds_client_start_rollback(ONE_BYTES(client), next, ONE_BYTES(message), room, ONE_BYTES(count));
 }
 
 uint8_t tds_client_send(struct tds_client *client, const uint8_t *message, size_t length, uint8_t *out, size_t room, size_t *count) {
-    uint64_t none = 0;
-    if (!client || (message ? length > PTRDIFF_MAX : length != 0) || (out ? room > PTRDIFF_MAX : room != 0) || !count) return MOUKTELF_MISFIT;
-    if (!message) message = (const uint8_t *)(void *)&none;
-    if (!out) out = (uint8_t *)(void *)&none;
+    uint64_t none;
+    if (!client || !message || !out || !count || (length | room) > PTRDIFF_MAX / 1024) {
+        none = 0;
+        if (!client || (message ? length > PTRDIFF_MAX : length != 0) || (out ? room > PTRDIFF_MAX : room != 0) || !count) return MOUKTELF_MISFIT;
+        if (!message) message = (const uint8_t *)(void *)&none;
+        if (!out) out = (uint8_t *)(void *)&none;
+    }
     return core_tds_client_send(ONE_BYTES(client), ONE_BYTES(message), length, ONE_BYTES(out), room, ONE_BYTES(count));
 }
 
 uint8_t tds_client_cancel(struct tds_client *client, uint8_t *out, size_t room, size_t *count) {
-    uint64_t none = 0;
-    if (!client || (out ? room > PTRDIFF_MAX : room != 0) || !count) return MOUKTELF_MISFIT;
-    if (!out) out = (uint8_t *)(void *)&none;
+    uint64_t none;
+    if (!client || !out || !count || room > PTRDIFF_MAX / 1024) {
+        none = 0;
+        if (!client || (out ? room > PTRDIFF_MAX : room != 0) || !count) return MOUKTELF_MISFIT;
+        if (!out) out = (uint8_t *)(void *)&none;
+    }
     return core_tds_client_cancel(ONE_BYTES(client), ONE_BYTES(out), room, ONE_BYTES(count));
 }
 
 uint8_t tds_client_take(struct tds_client *client, const uint8_t *packet, size_t length) {
-    uint64_t none = 0;
-    if (!client || (packet ? length > PTRDIFF_MAX : length != 0)) return MOUKTELF_MISFIT;
-    if (!packet) packet = (const uint8_t *)(void *)&none;
+    uint64_t none;
+    if (!client || !packet || length > PTRDIFF_MAX / 1024) {
+        none = 0;
+        if (!client || (packet ? length > PTRDIFF_MAX : length != 0)) return MOUKTELF_MISFIT;
+        if (!packet) packet = (const uint8_t *)(void *)&none;
+    }
     return core_tds_client_take(ONE_BYTES(client), ONE_BYTES(packet), length);
 }
 
 uint8_t tds_client_start_message(struct tds_client *client, uint8_t kind, uint8_t *kept, size_t room, size_t *count) {
-    uint64_t none = 0;
-    if (!client || (kept ? room > PTRDIFF_MAX : room != 0) || !count) return MOUKTELF_MISFIT;
-    if (!kept) kept = (uint8_t *)(void *)&none;
+    uint64_t none;
+    if (!client || !kept || !count || room > PTRDIFF_MAX / 1024) {
+        none = 0;
+        if (!client || (kept ? room > PTRDIFF_MAX : room != 0) || !count) return MOUKTELF_MISFIT;
+        if (!kept) kept = (uint8_t *)(void *)&none;
+    }
     return core_tds_client_start_message(ONE_BYTES(client), kind, ONE_BYTES(kept), room, ONE_BYTES(count));
 }
 
 uint8_t tds_client_put(struct tds_client *client, uint8_t *kept, size_t kept_room, size_t *waiting, const uint8_t *bytes, size_t length, size_t *taken, uint8_t *out, size_t room, size_t *count) {
-    uint64_t none = 0;
-    if (!client || (kept ? kept_room > PTRDIFF_MAX : kept_room != 0) || !waiting || (bytes ? length > PTRDIFF_MAX : length != 0) || !taken || (out ? room > PTRDIFF_MAX : room != 0) || !count) return MOUKTELF_MISFIT;
-    if (!kept) kept = (uint8_t *)(void *)&none;
-    if (!bytes) bytes = (const uint8_t *)(void *)&none;
-    if (!out) out = (uint8_t *)(void *)&none;
+    uint64_t none;
+    if (!client || !kept || !waiting || !bytes || !taken || !out || !count || (kept_room | length | room) > PTRDIFF_MAX / 1024) {
+        none = 0;
+        if (!client || (kept ? kept_room > PTRDIFF_MAX : kept_room != 0) || !waiting || (bytes ? length > PTRDIFF_MAX : length != 0) || !taken || (out ? room > PTRDIFF_MAX : room != 0) || !count) return MOUKTELF_MISFIT;
+        if (!kept) kept = (uint8_t *)(void *)&none;
+        if (!bytes) bytes = (const uint8_t *)(void *)&none;
+        if (!out) out = (uint8_t *)(void *)&none;
+    }
     return core_tds_client_put(ONE_BYTES(client), ONE_BYTES(kept), kept_room, ONE_BYTES(waiting), ONE_BYTES(bytes), length, ONE_BYTES(taken), ONE_BYTES(out), room, ONE_BYTES(count));
 }
 
 uint8_t tds_client_finish(struct tds_client *client, const uint8_t *kept, size_t waiting, uint8_t *out, size_t room, size_t *count) {
-    uint64_t none = 0;
-    if (!client || (kept ? waiting > PTRDIFF_MAX : waiting != 0) || (out ? room > PTRDIFF_MAX : room != 0) || !count) return MOUKTELF_MISFIT;
-    if (!kept) kept = (const uint8_t *)(void *)&none;
-    if (!out) out = (uint8_t *)(void *)&none;
+    uint64_t none;
+    if (!client || !kept || !out || !count || (waiting | room) > PTRDIFF_MAX / 1024) {
+        none = 0;
+        if (!client || (kept ? waiting > PTRDIFF_MAX : waiting != 0) || (out ? room > PTRDIFF_MAX : room != 0) || !count) return MOUKTELF_MISFIT;
+        if (!kept) kept = (const uint8_t *)(void *)&none;
+        if (!out) out = (uint8_t *)(void *)&none;
+    }
     return core_tds_client_finish(ONE_BYTES(client), ONE_BYTES(kept), waiting, ONE_BYTES(out), room, ONE_BYTES(count));
 }
 
 uint8_t tds_client_ask(struct tds_client *client, uint8_t kind, const uint8_t *body, size_t length, uint8_t *out, size_t room, size_t *count) {
-    uint64_t none = 0;
-    if (!client || (body ? length > PTRDIFF_MAX : length != 0) || (out ? room > PTRDIFF_MAX : room != 0) || !count) return MOUKTELF_MISFIT;
-    if (!body) body = (const uint8_t *)(void *)&none;
-    if (!out) out = (uint8_t *)(void *)&none;
+    uint64_t none;
+    if (!client || !body || !out || !count || (length | room) > PTRDIFF_MAX / 1024) {
+        none = 0;
+        if (!client || (body ? length > PTRDIFF_MAX : length != 0) || (out ? room > PTRDIFF_MAX : room != 0) || !count) return MOUKTELF_MISFIT;
+        if (!body) body = (const uint8_t *)(void *)&none;
+        if (!out) out = (uint8_t *)(void *)&none;
+    }
     return core_tds_client_ask(ONE_BYTES(client), kind, ONE_BYTES(body), length, ONE_BYTES(out), room, ONE_BYTES(count));
 }
 
@@ -20333,24 +21010,33 @@ uint8_t tds_client_lost(struct tds_client *client) {
 }
 
 uint8_t tds_token_next(const uint8_t *data, size_t length, struct tds_cursor *cursor, struct tds_token *token) {
-    uint64_t none = 0;
-    if ((data ? length > PTRDIFF_MAX : length != 0) || !cursor || !token) return MOUKTELF_MISFIT;
-    if (!data) data = (const uint8_t *)(void *)&none;
+    uint64_t none;
+    if (!data || !cursor || !token || length > PTRDIFF_MAX / 1024) {
+        none = 0;
+        if ((data ? length > PTRDIFF_MAX : length != 0) || !cursor || !token) return MOUKTELF_MISFIT;
+        if (!data) data = (const uint8_t *)(void *)&none;
+    }
     return core_tds_token_next(ONE_BYTES(data), length, ONE_BYTES(cursor), ONE_BYTES(token));
 }
 
 uint8_t tds_tokens_next(const uint8_t *data, size_t length, struct tds_cursor *cursor, struct tds_token *tokens, size_t room, size_t *count) {
-    uint64_t none = 0;
-    if ((data ? length > PTRDIFF_MAX : length != 0) || !cursor || (tokens ? room > PTRDIFF_MAX / sizeof(struct tds_token) : room != 0) || !count) return MOUKTELF_MISFIT;
-    if (!data) data = (const uint8_t *)(void *)&none;
-    if (!tokens) tokens = (struct tds_token *)(void *)&none;
+    uint64_t none;
+    if (!data || !cursor || !tokens || !count || (length | room) > PTRDIFF_MAX / 1024) {
+        none = 0;
+        if ((data ? length > PTRDIFF_MAX : length != 0) || !cursor || (tokens ? room > PTRDIFF_MAX / sizeof(struct tds_token) : room != 0) || !count) return MOUKTELF_MISFIT;
+        if (!data) data = (const uint8_t *)(void *)&none;
+        if (!tokens) tokens = (struct tds_token *)(void *)&none;
+    }
     return core_tds_tokens_next(ONE_BYTES(data), length, ONE_BYTES(cursor), ONE_BYTES(tokens), room, ONE_BYTES(count));
 }
 
 uint8_t tds_rows_next(const uint8_t *data, size_t length, struct tds_cursor *cursor, struct tds_rows *rows) {
-    uint64_t none = 0;
-    if ((data ? length > PTRDIFF_MAX : length != 0) || !cursor || !rows) return MOUKTELF_MISFIT;
-    if (!data) data = (const uint8_t *)(void *)&none;
+    uint64_t none;
+    if (!data || !cursor || !rows || length > PTRDIFF_MAX / 1024) {
+        none = 0;
+        if ((data ? length > PTRDIFF_MAX : length != 0) || !cursor || !rows) return MOUKTELF_MISFIT;
+        if (!data) data = (const uint8_t *)(void *)&none;
+    }
     return core_tds_rows_next(ONE_BYTES(data), length, ONE_BYTES(cursor), ONE_BYTES(rows));
 }
 
@@ -20360,9 +21046,12 @@ uint8_t tds_wire_new(uint16_t most, uint8_t encryption, uint8_t ranks, struct td
 }
 
 uint8_t tds_wire_next(struct tds_wire *walk, struct tds_wire_memory *memory, const uint8_t *bytes, size_t length, size_t *count, struct tds_wire_token *token) {
-    uint64_t none = 0;
-    if (!walk || !memory || (bytes ? length > PTRDIFF_MAX : length != 0) || !count || !token) return MOUKTELF_MISFIT;
-    if (!bytes) bytes = (const uint8_t *)(void *)&none;
+    uint64_t none;
+    if (!walk || !memory || !bytes || !count || !token || length > PTRDIFF_MAX / 1024) {
+        none = 0;
+        if (!walk || !memory || (bytes ? length > PTRDIFF_MAX : length != 0) || !count || !token) return MOUKTELF_MISFIT;
+        if (!bytes) bytes = (const uint8_t *)(void *)&none;
+    }
     return core_tds_wire_next(ONE_BYTES(walk), ONE_BYTES(memory), ONE_BYTES(bytes), length, ONE_BYTES(count), ONE_BYTES(token));
 }
 
@@ -20377,44 +21066,71 @@ uint8_t tds_wire_restart(struct tds_wire *walk, struct tds_wire_memory *memory) 
 }
 
 uint8_t tds_columns(const uint8_t *bytes, size_t length, uint8_t encryption, struct tds_column *columns, size_t room, size_t *count, size_t *taken) {
-    uint64_t none = 0;
-    if ((bytes ? length > PTRDIFF_MAX : length != 0) || (columns ? room > PTRDIFF_MAX / sizeof(struct tds_column) : room != 0) || !count || !taken) return MOUKTELF_MISFIT;
-    if (!bytes) bytes = (const uint8_t *)(void *)&none;
-    if (!columns) columns = (struct tds_column *)(void *)&none;
+    uint64_t none;
+    if (!bytes || !columns || !count || !taken || (length | room) > PTRDIFF_MAX / 1024) {
+        none = 0;
+        if ((bytes ? length > PTRDIFF_MAX : length != 0) || (columns ? room > PTRDIFF_MAX / sizeof(struct tds_column) : room != 0) || !count || !taken) return MOUKTELF_MISFIT;
+        if (!bytes) bytes = (const uint8_t *)(void *)&none;
+        if (!columns) columns = (struct tds_column *)(void *)&none;
+    }
     return core_tds_columns(ONE_BYTES(bytes), length, encryption, ONE_BYTES(columns), room, ONE_BYTES(count), ONE_BYTES(taken));
 }
 
 uint8_t tds_row_places(const struct tds_column *columns, size_t count, const uint8_t *bytes, size_t length, struct tds_place *places, size_t room, size_t *taken) {
-    uint64_t none = 0;
-    if ((columns ? count > PTRDIFF_MAX / sizeof(struct tds_column) : count != 0) || (bytes ? length > PTRDIFF_MAX : length != 0) || (places ? room > PTRDIFF_MAX / sizeof(struct tds_place) : room != 0) || !taken) return MOUKTELF_MISFIT;
-    if (!columns) columns = (const struct tds_column *)(void *)&none;
-    if (!bytes) bytes = (const uint8_t *)(void *)&none;
-    if (!places) places = (struct tds_place *)(void *)&none;
+    uint64_t none;
+    if (!columns || !bytes || !places || !taken || (count | length | room) > PTRDIFF_MAX / 1024) {
+        none = 0;
+        if ((columns ? count > PTRDIFF_MAX / sizeof(struct tds_column) : count != 0) || (bytes ? length > PTRDIFF_MAX : length != 0) || (places ? room > PTRDIFF_MAX / sizeof(struct tds_place) : room != 0) || !taken) return MOUKTELF_MISFIT;
+        if (!columns) columns = (const struct tds_column *)(void *)&none;
+        if (!bytes) bytes = (const uint8_t *)(void *)&none;
+        if (!places) places = (struct tds_place *)(void *)&none;
+    }
     return core_tds_row_places(ONE_BYTES(columns), count, ONE_BYTES(bytes), length, ONE_BYTES(places), room, ONE_BYTES(taken));
 }
 
+uint8_t tds_places_of_rows(const struct tds_column *columns, size_t count, const uint8_t *bytes, size_t length, struct tds_place *places, size_t room, size_t *rows, size_t *taken) {
+    uint64_t none;
+    if (!columns || !bytes || !places || !rows || !taken || (count | length | room) > PTRDIFF_MAX / 1024) {
+        none = 0;
+        if ((columns ? count > PTRDIFF_MAX / sizeof(struct tds_column) : count != 0) || (bytes ? length > PTRDIFF_MAX : length != 0) || (places ? room > PTRDIFF_MAX / sizeof(struct tds_place) : room != 0) || !rows || !taken) return MOUKTELF_MISFIT;
+        if (!columns) columns = (const struct tds_column *)(void *)&none;
+        if (!bytes) bytes = (const uint8_t *)(void *)&none;
+        if (!places) places = (struct tds_place *)(void *)&none;
+    }
+    return core_tds_places_of_rows(ONE_BYTES(columns), count, ONE_BYTES(bytes), length, ONE_BYTES(places), room, ONE_BYTES(rows), ONE_BYTES(taken));
+}
+
 uint8_t tds_row_values(const struct tds_column *columns, size_t count, size_t first, const uint8_t *nulls, size_t bits, const uint8_t *bytes, size_t length, struct tds_place *places, size_t room, size_t *next, size_t *taken) {
-    uint64_t none = 0;
-    if ((columns ? count > PTRDIFF_MAX / sizeof(struct tds_column) : count != 0) || (nulls ? bits > PTRDIFF_MAX : bits != 0) || (bytes ? length > PTRDIFF_MAX : length != 0) || (places ? room > PTRDIFF_MAX / sizeof(struct tds_place) : room != 0) || !next || !taken) return MOUKTELF_MISFIT;
-    if (!columns) columns = (const struct tds_column *)(void *)&none;
-    if (!nulls) nulls = (const uint8_t *)(void *)&none;
-    if (!bytes) bytes = (const uint8_t *)(void *)&none;
-    if (!places) places = (struct tds_place *)(void *)&none;
+    uint64_t none;
+    if (!columns || !nulls || !bytes || !places || !next || !taken || (count | bits | length | room) > PTRDIFF_MAX / 1024) {
+        none = 0;
+        if ((columns ? count > PTRDIFF_MAX / sizeof(struct tds_column) : count != 0) || (nulls ? bits > PTRDIFF_MAX : bits != 0) || (bytes ? length > PTRDIFF_MAX : length != 0) || (places ? room > PTRDIFF_MAX / sizeof(struct tds_place) : room != 0) || !next || !taken) return MOUKTELF_MISFIT;
+        if (!columns) columns = (const struct tds_column *)(void *)&none;
+        if (!nulls) nulls = (const uint8_t *)(void *)&none;
+        if (!bytes) bytes = (const uint8_t *)(void *)&none;
+        if (!places) places = (struct tds_place *)(void *)&none;
+    }
     return core_tds_row_values(ONE_BYTES(columns), count, first, ONE_BYTES(nulls), bits, ONE_BYTES(bytes), length, ONE_BYTES(places), room, ONE_BYTES(next), ONE_BYTES(taken));
 }
 
 uint8_t tds_parts_next(struct tds_parts *parts, const uint8_t *bytes, size_t length, size_t *start, size_t *count, size_t *taken) {
-    uint64_t none = 0;
-    if (!parts || (bytes ? length > PTRDIFF_MAX : length != 0) || !start || !count || !taken) return MOUKTELF_MISFIT;
-    if (!bytes) bytes = (const uint8_t *)(void *)&none;
+    uint64_t none;
+    if (!parts || !bytes || !start || !count || !taken || length > PTRDIFF_MAX / 1024) {
+        none = 0;
+        if (!parts || (bytes ? length > PTRDIFF_MAX : length != 0) || !start || !count || !taken) return MOUKTELF_MISFIT;
+        if (!bytes) bytes = (const uint8_t *)(void *)&none;
+    }
     return core_tds_parts_next(ONE_BYTES(parts), ONE_BYTES(bytes), length, ONE_BYTES(start), ONE_BYTES(count), ONE_BYTES(taken));
 }
 
 uint8_t tds_client_hear(struct tds_client *client, struct tds_wire *walk, struct tds_wire_memory *memory, const uint8_t *bytes, size_t length, uint8_t ends, size_t *taken, struct tds_wire_token *tokens, size_t room, size_t *count) {
-    uint64_t none = 0;
-    if (!client || !walk || !memory || (bytes ? length > PTRDIFF_MAX : length != 0) || !taken || (tokens ? room > PTRDIFF_MAX / sizeof(struct tds_wire_token) : room != 0) || !count) return MOUKTELF_MISFIT;
-    if (!bytes) bytes = (const uint8_t *)(void *)&none;
-    if (!tokens) tokens = (struct tds_wire_token *)(void *)&none;
+    uint64_t none;
+    if (!client || !walk || !memory || !bytes || !taken || !tokens || !count || (length | room) > PTRDIFF_MAX / 1024) {
+        none = 0;
+        if (!client || !walk || !memory || (bytes ? length > PTRDIFF_MAX : length != 0) || !taken || (tokens ? room > PTRDIFF_MAX / sizeof(struct tds_wire_token) : room != 0) || !count) return MOUKTELF_MISFIT;
+        if (!bytes) bytes = (const uint8_t *)(void *)&none;
+        if (!tokens) tokens = (struct tds_wire_token *)(void *)&none;
+    }
     return core_tds_client_hear(ONE_BYTES(client), ONE_BYTES(walk), ONE_BYTES(memory), ONE_BYTES(bytes), length, ends, ONE_BYTES(taken), ONE_BYTES(tokens), room, ONE_BYTES(count));
 }
 
@@ -20719,9 +21435,12 @@ uint32_t mouktelf_version(void) {
 }
 
 uint8_t tds_packet_read(const uint8_t *bytes, size_t length, uint16_t size, uint8_t direction, struct tds_packet *packet) {
-    uint64_t none = 0;
-    if ((bytes ? length > PTRDIFF_MAX : length != 0) || !packet) return MOUKTELF_MISFIT;
-    if (!bytes) bytes = (const uint8_t *)(void *)&none;
+    uint64_t none;
+    if (!bytes || !packet || length > PTRDIFF_MAX / 1024) {
+        none = 0;
+        if ((bytes ? length > PTRDIFF_MAX : length != 0) || !packet) return MOUKTELF_MISFIT;
+        if (!bytes) bytes = (const uint8_t *)(void *)&none;
+    }
     _Alignas(16) unsigned char of_packet[16] = {0};
     one_to_tds_packet(of_packet, packet);
     uint8_t answer = core_tds_packet_read(ONE_BYTES(bytes), length, size, direction, ONE_BYTES(of_packet));
@@ -20730,10 +21449,13 @@ uint8_t tds_packet_read(const uint8_t *bytes, size_t length, uint16_t size, uint
 }
 
 uint8_t tds_packets_read(const uint8_t *bytes, size_t length, uint16_t size, uint8_t direction, struct tds_packet *packets, size_t room, size_t *count) {
-    uint64_t none = 0;
-    if ((bytes ? length > PTRDIFF_MAX : length != 0) || (packets ? room > PTRDIFF_MAX / sizeof(struct tds_packet) : room != 0) || !count) return MOUKTELF_MISFIT;
-    if (!bytes) bytes = (const uint8_t *)(void *)&none;
-    if (!packets) packets = (struct tds_packet *)(void *)&none;
+    uint64_t none;
+    if (!bytes || !packets || !count || (length | room) > PTRDIFF_MAX / 1024) {
+        none = 0;
+        if ((bytes ? length > PTRDIFF_MAX : length != 0) || (packets ? room > PTRDIFF_MAX / sizeof(struct tds_packet) : room != 0) || !count) return MOUKTELF_MISFIT;
+        if (!bytes) bytes = (const uint8_t *)(void *)&none;
+        if (!packets) packets = (struct tds_packet *)(void *)&none;
+    }
     _Alignas(16) unsigned char image[16] = {0}, counted[8] = {0};
     uint8_t answer;
     *count = 0;
@@ -20766,10 +21488,13 @@ uint8_t tds_client_mark_reset(struct tds_client *client, uint8_t reset) {
 }
 
 uint8_t tds_client_start_batch(struct tds_client *client, const uint16_t *text, size_t units, uint8_t *message, size_t room, size_t *count) {
-    uint64_t none = 0;
-    if (!client || (text ? units > PTRDIFF_MAX / sizeof(uint16_t) : units != 0) || (message ? room > PTRDIFF_MAX : room != 0) || !count) return MOUKTELF_MISFIT;
-    if (!text) text = (const uint16_t *)(void *)&none;
-    if (!message) message = (uint8_t *)(void *)&none;
+    uint64_t none;
+    if (!client || !text || !message || !count || (units | room) > PTRDIFF_MAX / 1024) {
+        none = 0;
+        if (!client || (text ? units > PTRDIFF_MAX / sizeof(uint16_t) : units != 0) || (message ? room > PTRDIFF_MAX : room != 0) || !count) return MOUKTELF_MISFIT;
+        if (!text) text = (const uint16_t *)(void *)&none;
+        if (!message) message = (uint8_t *)(void *)&none;
+    }
     _Alignas(16) unsigned char image[40] = {0}, counted[8] = {0}, low_first[4000];
     uint8_t answer;
     for (size_t k = 0; k < units && k < 2000; k++) one_write16(ONE_BYTES(low_first + 2 * k), text[k]);
@@ -20781,9 +21506,12 @@ uint8_t tds_client_start_batch(struct tds_client *client, const uint16_t *text, 
 }
 
 uint8_t tds_client_start_begin(struct tds_client *client, uint8_t isolation, uint8_t *message, size_t room, size_t *count) {
-    uint64_t none = 0;
-    if (!client || (message ? room > PTRDIFF_MAX : room != 0) || !count) return MOUKTELF_MISFIT;
-    if (!message) message = (uint8_t *)(void *)&none;
+    uint64_t none;
+    if (!client || !message || !count || room > PTRDIFF_MAX / 1024) {
+        none = 0;
+        if (!client || (message ? room > PTRDIFF_MAX : room != 0) || !count) return MOUKTELF_MISFIT;
+        if (!message) message = (uint8_t *)(void *)&none;
+    }
     _Alignas(16) unsigned char of_client[40] = {0};
     one_to_tds_client(of_client, client);
     _Alignas(16) unsigned char of_count[8] = {0};
@@ -20795,9 +21523,12 @@ uint8_t tds_client_start_begin(struct tds_client *client, uint8_t isolation, uin
 }
 
 uint8_t tds_client_start_commit(struct tds_client *client, uint8_t next, uint8_t *message, size_t room, size_t *count) {
-    uint64_t none = 0;
-    if (!client || (message ? room > PTRDIFF_MAX : room != 0) || !count) return MOUKTELF_MISFIT;
-    if (!message) message = (uint8_t *)(void *)&none;
+    uint64_t none;
+    if (!client || !message || !count || room > PTRDIFF_MAX / 1024) {
+        none = 0;
+        if (!client || (message ? room > PTRDIFF_MAX : room != 0) || !count) return MOUKTELF_MISFIT;
+        if (!message) message = (uint8_t *)(void *)&none;
+    }
     _Alignas(16) unsigned char of_client[40] = {0};
     one_to_tds_client(of_client, client);
     _Alignas(16) unsigned char of_count[8] = {0};
@@ -20809,9 +21540,12 @@ uint8_t tds_client_start_commit(struct tds_client *client, uint8_t next, uint8_t
 }
 
 uint8_t tds_client_start_rollback(struct tds_client *client, uint8_t next, uint8_t *message, size_t room, size_t *count) {
-    uint64_t none = 0;
-    if (!client || (message ? room > PTRDIFF_MAX : room != 0) || !count) return MOUKTELF_MISFIT;
-    if (!message) message = (uint8_t *)(void *)&none;
+    uint64_t none;
+    if (!client || !message || !count || room > PTRDIFF_MAX / 1024) {
+        none = 0;
+        if (!client || (message ? room > PTRDIFF_MAX : room != 0) || !count) return MOUKTELF_MISFIT;
+        if (!message) message = (uint8_t *)(void *)&none;
+    }
     _Alignas(16) unsigned char of_client[40] = {0};
     one_to_tds_client(of_client, client);
     _Alignas(16) unsigned char of_count[8] = {0};
@@ -20823,10 +21557,13 @@ uint8_t tds_client_start_rollback(struct tds_client *client, uint8_t next, uint8
 }
 
 uint8_t tds_client_send(struct tds_client *client, const uint8_t *message, size_t length, uint8_t *out, size_t room, size_t *count) {
-    uint64_t none = 0;
-    if (!client || (message ? length > PTRDIFF_MAX : length != 0) || (out ? room > PTRDIFF_MAX : room != 0) || !count) return MOUKTELF_MISFIT;
-    if (!message) message = (const uint8_t *)(void *)&none;
-    if (!out) out = (uint8_t *)(void *)&none;
+    uint64_t none;
+    if (!client || !message || !out || !count || (length | room) > PTRDIFF_MAX / 1024) {
+        none = 0;
+        if (!client || (message ? length > PTRDIFF_MAX : length != 0) || (out ? room > PTRDIFF_MAX : room != 0) || !count) return MOUKTELF_MISFIT;
+        if (!message) message = (const uint8_t *)(void *)&none;
+        if (!out) out = (uint8_t *)(void *)&none;
+    }
     _Alignas(16) unsigned char of_client[40] = {0};
     one_to_tds_client(of_client, client);
     _Alignas(16) unsigned char of_count[8] = {0};
@@ -20838,9 +21575,12 @@ uint8_t tds_client_send(struct tds_client *client, const uint8_t *message, size_
 }
 
 uint8_t tds_client_cancel(struct tds_client *client, uint8_t *out, size_t room, size_t *count) {
-    uint64_t none = 0;
-    if (!client || (out ? room > PTRDIFF_MAX : room != 0) || !count) return MOUKTELF_MISFIT;
-    if (!out) out = (uint8_t *)(void *)&none;
+    uint64_t none;
+    if (!client || !out || !count || room > PTRDIFF_MAX / 1024) {
+        none = 0;
+        if (!client || (out ? room > PTRDIFF_MAX : room != 0) || !count) return MOUKTELF_MISFIT;
+        if (!out) out = (uint8_t *)(void *)&none;
+    }
     _Alignas(16) unsigned char of_client[40] = {0};
     one_to_tds_client(of_client, client);
     _Alignas(16) unsigned char of_count[8] = {0};
@@ -20852,9 +21592,12 @@ uint8_t tds_client_cancel(struct tds_client *client, uint8_t *out, size_t room, 
 }
 
 uint8_t tds_client_take(struct tds_client *client, const uint8_t *packet, size_t length) {
-    uint64_t none = 0;
-    if (!client || (packet ? length > PTRDIFF_MAX : length != 0)) return MOUKTELF_MISFIT;
-    if (!packet) packet = (const uint8_t *)(void *)&none;
+    uint64_t none;
+    if (!client || !packet || length > PTRDIFF_MAX / 1024) {
+        none = 0;
+        if (!client || (packet ? length > PTRDIFF_MAX : length != 0)) return MOUKTELF_MISFIT;
+        if (!packet) packet = (const uint8_t *)(void *)&none;
+    }
     _Alignas(16) unsigned char of_client[40] = {0};
     one_to_tds_client(of_client, client);
     uint8_t answer = core_tds_client_take(ONE_BYTES(of_client), ONE_BYTES(packet), length);
@@ -20863,9 +21606,12 @@ uint8_t tds_client_take(struct tds_client *client, const uint8_t *packet, size_t
 }
 
 uint8_t tds_client_start_message(struct tds_client *client, uint8_t kind, uint8_t *kept, size_t room, size_t *count) {
-    uint64_t none = 0;
-    if (!client || (kept ? room > PTRDIFF_MAX : room != 0) || !count) return MOUKTELF_MISFIT;
-    if (!kept) kept = (uint8_t *)(void *)&none;
+    uint64_t none;
+    if (!client || !kept || !count || room > PTRDIFF_MAX / 1024) {
+        none = 0;
+        if (!client || (kept ? room > PTRDIFF_MAX : room != 0) || !count) return MOUKTELF_MISFIT;
+        if (!kept) kept = (uint8_t *)(void *)&none;
+    }
     _Alignas(16) unsigned char of_client[40] = {0};
     one_to_tds_client(of_client, client);
     _Alignas(16) unsigned char of_count[8] = {0};
@@ -20877,11 +21623,14 @@ uint8_t tds_client_start_message(struct tds_client *client, uint8_t kind, uint8_
 }
 
 uint8_t tds_client_put(struct tds_client *client, uint8_t *kept, size_t kept_room, size_t *waiting, const uint8_t *bytes, size_t length, size_t *taken, uint8_t *out, size_t room, size_t *count) {
-    uint64_t none = 0;
-    if (!client || (kept ? kept_room > PTRDIFF_MAX : kept_room != 0) || !waiting || (bytes ? length > PTRDIFF_MAX : length != 0) || !taken || (out ? room > PTRDIFF_MAX : room != 0) || !count) return MOUKTELF_MISFIT;
-    if (!kept) kept = (uint8_t *)(void *)&none;
-    if (!bytes) bytes = (const uint8_t *)(void *)&none;
-    if (!out) out = (uint8_t *)(void *)&none;
+    uint64_t none;
+    if (!client || !kept || !waiting || !bytes || !taken || !out || !count || (kept_room | length | room) > PTRDIFF_MAX / 1024) {
+        none = 0;
+        if (!client || (kept ? kept_room > PTRDIFF_MAX : kept_room != 0) || !waiting || (bytes ? length > PTRDIFF_MAX : length != 0) || !taken || (out ? room > PTRDIFF_MAX : room != 0) || !count) return MOUKTELF_MISFIT;
+        if (!kept) kept = (uint8_t *)(void *)&none;
+        if (!bytes) bytes = (const uint8_t *)(void *)&none;
+        if (!out) out = (uint8_t *)(void *)&none;
+    }
     _Alignas(16) unsigned char of_client[40] = {0};
     one_to_tds_client(of_client, client);
     _Alignas(16) unsigned char of_waiting[8] = {0};
@@ -20899,10 +21648,13 @@ uint8_t tds_client_put(struct tds_client *client, uint8_t *kept, size_t kept_roo
 }
 
 uint8_t tds_client_finish(struct tds_client *client, const uint8_t *kept, size_t waiting, uint8_t *out, size_t room, size_t *count) {
-    uint64_t none = 0;
-    if (!client || (kept ? waiting > PTRDIFF_MAX : waiting != 0) || (out ? room > PTRDIFF_MAX : room != 0) || !count) return MOUKTELF_MISFIT;
-    if (!kept) kept = (const uint8_t *)(void *)&none;
-    if (!out) out = (uint8_t *)(void *)&none;
+    uint64_t none;
+    if (!client || !kept || !out || !count || (waiting | room) > PTRDIFF_MAX / 1024) {
+        none = 0;
+        if (!client || (kept ? waiting > PTRDIFF_MAX : waiting != 0) || (out ? room > PTRDIFF_MAX : room != 0) || !count) return MOUKTELF_MISFIT;
+        if (!kept) kept = (const uint8_t *)(void *)&none;
+        if (!out) out = (uint8_t *)(void *)&none;
+    }
     _Alignas(16) unsigned char of_client[40] = {0};
     one_to_tds_client(of_client, client);
     _Alignas(16) unsigned char of_count[8] = {0};
@@ -20914,10 +21666,13 @@ uint8_t tds_client_finish(struct tds_client *client, const uint8_t *kept, size_t
 }
 
 uint8_t tds_client_ask(struct tds_client *client, uint8_t kind, const uint8_t *body, size_t length, uint8_t *out, size_t room, size_t *count) {
-    uint64_t none = 0;
-    if (!client || (body ? length > PTRDIFF_MAX : length != 0) || (out ? room > PTRDIFF_MAX : room != 0) || !count) return MOUKTELF_MISFIT;
-    if (!body) body = (const uint8_t *)(void *)&none;
-    if (!out) out = (uint8_t *)(void *)&none;
+    uint64_t none;
+    if (!client || !body || !out || !count || (length | room) > PTRDIFF_MAX / 1024) {
+        none = 0;
+        if (!client || (body ? length > PTRDIFF_MAX : length != 0) || (out ? room > PTRDIFF_MAX : room != 0) || !count) return MOUKTELF_MISFIT;
+        if (!body) body = (const uint8_t *)(void *)&none;
+        if (!out) out = (uint8_t *)(void *)&none;
+    }
     _Alignas(16) unsigned char of_client[40] = {0};
     one_to_tds_client(of_client, client);
     _Alignas(16) unsigned char of_count[8] = {0};
@@ -20974,9 +21729,12 @@ uint8_t tds_client_lost(struct tds_client *client) {
 }
 
 uint8_t tds_token_next(const uint8_t *data, size_t length, struct tds_cursor *cursor, struct tds_token *token) {
-    uint64_t none = 0;
-    if ((data ? length > PTRDIFF_MAX : length != 0) || !cursor || !token) return MOUKTELF_MISFIT;
-    if (!data) data = (const uint8_t *)(void *)&none;
+    uint64_t none;
+    if (!data || !cursor || !token || length > PTRDIFF_MAX / 1024) {
+        none = 0;
+        if ((data ? length > PTRDIFF_MAX : length != 0) || !cursor || !token) return MOUKTELF_MISFIT;
+        if (!data) data = (const uint8_t *)(void *)&none;
+    }
     _Alignas(16) unsigned char of_cursor[16] = {0};
     one_to_tds_cursor(of_cursor, cursor);
     _Alignas(16) unsigned char of_token[32] = {0};
@@ -20988,10 +21746,13 @@ uint8_t tds_token_next(const uint8_t *data, size_t length, struct tds_cursor *cu
 }
 
 uint8_t tds_tokens_next(const uint8_t *data, size_t length, struct tds_cursor *cursor, struct tds_token *tokens, size_t room, size_t *count) {
-    uint64_t none = 0;
-    if ((data ? length > PTRDIFF_MAX : length != 0) || !cursor || (tokens ? room > PTRDIFF_MAX / sizeof(struct tds_token) : room != 0) || !count) return MOUKTELF_MISFIT;
-    if (!data) data = (const uint8_t *)(void *)&none;
-    if (!tokens) tokens = (struct tds_token *)(void *)&none;
+    uint64_t none;
+    if (!data || !cursor || !tokens || !count || (length | room) > PTRDIFF_MAX / 1024) {
+        none = 0;
+        if ((data ? length > PTRDIFF_MAX : length != 0) || !cursor || (tokens ? room > PTRDIFF_MAX / sizeof(struct tds_token) : room != 0) || !count) return MOUKTELF_MISFIT;
+        if (!data) data = (const uint8_t *)(void *)&none;
+        if (!tokens) tokens = (struct tds_token *)(void *)&none;
+    }
     _Alignas(16) unsigned char place[16] = {0}, image[32] = {0}, counted[8] = {0};
     uint8_t answer;
     *count = 0;
@@ -21006,9 +21767,12 @@ uint8_t tds_tokens_next(const uint8_t *data, size_t length, struct tds_cursor *c
 }
 
 uint8_t tds_rows_next(const uint8_t *data, size_t length, struct tds_cursor *cursor, struct tds_rows *rows) {
-    uint64_t none = 0;
-    if ((data ? length > PTRDIFF_MAX : length != 0) || !cursor || !rows) return MOUKTELF_MISFIT;
-    if (!data) data = (const uint8_t *)(void *)&none;
+    uint64_t none;
+    if (!data || !cursor || !rows || length > PTRDIFF_MAX / 1024) {
+        none = 0;
+        if ((data ? length > PTRDIFF_MAX : length != 0) || !cursor || !rows) return MOUKTELF_MISFIT;
+        if (!data) data = (const uint8_t *)(void *)&none;
+    }
     _Alignas(16) unsigned char of_cursor[16] = {0};
     one_to_tds_cursor(of_cursor, cursor);
     _Alignas(16) unsigned char of_rows[24] = {0};
@@ -21032,9 +21796,12 @@ uint8_t tds_wire_new(uint16_t most, uint8_t encryption, uint8_t ranks, struct td
 }
 
 uint8_t tds_wire_next(struct tds_wire *walk, struct tds_wire_memory *memory, const uint8_t *bytes, size_t length, size_t *count, struct tds_wire_token *token) {
-    uint64_t none = 0;
-    if (!walk || !memory || (bytes ? length > PTRDIFF_MAX : length != 0) || !count || !token) return MOUKTELF_MISFIT;
-    if (!bytes) bytes = (const uint8_t *)(void *)&none;
+    uint64_t none;
+    if (!walk || !memory || !bytes || !count || !token || length > PTRDIFF_MAX / 1024) {
+        none = 0;
+        if (!walk || !memory || (bytes ? length > PTRDIFF_MAX : length != 0) || !count || !token) return MOUKTELF_MISFIT;
+        if (!bytes) bytes = (const uint8_t *)(void *)&none;
+    }
     _Alignas(16) unsigned char of_walk[104] = {0};
     one_to_tds_wire(of_walk, walk);
     _Alignas(16) unsigned char of_memory[8706] = {0};
@@ -21074,10 +21841,13 @@ uint8_t tds_wire_restart(struct tds_wire *walk, struct tds_wire_memory *memory) 
 }
 
 uint8_t tds_columns(const uint8_t *bytes, size_t length, uint8_t encryption, struct tds_column *columns, size_t room, size_t *count, size_t *taken) {
-    uint64_t none = 0;
-    if ((bytes ? length > PTRDIFF_MAX : length != 0) || (columns ? room > PTRDIFF_MAX / sizeof(struct tds_column) : room != 0) || !count || !taken) return MOUKTELF_MISFIT;
-    if (!bytes) bytes = (const uint8_t *)(void *)&none;
-    if (!columns) columns = (struct tds_column *)(void *)&none;
+    uint64_t none;
+    if (!bytes || !columns || !count || !taken || (length | room) > PTRDIFF_MAX / 1024) {
+        none = 0;
+        if ((bytes ? length > PTRDIFF_MAX : length != 0) || (columns ? room > PTRDIFF_MAX / sizeof(struct tds_column) : room != 0) || !count || !taken) return MOUKTELF_MISFIT;
+        if (!bytes) bytes = (const uint8_t *)(void *)&none;
+        if (!columns) columns = (struct tds_column *)(void *)&none;
+    }
     unsigned char *of_columns = calloc(room + 1, 40);
     _Alignas(16) unsigned char of_count[8] = {0}, of_taken[8] = {0};
     uint8_t answer = TDS_NO_MEMORY;
@@ -21093,11 +21863,14 @@ uint8_t tds_columns(const uint8_t *bytes, size_t length, uint8_t encryption, str
 }
 
 uint8_t tds_row_places(const struct tds_column *columns, size_t count, const uint8_t *bytes, size_t length, struct tds_place *places, size_t room, size_t *taken) {
-    uint64_t none = 0;
-    if ((columns ? count > PTRDIFF_MAX / sizeof(struct tds_column) : count != 0) || (bytes ? length > PTRDIFF_MAX : length != 0) || (places ? room > PTRDIFF_MAX / sizeof(struct tds_place) : room != 0) || !taken) return MOUKTELF_MISFIT;
-    if (!columns) columns = (const struct tds_column *)(void *)&none;
-    if (!bytes) bytes = (const uint8_t *)(void *)&none;
-    if (!places) places = (struct tds_place *)(void *)&none;
+    uint64_t none;
+    if (!columns || !bytes || !places || !taken || (count | length | room) > PTRDIFF_MAX / 1024) {
+        none = 0;
+        if ((columns ? count > PTRDIFF_MAX / sizeof(struct tds_column) : count != 0) || (bytes ? length > PTRDIFF_MAX : length != 0) || (places ? room > PTRDIFF_MAX / sizeof(struct tds_place) : room != 0) || !taken) return MOUKTELF_MISFIT;
+        if (!columns) columns = (const struct tds_column *)(void *)&none;
+        if (!bytes) bytes = (const uint8_t *)(void *)&none;
+        if (!places) places = (struct tds_place *)(void *)&none;
+    }
     unsigned char *of_columns = calloc(count + 1, 40);
     unsigned char *of_places = calloc(room + 1, 24);
     _Alignas(16) unsigned char of_taken[8] = {0};
@@ -21114,13 +21887,43 @@ uint8_t tds_row_places(const struct tds_column *columns, size_t count, const uin
     return answer;
 }
 
+uint8_t tds_places_of_rows(const struct tds_column *columns, size_t count, const uint8_t *bytes, size_t length, struct tds_place *places, size_t room, size_t *rows, size_t *taken) {
+    uint64_t none;
+    if (!columns || !bytes || !places || !rows || !taken || (count | length | room) > PTRDIFF_MAX / 1024) {
+        none = 0;
+        if ((columns ? count > PTRDIFF_MAX / sizeof(struct tds_column) : count != 0) || (bytes ? length > PTRDIFF_MAX : length != 0) || (places ? room > PTRDIFF_MAX / sizeof(struct tds_place) : room != 0) || !rows || !taken) return MOUKTELF_MISFIT;
+        if (!columns) columns = (const struct tds_column *)(void *)&none;
+        if (!bytes) bytes = (const uint8_t *)(void *)&none;
+        if (!places) places = (struct tds_place *)(void *)&none;
+    }
+    unsigned char *of_columns = calloc(count + 1, 40);
+    unsigned char *of_places = calloc(room + 1, 24);
+    _Alignas(16) unsigned char of_rows[8] = {0}, of_taken[8] = {0};
+    uint8_t answer = TDS_NO_MEMORY;
+    if (of_columns && of_places) {
+        for (size_t k = 0; k < count; k++) one_to_tds_column(of_columns + 40 * k, &columns[k]);
+        for (size_t k = 0; k < room; k++) one_to_tds_place(of_places + 24 * k, &places[k]);
+        answer = core_tds_places_of_rows(ONE_BYTES(of_columns), count, ONE_BYTES(bytes), length, ONE_BYTES(of_places), room,
+                                         ONE_BYTES(of_rows), ONE_BYTES(of_taken));
+        for (size_t k = 0; k < room; k++) one_from_tds_place(&places[k], of_places + 24 * k);
+        *rows = (size_t)one_read64(ONE_BYTES(of_rows));
+        *taken = (size_t)one_read64(ONE_BYTES(of_taken));
+    }
+    free(of_columns);
+    free(of_places);
+    return answer;
+}
+
 uint8_t tds_row_values(const struct tds_column *columns, size_t count, size_t first, const uint8_t *nulls, size_t bits, const uint8_t *bytes, size_t length, struct tds_place *places, size_t room, size_t *next, size_t *taken) {
-    uint64_t none = 0;
-    if ((columns ? count > PTRDIFF_MAX / sizeof(struct tds_column) : count != 0) || (nulls ? bits > PTRDIFF_MAX : bits != 0) || (bytes ? length > PTRDIFF_MAX : length != 0) || (places ? room > PTRDIFF_MAX / sizeof(struct tds_place) : room != 0) || !next || !taken) return MOUKTELF_MISFIT;
-    if (!columns) columns = (const struct tds_column *)(void *)&none;
-    if (!nulls) nulls = (const uint8_t *)(void *)&none;
-    if (!bytes) bytes = (const uint8_t *)(void *)&none;
-    if (!places) places = (struct tds_place *)(void *)&none;
+    uint64_t none;
+    if (!columns || !nulls || !bytes || !places || !next || !taken || (count | bits | length | room) > PTRDIFF_MAX / 1024) {
+        none = 0;
+        if ((columns ? count > PTRDIFF_MAX / sizeof(struct tds_column) : count != 0) || (nulls ? bits > PTRDIFF_MAX : bits != 0) || (bytes ? length > PTRDIFF_MAX : length != 0) || (places ? room > PTRDIFF_MAX / sizeof(struct tds_place) : room != 0) || !next || !taken) return MOUKTELF_MISFIT;
+        if (!columns) columns = (const struct tds_column *)(void *)&none;
+        if (!nulls) nulls = (const uint8_t *)(void *)&none;
+        if (!bytes) bytes = (const uint8_t *)(void *)&none;
+        if (!places) places = (struct tds_place *)(void *)&none;
+    }
     unsigned char *of_columns = calloc(count + 1, 40);
     unsigned char *of_places = calloc(room + 1, 24);
     _Alignas(16) unsigned char of_next[8] = {0}, of_taken[8] = {0};
@@ -21140,9 +21943,12 @@ uint8_t tds_row_values(const struct tds_column *columns, size_t count, size_t fi
 }
 
 uint8_t tds_parts_next(struct tds_parts *parts, const uint8_t *bytes, size_t length, size_t *start, size_t *count, size_t *taken) {
-    uint64_t none = 0;
-    if (!parts || (bytes ? length > PTRDIFF_MAX : length != 0) || !start || !count || !taken) return MOUKTELF_MISFIT;
-    if (!bytes) bytes = (const uint8_t *)(void *)&none;
+    uint64_t none;
+    if (!parts || !bytes || !start || !count || !taken || length > PTRDIFF_MAX / 1024) {
+        none = 0;
+        if (!parts || (bytes ? length > PTRDIFF_MAX : length != 0) || !start || !count || !taken) return MOUKTELF_MISFIT;
+        if (!bytes) bytes = (const uint8_t *)(void *)&none;
+    }
     _Alignas(16) unsigned char of_parts[12] = {0};
     one_to_tds_parts(of_parts, parts);
     _Alignas(16) unsigned char of_start[8] = {0};
@@ -21160,10 +21966,13 @@ uint8_t tds_parts_next(struct tds_parts *parts, const uint8_t *bytes, size_t len
 }
 
 uint8_t tds_client_hear(struct tds_client *client, struct tds_wire *walk, struct tds_wire_memory *memory, const uint8_t *bytes, size_t length, uint8_t ends, size_t *taken, struct tds_wire_token *tokens, size_t room, size_t *count) {
-    uint64_t none = 0;
-    if (!client || !walk || !memory || (bytes ? length > PTRDIFF_MAX : length != 0) || !taken || (tokens ? room > PTRDIFF_MAX / sizeof(struct tds_wire_token) : room != 0) || !count) return MOUKTELF_MISFIT;
-    if (!bytes) bytes = (const uint8_t *)(void *)&none;
-    if (!tokens) tokens = (struct tds_wire_token *)(void *)&none;
+    uint64_t none;
+    if (!client || !walk || !memory || !bytes || !taken || !tokens || !count || (length | room) > PTRDIFF_MAX / 1024) {
+        none = 0;
+        if (!client || !walk || !memory || (bytes ? length > PTRDIFF_MAX : length != 0) || !taken || (tokens ? room > PTRDIFF_MAX / sizeof(struct tds_wire_token) : room != 0) || !count) return MOUKTELF_MISFIT;
+        if (!bytes) bytes = (const uint8_t *)(void *)&none;
+        if (!tokens) tokens = (struct tds_wire_token *)(void *)&none;
+    }
     _Alignas(16) unsigned char of_client[40] = {0}, of_walk[104] = {0}, of_memory[8706] = {0};
     _Alignas(16) unsigned char image[88] = {0}, done[8] = {0}, counted[8] = {0};
     uint8_t answer;

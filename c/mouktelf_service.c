@@ -6,9 +6,9 @@
  * printed from what came out. So besides what libmouktelf.a trusts (the checker, the kit's backend, the middle of
  * LLVM) it trusts the printer and the layer at its end (scripts/release_parts), and your C compiler. Never edit it.
  *
- * sources 5fb65936d0def9e4ca1970d82ce0249d2c9ffa3d8dd56cd13c870f220cd4ca60 of tds_service_c
+ * sources f4f1d86af2fc442b766d18e173b5ce72368a7aa64f01dc2845a0c01e5bf86fd8 of tds_service_c
  * module 3762e9104448637d29d83810aee7d668c206871f0ca04b5a09cd4894a58d090e: logic=proved functions=153 sum=dac8208d650f15bf
- * kit rattle-kit-13f logic dac8208d650f15bf
+ * kit rattle-kit-13b logic dac8208d650f15bf
  *
  * It wants memcpy, memmove, memset and abort. There is no state here: two calls on different values may run at the same time. */
 #include "mouktelf.h"
@@ -11727,159 +11727,222 @@ _Static_assert(sizeof(struct tds_asked) == 16 && offsetof(struct tds_asked, numb
 _Static_assert(sizeof(struct tds_whose) == 16 && offsetof(struct tds_whose, lease) == 0 && offsetof(struct tds_whose, request) == 8, "tds_whose");
 
 uint8_t tds_service_lease(struct tds_service *service, struct tds_seat *seats, size_t most, struct tds_lent *lent) {
-    uint64_t none = 0;
-    if (!service || (seats ? most > PTRDIFF_MAX / sizeof(struct tds_seat) : most != 0) || !lent) return MOUKTELF_MISFIT;
-    if (!seats) seats = (struct tds_seat *)(void *)&none;
+    uint64_t none;
+    if (!service || !seats || !lent || most > PTRDIFF_MAX / 1024) {
+        none = 0;
+        if (!service || (seats ? most > PTRDIFF_MAX / sizeof(struct tds_seat) : most != 0) || !lent) return MOUKTELF_MISFIT;
+        if (!seats) seats = (struct tds_seat *)(void *)&none;
+    }
     return core_tds_service_lease(ONE_BYTES(service), ONE_BYTES(seats), most, ONE_BYTES(lent));
 }
 
 uint8_t tds_service_find(const struct tds_service *service, const struct tds_seat *seats, size_t most, uint64_t lease, size_t *index) {
-    uint64_t none = 0;
-    if (!service || (seats ? most > PTRDIFF_MAX / sizeof(struct tds_seat) : most != 0) || !index) return MOUKTELF_MISFIT;
-    if (!seats) seats = (const struct tds_seat *)(void *)&none;
+    uint64_t none;
+    if (!service || !seats || !index || most > PTRDIFF_MAX / 1024) {
+        none = 0;
+        if (!service || (seats ? most > PTRDIFF_MAX / sizeof(struct tds_seat) : most != 0) || !index) return MOUKTELF_MISFIT;
+        if (!seats) seats = (const struct tds_seat *)(void *)&none;
+    }
     return core_tds_service_find(ONE_BYTES(service), ONE_BYTES(seats), most, lease, ONE_BYTES(index));
 }
 
 uint8_t tds_service_at(const struct tds_service *service, const struct tds_seat *seats, size_t most, uint64_t number, size_t *index) {
-    uint64_t none = 0;
-    if (!service || (seats ? most > PTRDIFF_MAX / sizeof(struct tds_seat) : most != 0) || !index) return MOUKTELF_MISFIT;
-    if (!seats) seats = (const struct tds_seat *)(void *)&none;
+    uint64_t none;
+    if (!service || !seats || !index || most > PTRDIFF_MAX / 1024) {
+        none = 0;
+        if (!service || (seats ? most > PTRDIFF_MAX / sizeof(struct tds_seat) : most != 0) || !index) return MOUKTELF_MISFIT;
+        if (!seats) seats = (const struct tds_seat *)(void *)&none;
+    }
     return core_tds_service_at(ONE_BYTES(service), ONE_BYTES(seats), most, number, ONE_BYTES(index));
 }
 
 uint8_t tds_service_ask(const struct tds_service *service, struct tds_seat *seats, size_t most, uint64_t lease, uint8_t kind, uint8_t *kept, size_t room, size_t *count, struct tds_asked *asked) {
-    uint64_t none = 0;
-    if (!service || (seats ? most > PTRDIFF_MAX / sizeof(struct tds_seat) : most != 0) || (kept ? room > PTRDIFF_MAX : room != 0) || !count || !asked) return MOUKTELF_MISFIT;
-    if (!seats) seats = (struct tds_seat *)(void *)&none;
-    if (!kept) kept = (uint8_t *)(void *)&none;
+    uint64_t none;
+    if (!service || !seats || !kept || !count || !asked || (most | room) > PTRDIFF_MAX / 1024) {
+        none = 0;
+        if (!service || (seats ? most > PTRDIFF_MAX / sizeof(struct tds_seat) : most != 0) || (kept ? room > PTRDIFF_MAX : room != 0) || !count || !asked) return MOUKTELF_MISFIT;
+        if (!seats) seats = (struct tds_seat *)(void *)&none;
+        if (!kept) kept = (uint8_t *)(void *)&none;
+    }
     return core_tds_service_ask(ONE_BYTES(service), ONE_BYTES(seats), most, lease, kind, ONE_BYTES(kept), room, ONE_BYTES(count), ONE_BYTES(asked));
 }
 
 uint8_t tds_service_put(const struct tds_service *service, struct tds_seat *seats, size_t most, uint64_t lease, uint8_t *kept, size_t kept_room, size_t *waiting, const uint8_t *bytes, size_t length, size_t *taken, uint8_t *out, size_t room, size_t *count) {
-    uint64_t none = 0;
-    if (!service || (seats ? most > PTRDIFF_MAX / sizeof(struct tds_seat) : most != 0) || (kept ? kept_room > PTRDIFF_MAX : kept_room != 0) || !waiting || (bytes ? length > PTRDIFF_MAX : length != 0) || !taken || (out ? room > PTRDIFF_MAX : room != 0) || !count) return MOUKTELF_MISFIT;
-    if (!seats) seats = (struct tds_seat *)(void *)&none;
-    if (!kept) kept = (uint8_t *)(void *)&none;
-    if (!bytes) bytes = (const uint8_t *)(void *)&none;
-    if (!out) out = (uint8_t *)(void *)&none;
+    uint64_t none;
+    if (!service || !seats || !kept || !waiting || !bytes || !taken || !out || !count || (most | kept_room | length | room) > PTRDIFF_MAX / 1024) {
+        none = 0;
+        if (!service || (seats ? most > PTRDIFF_MAX / sizeof(struct tds_seat) : most != 0) || (kept ? kept_room > PTRDIFF_MAX : kept_room != 0) || !waiting || (bytes ? length > PTRDIFF_MAX : length != 0) || !taken || (out ? room > PTRDIFF_MAX : room != 0) || !count) return MOUKTELF_MISFIT;
+        if (!seats) seats = (struct tds_seat *)(void *)&none;
+        if (!kept) kept = (uint8_t *)(void *)&none;
+        if (!bytes) bytes = (const uint8_t *)(void *)&none;
+        if (!out) out = (uint8_t *)(void *)&none;
+    }
     return core_tds_service_put(ONE_BYTES(service), ONE_BYTES(seats), most, lease, ONE_BYTES(kept), kept_room, ONE_BYTES(waiting), ONE_BYTES(bytes), length, ONE_BYTES(taken), ONE_BYTES(out), room, ONE_BYTES(count));
 }
 
 uint8_t tds_service_finish(const struct tds_service *service, struct tds_seat *seats, size_t most, uint64_t lease, const uint8_t *kept, size_t waiting, uint8_t *out, size_t room, size_t *count) {
-    uint64_t none = 0;
-    if (!service || (seats ? most > PTRDIFF_MAX / sizeof(struct tds_seat) : most != 0) || (kept ? waiting > PTRDIFF_MAX : waiting != 0) || (out ? room > PTRDIFF_MAX : room != 0) || !count) return MOUKTELF_MISFIT;
-    if (!seats) seats = (struct tds_seat *)(void *)&none;
-    if (!kept) kept = (const uint8_t *)(void *)&none;
-    if (!out) out = (uint8_t *)(void *)&none;
+    uint64_t none;
+    if (!service || !seats || !kept || !out || !count || (most | waiting | room) > PTRDIFF_MAX / 1024) {
+        none = 0;
+        if (!service || (seats ? most > PTRDIFF_MAX / sizeof(struct tds_seat) : most != 0) || (kept ? waiting > PTRDIFF_MAX : waiting != 0) || (out ? room > PTRDIFF_MAX : room != 0) || !count) return MOUKTELF_MISFIT;
+        if (!seats) seats = (struct tds_seat *)(void *)&none;
+        if (!kept) kept = (const uint8_t *)(void *)&none;
+        if (!out) out = (uint8_t *)(void *)&none;
+    }
     return core_tds_service_finish(ONE_BYTES(service), ONE_BYTES(seats), most, lease, ONE_BYTES(kept), waiting, ONE_BYTES(out), room, ONE_BYTES(count));
 }
 
 uint8_t tds_service_cancel(const struct tds_service *service, struct tds_seat *seats, size_t most, uint64_t lease, uint8_t *out, size_t room, size_t *count) {
-    uint64_t none = 0;
-    if (!service || (seats ? most > PTRDIFF_MAX / sizeof(struct tds_seat) : most != 0) || (out ? room > PTRDIFF_MAX : room != 0) || !count) return MOUKTELF_MISFIT;
-    if (!seats) seats = (struct tds_seat *)(void *)&none;
-    if (!out) out = (uint8_t *)(void *)&none;
+    uint64_t none;
+    if (!service || !seats || !out || !count || (most | room) > PTRDIFF_MAX / 1024) {
+        none = 0;
+        if (!service || (seats ? most > PTRDIFF_MAX / sizeof(struct tds_seat) : most != 0) || (out ? room > PTRDIFF_MAX : room != 0) || !count) return MOUKTELF_MISFIT;
+        if (!seats) seats = (struct tds_seat *)(void *)&none;
+        if (!out) out = (uint8_t *)(void *)&none;
+    }
     return core_tds_service_cancel(ONE_BYTES(service), ONE_BYTES(seats), most, lease, ONE_BYTES(out), room, ONE_BYTES(count));
 }
 
 uint8_t tds_service_came(const struct tds_service *service, struct tds_seat *seats, size_t most, uint64_t number, const struct tds_wire_token *token, struct tds_whose *whose) {
-    uint64_t none = 0;
-    if (!service || (seats ? most > PTRDIFF_MAX / sizeof(struct tds_seat) : most != 0) || !token || !whose) return MOUKTELF_MISFIT;
-    if (!seats) seats = (struct tds_seat *)(void *)&none;
+    uint64_t none;
+    if (!service || !seats || !token || !whose || most > PTRDIFF_MAX / 1024) {
+        none = 0;
+        if (!service || (seats ? most > PTRDIFF_MAX / sizeof(struct tds_seat) : most != 0) || !token || !whose) return MOUKTELF_MISFIT;
+        if (!seats) seats = (struct tds_seat *)(void *)&none;
+    }
     return core_tds_service_came(ONE_BYTES(service), ONE_BYTES(seats), most, number, ONE_BYTES(token), ONE_BYTES(whose));
 }
 
 uint8_t tds_service_heard_change(const struct tds_service *service, struct tds_seat *seats, size_t most, uint64_t number, uint8_t change, uint64_t descriptor, struct tds_whose *whose) {
-    uint64_t none = 0;
-    if (!service || (seats ? most > PTRDIFF_MAX / sizeof(struct tds_seat) : most != 0) || !whose) return MOUKTELF_MISFIT;
-    if (!seats) seats = (struct tds_seat *)(void *)&none;
+    uint64_t none;
+    if (!service || !seats || !whose || most > PTRDIFF_MAX / 1024) {
+        none = 0;
+        if (!service || (seats ? most > PTRDIFF_MAX / sizeof(struct tds_seat) : most != 0) || !whose) return MOUKTELF_MISFIT;
+        if (!seats) seats = (struct tds_seat *)(void *)&none;
+    }
     return core_tds_service_heard_change(ONE_BYTES(service), ONE_BYTES(seats), most, number, change, descriptor, ONE_BYTES(whose));
 }
 
 uint8_t tds_service_heard_done(const struct tds_service *service, struct tds_seat *seats, size_t most, uint64_t number, uint8_t kind, uint16_t status, struct tds_whose *whose) {
-    uint64_t none = 0;
-    if (!service || (seats ? most > PTRDIFF_MAX / sizeof(struct tds_seat) : most != 0) || !whose) return MOUKTELF_MISFIT;
-    if (!seats) seats = (struct tds_seat *)(void *)&none;
+    uint64_t none;
+    if (!service || !seats || !whose || most > PTRDIFF_MAX / 1024) {
+        none = 0;
+        if (!service || (seats ? most > PTRDIFF_MAX / sizeof(struct tds_seat) : most != 0) || !whose) return MOUKTELF_MISFIT;
+        if (!seats) seats = (struct tds_seat *)(void *)&none;
+    }
     return core_tds_service_heard_done(ONE_BYTES(service), ONE_BYTES(seats), most, number, kind, status, ONE_BYTES(whose));
 }
 
 uint8_t tds_service_heard_other(const struct tds_service *service, struct tds_seat *seats, size_t most, uint64_t number, struct tds_whose *whose) {
-    uint64_t none = 0;
-    if (!service || (seats ? most > PTRDIFF_MAX / sizeof(struct tds_seat) : most != 0) || !whose) return MOUKTELF_MISFIT;
-    if (!seats) seats = (struct tds_seat *)(void *)&none;
+    uint64_t none;
+    if (!service || !seats || !whose || most > PTRDIFF_MAX / 1024) {
+        none = 0;
+        if (!service || (seats ? most > PTRDIFF_MAX / sizeof(struct tds_seat) : most != 0) || !whose) return MOUKTELF_MISFIT;
+        if (!seats) seats = (struct tds_seat *)(void *)&none;
+    }
     return core_tds_service_heard_other(ONE_BYTES(service), ONE_BYTES(seats), most, number, ONE_BYTES(whose));
 }
 
 uint8_t tds_service_message_ended(const struct tds_service *service, struct tds_seat *seats, size_t most, uint64_t number, uint8_t cut, struct tds_whose *whose) {
-    uint64_t none = 0;
-    if (!service || (seats ? most > PTRDIFF_MAX / sizeof(struct tds_seat) : most != 0) || !whose) return MOUKTELF_MISFIT;
-    if (!seats) seats = (struct tds_seat *)(void *)&none;
+    uint64_t none;
+    if (!service || !seats || !whose || most > PTRDIFF_MAX / 1024) {
+        none = 0;
+        if (!service || (seats ? most > PTRDIFF_MAX / sizeof(struct tds_seat) : most != 0) || !whose) return MOUKTELF_MISFIT;
+        if (!seats) seats = (struct tds_seat *)(void *)&none;
+    }
     return core_tds_service_message_ended(ONE_BYTES(service), ONE_BYTES(seats), most, number, cut, ONE_BYTES(whose));
 }
 
 uint8_t tds_service_hear(const struct tds_service *service, struct tds_seat *seats, size_t most, uint64_t number, struct tds_wire *walk, struct tds_wire_memory *memory, const uint8_t *bytes, size_t length, uint8_t ends, size_t *taken, struct tds_wire_token *tokens, size_t room, size_t *count, struct tds_whose *whose) {
-    uint64_t none = 0;
-    if (!service || (seats ? most > PTRDIFF_MAX / sizeof(struct tds_seat) : most != 0) || !walk || !memory || (bytes ? length > PTRDIFF_MAX : length != 0) || !taken || (tokens ? room > PTRDIFF_MAX / sizeof(struct tds_wire_token) : room != 0) || !count || !whose) return MOUKTELF_MISFIT;
-    if (!seats) seats = (struct tds_seat *)(void *)&none;
-    if (!bytes) bytes = (const uint8_t *)(void *)&none;
-    if (!tokens) tokens = (struct tds_wire_token *)(void *)&none;
+    uint64_t none;
+    if (!service || !seats || !walk || !memory || !bytes || !taken || !tokens || !count || !whose || (most | length | room) > PTRDIFF_MAX / 1024) {
+        none = 0;
+        if (!service || (seats ? most > PTRDIFF_MAX / sizeof(struct tds_seat) : most != 0) || !walk || !memory || (bytes ? length > PTRDIFF_MAX : length != 0) || !taken || (tokens ? room > PTRDIFF_MAX / sizeof(struct tds_wire_token) : room != 0) || !count || !whose) return MOUKTELF_MISFIT;
+        if (!seats) seats = (struct tds_seat *)(void *)&none;
+        if (!bytes) bytes = (const uint8_t *)(void *)&none;
+        if (!tokens) tokens = (struct tds_wire_token *)(void *)&none;
+    }
     return core_tds_service_hear(ONE_BYTES(service), ONE_BYTES(seats), most, number, ONE_BYTES(walk), ONE_BYTES(memory), ONE_BYTES(bytes), length, ends, ONE_BYTES(taken), ONE_BYTES(tokens), room, ONE_BYTES(count), ONE_BYTES(whose));
 }
 
 uint8_t tds_service_give_back(struct tds_service *service, struct tds_seat *seats, size_t most, uint64_t lease, uint8_t *out, size_t room, size_t *count, uint64_t *number) {
-    uint64_t none = 0;
-    if (!service || (seats ? most > PTRDIFF_MAX / sizeof(struct tds_seat) : most != 0) || (out ? room > PTRDIFF_MAX : room != 0) || !count || !number) return MOUKTELF_MISFIT;
-    if (!seats) seats = (struct tds_seat *)(void *)&none;
-    if (!out) out = (uint8_t *)(void *)&none;
+    uint64_t none;
+    if (!service || !seats || !out || !count || !number || (most | room) > PTRDIFF_MAX / 1024) {
+        none = 0;
+        if (!service || (seats ? most > PTRDIFF_MAX / sizeof(struct tds_seat) : most != 0) || (out ? room > PTRDIFF_MAX : room != 0) || !count || !number) return MOUKTELF_MISFIT;
+        if (!seats) seats = (struct tds_seat *)(void *)&none;
+        if (!out) out = (uint8_t *)(void *)&none;
+    }
     return core_tds_service_give_back(ONE_BYTES(service), ONE_BYTES(seats), most, lease, ONE_BYTES(out), room, ONE_BYTES(count), ONE_BYTES(number));
 }
 
 uint8_t tds_service_drained(struct tds_service *service, struct tds_seat *seats, size_t most, uint64_t number) {
-    uint64_t none = 0;
-    if (!service || (seats ? most > PTRDIFF_MAX / sizeof(struct tds_seat) : most != 0)) return MOUKTELF_MISFIT;
-    if (!seats) seats = (struct tds_seat *)(void *)&none;
+    uint64_t none;
+    if (!service || !seats || most > PTRDIFF_MAX / 1024) {
+        none = 0;
+        if (!service || (seats ? most > PTRDIFF_MAX / sizeof(struct tds_seat) : most != 0)) return MOUKTELF_MISFIT;
+        if (!seats) seats = (struct tds_seat *)(void *)&none;
+    }
     return core_tds_service_drained(ONE_BYTES(service), ONE_BYTES(seats), most, number);
 }
 
 uint8_t tds_service_lost(struct tds_service *service, struct tds_seat *seats, size_t most, uint64_t number) {
-    uint64_t none = 0;
-    if (!service || (seats ? most > PTRDIFF_MAX / sizeof(struct tds_seat) : most != 0)) return MOUKTELF_MISFIT;
-    if (!seats) seats = (struct tds_seat *)(void *)&none;
+    uint64_t none;
+    if (!service || !seats || most > PTRDIFF_MAX / 1024) {
+        none = 0;
+        if (!service || (seats ? most > PTRDIFF_MAX / sizeof(struct tds_seat) : most != 0)) return MOUKTELF_MISFIT;
+        if (!seats) seats = (struct tds_seat *)(void *)&none;
+    }
     return core_tds_service_lost(ONE_BYTES(service), ONE_BYTES(seats), most, number);
 }
 
 uint8_t tds_service_keep(struct tds_service *service, struct tds_seat *seats, size_t most, uint64_t lease, uint64_t *ticket) {
-    uint64_t none = 0;
-    if (!service || (seats ? most > PTRDIFF_MAX / sizeof(struct tds_seat) : most != 0) || !ticket) return MOUKTELF_MISFIT;
-    if (!seats) seats = (struct tds_seat *)(void *)&none;
+    uint64_t none;
+    if (!service || !seats || !ticket || most > PTRDIFF_MAX / 1024) {
+        none = 0;
+        if (!service || (seats ? most > PTRDIFF_MAX / sizeof(struct tds_seat) : most != 0) || !ticket) return MOUKTELF_MISFIT;
+        if (!seats) seats = (struct tds_seat *)(void *)&none;
+    }
     return core_tds_service_keep(ONE_BYTES(service), ONE_BYTES(seats), most, lease, ONE_BYTES(ticket));
 }
 
 uint8_t tds_service_resume(struct tds_service *service, struct tds_seat *seats, size_t most, uint64_t ticket, struct tds_lent *lent) {
-    uint64_t none = 0;
-    if (!service || (seats ? most > PTRDIFF_MAX / sizeof(struct tds_seat) : most != 0) || !lent) return MOUKTELF_MISFIT;
-    if (!seats) seats = (struct tds_seat *)(void *)&none;
+    uint64_t none;
+    if (!service || !seats || !lent || most > PTRDIFF_MAX / 1024) {
+        none = 0;
+        if (!service || (seats ? most > PTRDIFF_MAX / sizeof(struct tds_seat) : most != 0) || !lent) return MOUKTELF_MISFIT;
+        if (!seats) seats = (struct tds_seat *)(void *)&none;
+    }
     return core_tds_service_resume(ONE_BYTES(service), ONE_BYTES(seats), most, ticket, ONE_BYTES(lent));
 }
 
 uint8_t tds_service_abandon(struct tds_service *service, struct tds_seat *seats, size_t most, uint64_t ticket, uint64_t *number) {
-    uint64_t none = 0;
-    if (!service || (seats ? most > PTRDIFF_MAX / sizeof(struct tds_seat) : most != 0) || !number) return MOUKTELF_MISFIT;
-    if (!seats) seats = (struct tds_seat *)(void *)&none;
+    uint64_t none;
+    if (!service || !seats || !number || most > PTRDIFF_MAX / 1024) {
+        none = 0;
+        if (!service || (seats ? most > PTRDIFF_MAX / sizeof(struct tds_seat) : most != 0) || !number) return MOUKTELF_MISFIT;
+        if (!seats) seats = (struct tds_seat *)(void *)&none;
+    }
     return core_tds_service_abandon(ONE_BYTES(service), ONE_BYTES(seats), most, ticket, ONE_BYTES(number));
 }
 
 uint8_t tds_service_clean(struct tds_service *service, struct tds_seat *seats, size_t most, uint64_t number, struct tds_lent *lent) {
-    uint64_t none = 0;
-    if (!service || (seats ? most > PTRDIFF_MAX / sizeof(struct tds_seat) : most != 0) || !lent) return MOUKTELF_MISFIT;
-    if (!seats) seats = (struct tds_seat *)(void *)&none;
+    uint64_t none;
+    if (!service || !seats || !lent || most > PTRDIFF_MAX / 1024) {
+        none = 0;
+        if (!service || (seats ? most > PTRDIFF_MAX / sizeof(struct tds_seat) : most != 0) || !lent) return MOUKTELF_MISFIT;
+        if (!seats) seats = (struct tds_seat *)(void *)&none;
+    }
     return core_tds_service_clean(ONE_BYTES(service), ONE_BYTES(seats), most, number, ONE_BYTES(lent));
 }
 
 uint8_t tds_service_cleaned(struct tds_service *service, struct tds_seat *seats, size_t most, uint64_t lease, uint64_t *number) {
-    uint64_t none = 0;
-    if (!service || (seats ? most > PTRDIFF_MAX / sizeof(struct tds_seat) : most != 0) || !number) return MOUKTELF_MISFIT;
-    if (!seats) seats = (struct tds_seat *)(void *)&none;
+    uint64_t none;
+    if (!service || !seats || !number || most > PTRDIFF_MAX / 1024) {
+        none = 0;
+        if (!service || (seats ? most > PTRDIFF_MAX / sizeof(struct tds_seat) : most != 0) || !number) return MOUKTELF_MISFIT;
+        if (!seats) seats = (struct tds_seat *)(void *)&none;
+    }
     return core_tds_service_cleaned(ONE_BYTES(service), ONE_BYTES(seats), most, lease, ONE_BYTES(number));
 }
 
@@ -12128,9 +12191,12 @@ static inline void one_from_tds_whose(struct tds_whose *v, const unsigned char *
 }
 
 uint8_t tds_service_lease(struct tds_service *service, struct tds_seat *seats, size_t most, struct tds_lent *lent) {
-    uint64_t none = 0;
-    if (!service || (seats ? most > PTRDIFF_MAX / sizeof(struct tds_seat) : most != 0) || !lent) return MOUKTELF_MISFIT;
-    if (!seats) seats = (struct tds_seat *)(void *)&none;
+    uint64_t none;
+    if (!service || !seats || !lent || most > PTRDIFF_MAX / 1024) {
+        none = 0;
+        if (!service || (seats ? most > PTRDIFF_MAX / sizeof(struct tds_seat) : most != 0) || !lent) return MOUKTELF_MISFIT;
+        if (!seats) seats = (struct tds_seat *)(void *)&none;
+    }
     _Alignas(16) unsigned char of_service[32] = {0};
     one_to_tds_service(of_service, service);
     size_t of_most = service->count < most ? service->count + 1 : most;
@@ -12148,9 +12214,12 @@ uint8_t tds_service_lease(struct tds_service *service, struct tds_seat *seats, s
 }
 
 uint8_t tds_service_find(const struct tds_service *service, const struct tds_seat *seats, size_t most, uint64_t lease, size_t *index) {
-    uint64_t none = 0;
-    if (!service || (seats ? most > PTRDIFF_MAX / sizeof(struct tds_seat) : most != 0) || !index) return MOUKTELF_MISFIT;
-    if (!seats) seats = (const struct tds_seat *)(void *)&none;
+    uint64_t none;
+    if (!service || !seats || !index || most > PTRDIFF_MAX / 1024) {
+        none = 0;
+        if (!service || (seats ? most > PTRDIFF_MAX / sizeof(struct tds_seat) : most != 0) || !index) return MOUKTELF_MISFIT;
+        if (!seats) seats = (const struct tds_seat *)(void *)&none;
+    }
     _Alignas(16) unsigned char of_service[32] = {0};
     one_to_tds_service(of_service, service);
     size_t of_most = service->count < most ? service->count + 1 : most;
@@ -12166,9 +12235,12 @@ uint8_t tds_service_find(const struct tds_service *service, const struct tds_sea
 }
 
 uint8_t tds_service_at(const struct tds_service *service, const struct tds_seat *seats, size_t most, uint64_t number, size_t *index) {
-    uint64_t none = 0;
-    if (!service || (seats ? most > PTRDIFF_MAX / sizeof(struct tds_seat) : most != 0) || !index) return MOUKTELF_MISFIT;
-    if (!seats) seats = (const struct tds_seat *)(void *)&none;
+    uint64_t none;
+    if (!service || !seats || !index || most > PTRDIFF_MAX / 1024) {
+        none = 0;
+        if (!service || (seats ? most > PTRDIFF_MAX / sizeof(struct tds_seat) : most != 0) || !index) return MOUKTELF_MISFIT;
+        if (!seats) seats = (const struct tds_seat *)(void *)&none;
+    }
     _Alignas(16) unsigned char of_service[32] = {0};
     one_to_tds_service(of_service, service);
     size_t of_most = service->count < most ? service->count + 1 : most;
@@ -12184,10 +12256,13 @@ uint8_t tds_service_at(const struct tds_service *service, const struct tds_seat 
 }
 
 uint8_t tds_service_ask(const struct tds_service *service, struct tds_seat *seats, size_t most, uint64_t lease, uint8_t kind, uint8_t *kept, size_t room, size_t *count, struct tds_asked *asked) {
-    uint64_t none = 0;
-    if (!service || (seats ? most > PTRDIFF_MAX / sizeof(struct tds_seat) : most != 0) || (kept ? room > PTRDIFF_MAX : room != 0) || !count || !asked) return MOUKTELF_MISFIT;
-    if (!seats) seats = (struct tds_seat *)(void *)&none;
-    if (!kept) kept = (uint8_t *)(void *)&none;
+    uint64_t none;
+    if (!service || !seats || !kept || !count || !asked || (most | room) > PTRDIFF_MAX / 1024) {
+        none = 0;
+        if (!service || (seats ? most > PTRDIFF_MAX / sizeof(struct tds_seat) : most != 0) || (kept ? room > PTRDIFF_MAX : room != 0) || !count || !asked) return MOUKTELF_MISFIT;
+        if (!seats) seats = (struct tds_seat *)(void *)&none;
+        if (!kept) kept = (uint8_t *)(void *)&none;
+    }
     _Alignas(16) unsigned char of_service[32] = {0};
     one_to_tds_service(of_service, service);
     size_t of_most = service->count < most ? service->count + 1 : most;
@@ -12207,12 +12282,15 @@ uint8_t tds_service_ask(const struct tds_service *service, struct tds_seat *seat
 }
 
 uint8_t tds_service_put(const struct tds_service *service, struct tds_seat *seats, size_t most, uint64_t lease, uint8_t *kept, size_t kept_room, size_t *waiting, const uint8_t *bytes, size_t length, size_t *taken, uint8_t *out, size_t room, size_t *count) {
-    uint64_t none = 0;
-    if (!service || (seats ? most > PTRDIFF_MAX / sizeof(struct tds_seat) : most != 0) || (kept ? kept_room > PTRDIFF_MAX : kept_room != 0) || !waiting || (bytes ? length > PTRDIFF_MAX : length != 0) || !taken || (out ? room > PTRDIFF_MAX : room != 0) || !count) return MOUKTELF_MISFIT;
-    if (!seats) seats = (struct tds_seat *)(void *)&none;
-    if (!kept) kept = (uint8_t *)(void *)&none;
-    if (!bytes) bytes = (const uint8_t *)(void *)&none;
-    if (!out) out = (uint8_t *)(void *)&none;
+    uint64_t none;
+    if (!service || !seats || !kept || !waiting || !bytes || !taken || !out || !count || (most | kept_room | length | room) > PTRDIFF_MAX / 1024) {
+        none = 0;
+        if (!service || (seats ? most > PTRDIFF_MAX / sizeof(struct tds_seat) : most != 0) || (kept ? kept_room > PTRDIFF_MAX : kept_room != 0) || !waiting || (bytes ? length > PTRDIFF_MAX : length != 0) || !taken || (out ? room > PTRDIFF_MAX : room != 0) || !count) return MOUKTELF_MISFIT;
+        if (!seats) seats = (struct tds_seat *)(void *)&none;
+        if (!kept) kept = (uint8_t *)(void *)&none;
+        if (!bytes) bytes = (const uint8_t *)(void *)&none;
+        if (!out) out = (uint8_t *)(void *)&none;
+    }
     _Alignas(16) unsigned char of_service[32] = {0};
     one_to_tds_service(of_service, service);
     size_t of_most = service->count < most ? service->count + 1 : most;
@@ -12235,11 +12313,14 @@ uint8_t tds_service_put(const struct tds_service *service, struct tds_seat *seat
 }
 
 uint8_t tds_service_finish(const struct tds_service *service, struct tds_seat *seats, size_t most, uint64_t lease, const uint8_t *kept, size_t waiting, uint8_t *out, size_t room, size_t *count) {
-    uint64_t none = 0;
-    if (!service || (seats ? most > PTRDIFF_MAX / sizeof(struct tds_seat) : most != 0) || (kept ? waiting > PTRDIFF_MAX : waiting != 0) || (out ? room > PTRDIFF_MAX : room != 0) || !count) return MOUKTELF_MISFIT;
-    if (!seats) seats = (struct tds_seat *)(void *)&none;
-    if (!kept) kept = (const uint8_t *)(void *)&none;
-    if (!out) out = (uint8_t *)(void *)&none;
+    uint64_t none;
+    if (!service || !seats || !kept || !out || !count || (most | waiting | room) > PTRDIFF_MAX / 1024) {
+        none = 0;
+        if (!service || (seats ? most > PTRDIFF_MAX / sizeof(struct tds_seat) : most != 0) || (kept ? waiting > PTRDIFF_MAX : waiting != 0) || (out ? room > PTRDIFF_MAX : room != 0) || !count) return MOUKTELF_MISFIT;
+        if (!seats) seats = (struct tds_seat *)(void *)&none;
+        if (!kept) kept = (const uint8_t *)(void *)&none;
+        if (!out) out = (uint8_t *)(void *)&none;
+    }
     _Alignas(16) unsigned char of_service[32] = {0};
     one_to_tds_service(of_service, service);
     size_t of_most = service->count < most ? service->count + 1 : most;
@@ -12256,10 +12337,13 @@ uint8_t tds_service_finish(const struct tds_service *service, struct tds_seat *s
 }
 
 uint8_t tds_service_cancel(const struct tds_service *service, struct tds_seat *seats, size_t most, uint64_t lease, uint8_t *out, size_t room, size_t *count) {
-    uint64_t none = 0;
-    if (!service || (seats ? most > PTRDIFF_MAX / sizeof(struct tds_seat) : most != 0) || (out ? room > PTRDIFF_MAX : room != 0) || !count) return MOUKTELF_MISFIT;
-    if (!seats) seats = (struct tds_seat *)(void *)&none;
-    if (!out) out = (uint8_t *)(void *)&none;
+    uint64_t none;
+    if (!service || !seats || !out || !count || (most | room) > PTRDIFF_MAX / 1024) {
+        none = 0;
+        if (!service || (seats ? most > PTRDIFF_MAX / sizeof(struct tds_seat) : most != 0) || (out ? room > PTRDIFF_MAX : room != 0) || !count) return MOUKTELF_MISFIT;
+        if (!seats) seats = (struct tds_seat *)(void *)&none;
+        if (!out) out = (uint8_t *)(void *)&none;
+    }
     _Alignas(16) unsigned char of_service[32] = {0};
     one_to_tds_service(of_service, service);
     size_t of_most = service->count < most ? service->count + 1 : most;
@@ -12276,9 +12360,12 @@ uint8_t tds_service_cancel(const struct tds_service *service, struct tds_seat *s
 }
 
 uint8_t tds_service_came(const struct tds_service *service, struct tds_seat *seats, size_t most, uint64_t number, const struct tds_wire_token *token, struct tds_whose *whose) {
-    uint64_t none = 0;
-    if (!service || (seats ? most > PTRDIFF_MAX / sizeof(struct tds_seat) : most != 0) || !token || !whose) return MOUKTELF_MISFIT;
-    if (!seats) seats = (struct tds_seat *)(void *)&none;
+    uint64_t none;
+    if (!service || !seats || !token || !whose || most > PTRDIFF_MAX / 1024) {
+        none = 0;
+        if (!service || (seats ? most > PTRDIFF_MAX / sizeof(struct tds_seat) : most != 0) || !token || !whose) return MOUKTELF_MISFIT;
+        if (!seats) seats = (struct tds_seat *)(void *)&none;
+    }
     _Alignas(16) unsigned char of_service[32] = {0};
     one_to_tds_service(of_service, service);
     size_t of_most = service->count < most ? service->count + 1 : most;
@@ -12297,9 +12384,12 @@ uint8_t tds_service_came(const struct tds_service *service, struct tds_seat *sea
 }
 
 uint8_t tds_service_heard_change(const struct tds_service *service, struct tds_seat *seats, size_t most, uint64_t number, uint8_t change, uint64_t descriptor, struct tds_whose *whose) {
-    uint64_t none = 0;
-    if (!service || (seats ? most > PTRDIFF_MAX / sizeof(struct tds_seat) : most != 0) || !whose) return MOUKTELF_MISFIT;
-    if (!seats) seats = (struct tds_seat *)(void *)&none;
+    uint64_t none;
+    if (!service || !seats || !whose || most > PTRDIFF_MAX / 1024) {
+        none = 0;
+        if (!service || (seats ? most > PTRDIFF_MAX / sizeof(struct tds_seat) : most != 0) || !whose) return MOUKTELF_MISFIT;
+        if (!seats) seats = (struct tds_seat *)(void *)&none;
+    }
     _Alignas(16) unsigned char of_service[32] = {0};
     one_to_tds_service(of_service, service);
     size_t of_most = service->count < most ? service->count + 1 : most;
@@ -12316,9 +12406,12 @@ uint8_t tds_service_heard_change(const struct tds_service *service, struct tds_s
 }
 
 uint8_t tds_service_heard_done(const struct tds_service *service, struct tds_seat *seats, size_t most, uint64_t number, uint8_t kind, uint16_t status, struct tds_whose *whose) {
-    uint64_t none = 0;
-    if (!service || (seats ? most > PTRDIFF_MAX / sizeof(struct tds_seat) : most != 0) || !whose) return MOUKTELF_MISFIT;
-    if (!seats) seats = (struct tds_seat *)(void *)&none;
+    uint64_t none;
+    if (!service || !seats || !whose || most > PTRDIFF_MAX / 1024) {
+        none = 0;
+        if (!service || (seats ? most > PTRDIFF_MAX / sizeof(struct tds_seat) : most != 0) || !whose) return MOUKTELF_MISFIT;
+        if (!seats) seats = (struct tds_seat *)(void *)&none;
+    }
     _Alignas(16) unsigned char of_service[32] = {0};
     one_to_tds_service(of_service, service);
     size_t of_most = service->count < most ? service->count + 1 : most;
@@ -12335,9 +12428,12 @@ uint8_t tds_service_heard_done(const struct tds_service *service, struct tds_sea
 }
 
 uint8_t tds_service_heard_other(const struct tds_service *service, struct tds_seat *seats, size_t most, uint64_t number, struct tds_whose *whose) {
-    uint64_t none = 0;
-    if (!service || (seats ? most > PTRDIFF_MAX / sizeof(struct tds_seat) : most != 0) || !whose) return MOUKTELF_MISFIT;
-    if (!seats) seats = (struct tds_seat *)(void *)&none;
+    uint64_t none;
+    if (!service || !seats || !whose || most > PTRDIFF_MAX / 1024) {
+        none = 0;
+        if (!service || (seats ? most > PTRDIFF_MAX / sizeof(struct tds_seat) : most != 0) || !whose) return MOUKTELF_MISFIT;
+        if (!seats) seats = (struct tds_seat *)(void *)&none;
+    }
     _Alignas(16) unsigned char of_service[32] = {0};
     one_to_tds_service(of_service, service);
     size_t of_most = service->count < most ? service->count + 1 : most;
@@ -12354,9 +12450,12 @@ uint8_t tds_service_heard_other(const struct tds_service *service, struct tds_se
 }
 
 uint8_t tds_service_message_ended(const struct tds_service *service, struct tds_seat *seats, size_t most, uint64_t number, uint8_t cut, struct tds_whose *whose) {
-    uint64_t none = 0;
-    if (!service || (seats ? most > PTRDIFF_MAX / sizeof(struct tds_seat) : most != 0) || !whose) return MOUKTELF_MISFIT;
-    if (!seats) seats = (struct tds_seat *)(void *)&none;
+    uint64_t none;
+    if (!service || !seats || !whose || most > PTRDIFF_MAX / 1024) {
+        none = 0;
+        if (!service || (seats ? most > PTRDIFF_MAX / sizeof(struct tds_seat) : most != 0) || !whose) return MOUKTELF_MISFIT;
+        if (!seats) seats = (struct tds_seat *)(void *)&none;
+    }
     _Alignas(16) unsigned char of_service[32] = {0};
     one_to_tds_service(of_service, service);
     size_t of_most = service->count < most ? service->count + 1 : most;
@@ -12373,11 +12472,14 @@ uint8_t tds_service_message_ended(const struct tds_service *service, struct tds_
 }
 
 uint8_t tds_service_hear(const struct tds_service *service, struct tds_seat *seats, size_t most, uint64_t number, struct tds_wire *walk, struct tds_wire_memory *memory, const uint8_t *bytes, size_t length, uint8_t ends, size_t *taken, struct tds_wire_token *tokens, size_t room, size_t *count, struct tds_whose *whose) {
-    uint64_t none = 0;
-    if (!service || (seats ? most > PTRDIFF_MAX / sizeof(struct tds_seat) : most != 0) || !walk || !memory || (bytes ? length > PTRDIFF_MAX : length != 0) || !taken || (tokens ? room > PTRDIFF_MAX / sizeof(struct tds_wire_token) : room != 0) || !count || !whose) return MOUKTELF_MISFIT;
-    if (!seats) seats = (struct tds_seat *)(void *)&none;
-    if (!bytes) bytes = (const uint8_t *)(void *)&none;
-    if (!tokens) tokens = (struct tds_wire_token *)(void *)&none;
+    uint64_t none;
+    if (!service || !seats || !walk || !memory || !bytes || !taken || !tokens || !count || !whose || (most | length | room) > PTRDIFF_MAX / 1024) {
+        none = 0;
+        if (!service || (seats ? most > PTRDIFF_MAX / sizeof(struct tds_seat) : most != 0) || !walk || !memory || (bytes ? length > PTRDIFF_MAX : length != 0) || !taken || (tokens ? room > PTRDIFF_MAX / sizeof(struct tds_wire_token) : room != 0) || !count || !whose) return MOUKTELF_MISFIT;
+        if (!seats) seats = (struct tds_seat *)(void *)&none;
+        if (!bytes) bytes = (const uint8_t *)(void *)&none;
+        if (!tokens) tokens = (struct tds_wire_token *)(void *)&none;
+    }
     size_t of_most = service->count < most ? service->count + 1 : most;
     unsigned char *of_seats = calloc(of_most + 1, 72);
     if (!of_seats) return TDS_NO_MEMORY;
@@ -12407,10 +12509,13 @@ uint8_t tds_service_hear(const struct tds_service *service, struct tds_seat *sea
 }
 
 uint8_t tds_service_give_back(struct tds_service *service, struct tds_seat *seats, size_t most, uint64_t lease, uint8_t *out, size_t room, size_t *count, uint64_t *number) {
-    uint64_t none = 0;
-    if (!service || (seats ? most > PTRDIFF_MAX / sizeof(struct tds_seat) : most != 0) || (out ? room > PTRDIFF_MAX : room != 0) || !count || !number) return MOUKTELF_MISFIT;
-    if (!seats) seats = (struct tds_seat *)(void *)&none;
-    if (!out) out = (uint8_t *)(void *)&none;
+    uint64_t none;
+    if (!service || !seats || !out || !count || !number || (most | room) > PTRDIFF_MAX / 1024) {
+        none = 0;
+        if (!service || (seats ? most > PTRDIFF_MAX / sizeof(struct tds_seat) : most != 0) || (out ? room > PTRDIFF_MAX : room != 0) || !count || !number) return MOUKTELF_MISFIT;
+        if (!seats) seats = (struct tds_seat *)(void *)&none;
+        if (!out) out = (uint8_t *)(void *)&none;
+    }
     _Alignas(16) unsigned char of_service[32] = {0};
     one_to_tds_service(of_service, service);
     size_t of_most = service->count < most ? service->count + 1 : most;
@@ -12431,9 +12536,12 @@ uint8_t tds_service_give_back(struct tds_service *service, struct tds_seat *seat
 }
 
 uint8_t tds_service_drained(struct tds_service *service, struct tds_seat *seats, size_t most, uint64_t number) {
-    uint64_t none = 0;
-    if (!service || (seats ? most > PTRDIFF_MAX / sizeof(struct tds_seat) : most != 0)) return MOUKTELF_MISFIT;
-    if (!seats) seats = (struct tds_seat *)(void *)&none;
+    uint64_t none;
+    if (!service || !seats || most > PTRDIFF_MAX / 1024) {
+        none = 0;
+        if (!service || (seats ? most > PTRDIFF_MAX / sizeof(struct tds_seat) : most != 0)) return MOUKTELF_MISFIT;
+        if (!seats) seats = (struct tds_seat *)(void *)&none;
+    }
     _Alignas(16) unsigned char of_service[32] = {0};
     one_to_tds_service(of_service, service);
     size_t of_most = service->count < most ? service->count + 1 : most;
@@ -12448,9 +12556,12 @@ uint8_t tds_service_drained(struct tds_service *service, struct tds_seat *seats,
 }
 
 uint8_t tds_service_lost(struct tds_service *service, struct tds_seat *seats, size_t most, uint64_t number) {
-    uint64_t none = 0;
-    if (!service || (seats ? most > PTRDIFF_MAX / sizeof(struct tds_seat) : most != 0)) return MOUKTELF_MISFIT;
-    if (!seats) seats = (struct tds_seat *)(void *)&none;
+    uint64_t none;
+    if (!service || !seats || most > PTRDIFF_MAX / 1024) {
+        none = 0;
+        if (!service || (seats ? most > PTRDIFF_MAX / sizeof(struct tds_seat) : most != 0)) return MOUKTELF_MISFIT;
+        if (!seats) seats = (struct tds_seat *)(void *)&none;
+    }
     _Alignas(16) unsigned char of_service[32] = {0};
     one_to_tds_service(of_service, service);
     size_t of_most = service->count < most ? service->count + 1 : most;
@@ -12465,9 +12576,12 @@ uint8_t tds_service_lost(struct tds_service *service, struct tds_seat *seats, si
 }
 
 uint8_t tds_service_keep(struct tds_service *service, struct tds_seat *seats, size_t most, uint64_t lease, uint64_t *ticket) {
-    uint64_t none = 0;
-    if (!service || (seats ? most > PTRDIFF_MAX / sizeof(struct tds_seat) : most != 0) || !ticket) return MOUKTELF_MISFIT;
-    if (!seats) seats = (struct tds_seat *)(void *)&none;
+    uint64_t none;
+    if (!service || !seats || !ticket || most > PTRDIFF_MAX / 1024) {
+        none = 0;
+        if (!service || (seats ? most > PTRDIFF_MAX / sizeof(struct tds_seat) : most != 0) || !ticket) return MOUKTELF_MISFIT;
+        if (!seats) seats = (struct tds_seat *)(void *)&none;
+    }
     _Alignas(16) unsigned char of_service[32] = {0};
     one_to_tds_service(of_service, service);
     size_t of_most = service->count < most ? service->count + 1 : most;
@@ -12485,9 +12599,12 @@ uint8_t tds_service_keep(struct tds_service *service, struct tds_seat *seats, si
 }
 
 uint8_t tds_service_resume(struct tds_service *service, struct tds_seat *seats, size_t most, uint64_t ticket, struct tds_lent *lent) {
-    uint64_t none = 0;
-    if (!service || (seats ? most > PTRDIFF_MAX / sizeof(struct tds_seat) : most != 0) || !lent) return MOUKTELF_MISFIT;
-    if (!seats) seats = (struct tds_seat *)(void *)&none;
+    uint64_t none;
+    if (!service || !seats || !lent || most > PTRDIFF_MAX / 1024) {
+        none = 0;
+        if (!service || (seats ? most > PTRDIFF_MAX / sizeof(struct tds_seat) : most != 0) || !lent) return MOUKTELF_MISFIT;
+        if (!seats) seats = (struct tds_seat *)(void *)&none;
+    }
     _Alignas(16) unsigned char of_service[32] = {0};
     one_to_tds_service(of_service, service);
     size_t of_most = service->count < most ? service->count + 1 : most;
@@ -12505,9 +12622,12 @@ uint8_t tds_service_resume(struct tds_service *service, struct tds_seat *seats, 
 }
 
 uint8_t tds_service_abandon(struct tds_service *service, struct tds_seat *seats, size_t most, uint64_t ticket, uint64_t *number) {
-    uint64_t none = 0;
-    if (!service || (seats ? most > PTRDIFF_MAX / sizeof(struct tds_seat) : most != 0) || !number) return MOUKTELF_MISFIT;
-    if (!seats) seats = (struct tds_seat *)(void *)&none;
+    uint64_t none;
+    if (!service || !seats || !number || most > PTRDIFF_MAX / 1024) {
+        none = 0;
+        if (!service || (seats ? most > PTRDIFF_MAX / sizeof(struct tds_seat) : most != 0) || !number) return MOUKTELF_MISFIT;
+        if (!seats) seats = (struct tds_seat *)(void *)&none;
+    }
     _Alignas(16) unsigned char of_service[32] = {0};
     one_to_tds_service(of_service, service);
     size_t of_most = service->count < most ? service->count + 1 : most;
@@ -12525,9 +12645,12 @@ uint8_t tds_service_abandon(struct tds_service *service, struct tds_seat *seats,
 }
 
 uint8_t tds_service_clean(struct tds_service *service, struct tds_seat *seats, size_t most, uint64_t number, struct tds_lent *lent) {
-    uint64_t none = 0;
-    if (!service || (seats ? most > PTRDIFF_MAX / sizeof(struct tds_seat) : most != 0) || !lent) return MOUKTELF_MISFIT;
-    if (!seats) seats = (struct tds_seat *)(void *)&none;
+    uint64_t none;
+    if (!service || !seats || !lent || most > PTRDIFF_MAX / 1024) {
+        none = 0;
+        if (!service || (seats ? most > PTRDIFF_MAX / sizeof(struct tds_seat) : most != 0) || !lent) return MOUKTELF_MISFIT;
+        if (!seats) seats = (struct tds_seat *)(void *)&none;
+    }
     _Alignas(16) unsigned char of_service[32] = {0};
     one_to_tds_service(of_service, service);
     size_t of_most = service->count < most ? service->count + 1 : most;
@@ -12545,9 +12668,12 @@ uint8_t tds_service_clean(struct tds_service *service, struct tds_seat *seats, s
 }
 
 uint8_t tds_service_cleaned(struct tds_service *service, struct tds_seat *seats, size_t most, uint64_t lease, uint64_t *number) {
-    uint64_t none = 0;
-    if (!service || (seats ? most > PTRDIFF_MAX / sizeof(struct tds_seat) : most != 0) || !number) return MOUKTELF_MISFIT;
-    if (!seats) seats = (struct tds_seat *)(void *)&none;
+    uint64_t none;
+    if (!service || !seats || !number || most > PTRDIFF_MAX / 1024) {
+        none = 0;
+        if (!service || (seats ? most > PTRDIFF_MAX / sizeof(struct tds_seat) : most != 0) || !number) return MOUKTELF_MISFIT;
+        if (!seats) seats = (struct tds_seat *)(void *)&none;
+    }
     _Alignas(16) unsigned char of_service[32] = {0};
     one_to_tds_service(of_service, service);
     size_t of_most = service->count < most ? service->count + 1 : most;

@@ -1,5 +1,6 @@
 """The DB-API module of packages/python where scripts put it into bad places: mouktelf_tds_scripted.py NAME=PORT.."""
 import sys
+import time
 
 from mouktelf import tds
 
@@ -9,7 +10,7 @@ HOW = dict(user="a", password="b", login_timeout=5, timeout=5)
 
 def connect(name, **more):
     print(name)
-    return tds.connect("127.0.0.1", port=int(PORTS[name]), **dict(HOW, autocommit=True, **more))
+    return tds.connect("127.0.0.1", port=int(PORTS[name]), **dict(HOW, **dict(dict(autocommit=True), **more)))
 
 
 def ask(cursor, text):
@@ -60,6 +61,20 @@ def request_times_out(name):
     ask(connection.cursor(), "commit")
 
 
+def commit_times_out(name):
+    """A commit is cancelled by its limit, and crosses the cancel: it is done, and what is asked next stands in no transaction."""
+    connection = connect(name, autocommit=False)
+    ask(connection.cursor(), "rows 1 1")
+    connection.timeout = 1
+    try:
+        connection.commit()
+    except tds.Error as error:
+        print("  commit() ->", type(error).__name__, error)
+    print("  in a transaction", connection.in_transaction)
+    connection.autocommit = True
+    ask(connection.cursor(), "rows 3 1")
+
+
 def hands_over(name):
     """The same in a pool of one connection: the next who is lent it commits nobody's work."""
     print(name, "in a pool")
@@ -81,6 +96,8 @@ def is_cut(name):
         for text in ("rows 1 9", "rows 3 1"):
             with pool.connection() as connection:
                 ask(connection.cursor(), text)
+            # what ended is seen to have ended
+            time.sleep(0.3)
 
 
 def in_pieces(name):
@@ -93,5 +110,7 @@ cancelled("crossed")
 times_out("begin_crossed")
 hands_over("begin_crossed")
 request_times_out("begin_request_crossed")
+if "commit_crossed" in PORTS:
+    commit_times_out("commit_crossed")
 is_cut("cut")
 in_pieces("split")

@@ -28,7 +28,7 @@ def ask(connection, text, patience=5):
             rows.append(value(statement))
         sets.append(rows)
         result = ODBC.SQLMoreResults(statement)
-    print(" ", text, "->", result, sets, told(OF_STATEMENT, statement) if result < 0 else "")
+    print(" ", text[:40], "->", result, sets, told(OF_STATEMENT, statement) if result < 0 else "")
     ODBC.SQLFreeHandle(ctypes.c_short(3), statement)
 
 
@@ -64,3 +64,12 @@ if "twice" in PORTS:
     twice = connect("twice")
     for text in ("say twice;rows 1 1", "rows 7 1", "rows 9 1"):
         ask(twice, text)
+if "early" in PORTS:
+    early = connect("early")
+    for text in ("say early" + "0" * 60000, "rows 7 1"):
+        ask(early, text)
+if "lent" in PORTS:
+    lender, asked = connect("lent"), b"say lender;rows 1 9"
+    ODBC.SQLExecDirect(handle(OF_STATEMENT, lender), asked, len(asked))
+    ODBC.SQLDisconnect(lender)
+    ask(connect("lent"), "say borrower")

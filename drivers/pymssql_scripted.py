@@ -22,9 +22,9 @@ def ask(connection, text):
                 sets.append([row[0] for row in cursor.fetchall()])
             if not cursor.nextset():
                 break
-        print(" ", text, "->", sets)
+        print(" ", text[:40], "->", sets)
     except Exception as error:  # whatever it shows
-        print(" ", text, "->", type(error).__name__)
+        print(" ", text[:40], "->", type(error).__name__)
 
 
 def asks(name, *texts, patience=5):
@@ -40,3 +40,10 @@ asks("cut", "rows 1 1", "rows 1 9", "rows 3 1")
 asks("split", "rows 1 3;say x;rows 5 1")
 if "twice" in PORTS:
     asks("twice", "say twice;rows 1 1", "rows 7 1", "rows 9 1")
+if "early" in PORTS:
+    asks("early", "say early" + "0" * 60000, "rows 7 1")
+if "lent" in PORTS:
+    lender = connect("lent")
+    lender.cursor().execute("say lender;rows 1 9")
+    lender.close()
+    asks("lent", "say borrower")

@@ -22,9 +22,9 @@ def ask(cursor, text):
                 sets.append([row[0] for row in cursor.fetchall()])
             if not cursor.nextset():
                 break
-        print(" ", text, "->", sets)
+        print(" ", text[:40], "->", sets)
     except Exception as error:  # whatever it shows
-        print(" ", text, "->", type(error).__name__, error)
+        print(" ", text[:40], "->", type(error).__name__, error)
 
 
 def cancelled(name):
@@ -54,6 +54,13 @@ def request_times_out(name):
     ask(connection.cursor(), "commit")
 
 
+def commit_times_out(name):
+    # its commit() has no limit, and is never cancelled
+    connection = connect(name, timeout=1)
+    for text in ("begin", "commit", "rows 3 1"):
+        ask(connection.cursor(), text)
+
+
 def is_cut(name):
     connection = connect(name)
     ask(connection.cursor(), "rows 1 1")
@@ -73,12 +80,33 @@ def answered_twice(name):
     ask(connection.cursor(), "rows 9 1")
 
 
+def answered_early(name):
+    connection = connect(name)
+    ask(connection.cursor(), "say early" + "0" * 60000)
+    ask(connection.cursor(), "rows 7 1")
+
+
+def lends(name):
+    """Its pool hands on a connection whose answer isn't read."""
+    lender = connect(name, pooling=True)
+    lender.cursor().execute("say lender;rows 1 9")
+    lender.close()
+    borrower = connect(name, pooling=True)
+    ask(borrower.cursor(), "say borrower")
+
+
 cancelled("held")
 cancelled("crossed")
 times_out("begin_crossed")
 if "begin_request_crossed" in PORTS:
     request_times_out("begin_request_crossed")
+if "commit_crossed" in PORTS:
+    commit_times_out("commit_crossed")
 is_cut("cut")
 in_pieces("split")
 if "twice" in PORTS:
     answered_twice("twice")
+if "early" in PORTS:
+    answered_early("early")
+if "lent" in PORTS:
+    lends("lent")

@@ -12,10 +12,17 @@ for word in "$@"; do
         cut) texts=('rows 1 1' 'rows 1 9' 'rows 3 1') ;;
         twice) texts=('say twice;rows 1 1' 'rows 7 1' 'rows 9 1') ;;
         split) texts=('rows 1 3;say x;rows 5 1') ;;
+        lent) texts=('say lender;rows 1 9') ;;
+        early) texts=("say early$(printf '%060000d' 0)" 'rows 7 1') ;;
         # it has no pool
         *) continue ;;
     esac
     echo "${word%%=*}"
-    (printf '%s\ngo\n' "${texts[@]}"; echo exit) |
-        FREETDSCONF=$conf TDSVER=7.4 timeout 30 tsql -H 127.0.0.1 -p "${word#*=}" -U a -P b -o q 2>&1
+    asks() {
+        (printf '%s\ngo\n' "$@"; echo exit) |
+            FREETDSCONF=$conf TDSVER=7.4 timeout 30 tsql -H 127.0.0.1 -p "${word#*=}" -U a -P b -o q 2>&1
+    }
+    asks "${texts[@]}"
+    # the next who comes
+    [ "${word%%=*}" != lent ] || asks 'say borrower'
 done

@@ -62,7 +62,7 @@ struct tds_judge_finding {
     uint64_t offset;   /* the byte of its direction, from 0 */
     uint64_t time;     /* of its piece */
     uint64_t value;    /* what goes with it, or 0 */
-    uint8_t number;    /* 1 to 43 */
+    uint8_t number;    /* 1 to 45 */
     uint8_t level;     /* a breach, a risk, a note */
     uint8_t direction; /* to the server, to the client */
 };

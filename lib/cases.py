@@ -4,6 +4,7 @@ import os
 import subprocess
 import sys
 import threading
+import traceback
 
 ROOT = os.path.dirname(os.path.dirname(os.path.abspath(__file__)))
 TESTS = f"{ROOT}/tests"
@@ -31,6 +32,14 @@ class Cases:
     def same(self, what, printed, wanted):
         """One case: what was printed is what is wanted."""
         self.check(what, printed == wanted, difference(printed, wanted))
+
+
+    def scene(self, part, *words):
+        """One scene: where it ends by an error, that is one wrong case, and those behind it run."""
+        try:
+            part(*words)
+        except Exception:  # Whatever it is: it is told.
+            self.check(f"{part.__name__} ends", False, traceback.format_exc())
 
 
 def difference(printed, wanted):
@@ -73,10 +82,7 @@ def run_all(script, programs, run):
             print(f"{script}: {program} isn't built", file=sys.stderr)
             return 2
         cases = Cases()
-        try:
-            run(program, cases)
-        except (OSError, subprocess.SubprocessError) as error:
-            cases.check(f"{script} ends", False, repr(error))
+        cases.scene(run, program, cases)
         wanted = least(script)
         few = f", and at least {wanted} are wanted" if cases.count < wanted else ""
         print(f"{script}: {os.path.relpath(program, ROOT)}: {cases.count} cases, {cases.wrong} wrong{few}",

@@ -7,7 +7,7 @@ import asyncio
 import random
 import struct
 
-from peers import ATTENTION, batch, connect, login, message
+from peers import ATTENTION, PATIENCE, batch, connect, login, message
 
 SECONDS = 5
 APPLICATIONS = 12
@@ -84,7 +84,7 @@ class Random:
     async def message(self, reader):
         data = b""
         while True:
-            head = await asyncio.wait_for(reader.readexactly(8), 30)
+            head = await asyncio.wait_for(reader.readexactly(8), PATIENCE)
             data += await reader.readexactly(struct.unpack_from(">H", head, 2)[0] - 8)
             if head[1] & 1:
                 return data

@@ -17,7 +17,7 @@ HERE = os.path.dirname(os.path.realpath(__file__))
 MOST_BYTES = 32 * 1024 * 1024
 MOST_LOOKED_AT = 1024 * 1024
 
-# Of each command the options, and how many words stand behind it; N is a number.
+# Of each command the options, and how many arguments stand after it; N is a number.
 COMMANDS = {
     "tdsplay": {"play": ({}, 1), "trace": ({}, 1), "loopback": ({}, 1), "show": ({}, 1),
                 "tokens": ({}, 1), "vectors": ({}, 0)},
@@ -30,11 +30,11 @@ COMMANDS = {
     },
 }
 WORDS = {
-    "tdsplay": "the words are: play FILE, trace FILE, loopback FILE, show HEX, tokens HEX, or vectors",
+    "tdsplay": "the arguments are: play FILE, trace FILE, loopback FILE, show HEX, tokens HEX, or vectors",
     "tdsview": "the commands are bytes, draw, snapshots, explain and check, each with a FILE",
-    "tdsserve": "the first word is an address, as 127.0.0.1:1433",
-    "tdsrelay": "the words are two addresses, as 127.0.0.1:1434 127.0.0.1:1433",
-    "tdsask": "the words are an address, as 127.0.0.1:1433, and what is asked (docs/SERVING.md)",
+    "tdsserve": "the first argument is an address, as 127.0.0.1:1433",
+    "tdsrelay": "the arguments are two addresses, as 127.0.0.1:1434 127.0.0.1:1433",
+    "tdsask": "the arguments are an address, as 127.0.0.1:1433, and what is asked (docs/SERVING.md)",
 }
 
 
@@ -47,13 +47,13 @@ def is_text(word):
 
 
 def read_command(name, words):
-    """The command and what stands behind it, without options; or what is wrong with the words."""
+    """The command and what stands after it, without options; or what is wrong with the arguments."""
     commands = COMMANDS[name]
     if not words:
         return None, WORDS[name]
     for place, word in enumerate(words, 1):
         if not is_text(word):
-            return None, f"word {place} isn't UTF-8"
+            return None, f"argument {place} isn't UTF-8"
     command, rest = words[0], words[1:]
     if command not in commands:
         return None, f'"{command}" is no command{json_look.similar(command, list(commands))}'
@@ -66,7 +66,7 @@ def read_command(name, words):
             is_open = False
         elif is_open and option in options:
             if options[option] and not has_value and not (rest and rest.pop(0).isdigit()):
-                return None, f'behind "{option}" stands a number'
+                return None, f'after "{option}" stands a number'
         elif is_open and word.startswith("-") and word != "-":
             return None, f'{command} has no option "{word}"; ' + (
                 "it has " + ", ".join(options) if options else "it has none"
@@ -74,7 +74,7 @@ def read_command(name, words):
         else:
             found.append(word)
     if count is not None and len(found) != count or not found and count is None:
-        wanted = {0: "no word", 1: "one word"}.get(count, "a word at least")
+        wanted = {0: "no argument", 1: "one argument"}.get(count, "an argument at least")
         return None, f"{command} takes {wanted}, and here are {len(found)}"
     return (command, found), None
 

@@ -4,7 +4,7 @@ import socket
 import struct
 import time
 
-from peers import batch, login
+from peers import PATIENCE, batch, login, packet
 
 
 class Peer:
@@ -54,3 +54,34 @@ class Peer:
         except OSError:
             pass
         return time.time() - started
+
+
+def is_served_at(port):
+    """Whether one more is served there."""
+    try:
+        return Peer(port).is_served()
+    except OSError:
+        return False
+
+
+def comes_to(holds):
+    """Whether this holds at last."""
+    until = time.monotonic() + 2 * PATIENCE
+    while not (found := holds()) and time.monotonic() < until:
+        time.sleep(0.1)
+    return found
+
+
+def nvarchar(name, units):
+    """A parameter of a call, an NVARCHAR(4000) of so many units (MS-TDS 2.2.6.6)."""
+    text = units.encode("utf-16le")
+    return (bytes([len(name)]) + name.encode("utf-16le") + b"\0\xe7\x40\x1f\x09\x04\xd0\0\x34"
+            + struct.pack("<H", len(text)) + text)
+
+
+def call(procedure, *parameters):
+    """A call of the procedure of this number, in packets of 4,096 bytes."""
+    data = (struct.pack("<IIHQI", 22, 18, 2, 0, 1) + struct.pack("<HHH", 0xFFFF, procedure, 0)
+            + b"".join(parameters))
+    parts = [data[at:at + 4088] for at in range(0, len(data), 4088)]
+    return b"".join(packet(3, part, int(part is parts[-1])) for part in parts)

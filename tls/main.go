@@ -1,5 +1,6 @@
 // Command tdstls puts TLS before a TDS server that has none (tdstls server), or behind a TDS client that
-// has none (tdstls client). docs/ENCRYPTION.md says how.
+// has none (tdstls client), and answers tdsrelay which addresses a name has (tdstls names).
+// docs/ENCRYPTION.md and docs/RELAY.md say how.
 package main
 
 import (
@@ -16,6 +17,7 @@ import (
 	"syscall"
 	"time"
 
+	"tdstls/internal/names"
 	"tdstls/internal/proxy"
 	"tdstls/internal/selfsigned"
 )
@@ -24,6 +26,7 @@ const version = "tdstls 0.1.0"
 
 const usage = `usage: tdstls server -listen ADDR -forward ADDR (-cert FILE -key FILE | -selfsigned [-cert FILE])
        tdstls client -listen ADDR -forward ADDR [-ca FILE] [-servername NAME] [-encrypt on|login|strict]
+       tdstls names -listen unix:PATH
        tdstls -version
 ADDR is HOST:PORT; where what goes there is clear it may be unix:PATH. Each with -h tells all its flags.
 `
@@ -40,6 +43,8 @@ func main() {
 		err = serverMain(os.Args[2:])
 	case "client":
 		err = clientMain(os.Args[2:])
+	case "names":
+		err = namesMain(os.Args[2:])
 	case "-h", "-help", "--help":
 		fmt.Print(usage)
 	case "-version", "--version":
@@ -218,6 +223,33 @@ func clientMain(words []string) error {
 	}
 	load := func() (proxy.Material, error) { return proxy.Read(c.cert, c.key, *authorities) }
 	return c.serve(&proxy.Proxy{Mode: mode}, load, !c.beyond)
+}
+
+// namesMain answers tdsrelay which addresses a name has, until SIGTERM or SIGINT.
+func namesMain(words []string) error {
+	set := flag.NewFlagSet("tdstls names", flag.ExitOnError)
+	listen := set.String("listen", "", "`unix:PATH` of the socket at which tdsrelay asks (its --names)")
+	server := set.String("server", "", "`ADDR` of the server of names, in the place of those of /etc/resolv.conf")
+	set.Parse(words)
+	at, err := proxy.ParseAddress(*listen)
+	if set.NArg() > 0 || err != nil || !at.IsUnix() {
+		return wrongf("-listen must be unix:PATH, and there are no other words")
+	}
+	listener, err := at.Listen(true)
+	if err != nil {
+		return err
+	}
+	signals, stop := signal.NotifyContext(context.Background(), syscall.SIGTERM, os.Interrupt)
+	defer stop()
+	go func() {
+		<-signals.Done()
+		listener.Close()
+	}()
+	err = (&names.Server{At: *server}).Serve(listener)
+	if signals.Err() != nil {
+		return nil
+	}
+	return err
 }
 
 // serve accepts connections until SIGTERM or SIGINT, and waits for them then; a second signal ends it. At

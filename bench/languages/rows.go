@@ -99,5 +99,11 @@ func main() {
 		}
 		return rows * len(places)
 	})
+	room := make([]mouktelf.RowPlace, rows)
+	fewest("places in one call", func() int {
+		found, _, err := columns.PlacesOfRows(packet[22:], room)
+		must(err)
+		return found
+	})
 	fmt.Println()
 }

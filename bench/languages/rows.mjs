@@ -42,4 +42,5 @@ fewest("places alone", () => {
   for (let at = first; count < ROWS; at += size) count += columns.places(PACKET.subarray(at, at + size)).length;
   return count;
 });
+fewest("places in one call", () => columns.placesOfRows(PACKET.subarray(first)).rows.length);
 console.log();

@@ -533,6 +533,16 @@ uint8_t tds_columns(const uint8_t *bytes, size_t length, uint8_t encryption, str
 uint8_t tds_row_places(const struct tds_column *columns, size_t count, const uint8_t *bytes, size_t length,
                        struct tds_place *places, size_t room, size_t *taken);
 
+/* The same of the rows that bytes begin with, ROWs and NBCROWs of these columns, one behind the other: all that a
+ * packet has in one call. Of the row i the places are `count` from places[i * count] on, from the first of these
+ * bytes on; `rows` is how many rows these are, `taken` how many bytes they have.
+ *
+ * TDS_WIRE_ENDED (0): no byte is left. Else what stands behind them: TDS_WIRE_MORE (1): a row that isn't whole; 71:
+ * another token; 72: a row, and no columns; 74: there are fewer places left than columns. Behind the places of
+ * `rows` rows those of one row more may be written. */
+uint8_t tds_places_of_rows(const struct tds_column *columns, size_t count, const uint8_t *bytes, size_t length,
+                           struct tds_place *places, size_t room, size_t *rows, size_t *taken);
+
 /* ---- A row that isn't whole yet, and a value in parts as it comes */
 
 /* Bytes of a row are read from the value on that wasn't whole; one in parts (form 5) needn't ever be kept:
@@ -851,7 +861,7 @@ struct tds_judge_finding {
     uint64_t offset;   /* the byte of its direction, from 0 */
     uint64_t time;     /* of its piece */
     uint64_t value;    /* what goes with it, or 0 */
-    uint8_t number;    /* 1 to 43 */
+    uint8_t number;    /* 1 to 45 */
     uint8_t level;     /* a breach, a risk, a note */
     uint8_t direction; /* to the server, to the client */
 };

@@ -30,6 +30,7 @@ type Columns struct {
 	Columns []Column
 	raw     []C.struct_tds_column // one more than there are: an address for none
 	found   []C.struct_tds_place
+	rows    C.size_t
 	next    C.size_t
 	taken   C.size_t
 }
@@ -99,6 +100,28 @@ func (columns *Columns) Places(row []byte, places []RowPlace) (int, error) {
 		places[i] = RowPlace{uint64(it.start), uint64(it.length), it.null != 0}
 	}
 	return int(columns.taken), nil
+}
+
+// PlacesOfRows does the same of the rows that these bytes begin with, one behind the other, from the first of these bytes on, row by row. It
+// gives how many rows these are, and how many bytes they have: behind them stands nothing, another token, a row that isn't whole, or one
+// more than there is room for. It allocates nothing where it had as much room before.
+func (columns *Columns) PlacesOfRows(data []byte, places []RowPlace) (rows, taken int, err error) {
+	count := len(columns.Columns)
+	if len(columns.found) < len(places) {
+		columns.found = make([]C.struct_tds_place, len(places))
+	}
+	answer := C.tds_places_of_rows(&columns.raw[0], C.size_t(count), at(data), C.size_t(len(data)), &columns.found[0], C.size_t(len(places)),
+		&columns.rows, &columns.taken)
+	rows, taken = int(columns.rows), int(columns.taken)
+	for i := range columns.found[:rows*count] {
+		it := &columns.found[i]
+		places[i] = RowPlace{uint64(it.start), uint64(it.length), it.null != 0}
+	}
+	switch answer {
+	case C.TDS_WIRE_ENDED, C.TDS_WIRE_MORE, C.TDS_WIRE_UNKNOWN_TOKEN, C.TDS_WIRE_MANY_COLUMNS:
+		return rows, taken, nil
+	}
+	return 0, 0, Fault(answer)
 }
 
 // Come writes to places, at each column's own place, where each value stands that is whole in bytes that begin with the value of the column

@@ -33,6 +33,17 @@ func TestRows(t *testing.T) {
 	if _, err = columns.Places(row[:20], places); err != Fault(24) {
 		t.Error(err)
 	}
+	// Both rows behind one another, and a DONE; where there is room for one alone; where the second is cut.
+	both, many := append(decode(hex.EncodeToString(row[:len(row)-1])), decode("D2060409000000FD")...), make([]RowPlace, 7)
+	if rows, taken, err := columns.PlacesOfRows(both, many); err != nil || rows != 2 || taken != 41 || !reflect.DeepEqual(many, []RowPlace{
+		{2, 4, false}, {8, 2, false}, {18, 12, false}, {37, 4, false}, {41, 0, true}, {41, 0, true}, {}}) {
+		t.Error(rows, taken, many, err)
+	}
+	for _, it := range []struct{ length, room, rows, taken int }{{len(both), 5, 1, 34}, {40, 7, 1, 34}, {0, 0, 0, 0}, {41, 6, 2, 41}} {
+		if rows, taken, err := columns.PlacesOfRows(both[:it.length], many[:it.room]); err != nil || rows != it.rows || taken != it.taken {
+			t.Error(it, rows, taken, err)
+		}
+	}
 	// Its bytes up to anywhere: the values that are whole, from any column on, and one in parts as it comes.
 	if next, taken, err := columns.Come(0, nil, row[1:20], places); err != nil || next != 2 || taken != 9 || places[1] != (RowPlace{7, 2, false}) {
 		t.Error(next, taken, places, err)

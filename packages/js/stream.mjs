@@ -1,7 +1,8 @@
-// Streams a table of ten types, and cancels it in the middle, from a second task: tdsserve --real 127.0.0.1:1433 & node stream.mjs 1433
+// Streams a table of ten types, and cancels it in the middle, as a second thread asks: tdsserve --real 127.0.0.1:1433 & node stream.mjs 1433
 
 import { once } from "node:events";
 import net from "node:net";
+import { Worker } from "node:worker_threads";
 import { Answer, Client, Columns, Outgoing, isLetIn, login, packetsOf } from "mouktelf";
 
 const TABLE = "select cast(1 as bit),cast(7 as tinyint),cast(8 as smallint),cast(9 as int),cast(10 as bigint),cast(1.50 as decimal(9,2)),"
@@ -35,10 +36,9 @@ async function* rows(packets) {
   }
 }
 
-/** Another task: its bytes go out behind the request's. */
-async function cancel() {
-  outgoing.put(client.cancel()[1]);
-}
+/** The second thread says by a message when to cancel; the client is this one's, and the bytes go out behind the request's. */
+const second = new Worker("const { parentPort: it } = require('node:worker_threads'); it.on('message', () => it.postMessage('cancel'))", { eval: true });
+second.on("message", () => outgoing.put(client.cancel()[1]));
 
 socket.write(login("sa", 4096));
 const packets = allPackets();
@@ -49,7 +49,8 @@ for (const [text, most] of [[TABLE.repeat(4) + "rows 0 64;".repeat(64), 3], ["ro
   outgoing.put(client.sendAll());
   for await (const places of rows(packets)) {
     if (++count <= most) console.log(places.map(it => it?.[1] ?? "-").join(" "));
-    if (count === most) await Promise.resolve().then(cancel);
+    if (count === most) second.postMessage("rows"), await once(second, "message");
   }
 }
 socket.end();
+await second.terminate();

@@ -13,6 +13,13 @@ assert.deepEqual(columns.places(row), [[2, 4], [8, 2], [18, 12]]);
 assert.deepEqual(columns.places(bytes("D2060409000000")), [[3, 4], null, null]);
 for (const [token, number] of [[row.subarray(0, 20), 24], [bytes("FD"), 71]])
   assert.throws(() => columns.places(token), it => it instanceof Fault && it.number === number);
+// Both rows behind one another, and a DONE; where the second is cut; more than are found by one call.
+const first = [[2, 4], [8, 2], [18, 12]], both = bytes(Buffer.from(row.subarray(0, -1)).toString("hex"), "D2060409000000", "FD");
+assert.deepEqual(columns.placesOfRows(both), { rows: [first, [[37, 4], null, null]], taken: 41 });
+assert.deepEqual(columns.placesOfRows(both.subarray(0, 40)), { rows: [first], taken: 34 });
+assert.deepEqual(columns.placesOfRows(new Uint8Array()), { rows: [], taken: 0 });
+const many = columns.placesOfRows(bytes("D2060409000000".repeat(3000), "FD"));
+assert.deepEqual([many.taken, many.rows.length, many.rows[2999]], [21000, 3000, [[20996, 4], null, null]]);
 // Its bytes up to anywhere: the values that are whole, from any column on, and one in parts as it comes.
 assert.deepEqual(columns.come(row.subarray(1, 20)), { places: [[1, 4], [7, 2]], taken: 9 });
 assert.deepEqual(columns.come(row.subarray(1, 8)), { places: [[1, 4]], taken: 5 });

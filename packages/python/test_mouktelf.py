@@ -72,6 +72,20 @@ def streamed():
     refuses(32, client.put, b"a")
 
 
+def asks_whole():
+    """A message of one packet, and one that isn't: 512 bytes have room for 8 of a header, 22 of ALL_HEADERS, and 482."""
+    for count, sizes in ((0, [30]), (482, [512]), (483, [512, 9]), (968, [512, 494])):
+        client = Client(512)
+        packets = client.ask(MessageKind.BATCH, bytes([7]) * count)
+        found = []
+        while packets:
+            size = int.from_bytes(packets[2:4], "big")
+            found, packets = [*found, packets[:size]], packets[size:]
+        assert [*map(len, found)] == sizes and [it[1] for it in found] == [0] * (len(sizes) - 1) + [1]
+        assert b"".join(it[8:] for it in found)[22:] == bytes([7]) * count and client.stage == Stage.READING
+        refuses(31, client.ask, MessageKind.BATCH, b"")
+
+
 def asked():
     client = Client(512)
     client.start_batch("say a")
@@ -181,6 +195,7 @@ if __name__ == "__main__":
     exchange()
     cancelled()
     streamed()
+    asks_whole()
     heard_at_once()
     faults_of_a_peer()
     is_linear()

@@ -77,6 +77,7 @@ def told_errors():
         cursor.execute("rows 2 1")
         assert cursor.fetchall() == [(2,)]
         raises(tds.ProgrammingError, cursor.execute, "rows %s %s", (1,))
+        raises(tds.ProgrammingError, cursor.execute, "rows %s 1", 1)
 
 
 def spelled():
@@ -300,6 +301,17 @@ def procedures():
         assert cursor.callproc("p", (1, tds.output(value=2))) == [1, 9]
         assert cursor.fetchall() == [(1,)] and cursor.return_value == 3
         raises(tds.NotSupportedError, lambda: connect(server, use_mars=True))
+        # The server's name as python-tds and PEP 249 have it, and words by their places.
+        here = "127.0.0.1"
+        for words, how in (((here, "d", "a", "b"), {}), ((), {"server": here}), (("nowhere.invalid",), {"host": here})):
+            with tds.connect(*words, port=server.port, autocommit=True, **how) as connection:
+                assert connection.cursor().execute("rows 7 1").fetchall() == [(7,)]
+        for words, how in (((here, "d", "a", "b", "c"), {}), ((here, "d"), {"database": "d"})):
+            try:
+                tds.connect(*words, port=server.port, **how)
+            except TypeError:
+                continue
+            raise AssertionError(f"{words} connect")
 
 
 def bulk_loads():

@@ -152,7 +152,7 @@ def pool_parks():
 
 
 async def of_asyncio(server):
-    connection = await aio.connect("127.0.0.1", port=server.port, user="a", password="b", autocommit=False, timeout=20)
+    connection = await aio.connect(server="127.0.0.1", port=server.port, user="a", password="b", autocommit=False, timeout=20)
     async with connection, connection.cursor() as cursor:
         await cursor.execute("rows 7 2;fail 208")
         assert [row async for row in cursor] == [(7,), (8,)] and await connection.in_transaction()

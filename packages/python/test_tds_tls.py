@@ -112,6 +112,7 @@ def main():
         tds_server.Peer = Peer
         with tds_server.Server() as server:
             how = {"port": server.port, "user": "a", "password": "b", "autocommit": True, "timeout": 20, "cafile": f"{room}/cert.pem"}
+            raises(tds.OperationalError, lambda: tds.connect("127.0.0.1", **dict(how, cafile=f"{room}/nowhere.pem")))
             by_threads(how)
             asyncio.run(by_tasks(how))
     print("the DB-API module with TLS, all right")

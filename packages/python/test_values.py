@@ -287,11 +287,24 @@ def described():
     return told
 
 
+def together(columns, tokens):
+    """Whether rows behind one another, and a DONE, are found as each by itself, at its place; also where the last one is cut."""
+    moved, values, at = [], [], 0
+    for token in tokens:
+        moved.append([(at + start, length, null) for start, length, null in columns.places(token)])
+        values.append(columns.values(token))
+        at += len(token)
+    whole = b"".join(tokens)
+    return (columns.places_of_rows(whole + b"\xfd") == (moved, at) and columns.values_of_rows(whole) == (values, at)
+            and columns.places_of_rows(whole[:-1]) == (moved[:-1], at - len(tokens[-1])) and columns.places_of_rows(b"") == ([], 0))
+
+
 def main(seed):
     it, theirs, columns = Random(seed), python_tds(), Columns(described() + b"\xd1")
     assert [(own.name, own.user_type, own.flags, own.type.kind) for own in columns] == [
         (f"ä{index}", index, 9, column.kind) for index, (_, _, _, column) in enumerate(COLUMNS)]
     wrong = compared = nulls = 0
+    tokens = []
     for row in range(ROWS):
         is_bits, places, found, plain_row, bits = it.random() < 0.3, [], [], b"", bytearray((len(COLUMNS) + 7) // 8)
         made = []
@@ -309,6 +322,10 @@ def main(seed):
             nulls += data is None
         token = (b"\xd2" + bits if is_bits else b"\xd1") + plain_row
         places, found = columns.places(token + b"\xd1"), columns.values(token)
+        tokens.append(token)
+        if len(tokens) == 500:
+            wrong += not together(columns, tokens)
+            tokens = []
         whole = [place if place is None or not own.is_in_parts else joined_parts(place) for (_, place, _), own in zip(made, columns)]
         if row % 10 == 0 and in_pieces(it, columns, token + b"\xd1") != (whole, b"\xd1"):
             wrong += 1

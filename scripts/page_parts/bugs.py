@@ -1,8 +1,5 @@
-"""What others get wrong, as a page: each bug of docs/PEERS.md and of docs/SERVING.md.
-
-The pictures of what goes wrong, and what a driver printed, are told by page/parts/bugs.txt; the words are those of
-docs/PEERS.md, so each section and each item of its list must have a picture. What happens here the page's player
-draws, or a test says it."""
+"""What others get wrong, as a page: each bug of page/parts/bugs.txt, which has its words, the picture of what goes
+wrong, and what a driver printed. What happens here the page's player draws, or a test says it."""
 
 import html
 import os
@@ -15,7 +12,7 @@ from bug_pictures import picture
 TOP = os.path.dirname(os.path.dirname(os.path.dirname(os.path.abspath(__file__))))
 FOLDER = f"{TOP}/schedules"
 TESTS = "tests/crates/test_layers/data"
-KEYS = ("title", "elsewhere", "here", "item", "recorded", "packets", "schedule", "test")
+KEYS = ("title", "elsewhere", "here", "recorded", "packets", "schedule", "test")
 PLAYER = "mouktelf.html"
 
 
@@ -48,71 +45,17 @@ def plain(words):
     return re.sub(r"\*([^*]*)\*", r"<em>\1</em>", words)
 
 
-def large(words):
-    """With a large letter in front."""
-    return words[:1].upper() + words[1:]
-
-
-def rows_of(text):
-    """The rows of the table in a part of a page, each as its cells."""
-    lines = [it for it in text.splitlines() if it.startswith("|")]
-    return [[cell.strip() for cell in it.strip("|").split("|")] for it in lines[2:]]
-
-
-def sections(page):
-    """The sections of docs/PEERS.md about a schedule, by its name: title, what goes wrong and what comes of it (the
-    table in front says that), what happens here."""
-    found, front = {}, page.partition("\n## ")[0]
-    outcomes = {re.match(r"\[(\w+)\]", name)[1]: (wrong, here) for name, wrong, here in rows_of(front)}
-    for title, text in re.findall(r"(?ms)^## (.*?)\n(.*?)(?=^## |\Z)", page):
-        name = re.search(r"\(\.\./\S*/peers/(\w+)\.json\)", text)
-        parts = [re.search(rf"(?m)^\*\*{it}[.:]\*\* (.*)$", text) for it in ("Elsewhere", "Here")]
-        if name and all(parts):
-            if name[1] not in outcomes:
-                sys.exit(f"docs/PEERS.md: the table in front has no row of {name[1]}")
-            wrong, here = outcomes[name[1]]
-            found[name[1]] = {
-                "title": title,
-                "elsewhere": f"{large(parts[0][1])} **Outcome: {wrong}.**",
-                "here": f"{parts[1][1]} **Outcome: {here}.**",
-            }
-    return found
-
-
-def items_of_list(page):
-    """The items of its list of those that need bytes: what goes wrong, and what happens here."""
-    items = re.findall(r"(?m)^- (.*)$", page.partition("## Those that need bytes")[2])
-    return [(mistake, here) for mistake, _, here in (it.partition(" Here ") for it in items)]
-
-
-def is_about(entry, item):
-    """Whether a bug is this item of the list."""
-    return "item" in entry and item[0].removeprefix("**").startswith(entry["item"])
-
-
-def with_words(entry, named, items):
-    """The bug with its words."""
-    if "item" in entry:
-        mistake, here = next((it for it in items if is_about(entry, it)), (None, None))
-        if mistake is None:
-            sys.exit(f"page/parts/bugs.txt: docs/PEERS.md has no item {entry['item']}")
-        return {"title": entry["item"], "elsewhere": mistake, "here": "Here " + here} | entry
-    if entry["name"] not in named and "title" not in entry:
-        sys.exit(f"page/parts/bugs.txt: docs/PEERS.md has no section of {entry['name']}")
-    return named.get(entry["name"], {}) | entry
-
-
 def bugs():
-    """All bugs, each with its words. Each section and each item has its bug."""
-    page = text_of(f"{TOP}/docs/PEERS.md")
-    named, items, found = sections(page), items_of_list(page), entries()
-    missing = named.keys() - {it["name"] for it in found}
-    missing |= {it[0] for it in items if not any(is_about(entry, it) for entry in found)}
-    schedules_there = {it.removesuffix(".json") for it in os.listdir(f"{FOLDER}/peers") if it.endswith(".json")}
-    missing |= schedules_there - {it["name"] for it in found}
+    """All bugs, each with its words. Each schedule of schedules/peers has its bug."""
+    found = entries()
+    missing = {it.removesuffix(".json") for it in os.listdir(f"{FOLDER}/peers") if it.endswith(".json")}
+    missing -= {it["name"] for it in found}
     if missing:
         sys.exit(f"page/parts/bugs.txt: these have no picture: {sorted(missing)}")
-    return [with_words(it, named, items) for it in found]
+    for bug, key in ((it, key) for it in found for key in ("title", "elsewhere", "here")):
+        if key not in bug:
+            sys.exit(f"page/parts/bugs.txt: {bug['name']} has no {key}")
+    return found
 
 
 def schedule_of(bug):

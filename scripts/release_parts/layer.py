@@ -5,11 +5,14 @@ The core sees memory as the proved build for x86-64 does: a pointer and a length
 first. Where a machine has that, the caller's structs are the core's, and each call hands its words on. Elsewhere each
 struct is written to an image of the core's form before the call, aligned as the core's are, and read back behind it."""
 
+import functools
 import re
 import sys
 
 import headers
 
+# No struct of an array has more bytes.
+LARGEST = 1024
 SIZES = {"size_t": 8, "uint64_t": 8, "int64_t": 8, "uint32_t": 4, "int32_t": 4, "uint16_t": 2, "uint8_t": 1}
 
 # Where arrays of structs cross, or units of two bytes: one a call, so that no room is taken for images.
@@ -146,6 +149,10 @@ BY_HAND["tds_columns"] = COLUMNS.format(many="room", counts="of_count[8] = {0}, 
 BY_HAND["tds_row_places"] = ROWS.format(
     many="count", counts="of_taken[8] = {0}", back=TAKEN.format(name="taken"),
     call="core_tds_row_places(ONE_BYTES(of_columns), count, ONE_BYTES(bytes), length, ONE_BYTES(of_places), room, ONE_BYTES(of_taken))")
+BY_HAND["tds_places_of_rows"] = ROWS.format(
+    many="count", counts="of_rows[8] = {0}, of_taken[8] = {0}", back=TAKEN.format(name="rows") + TAKEN.format(name="taken"),
+    call="""core_tds_places_of_rows(ONE_BYTES(of_columns), count, ONE_BYTES(bytes), length, ONE_BYTES(of_places), room,
+                                         ONE_BYTES(of_rows), ONE_BYTES(of_taken))""")
 BY_HAND["tds_row_values"] = ROWS.format(
     many="count", counts="of_next[8] = {0}, of_taken[8] = {0}", back=TAKEN.format(name="next") + TAKEN.format(name="taken"),
     call="""core_tds_row_values(ONE_BYTES(of_columns), count, first, ONE_BYTES(nulls), bits, ONE_BYTES(bytes), length,
@@ -231,6 +238,7 @@ def constant(word):
     raise SystemExit(f"layer: what is {word}?")
 
 
+@functools.cache
 def structs():
     found = {}
     for name in headers.here():
@@ -241,8 +249,8 @@ def structs():
 
 def guard(arguments):
     """What stands before a call: null where an object is wanted or a length isn't 0, and a length that no object has,
-    are answered; null with a length of 0 is the address of something."""
-    misfits, rest = [], []
+    are answered; null with a length of 0 is the address of something. Of most calls one look says that nothing is amiss."""
+    misfits, rest, counts = [], [], []
     for place, argument in enumerate(arguments):
         kind, name = parts(argument)
         if "*" not in kind:
@@ -252,13 +260,18 @@ def guard(arguments):
             continue
         count = parts(arguments[place + 1])[1]
         of = re.sub(r"const|\*", "", kind).strip()
+        if of.startswith("struct ") and structs()[of[7:]].size > LARGEST:
+            raise SystemExit(f"layer: {of} is larger than {LARGEST} bytes")
         bound = "PTRDIFF_MAX" if of == "uint8_t" else f"PTRDIFF_MAX / sizeof({of})"
         misfits.append(f"({name} ? {count} > {bound} : {count} != 0)")
-        rest.append(f"    if (!{name}) {name} = ({kind.strip()})(void *)&none;\n")
-    if not misfits:
-        return ""
-    test = f"    if ({' || '.join(misfits)}) return MOUKTELF_MISFIT;\n"
-    return ("    uint64_t none = 0;\n" if rest else "") + test + "".join(rest)
+        rest.append(f"        if (!{name}) {name} = ({kind.strip()})(void *)&none;\n")
+        counts.append(count)
+    if not rest:
+        return f"    if ({' || '.join(misfits)}) return MOUKTELF_MISFIT;\n" if misfits else ""
+    quick = [f"!{parts(it)[1]}" for it in arguments if "*" in it]
+    quick.append(f"({' | '.join(counts)}) > PTRDIFF_MAX / {LARGEST}" if counts[1:] else f"{counts[0]} > PTRDIFF_MAX / {LARGEST}")
+    return (f"    uint64_t none;\n    if ({' || '.join(quick)}) {{\n        none = 0;\n"
+            f"        if ({' || '.join(misfits)}) return MOUKTELF_MISFIT;\n{''.join(rest)}    }}\n")
 
 
 def guards(names):

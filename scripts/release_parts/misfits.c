@@ -110,6 +110,21 @@ static void of_tokens(void) {
     is("no data", tds_token_next(NULL, 0, &cursor, &token), TDS_END);
 }
 
+static void of_rows(void) {
+    static struct tds_column column;
+    static struct tds_place place;
+    size_t taken = 0;
+    MISFIT(tds_places_of_rows(NULL, 1, bytes, 8, &place, 1, &n, &taken));
+    MISFIT(tds_places_of_rows(&column, LONG / sizeof column + 1, bytes, 8, &place, 1, &n, &taken));
+    MISFIT(tds_places_of_rows(&column, 1, NULL, 8, &place, 1, &n, &taken));
+    MISFIT(tds_places_of_rows(&column, 1, bytes, LONG, &place, 1, &n, &taken));
+    MISFIT(tds_places_of_rows(&column, 1, bytes, 8, NULL, 1, &n, &taken));
+    MISFIT(tds_places_of_rows(&column, 1, bytes, 8, &place, LONG / sizeof place + 1, &n, &taken));
+    MISFIT(tds_places_of_rows(&column, 1, bytes, 8, &place, 1, NULL, &taken));
+    MISFIT(tds_places_of_rows(&column, 1, bytes, 8, &place, 1, &n, NULL));
+    MISFIT(tds_row_places(&column, 1, bytes, 8, NULL, 1, &taken));
+}
+
 static void of_walks(void) {
     static struct tds_wire walk;
     static struct tds_wire_memory memory;
@@ -127,6 +142,7 @@ static void of_walks(void) {
     MISFIT(tds_wire_is_between(&walk, NULL));
     MISFIT(tds_wire_restart(NULL, &memory));
     MISFIT(tds_wire_restart(&walk, NULL));
+    of_rows();
     MISFIT(tds_client_hear(NULL, &walk, &memory, bytes, 8, 0, &taken, &found, 1, &n));
     MISFIT(tds_client_hear(&client, NULL, &memory, bytes, 8, 0, &taken, &found, 1, &n));
     MISFIT(tds_client_hear(&client, &walk, NULL, bytes, 8, 0, &taken, &found, 1, &n));

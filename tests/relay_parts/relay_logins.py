@@ -4,11 +4,11 @@ import socket
 import struct
 import time
 
-from peers import ATTENTION, Relay, batch, connect, login, message, packet
+from peers import ATTENTION, PATIENCE, Relay, batch, connect, login, message, packet
 from relay_applications import Application, tokens
-from relay_servers import DONE, Before, ack, federated, routing, sspi
+from relay_servers import DONE, Before, ack, federated, routing, sspi, until_some
 
-REFUSED = 50100
+REFUSED, LOST = 50100, 50109
 
 
 def named(**places):
@@ -31,7 +31,7 @@ def with_features(*features):
     return packet(0x10, bytes(data))
 
 
-def closed(link, seconds=10):
+def closed(link, seconds=PATIENCE):
     """Whether the other end has closed. A thread that serves this link may have met that first, and closed it."""
     try:
         link.settimeout(seconds)
@@ -44,14 +44,9 @@ def closed(link, seconds=10):
         return True
 
 
-def gone(server, count):
-    """Whether no connection but so many is there any more after a while."""
-    until = time.monotonic() + 10
-    while time.monotonic() < until:
-        if len(server.sockets()) <= count:
-            return True
-        time.sleep(0.05)
-    return False
+def comes_to(server, count):
+    """Whether so many connections are there after a while, and no more."""
+    return bool(until_some(lambda: len(server.sockets()) == count))
 
 
 def alone(program, cases, server):
@@ -65,7 +60,7 @@ def alone(program, cases, server):
                 link.sendall(named(**places))
                 cases.check(f"a login that isn't shared is let in: {what} {number}", 0xAD in message(link))
                 links.append(link)
-        cases.check("each has a connection of its own", len(server.sockets()) == before + len(links))
+        cases.check("each has a connection of its own", comes_to(server, before + len(links)))
         for number, link in enumerate(links):
             link.sendall(batch(f"rows {number} 1"))
         told = [tokens(message(link))[0] for link in links]
@@ -80,12 +75,12 @@ def alone(program, cases, server):
         cases.check("an attention with nothing underway", told[4] == 0x20, told)
         for link in links[:3]:
             link.close()
-        cases.check("a connection ends with its application", gone(server, before + 3), len(server.sockets()))
+        cases.check("a connection ends with its application", comes_to(server, before + 3), len(server.sockets()))
         links[3].sendall(batch("rows 1 1"))
         cases.check("the others stay", tokens(message(links[3]))[0] == [1])
         for link in links[3:]:
             link.close()
-        cases.check("and end then", gone(server, before), len(server.sockets()))
+        cases.check("and end then", comes_to(server, before), len(server.sockets()))
 
 
 def legs(program, cases, server):
@@ -107,7 +102,9 @@ def legs(program, cases, server):
         link.sendall(batch("rows 7 1"))
         cases.check("and gets its rows", tokens(message(link))[0] == [7])
         before.drop()
-        cases.check("an application ends with its connection", closed(link))
+        time.sleep(0.5)
+        link.sendall(batch("rows 8 1"))
+        cases.check("an application is told of its connection's end, and ends", tokens(message(link))[2] == [LOST] and closed(link))
         # Who ends in the middle, who says what is no leg, and a server that ends in the middle.
         link = connect(relay.port)
         link.sendall(named(b25=0x80))
@@ -139,9 +136,7 @@ def legs(program, cases, server):
         other.sendall(with_features((1, b""), (4, b"\x01")))
         message(other)
         other.sendall(packet(8, b"token"))
-        until = time.monotonic() + 10
-        while len(before.logins) < 2 and time.monotonic() < until:
-            time.sleep(0.05)
+        until_some(lambda: len(before.logins) >= 2)
         cases.check("a login with other features asks for none", before.logins[1][27] & 0x10 == 0)
     with Before(server, (), error(18456)) as before, Relay(program, before, 1) as relay:
         link = connect(relay.port)
@@ -173,7 +168,8 @@ def several(program, cases, server):
         first = Application(relay.port)
         cases.check("the first server is preferred", first.ask("rows 1 1")[0] == [1] and one.come and not two.come)
         one.stop()
-        cases.check("an application ends with its connection", closed(first.link))
+        time.sleep(0.5)
+        cases.check("an application is told of its connection's end", first.ask("rows 2 1")[2] == [LOST] and closed(first.link))
         second = Application(relay.port)
         cases.check("the next server takes over", second.ask("rows 2 1")[0] == [2] and two.come)
     with Before(server) as one, Before(server) as two, Relay(program, one, 4, others=[two]) as relay:
@@ -218,7 +214,8 @@ def silence(program, cases, server):
         time.sleep(0.5)
         before.is_deaf = True
         links[0].shutdown(socket.SHUT_RDWR)
-        cases.check("its application ends", closed(held[0].link))
+        time.sleep(0.5)
+        cases.check("its application is told", held[0].ask("rows 8 1")[2] == [LOST] and closed(held[0].link))
         cases.check("the free ones are found dead", all(closed(link) for link in links[1:]))
         before.is_deaf = False
         cases.check("new ones are opened", Application(relay.port).ask("rows 2 1")[0] == [2])

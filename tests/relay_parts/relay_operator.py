@@ -10,7 +10,7 @@ import socket
 import struct
 import time
 
-from peers import ATTENTION, batch, connect, login, message, packet
+from peers import ATTENTION, PATIENCE, batch, connect, login, message, packet
 from relay_servers import Before
 from relay_told import Relay, error_packet, let_in, rows
 
@@ -22,7 +22,7 @@ DID = {"gone": "fails with ECONNREFUSED: Connection refused (os error 111)", "si
 
 def all_of(link):
     """All that comes until the other end closes."""
-    link.settimeout(20)
+    link.settimeout(PATIENCE)
     data = b""
     try:
         while more := link.recv(65536):
@@ -46,8 +46,8 @@ def connections(found):
 
 
 def until(relay, is_so):
-    """What is told once that is so, or after ten seconds."""
-    end = time.monotonic() + 10
+    """What is told once that is so, or after a minute."""
+    end = time.monotonic() + PATIENCE
     while not is_so(found := relay.json()) and time.monotonic() < end:
         time.sleep(0.05)
     return found
@@ -93,7 +93,7 @@ def holders(program, cases, server):
         found = until(relay, lambda it: it["applications_logging_in"] == 1)
         number = socket_of(found, half)["number"]
         cases.same("whose login hasn't come", lines_of(relay)[-2:], [
-            "in no group yet", f"  application {number} logs in, N s of 10 s (from 127.0.0.1:{port_of(half)})"])
+            "in no group", f"  application {number} logs in, N s of 10 s (from 127.0.0.1:{port_of(half)})"])
         number = socket_of(found, three)["number"]
         cases.check("who has no names", f"  application {number} is quiet, N s (from 127.0.0.1:{port_of(three)})" in lines
                     and any(re.fullmatch(r"group \d, shared, no user, at most 1 connections", it) for it in lines), lines)
@@ -141,8 +141,8 @@ def pauses(program, cases, server):
             others[place].sendall(batch(f"rows {place} 1"))
             time.sleep(0.05)
         time.sleep(2.1)
-        found = relay.json()
-        cases.check("since when it is paused", 2 <= found["groups"][0]["paused_seconds"] <= 20, found["groups"])
+        found = until(relay, lambda it: it["applications_paused"] == 4)
+        cases.check("since when it is paused", 2 <= found["groups"][0]["paused_seconds"] <= 90, found["groups"])
         cases.check("who waits for that", found["applications_paused"] == 4 and found["applications_quiet"] == 0
                     and all(socket_of(found, it)["waits_for"] == "its group to go on" for it in others), found)
         lines = lines_of(relay)
@@ -170,7 +170,7 @@ def pauses(program, cases, server):
 def not_opened(program, cases, server):
     """Who waits for a connection that can't be opened is told an error: the server is gone, is silent, or refuses."""
     for what in ("gone", "silent", "refuses"):
-        with Before(server) as before, Relay(program, before.port, "--login", "1", "--wait", "3", "--log") as relay:
+        with Before(server) as before, Relay(program, before.port, "--login", "2", "--wait", "8", "--log") as relay:
             one, two = let_in(relay), let_in(relay)
             # The first connection is cleaned first of all, and lent then.
             number = socket_of(until(relay, lambda it: it["connections_free"] == 1), two)["number"]
@@ -188,7 +188,7 @@ def not_opened(program, cases, server):
                 second, opened = socket_of(found, two), next(it for it in connections(found) if it["at"] == "logs in")
                 cases.same("who waits for a connection to open", (second["at"], second["waits_for"], second["holds"]),
                            ("waits for its connection to open", "its connection to open", opened["number"]))
-                cases.same("the connection says so", (opened["opens_for"], opened["limit"]), (second["number"], 1))
+                cases.same("the connection says so", (opened["opens_for"], opened["limit"]), (second["number"], 2))
             did = f"127.0.0.1:{before.port} {DID[what]}"
             cases.same(f"an error where the server {what}", all_of(two),
                        error_packet(NOT_OPENED, f"The relay could not open a connection. The server {did}."))
@@ -214,7 +214,7 @@ def silent(program, cases):
     servers = [socket.create_server(("127.0.0.1", 0)) for _ in range(2)]
     ports = [port_of(it) for it in servers]
     for count in (1, 2):
-        with Relay(program, ports[0], "--login", "2", others=ports[1:count]) as relay:
+        with Relay(program, ports[0], "--login", "6", others=ports[1:count]) as relay:
             links = [connect(relay.port) for _ in range(3)]
             for link in links:
                 link.sendall(login())
@@ -241,7 +241,7 @@ def log(program, cases, server):
         status, said = relay.end()
         lines = said.decode().splitlines()
         times = [datetime.datetime.fromisoformat(it.partition(" ")[0].replace("Z", "+00:00")) for it in lines[:-1]]
-        cases.check("each line begins with the time", all(abs(time.time() - it.timestamp()) < 60 for it in times), lines)
+        cases.check("each line begins with the time", all(abs(time.time() - it.timestamp()) < 600 for it in times), lines)
         whose = f"(user anna, database sales, from 127.0.0.1:{port})"
         cases.same("the log", [it.partition(" ")[2] for it in lines[:-1]] + lines[-1:], [
             f"socket 1 has come (from 127.0.0.1:{port})", f"connection 2 is dialed at 127.0.0.1:{server}",

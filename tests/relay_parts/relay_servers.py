@@ -6,8 +6,9 @@ What they say at a login is written from MS-TDS alone.
 import socket
 import struct
 import threading
+import time
 
-from peers import connect, exactly, login, message, packet
+from peers import PATIENCE, connect, exactly, login, message, packet
 
 PRELOGIN = bytes([0, 0, 11, 0, 6, 1, 0, 17, 0, 1, 0xFF]) + bytes(6) + bytes([2])
 DONE = b"\xfd" + bytes(12)
@@ -45,6 +46,14 @@ def ack():
     """LOGINACK of TDS 7.4 (MS-TDS 2.2.7.14)."""
     body = b"\x01\x74\x00\x00\x04\x00\x00\x00\x00\x00"
     return b"\xad" + struct.pack("<H", len(body)) + body
+
+
+def until_some(look):
+    """What this gives, once that isn't empty, or after a minute."""
+    end = time.monotonic() + PATIENCE
+    while not (found := look()) and time.monotonic() < end:
+        time.sleep(0.02)
+    return found
 
 
 class Before:
@@ -120,8 +129,12 @@ class Before:
                 pass
 
     def link_of(self, text):
-        """The link on which this text was asked."""
-        return next(link for link, said in self.said.items() if link in self.links and text.encode("utf-16le") in said)
+        """The link on which this text was asked: the relay may have sent it a while before it is read here."""
+        found = until_some(lambda: [link for link, said in dict(self.said).items()
+                                    if link in self.links and text.encode("utf-16le") in said])
+        if not found:
+            raise OSError(f"nobody asked {text}")
+        return found[0]
 
     def stop(self):
         """It takes no more connections, and closes those that it has."""

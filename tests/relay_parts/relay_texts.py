@@ -15,8 +15,8 @@ from relay_told import Relay, closes, error_packet, let_in, rows
 REFUSED = 50100
 # Of no machine (RFC 5737).
 NOBODYS = "203.0.113.77"
-SETTINGS = ("most, alone, total, least, any-application, stats, log, log-json, judge, login, wait, cancel, idle, life, hold, "
-            "transaction, request, drain, check, away, spin, keepalive, unacknowledged")
+SETTINGS = ("most, alone, total, kinds, least, any-application, stats, log, log-json, judge, login, wait, cancel, idle, life, hold, "
+            "transaction, request, drain, check, away, judge-again, half-closed, spin, keepalive, unacknowledged")
 
 
 def told_at_login(relay):
@@ -79,7 +79,7 @@ def unreached(program, cases):
 def sent_on(program, cases):
     """A server that sends a login on to a name that nobody knows, and to the relay itself."""
     for host, why in (("no.such.host.invalid", "the system's resolver knows no such name"),
-                      ("127.0.0.1", "that is this relay itself")):
+                      ("127.0.0.1", "that is this relay itself"), ("0.0.0.0", "that is this relay itself")):
         with Before(None, (), b"") as server, Relay(program, server.port, "--log") as relay:
             own = relay.port
             server.ends = routing(host, own) + ack() + DONE
@@ -132,15 +132,20 @@ def orders(program, cases, server):
                 or far == (403, b"POST is taken from the relay's own machine alone: ask at its 127.0.0.1\n"), far)
 
 
-def ask_from_afar(relay):
-    """What is answered to an order that comes from an address which isn't 127.0.0.1; None where this machine has no other."""
+def own_address():
+    """An address of this machine that isn't 127.0.0.1; None where it has no other."""
     with socket.socket(socket.AF_INET, socket.SOCK_DGRAM) as it:
         try:
             it.connect((NOBODYS, 9))
         except OSError:
             return None
-        own = it.getsockname()[0]
-    return relay.ask("/drain", "POST", own)
+        return it.getsockname()[0]
+
+
+def ask_from_afar(relay):
+    """What is answered to an order that comes from an address which isn't 127.0.0.1; None where this machine has no other."""
+    own = own_address()
+    return relay.ask("/drain", "POST", own) if own else None
 
 
 def broken(program, cases, server):
@@ -185,7 +190,7 @@ def beginnings(program, cases, room):
         file.write("most = 8\nlief = 5\n")
     with socket.create_server(("127.0.0.1", 0)) as taken:
         port = taken.getsockname()[1]
-        names = "isn't an IP address, a colon and a port, as 127.0.0.1:1433; names aren't looked up (`getent ahosts NAME` says an address)"
+        names = "isn't an IP address, a colon and a port, as 127.0.0.1:1433 (`getent ahosts NAME` says an address)"
         nearest = ", ".join(["life", *(it for it in SETTINGS.split(", ") if it != "life")])
         for words, status, told in (
                 (["--wait", "x"], 2, '--wait takes seconds, 0 to 604800, and not "x"'),
@@ -193,7 +198,7 @@ def beginnings(program, cases, room):
                 (["--most", "0"], 2, '--most takes 1 to 1024 connections, and not "0"'),
                 (["--spin", "1001"], 2, '--spin takes 0 to 1000 microseconds, and not "1001"'),
                 ([f"127.0.0.1:{it}" for it in range(1, 9)], 2, "there are more than 8 servers: leave some out"),
-                (["sql.example:1433"], 2, f'SERVER "sql.example:1433" {names}'),
+                (["sql.example:1433"], 2, 'SERVER "sql.example" is a name: --names unix:PATH says where `tdstls names` answers (docs/RELAY.md)'),
                 (["--stats", "here"], 2, f'--stats "here" {names}'),
                 (["--config", path], 2, f"{path}:2:1: lief: there is no such setting; those that are: {nearest}"),
                 (["--config", f"{path}x"], 2, f"{path}x (--config): ENOENT: No such file or directory (os error 2)"),
@@ -205,10 +210,29 @@ def beginnings(program, cases, room):
                  "--until-input-ends wants a pipe as standard input: EPERM: Operation not permitted (os error 1)")):
             cases.same(f"it can't begin: {words[-1]}", began(program, room, "127.0.0.1:0", "127.0.0.1:1", *words), (status, f"error: {told}\n"))
         itself = "is where this relay itself listens: give the address of the server behind it"
-        for listen in (f"127.0.0.1:{port}", f"0.0.0.0:{port}"):
-            cases.same(f"the relay itself as its server, {listen}", began(program, room, listen, f"127.0.0.1:{port}"),
-                       (2, f"error: SERVER 127.0.0.1:{port} {itself}\n"))
+        for listen, at in (("127.0.0.1", "127.0.0.1"), ("0.0.0.0", "127.0.0.1"), ("0.0.0.0", "0.0.0.0"), ("127.0.0.1", "0.0.0.0"),
+                           ("[::1]", "[::]"), ("[::]", "[::]"), ("[::]", "127.0.0.1"), ("127.0.0.1", "[::ffff:127.0.0.1]")):
+            cases.same(f"the relay itself as its server, {listen}, {at}", began(program, room, f"{listen}:{port}", f"{at}:{port}"),
+                       (2, f"error: SERVER {at}:{port} {itself}\n"))
         cases.same("what another program has", began(program, room, f"127.0.0.1:{port}", "127.0.0.1:1")[0], 1)
+    found_out(program, cases)
+
+
+def found_out(program, cases):
+    """A relay at all addresses of this machine, before one of them: it isn't its own server."""
+    if not (own := own_address()):
+        return
+    with socket.create_server(("127.0.0.1", 0)) as it:
+        port = it.getsockname()[1]
+    with subprocess.Popen([program, f"0.0.0.0:{port}", f"{own}:{port}", "--until-input-ends"], stdin=subprocess.PIPE,
+                          stderr=subprocess.PIPE) as child:
+        child.stderr.readline()
+        link = connect(port)
+        link.sendall(login())
+        cases.same("a relay finds out that it is its own server", all_of(link), error_packet(
+            REFUSED, f"The server {own}:{port} is this relay itself."))
+        child.stdin.close()
+        child.stderr.close()
 
 
 def began(program, room, *words):

@@ -130,8 +130,8 @@ def error_in(data):
 
 
 def closes(link):
-    """Whether the other end closes within ten seconds."""
-    link.settimeout(10)
+    """Whether the other end closes within a minute."""
+    link.settimeout(PATIENCE)
     try:
         while link.recv(4096):
             pass

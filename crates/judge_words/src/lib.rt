@@ -56,6 +56,8 @@ fn later_word(name: Name) -> &'static str {
         Name::PacketNotFull => "packet-not-full",
         Name::RequestBeforeLogin => "request-before-login",
         Name::ResetToldLate => "reset-told-late",
+        Name::AnswerBeforeEnd => "answer-before-end",
+        Name::ResetOnBulkLoad => "reset-on-bulk-load",
         _ => "",
     }
 }
@@ -113,6 +115,8 @@ fn later_section(name: Name) -> &'static str {
         Name::PacketNotFull => "2.2.3.1.3",
         Name::RequestBeforeLogin => "2.2.7.14",
         Name::ResetToldLate => "2.2.3.1.2",
+        Name::AnswerBeforeEnd => "2.2.3.1.2",
+        Name::ResetOnBulkLoad => "2.2.3.1.2",
         _ => "",
     }
 }
@@ -172,6 +176,8 @@ fn later_sentence(name: Name) -> &'static str {
         Name::PacketNotFull => "a packet of a request isn't full, and isn't its last",
         Name::RequestBeforeLogin => "a request before the end of the login",
         Name::ResetToldLate => "ENVCHANGE 18 behind something of what was asked for",
+        Name::AnswerBeforeEnd => "an answer begins before the last packet of its request",
+        Name::ResetOnBulkLoad => "a reset is asked for by a bulk load, which may ask for none",
         _ => "",
     }
 }

@@ -22,7 +22,7 @@ use Rattle.tds_judge.specs.Conversation.{IsLawful, MayAsk, MayName, MayStop, Nam
 use Rattle.tds_judge.specs.History.{Said, asks_of, is_cleared, last_told}
 use Rattle.tds_judge.specs.Talking.{ignores_early, is_both, reset_of}
 use Rattle.tds_judge.specs.Told.{is_broken}
-use Rattle.laws_never_blamed.specs.Seen.{named_by, sees_outs, AllBehindLogin, AreBehindLogin, ComesBehindLogin, Eye, Watch, conversation, seen, sees, sees_begin, sees_come, sees_done, sees_names, sees_packet, status, unless_lost, watch_by}
+use Rattle.laws_never_blamed.specs.Seen.{named_by, sees_outs, AllBehindLogin, AreBehindLogin, ComesBehindLogin, Eye, Watch, conversation, seen, sees, sees_begin, sees_come, sees_done, sees_names, sees_packet, status, unless_lost, watch_by, sees_request}
 use Rattle.laws_conforming_server.specs.Answering.{IsNoFault, NoFault, UnlessLost}
 use Rattle.laws_never_blamed.proofs.Hears.{IsLast, NotAcknowledged, as_reset, is_acknowledged, or_true}
 use Rattle.laws_never_blamed.proofs.Steps.{Answers, Asked, At, Knows, Rests, Skips, Stands, Stops, packet_seen, part_reads, part_skips, reading_begins, reads_stand, skipping_begins, skips_stand}
@@ -106,10 +106,10 @@ names_by true eye h named past is k a = (
 )
 
 begins_sent : (eye : Eye) (h : Heard) (named : ℕ) (past : List Said) (last : Bool) → named ≡ header_descriptor h.mark h.descriptor → Knows h past → Rests h past
-    → Knows h (sees_names eye named (sees eye past (events.Request (status h.mark last)))) × Asked h (sees_names eye named (sees eye past (events.Request (status h.mark last))))
+    → Knows h (sees_names eye named (sees_request eye past (status h.mark last))) × Asked h (sees_names eye named (sees_request eye past (status h.mark last)))
 unfolding IsLawful agreed_last size_told last_told place_of asks_of is_cleared
 begins_sent eye h named past last is k a =
-    names_by (eye.headers (sees eye past (events.Request (status h.mark last)))) eye h named (sees eye past (events.Request (status h.mark last))) is
+    names_by (eye.headers (sees_request eye past (status h.mark last))) eye h named (sees_request eye past (status h.mark last)) is
     (record {
       lawful = (k.lawful, subst (λ (p : Place). MayAsk p (status h.mark last)) (sym a.place) (ap is_both (reset_read h.mark last) ∙ one_reset h.mark, ends_read h.mark last));
       agreed = k.agreed;
@@ -144,7 +144,7 @@ send_moves : (eye : Eye) (n : ℕ) (stage : Stage) (h : Heard) (w : Watch) (past
     → Knows h past → At stage w.begun w.named h past → Moves eye n stage h w past (line.Send last)
 send_moves eye n (Sending false) h w past last k a well =
     let both = begins_sent eye h w.named (sees_packet eye past) last a.1 (packet_seen eye h past k) (rests_packet eye h past a.2) in
-    sent_stands n h w.begun w.named (sees_names eye w.named (sees eye (sees_packet eye past) (events.Request (status h.mark last)))) last a.0 both.0 both.1
+    sent_stands n h w.begun w.named (sees_names eye w.named (sees_request eye (sees_packet eye past) (status h.mark last))) last a.0 both.0 both.1
 send_moves eye n (Sending true) h w past last k a well =
     let both = later_sent eye h (sees_packet eye past) last (packet_seen eye h past k) (asked_packet eye h past a.1) in
     sent_stands n h w.begun w.named (sees eye (sees_packet eye past) (events.Later (status None last))) last a.0 both.0 both.1

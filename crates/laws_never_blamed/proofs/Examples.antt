@@ -17,7 +17,7 @@ use Rattle.tds_judge.specs.History.{Said}
 use Rattle.laws_never_blamed.specs.Seen.{Eye, conversation}
 
 abbrev eye : Eye
-eye = record { spot = λ past. record { direction = ToServer; offset = 0; time = 0 }; length = λ past. 99; fills = λ past. false; headers = λ past. true }
+eye = record { spot = λ past. record { direction = ToServer; offset = 0; time = 0 }; length = λ past. 99; fills = λ past. false; headers = λ past. true; bulk = λ past. false }
 
 abbrev token : ℕ → Told → Token
 token kind x = record { kind = kind; start = 0; length = 13; told = x }
@@ -41,10 +41,10 @@ events_of (x ∷ past) = x.event ∷ events_of past
 
 crossing : events_of (conversation eye (history new_line
     (line.Ask ∷ line.Send true ∷ line.Cancel ∷ whole (begun ∷ done 0 ∷ []) ∷ whole (done 0x20 ∷ []) ∷ line.Ask ∷ line.Send true ∷ [])))
-    ≡ events.Names 7 ∷ events.Request 1 ∷ events.Packet 99 false
+    ≡ events.Names 7 ∷ events.Request 1 false ∷ events.Packet 99 false
     ∷ events.Answered true ∷ events.Says (done 0x20) ∷ events.Answer ∷ events.Packet 99 false
     ∷ events.Answered true ∷ events.Says (done 0) ∷ events.Says begun ∷ events.Answer ∷ events.Packet 99 false
     ∷ events.Attention 8 1 ∷ events.Packet 8 false
-    ∷ events.Names 0 ∷ events.Request 1 ∷ events.Packet 99 false ∷ []
+    ∷ events.Names 0 ∷ events.Request 1 false ∷ events.Packet 99 false ∷ []
 unfolding place_change place_done done_kind transaction_change
 crossing = refl

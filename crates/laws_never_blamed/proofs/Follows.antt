@@ -1,5 +1,5 @@
 -- Events that were said one behind the other, each somewhere, and an eye that sees them so.
-use Rattle.std.proofs.Common.{◌≡◌, ◌∙◌, ◌==◌, Bool, true, false, ℕ, List, [], ◌∷◌, ◌++◌, length, refl, sym, ap, subst, arith}
+use Rattle.std.proofs.Common.{◌≡◌, ◌∙◌, ◌==◌, not, Bool, true, false, ℕ, List, [], ◌∷◌, ◌++◌, length, refl, sym, ap, subst, arith}
 use Rattle.std.proofs.lemmas.Bool.{eq-eqb, ne_eqb}
 use Rattle.std.proofs.lemmas.List.{length-append}
 use Rattle.tds_judge.specs.declared.finding.Direction.TheVariants.{ToServer}
@@ -55,7 +55,7 @@ spot_is (y ∷ front) past x =
     ∙ spot_is front past x
 
 abbrev pub eye_at : List Said → ℕ → Bool → Bool → Eye
-eye_at behind size headers fills = record { spot = λ past. spot_behind behind (length past); length = λ past. size; headers = λ past. headers; fills = λ past. fills }
+eye_at behind size headers fills = record { spot = λ past. spot_behind behind (length past); length = λ past. size; headers = λ past. headers; bulk = λ past. not headers; fills = λ past. fills }
 
 abbrev pub sees_all : Eye → List Said → List Event → List Said
 sees_all eye past [] = past

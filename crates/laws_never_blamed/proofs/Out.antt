@@ -67,7 +67,14 @@ request_plain Procedure status size before most = rw (le-ltb size 8 most) refl
 request_plain BulkLoad status size before most = rw (le-ltb size 8 most) refl
 request_plain Transaction status size before most = rw (le-ltb size 8 most) refl
 
-request_event : (kind : MessageKind) (status size before : ℕ) → event_of (head_for (packets_are kind) status size before) ≡ events.Request status
+-- whether it is of a bulk load
+abbrev pub bulk_of : MessageKind → Bool
+bulk_of Batch = false
+bulk_of Procedure = false
+bulk_of BulkLoad = true
+bulk_of Transaction = false
+
+request_event : (kind : MessageKind) (status size before : ℕ) → event_of (head_for (packets_are kind) status size before) ≡ events.Request status (bulk_of kind)
 request_event Batch status size before = refl
 request_event Procedure status size before = refl
 request_event BulkLoad status size before = refl
@@ -272,13 +279,13 @@ names_of Transaction named = events.Names named ∷ []
 named_first : (base : Base) (t : ℕ) (last : Bool) (kind : MessageKind) (status named : ℕ) (body : List ℕ) (c s : Frame) (r : Reading) (past : List Said) → Rests c
     → status < 256 → 8 + length (all_headers named ++ body) < 65536 → (status % 2 == 1) ≡ last → (status / 2 % 2 == 1) ≡ false → named < 2 ^ 64 → inside_of (kind_byte (packets_are kind)) ≡ inside.Prefix new_heading
     → Spoken base t (packet_bytes (packets_are kind) status 0 (all_headers named ++ body)) c s r past
-    (events.Packet (8 + length (all_headers named ++ body)) (fills (packets_are kind) status) ∷ events.Request status ∷ events.Names named ∷ []) (After last kind)
+    (events.Packet (8 + length (all_headers named ++ body)) (fills (packets_are kind) status) ∷ events.Request status (bulk_of kind) ∷ events.Names named ∷ []) (After last kind)
 named_first base t last kind status named body c s r past rests small few ends plain ranged prefix_is =
     let content : List ℕ = all_headers named ++ body in
     let head = of_request kind status content 0 in
     let there : Frame = headed_frame (packets_are kind) status (8 + length content) 0 c in
     let spot : Spot = head_spot ToServer c.offset t in
-    let said : List Said = says spot (events.Request status) (says spot (events.Packet (8 + length content) (fills (packets_are kind) status)) past) in
+    let said : List Said = says spot (events.Request status (bulk_of kind)) (says spot (events.Packet (8 + length content) (fills (packets_are kind) status)) past) in
     let (f, place, is, kind_is, inside_is) = opened_names base spot.offset t last kind status 0 named body there s r said ends plain ranged in
     record {
       frame = behind_frame last f;
@@ -287,7 +294,7 @@ named_first base t last kind status named body c s r past rests small few ends p
       is =
           header_begins base t (packets_are kind) status content c s r past rests small few (request_plain kind status (8 + length content) 0 (omega arith))
           ∙ (ap (steps ToServer t content)
-          (client_begins base there s r past spot.offset t head (events.Request status) (request_event kind status (8 + length content) 0)
+          (client_begins base there s r past spot.offset t head (events.Request status (bulk_of kind)) (request_event kind status (8 + length content) 0)
           ∙ ap (λ (i : Inside). opened spot parts.Within i head (run_at base there s r said)) prefix_is)
           ∙ is);
       so = after_frame last kind f kind_is inside_is;
@@ -295,12 +302,12 @@ named_first base t last kind status named body c s r past rests small few ends p
 
 bulk_first : (base : Base) (t : ℕ) (last : Bool) (status : ℕ) (content : List ℕ) (c s : Frame) (r : Reading) (past : List Said) → Rests c
     → status < 256 → 8 + length content < 65536 → (status % 2 == 1) ≡ last → (status / 2 % 2 == 1) ≡ false
-    → Spoken base t (packet_bytes (packets_are BulkLoad) status 0 content) c s r past (events.Packet (8 + length content) (fills (packets_are BulkLoad) status) ∷ events.Request status ∷ []) (After last BulkLoad)
+    → Spoken base t (packet_bytes (packets_are BulkLoad) status 0 content) c s r past (events.Packet (8 + length content) (fills (packets_are BulkLoad) status) ∷ events.Request status true ∷ []) (After last BulkLoad)
 bulk_first base t last status content c s r past rests small few ends plain =
     let head = of_request BulkLoad status content 0 in
     let there : Frame = headed_frame (packets_are BulkLoad) status (8 + length content) 0 c in
     let spot : Spot = head_spot ToServer c.offset t in
-    let said : List Said = says spot (events.Request status) (says spot (events.Packet (8 + length content) (fills (packets_are BulkLoad) status)) past) in
+    let said : List Said = says spot (events.Request status true) (says spot (events.Packet (8 + length content) (fills (packets_are BulkLoad) status)) past) in
     let (f, is, kind_is, inside_is) = opened_skips base spot.offset t last BulkLoad status 0 content there s r said ends plain in
     record {
       frame = behind_frame last f;
@@ -308,7 +315,7 @@ bulk_first base t last status content c s r past rests small few ends plain =
       follows = (spot, (spot, refl));
       is =
           header_begins base t (packets_are BulkLoad) status content c s r past rests small few (request_plain BulkLoad status (8 + length content) 0 (omega arith))
-          ∙ (ap (steps ToServer t content) (client_begins base there s r past spot.offset t head (events.Request status) (request_event BulkLoad status (8 + length content) 0))
+          ∙ (ap (steps ToServer t content) (client_begins base there s r past spot.offset t head (events.Request status true) (request_event BulkLoad status (8 + length content) 0))
           ∙ is);
       so = after_frame last BulkLoad f kind_is inside_is;
     }
@@ -316,7 +323,7 @@ bulk_first base t last status content c s r past rests small few ends plain =
 pub request_first : (base : Base) (t : ℕ) (last : Bool) (kind : MessageKind) (status named : ℕ) (body : List ℕ) (c s : Frame) (r : Reading) (past : List Said) → Rests c
     → status < 256 → 8 + length (headers_of kind named ++ body) < 65536 → (status % 2 == 1) ≡ last → (status / 2 % 2 == 1) ≡ false → named < 2 ^ 64
     → Spoken base t (packet_bytes (packets_are kind) status 0 (headers_of kind named ++ body)) c s r past
-    (events.Packet (8 + length (headers_of kind named ++ body)) (fills (packets_are kind) status) ∷ events.Request status ∷ names_of kind named) (After last kind)
+    (events.Packet (8 + length (headers_of kind named ++ body)) (fills (packets_are kind) status) ∷ events.Request status (bulk_of kind) ∷ names_of kind named) (After last kind)
 request_first base t last Batch status named body c s r past rests small few ends plain ranged = named_first base t last Batch status named body c s r past rests small few ends plain ranged refl
 request_first base t last Procedure status named body c s r past rests small few ends plain ranged = named_first base t last Procedure status named body c s r past rests small few ends plain ranged refl
 request_first base t last BulkLoad status named body c s r past rests small few ends plain ranged = bulk_first base t last status body c s r past rests small few ends plain

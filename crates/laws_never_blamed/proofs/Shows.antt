@@ -37,7 +37,7 @@ use Rattle.laws_never_blamed.specs.Spelled.{AreOut, IsIn, IsOut, Pen, Wire, head
 use Rattle.laws_never_blamed.proofs.Heads.{Base, run_at}
 use Rattle.laws_never_blamed.proofs.Follows.{Follows, eye_at, follows_more, seen_so, sees_all}
 use Rattle.laws_never_blamed.proofs.Tokens.{says_of}
-use Rattle.laws_never_blamed.proofs.Out.{After, Amid, Rests, attention_out, fills, names_of, request_first, request_ignored, request_later}
+use Rattle.laws_never_blamed.proofs.Out.{After, Amid, Rests, attention_out, bulk_of, fills, names_of, request_first, request_ignored, request_later}
 use Rattle.laws_never_blamed.proofs.In.{BehindAnswer, Comes, Quiet, Small, Told, answer_begins, answer_bytes, answer_goes_on, ended_by}
 
 -- ---- Where both directions are
@@ -86,12 +86,12 @@ facts (Some KeepTransaction) false = record { ends = refl; plain = refl; small =
 
 -- what an eye sees of a request's first packet
 seen_first : (kind : MessageKind) (behind : List Said) (size st n named : ℕ) (full : Bool) (reset : Option Reset) (last : Bool) (past : List Said) → st ≡ status reset last
-    → sees_all (eye_at behind size (has_headers kind) full) past (events.Packet size full ∷ events.Request st ∷ names_of kind named)
+    → sees_all (eye_at behind size (has_headers kind) full) past (events.Packet size full ∷ events.Request st (bulk_of kind) ∷ names_of kind named)
     ≡ sees_outs (eye_at behind size (has_headers kind) full) named past (OfRequest n true reset last ∷ [])
-seen_first Batch behind size st n named full reset last past e = ap (λ (x : ℕ). sees_all (eye_at behind size true full) past (events.Packet size full ∷ events.Request x ∷ names_of Batch named)) e
-seen_first Procedure behind size st n named full reset last past e = ap (λ (x : ℕ). sees_all (eye_at behind size true full) past (events.Packet size full ∷ events.Request x ∷ names_of Procedure named)) e
-seen_first BulkLoad behind size st n named full reset last past e = ap (λ (x : ℕ). sees_all (eye_at behind size false full) past (events.Packet size full ∷ events.Request x ∷ names_of BulkLoad named)) e
-seen_first Transaction behind size st n named full reset last past e = ap (λ (x : ℕ). sees_all (eye_at behind size true full) past (events.Packet size full ∷ events.Request x ∷ names_of Transaction named)) e
+seen_first Batch behind size st n named full reset last past e = ap (λ (x : ℕ). sees_all (eye_at behind size true full) past (events.Packet size full ∷ events.Request x false ∷ names_of Batch named)) e
+seen_first Procedure behind size st n named full reset last past e = ap (λ (x : ℕ). sees_all (eye_at behind size true full) past (events.Packet size full ∷ events.Request x false ∷ names_of Procedure named)) e
+seen_first BulkLoad behind size st n named full reset last past e = ap (λ (x : ℕ). sees_all (eye_at behind size false full) past (events.Packet size full ∷ events.Request x true ∷ names_of BulkLoad named)) e
+seen_first Transaction behind size st n named full reset last past e = ap (λ (x : ℕ). sees_all (eye_at behind size true full) past (events.Packet size full ∷ events.Request x false ∷ names_of Transaction named)) e
 
 seen_later : (behind : List Said) (size st n named : ℕ) (full : Bool) (reset : Option Reset) (last : Bool) (past : List Said) → st ≡ status reset last
     → sees_all (eye_at behind size false full) past (events.Packet size full ∷ events.Later st ∷ []) ≡ sees_outs (eye_at behind size false full) named past (OfRequest n false reset last ∷ [])
@@ -126,7 +126,7 @@ sends_first base t n named reset last begun wire behind bytes run past state out
     let spoken = request_first base t last kind (end_bit last + reset_bit reset) named body state.client state.server state.walker past state.out f.small few f.ends f.plain ranged in
     let eye : Eye = eye_at spoken.behind size (has_headers kind) full in
     let seen : spoken.behind ≡ sees_outs eye named past (OfRequest n true reset last ∷ []) =
-    sym (seen_so spoken.behind size (has_headers kind) full (events.Packet size full ∷ events.Request (end_bit last + reset_bit reset) ∷ names_of kind named) past spoken.follows)
+    sym (seen_so spoken.behind size (has_headers kind) full (events.Packet size full ∷ events.Request (end_bit last + reset_bit reset) (bulk_of kind) ∷ names_of kind named) past spoken.follows)
     ∙ seen_first kind spoken.behind size (end_bit last + reset_bit reset) n named full reset last past f.is in
     record {
       eye = eye;

@@ -42,7 +42,7 @@ unfolding steps
 keeps base t named stage after begun wire behind bytes run past state out sent reading first =
     subst (λ (x : Wire). GoesOn base after begun x (steps ToServer t bytes run) (λ eye. past)) (same_wire wire behind sent.1 reading first)
     (record {
-      eye = record { spot = λ past. record { direction = ToServer; offset = 0; time = 0 }; length = λ past. 0; fills = λ past. false; headers = λ past. false };
+      eye = record { spot = λ past. record { direction = ToServer; offset = 0; time = 0 }; length = λ past. 0; fills = λ past. false; headers = λ past. false; bulk = λ past. false };
       state = record {
         client = state.client;
         server = state.server;
@@ -241,7 +241,7 @@ out_closes Cancelling pen c out = edge_closes c out.edge
 out_closes (Broken fault) pen c out = absurd out
 
 abbrev place_eye : Spot → Eye
-place_eye spot = record { spot = λ past. spot; length = λ past. 0; fills = λ past. false; headers = λ past. false }
+place_eye spot = record { spot = λ past. spot; length = λ past. 0; fills = λ past. false; headers = λ past. false; bulk = λ past. false }
 
 closes_at : (base : Base) (t : ℕ) (c s : Frame) (j : Reading) (past : List Said) → (is_lost c.part && nat_lt 0 c.offset) ≡ false
     → closed t (run_at base c s j past) ≡ stops (record { direction = ToServer; offset = c.offset; time = t }) events.Closed (run_at base c s j past)

@@ -15,12 +15,14 @@ use Rattle.tds_judge.specs.History.{Said}
 use Rattle.laws_never_blamed.specs.Tokens.{AcknowledgesAsDone, TellsNoSize}
 
 -- What isn't said of a connection there, by what was seen so far: where and when the next thing is seen, how long the next packet is and
--- whether it has to be full, and whether the data of the next request begin with ALL_HEADERS (MS-TDS 2.2.3.1.3, 2.2.5.3).
+-- whether it has to be full, whether the data of the next request begin with ALL_HEADERS (MS-TDS 2.2.3.1.3, 2.2.5.3), and whether it is a
+-- bulk load.
 pub record Eye : Type 0 where
   pub spot : List Said → Spot
   pub length : List Said → ℕ
   pub fills : List Said → Bool
   pub headers : List Said → Bool
+  pub bulk : List Said → Bool
 
 abbrev pub sees : Eye → List Said → Event → List Said
 sees eye past event = (record { spot = eye.spot past; event = event }) ∷ past
@@ -36,8 +38,11 @@ status reset last = reset_bit reset + (if last then 1 else 0)
 abbrev pub sees_names : Eye → ℕ → List Said → List Said
 sees_names eye named past = if eye.headers past then sees eye past (events.Names named) else past
 
+abbrev pub sees_request : Eye → List Said → ℕ → List Said
+sees_request eye past status = sees eye past (events.Request status (eye.bulk past))
+
 abbrev pub sees_part : Eye → ℕ → List Said → Bool → Option Reset → Bool → List Said
-sees_part eye named past true reset last = sees_names eye named (sees eye (sees_packet eye past) (events.Request (status reset last)))
+sees_part eye named past true reset last = sees_names eye named (sees_request eye (sees_packet eye past) (status reset last))
 sees_part eye named past false reset last = sees eye (sees_packet eye past) (events.Later (status reset last))
 
 abbrev pub sees_out : Eye → ℕ → List Said → Packet → List Said

@@ -8,9 +8,6 @@ use relay_sockets::Cause;
 use std::io;
 use std::net::{IpAddr, Net};
 
-/// The most groups that are shared and let in.
-const MOST_SHARED: usize = 256;
-
 /// The most whose login is judged, and those of one address.
 const MOST_JUDGED: usize = 256;
 
@@ -48,7 +45,7 @@ impl House {
         from: Option<IpAddr>,
     ) -> io::Result<Option<&'static str>> {
         let crowd = crowd_of(&self.groups, from);
-        match seat_in(&crowd, is_shared, self.asked.alone) {
+        match seat_in(&crowd, is_shared, self.asked.alone, self.asked.kinds) {
             Seat::Free => {}
             Seat::Of(group) => self.close_group(rt, group)?,
             Seat::None(why) => return Ok(Some(why)),
@@ -110,8 +107,8 @@ fn add(crowd: &mut Crowd, key: usize, group: &Group, from: Option<IpAddr>) {
     }
 }
 
-/// What becomes of one more, which is shared or not, where so many may be that aren't.
-fn seat_in(crowd: &Crowd, is_shared: bool, most_alone: usize) -> Seat {
+/// What becomes of one more, which is shared or not, where so many may be that aren't, and so many that are.
+fn seat_in(crowd: &Crowd, is_shared: bool, most_alone: usize, kinds: usize) -> Seat {
     if crowd.of_address >= MOST_OF_ADDRESS {
         return Seat::None(
             "The relay has as many logins of this address judged as it does at a time, 32.",
@@ -125,11 +122,11 @@ fn seat_in(crowd: &Crowd, is_shared: bool, most_alone: usize) -> Seat {
             "The relay has as many logins that can't be shared as it takes (--alone).",
         );
     }
-    if !is_shared || crowd.shared < MOST_SHARED {
+    if !is_shared || crowd.shared < kinds {
         return Seat::Free;
     }
     match crowd.idle {
         Some(group) => Seat::Of(group),
-        None => Seat::None("The relay has as many different logins as it takes, 256."),
+        None => Seat::None("The relay has as many different logins as it takes (--kinds)."),
     }
 }

@@ -11,7 +11,11 @@ use tds_packet::PacketSize;
 
 impl House {
     /// Takes bytes of a login, and gives what is left of them.
-    fn dial<'a>(&mut self, key: usize, piece: &'a [u8]) -> io::Result<(&'a [u8], Dialed)> {
+    pub(crate) fn dial<'a>(
+        &mut self,
+        key: usize,
+        piece: &'a [u8],
+    ) -> io::Result<(&'a [u8], Dialed)> {
         let mut rest = piece;
         for _ in 0..piece.len() {
             if rest.is_empty() {
@@ -23,6 +27,7 @@ impl House {
             let (count, dialed) = match &mut socket.role {
                 Role::First(_, dial) => dial.take(rest, &mut socket.out)?,
                 Role::Opening(_, _, dial) => dial.take(rest, &mut socket.out)?,
+                Role::Again(_, dial) => dial.take(rest, &mut socket.out)?,
                 _ => return Ok((&[], Dialed::Wrong(Unfit::NoPackets))),
             };
             rest = match rest.get(count..) {
@@ -160,13 +165,17 @@ impl House {
         let Some(number) = brought else {
             return Ok(None);
         };
-        self.is_in(key, Role::Connection(group, number));
+        judged.first = brought;
+        self.is_in(key, group, Role::Connection(group, number));
         Ok(Some(number))
     }
 
-    /// A connection is logged in.
-    fn is_in(&mut self, key: usize, role: Role) {
+    /// A connection of a group is logged in.
+    fn is_in(&mut self, key: usize, group: usize, role: Role) {
         let now = self.now();
+        if let Some(group) = self.groups.get_mut(group) {
+            group.judged = now;
+        }
         if let Some(socket) = self.sockets.get_mut(key) {
             let took = now.saturating_sub(socket.born);
             socket.becomes(role, now);
@@ -262,7 +271,7 @@ impl House {
                 return self.shut(rt, key, group, Cause::Refused(error));
             }
         }
-        self.is_in(key, Role::Connection(group, number));
+        self.is_in(key, group, Role::Connection(group, number));
         if let Some(relay) = relay_of(&mut self.groups, group) {
             relay.opened(number)?;
         }

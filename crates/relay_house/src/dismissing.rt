@@ -10,8 +10,27 @@ use std::net::Net;
 use tds_relay::{Place, Relay};
 
 impl House {
-    /// An application of a group is told this error, and closed.
+    /// An application of a group is told this error, and closed: where it asks nothing, at its next request.
     pub fn dismiss_for<R: Net>(
+        &mut self,
+        rt: &R,
+        key: usize,
+        number: u32,
+        sentence: &str,
+    ) -> io::Result<()> {
+        if !self.asks_nothing(key) {
+            return self.dismiss_now(rt, key, number, sentence);
+        }
+        let sentence = String::from_str(self.alloc, sentence)?;
+        let Some(socket) = self.sockets.get_mut(key) else {
+            return Ok(());
+        };
+        socket.owed = Some((number, sentence));
+        self.owe(rt, key)
+    }
+
+    /// An application of a group that asks something is told this error, and closed.
+    pub fn dismiss_now<R: Net>(
         &mut self,
         rt: &R,
         key: usize,
@@ -28,6 +47,63 @@ impl House {
             put_last(alloc, socket, groups, number, sentence)?;
         }
         self.part_with(rt, key)
+    }
+
+    /// Whether an application asks nothing, and all is sent that it was answered: nothing may be said then.
+    fn asks_nothing(&mut self, key: usize) -> bool {
+        let House {
+            sockets,
+            groups,
+            ..
+        } = self;
+        let Some(socket) = sockets.get(key) else {
+            return false;
+        };
+        let Whose::Application(group, application) = socket.whose() else {
+            return false;
+        };
+        match relay_of(groups, group) {
+            Some(relay) => is_quiet(relay, application) && socket.out.is_empty(),
+            None => false,
+        }
+    }
+
+    /// An application leaves its group, and is told at its next request why.
+    fn owe<R: Net>(&mut self, rt: &R, key: usize) -> io::Result<()> {
+        let Some(whose) = self.begin_owing(key) else {
+            return Ok(());
+        };
+        if let Whose::Application(group, application) = whose {
+            self.leave(group, application)?;
+            self.obey(rt, group)?;
+        }
+        self.let_go(whose)
+    }
+
+    /// An application that is owed an error is in no group from now on. What it was, where there is such a one.
+    pub(crate) fn begin_owing(&mut self, key: usize) -> Option<Whose> {
+        let socket = self.sockets.get_mut(key)?;
+        let whose = socket.whose();
+        if socket.owed.is_none() || !matches!(whose, Whose::Application(..)) {
+            return None;
+        }
+        socket.role = Role::Owed;
+        Some(whose)
+    }
+
+    /// Bytes came of an application that is owed an error: behind its request's end it is told, and closed.
+    pub(crate) fn owed_came<R: Net>(&mut self, rt: &R, key: usize, piece: &[u8]) -> io::Result<()> {
+        let alloc = self.alloc;
+        let Some(socket) = self.sockets.get_mut(key) else {
+            return Ok(());
+        };
+        if !socket.notices.has_whole(piece) {
+            return Ok(());
+        }
+        if let Some((number, sentence)) = &socket.owed {
+            put_error(alloc, &mut socket.out, *number, sentence.as_str())?;
+        }
+        self.dismiss(rt, key)
     }
 
     /// An application leaves its group, and is closed behind what waits for it.
@@ -68,6 +144,14 @@ fn put_last(
     } else {
         Ok(())
     }
+}
+
+/// Whether an application asks nothing, and has all of its answers.
+pub(crate) fn is_quiet(relay: &Relay, application: usize) -> bool {
+    matches!(
+        relay.place_of(application),
+        Some(Place::Quiet | Place::Holding(_))
+    ) && relay.unsent(application).is_empty()
 }
 
 /// Whether an error may stand behind what an application was sent: nothing else waits for it, and it isn't

@@ -1,9 +1,10 @@
 //! What follows where a socket ends.
 
-use crate::dismissing::may_be_told;
+use crate::dismissing::{is_quiet, may_be_told};
 use crate::house::{House, relay_of};
 use crate::upstream::Failure;
 use relay_logins::put_error;
+use relay_settings::is_beyond;
 use relay_sockets::{Cause, Gone, Whose};
 use relay_status::raise;
 use std::io;
@@ -17,6 +18,17 @@ impl House {
     /// Takes a socket out, behind what the system still takes of what waits for it. Answers what it was.
     pub(crate) fn take_out(&mut self, key: usize) -> io::Result<Option<Whose>> {
         let _ = self.send(key)?;
+        if let Some(whose) = self.begin_owing(key) {
+            self.say(
+                "socket",
+                key,
+                "is told at its next request that its connection has ended",
+            );
+            if let Whose::Application(group, application) = whose {
+                self.leave(group, application)?;
+            }
+            return Ok(Some(whose));
+        }
         self.say("socket", key, "is closed");
         let Some(gone) = self.remove(key)? else {
             return Ok(None);
@@ -59,12 +71,46 @@ impl House {
             return Ok(());
         }
         match gone.whose {
-            Whose::Gate | Whose::Judged(_) | Whose::Leg(_) | Whose::Asker | Whose::Closing => Ok(
-                (),
-            ),
+            Whose::Gate | Whose::Judged(_) | Whose::Leg(_) => Ok(()),
+            Whose::Owed | Whose::Asker | Whose::Closing => Ok(()),
+            Whose::Names => self.names_ended(rt),
             Whose::Application(group, application) => self.has_left(rt, group, application),
-            Whose::First(_) | Whose::Opening(..) => self.has_failed(rt, &gone, cause),
+            Whose::First(_) | Whose::Opening(..) | Whose::Again(_) => {
+                self.has_failed(rt, key, &gone, cause)
+            }
             Whose::Connection(group, number) => self.is_lost(rt, group, number, cause),
+        }
+    }
+
+    /// The other end of a socket sends no more. An application whose request is underway may wait for its answer.
+    pub fn has_shut<R: Net>(&mut self, rt: &R, key: usize) -> io::Result<()> {
+        if self.may_wait(key) {
+            Ok(())
+        } else {
+            self.ended(rt, key, Cause::Closed)
+        }
+    }
+
+    /// Whether an application that sends no more waits for an answer, and not for longer than it may.
+    fn may_wait(&mut self, key: usize) -> bool {
+        let (limit, now) = (self.asked.limits.half, self.now());
+        let House {
+            sockets,
+            groups,
+            ..
+        } = self;
+        let Some(socket) = sockets.get_mut(key) else {
+            return false;
+        };
+        let Whose::Application(group, application) = socket.whose() else {
+            return false;
+        };
+        let since = socket.shut.unwrap_or(now);
+        socket.shut = Some(since);
+        let has_time = limit > 0 && !is_beyond(limit, now.saturating_sub(since));
+        match relay_of(groups, group) {
+            Some(relay) => has_time && !is_quiet(relay, application),
+            None => false,
         }
     }
 
@@ -89,18 +135,25 @@ impl House {
     }
 
     /// A login's connection has ended.
-    fn has_failed<R: Net>(&mut self, rt: &R, gone: &Gone, cause: Cause) -> io::Result<()> {
+    fn has_failed<R: Net>(
+        &mut self,
+        rt: &R,
+        key: usize,
+        gone: &Gone,
+        cause: Cause,
+    ) -> io::Result<()> {
         self.upstream.begin();
         if let Some(address) = gone.dialed {
             self.upstream.fail(address, cause);
         }
-        if cause.is_failure() && self.dial_again(rt, gone, cause)? {
+        if cause.is_failure() && self.dial_again(rt, key, gone, cause)? {
             return Ok(());
         }
         self.missed(rt, gone.whose)
     }
 
-    /// Who asks on a connection that has ended is told so, where nothing of its answer has come.
+    /// Who asks on a connection that has ended is told so, where nothing of its answer has come; who has it and
+    /// asks nothing, at its next request.
     fn tell_lost(&mut self, gone: &Gone, cause: Cause) -> io::Result<()> {
         let (Some(address), Whose::Connection(group, number)) = (gone.dialed, gone.whose) else {
             return Ok(());
@@ -108,34 +161,45 @@ impl House {
         if !cause.is_failure() {
             return Ok(());
         }
-        let Some(key) = self.who_asks_on(group, number) else {
+        let Some((key, is_asking)) = self.who_has(group, number) else {
             return Ok(());
         };
         let alloc = self.alloc;
         let why = Failure { address, cause }.sentence(alloc)?;
         if let Some(socket) = self.sockets.get_mut(key) {
-            put_error(alloc, &mut socket.out, LOST, why.as_str())?;
+            if is_asking {
+                put_error(alloc, &mut socket.out, LOST, why.as_str())?;
+            } else {
+                socket.owed = Some((LOST, why));
+            }
         }
         Ok(())
     }
 
-    /// The socket of the application whose request is underway on a connection, if nothing of its answer has
-    /// come.
-    fn who_asks_on(&mut self, group: usize, number: u64) -> Option<usize> {
+    /// The socket of the application that has a connection and may be told of its end, and whether its request is
+    /// underway there: then nothing of its answer has come.
+    fn who_has(&mut self, group: usize, number: u64) -> Option<(usize, bool)> {
+        let pair = self.pair_of(group);
         let House {
             sockets,
             groups,
             ..
         } = self;
         let relay = relay_of(groups, group)?;
-        let key = relay.sent_on(number, 0)?;
+        let key = match (relay.sent_on(number, 0), pair) {
+            (Some(key), _) => key,
+            (None, Some(pair)) => pair.application,
+            (None, None) => return None,
+        };
         let socket = sockets.get(key)?;
         let Whose::Application(_, application) = socket.whose() else {
             return None;
         };
         let is_asking = matches!(relay.place_of(application), Some(Place::Asking(_)));
         if is_asking && may_be_told(relay, application, socket.is_answered) {
-            Some(key)
+            Some((key, true))
+        } else if is_quiet(relay, application) && socket.out.is_empty() {
+            Some((key, false))
         } else {
             None
         }
@@ -160,14 +224,23 @@ impl House {
         }
     }
 
-    /// A login's connection has failed: another server is dialed, where there is one.
-    fn dial_again<R: Net>(&mut self, rt: &R, gone: &Gone, cause: Cause) -> io::Result<bool> {
+    /// A login's connection has failed: its server's next address is dialed, or another server, where there is one.
+    fn dial_again<R: Net>(
+        &mut self,
+        rt: &R,
+        key: usize,
+        gone: &Gone,
+        cause: Cause,
+    ) -> io::Result<bool> {
         let Some(way) = gone.way else {
             return Ok(false);
         };
         self.went_away(way, cause);
         if gone.has_legs {
             return Ok(false);
+        }
+        if self.follow_on(rt, key, gone.whose, way)? {
+            return Ok(true);
         }
         self.reach(rt, gone.whose, way.tried)
     }

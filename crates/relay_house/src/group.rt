@@ -5,7 +5,10 @@ use relay_status::{Done, NOTHING};
 use std::alloc::{AllocError, Global};
 use std::net::IpAddr;
 use tds_packet::PacketSize;
-use tds_relay::Relay;
+use tds_relay::{PlaceOn, Relay};
+
+/// The most connections that a group may ever have, whatever it is set to: as `--most` takes.
+const MOST: usize = 1_024;
 
 /// How far the first login of a group is.
 #[derive(Drop)]
@@ -44,6 +47,11 @@ pub struct Group {
     /// count were none of an application's but such a check.
     pub checked: u64,
     pub checks: u64,
+    /// The number of its first connection, until that was cleaned.
+    pub first: Option<u64>,
+    /// The millisecond in which a server let its login in last, and whether one doesn't any more.
+    pub judged: u64,
+    pub is_over: bool,
 }
 
 impl Pair {
@@ -76,6 +84,9 @@ impl Group {
             goes_on: false,
             checked: 0,
             checks: 0,
+            first: None,
+            judged: 0,
+            is_over: false,
         }
     }
 
@@ -87,6 +98,21 @@ impl Group {
     /// Whether no application of it is lent a connection for now.
     pub fn is_paused(&self) -> bool {
         self.paused.is_some()
+    }
+
+    /// Whether its first connection is cleaned still: no request is read then, since it would dial another one.
+    pub fn is_beginning(&self) -> bool {
+        match (&self.stage, self.first) {
+            (Stage::Open(relay, _), Some(number)) => {
+                relay.place_on(number) == Some(PlaceOn::Cleaning)
+            }
+            _ => false,
+        }
+    }
+
+    /// Whether an application of it that asks nothing isn't read for now.
+    pub fn is_held(&self) -> bool {
+        self.is_paused() || self.is_beginning()
     }
 
     /// Its relay, once there is one.
@@ -163,8 +189,16 @@ impl Group {
         answer: Vec<u8>,
     ) -> Result<(), AllocError> {
         self.size = size;
+        self.stage = Stage::Open(Relay::new(alloc, MOST, size, FEATURES)?, answer);
+        self.set_most(most)
+    }
+
+    /// It may have so many connections from now on.
+    pub fn set_most(&mut self, most: usize) -> Result<(), AllocError> {
         self.most = most;
-        self.stage = Stage::Open(Relay::new(alloc, most, size, FEATURES)?, answer);
-        Ok(())
+        match self.relay() {
+            Some(relay) => relay.set_most(most),
+            None => Ok(()),
+        }
     }
 }

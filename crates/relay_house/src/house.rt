@@ -2,6 +2,9 @@
 
 use crate::group::Group;
 use crate::holding::Holding;
+use crate::names::Names;
+use crate::naming::Sent;
+use crate::routing::Route;
 use crate::upstream::Upstream;
 use relay_logins::{Gate, Groups};
 use relay_settings::Asked;
@@ -26,6 +29,10 @@ pub struct House {
     pub groups: Groups<Group>,
     pub upstream: Upstream,
     pub holding: Holding,
+    pub names: Names,
+    /// Logins that wait for a name's addresses, and those that go on at the next one where one fails.
+    pub(crate) sent: Vec<Sent>,
+    pub(crate) routes: Vec<Route>,
     pub journal: Journal,
 }
 
@@ -39,6 +46,9 @@ impl House {
             groups: Groups::new(alloc),
             upstream: Upstream::new(),
             holding: Holding::new(alloc),
+            names: Names::new(alloc),
+            sent: Vec::new(alloc),
+            routes: Vec::new(alloc),
             journal: Journal::new(alloc, asked.is_logged, asked.is_json),
         })
     }

@@ -2,6 +2,7 @@
 //! to be done, and what follows where a socket ends.
 #![tactic(auto)]
 
+mod again;
 mod checking;
 mod crowd;
 mod dialing;
@@ -10,10 +11,14 @@ mod ending;
 mod group;
 mod holding;
 mod house;
+mod limiting;
 mod logins;
+mod names;
+mod naming;
 mod orders;
 mod pairs;
 mod reaching;
+mod routing;
 mod saying;
 mod sending;
 mod upstream;

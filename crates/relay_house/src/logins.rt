@@ -27,7 +27,7 @@ impl House {
         match socket.whose() {
             Whose::Application(..) if socket.notices.take(piece) => {
                 self.say("application", key, "asks for a query notification");
-                self.dismiss_for(rt, key, NOTIFIES, NO_NOTICES)
+                self.dismiss_now(rt, key, NOTIFIES, NO_NOTICES)
             }
             Whose::Application(group, application) => {
                 if let Some(relay) = relay_of(groups, group) {
@@ -45,6 +45,9 @@ impl House {
                 self.ended(rt, key, why)
             }
             Whose::Leg(group) => self.leg_came(rt, key, group, piece),
+            Whose::Again(group) => self.judged_again(rt, key, group, piece),
+            Whose::Owed => self.owed_came(rt, key, piece),
+            Whose::Names => self.names_came(rt, piece),
             Whose::Asker | Whose::Closing => Ok(()),
         }
     }
@@ -92,7 +95,7 @@ impl House {
     fn log_in<R: Net>(&mut self, rt: &R, key: usize, mut message: Vec<u8>) -> io::Result<()> {
         leave_out_features(self.alloc, &mut message)?;
         self.name(key, &message)?;
-        if self.is_over(key) {
+        if self.is_too_many(key) {
             self.put_refusal_of(key, TOO_MANY, FULL)?;
             return self.send_or_close(rt, key);
         }
@@ -115,7 +118,7 @@ impl House {
     }
 
     /// Whether an application is one too many.
-    fn is_over(&self, key: usize) -> bool {
+    fn is_too_many(&self, key: usize) -> bool {
         match self.sockets.get(key) {
             Some(socket) => socket.is_over,
             None => false,

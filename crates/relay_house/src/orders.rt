@@ -24,7 +24,34 @@ impl House {
                 self.follow_order(rt, group, *order)?;
             }
         }
+        self.end_beginning(group)?;
         self.forget_deserted(group);
+        Ok(())
+    }
+
+    /// Where the first connection of a group was cleaned, or is gone, its applications are read.
+    fn end_beginning(&mut self, group: usize) -> io::Result<()> {
+        match self.groups.get_mut(group) {
+            Some(found) if found.first.is_some() && !found.is_beginning() => found.first = None,
+            _ => return Ok(()),
+        }
+        self.read_all_of(group)
+    }
+
+    /// The applications of a group are read on, those first of which something has come first.
+    pub fn read_all_of(&mut self, group: usize) -> io::Result<()> {
+        let mut kept = Vec::new(self.alloc);
+        for (_, entry) in self.sockets.iter() {
+            if let Whose::Application(of, _) = entry.value.whose() {
+                if of == group {
+                    kept.push((entry.value.order, entry.key))?;
+                }
+            }
+        }
+        kept.sort_unstable();
+        for (_, socket) in kept.iter() {
+            self.sockets.read_on(*socket)?;
+        }
         Ok(())
     }
 

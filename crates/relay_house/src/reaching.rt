@@ -5,24 +5,32 @@ use crate::house::{House, relay_of};
 use crate::saying::put_away;
 use mio::net::TcpStream;
 use relay_logins::{Groups, NOT_OPENED, Target, Way, put_error};
-use relay_settings::{MOST_SERVERS, SystemError, bit, is_reached_at};
+use relay_settings::{MOST_SERVERS, SystemError, bit};
 use relay_sockets::{Cause, Role, Sockets, Whose};
 use relay_status::raise;
 use socket_places::Link;
 use std::alloc::Global;
 use std::io;
-use std::net::{IpAddr, Ipv4Addr, Net, SocketAddr};
+use std::net::{Net, SocketAddr};
 
 /// How often a login goes to the server that another one has named.
 const MOST_HOPS: u8 = 4;
 
+/// Why a login isn't sent on.
+const TOO_OFTEN: &str = "a login is sent on four times at most, and not behind a leg of it";
+
+const OWN: &str = "that is this relay itself";
+
+const UNKNOWN: &str = "the system's resolver knows no such name";
+
 impl House {
     /// Dials for this login the preferred one of the servers that weren't tried. False where there is none.
-    pub(crate) fn reach<R: Net>(&mut self, rt: &R, whose: Whose, tried: u8) -> io::Result<bool> {
+    pub(crate) fn reach<R: Net>(&mut self, rt: &R, whose: Whose, tried: u32) -> io::Result<bool> {
         let mut tried = tried;
         for _ in 0..MOST_SERVERS {
             let servers = self.asked.servers;
             let Some(place) = servers.next(tried, &self.upstream.away, self.now()) else {
+                self.upstream.is_unnamed = tried == 0;
                 return Ok(false);
             };
             let Some(address) = servers.at(place) else {
@@ -34,28 +42,27 @@ impl House {
                 tried,
                 hops: 0,
             };
-            if self.connect(rt, whose, way, address)? {
+            if self.connect(rt, whose, way, address)?.is_some() {
                 return Ok(true);
             }
         }
         Ok(false)
     }
 
-    /// Connects there, and begins the login. False where it can't.
-    fn connect<R: Net>(
+    /// Connects there, and begins the login. Answers the socket's key, or none where it can't.
+    pub(crate) fn connect<R: Net>(
         &mut self,
         rt: &R,
         whose: Whose,
         way: Way,
         address: SocketAddr,
-    ) -> io::Result<bool> {
-        let stream = match TcpStream::connect(rt, address) {
+    ) -> io::Result<Option<usize>> {
+        let stream = match connected(rt, self.asked.listen, address) {
             Ok(stream) => stream,
-            Err(error) => {
-                let cause = Cause::Failed(SystemError::new(error));
+            Err(cause) => {
                 self.upstream.fail(address, cause);
                 self.went_away(way, cause);
-                return Ok(false);
+                return Ok(None);
             }
         };
         let (alloc, now) = (self.alloc, self.now());
@@ -66,12 +73,12 @@ impl House {
         } = self;
         let begun = begin_login(alloc, sockets, groups, whose, way, Link::Tcp(stream), now)?;
         let Some(key) = begun else {
-            return Ok(false);
+            return Ok(None);
         };
         self.is_dialed(whose, key, address);
         raise(&mut self.journal.counts.dialed);
         self.say_dialed(key, address);
-        Ok(true)
+        Ok(Some(key))
     }
 
     /// This socket is a login's connection from now on, at this address.
@@ -123,48 +130,30 @@ impl House {
         self.say_of("connection", key, "is told another server,", named.as_str());
         let way = self.way_on(key);
         let _ = self.take_out(key)?;
-        match self.goal_of(rt, way, target) {
-            Ok((way, address)) => self.follow_to(rt, whose, way, address),
-            Err(why) => {
-                let why = format!(in self.alloc; "The login is sent on to {named}: {why}.")?;
-                self.not_reached(rt, whose, why.as_str())
+        if let Some(way) = way {
+            if self.ask_name(whose, way, target)? {
+                return Ok(());
             }
         }
-    }
-
-    /// A login goes on at this address.
-    fn follow_to<R: Net>(
-        &mut self,
-        rt: &R,
-        whose: Whose,
-        way: Way,
-        address: SocketAddr,
-    ) -> io::Result<()> {
-        raise(&mut self.journal.counts.routed);
-        self.upstream.begin();
-        if self.connect(rt, whose, way, address)? {
-            return Ok(());
-        }
-        self.missed(rt, whose)
-    }
-
-    /// How and where a login goes on that is sent on to this server; or why it doesn't.
-    fn goal_of<R: Net>(
-        &self,
-        rt: &R,
-        way: Option<Way>,
-        target: &Target,
-    ) -> Result<(Way, SocketAddr), &'static str> {
         let Some(way) = way else {
-            return Err("a login is sent on four times at most, and not behind a leg of it");
+            return self.not_sent(rt, whose, named.as_str(), TOO_OFTEN);
         };
-        match address_of(rt, target) {
-            None => Err("the system's resolver knows no such name"),
-            Some(address) if is_reached_at(self.asked.listen, address) => {
-                Err("that is this relay itself")
-            }
-            Some(address) => Ok((way, address)),
+        let (goals, has_own) = self.goals_of(rt, target)?;
+        if !goals.is_empty() {
+            return self.follow_to(rt, whose, way, goals);
         }
+        self.not_sent(
+            rt,
+            whose,
+            named.as_str(),
+            if has_own { OWN } else { UNKNOWN },
+        )
+    }
+
+    /// A login isn't sent on to this server, and this is why.
+    fn not_sent<R: Net>(&mut self, rt: &R, whose: Whose, named: &str, why: &str) -> io::Result<()> {
+        let why = format!(in self.alloc; "The login is sent on to {named}: {why}.")?;
+        self.not_reached(rt, whose, why.as_str())
     }
 
     /// How the login of this connection goes on at another server, if it may.
@@ -256,7 +245,7 @@ fn begin_login(
     now: u64,
 ) -> io::Result<Option<usize>> {
     let group = match whose {
-        Whose::First(group) | Whose::Opening(group, _) => group,
+        Whose::First(group) | Whose::Opening(group, _) | Whose::Again(group) => group,
         _ => return Ok(None),
     };
     let mut out = Vec::new(alloc);
@@ -265,6 +254,7 @@ fn begin_login(
     };
     let role = match whose {
         Whose::Opening(group, number) => Role::Opening(group, number, dial),
+        Whose::Again(group) => Role::Again(group, dial),
         _ => Role::First(group, dial),
     };
     sockets.take_in(link, role, out, now)
@@ -278,14 +268,19 @@ fn is_all_sent(groups: &mut Groups<Group>, group: usize, application: usize) -> 
     }
 }
 
-/// The address of a server that is named: the system's resolver is asked for it, where it is no address.
-fn address_of<R: Net>(rt: &R, target: &Target) -> Option<SocketAddr> {
-    if let Ok(address) = target.host.as_str().parse::<IpAddr>() {
-        return Some(SocketAddr::new(address, target.port));
+/// Connects there, but where that is the relay itself: who connects to an address of the own machine comes from
+/// that address.
+fn connected<R: Net>(rt: &R, listen: SocketAddr, address: SocketAddr) -> Result<TcpStream, Cause> {
+    let stream = match TcpStream::connect(rt, address) {
+        Ok(stream) => stream,
+        Err(error) => return Err(Cause::Failed(SystemError::new(error))),
+    };
+    if listen.ip().is_unspecified() && listen.port() == address.port() {
+        if let Ok(own) = stream.local_addr() {
+            if own.ip().to_canonical() == address.ip().to_canonical() {
+                return Err(Cause::Wrong("is this relay itself"));
+            }
+        }
     }
-    let mut found = [SocketAddr::new(IpAddr::V4(Ipv4Addr::UNSPECIFIED), 0); 4];
-    match rt.lookup_host(target.host.as_str(), target.port, &mut found) {
-        Ok(count) if count > 0 => Some(found[0]),
-        _ => None,
-    }
+    Ok(stream)
 }

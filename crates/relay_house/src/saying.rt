@@ -126,6 +126,14 @@ impl House {
     }
 }
 
+/// A line about a server's name.
+pub(crate) fn put_name(journal: &mut Journal, host: &str, words: &str) {
+    if let Some(out) = journal.line() {
+        let _ = write!(out, "name {host} {words}");
+        journal.lines.end(&NOBODY);
+    }
+}
+
 /// A line about a server that has failed, behind which others are preferred.
 pub(crate) fn put_away(journal: &mut Journal, server: SocketAddr, cause: Cause) {
     if let Some(out) = journal.line() {

@@ -85,6 +85,7 @@ fn send_to(
         Whose::Closing => Ok(Sent::All),
         Whose::Gate | Whose::Judged(_) | Whose::Leg(_) => Ok(Sent::Done),
         Whose::First(_) | Whose::Opening(..) | Whose::Asker => Ok(Sent::Done),
+        Whose::Again(_) | Whose::Owed | Whose::Names => Ok(Sent::Done),
     }
 }
 

@@ -24,8 +24,9 @@ impl Failure {
 pub struct Upstream {
     /// For each server that failed, the millisecond up to which another one is preferred.
     pub away: [u64; MOST_SERVERS],
-    /// Why a login failed last.
+    /// Why a login failed last; and whether no address of a server is known.
     pub failed: Option<Failure>,
+    pub is_unnamed: bool,
 }
 
 impl Upstream {
@@ -34,17 +35,24 @@ impl Upstream {
         Upstream {
             away: [0; MOST_SERVERS],
             failed: None,
+            is_unnamed: false,
         }
     }
 
     /// A login begins, of which nothing has failed yet.
     pub fn begin(&mut self) {
         self.failed = None;
+        self.is_unnamed = false;
     }
 
     /// A login has failed at this address.
     pub fn fail(&mut self, address: SocketAddr, cause: Cause) {
         self.failed = Some(Failure { address, cause });
+    }
+
+    /// The addresses are others than before.
+    pub fn forget_away(&mut self) {
+        self.away = [0; MOST_SERVERS];
     }
 
     /// A server has let a login in.
@@ -65,6 +73,9 @@ impl Upstream {
     pub fn sentence(&self, alloc: Global) -> Result<String, AllocError> {
         match self.failed {
             Some(failure) => failure.sentence(alloc),
+            None if self.is_unnamed => {
+                String::from_str(alloc, "The relay knows no address of its server's name.")
+            }
             None => String::from_str(alloc, "The relay has no room for one more connection."),
         }
     }

@@ -91,7 +91,7 @@ pub struct Way {
     /// The place of the server in the list.
     pub server: usize,
     /// Those that were tried for it, a bit each.
-    pub tried: u8,
+    pub tried: u32,
     /// How often a server has said that it is to go to another one.
     pub hops: u8,
 }

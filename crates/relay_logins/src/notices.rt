@@ -66,6 +66,14 @@ impl Notices {
         false
     }
 
+    /// Takes bytes of an application. Whether its message ends with them.
+    pub fn has_whole(&mut self, piece: &[u8]) -> bool {
+        for byte in piece {
+            let _ = self.take_byte(*byte);
+        }
+        self.place == 0 && self.is_last
+    }
+
     /// Passes data that are no headers.
     fn pass<'a>(&mut self, bytes: &'a [u8]) -> &'a [u8] {
         let count = bytes.len().min(self.left as usize);

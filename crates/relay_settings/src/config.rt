@@ -12,10 +12,11 @@ use toml::{Table, Value};
 const MOST: usize = 65_536;
 
 /// What a file may set.
-const NAMES: [&str; 23] = [
+const NAMES: [&str; 26] = [
     "most",
     "alone",
     "total",
+    "kinds",
     "least",
     "any-application",
     "stats",
@@ -33,6 +34,8 @@ const NAMES: [&str; 23] = [
     "drain",
     "check",
     "away",
+    "judge-again",
+    "half-closed",
     "spin",
     "keepalive",
     "unacknowledged",

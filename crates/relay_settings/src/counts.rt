@@ -5,7 +5,8 @@ const USUAL: usize = 16;
 
 const MOST: usize = 1024;
 
-/// The connections that aren't shared, where no word says it, and the most of them; and of all together.
+/// The connections that aren't shared, and the kinds of logins, where no word says it, and the most of them; and the
+/// most connections of all together.
 const USUAL_ALONE: usize = 256;
 
 const MOST_ALONE: usize = 4096;
@@ -45,6 +46,14 @@ pub const COUNT_TOTAL: Count = Count {
     most: MOST_TOTAL,
     usual: MOST_TOTAL,
     unit: "connections",
+};
+
+pub const COUNT_KINDS: Count = Count {
+    name: "kinds",
+    least: 1,
+    most: MOST_ALONE,
+    usual: USUAL_ALONE,
+    unit: "kinds of logins",
 };
 
 pub const COUNT_LEAST: Count = Count {

@@ -17,9 +17,18 @@ pub enum RelayFault {
     #[error("error: a word isn't UTF-8")]
     NoText,
     /// Which word stands for an address, and as what it is given.
-    #[error("error: {0} {1:?} isn't an IP address, a colon and a port, as 127.0.0.1:1433; names aren't \
-         looked up (`getent ahosts NAME` says an address)")]
+    #[error("error: {0} {1:?} isn't an IP address, a colon and a port, as 127.0.0.1:1433 \
+         (`getent ahosts NAME` says an address)")]
     Address(&'static str, String),
+    /// As what a server is given.
+    #[error("error: SERVER {0:?} isn't an IP address or a name, a colon and a port, as sql.example:1433")]
+    Server(String),
+    /// A server is named, and no word says where names are asked.
+    #[error("error: SERVER {0:?} is a name: --names unix:PATH says where `tdstls names` answers (docs/RELAY.md)")]
+    Unnamed(String),
+    /// As what the place is given where names are asked.
+    #[error("error: --names takes unix:PATH, and not {0:?}")]
+    Names(String),
     /// A server is the relay itself.
     #[error("error: SERVER {0} is where this relay itself listens: give the address of the server behind it")]
     Itself(SocketAddr),

@@ -5,6 +5,7 @@ mod config;
 mod counts;
 mod fault;
 mod limits;
+mod named;
 mod near;
 mod proxies;
 mod servers;
@@ -14,7 +15,8 @@ mod words;
 
 pub use fault::{Bar, RelayFault};
 pub use limits::{Limits, is_beyond, lesser};
+pub use named::{Named, named_by};
 pub use proxies::Proxies;
-pub use servers::{MOST as MOST_SERVERS, Servers, bit};
+pub use servers::{MOST as MOST_SERVERS, Servers, bit, server_of};
 pub use system::SystemError;
 pub use words::{Asked, Settings, is_reached_at, read_words};

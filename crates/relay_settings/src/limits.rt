@@ -25,6 +25,10 @@ pub struct Limits {
     pub check: u64,
     /// For how long others are preferred to a server that has failed.
     pub away: u64,
+    /// From one judgement of a kind of login to the next.
+    pub judge: u64,
+    /// For how long who has shut its sending side may wait for its answer, 0 for not at all.
+    pub half: u64,
 }
 
 /// The limits where no word says them.
@@ -40,6 +44,8 @@ pub const USUAL: Limits = Limits {
     drain: 30,
     check: 30,
     away: 10,
+    judge: 600,
+    half: 0,
 };
 
 /// The most seconds that a word may say: a week.

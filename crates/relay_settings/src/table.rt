@@ -1,7 +1,7 @@
 //! The settings: each word and what it is.
 
 /// The words that take a value: the name, and what it is.
-pub const SETTINGS: [(&str, &str); 21] = [
+pub const SETTINGS: [(&str, &str); 25] = [
     (
         "most",
         "CONNECTIONS at most for equal logins, 1 to 1024 [16]",
@@ -13,6 +13,10 @@ pub const SETTINGS: [(&str, &str); 21] = [
     (
         "total",
         "CONNECTIONS at most of all logins together, 1 to 10000 [10000]",
+    ),
+    (
+        "kinds",
+        "KINDS of logins at most that share connections, 1 to 4096 [256]",
     ),
     (
         "least",
@@ -60,6 +64,14 @@ pub const SETTINGS: [(&str, &str); 21] = [
         "SECONDS for which other servers are preferred to one that has failed [10]",
     ),
     (
+        "judge-again",
+        "SECONDS after which a server judges each kind of login once more, 0 for never [600]",
+    ),
+    (
+        "half-closed",
+        "SECONDS that who has shut its sending side may wait for its answer, 0 for none [0]",
+    ),
+    (
         "spin",
         "MICROSECONDS behind a report for which the system is asked again at once, 0 to 1000 [0]",
     ),
@@ -74,6 +86,10 @@ pub const SETTINGS: [(&str, &str); 21] = [
     (
         "proxy",
         "ADDRESSES, up to four with commas, from which each connection begins with a PROXY header, version 2",
+    ),
+    (
+        "names",
+        "PLACE, as unix:PATH, where `tdstls names` answers which addresses a name has",
     ),
     (
         "config",

@@ -1,9 +1,12 @@
 //! The words of the command line.
 
 use crate::config::Config;
-use crate::counts::{COUNT_ALONE, COUNT_LEAST, COUNT_MOST, COUNT_SPIN, COUNT_TOTAL, Count};
+use crate::counts::{
+    COUNT_ALONE, COUNT_KINDS, COUNT_LEAST, COUNT_MOST, COUNT_SPIN, COUNT_TOTAL, Count,
+};
 use crate::fault::RelayFault;
 use crate::limits::{Limits, MOST as MOST_SECONDS, USUAL as USUAL_LIMITS};
+use crate::named::{Named, named_by};
 use crate::proxies::Proxies;
 use crate::servers::Servers;
 use crate::table::{FLAGS, SETTINGS};
@@ -24,8 +27,9 @@ pub struct Asked {
     pub most: usize,
     /// The most connections of logins that can't be shared.
     pub alone: usize,
-    /// The most connections of all logins together.
+    /// The most connections of all logins together, and kinds of logins that share them.
     pub total: usize,
+    pub kinds: usize,
     /// So many connections of equal logins are kept however idle they are.
     pub least: usize,
     /// Whether logins share connections that differ in the application's name.
@@ -45,11 +49,14 @@ pub struct Asked {
     pub is_judged: bool,
 }
 
-/// What the words ask for, and where it tells what it does.
+/// What the words ask for, where it tells what it does, which servers are named, and the path of the socket at which
+/// names are asked: empty where none is given.
 #[derive(Drop)]
 pub struct Settings {
     pub asked: Asked,
     pub stats: Option<Place>,
+    pub named: Vec<Named>,
+    pub names: String,
 }
 
 /// Reads the words, the program's name too, and the file that they name. A word stands over the file.
@@ -63,21 +70,51 @@ pub fn read_words<R: Files>(
         Some(path) => Config::read(rt, alloc, path)?,
         None => Config::none(alloc),
     };
+    let mut named = Vec::new(alloc);
+    let asked = asked_by(alloc, &matches, &config, &mut named)?;
+    let names = names_of(alloc, &matches)?;
+    if let (Some(first), true) = (named.first(), names.is_empty()) {
+        return Err(RelayFault::Unnamed(first.host.clone()?));
+    }
     Ok(Settings {
-        asked: asked_by(alloc, &matches, &config)?,
+        asked,
         stats: stats_of(alloc, &matches, &config)?,
+        named,
+        names,
     })
 }
 
-fn asked_by(alloc: Global, matches: &ArgMatches, config: &Config) -> Result<Asked, RelayFault> {
+/// Where names are asked.
+fn names_of(alloc: Global, matches: &ArgMatches) -> Result<String, RelayFault> {
+    let Some(word) = matches.get_str("names") else {
+        return Ok(String::new(alloc));
+    };
+    match word.strip_prefix("unix:") {
+        Some(path) if !path.is_empty() => Ok(String::from_str(alloc, path)?),
+        _ => Err(RelayFault::Names(String::from_str(alloc, word)?)),
+    }
+}
+
+fn asked_by(
+    alloc: Global,
+    matches: &ArgMatches,
+    config: &Config,
+    named: &mut Vec<Named>,
+) -> Result<Asked, RelayFault> {
     let listen = address_of(alloc, "LISTEN", matches.get_str("LISTEN").unwrap_or(""))?;
     Ok(Asked {
         listen,
-        servers: servers_of(alloc, listen, matches.get_strs("SERVER").unwrap_or(&[]))?,
+        servers: servers_of(
+            alloc,
+            listen,
+            matches.get_strs("SERVER").unwrap_or(&[]),
+            named,
+        )?,
         proxies: proxies_of(alloc, matches, config)?,
         most: count_of(alloc, matches, config, &COUNT_MOST)?,
         alone: count_of(alloc, matches, config, &COUNT_ALONE)?,
         total: count_of(alloc, matches, config, &COUNT_TOTAL)?,
+        kinds: count_of(alloc, matches, config, &COUNT_KINDS)?,
         least: count_of(alloc, matches, config, &COUNT_LEAST)?,
         joins_applications: is_set(matches, config, "any-application")?,
         spin: count_of(alloc, matches, config, &COUNT_SPIN)? as u64,
@@ -144,6 +181,8 @@ fn limits_of(alloc: Global, matches: &ArgMatches, config: &Config) -> Result<Lim
         drain: seconds_of(alloc, matches, config, "drain", usual.drain)?,
         check: seconds_of(alloc, matches, config, "check", usual.check)?,
         away: seconds_of(alloc, matches, config, "away", usual.away)?,
+        judge: seconds_of(alloc, matches, config, "judge-again", usual.judge)?,
+        half: seconds_of(alloc, matches, config, "half-closed", usual.half)?,
     })
 }
 
@@ -183,19 +222,37 @@ fn address_in(config: &Config, text: &str) -> Result<SocketAddr, RelayFault> {
     }
 }
 
-/// The servers, the preferred one first, of a relay that listens there.
-fn servers_of(alloc: Global, listen: SocketAddr, words: &[&str]) -> Result<Servers, RelayFault> {
+/// The servers, the preferred one first, of a relay that listens there. Those that are named are appended.
+fn servers_of(
+    alloc: Global,
+    listen: SocketAddr,
+    words: &[&str],
+    named: &mut Vec<Named>,
+) -> Result<Servers, RelayFault> {
     let mut servers = Servers::none();
     for word in words.iter() {
-        let server = address_of(alloc, "SERVER", word)?;
-        if is_reached_at(listen, server) {
-            return Err(RelayFault::Itself(server));
-        }
-        if !servers.add(server) {
+        let Some(server) = servers.add() else {
             return Err(RelayFault::Servers);
+        };
+        match word.parse::<SocketAddr>() {
+            Ok(address) if is_reached_at(listen, address) => {
+                return Err(RelayFault::Itself(address));
+            }
+            Ok(address) => {
+                let _ = servers.set(server, &[address.ip()], address.port());
+            }
+            Err(_) => match named_by(alloc, server, word)? {
+                Some(name) => add(named, name)?,
+                None => return Err(RelayFault::Server(String::from_str(alloc, word)?)),
+            },
         }
     }
     Ok(servers)
+}
+
+fn add(named: &mut Vec<Named>, name: Named) -> Result<(), AllocError> {
+    named.push(name)?;
+    Ok(())
 }
 
 /// The proxies that say for whom they come.
@@ -216,11 +273,17 @@ fn proxies_of(alloc: Global, matches: &ArgMatches, config: &Config) -> Result<Pr
     }
 }
 
-/// Whether who listens at the one address is reached at the other one.
+/// Whether who listens at the one address is reached at the other one. Who connects to no address in particular
+/// connects to the own machine.
 pub fn is_reached_at(listen: SocketAddr, address: SocketAddr) -> bool {
-    let (own, other) = (listen.ip(), address.ip());
-    listen.port() == address.port()
-        && (own == other || own.is_unspecified() && (other.is_loopback() || other.is_unspecified()))
+    let (own, other) = (listen.ip().to_canonical(), address.ip().to_canonical());
+    if listen.port() != address.port() {
+        return false;
+    }
+    if other.is_unspecified() {
+        return own.is_unspecified() || own.is_loopback();
+    }
+    own == other || own.is_unspecified() && other.is_loopback()
 }
 
 fn count_of(
@@ -271,7 +334,9 @@ fn addresses<'a>(alloc: Global) -> Result<Command<'a>, AllocError> {
             .required(true)
             .action(ArgAction::Append)
             .num_args(1..)
-            .help("the server, as 127.0.0.1:1433; others behind it are dialed where it fails"),
+            .help(
+                "the server, as 127.0.0.1:1433 or sql.example:1433; others behind it are dialed where it fails",
+            ),
     )
 }
 

@@ -17,7 +17,9 @@ impl Sockets {
         if let Some(socket) = self.table.get_mut(key) {
             socket.judged = match &socket.role {
                 Role::Gate(_) => Some(Judged::new(alloc, FEATURES, true)?),
-                Role::First(..) | Role::Opening(..) => Some(Judged::new(alloc, FEATURES, false)?),
+                Role::First(..) | Role::Opening(..) | Role::Again(..) => {
+                    Some(Judged::new(alloc, FEATURES, false)?)
+                }
                 _ => None,
             };
         }

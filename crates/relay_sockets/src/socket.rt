@@ -23,6 +23,12 @@ pub enum Role {
     /// The connection of this number in a group, which logs in; and which does.
     Opening(usize, u64, Dial),
     Connection(usize, u64),
+    /// A login of the relay's own, by which a server judges that of a group again.
+    Again(usize, Dial),
+    /// An application that is in no group any more, and is told at its next request why.
+    Owed,
+    /// Where names are asked.
+    Names,
     /// Somebody who asks what the relay does.
     Asker(Asker),
     /// It is to be closed once what waits for it is sent.
@@ -39,6 +45,9 @@ pub enum Whose {
     First(usize),
     Opening(usize, u64),
     Connection(usize, u64),
+    Again(usize),
+    Owed,
+    Names,
     Asker,
     Closing,
 }
@@ -97,6 +106,10 @@ pub struct Socket {
     pub server: usize,
     /// Where in its requests an application is.
     pub notices: Notices,
+    /// The number and the sentence of the error that it is told at its next request.
+    pub owed: Option<(u32, String)>,
+    /// The millisecond since which it has shut its sending side, and waits for its answer.
+    pub shut: Option<u64>,
     /// An application's requests so far, and the microsecond in which the one began that has no answer yet.
     pub begun: u64,
     pub asked: Option<u64>,
@@ -111,7 +124,7 @@ impl Socket {
     pub fn new(number: u64, link: Link, role: Role, out: Vec<u8>, now: u64) -> Socket {
         Socket {
             number,
-            is_told: !matches!(role, Role::Asker(_)),
+            is_told: !matches!(role, Role::Asker(_) | Role::Names),
             is_over: false,
             link,
             role,
@@ -132,6 +145,8 @@ impl Socket {
             spid: 0,
             server: 0,
             notices: Notices::new(),
+            owed: None,
+            shut: None,
             begun: 0,
             asked: None,
             is_answered: false,
@@ -139,13 +154,21 @@ impl Socket {
         }
     }
 
-    /// It is seen to be at this, in this millisecond. A check doesn't end the time of a free connection.
+    /// It is seen to be at this, in this millisecond. A check doesn't end the time of a free connection. A request
+    /// waits from its first bytes on, and not anew for another connection.
     pub fn see(&mut self, at: At, mark: u64, now: u64) {
         if self.seen.at == at && self.seen.mark == mark {
             return;
         }
         let since = match (at, self.checked) {
             (At::Free, Some(since)) => since,
+            _ if self.seen.mark == mark && self.seen.at.is_wait() && at.is_wait() => self
+                .seen
+                .since,
+            _ if at.is_wait() && mark == self.begun => match self.asked {
+                Some(precise) => precise / 1000,
+                None => now,
+            },
             _ => now,
         };
         if at != At::Cleaning {
@@ -203,6 +226,7 @@ impl Socket {
         match &self.role {
             Role::First(_, dial) => Some(dial),
             Role::Opening(_, _, dial) => Some(dial),
+            Role::Again(_, dial) => Some(dial),
             _ => None,
         }
     }
@@ -237,22 +261,24 @@ impl Socket {
     pub fn told(&self) -> Told {
         match &self.role {
             Role::Gate(_) | Role::Judged(_) | Role::Leg(..) => Told::Coming,
-            Role::Application(..) => Told::Application,
-            Role::First(..) | Role::Opening(..) => Told::Dialed,
+            Role::Application(..) | Role::Owed => Told::Application,
+            Role::First(..) | Role::Opening(..) | Role::Again(..) => Told::Dialed,
             Role::Connection(..) => Told::Connection,
-            Role::Asker(_) | Role::Closing => Told::Other,
+            Role::Names | Role::Asker(_) | Role::Closing => Told::Other,
         }
     }
 
     /// The group that it belongs to.
     pub fn group(&self) -> Option<usize> {
         match &self.role {
-            Role::Gate(_) | Role::Asker(_) | Role::Closing => None,
+            Role::Gate(_) | Role::Owed | Role::Names => None,
+            Role::Asker(_) | Role::Closing => None,
             Role::Judged(group) | Role::Application(group, _) => Some(*group),
             Role::Leg(group, _) => Some(*group),
             Role::First(group, _) => Some(*group),
             Role::Opening(group, _, _) => Some(*group),
             Role::Connection(group, _) => Some(*group),
+            Role::Again(group, _) => Some(*group),
         }
     }
 
@@ -282,6 +308,9 @@ impl Socket {
             Role::First(group, _) => Whose::First(*group),
             Role::Opening(group, number, _) => Whose::Opening(*group, *number),
             Role::Connection(group, number) => Whose::Connection(*group, *number),
+            Role::Again(group, _) => Whose::Again(*group),
+            Role::Owed => Whose::Owed,
+            Role::Names => Whose::Names,
             Role::Asker(_) => Whose::Asker,
             Role::Closing => Whose::Closing,
         }

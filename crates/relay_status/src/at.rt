@@ -21,6 +21,8 @@ pub enum At {
     Quiet,
     /// It holds none, and something of it has come that isn't read, since its group is paused.
     Kept,
+    /// It is none of its group's any more, and is told why at its next request.
+    Owed,
     Holding,
     /// It holds one on which a transaction is open.
     InTransaction,
@@ -58,6 +60,7 @@ impl At {
             At::Login => "logs in",
             At::Quiet => "is quiet",
             At::Kept => "waits for its group to go on",
+            At::Owed => "is told at its next request why it has no connection any more",
             At::Holding => "is quiet",
             At::InTransaction => "is quiet with a transaction open",
             At::Waiting => "waits for a connection to be free",
@@ -71,6 +74,11 @@ impl At {
             At::Cleaning => "is being cleaned",
             At::Other => "is to be closed",
         }
+    }
+
+    /// Whether an application waits for a connection, in one of the ways to do so.
+    pub fn is_wait(self) -> bool {
+        matches!(self, At::Waiting | At::Opening | At::TakenBack)
     }
 
     /// What who is at this waits for.

@@ -84,7 +84,7 @@ impl Figures {
         let count = match (role, at) {
             (Role::Coming, _) => &mut self.logging_in,
             (Role::Dialed, _) => &mut self.opening,
-            (Role::Application, At::Quiet) => &mut self.quiet,
+            (Role::Application, At::Quiet | At::Owed) => &mut self.quiet,
             (Role::Application, At::Kept) => &mut self.kept,
             (Role::Application, At::Holding) => &mut self.holding,
             (Role::Application, At::InTransaction) => &mut self.in_transaction,

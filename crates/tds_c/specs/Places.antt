@@ -2,6 +2,7 @@
 use Rattle.std.specs.Prelude.{◌≡◌, ℕ, ◌==◌, if◌then◌else◌, Option, Some, None, Result, Ok, Err}
 use Rattle.tds_rows.specs.declared.place.Described.{Described}
 use Rattle.tds_rows.specs.declared.place.RowFault.{RowFault}
+use Rattle.tds_rows.specs.declared.place.RowsPlaced.{RowsPlaced}
 use Rattle.tds_rows.specs.declared.come.Come.{Come}
 use Rattle.tds_rows.specs.Faults.{row_fault_number}
 use Rattle.tds_rows.specs.Pieces.{PartsAt, InLength, InCount, InPart, PartsOver, PartsNull, Beyond}
@@ -22,6 +23,14 @@ TellsColumns (Err fault) answer count taken = (answer ≡ row_fault_number fault
 abbrev pub TellsRow : Result ℕ RowFault → ℕ → ℕ → Type 0
 TellsRow (Ok n) answer taken = (answer ≡ 0) × (taken ≡ n)
 TellsRow (Err fault) answer taken = (answer ≡ row_fault_number fault) × (taken ≡ 0)
+
+-- 0 where no byte is left behind rows
+abbrev pub rows_number : Option RowFault → ℕ
+rows_number (Some fault) = row_fault_number fault
+rows_number None = 0
+
+abbrev pub TellsRows : RowsPlaced → ℕ → ℕ → ℕ → Type 0
+TellsRows found answer rows taken = (answer ≡ rows_number found.stop) × (rows ≡ found.rows) × (taken ≡ found.taken)
 
 -- 1 where the value of a column isn't whole
 abbrev pub come_number : ℕ → ℕ → ℕ

@@ -1,7 +1,7 @@
 -- Where a judge is behind a history, field by field.
 use Rattle.std.proofs.Common.{◌≡◌, ◌∙◌, ◌==◌, ◌&&◌, ◌||◌, not, Bool, true, false, ℕ, List, [], ◌∷◌, refl, sym, ap}
 use Rattle.std.specs.Prelude.{if◌then◌else◌}
-use Rattle.std.proofs.Math.Bool.{or-false}
+use Rattle.std.proofs.Math.Bool.{and-false, and-true, or-false}
 use Rattle.tds_judge.specs.declared.finding.Spot.{Spot}
 use Rattle.tds_judge.specs.declared.talk.Event.{Event}
 use Rattle.tds_judge.specs.declared.talk.Event.TheVariants as events
@@ -11,7 +11,7 @@ use Rattle.tds_wire.specs.declared.told.ChangeValue.{ChangeValue}
 use Rattle.tds_wire.specs.declared.told.ChangeValue.TheVariants as changes
 use Rattle.tds_wire.specs.declared.told.Told.{Told}
 use Rattle.tds_wire.specs.declared.told.Told.TheVariants as told
-use Rattle.tds_judge.specs.Breaches.{agreed_last, asked_last, gone_last, has_begun, has_worked, idle_since, is_dated, is_entering, is_lent, is_other_shown, is_over, is_plain_answer, is_unheard, size_told}
+use Rattle.tds_judge.specs.Breaches.{agreed_last, asked_last, gone_last, has_begun, has_worked, idle_since, is_asking, is_bulk, is_dated, is_entering, is_lent, is_other_shown, is_over, is_plain_answer, is_unheard, size_told}
 use Rattle.tds_judge.specs.History.{Said, asks_of, further, has_asked_since, has_ended, is_acknowledged, is_cleared, is_out, is_twice, is_underway, last_told, left_underway, talk_behind, course_of}
 use Rattle.tds_judge.specs.Talking.{begun_as, descriptor_of, has_begun as begun_at, has_ended as ended_at, keeps, kind_heard, owed, talk_by}
 
@@ -25,7 +25,9 @@ talk_as past = record {
   late = has_asked_since past;
   ended_since = has_ended past;
   reset = asks_of past;
+  asking = is_asking past;
   reset_done = is_cleared past;
+  bulk = is_bulk past;
   transaction = last_told past;
   begun = has_begun past;
   begun_unheard = is_unheard past;
@@ -44,14 +46,6 @@ talk_as past = record {
 
 abbrev behind_of : List Said → Spot → Event → Talk
 behind_of past spot event = talk_as ((record { spot = spot; event = event }) ∷ past)
-
-and_true : (b : Bool) → b && true ≡ b
-and_true true = refl
-and_true false = refl
-
-and_false : (b : Bool) → b && false ≡ false
-and_false true = refl
-and_false false = refl
 
 -- ---- Changes
 
@@ -83,7 +77,7 @@ plainly t = ap (λ (b : Bool). record t { acknowledges = b }) (sym (or-false t.a
 by_change : (past : List Said) (spot : Spot) (kind start length type : ℕ) (value : ChangeValue)
     → talk_by (talk_as past) spot.time (said_token kind start length (told.Change (record { kind = type; value = value })))
     ≡ behind_of past spot (said_token kind start length (told.Change (record { kind = type; value = value })))
-unfolding talk_by asked_last course_of is_out is_twice is_dated is_other_shown asks_of is_cleared last_told has_begun is_unheard gone_last is_over is_acknowledged is_lent idle_since agreed_last size_told is_entering has_worked
+unfolding talk_by asked_last course_of is_out is_twice is_dated is_other_shown asks_of is_cleared last_told has_begun is_unheard gone_last is_over is_acknowledged is_lent idle_since agreed_last size_told is_entering has_worked is_asking is_bulk
 by_change past spot kind start length type (changes.Transaction new old) =
     changed ((type == 8) || (type == 11)) (kind_heard (talk_as past) kind) spot.time type new
     ∙ plainly (record (kind_heard (talk_as past) kind) {
@@ -107,7 +101,7 @@ by_change past spot kind start length type changes.Other = plainly (kind_heard (
 
 by_token : (past : List Said) (spot : Spot) (kind start length : ℕ) (x : Told)
     → talk_by (talk_as past) spot.time (said_token kind start length x) ≡ behind_of past spot (said_token kind start length x)
-unfolding talk_by asked_last course_of is_out is_twice is_dated is_other_shown asks_of is_cleared last_told has_begun is_unheard gone_last is_over is_acknowledged is_lent idle_since agreed_last size_told is_entering has_worked
+unfolding talk_by asked_last course_of is_out is_twice is_dated is_other_shown asks_of is_cleared last_told has_begun is_unheard gone_last is_over is_acknowledged is_lent idle_since agreed_last size_told is_entering has_worked is_asking is_bulk
 by_token past spot kind start length (told.Done done) = refl
 by_token past spot kind start length (told.Change change) = by_change past spot kind start length change.kind change.value
 by_token past spot kind start length (told.Message message) = plainly (kind_heard (talk_as past) kind)
@@ -135,19 +129,19 @@ ends : (b cut : Bool) (t : Talk) (time : ℕ)
     }
 ends true cut t time =
     ap (λ (a : Bool). record t { underway = if t.attention then t.late else t.doubled && t.underway; attention = a; doubled = t.doubled && t.attention; late = false; ended_since = false; since = time; most = t.agreed })
-    (sym (and_false t.attention))
+    (sym (and-false t.attention))
 ends false cut t time =
-    ap (λ (a : Bool). record t { underway = false; attention = a; late = t.late && not t.ended_since; ended_since = true; since = time; most = t.agreed; other = t.other || cut }) (sym (and_true t.attention))
+    ap (λ (a : Bool). record t { underway = false; attention = a; late = t.late && not t.ended_since; ended_since = true; since = time; most = t.agreed; other = t.other || cut }) (sym (and-true t.attention))
 
 -- ---- An event
 
 said_next : (past : List Said) (spot : Spot) (event : Event) → talk_by (talk_as past) spot.time event ≡ behind_of past spot event
-unfolding talk_by asked_last course_of is_out is_twice is_dated is_other_shown asks_of is_cleared last_told has_begun is_unheard gone_last is_over is_acknowledged is_lent idle_since agreed_last size_told is_entering has_worked
+unfolding talk_by asked_last course_of is_out is_twice is_dated is_other_shown asks_of is_cleared last_told has_begun is_unheard gone_last is_over is_acknowledged is_lent idle_since agreed_last size_told is_entering has_worked is_asking is_bulk
 said_next past spot (events.Says token) = by_token past spot token.kind token.start token.length token.told
 said_next past spot (events.Answered whole) = ends (is_acknowledged past) (is_plain_answer past && (not whole && not (is_dated past))) (talk_as past) spot.time
 said_next past spot _ = refl
 
 pub talk_is : (past : List Said) → talk_behind past ≡ talk_as past
-unfolding further asked_last course_of is_out is_twice is_dated is_other_shown asks_of is_cleared last_told has_begun is_unheard gone_last is_over is_acknowledged is_lent idle_since agreed_last size_told is_entering has_worked
+unfolding further asked_last course_of is_out is_twice is_dated is_other_shown asks_of is_cleared last_told has_begun is_unheard gone_last is_over is_acknowledged is_lent idle_since agreed_last size_told is_entering has_worked is_asking is_bulk
 talk_is [] = refl
 talk_is (x ∷ past) = ap (λ (t : Talk). talk_by t x.spot.time x.event) (talk_is past) ∙ said_next past x.spot x.event

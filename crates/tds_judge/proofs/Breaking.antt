@@ -1,6 +1,6 @@
 -- Breaches over a whole run.
-use Rattle.std.proofs.Common.{◌≡◌, ◌∙◌, ◌||◌, Bool, true, false, ℕ, List, [], ◌∷◌, ◌++◌, refl, sym, ap}
-use Rattle.std.proofs.Math.Bool.{or-false}
+use Rattle.std.proofs.Common.{◌≡◌, ◌∙◌, ◌||◌, Bool, ℕ, List, [], ◌∷◌, ◌++◌, refl, sym, ap}
+use Rattle.std.proofs.Math.Bool.{or-false, or_assoc}
 use Rattle.tds_judge.specs.declared.finding.Direction.{Direction}
 use Rattle.tds_judge.specs.declared.finding.Finding.{Finding}
 use Rattle.tds_judge.specs.declared.talk.Limits.{Limits}
@@ -15,13 +15,9 @@ use Rattle.tds_judge.proofs.Each.{breach_told}
 use Rattle.tds_judge.proofs.Notes.{appended}
 use Rattle.tds_judge.proofs.Telling.{steps_so}
 
-or_or : (a b c : Bool) → a || (b || c) ≡ (a || b) || c
-or_or true b c = refl
-or_or false b c = refl
-
 breach_append : (xs ys : List Finding) → has_breach (xs ++ ys) ≡ has_breach xs || has_breach ys
 breach_append [] ys = refl
-breach_append (x ∷ xs) ys = ap (λ (b : Bool). is_breach_number (number_of x.name) || b) (breach_append xs ys) ∙ or_or (is_breach_number (number_of x.name)) (has_breach xs) (has_breach ys)
+breach_append (x ∷ xs) ys = ap (λ (b : Bool). is_breach_number (number_of x.name) || b) (breach_append xs ys) ∙ sym (or_assoc (is_breach_number (number_of x.name)) (has_breach xs) (has_breach ys))
 
 -- a history behind a history
 behind_both : (later past : List Said) → further later (talk_behind past) ≡ talk_behind (later ++ past)
@@ -38,7 +34,7 @@ broken limits (x ∷ later) past xs =
     ∙ (ap (λ (b : Bool). b || has_breach (told_by [] limits (further later (talk_behind past)) x.spot x.event)) (broken limits later past xs)
     ∙ (ap (λ (t : Talk). (has_breach xs || is_broken past later) || has_breach (told_by [] limits t x.spot x.event)) (behind_both later past)
     ∙ (ap (λ (b : Bool). (has_breach xs || is_broken past later) || b) (breach_told limits (later ++ past) x.spot x.event)
-    ∙ sym (or_or (has_breach xs) (is_broken past later) (is_breach (later ++ past) x.event))))))
+    ∙ or_assoc (has_breach xs) (is_broken past later) (is_breach (later ++ past) x.event)))))
 
 pub breaks_by : (past : List Said) (before after : Run) → before.judge.talk ≡ talk_behind past → (h : Tells before after)
     → has_breach after.told ≡ has_breach before.told || is_broken past h.events

@@ -1,5 +1,5 @@
 -- Conversations that are lawful, worked out: what a law of lawful conversations is about.
-use Rattle.std.proofs.Common.{ℕ, true, List, [], ◌∷◌, refl}
+use Rattle.std.proofs.Common.{false, ℕ, true, List, [], ◌∷◌, refl}
 use Rattle.tds_judge.specs.declared.finding.Direction.TheVariants.{ToServer}
 use Rattle.tds_judge.specs.declared.talk.Event.{Event}
 use Rattle.tds_judge.specs.declared.talk.Event.TheVariants as events
@@ -17,13 +17,13 @@ done status = events.Says (record { kind = 0xFD; start = 0; length = 13; told = 
 -- The attention is seen before the answer, or behind its end; either way the acknowledgement is a message of its own, and the next
 -- request comes behind it.
 before : IsLawful (said_in (
-    events.Request 1 ∷ events.Answered true ∷ done 0x20 ∷ events.Answer ∷ events.Answered true ∷ done 0 ∷ events.Answer
-    ∷ events.Attention 8 1 ∷ events.Names 0 ∷ events.Request 1 ∷ []))
+    events.Request 1 false ∷ events.Answered true ∷ done 0x20 ∷ events.Answer ∷ events.Answered true ∷ done 0 ∷ events.Answer
+    ∷ events.Attention 8 1 ∷ events.Names 0 ∷ events.Request 1 false ∷ []))
 unfolding IsLawful place_of last_told
 before = ((((((((((tt, (refl, refl)), tt), (tt, refl, refl)), tt), (tt, refl)), tt), tt), (tt, refl)), tt), (refl, refl))
 
 behind : IsLawful (said_in (
-    events.Request 1 ∷ events.Answered true ∷ done 0x20 ∷ events.Answer ∷ events.Attention 8 1 ∷ events.Answered true ∷ done 0 ∷ events.Answer
-    ∷ events.Names 0 ∷ events.Request 1 ∷ []))
+    events.Request 1 false ∷ events.Answered true ∷ done 0x20 ∷ events.Answer ∷ events.Attention 8 1 ∷ events.Answered true ∷ done 0 ∷ events.Answer
+    ∷ events.Names 0 ∷ events.Request 1 false ∷ []))
 unfolding IsLawful place_of last_told
 behind = ((((((((((tt, (refl, refl)), tt), tt), (refl, refl)), tt), (tt, refl, refl)), tt), (tt, refl)), tt), (refl, refl))

@@ -1,6 +1,7 @@
 -- A lawful conversation has no breach.
 use Rattle.std.specs.Prelude.{if◌then◌else◌}
 use Rattle.std.proofs.Common.{◌≡◌, ◌∙◌, ◌==◌, ◌&&◌, ◌||◌, not, nat_lt, Bool, true, false, ℕ, List, [], ◌∷◌, ◌++◌, refl, sym, ap}
+use Rattle.std.proofs.Math.Bool.{and-false, and-true}
 use Rattle.tds_judge.specs.declared.finding.Spot.{Spot}
 use Rattle.tds_judge.specs.declared.talk.Asked.{Asked}
 use Rattle.tds_judge.specs.declared.talk.Asked.TheVariants as asks
@@ -17,7 +18,7 @@ use Rattle.tds_wire.specs.declared.told.ChangeValue.TheVariants as changes
 use Rattle.tds_wire.specs.declared.told.Told.{Told}
 use Rattle.tds_wire.specs.declared.told.Told.TheVariants as told
 use Rattle.tds_wire.specs.declared.told.Token.{Token}
-use Rattle.tds_judge.specs.Breaches.{asked_last, final_by_token, gone_last, is_dated, is_entering, is_over, is_unheard, size_told}
+use Rattle.tds_judge.specs.Breaches.{asked_last, final_by_token, gone_last, is_bulk, is_dated, is_entering, is_over, is_unheard, size_told}
 use Rattle.tds_judge.specs.Conversation.{IsLawful, MayAnswer, MayAsk, MayAt, MayEnd, MayGreet, MayHead, MayLend, MayName, MaySay, MayStay, MayStop, Names, Place, Quiet, Greeting, Entering, Asking, Answering, Stopping, Skipping, begun_at, ended_at, forgotten_at, heard_at, left_by, left_by_change, place_by, place_of, stopped_at}
 use Rattle.tds_judge.specs.History.{Said, cleared_by_change, cleared_by_token, asks_of, has_asked_since, has_ended, is_acknowledged, is_another, is_cleared, is_out, is_twice, is_underway, last_told, left_underway, course_of}
 use Rattle.tds_judge.specs.Talking.{acknowledges, admits, changes_wrongly, ignores_early, is_asked, is_both, is_full, is_known, is_request, reset_of}
@@ -47,19 +48,11 @@ Stands place past =
 abbrev behind : List Said → Spot → Event → List Said
 behind past spot event = (record { spot = spot; event = event }) ∷ past
 
-and_false : (b : Bool) → b && false ≡ false
-and_false true = refl
-and_false false = refl
-
-and_true : (b : Bool) → b && true ≡ b
-and_true true = refl
-and_true false = refl
-
 -- a reset that is still to be told done, behind one more token
 left_change : (value : ChangeValue) (asked cleared : Bool) (reset : Reset)
     → asked && not cleared ≡ is_asked reset
     → asked && not (cleared_by_change value cleared) ≡ is_asked (left_by_change value reset)
-left_change changes.ResetDone asked cleared reset so = and_false asked
+left_change changes.ResetDone asked cleared reset so = and-false asked
 left_change _ asked cleared reset so = so
 
 left_token : (x : Told) (asked cleared : Bool) (reset : Reset)
@@ -76,10 +69,10 @@ none_left true out since twice before o t =
     ap (λ (b : Bool). left_underway true b since twice before) o ∙ ap (λ (b : Bool). left_underway true false since b before) t
 none_left false out since twice before o t = refl
 
-asks_there : (place : Place) (past : List Said) (spot : Spot) (status : ℕ) → Stands place past → MayAsk place status → Stands (Asking (reset_of status)) (behind past spot (events.Request status))
+asks_there : (place : Place) (past : List Said) (spot : Spot) (status : ℕ) (bulk : Bool) → Stands place past → MayAsk place status → Stands (Asking (reset_of status)) (behind past spot (events.Request status bulk))
 unfolding is_out is_cleared asks_of course_of is_entering
-asks_there Quiet past spot status so may = (so.0, refl, refl, refl, refl)
-asks_there _ past spot status so may = absurd may
+asks_there Quiet past spot status bulk so may = (so.0, refl, refl, refl, refl)
+asks_there _ past spot status bulk so may = absurd may
 
 greets_there : (place : Place) (past : List Said) (spot : Spot) → Stands place past → MayGreet place → Stands (Greeting true) (behind past spot events.Login)
 unfolding is_out asked_last course_of is_entering
@@ -109,7 +102,7 @@ answers_there : (place : Place) (past : List Said) (spot : Spot) → Stands plac
 unfolding is_out course_of is_acknowledged is_over is_cleared asked_last asks_of is_entering
 answers_there (Greeting enters) past spot so may = so
 answers_there (Asking reset) past spot so may =
-    (so.0, refl, refl, ap (λ (b : Bool). is_asked (asks_of past) && not b) so.2 ∙ (and_true (is_asked (asks_of past)) ∙ ap is_asked so.1), so.4)
+    (so.0, refl, refl, ap (λ (b : Bool). is_asked (asks_of past) && not b) so.2 ∙ (and-true (is_asked (asks_of past)) ∙ ap is_asked so.1), so.4)
 answers_there Stopping past spot so may = (so.0, so.1, refl, so.2)
 answers_there _ past spot so may = absurd may
 
@@ -149,14 +142,14 @@ ends_there (Answering reset final) past spot whole once so may = (
   so.4,
 )
 ends_there (Skipping true) past spot whole once so may = (
-  ap (λ (b : Bool). is_out past && not b) so.2 ∙ and_false (is_out past),
+  ap (λ (b : Bool). is_out past && not b) so.2 ∙ and-false (is_out past),
   ap (λ (b : Bool). left_underway b (is_out past) (has_asked_since past) (is_twice past) (is_underway past)) so.2
       ∙ (ap (λ (b : Bool). left_underway true b (has_asked_since past) (is_twice past) (is_underway past)) so.0 ∙ so.1),
   so.3,
 )
 ends_there (Skipping false) past spot whole once so may = (
-  ap (λ (b : Bool). is_out past && not b) so.2 ∙ (and_true (is_out past) ∙ so.0),
-  ap (λ (b : Bool). not (is_acknowledged past) && (b && not (has_ended past))) so.1 ∙ and_false (not (is_acknowledged past)),
+  ap (λ (b : Bool). is_out past && not b) so.2 ∙ (and-true (is_out past) ∙ so.0),
+  ap (λ (b : Bool). not (is_acknowledged past) && (b && not (has_ended past))) so.1 ∙ and-false (not (is_acknowledged past)),
   so.3,
 )
 ends_there _ past spot whole once so may = absurd may
@@ -184,7 +177,7 @@ goes : (place : Place) (past : List Said) (spot : Spot) (event : Event) → is_t
 unfolding is_out course_of is_acknowledged is_over is_cleared asked_last asks_of is_entering
 goes place past spot (events.Packet size fills) once so may = so
 goes place past spot events.Unfinished once so may = so
-goes place past spot (events.Request status) once so may = asks_there place past spot status so may
+goes place past spot (events.Request status bulk) once so may = asks_there place past spot status bulk so may
 goes place past spot events.Login once so may = greets_there place past spot so may
 goes place past spot (events.Attention size status) once so may = stops_there place past spot size status so may.0
 goes place past spot (events.Later status) once so may = so
@@ -208,13 +201,13 @@ lawful_stands (x ∷ past) lawful =
 
 -- ---- No breach
 
-no_asking : (place : Place) (past : List Said) (status : ℕ) → Stands place past → MayAsk place status → breaks_rules past (events.Request status) ≡ false
-no_asking Quiet past status so may =
+no_asking : (place : Place) (past : List Said) (status : ℕ) (bulk : Bool) → Stands place past → MayAsk place status → breaks_rules past (events.Request status bulk) ≡ false
+no_asking Quiet past status bulk so may =
     ap (λ (b : Bool). b || ((is_underway past && not b) || (is_both (reset_of status) || (ignores_early status || (is_entering past || false))))) so.0
     ∙ (ap (λ (b : Bool). (b && true) || (is_both (reset_of status) || (ignores_early status || (is_entering past || false)))) so.1
     ∙ (ap (λ (b : Bool). b || (ignores_early status || (is_entering past || false))) may.0
     ∙ (ap (λ (b : Bool). b || (is_entering past || false)) may.1 ∙ ap (λ (b : Bool). b || false) so.2)))
-no_asking _ past status so may = absurd may
+no_asking _ past status bulk so may = absurd may
 
 no_stop : (place : Place) (past : List Said) (size status : ℕ) → Stands place past → MayStop place → size ≡ 8 → status ≡ 1 → breaks_rules past (events.Attention size status) ≡ false
 no_stop Quiet past size status so may eight ends =
@@ -246,67 +239,67 @@ no_name _ past descriptor so may = absurd may
 no_saying : (place : Place) (past : List Said) (token : Token) → Stands place past → MaySay place token
     → acknowledges token && (is_request (asked_last past) && (not (is_out past) && not (is_twice past))) ≡ false
 no_saying (Greeting enters) past token so may =
-    ap (λ (a : Asked). acknowledges token && (is_request a && (not (is_out past) && not (is_twice past)))) so.1 ∙ and_false (acknowledges token)
+    ap (λ (a : Asked). acknowledges token && (is_request a && (not (is_out past) && not (is_twice past)))) so.1 ∙ and-false (acknowledges token)
 no_saying (Answering reset final) past token so may = ap (λ (b : Bool). b && (is_request (asked_last past) && (not (is_out past) && not (is_twice past)))) may
 no_saying (Skipping done) past token so may =
     ap (λ (b : Bool). acknowledges token && (is_request (asked_last past) && (not b && not (is_twice past)))) so.0
-    ∙ (ap (λ (b : Bool). acknowledges token && b) (and_false (is_request (asked_last past))) ∙ and_false (acknowledges token))
+    ∙ (ap (λ (b : Bool). acknowledges token && b) (and-false (is_request (asked_last past))) ∙ and-false (acknowledges token))
 no_saying _ past token so may = absurd may
 
 -- of an answer that isn't plain
 abbrev plain_by : Asked → Bool → Bool → Bool
 plain_by asked out acknowledged = is_request asked && (not out && not acknowledged)
 
-abbrev ending_by : (plain whole dated over owed ignored : Bool) → Bool
-ending_by plain whole dated over owed ignored =
-    (plain && (not whole && dated)) || ((plain && (whole && not over)) || ((plain && (over && owed)) || (ignored || false)))
+abbrev ending_by : (plain whole dated over owed bulk ignored : Bool) → Bool
+ending_by plain whole dated over owed bulk ignored =
+    (plain && (not whole && dated)) || ((plain && (whole && not over)) || ((plain && (over && (owed && not bulk))) || (ignored || false)))
 
 fits_by : (p q : Bool) → (p || not q) ≡ true → not p && q ≡ false
 fits_by true q so = refl
 fits_by false false so = refl
 fits_by false true so = sym so
 
-all_false : (b dated : Bool) → ending_by b true dated true false false ≡ false
-all_false true dated = refl
-all_false false dated = refl
+all_false : (b dated bulk : Bool) → ending_by b true dated true false bulk false ≡ false
+all_false true dated bulk = refl
+all_false false dated bulk = refl
 
 fits : (most size : ℕ) → ((most == 0) || not (nat_lt most size)) ≡ true → not (most == 0) && nat_lt most size ≡ false
 fits most size so = fits_by (most == 0) (nat_lt most size) so
 
 no_ending : (place : Place) (past : List Said) (whole : Bool) → Stands place past → MayEnd place whole → breaks_rules past (events.Answered whole) ≡ false
 no_ending (Greeting enters) past whole so may =
-    ap (λ (a : Asked). ending_by (plain_by a (is_out past) (is_acknowledged past)) whole (is_dated past) (is_over past) (is_asked (asks_of past) && not (is_cleared past))
+    ap (λ (a : Asked). ending_by (plain_by a (is_out past) (is_acknowledged past)) whole (is_dated past) (is_over past) (is_asked (asks_of past) && not (is_cleared past)) (is_bulk past)
     (is_out past && (not (is_acknowledged past) && (has_asked_since past && has_ended past)))) so.1
     ∙ ap (λ (b : Bool). (b && (not (is_acknowledged past) && (has_asked_since past && has_ended past))) || false) so.0
 no_ending (Answering resets.None true) past true so may =
-    ap (λ (b : Bool). ending_by (plain_by (asked_last past) (is_out past) (is_acknowledged past)) true (is_dated past) b (is_asked (asks_of past) && not (is_cleared past))
+    ap (λ (b : Bool). ending_by (plain_by (asked_last past) (is_out past) (is_acknowledged past)) true (is_dated past) b (is_asked (asks_of past) && not (is_cleared past)) (is_bulk past)
     (is_out past && (not (is_acknowledged past) && (has_asked_since past && has_ended past)))) so.2
-    ∙ (ap (λ (b : Bool). ending_by (plain_by (asked_last past) (is_out past) (is_acknowledged past)) true (is_dated past) true b
+    ∙ (ap (λ (b : Bool). ending_by (plain_by (asked_last past) (is_out past) (is_acknowledged past)) true (is_dated past) true b (is_bulk past)
     (is_out past && (not (is_acknowledged past) && (has_asked_since past && has_ended past)))) so.3
-    ∙ (ap (λ (b : Bool). ending_by (plain_by (asked_last past) (is_out past) (is_acknowledged past)) true (is_dated past) true false
+    ∙ (ap (λ (b : Bool). ending_by (plain_by (asked_last past) (is_out past) (is_acknowledged past)) true (is_dated past) true false (is_bulk past)
     (b && (not (is_acknowledged past) && (has_asked_since past && has_ended past)))) so.0
-    ∙ all_false (plain_by (asked_last past) (is_out past) (is_acknowledged past)) (is_dated past)))
+    ∙ all_false (plain_by (asked_last past) (is_out past) (is_acknowledged past)) (is_dated past) (is_bulk past)))
 no_ending (Skipping done) past whole so may =
-    ap (λ (b : Bool). ending_by (plain_by (asked_last past) b (is_acknowledged past)) whole (is_dated past) (is_over past) (is_asked (asks_of past) && not (is_cleared past))
+    ap (λ (b : Bool). ending_by (plain_by (asked_last past) b (is_acknowledged past)) whole (is_dated past) (is_over past) (is_asked (asks_of past) && not (is_cleared past)) (is_bulk past)
     (is_out past && (not (is_acknowledged past) && (has_asked_since past && has_ended past)))) so.0
-    ∙ (ap (λ (b : Bool). ending_by b whole (is_dated past) (is_over past) (is_asked (asks_of past) && not (is_cleared past))
-    (is_out past && (not (is_acknowledged past) && (has_asked_since past && has_ended past)))) (and_false (is_request (asked_last past)))
+    ∙ (ap (λ (b : Bool). ending_by b whole (is_dated past) (is_over past) (is_asked (asks_of past) && not (is_cleared past)) (is_bulk past)
+    (is_out past && (not (is_acknowledged past) && (has_asked_since past && has_ended past)))) (and-false (is_request (asked_last past)))
     ∙ (ap (λ (b : Bool). (is_out past && (not (is_acknowledged past) && (b && has_ended past))) || false) so.1
-    ∙ (ap (λ (b : Bool). (is_out past && b) || false) (and_false (not (is_acknowledged past)))
-    ∙ ap (λ (b : Bool). b || false) (and_false (is_out past)))))
+    ∙ (ap (λ (b : Bool). (is_out past && b) || false) (and-false (not (is_acknowledged past)))
+    ∙ ap (λ (b : Bool). b || false) (and-false (is_out past)))))
 no_ending _ past whole so may = absurd may
 
 no_answer : (place : Place) (past : List Said) → Stands place past → MayAnswer place → breaks_rules past events.Answer ≡ false
 no_answer (Greeting enters) past so may =
     ap (λ (b : Bool). (is_known (asked_last past) && (not b && (not (is_out past) && not (is_twice past)))) || false) so.2
-    ∙ ap (λ (b : Bool). b || false) (and_false (is_known (asked_last past)))
+    ∙ ap (λ (b : Bool). b || false) (and-false (is_known (asked_last past)))
 no_answer (Asking reset) past so may =
     ap (λ (b : Bool). (is_known (asked_last past) && (not b && (not (is_out past) && not (is_twice past)))) || false) so.3
-    ∙ ap (λ (b : Bool). b || false) (and_false (is_known (asked_last past)))
+    ∙ ap (λ (b : Bool). b || false) (and-false (is_known (asked_last past)))
 no_answer Stopping past so may =
     ap (λ (b : Bool). (is_known (asked_last past) && (not (is_underway past) && (not b && not (is_twice past)))) || false) so.0
-    ∙ (ap (λ (b : Bool). (is_known (asked_last past) && b) || false) (and_false (not (is_underway past)))
-    ∙ ap (λ (b : Bool). b || false) (and_false (is_known (asked_last past))))
+    ∙ (ap (λ (b : Bool). (is_known (asked_last past) && b) || false) (and-false (not (is_underway past)))
+    ∙ ap (λ (b : Bool). b || false) (and-false (is_known (asked_last past))))
 no_answer _ past so may = absurd may
 
 no_loan : (place : Place) (past : List Said) → Stands place past → MayLend place → breaks_rules past events.Borrowed ≡ false
@@ -331,7 +324,7 @@ no_head false may = refl
 no_breach : (place : Place) (past : List Said) (event : Event) → Stands place past → MayAt place (last_told past) (size_told past) (is_dated past) event → breaks_rules past event ≡ false
 no_breach place past (events.Packet size fills) so may = ap (λ (b : Bool). b || false) (fits (size_told past) size may)
 no_breach place past events.Unfinished so may = absurd may
-no_breach place past (events.Request status) so may = no_asking place past status so may
+no_breach place past (events.Request status bulk) so may = no_asking place past status bulk so may
 no_breach place past events.Login so may = refl
 no_breach place past (events.Attention size status) so may = no_stop place past size status so may.0 may.1 may.2
 no_breach place past (events.Later status) so may =
@@ -358,4 +351,4 @@ not_broken past (x ∷ later) lawful =
     both_false (is_broken past later) (is_breach (later ++ past) x.event) (not_broken past later lawful.0)
     (ap (λ (b : Bool). is_judged (later ++ past) && b)
     (no_breach (place_of (later ++ past)) (later ++ past) x.event (lawful_stands (later ++ past) lawful.0).0 lawful.1)
-    ∙ and_false (is_judged (later ++ past)))
+    ∙ and-false (is_judged (later ++ past)))

@@ -1,7 +1,7 @@
 -- What an event notes, as a list.
 use Rattle.std.proofs.Common.{◌≡◌, ◌∙◌, ◌-◌, ◌==◌, ◌&&◌, ◌||◌, not, nat_lt, Bool, true, false, ℕ, List, [], ◌∷◌, ◌++◌, refl, sym, ap, append_assoc, append-nil}
 use Rattle.std.specs.Prelude.{if◌then◌else◌}
-use Rattle.std.proofs.Math.Bool.{or-false}
+use Rattle.std.proofs.Math.Bool.{and-false, and-true, or-false, or_assoc}
 use Rattle.tds_judge.specs.declared.finding.Finding.{Finding}
 use Rattle.tds_judge.specs.declared.finding.Name.{Name}
 use Rattle.tds_judge.specs.declared.finding.Name.TheVariants as names
@@ -41,33 +41,21 @@ abbrev pub any : (ℕ → Bool) → List Note → Bool
 any p [] = false
 any p (n ∷ notes) = (p (number_of n.name) && n.is) || any p notes
 
-or_or : (a b c : Bool) → a || (b || c) ≡ (a || b) || c
-or_or true b c = refl
-or_or false b c = refl
-
-and_true : (b : Bool) → b && true ≡ b
-and_true true = refl
-and_true false = refl
-
-and_false : (b : Bool) → b && false ≡ false
-and_false true = refl
-and_false false = refl
-
 among_end : (p : ℕ → Bool) (xs : List Finding) (x : Finding) → among p (xs ++ x ∷ []) ≡ among p xs || p (number_of x.name)
 among_end p [] x = or-false (p (number_of x.name))
-among_end p (y ∷ ys) x = ap (λ (b : Bool). p (number_of y.name) || b) (among_end p ys x) ∙ or_or (p (number_of y.name)) (among p ys) (p (number_of x.name))
+among_end p (y ∷ ys) x = ap (λ (b : Bool). p (number_of y.name) || b) (among_end p ys x) ∙ sym (or_assoc (p (number_of y.name)) (among p ys) (p (number_of x.name)))
 
 among_noted : (p : ℕ → Bool) (xs : List Finding) (spot : Spot) (is : Bool) (name : Name) (value : ℕ) → among p (noted xs spot is name value) ≡ among p xs || (p (number_of name) && is)
 among_noted p xs spot true name value =
-    among_end p xs (record { name = name; value = value; spot = spot }) ∙ ap (λ (b : Bool). among p xs || b) (sym (and_true (p (number_of name))))
-among_noted p xs spot false name value = sym (ap (λ (b : Bool). among p xs || b) (and_false (p (number_of name))) ∙ or-false (among p xs))
+    among_end p xs (record { name = name; value = value; spot = spot }) ∙ ap (λ (b : Bool). among p xs || b) (sym (and-true (p (number_of name))))
+among_noted p xs spot false name value = sym (ap (λ (b : Bool). among p xs || b) (and-false (p (number_of name))) ∙ or-false (among p xs))
 
 among_put : (p : ℕ → Bool) (notes : List Note) (xs : List Finding) (spot : Spot) → among p (put xs spot notes) ≡ among p xs || any p notes
 among_put p [] xs spot = sym (or-false (among p xs))
 among_put p (n ∷ notes) xs spot =
     among_put p notes (noted xs spot n.is n.name n.value) spot
     ∙ (ap (λ (b : Bool). b || any p notes) (among_noted p xs spot n.is n.name n.value)
-    ∙ sym (or_or (among p xs) (p (number_of n.name) && n.is) (any p notes)))
+    ∙ or_assoc (among p xs) (p (number_of n.name) && n.is) (any p notes))
 
 found_among : (n : ℕ) (xs : List Finding) → is_found n xs ≡ among (λ (m : ℕ). m == n) xs
 found_among n [] = refl
@@ -83,7 +71,7 @@ abbrev pub notes_of : Limits → Talk → Spot → Event → List Note
 notes_of limits t spot (events.Packet size fills) =
     note (not (t.most == 0) && nat_lt t.most size) names.PacketSize size ∷ note (fills && nat_lt size t.most) names.PacketNotFull size ∷ []
 notes_of limits t spot events.Unfinished = note true names.UnfinishedMessage 0 ∷ []
-notes_of limits t spot (events.Request status) =
+notes_of limits t spot (events.Request status bulk) =
     note t.attention names.AttentionUnanswered 0
     ∷ note (t.underway && not t.attention) names.RequestWhileAnswering 0
     ∷ note (is_both (reset_of status)) names.BothResets status
@@ -93,6 +81,7 @@ notes_of limits t spot (events.Request status) =
     ∷ note (is_idle_long limits t spot.time) names.IdleInTransaction (spot.time - t.since)
     ∷ note (ignores_early status) names.IgnoreUnended status
     ∷ note t.entering names.RequestBeforeLogin 0
+    ∷ note (bulk && is_asked (reset_of status)) names.ResetOnBulkLoad status
     ∷ []
 notes_of limits t spot (events.Attention size status) =
     note t.attention names.SecondAttention 0 ∷ note (not (size == 8) || not (status == 1)) names.WrongAttention size ∷ []
@@ -119,7 +108,7 @@ notes_of limits t spot (events.Answered whole) =
     note (is_plain t && (not whole && t.dated)) names.CutToken 0
     ∷ note (is_plain t && (not whole && not t.dated)) names.OtherVersion 0
     ∷ note (is_plain t && (whole && not t.is_final)) names.NoFinalDone 0
-    ∷ note (is_plain t && (t.is_final && (is_asked t.reset && not t.reset_done))) names.ResetUnanswered 0
+    ∷ note (is_plain t && (t.is_final && ((is_asked t.reset && not t.reset_done) && not t.bulk))) names.ResetUnanswered 0
     ∷ note (t.attention && (not t.acknowledges && (t.late && t.ended_since))) names.AttentionIgnored 0
     ∷ []
 notes_of limits t spot events.TakenUp = note true names.TakenUp 0 ∷ []
@@ -132,7 +121,7 @@ notes_of limits t spot (events.Stops ending value) =
     ∷ note (ends_by_compute ending) names.Compute value
     ∷ note (ends_by_direction ending) names.WrongDirection value
     ∷ []
-notes_of limits t spot events.Answer = note (is_unawaited t) names.AnswerUnasked 0 ∷ []
+notes_of limits t spot events.Answer = note (is_unawaited t) names.AnswerUnasked 0 ∷ note t.asking names.AnswerBeforeEnd 0 ∷ []
 notes_of limits t spot events.Borrowed = note (t.attention || (t.underway && is_request t.asked)) names.LentWhileAnswering 0 ∷ []
 notes_of limits t spot events.Closed =
     note (t.underway && is_request t.asked) names.AnswerUnread 0

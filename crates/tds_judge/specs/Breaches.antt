@@ -10,14 +10,14 @@ use Rattle.tds_wire.specs.declared.told.ChangeValue.{ChangeValue}
 use Rattle.tds_wire.specs.declared.told.ChangeValue.TheVariants as changes
 use Rattle.tds_wire.specs.declared.told.Told.{Told}
 use Rattle.tds_wire.specs.declared.told.Told.TheVariants as told
-use Rattle.tds_judge.specs.History.{Said, is_acknowledged, is_out, is_underway, last_told, owed_of}
+use Rattle.tds_judge.specs.History.{Said, is_acknowledged, is_out, is_twice, is_underway, last_told, owed_of}
 use Rattle.tds_judge.specs.Talking.{admits, descriptor_of, is_asked, is_long, is_request, keeps, reset_of, shows_work}
 
 -- ---- The answer that comes, and its request
 
 -- what the newest message to the server is, attentions apart
 abbrev pub asked_by : Event → Asked → Asked
-asked_by (events.Request status) before = asks.Request
+asked_by (events.Request status bulk) before = asks.Request
 asked_by events.Login before = asks.Login
 asked_by _ before = before
 
@@ -76,7 +76,7 @@ lent_by_token _ before = before
 
 abbrev pub lent_by : Event → Bool → Bool
 lent_by events.Borrowed before = true
-lent_by (events.Request status) before = before && is_asked (reset_of status)
+lent_by (events.Request status bulk) before = before && is_asked (reset_of status)
 lent_by (events.Says token) before = lent_by_token token.told before
 lent_by _ before = before
 
@@ -91,13 +91,39 @@ is_plain_answer past = is_request (asked_last past) && (not (is_out past) && not
 -- a login has begun, and nothing has let the client in (2.2.7.14); a request before that is told once
 abbrev pub entering_by : Event → Bool → Bool
 entering_by events.Login before = true
-entering_by (events.Request status) before = false
+entering_by (events.Request status bulk) before = false
 entering_by (events.Says token) before = if admits token.kind then false else before
 entering_by _ before = before
 
 unfoldable pub is_entering : List Said → Bool
 is_entering [] = false
 is_entering (x ∷ past) = entering_by x.event (is_entering past)
+
+-- The newest request's last packet is to come (2.2.3.1.2), and no other answer was when it began; an answer that begins before it is told once.
+abbrev pub goes_out_by : Event → (free before : Bool) → Bool
+goes_out_by (events.Request status bulk) free before = not (status % 2 == 1) && free
+goes_out_by events.Login free before = false
+goes_out_by (events.Attention size status) free before = false
+goes_out_by (events.Later status) free before = before && not (status % 2 == 1)
+goes_out_by events.Answer free before = false
+goes_out_by _ free before = before
+
+abbrev pub no_answer_is_due : List Said → Bool
+no_answer_is_due past = not (is_underway past) && (not (is_out past) && not (is_twice past))
+
+unfoldable pub is_asking : List Said → Bool
+is_asking [] = false
+is_asking (x ∷ past) = goes_out_by x.event (no_answer_is_due past) (is_asking past)
+
+-- the newest request is a bulk load, of which no reset may be asked (2.2.3.1.2)
+abbrev pub bulk_by : Event → Bool → Bool
+bulk_by (events.Request status bulk) before = bulk
+bulk_by events.Login before = false
+bulk_by _ before = before
+
+unfoldable pub is_bulk : List Said → Bool
+is_bulk [] = false
+is_bulk (x ∷ past) = bulk_by x.event (is_bulk past)
 
 -- the answer that comes tells that something of the request was done
 abbrev pub working_by : Event → Bool → Bool
@@ -155,7 +181,7 @@ begun_by_token (told.Change change) before = begun_by_change change.kind change.
 begun_by_token _ before = before
 
 abbrev pub begun_by : Event → Bool → Bool
-begun_by (events.Request status) before = false
+begun_by (events.Request status bulk) before = false
 begun_by events.Login before = false
 begun_by (events.Says token) before = begun_by_token token.told before
 begun_by _ before = before

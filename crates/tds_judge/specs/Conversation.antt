@@ -76,7 +76,7 @@ forgotten_at (Greeting enters) = Entering
 forgotten_at place = place
 
 abbrev pub place_by : Event → Place → Place
-place_by (events.Request status) place = Asking (reset_of status)
+place_by (events.Request status bulk) place = Asking (reset_of status)
 place_by events.Login place = Greeting true
 place_by (events.Attention size status) place = stopped_at place
 place_by events.Ignored place = forgotten_at place
@@ -162,7 +162,7 @@ MayHead true = ⊥
 abbrev pub MayAt : Place → Transaction → ℕ → Bool → Event → Type 0
 MayAt place last most dated (events.Packet size fills) = ((most == 0) || not (nat_lt most size)) ≡ true
 MayAt place last most dated events.Unfinished = ⊥
-MayAt place last most dated (events.Request status) = MayAsk place status
+MayAt place last most dated (events.Request status bulk) = MayAsk place status
 MayAt place last most dated events.Login = MayGreet place
 MayAt place last most dated (events.Attention size status) = MayStop place × (size ≡ 8) × (status ≡ 1)
 MayAt place last most dated (events.Later status) = (reset_of status ≡ resets.None) × (ignores_early status ≡ false)

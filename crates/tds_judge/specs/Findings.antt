@@ -51,9 +51,11 @@ number_of names.WrongHeaders = 40
 number_of names.PacketNotFull = 41
 number_of names.RequestBeforeLogin = 42
 number_of names.ResetToldLate = 43
+number_of names.AnswerBeforeEnd = 44
+number_of names.ResetOnBulkLoad = 45
 
 abbrev pub is_risk : ℕ → Bool
-is_risk n = (n == 6) || (n == 10) || (n == 11) || (n == 12) || (n == 17) || (n == 18) || (n == 26) || (n == 36) || (n == 39) || (n == 41) || (n == 43)
+is_risk n = (n == 6) || (n == 10) || (n == 11) || (n == 12) || (n == 17) || (n == 18) || (n == 26) || (n == 36) || (n == 39) || (n == 41) || (n == 43) || (n == 44) || (n == 45)
 
 abbrev pub is_note : ℕ → Bool
 is_note n = (n == 16) || (n == 27) || (n == 28) || (n == 29) || (n == 30) || (n == 31) || (n == 34)

@@ -68,7 +68,7 @@ fault_of direction head =
 abbrev pub event_of : Head → Event
 event_of head =
     if head.kind == 6 then events.Attention head.size head.status
-    else if (head.kind == 1) || (head.kind == 3) || (head.kind == 7) || (head.kind == 14) then events.Request head.status
+    else if (head.kind == 1) || (head.kind == 3) || (head.kind == 7) || (head.kind == 14) then events.Request head.status (head.kind == 7)
     else events.Login
 
 -- A packet of a request that doesn't end its message has to be full (2.2.3.1.3).

@@ -60,7 +60,7 @@ acknowledged_by events.Answer before = false
 acknowledged_by (events.Says token) before = before || acknowledges token
 acknowledged_by (events.Packet size fills) before = before
 acknowledged_by events.Unfinished before = before
-acknowledged_by (events.Request status) before = before
+acknowledged_by (events.Request status bulk) before = before
 acknowledged_by events.Login before = before
 acknowledged_by (events.Attention size status) before = before
 acknowledged_by (events.Later status) before = before
@@ -85,7 +85,7 @@ out_by events.Answer acknowledged before = before
 out_by (events.Says token) acknowledged before = before
 out_by (events.Packet size fills) acknowledged before = before
 out_by events.Unfinished acknowledged before = before
-out_by (events.Request status) acknowledged before = before
+out_by (events.Request status bulk) acknowledged before = before
 out_by events.Login acknowledged before = before
 out_by (events.Later status) acknowledged before = before
 out_by (events.Names descriptor) acknowledged before = before
@@ -118,7 +118,7 @@ abbrev pub left_underway : (acknowledged out since twice before : Bool) → Bool
 left_underway acknowledged out since twice before = if acknowledged then (if out then since else twice && before) else false
 
 abbrev pub underway_by : Event → (acknowledged out since twice before : Bool) → Bool
-underway_by (events.Request status) acknowledged out since twice before = true
+underway_by (events.Request status bulk) acknowledged out since twice before = true
 underway_by events.Login acknowledged out since twice before = true
 underway_by (events.Answered whole) acknowledged out since twice before = left_underway acknowledged out since twice before
 underway_by events.Ignored acknowledged out since twice before = false
@@ -143,7 +143,7 @@ ended_by _ acknowledged underway before = before
 
 -- a request was sent while the attention is out, and its own answer hasn't ended
 abbrev pub asked_since_by : Event → (acknowledged out ended before : Bool) → Bool
-asked_since_by (events.Request status) acknowledged out ended before = out
+asked_since_by (events.Request status bulk) acknowledged out ended before = out
 asked_since_by (events.Attention size status) acknowledged out ended before = false
 asked_since_by (events.Answered whole) acknowledged out ended before = not acknowledged && (before && not ended)
 asked_since_by _ acknowledged out ended before = before
@@ -175,7 +175,7 @@ has_asked_since past = (course_of past).since
 
 -- what the newest request asks for
 abbrev pub asks_by : Event → Reset → Reset
-asks_by (events.Request status) before = reset_of status
+asks_by (events.Request status bulk) before = reset_of status
 asks_by events.Login before = resets.None
 asks_by (events.Answered whole) before = before
 asks_by events.Ignored before = before
@@ -206,7 +206,7 @@ cleared_by_token (told.Change change) before = cleared_by_change change.value be
 cleared_by_token _ before = before
 
 abbrev pub cleared_by : Event → Bool → Bool
-cleared_by (events.Request status) before = false
+cleared_by (events.Request status bulk) before = false
 cleared_by events.Login before = false
 cleared_by (events.Says token) before = cleared_by_token token.told before
 cleared_by _ before = before
@@ -244,7 +244,7 @@ last_by_token kind told.Other owes before = before
 abbrev pub last_by : Event → Reset → Transaction → Transaction
 last_by (events.Says token) owes before = last_by_token token.kind token.told owes before
 last_by events.Login owes before = transactions.Told 0
-last_by (events.Request status) owes before = before
+last_by (events.Request status bulk) owes before = before
 last_by (events.Answered whole) owes before = before
 last_by events.Ignored owes before = before
 last_by (events.Attention size status) owes before = before
@@ -270,7 +270,7 @@ abbrev pub of_attention : Event → Bool → Bool
 of_attention (events.Attention size status) is = is
 of_attention (events.Packet size fills) is = false
 of_attention events.Unfinished is = false
-of_attention (events.Request status) is = false
+of_attention (events.Request status bulk) is = false
 of_attention events.Login is = false
 of_attention (events.Later status) is = false
 of_attention (events.Names descriptor) is = false
@@ -286,7 +286,7 @@ of_attention events.Closed is = false
 
 -- what is so of a request's beginning, by its status, and of nothing else
 abbrev pub of_request : Event → (ℕ → Bool) → Bool
-of_request (events.Request status) is = is status
+of_request (events.Request status bulk) is = is status
 of_request (events.Packet size fills) is = false
 of_request events.Unfinished is = false
 of_request events.Login is = false
@@ -309,7 +309,7 @@ of_names (events.Names descriptor) is = is descriptor
 of_names (events.Headers fault) is = false
 of_names (events.Packet size fills) is = false
 of_names events.Unfinished is = false
-of_names (events.Request status) is = false
+of_names (events.Request status bulk) is = false
 of_names events.Login is = false
 of_names (events.Attention size status) is = false
 of_names (events.Later status) is = false

@@ -36,13 +36,15 @@ reset_noted xs t spot status =
     spot (is_asked (reset_of status) && (is_asked t.reset && t.reset_done)) names.ResetTwice 0)
     spot (t.borrowed && not (is_asked (reset_of status))) names.SessionReusedWithoutReset 0
 
-abbrev pub request_noted : List Finding → Limits → Talk → Spot → ℕ → List Finding
-request_noted xs limits t spot status =
+abbrev pub request_noted : List Finding → Limits → Talk → Spot → ℕ → Bool → List Finding
+request_noted xs limits t spot status bulk =
     noted
+    (noted
     (noted
     (noted (reset_noted (turn_noted xs t spot) t spot status) spot (is_idle_long limits t spot.time) names.IdleInTransaction (spot.time - t.since))
     spot (ignores_early status) names.IgnoreUnended status)
-    spot t.entering names.RequestBeforeLogin 0
+    spot t.entering names.RequestBeforeLogin 0)
+    spot (bulk && is_asked (reset_of status)) names.ResetOnBulkLoad status
 
 abbrev pub attention_noted : List Finding → Talk → Spot → ℕ → ℕ → List Finding
 attention_noted xs t spot size status =
@@ -113,7 +115,7 @@ abbrev pub is_unawaited : Talk → Bool
 is_unawaited t = is_known t.asked && (not t.underway && (not t.attention && not t.doubled))
 
 abbrev pub begin_noted : List Finding → Talk → Spot → List Finding
-begin_noted xs t spot = noted xs spot (is_unawaited t) names.AnswerUnasked 0
+begin_noted xs t spot = noted (noted xs spot (is_unawaited t) names.AnswerUnasked 0) spot t.asking names.AnswerBeforeEnd 0
 
 abbrev pub answer_noted : List Finding → Talk → Spot → Bool → List Finding
 answer_noted xs t spot whole =
@@ -124,7 +126,7 @@ answer_noted xs t spot whole =
     (noted xs spot (is_plain t && (not whole && t.dated)) names.CutToken 0)
     spot (is_plain t && (not whole && not t.dated)) names.OtherVersion 0)
     spot (is_plain t && (whole && not t.is_final)) names.NoFinalDone 0)
-    spot (is_plain t && (t.is_final && (is_asked t.reset && not t.reset_done))) names.ResetUnanswered 0)
+    spot (is_plain t && (t.is_final && ((is_asked t.reset && not t.reset_done) && not t.bulk))) names.ResetUnanswered 0)
     spot (t.attention && (not t.acknowledges && (t.late && t.ended_since))) names.AttentionIgnored 0
 
 abbrev pub close_noted : List Finding → Limits → Talk → Spot → List Finding
@@ -203,7 +205,7 @@ later_noted xs spot status =
 abbrev pub told_here : List Finding → Limits → Talk → Spot → Event → List Finding
 told_here xs limits t spot (events.Packet size fills) = size_noted xs t spot size fills
 told_here xs limits t spot events.Unfinished = noted xs spot true names.UnfinishedMessage 0
-told_here xs limits t spot (events.Request status) = request_noted xs limits t spot status
+told_here xs limits t spot (events.Request status bulk) = request_noted xs limits t spot status bulk
 told_here xs limits t spot events.Login = xs
 told_here xs limits t spot (events.Attention size status) = attention_noted xs t spot size status
 told_here xs limits t spot (events.Later status) = later_noted xs spot status

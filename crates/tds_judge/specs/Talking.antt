@@ -210,12 +210,27 @@ is_short token = told_short token.told
 
 -- ---- What a request asks for
 
-abbrev pub begins_request : Talk → ℕ → Talk
-begins_request t status =
-    record t { asked = asks.Request; underway = true; late = t.attention; reset = reset_of status; reset_done = false; begun = false; borrowed = t.borrowed && is_asked (reset_of status); entering = false }
+-- no answer is to come
+abbrev pub awaits_none : Talk → Bool
+awaits_none t = not t.underway && (not t.attention && not t.doubled)
+
+abbrev pub begins_request : Talk → ℕ → Bool → Talk
+begins_request t status bulk = record t {
+  asked = asks.Request;
+  underway = true;
+  late = t.attention;
+  asking = not (status % 2 == 1) && awaits_none t;
+  reset = reset_of status;
+  reset_done = false;
+  bulk = bulk;
+  begun = false;
+  borrowed = t.borrowed && is_asked (reset_of status);
+  entering = false;
+}
 
 abbrev pub begins_login : Talk → Talk
-begins_login t = record t { asked = asks.Login; underway = true; reset = resets.None; reset_done = false; begun = false; transaction = transactions.Told 0; entering = true }
+begins_login t =
+    record t { asked = asks.Login; underway = true; asking = false; reset = resets.None; reset_done = false; bulk = false; begun = false; transaction = transactions.Told 0; entering = true }
 
 -- a transaction that the answer underway has begun was begun by an answer that is cancelled now
 abbrev pub cancels : Talk → Talk
@@ -224,6 +239,7 @@ cancels t = record t {
   doubled = t.doubled || t.attention;
   late = false;
   ended_since = not t.underway;
+  asking = false;
   begun_unheard = t.begun_unheard || (t.begun && t.underway);
 }
 
@@ -234,7 +250,7 @@ has_named t = record t { begun_unheard = false; ended = 0; dated = true }
 -- ---- What an answer says
 
 abbrev pub begins_answer : Talk → Talk
-begins_answer t = record t { is_final = false; acknowledges = false; worked = false }
+begins_answer t = record t { is_final = false; acknowledges = false; worked = false; asking = false }
 
 -- of the three kinds of DONE the last decides
 abbrev pub is_done : Talk → Done → Talk
@@ -317,10 +333,10 @@ ends_answer t time whole =
 unfoldable pub talk_by : Talk → ℕ → Event → Talk
 talk_by t time (events.Packet size fills) = t
 talk_by t time events.Unfinished = t
-talk_by t time (events.Request status) = begins_request t status
+talk_by t time (events.Request status bulk) = begins_request t status bulk
 talk_by t time events.Login = begins_login t
 talk_by t time (events.Attention size status) = cancels t
-talk_by t time (events.Later status) = t
+talk_by t time (events.Later status) = record t { asking = t.asking && not (status % 2 == 1) }
 talk_by t time (events.Names descriptor) = has_named t
 talk_by t time (events.Headers fault) = t
 talk_by t time events.Ignored = record t { underway = false }
@@ -341,8 +357,10 @@ new_talk = record {
   doubled = false;
   late = false;
   ended_since = false;
+  asking = false;
   reset = resets.None;
   reset_done = false;
+  bulk = false;
   transaction = transactions.Unknown;
   begun = false;
   begun_unheard = false;

@@ -7,12 +7,12 @@ use Rattle.tds_judge.specs.declared.talk.Event.{Event}
 use Rattle.tds_judge.specs.declared.talk.Event.TheVariants as events
 use Rattle.tds_judge.specs.declared.talk.Limits.{Limits}
 use Rattle.tds_wire.specs.declared.told.Token.{Token}
-use Rattle.tds_judge.specs.Breaches.{asked_last, gone_last, idle_since, has_worked, is_dated, is_entering, is_lent, is_other_shown, is_over, is_plain_answer, is_unheard, size_told}
+use Rattle.tds_judge.specs.Breaches.{asked_last, gone_last, idle_since, has_worked, is_asking, is_bulk, is_dated, is_entering, is_lent, is_other_shown, is_over, is_plain_answer, is_unheard, size_told}
 use Rattle.tds_judge.specs.Framing.{Run}
 use Rattle.tds_judge.specs.Findings.{is_note, is_risk, number_of}
-use Rattle.tds_judge.specs.History.{Said, Tells, asks_of, has_asked_since, has_ended, is_acknowledged, is_another, is_attention_unanswered, is_both_resets, is_cleared, is_out, is_request_while_answering, is_second_attention, is_twice, is_underway, is_wrong_descriptor, last_told, of_names, of_request, owed_of}
+use Rattle.tds_judge.specs.History.{Said, Tells, asks_of, has_asked_since, has_ended, is_acknowledged, is_another, is_attention_unanswered, is_both_resets, is_cleared, is_found, is_out, is_request_while_answering, is_second_attention, is_twice, is_underway, is_wrong_descriptor, last_told, of_names, of_request, owed_of, talk_behind}
 use Rattle.tds_judge.specs.Talking.{acknowledges, changes_wrongly, descriptor_of, ends_none, says_more, ignores_early, is_asked, is_full, is_known, is_request, is_short, is_unclear, reset_of, tells_reset}
-use Rattle.tds_judge.specs.Noting.{ends_by_compute, ends_by_direction, ends_by_length, ends_by_token, ends_by_version}
+use Rattle.tds_judge.specs.Noting.{ends_by_compute, ends_by_direction, ends_by_length, ends_by_protocol, ends_by_tls, ends_by_token, ends_by_version, told_by}
 
 -- ---- What is so of one kind of event, and of nothing else
 
@@ -29,13 +29,18 @@ abbrev pub of_headers : Event → Bool → Bool
 of_headers (events.Headers fault) is = is
 of_headers _ is = false
 
+-- where a bulk load begins, by its status
+abbrev pub of_bulk : Event → (ℕ → Bool) → Bool
+of_bulk (events.Request status bulk) is = bulk && is status
+of_bulk _ is = false
+
 abbrev pub of_later : Event → (ℕ → Bool) → Bool
 of_later (events.Later status) is = is status
 of_later _ is = false
 
 -- where a request's packet begins, by its status
 abbrev pub of_status : Event → (ℕ → Bool) → Bool
-of_status (events.Request status) is = is status
+of_status (events.Request status bulk) is = is status
 of_status (events.Later status) is = is status
 of_status _ is = false
 
@@ -126,6 +131,10 @@ is_idle limits past spot event = of_request event (λ status. is_idle_at limits 
 abbrev pub is_late_reset : Event → Bool
 is_late_reset event = of_later event (λ status. is_asked (reset_of status))
 
+-- a bulk load asks for a reset (2.2.3.1.2); that it isn't told done is nobody's fault
+abbrev pub is_bulk_reset : Event → Bool
+is_bulk_reset event = of_bulk event (λ status. is_asked (reset_of status))
+
 abbrev pub is_reset_twice : List Said → Event → Bool
 is_reset_twice past event = of_request event (λ status. is_asked (reset_of status) && (is_asked (asks_of past) && is_cleared past))
 
@@ -150,8 +159,12 @@ is_lent_early past event = of_loan event (is_out past || (is_underway past && is
 abbrev pub is_answer_unasked : List Said → Event → Bool
 is_answer_unasked past event = of_begin event (is_known (asked_last past) && (not (is_underway past) && (not (is_out past) && not (is_twice past))))
 
+-- an answer begins before the last packet of its request (2.2.3.1.2)
+abbrev pub is_early : List Said → Event → Bool
+is_early past event = of_begin event (is_asking past)
+
 abbrev pub is_reset_unanswered : List Said → Event → Bool
-is_reset_unanswered past event = of_answer event (λ whole. is_plain_answer past && (is_over past && (is_asked (asks_of past) && not (is_cleared past))))
+is_reset_unanswered past event = of_answer event (λ whole. is_plain_answer past && (is_over past && ((is_asked (asks_of past) && not (is_cleared past)) && not (is_bulk past))))
 
 abbrev pub is_without_end : List Said → Event → Bool
 is_without_end past event = of_answer event (λ whole. is_plain_answer past && (whole && not (is_over past)))
@@ -210,6 +223,11 @@ is_compute event = of_ending event ends_by_compute
 abbrev pub is_judged : List Said → Bool
 is_judged past = not (is_other_shown past)
 
+-- behind any history, and whatever is said next, a finding of this number stands exactly where it is so
+abbrev pub IsFoundWhere : ℕ → (List Said → Event → Bool) → Type 0
+IsFoundWhere number is =
+    (limits : Limits) (past : List Said) (spot : Spot) (event : Event) → is_found number (told_by [] limits (talk_behind past) spot event) ≡ (is_judged past && is past event)
+
 -- a packet to ignore ends its message (2.2.3.1.2)
 abbrev pub is_ignore_unended : Event → Bool
 is_ignore_unended event = of_status event ignores_early
@@ -217,6 +235,12 @@ is_ignore_unended event = of_status event ignores_early
 -- a packet of a type of the other direction (2.2.3.1.1)
 abbrev pub is_wrong_direction : Event → Bool
 is_wrong_direction event = of_ending event ends_by_direction
+
+abbrev pub is_encrypted : Event → Bool
+is_encrypted event = of_ending event ends_by_tls
+
+abbrev pub is_no_tds : Event → Bool
+is_no_tds event = of_ending event ends_by_protocol
 
 abbrev pub is_wrong_length : Event → Bool
 is_wrong_length event = of_ending event ends_by_length

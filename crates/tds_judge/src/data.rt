@@ -23,10 +23,10 @@ impl Judge {
 
     /// A byte of ALL_HEADERS has come.
     fn read_headers(&mut self, out: &mut Vec<Finding>, spot: Spot, headed: Headed)
-        requires { vec_len out.old + 9 ≤ vec_capacity out.old }
+        requires { vec_len out.old + 10 ≤ vec_capacity out.old }
         ensures run { (run_of self.new out.new.items)
             ≡ framing.prefixed spot headed (run_of self.old out.old.items) }
-        ensures few { vec_len out.new ≤ vec_len out.old + 9 }
+        ensures few { vec_len out.new ≤ vec_len out.old + 10 }
         ensures capacity { vec_capacity out.new ≡ vec_capacity out.old }
     {
         match headed {
@@ -45,10 +45,10 @@ impl Judge {
 
     /// A byte of LOGIN7 has come, up to its version's last.
     fn read_version(&mut self, out: &mut Vec<Finding>, spot: Spot, place: u8, byte: u8)
-        requires { vec_len out.old + 9 ≤ vec_capacity out.old }
+        requires { vec_len out.old + 10 ≤ vec_capacity out.old }
         ensures run { (run_of self.new out.new.items)
             ≡ framing.versioned spot place byte (run_of self.old out.old.items) }
-        ensures few { vec_len out.new ≤ vec_len out.old + 9 }
+        ensures few { vec_len out.new ≤ vec_len out.old + 10 }
         ensures capacity { vec_capacity out.new ≡ vec_capacity out.old }
     {
         let mut frame = self.frame(spot.direction);
@@ -67,10 +67,10 @@ impl Judge {
 
     /// The walker reads a byte.
     fn walk(&mut self, out: &mut Vec<Finding>, spot: Spot, byte: u8)
-        requires { vec_len out.old + 9 ≤ vec_capacity out.old }
+        requires { vec_len out.old + 10 ≤ vec_capacity out.old }
         ensures run { (run_of self.new out.new.items)
             ≡ framing.walked self.old.walker spot byte (run_of self.old out.old.items) }
-        ensures few { vec_len out.new ≤ vec_len out.old + 9 }
+        ensures few { vec_len out.new ≤ vec_len out.old + 10 }
         ensures capacity { vec_capacity out.new ≡ vec_capacity out.old }
     {
         let Some(walker) = &mut self.walker else {
@@ -89,10 +89,10 @@ impl Judge {
     /// A byte of data is read.
     #[tactic(auto, unfolding(crate::specs::Framing::inside_by))]
     fn read(&mut self, out: &mut Vec<Finding>, spot: Spot, inside: Inside, byte: u8)
-        requires { vec_len out.old + 9 ≤ vec_capacity out.old }
+        requires { vec_len out.old + 10 ≤ vec_capacity out.old }
         ensures run { (run_of self.new out.new.items)
             ≡ framing.inside_by inside spot byte (run_of self.old out.old.items) }
-        ensures few { vec_len out.new ≤ vec_len out.old + 9 }
+        ensures few { vec_len out.new ≤ vec_len out.old + 10 }
         ensures capacity { vec_capacity out.new ≡ vec_capacity out.old }
     {
         match inside {
@@ -105,10 +105,10 @@ impl Judge {
 
     /// One byte of data less is to come.
     fn count(&mut self, out: &mut Vec<Finding>, spot: Spot, left: u16)
-        requires { vec_len out.old + 9 ≤ vec_capacity out.old }
+        requires { vec_len out.old + 10 ≤ vec_capacity out.old }
         ensures run { (run_of self.new out.new.items)
             ≡ framing.counted spot left (run_of self.old out.old.items) }
-        ensures few { vec_len out.new ≤ vec_len out.old + 9 }
+        ensures few { vec_len out.new ≤ vec_len out.old + 10 }
         ensures capacity { vec_capacity out.new ≡ vec_capacity out.old }
     {
         if self.has_stopped() {
@@ -126,10 +126,10 @@ impl Judge {
     /// A byte has come.
     #[tactic(auto, unfolding(crate::specs::Framing::due_by))]
     fn take_byte(&mut self, out: &mut Vec<Finding>, spot: Spot, due: Due, byte: u8)
-        requires { vec_len out.old + 36 ≤ vec_capacity out.old }
+        requires { vec_len out.old + 40 ≤ vec_capacity out.old }
         ensures run { (run_of self.new out.new.items)
             ≡ framing.due_by due spot byte (run_of self.old out.old.items) }
-        ensures few { vec_len out.new ≤ vec_len out.old + 36 }
+        ensures few { vec_len out.new ≤ vec_len out.old + 40 }
         ensures capacity { vec_capacity out.new ≡ vec_capacity out.old }
     {
         match due {
@@ -146,10 +146,10 @@ impl Judge {
     #[inline(never)]
     #[tactic(auto, unfolding(crate::specs::Framing::step))]
     pub fn step(&mut self, out: &mut Vec<Finding>, direction: Direction, time: u64, byte: u8)
-        requires { vec_len out.old + 36 ≤ vec_capacity out.old }
+        requires { vec_len out.old + 40 ≤ vec_capacity out.old }
         ensures run { (run_of self.new out.new.items)
             ≡ framing.step direction time byte (run_of self.old out.old.items) }
-        ensures few { vec_len out.new ≤ vec_len out.old + 36 }
+        ensures few { vec_len out.new ≤ vec_len out.old + 40 }
         ensures capacity { vec_capacity out.new ≡ vec_capacity out.old }
     {
         if self.has_stopped() {

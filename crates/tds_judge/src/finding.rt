@@ -112,6 +112,10 @@ pub enum Name {
     RequestBeforeLogin,
     /// 43: a reset is told done behind something of what was asked for.
     ResetToldLate,
+    /// 44: an answer begins before the last packet of its request.
+    AnswerBeforeEnd,
+    /// 45: a reset bit on a bulk load. With it: the status.
+    ResetOnBulkLoad,
 }
 
 /// How much a finding weighs.
@@ -135,7 +139,7 @@ pub struct Finding {
 }
 
 impl Name {
-    /// The finding's number, 1 to 43.
+    /// The finding's number, 1 to 45.
     pub fn number(self) -> u8
         ensures { result ≡ number_of self }
     {
@@ -192,6 +196,8 @@ impl Name {
             Name::PacketNotFull => 41,
             Name::RequestBeforeLogin => 42,
             Name::ResetToldLate => 43,
+            Name::AnswerBeforeEnd => 44,
+            Name::ResetOnBulkLoad => 45,
             _ => 0,
         }
     }
@@ -201,7 +207,7 @@ impl Name {
         ensures { result ≡ level_of (number_of self) }
     {
         match self.number() {
-            6 | 10 | 11 | 12 | 17 | 18 | 26 | 36 | 39 | 41 | 43 => Level::Risk,
+            6 | 10 | 11 | 12 | 17 | 18 | 26 | 36 | 39 | 41 | 43 | 44 | 45 => Level::Risk,
             16 | 27 | 28 | 29 | 30 | 31 | 34 => Level::Note,
             _ => Level::Breach,
         }

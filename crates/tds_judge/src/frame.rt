@@ -176,7 +176,7 @@ impl Head {
         if self.kind == 6 {
             Event::Attention(self.size, self.status)
         } else if self.kind == 1 || self.kind == 3 || self.kind == 7 || self.kind == 14 {
-            Event::Request(self.status)
+            Event::Request(self.status, self.kind == 7)
         } else {
             Event::Login
         }

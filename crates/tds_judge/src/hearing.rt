@@ -20,8 +20,10 @@ impl Talk {
             doubled: false,
             late: false,
             ended_since: false,
+            asking: false,
             reset: Reset::None,
             reset_done: false,
+            bulk: false,
             transaction: Transaction::Unknown,
             begun: false,
             begun_unheard: false,
@@ -39,14 +41,23 @@ impl Talk {
         }
     }
 
-    fn begin_request(&mut self, status: u8)
-        ensures { self.new ≡ talking.begins_request self.old status }
+    /// No answer is to come.
+    fn awaits_none(&self) -> bool
+        ensures { result ≡ talking.awaits_none self.now }
     {
+        !self.underway && !self.attention && !self.doubled
+    }
+
+    fn begin_request(&mut self, status: u8, bulk: bool)
+        ensures { self.new ≡ talking.begins_request self.old status bulk }
+    {
+        self.asking = status % 2 != 1 && self.awaits_none();
         self.asked = Asked::Request;
         self.underway = true;
         self.late = self.attention;
         self.reset = Reset::of(status);
         self.reset_done = false;
+        self.bulk = bulk;
         self.begun = false;
         self.borrowed = self.borrowed && self.reset.is_asked();
         self.entering = false;
@@ -57,8 +68,10 @@ impl Talk {
     {
         self.asked = Asked::Login;
         self.underway = true;
+        self.asking = false;
         self.reset = Reset::None;
         self.reset_done = false;
+        self.bulk = false;
         self.begun = false;
         self.transaction = Transaction::Told(0);
         self.entering = true;
@@ -71,6 +84,7 @@ impl Talk {
         self.attention = true;
         self.late = false;
         self.ended_since = !self.underway;
+        self.asking = false;
         self.begun_unheard = self.begun_unheard || (self.begun && self.underway);
     }
 
@@ -194,7 +208,7 @@ impl Talk {
         ensures { self.new ≡ talking.talk_by self.old time event }
     {
         match event {
-            Event::Request(status) => self.begin_request(status),
+            Event::Request(status, bulk) => self.begin_request(status, bulk),
             Event::Login => self.begin_login(),
             Event::Attention(_, _) => self.cancel(),
             Event::Names(_) => {
@@ -207,22 +221,24 @@ impl Talk {
                 self.is_final = false;
                 self.acknowledges = false;
                 self.worked = false;
+                self.asking = false;
             }
             Event::Says(token) => self.hear_token(time, &token),
             Event::Answered(whole) => self.end_answer(time, whole),
             Event::Borrowed => self.borrowed = true,
-            Event::Packet(_, _) | Event::Unfinished | Event::Later(_) | Event::Headers(_) => {}
+            Event::Later(status) => self.asking = self.asking && status % 2 != 1,
+            Event::Packet(_, _) | Event::Unfinished | Event::Headers(_) => {}
             Event::TakenUp | Event::Stops(_, _) | Event::Closed => {}
         }
     }
 
     /// Something is said: appends what is wrong with it.
     pub fn hear(&mut self, out: &mut Vec<Finding>, limits: &Limits, spot: Spot, event: Event)
-        requires { vec_len out.old + 9 ≤ vec_capacity out.old }
+        requires { vec_len out.old + 10 ≤ vec_capacity out.old }
         ensures items { out.new.items
             ≡ noting.told_by out.old.items limits.now self.old spot event }
         ensures talk { self.new ≡ talking.talk_by self.old spot.time event }
-        ensures few { vec_len out.new ≤ vec_len out.old + 9 }
+        ensures few { vec_len out.new ≤ vec_len out.old + 10 }
         ensures capacity { vec_capacity out.new ≡ vec_capacity out.old }
     {
         self.note_event(out, limits, spot, event);

@@ -100,7 +100,7 @@ impl Judge {
         ensures err { OnErr result ((run_of self.new findings.new.items)
             ≡ (run_of self.old findings.old.items)) }
     {
-        findings.reserve(36)?;
+        findings.reserve(40)?;
         Ok(self.take_some(findings, direction, time, bytes))
     }
 
@@ -132,7 +132,7 @@ impl Judge {
         ensures err { OnErr result ((run_of self.new findings.new.items)
             ≡ (run_of self.old findings.old.items)) }
     {
-        findings.reserve(9)?;
+        findings.reserve(10)?;
         if !self.has_stopped() {
             let spot = self.spot(time);
             self.say(findings, spot, Event::Borrowed);
@@ -153,7 +153,7 @@ impl Judge {
         ensures err { OnErr result ((run_of self.new findings.new.items)
             ≡ (run_of self.old findings.old.items)) }
     {
-        findings.reserve(9)?;
+        findings.reserve(10)?;
         if !self.has_stopped() {
             let spot = self.spot(time);
             let event = self.closing();
@@ -196,10 +196,10 @@ impl Judge {
 
     /// Something is said.
     pub(crate) fn say(&mut self, out: &mut Vec<Finding>, spot: Spot, event: Event)
-        requires { vec_len out.old + 9 ≤ vec_capacity out.old }
+        requires { vec_len out.old + 10 ≤ vec_capacity out.old }
         ensures run { (run_of self.new out.new.items)
             ≡ framing.said spot event (run_of self.old out.old.items) }
-        ensures few { vec_len out.new ≤ vec_len out.old + 9 }
+        ensures few { vec_len out.new ≤ vec_len out.old + 10 }
         ensures capacity { vec_capacity out.new ≡ vec_capacity out.old }
     {
         let limits = self.limits;
@@ -208,10 +208,10 @@ impl Judge {
 
     /// The judging ends.
     pub(crate) fn stop(&mut self, out: &mut Vec<Finding>, spot: Spot, event: Event)
-        requires { vec_len out.old + 9 ≤ vec_capacity out.old }
+        requires { vec_len out.old + 10 ≤ vec_capacity out.old }
         ensures run { (run_of self.new out.new.items)
             ≡ framing.stops spot event (run_of self.old out.old.items) }
-        ensures few { vec_len out.new ≤ vec_len out.old + 9 }
+        ensures few { vec_len out.new ≤ vec_len out.old + 10 }
         ensures capacity { vec_capacity out.new ≡ vec_capacity out.old }
     {
         self.walker = None;

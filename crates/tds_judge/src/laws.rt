@@ -4,12 +4,13 @@
 ghost use Rattle.std.specs.Prelude.{◌≡◌, ◌&&◌, ◌++◌, ℕ, List, [], false};
 ghost use Rattle.tds_judge.specs.Conversation.{IsLawful, Piece, seen};
 ghost use Rattle.tds_judge.specs.Framing.{IsNew, Run, run_of, steps};
-ghost use Rattle.tds_judge.specs.History.{Said, is_attention_unanswered, is_both_resets, is_found};
-ghost use Rattle.tds_judge.specs.History.{is_request_while_answering, is_second_attention};
-ghost use Rattle.tds_judge.specs.History.{Tells, is_wrong_descriptor, talk_behind};
+ghost use Rattle.tds_judge.specs.History.{Said, Tells, is_attention_unanswered, is_both_resets};
+ghost use Rattle.tds_judge.specs.History.{is_found, is_request_while_answering};
+ghost use Rattle.tds_judge.specs.History.{is_second_attention, is_wrong_descriptor, talk_behind};
 ghost use Rattle.tds_judge.specs.Noting.{told_by};
 ghost use Rattle.tds_judge.specs.Told as told;
-ghost use Rattle.tds_judge.specs.Told.{Breaks, has_breach, is_breach, is_broken, is_judged};
+ghost use Rattle.tds_judge.specs.Told.{Breaks, IsFoundWhere, has_breach, is_breach};
+ghost use Rattle.tds_judge.specs.Told.{is_broken, is_judged};
 ghost use Rattle.tds_judge.specs.declared.finding.Direction.{Direction};
 ghost use Rattle.tds_judge.specs.declared.finding.Finding.{Finding};
 ghost use Rattle.tds_judge.specs.declared.finding.Spot.{Spot};
@@ -42,154 +43,82 @@ pub fn findings_are_appended()
 /// was said before: a second attention, a request before the acknowledgement, a request before the end of
 /// the answer, a request that names another transaction than was told last, and both reset bits.
 pub fn breaches_are_told()
-    ensures second { (limits : Limits) (past : List Said) (spot : Spot) (event : Event)
-        → is_found 1 (told_by [] limits (talk_behind past) spot event)
-        ≡ is_judged past && is_second_attention past event }
-    ensures unanswered { (limits : Limits) (past : List Said) (spot : Spot) (event : Event)
-        → is_found 2 (told_by [] limits (talk_behind past) spot event)
-        ≡ is_judged past && is_attention_unanswered past event }
-    ensures answering { (limits : Limits) (past : List Said) (spot : Spot) (event : Event)
-        → is_found 5 (told_by [] limits (talk_behind past) spot event)
-        ≡ is_judged past && is_request_while_answering past event }
-    ensures descriptor { (limits : Limits) (past : List Said) (spot : Spot) (event : Event)
-        → is_found 8 (told_by [] limits (talk_behind past) spot event)
-        ≡ is_judged past && is_wrong_descriptor past event }
-    ensures both { (limits : Limits) (past : List Said) (spot : Spot) (event : Event)
-        → is_found 14 (told_by [] limits (talk_behind past) spot event)
-        ≡ is_judged past && is_both_resets past event }
+    ensures second { IsFoundWhere 1 is_second_attention }
+    ensures unanswered { IsFoundWhere 2 is_attention_unanswered }
+    ensures answering { IsFoundWhere 5 is_request_while_answering }
+    ensures descriptor { IsFoundWhere 8 is_wrong_descriptor }
+    ensures both { IsFoundWhere 14 is_both_resets }
 {}
 
 /// Behind any history, these stand exactly where `specs/Told` says: an attention that is ignored, an
-/// acknowledgement that nobody asked for, and an attention that isn't one packet without data.
+/// acknowledgement that nobody asked for, an attention that isn't one packet without data, and a token
+/// behind an acknowledgement.
 pub fn attentions_are_told()
-    ensures ignored { (limits : Limits) (past : List Said) (spot : Spot) (event : Event)
-        → is_found 3 (told_by [] limits (talk_behind past) spot event)
-        ≡ is_judged past && told.is_attention_ignored past event }
-    ensures unasked { (limits : Limits) (past : List Said) (spot : Spot) (event : Event)
-        → is_found 4 (told_by [] limits (talk_behind past) spot event)
-        ≡ is_judged past && told.is_acknowledgement_unasked past event }
-    ensures wrong { (limits : Limits) (past : List Said) (spot : Spot) (event : Event)
-        → is_found 24 (told_by [] limits (talk_behind past) spot event)
-        ≡ is_judged past && told.is_wrong_attention event }
-    ensures last { (limits : Limits) (past : List Said) (spot : Spot) (event : Event)
-        → is_found 39 (told_by [] limits (talk_behind past) spot event)
-        ≡ is_judged past && told.is_not_last past event }
+    ensures ignored { IsFoundWhere 3 told.is_attention_ignored }
+    ensures unasked { IsFoundWhere 4 told.is_acknowledgement_unasked }
+    ensures wrong { IsFoundWhere 24 (λ past. told.is_wrong_attention) }
+    ensures last { IsFoundWhere 39 told.is_not_last }
 {}
 
 /// And these: a request that doesn't name the transaction that a cancelled answer began, one that names a
-/// transaction that has ended, a reset in a transaction, an idle one, and one that is left by the close.
+/// transaction that has ended, a reset in a transaction, an idle one, one that is left by the close, a begin
+/// or an end of another one, and an end where none is open.
 pub fn transactions_are_told()
-    ensures kept { (limits : Limits) (past : List Said) (spot : Spot) (event : Event)
-        → is_found 7 (told_by [] limits (talk_behind past) spot event)
-        ≡ is_judged past && told.is_cancelled_begin_kept past event }
-    ensures ended { (limits : Limits) (past : List Said) (spot : Spot) (event : Event)
-        → is_found 9 (told_by [] limits (talk_behind past) spot event)
-        ≡ is_judged past && told.is_ended_unheard past event }
-    ensures open_reset { (limits : Limits) (past : List Said) (spot : Spot) (event : Event)
-        → is_found 10 (told_by [] limits (talk_behind past) spot event)
-        ≡ is_judged past && told.is_reset_in_transaction past event }
+    ensures kept { IsFoundWhere 7 told.is_cancelled_begin_kept }
+    ensures ended { IsFoundWhere 9 told.is_ended_unheard }
+    ensures open_reset { IsFoundWhere 10 told.is_reset_in_transaction }
     ensures idle { (limits : Limits) (past : List Said) (spot : Spot) (event : Event)
         → is_found 11 (told_by [] limits (talk_behind past) spot event)
         ≡ is_judged past && told.is_idle limits past spot event }
-    ensures left { (limits : Limits) (past : List Said) (spot : Spot) (event : Event)
-        → is_found 12 (told_by [] limits (talk_behind past) spot event)
-        ≡ is_judged past && told.is_transaction_left past event }
-    ensures changed { (limits : Limits) (past : List Said) (spot : Spot) (event : Event)
-        → is_found 35 (told_by [] limits (talk_behind past) spot event)
-        ≡ is_judged past && told.is_wrong_change past event }
-    ensures none { (limits : Limits) (past : List Said) (spot : Spot) (event : Event)
-        → is_found 36 (told_by [] limits (talk_behind past) spot event)
-        ≡ is_judged past && told.is_none_ended past event }
+    ensures left { IsFoundWhere 12 told.is_transaction_left }
+    ensures changed { IsFoundWhere 35 told.is_wrong_change }
+    ensures none { IsFoundWhere 36 told.is_none_ended }
 {}
 
-/// And these: a reset bit on a later packet, a reset that isn't answered, one behind another, and a new
-/// borrower that asks for none.
+/// And these: a reset bit on a later packet, a reset that isn't answered, one behind another, a new borrower
+/// that asks for none, one that comes too early, a reset that is told unasked or late, and one of a bulk load.
 pub fn resets_are_told()
-    ensures later { (limits : Limits) (past : List Said) (spot : Spot) (event : Event)
-        → is_found 13 (told_by [] limits (talk_behind past) spot event)
-        ≡ is_judged past && told.is_late_reset event }
-    ensures unanswered { (limits : Limits) (past : List Said) (spot : Spot) (event : Event)
-        → is_found 15 (told_by [] limits (talk_behind past) spot event)
-        ≡ is_judged past && told.is_reset_unanswered past event }
-    ensures twice { (limits : Limits) (past : List Said) (spot : Spot) (event : Event)
-        → is_found 16 (told_by [] limits (talk_behind past) spot event)
-        ≡ is_judged past && told.is_reset_twice past event }
-    ensures reused { (limits : Limits) (past : List Said) (spot : Spot) (event : Event)
-        → is_found 17 (told_by [] limits (talk_behind past) spot event)
-        ≡ is_judged past && told.is_reused past event }
-    ensures early { (limits : Limits) (past : List Said) (spot : Spot) (event : Event)
-        → is_found 33 (told_by [] limits (talk_behind past) spot event)
-        ≡ is_judged past && told.is_lent_early past event }
-    ensures told_unasked { (limits : Limits) (past : List Said) (spot : Spot) (event : Event)
-        → is_found 34 (told_by [] limits (talk_behind past) spot event)
-        ≡ is_judged past && told.is_reset_unasked past event }
-    ensures told_late { (limits : Limits) (past : List Said) (spot : Spot) (event : Event)
-        → is_found 43 (told_by [] limits (talk_behind past) spot event)
-        ≡ is_judged past && told.is_reset_late past event }
+    ensures later { IsFoundWhere 13 (λ past. told.is_late_reset) }
+    ensures unanswered { IsFoundWhere 15 told.is_reset_unanswered }
+    ensures twice { IsFoundWhere 16 told.is_reset_twice }
+    ensures reused { IsFoundWhere 17 told.is_reused }
+    ensures early { IsFoundWhere 33 told.is_lent_early }
+    ensures told_unasked { IsFoundWhere 34 told.is_reset_unasked }
+    ensures told_late { IsFoundWhere 43 told.is_reset_late }
+    ensures bulk { IsFoundWhere 45 (λ past. told.is_bulk_reset) }
 {}
 
-/// And these: an answer that isn't read, a token behind the final DONE, an answer without one, one that
-/// ends inside a token, and an ENVCHANGE that can't be read.
+/// And these: an answer that isn't read, one that comes unasked or before its request's end, a token behind
+/// the final DONE, an answer without one or that ends inside a token, and an ENVCHANGE that can't be read.
 pub fn answers_are_told()
-    ensures unread { (limits : Limits) (past : List Said) (spot : Spot) (event : Event)
-        → is_found 6 (told_by [] limits (talk_behind past) spot event)
-        ≡ is_judged past && told.is_answer_unread past event }
-    ensures unasked { (limits : Limits) (past : List Said) (spot : Spot) (event : Event)
-        → is_found 32 (told_by [] limits (talk_behind past) spot event)
-        ≡ is_judged past && told.is_answer_unasked past event }
-    ensures behind { (limits : Limits) (past : List Said) (spot : Spot) (event : Event)
-        → is_found 18 (told_by [] limits (talk_behind past) spot event)
-        ≡ is_judged past && told.is_behind_end past event }
-    ensures endless { (limits : Limits) (past : List Said) (spot : Spot) (event : Event)
-        → is_found 19 (told_by [] limits (talk_behind past) spot event)
-        ≡ is_judged past && told.is_without_end past event }
-    ensures cut { (limits : Limits) (past : List Said) (spot : Spot) (event : Event)
-        → is_found 20 (told_by [] limits (talk_behind past) spot event)
-        ≡ is_judged past && told.is_cut_token past event }
-    ensures unclear { (limits : Limits) (past : List Said) (spot : Spot) (event : Event)
-        → is_found 26 (told_by [] limits (talk_behind past) spot event)
-        ≡ is_judged past && told.is_unclear_change event }
+    ensures unread { IsFoundWhere 6 told.is_answer_unread }
+    ensures unasked { IsFoundWhere 32 told.is_answer_unasked }
+    ensures behind { IsFoundWhere 18 told.is_behind_end }
+    ensures endless { IsFoundWhere 19 told.is_without_end }
+    ensures cut { IsFoundWhere 20 told.is_cut_token }
+    ensures unclear { IsFoundWhere 26 (λ past. told.is_unclear_change) }
+    ensures early { IsFoundWhere 44 told.is_early }
 {}
 
-/// And these: bytes that are no token, a packet above the size, a Length that none can have, a message
-/// that begins inside another one, and where a direction is judged from.
+/// And these: bytes that are no token, encrypted, no TDS, of another version or of COMPUTE, a packet above the
+/// size, or below it where it has to be full, a Length that none can have, a message that begins inside another
+/// one, where a direction is judged from, what is to be ignored and goes on, a packet of the other direction,
+/// wrong headers, and a request before a login's end.
 pub fn packets_are_told()
-    ensures token { (limits : Limits) (past : List Said) (spot : Spot) (event : Event)
-        → is_found 21 (told_by [] limits (talk_behind past) spot event)
-        ≡ is_judged past && told.is_wrong_token past event }
-    ensures size { (limits : Limits) (past : List Said) (spot : Spot) (event : Event)
-        → is_found 22 (told_by [] limits (talk_behind past) spot event)
-        ≡ is_judged past && told.is_wrong_size past event }
-    ensures length { (limits : Limits) (past : List Said) (spot : Spot) (event : Event)
-        → is_found 23 (told_by [] limits (talk_behind past) spot event)
-        ≡ is_judged past && told.is_wrong_length event }
-    ensures unfinished { (limits : Limits) (past : List Said) (spot : Spot) (event : Event)
-        → is_found 25 (told_by [] limits (talk_behind past) spot event)
-        ≡ is_judged past && told.is_unfinished_message event }
-    ensures taken_up { (limits : Limits) (past : List Said) (spot : Spot) (event : Event)
-        → is_found 27 (told_by [] limits (talk_behind past) spot event)
-        ≡ is_judged past && told.is_taken_up event }
-    ensures version { (limits : Limits) (past : List Said) (spot : Spot) (event : Event)
-        → is_found 30 (told_by [] limits (talk_behind past) spot event)
-        ≡ is_judged past && told.is_other_version past event }
-    ensures compute { (limits : Limits) (past : List Said) (spot : Spot) (event : Event)
-        → is_found 31 (told_by [] limits (talk_behind past) spot event)
-        ≡ is_judged past && told.is_compute event }
-    ensures ignore { (limits : Limits) (past : List Said) (spot : Spot) (event : Event)
-        → is_found 37 (told_by [] limits (talk_behind past) spot event)
-        ≡ is_judged past && told.is_ignore_unended event }
-    ensures direction { (limits : Limits) (past : List Said) (spot : Spot) (event : Event)
-        → is_found 38 (told_by [] limits (talk_behind past) spot event)
-        ≡ is_judged past && told.is_wrong_direction event }
-    ensures headers { (limits : Limits) (past : List Said) (spot : Spot) (event : Event)
-        → is_found 40 (told_by [] limits (talk_behind past) spot event)
-        ≡ is_judged past && told.is_wrong_headers past event }
-    ensures full { (limits : Limits) (past : List Said) (spot : Spot) (event : Event)
-        → is_found 41 (told_by [] limits (talk_behind past) spot event)
-        ≡ is_judged past && told.is_not_full past event }
-    ensures login { (limits : Limits) (past : List Said) (spot : Spot) (event : Event)
-        → is_found 42 (told_by [] limits (talk_behind past) spot event)
-        ≡ is_judged past && told.is_before_login past event }
+    ensures token { IsFoundWhere 21 told.is_wrong_token }
+    ensures size { IsFoundWhere 22 told.is_wrong_size }
+    ensures length { IsFoundWhere 23 (λ past. told.is_wrong_length) }
+    ensures unfinished { IsFoundWhere 25 (λ past. told.is_unfinished_message) }
+    ensures taken_up { IsFoundWhere 27 (λ past. told.is_taken_up) }
+    ensures encrypted { IsFoundWhere 28 (λ past. told.is_encrypted) }
+    ensures no_tds { IsFoundWhere 29 (λ past. told.is_no_tds) }
+    ensures version { IsFoundWhere 30 told.is_other_version }
+    ensures compute { IsFoundWhere 31 (λ past. told.is_compute) }
+    ensures ignore { IsFoundWhere 37 (λ past. told.is_ignore_unended) }
+    ensures direction { IsFoundWhere 38 (λ past. told.is_wrong_direction) }
+    ensures headers { IsFoundWhere 40 told.is_wrong_headers }
+    ensures full { IsFoundWhere 41 told.is_not_full }
+    ensures login { IsFoundWhere 42 told.is_before_login }
 {}
 
 /// Behind any history, an event gives a finding of level breach exactly where it is one of the 25

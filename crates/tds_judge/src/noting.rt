@@ -55,11 +55,18 @@ impl Talk {
             && time.saturating_sub(self.since) > limits.idle
     }
 
-    fn note_request(&self, out: &mut Vec<Finding>, limits: &Limits, spot: Spot, status: u8)
-        requires { vec_len out.old + 9 ≤ vec_capacity out.old }
+    fn note_request(
+        &self,
+        out: &mut Vec<Finding>,
+        limits: &Limits,
+        spot: Spot,
+        status: u8,
+        bulk: bool,
+    )
+        requires { vec_len out.old + 10 ≤ vec_capacity out.old }
         ensures items { out.new.items
-            ≡ noting.request_noted out.old.items limits.now self.now spot status }
-        ensures few { vec_len out.new ≤ vec_len out.old + 9 }
+            ≡ noting.request_noted out.old.items limits.now self.now spot status bulk }
+        ensures few { vec_len out.new ≤ vec_len out.old + 10 }
         ensures capacity { vec_capacity out.new ≡ vec_capacity out.old }
     {
         self.note_turn(out, spot);
@@ -70,6 +77,8 @@ impl Talk {
         let early = ignores_early(status);
         note(out, spot, early, Name::IgnoreUnended, u64::from(status));
         note(out, spot, self.entering, Name::RequestBeforeLogin, 0);
+        let bare = bulk && Reset::of(status).is_asked();
+        note(out, spot, bare, Name::ResetOnBulkLoad, u64::from(status));
     }
 
     fn note_attention(&self, out: &mut Vec<Finding>, spot: Spot, size: u16, status: u8)
@@ -187,7 +196,8 @@ impl Talk {
         let plain = self.is_plain();
         let cut = plain && !whole;
         let open = plain && whole && !self.is_final;
-        let unreset = plain && self.is_final && self.reset.is_asked() && !self.reset_done;
+        let due = self.reset.is_asked() && !self.reset_done && !self.bulk;
+        let unreset = plain && self.is_final && due;
         let ignored = self.attention && !self.acknowledges && self.late && self.ended_since;
         note(out, spot, cut && self.dated, Name::CutToken, 0);
         note(out, spot, cut && !self.dated, Name::OtherVersion, 0);
@@ -249,10 +259,10 @@ impl Talk {
     /// Appends what is wrong with what is said now. Of another version nothing is.
     #[tactic(auto, unfolding(crate::specs::Noting::told_by))]
     pub fn note_event(&self, out: &mut Vec<Finding>, limits: &Limits, spot: Spot, event: Event)
-        requires { vec_len out.old + 9 ≤ vec_capacity out.old }
+        requires { vec_len out.old + 10 ≤ vec_capacity out.old }
         ensures items { out.new.items
             ≡ noting.told_by out.old.items limits.now self.now spot event }
-        ensures few { vec_len out.new ≤ vec_len out.old + 9 }
+        ensures few { vec_len out.new ≤ vec_len out.old + 10 }
         ensures capacity { vec_capacity out.new ≡ vec_capacity out.old }
     {
         if !self.other {
@@ -261,16 +271,16 @@ impl Talk {
     }
 
     fn note_said(&self, out: &mut Vec<Finding>, limits: &Limits, spot: Spot, event: Event)
-        requires { vec_len out.old + 9 ≤ vec_capacity out.old }
+        requires { vec_len out.old + 10 ≤ vec_capacity out.old }
         ensures items { out.new.items
             ≡ noting.told_here out.old.items limits.now self.now spot event }
-        ensures few { vec_len out.new ≤ vec_len out.old + 9 }
+        ensures few { vec_len out.new ≤ vec_len out.old + 10 }
         ensures capacity { vec_capacity out.new ≡ vec_capacity out.old }
     {
         match event {
             Event::Packet(size, fills) => self.note_size(out, spot, size, fills),
             Event::Unfinished => note(out, spot, true, Name::UnfinishedMessage, 0),
-            Event::Request(status) => self.note_request(out, limits, spot, status),
+            Event::Request(status, bulk) => self.note_request(out, limits, spot, status, bulk),
             Event::Attention(size, status) => self.note_attention(out, spot, size, status),
             Event::Later(status) => {
                 let asks = Reset::of(status).is_asked();
@@ -288,7 +298,10 @@ impl Talk {
             Event::TakenUp => note(out, spot, true, Name::TakenUp, 0),
             Event::Stops(ending, value) => self.note_stopped(out, spot, ending, value),
             Event::Closed => self.note_closed(out, limits, spot),
-            Event::Answer => note(out, spot, self.is_unawaited(), Name::AnswerUnasked, 0),
+            Event::Answer => {
+                note(out, spot, self.is_unawaited(), Name::AnswerUnasked, 0);
+                note(out, spot, self.asking, Name::AnswerBeforeEnd, 0);
+            }
             Event::Borrowed => {
                 let busy = self.attention || (self.underway && self.asked.is_request());
                 note(out, spot, busy, Name::LentWhileAnswering, 0);

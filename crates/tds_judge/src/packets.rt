@@ -13,10 +13,10 @@ use crate::talk::{Ending, Event};
 impl Judge {
     /// A request ends, that may still be in its ALL_HEADERS.
     fn end_headers(&mut self, out: &mut Vec<Finding>, spot: Spot, inside: Inside)
-        requires { vec_len out.old + 9 ≤ vec_capacity out.old }
+        requires { vec_len out.old + 10 ≤ vec_capacity out.old }
         ensures run { (run_of self.new out.new.items)
             ≡ framing.headed_at_end inside spot (run_of self.old out.old.items) }
-        ensures few { vec_len out.new ≤ vec_len out.old + 9 }
+        ensures few { vec_len out.new ≤ vec_len out.old + 10 }
         ensures capacity { vec_capacity out.new ≡ vec_capacity out.old }
     {
         match inside {
@@ -27,10 +27,10 @@ impl Judge {
 
     /// A message whose beginning was seen ends.
     fn end_message(&mut self, out: &mut Vec<Finding>, spot: Spot, frame: Frame)
-        requires { vec_len out.old + 9 ≤ vec_capacity out.old }
+        requires { vec_len out.old + 10 ≤ vec_capacity out.old }
         ensures run { (run_of self.new out.new.items)
             ≡ framing.message_over spot.direction spot frame (run_of self.old out.old.items) }
-        ensures few { vec_len out.new ≤ vec_len out.old + 9 }
+        ensures few { vec_len out.new ≤ vec_len out.old + 10 }
         ensures capacity { vec_capacity out.new ≡ vec_capacity out.old }
     {
         match spot.direction {
@@ -52,10 +52,10 @@ impl Judge {
 
     /// A message ends.
     fn end_part(&mut self, out: &mut Vec<Finding>, spot: Spot, frame: Frame)
-        requires { vec_len out.old + 9 ≤ vec_capacity out.old }
+        requires { vec_len out.old + 10 ≤ vec_capacity out.old }
         ensures run { (run_of self.new out.new.items)
             ≡ framing.over_by frame.part spot frame (run_of self.old out.old.items) }
-        ensures few { vec_len out.new ≤ vec_len out.old + 9 }
+        ensures few { vec_len out.new ≤ vec_len out.old + 10 }
         ensures capacity { vec_capacity out.new ≡ vec_capacity out.old }
     {
         match frame.part {
@@ -69,10 +69,10 @@ impl Judge {
     /// A packet ends.
     #[tactic(auto, unfolding(crate::specs::Framing::over))]
     pub fn end_packet(&mut self, out: &mut Vec<Finding>, spot: Spot)
-        requires { vec_len out.old + 9 ≤ vec_capacity out.old }
+        requires { vec_len out.old + 10 ≤ vec_capacity out.old }
         ensures run { (run_of self.new out.new.items)
             ≡ framing.over spot (run_of self.old out.old.items) }
-        ensures few { vec_len out.new ≤ vec_len out.old + 9 }
+        ensures few { vec_len out.new ≤ vec_len out.old + 10 }
         ensures capacity { vec_capacity out.new ≡ vec_capacity out.old }
     {
         let frame = self.frame(spot.direction);
@@ -90,10 +90,10 @@ impl Judge {
     /// The data of a packet come next, or its end.
     #[tactic(auto, unfolding(crate::specs::Framing::opened))]
     fn open(&mut self, out: &mut Vec<Finding>, spot: Spot, part: Part, inside: Inside, head: Head)
-        requires { vec_len out.old + 9 ≤ vec_capacity out.old }
+        requires { vec_len out.old + 10 ≤ vec_capacity out.old }
         ensures run { (run_of self.new out.new.items)
             ≡ framing.opened spot part inside head (run_of self.old out.old.items) }
-        ensures few { vec_len out.new ≤ vec_len out.old + 9 }
+        ensures few { vec_len out.new ≤ vec_len out.old + 10 }
         ensures capacity { vec_capacity out.new ≡ vec_capacity out.old }
     {
         let frame = self.frame(spot.direction);
@@ -117,10 +117,10 @@ impl Judge {
     /// No header was found yet, and this is none.
     #[tactic(auto, unfolding(crate::specs::Framing::lost))]
     fn lose(&mut self, out: &mut Vec<Finding>, spot: Spot, value: u64)
-        requires { vec_len out.old + 9 ≤ vec_capacity out.old }
+        requires { vec_len out.old + 10 ≤ vec_capacity out.old }
         ensures run { (run_of self.new out.new.items)
             ≡ framing.lost spot value (run_of self.old out.old.items) }
-        ensures few { vec_len out.new ≤ vec_len out.old + 9 }
+        ensures few { vec_len out.new ≤ vec_len out.old + 10 }
         ensures capacity { vec_capacity out.new ≡ vec_capacity out.old }
     {
         if spot.offset == 7 && Head::of(value).is_tls() {
@@ -143,10 +143,10 @@ impl Judge {
 
     /// A message of this direction begins.
     fn begin_message(&mut self, out: &mut Vec<Finding>, spot: Spot, head: Head)
-        requires { vec_len out.old + 18 ≤ vec_capacity out.old }
+        requires { vec_len out.old + 20 ≤ vec_capacity out.old }
         ensures run { (run_of self.new out.new.items)
             ≡ framing.begun_by spot.direction spot head (run_of self.old out.old.items) }
-        ensures few { vec_len out.new ≤ vec_len out.old + 18 }
+        ensures few { vec_len out.new ≤ vec_len out.old + 20 }
         ensures capacity { vec_capacity out.new ≡ vec_capacity out.old }
     {
         match spot.direction {
@@ -174,10 +174,10 @@ impl Judge {
     /// A message begins.
     #[tactic(auto, unfolding(crate::specs::Framing::begins))]
     fn begin(&mut self, out: &mut Vec<Finding>, spot: Spot, head: Head)
-        requires { vec_len out.old + 27 ≤ vec_capacity out.old }
+        requires { vec_len out.old + 30 ≤ vec_capacity out.old }
         ensures run { (run_of self.new out.new.items)
             ≡ framing.begins spot head (run_of self.old out.old.items) }
-        ensures few { vec_len out.new ≤ vec_len out.old + 27 }
+        ensures few { vec_len out.new ≤ vec_len out.old + 30 }
         ensures capacity { vec_capacity out.new ≡ vec_capacity out.old }
     {
         let fills = head.is_to_fill(spot.direction);
@@ -187,10 +187,10 @@ impl Judge {
 
     /// A later packet of a message.
     fn say_later(&mut self, out: &mut Vec<Finding>, spot: Spot, head: Head)
-        requires { vec_len out.old + 9 ≤ vec_capacity out.old }
+        requires { vec_len out.old + 10 ≤ vec_capacity out.old }
         ensures run { (run_of self.new out.new.items)
             ≡ framing.later_by spot.direction spot head (run_of self.old out.old.items) }
-        ensures few { vec_len out.new ≤ vec_len out.old + 9 }
+        ensures few { vec_len out.new ≤ vec_len out.old + 10 }
         ensures capacity { vec_capacity out.new ≡ vec_capacity out.old }
     {
         match spot.direction {
@@ -202,10 +202,10 @@ impl Judge {
     /// A message goes on, or another one begins.
     #[tactic(auto, unfolding(crate::specs::Framing::goes_on))]
     fn go_on(&mut self, out: &mut Vec<Finding>, spot: Spot, frame: Frame, head: Head)
-        requires { vec_len out.old + 36 ≤ vec_capacity out.old }
+        requires { vec_len out.old + 40 ≤ vec_capacity out.old }
         ensures run { (run_of self.new out.new.items)
             ≡ framing.goes_on spot frame head (run_of self.old out.old.items) }
-        ensures few { vec_len out.new ≤ vec_len out.old + 36 }
+        ensures few { vec_len out.new ≤ vec_len out.old + 40 }
         ensures capacity { vec_capacity out.new ≡ vec_capacity out.old }
     {
         if head.kind == frame.kind && head.kind != 6 {
@@ -224,10 +224,10 @@ impl Judge {
     /// The first header that was found.
     #[tactic(auto, unfolding(crate::specs::Framing::taken_up))]
     fn take_up(&mut self, out: &mut Vec<Finding>, spot: Spot, head: Head)
-        requires { vec_len out.old + 27 ≤ vec_capacity out.old }
+        requires { vec_len out.old + 30 ≤ vec_capacity out.old }
         ensures run { (run_of self.new out.new.items)
             ≡ framing.taken_up spot head (run_of self.old out.old.items) }
-        ensures few { vec_len out.new ≤ vec_len out.old + 27 }
+        ensures few { vec_len out.new ≤ vec_len out.old + 30 }
         ensures capacity { vec_capacity out.new ≡ vec_capacity out.old }
     {
         if spot.offset == 7 && head.id < 2 {
@@ -239,10 +239,10 @@ impl Judge {
 
     /// A header has come whole.
     fn end_head(&mut self, out: &mut Vec<Finding>, spot: Spot, value: u64)
-        requires { vec_len out.old + 36 ≤ vec_capacity out.old }
+        requires { vec_len out.old + 40 ≤ vec_capacity out.old }
         ensures run { (run_of self.new out.new.items)
             ≡ framing.headed spot value (run_of self.old out.old.items) }
-        ensures few { vec_len out.new ≤ vec_len out.old + 36 }
+        ensures few { vec_len out.new ≤ vec_len out.old + 40 }
         ensures capacity { vec_capacity out.new ≡ vec_capacity out.old }
     {
         let head = Head::of(value);
@@ -261,10 +261,10 @@ impl Judge {
 
     /// A byte of a header has come; with it the bytes spell this number.
     pub fn take_head(&mut self, out: &mut Vec<Finding>, spot: Spot, got: u8, value: u64)
-        requires { vec_len out.old + 36 ≤ vec_capacity out.old }
+        requires { vec_len out.old + 40 ≤ vec_capacity out.old }
         ensures run { (run_of self.new out.new.items)
             ≡ framing.head_taken spot got value (run_of self.old out.old.items) }
-        ensures few { vec_len out.new ≤ vec_len out.old + 36 }
+        ensures few { vec_len out.new ≤ vec_len out.old + 40 }
         ensures capacity { vec_capacity out.new ≡ vec_capacity out.old }
     {
         if got < 7 {

@@ -37,11 +37,11 @@ impl Judge {
     #[inline(always)]
     fn end_run(&mut self, out: &mut Vec<Finding>, spot: Spot, left: u16, count: u16, token: Token)
         requires few { count < left }
-        requires room { vec_len out.old + 9 ≤ vec_capacity out.old }
+        requires room { vec_len out.old + 10 ≤ vec_capacity out.old }
         ensures run { (run_of self.new out.new.items)
             ≡ framing.said spot (events.Says token)
             (run_of (runs.passed ToClient left count self.old) out.old.items) }
-        ensures few { vec_len out.new ≤ vec_len out.old + 9 }
+        ensures few { vec_len out.new ≤ vec_len out.old + 10 }
         ensures capacity { vec_capacity out.new ≡ vec_capacity out.old }
     {
         self.pass(Direction::ToClient, left, count);
@@ -65,10 +65,10 @@ impl Judge {
     /// A token is said: what is mute is seen here, where it costs little.
     #[inline(always)]
     fn say_token(&mut self, out: &mut Vec<Finding>, spot: Spot, token: Token)
-        requires { vec_len out.old + 9 ≤ vec_capacity out.old }
+        requires { vec_len out.old + 10 ≤ vec_capacity out.old }
         ensures run { (run_of self.new out.new.items)
             ≡ framing.said spot (events.Says token) (run_of self.old out.old.items) }
-        ensures few { vec_len out.new ≤ vec_len out.old + 9 }
+        ensures few { vec_len out.new ≤ vec_len out.old + 10 }
         ensures capacity { vec_capacity out.new ≡ vec_capacity out.old }
     {
         if !self.is_mute(&token) {
@@ -88,11 +88,11 @@ impl Judge {
     )
         requires some { 0 < count }
         requires few { count < left }
-        requires room { vec_len out.old + 9 ≤ vec_capacity out.old }
+        requires room { vec_len out.old + 10 ≤ vec_capacity out.old }
         ensures run { (run_of self.new out.new.items)
             ≡ framing.stops spot (framing.refused_as refusal)
             (run_of (runs.failed left count self.old) out.old.items) }
-        ensures few { vec_len out.new ≤ vec_len out.old + 9 }
+        ensures few { vec_len out.new ≤ vec_len out.old + 10 }
         ensures capacity { vec_capacity out.new ≡ vec_capacity out.old }
     {
         self.server.due = Due::Data {
@@ -107,14 +107,14 @@ impl Judge {
     fn walk_run(&mut self, out: &mut Vec<Finding>, time: u64, left: u16, run: &[u8]) -> usize
         requires some { 0 < length run.now }
         requires few { length run.now < left }
-        requires room { vec_len out.old + 36 ≤ vec_capacity out.old }
+        requires room { vec_len out.old + 40 ≤ vec_capacity out.old }
         requires due { self.old.server.due ≡ dues.Data left }
         requires inside { self.old.server.inside ≡ insides.Walked }
         ensures some { 0 < result }
         ensures within { result ≤ length run.now }
         ensures run { (run_of self.new out.new.items)
             ≡ framing.steps ToClient time (take result run.now) (run_of self.old out.old.items) }
-        ensures few { vec_len out.new ≤ vec_len out.old + 36 }
+        ensures few { vec_len out.new ≤ vec_len out.old + 40 }
         ensures capacity { vec_capacity out.new ≡ vec_capacity out.old }
     {
         let Some(walker) = &mut self.walker else {
@@ -227,7 +227,7 @@ impl Judge {
         bytes: &[u8],
     ) -> usize
         requires some { 0 < length bytes.now }
-        requires room { vec_len out.old + 36 ≤ vec_capacity out.old }
+        requires room { vec_len out.old + 40 ≤ vec_capacity out.old }
         ensures some { 0 < result }
         ensures within { result ≤ length bytes.now }
         ensures run { (run_of self.new out.new.items)

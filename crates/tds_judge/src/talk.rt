@@ -67,8 +67,8 @@ pub enum Event {
     Packet(u16, bool),
     /// A message begins, and the one before has not ended.
     Unfinished,
-    /// A request begins, with this status.
-    Request(u8),
+    /// A request begins, with this status; and whether it is of a bulk load.
+    Request(u8, bool),
     /// A message of the login begins.
     Login,
     /// An attention, of this Length and status.
@@ -109,9 +109,12 @@ pub struct Talk {
     /// A request has begun since the attention; and the cancelled request's own answer has ended.
     pub late: bool,
     pub ended_since: bool,
-    /// What the newest request asks for, and whether ENVCHANGE 18 answered it.
+    /// The newest request's last packet is to come, and no other answer is.
+    pub asking: bool,
+    /// What the newest request asks for, whether ENVCHANGE 18 answered it, and whether it is of a bulk load.
     pub reset: Reset,
     pub reset_done: bool,
+    pub bulk: bool,
     pub transaction: Transaction,
     /// The newest request's answer began a transaction.
     pub begun: bool,

@@ -3,6 +3,7 @@ pub mod Kept
 pub mod Lining
 pub mod Lists
 pub mod Others
+pub mod Numbers
 pub mod Ours
 pub mod Seated
 pub mod Sitting

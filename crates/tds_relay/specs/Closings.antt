@@ -1,5 +1,5 @@
 -- Who is closed by a call, and that he is ordered closed.
-use Rattle.std.specs.Prelude.{◌≡◌, ◌⊎◌, ℕ, Bool, true, false, not, List, ◌∷◌, ◌++◌, Option, Some, None, slice_index_or, slice_set}
+use Rattle.std.specs.Prelude.{◌≡◌, ◌⊎◌, ℕ, Bool, true, false, not, List, Option, Some, None, slice_index_or, slice_set}
 use Rattle.tds_packet.specs.declared.kind.Kind.{Kind}
 use Rattle.tds_packet.specs.declared.kind.Kind.TheVariants as kinds
 use Rattle.tds_relay.specs.declared.fault.Refused.{Refused}
@@ -9,25 +9,42 @@ use Rattle.tds_relay.specs.declared.order.Order.TheVariants as orders
 use Rattle.tds_relay.specs.declared.relay.Relay as code
 use Rattle.tds_relay.specs.Fronts.{ends_in}
 use Rattle.tds_relay.specs.Hall.{End, Ends, Open, Over, end_at, is_in}
-use Rattle.tds_relay.specs.Ordering.{StayOrdered}
-use Rattle.tds_relay.specs.Posts.{names_in}
+use Rattle.tds_relay.specs.Ordering.{IsOrdered, StayOrdered}
+use Rattle.tds_relay.specs.Posts.{Posts, names_of, post_at, posts_in}
 use Rattle.tds_relay.specs.Reads.{Seen, seen_at}
+use Rattle.tds_relay.specs.Sending.{IsToWrite, IsWritten, called_at, sending_at}
 
--- The ends of all applications, and what whoever carries their bytes calls them, by their keys; the connections; what is ordered; and which
--- connection is the last that was closed for a packet's header.
+-- Which connection is the last that was closed for a packet's header, and how many there may be.
+pub record KeptBeside : Type 0 where
+  pub refused : Option Refused
+  pub most : ℕ
+
+-- The ends of all applications, and what waits for them, by their keys; the connections; what is ordered; and what is kept beside that.
 pub record Register : Type 0 where
   pub ends : Ends
-  pub names : List (Option (Option ℕ))
+  pub posts : Posts
   pub links : List Link
   pub orders : List Order
-  pub refused : Option Refused
+  pub kept : KeptBeside
 
 abbrev pub register_in : code.Relay → Register
-register_in r = record { ends = ends_in r.applications; names = names_in r.applications; links = r.links.items; orders = r.orders.items; refused = r.refused }
+register_in r = record { ends = ends_in r.applications; posts = posts_in r.applications; links = r.links.items; orders = r.orders.items; kept = record { refused = r.refused; most = r.most } }
 
 -- one of them is there no more
 abbrev pub without_key : ℕ → Register → Register
-without_key key r = record { ends = slice_set r.ends key None; names = slice_set r.names key None; links = r.links; orders = r.orders; refused = r.refused }
+without_key key r = record { ends = slice_set r.ends key None; posts = slice_set r.posts key None; links = r.links; orders = r.orders; kept = r.kept }
+
+-- these are the connections
+abbrev pub with_links : List Link → Register → Register
+with_links links r = record { ends = r.ends; posts = r.posts; links = links; orders = r.orders; kept = r.kept }
+
+-- so many connections may be there
+abbrev pub with_most : ℕ → Register → Register
+with_most most r = record { ends = r.ends; posts = r.posts; links = r.links; orders = r.orders; kept = record { refused = r.kept.refused; most = most } }
+
+-- what waits for applications, and why a connection was closed, as another has it
+abbrev pub but_told : Register → Register → Register
+but_told by r = record { ends = r.ends; posts = by.posts; links = r.links; orders = r.orders; kept = record { refused = by.kept.refused; most = r.kept.most } }
 
 abbrev pub name_with : Option End → Option (Option ℕ) → Option ℕ
 name_with None name = None
@@ -37,7 +54,7 @@ name_with (Some (Over why)) name = None
 
 -- what an application is called that isn't to be closed
 abbrev pub open_name : ℕ → Register → Option ℕ
-open_name key r = name_with (end_at r.ends key) (slice_index_or r.names key None)
+open_name key r = name_with (end_at r.ends key) (slice_index_or (names_of r.posts) key None)
 
 -- The connection of this number is there, and isn't open yet.
 abbrev pub is_shut : Option Seen → Bool
@@ -47,18 +64,27 @@ is_shut (Some seen) = not seen.1
 abbrev pub is_shut_at : ℕ → Register → Bool
 is_shut_at number r = is_shut (seen_at number r.links)
 
-pub record IsOrdered (order : Order) (all : List Order) : Type 0 where
-  pub before : List Order
-  pub behind : List Order
-  pub are : all ≡ before ++ order ∷ behind
+-- It is right to close what is called so: one of these applications is to be closed now and wasn't before; or the connection is there no more.
+pub data IsDue (May : ℕ → Type 0) (tag : ℕ) (old new : Register) : Type 0 where
+  OfApplication : (key : ℕ) → May key → open_name key old ≡ Some tag → open_name key new ≡ None → IsDue May tag old new
+  OfConnection : (number : ℕ) → called_at number old.links ≡ Some tag → called_at number new.links ≡ None → IsDue May tag old new
 
 -- What was ordered stays so. Whoever is to be closed now and wasn't before is one of these, and is ordered closed; and a connection that is to
--- be opened now and wasn't before is ordered opened. Why one was closed for a packet's header is told as before.
+-- be opened now and wasn't before is ordered opened. Why one was closed for a packet's header is told as before, and as many may be there.
 pub record ClosesOnly (May : ℕ → Type 0) (old new : Register) : Type 0 where
   pub ordered : StayOrdered old.orders new.orders
-  pub told : new.refused ≡ old.refused
+  pub told : new.kept ≡ old.kept
   pub closes : (key tag : ℕ) → open_name key old ≡ Some tag → (open_name key new ≡ Some tag) ⊎ (May key × IsOrdered (orders.Close tag) new.orders)
   pub opens : (number : ℕ) → is_shut_at number new ≡ true → (is_shut_at number old ≡ true) ⊎ IsOrdered (orders.Open number) new.orders
+  -- a connection that is there no more is ordered closed; and nobody else is than those, and these applications
+  pub cuts : (number tag : ℕ) → called_at number old.links ≡ Some tag → (called_at number new.links ≡ Some tag) ⊎ IsOrdered (orders.Close tag) new.orders
+  pub due : (tag : ℕ) → IsOrdered (orders.Close tag) new.orders → IsOrdered (orders.Close tag) old.orders ⊎ IsDue May tag old new
+  -- whoever something more waits for is ordered written to, and so is each connection on which more waits
+  pub writes : (key : ℕ) → (post_at new.posts key ≡ post_at old.posts key) ⊎ IsToWrite (open_name key new) new.orders
+  pub writes_on : (number : ℕ) → (sending_at number new.links ≡ sending_at number old.links) ⊎ IsWritten (sending_at number new.links) new.orders
+  -- nobody comes, and none is called anew
+  pub were_open : (key tag : ℕ) → open_name key new ≡ Some tag → open_name key old ≡ Some tag
+  pub were_called : (number tag : ℕ) → called_at number new.links ≡ Some tag → called_at number old.links ≡ Some tag
 
 -- packets of this type are no request
 abbrev pub IsNoRequest : Kind → Type 0
@@ -73,6 +99,9 @@ IsNoRequest kinds.Transaction = ⊥
 
 abbrev pub Nobody : ℕ → Type 0
 Nobody other = ⊥
+
+abbrev pub Anybody : ℕ → Type 0
+Anybody other = Unit {0}
 
 abbrev pub Itself : ℕ → ℕ → Type 0
 Itself key other = other ≡ key

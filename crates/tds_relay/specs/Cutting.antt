@@ -1,24 +1,28 @@
 -- An answer's data without the news of a reset that nobody asked for (MS-TDS 2.2.7.9, type 18): token by token, as its walker sees
 -- them; and what is left, in packets whose lengths are their own.
-use Rattle.std.specs.Prelude.{◌≡◌, ℕ, zero, suc, ◌+◌, ◌≤◌, Bool, List, [], ◌∷◌, ◌++◌, length, if◌then◌else◌}
+use Rattle.std.specs.Prelude.{◌≡◌, ℕ, zero, suc, ◌+◌, ◌≤◌, Bool, List, [], ◌∷◌, ◌++◌, Option, Some, None, length, if◌then◌else◌}
 use Rattle.tds_packet.specs.declared.header.Header.{Header}
 use Rattle.tds_packet.specs.declared.kind.Kind.TheVariants.{Answer}
 use Rattle.tds_packet.specs.Layout.{bits_of, has_bit}
 use Rattle.tds_packet.specs.Reading.{joined}
 use Rattle.tds_packet.specs.Sent.{end_bit, sent_bytes}
-use Rattle.tds_wire.specs.Reading.{Reading, Found, Sees, Inside, Refuses, front_of, next_token}
+use Rattle.tds_wire.specs.Reading.{Reading, Found, Sees, Inside, Refuses, front_of, next_token, restarted}
+use Rattle.tds_service.specs.Packets.{behind_packet}
 use Rattle.tds_relay.specs.declared.link.Answer as code
 use Rattle.tds_relay.specs.declared.news.Known.{Known}
+use Rattle.tds_relay.specs.declared.news.Known.TheVariants as knowns
 use Rattle.tds_relay.specs.News.{awaiting, goes_on, goes_on_to_end, held, known_after, known_next}
 use Rattle.tds_relay.specs.Promises.{Each}
 
--- What is left of bytes, and what is known of the token that they end in.
+-- What is left of bytes, what is known of the token that they end in, and where their walker stands behind them: nowhere behind one that no
+-- answer has.
 pub record Left : Type 0 where
   pub bytes : List ℕ
   pub known : Known
+  pub stands : Option Reading
 
 abbrev pub led : List ℕ → Left → Left
-led before left = record { bytes = before ++ left.bytes; known = left.known }
+led before left = record { bytes = before ++ left.bytes; known = left.known; stands = left.stands }
 
 -- what goes on of bytes of one token, which they end or not, and what is known behind them
 abbrev pub passed_on : Bool → Known → List ℕ → List ℕ
@@ -31,12 +35,12 @@ known_behind ends known bytes = if ends then known_next (known_after known bytes
 abbrev pub left_by : Known → List ℕ → Found → (Known → Reading → List ℕ → Left) → Left
 left_by known bytes (Sees token next rest) others =
     led (goes_on_to_end known (front_of bytes rest)) (others (known_next (known_after known (front_of bytes rest))) next rest)
-left_by known bytes (Inside next) others = record { bytes = goes_on known bytes; known = known_after known bytes }
-left_by known bytes (Refuses refusal) others = record { bytes = []; known = known }
+left_by known bytes (Inside next) others = record { bytes = goes_on known bytes; known = known_after known bytes; stands = Some next }
+left_by known bytes (Refuses refusal) others = record { bytes = []; known = known; stands = None }
 
 unfoldable pub left_within : ℕ → Known → Reading → List ℕ → Left
-left_within most known r [] = record { bytes = []; known = known }
-left_within zero known r (byte ∷ bytes) = record { bytes = []; known = known }
+left_within most known r [] = record { bytes = []; known = known; stands = Some r }
+left_within zero known r (byte ∷ bytes) = record { bytes = []; known = known; stands = Some r }
 left_within (suc most) known r (byte ∷ bytes) =
     left_by known (byte ∷ bytes) (next_token r (byte ∷ bytes)) (left_within most)
 
@@ -77,3 +81,15 @@ awaited owed a = record a { known = awaiting owed a.known }
 -- The bytes are a packet of an answer without the news.
 abbrev pub IsCut : code.Answer → Header → List ℕ → List ℕ → Type 0
 IsCut a header content bytes = IsAnew a.size header.packet_id (ends_in header) (left_in (ends_in header) (left_of a.known a.walker content)) bytes
+
+-- ---- From packet to packet
+
+-- Nothing has come of the message that comes next.
+abbrev pub at_its_beginning : code.Answer → code.Answer
+at_its_beginning a = record a { walker = restarted a.walker; known = knowns.None }
+
+-- What is known behind a packet, and where the walker stands then: where what is left of its data ends, and anew behind a message's end.
+abbrev pub IsCutTo : code.Answer → Bool → List ℕ → code.Answer → Type 0
+IsCutTo old ends content new =
+    (new.known ≡ (if ends then known_next (left_of old.known old.walker content).known else (left_of old.known old.walker content).known))
+    × ((next : Reading) → (left_of old.known old.walker content).stands ≡ Some next → new.walker ≡ behind_packet ends next)

@@ -1,5 +1,5 @@
 -- Why applications and connections are closed, where they broke the rules.
-use Rattle.std.specs.Prelude.{◌≡◌, ◌⊎◌, ◌==◌, ℕ, List, [], ◌∷◌, Option, Some, None, Result, Ok, Err, if◌then◌else◌}
+use Rattle.std.specs.Prelude.{◌≡◌, ◌⊎◌, ◌==◌, ℕ, List, [], ◌∷◌, Option, Some, None, Err, if◌then◌else◌}
 use Rattle.tds_front.specs.declared.fault.FrontFault.{FrontFault}
 use Rattle.tds_front.specs.Bytes.{fed}
 use Rattle.tds_listen.specs.declared.fault.ListenFault.{ListenFault}

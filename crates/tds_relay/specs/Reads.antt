@@ -7,6 +7,7 @@ use Rattle.tds_packet.specs.Stream.{IsLess, IsOnePacket}
 use Rattle.tds_wire.specs.Reading as walkers
 use Rattle.tds_service.specs.declared.service.Service as services
 use Rattle.tds_relay.specs.declared.desk.coming.Heard.{Heard}
+use Rattle.tds_relay.specs.declared.link.Answer.{Answer}
 use Rattle.tds_relay.specs.declared.link.Link.{Link}
 use Rattle.tds_relay.specs.Hall.{Moves}
 use Rattle.tds_relay.specs.Posts.{post_in}
@@ -57,6 +58,13 @@ open_of (Some seen) = if seen.1 then Some seen.0 else None
 -- what has come of a packet there, where it is open
 abbrev pub open_at : ℕ → List Link → Option Reading
 open_at number ls = open_of (seen_at number ls)
+
+-- what is known of the message that comes there
+abbrev pub answer_on : Link → Answer
+answer_on l = l.answer
+
+abbrev pub answer_at : ℕ → List Link → Option Answer
+answer_at number ls = option_map answer_on (link_at number ls)
 
 -- what waits to be sent on the connection of this number, if that is there
 abbrev pub bytes_on : Link → List ℕ

@@ -127,9 +127,6 @@ abbrev pub IsServed : List ℕ → Service → Type 0
 IsServed [] s = Unit {0}
 IsServed (key ∷ others) s = (step {T = Token} s calls.Lease).reply ≡ AllInUse
 
-abbrev pub NobodyWaits : Desk → Type 0
-NobodyWaits d = IsServed d.line d.service
-
 abbrev pub Serving : Desk → Option Served → Type 0
 Serving d None = IsServed d.line d.service
 Serving d (Some served) =

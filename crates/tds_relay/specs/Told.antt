@@ -152,3 +152,4 @@ is_there number ls = is_some (link_at number ls)
 pub record TellsTheSame (old new : code.Relay) : Type 0 where
   pub counts : new.counts ≡ old.counts
   pub why : new.refused ≡ old.refused
+  pub most : new.most ≡ old.most

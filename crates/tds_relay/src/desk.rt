@@ -6,6 +6,7 @@ ghost use Rattle.tds_packet.specs.declared.status.Reset.TheVariants.{Full};
 ghost use Rattle.tds_relay.specs.Anew.{Resets};
 ghost use Rattle.tds_relay.specs.Desk.{Serves, Unwaits, Waits, find_key, find_number, key_of, new_desk};
 ghost use Rattle.tds_relay.specs.Desk.{fault_on, owes_reset};
+ghost use Rattle.tds_relay.specs.Few.{has_free};
 ghost use Rattle.tds_relay.specs.Hall.{is_in};
 ghost use Rattle.tds_relay.specs.Sparing.{AllHold};
 ghost use Rattle.tds_relay.specs.Ties.{Serving, Turns, desk_in};
@@ -14,6 +15,8 @@ ghost use Rattle.tds_relay.specs.declared.link.TheConstants.{COLUMNS};
 
 mod asking;
 mod coming;
+mod holds;
+mod index;
 mod leaving;
 mod lists;
 
@@ -21,16 +24,14 @@ use crate::NoMemory;
 use crate::fault::Broken;
 use crate::link::COLUMNS;
 pub use coming::{Heard, What};
+use holds::{Holds, find_key, find_number};
 pub use leaving::{Left, Renewed};
-use lists::{find_key, find_number, has_key, remove_key};
+use lists::{has_key, remove_key};
 use std::alloc::{AllocError, Global};
 use tds_listen::ListenFault;
 use tds_packet::{PacketSize, Reset};
 use tds_service::{Place, Refusal, Service};
 use tds_wire::Features;
-
-/// What a cleaning asks for: a reset leaves the isolation level as it is.
-const CLEANING: &str = "set transaction isolation level read committed";
 
 /// The connection that an application holds, and by which lease.
 #[derive(Clone, Copy, Debug, PartialEq, Eq)]
@@ -60,11 +61,9 @@ pub enum Mode {
 pub struct Desk {
     mode: Mode,
     service: Service,
-    holds: Vec<Hold>,
+    holds: Holds,
     /// The first one has waited longest.
     line: Vec<usize>,
-    /// The text of a cleaning, of two bytes a unit.
-    text: Vec<u8>,
     /// The last connection that is closed for what its server said.
     broken: Option<Broken>,
 }
@@ -88,9 +87,8 @@ impl Desk {
         Ok(Desk {
             mode: Mode::Sessions,
             service,
-            holds: Vec::new(alloc),
+            holds: Holds::new(alloc),
             line: Vec::new(alloc),
-            text: cleaning_text(alloc)?,
             broken: None,
         })
     }
@@ -140,7 +138,7 @@ impl Desk {
         let Some(key) = self.line.first().copied() else {
             return Ok(None);
         };
-        self.holds.reserve(1)?;
+        self.holds.reserve()?;
         match self.service.lease() {
             Ok(lent) => {
                 self.line.remove(0);
@@ -156,6 +154,13 @@ impl Desk {
             Err(Refusal::AllInUse) => Ok(None),
             Err(_) => Err(AllocError),
         }
+    }
+
+    /// Whether a connection is free: whoever is served next is lent one that somebody had before.
+    pub fn has_free(&self) -> bool
+        ensures { result ≡ has_free (desk_in self.now) }
+    {
+        self.service.has_free()
     }
 
     /// The connection that an application holds.
@@ -258,12 +263,4 @@ impl Desk {
     {
         self.line.len()
     }
-}
-
-fn cleaning_text(alloc: Global) -> Result<Vec<u8>, NoMemory> {
-    let mut text = Vec::new(alloc);
-    for byte in CLEANING.as_bytes() {
-        text.extend_from_slice(&[*byte, 0])?;
-    }
-    Ok(text)
 }

@@ -1,5 +1,5 @@
 //! A connection to the server, as the relay knows it beside its service.
-ghost use Rattle.std.specs.Prelude.{◌≡◌, ◌++◌, [], ℕ, List, None, IfOk, OnOk, false, if◌then◌else◌};
+ghost use Rattle.std.specs.Prelude.{◌≡◌, ◌++◌, [], ℕ, List, None, Some, IfOk, OnOk, false, if◌then◌else◌};
 ghost use Rattle.tds_relay.specs.Cutting.{IsAnew};
 ghost use Rattle.tds_packet.specs.declared.kind.Direction.TheVariants.{ToClient};
 
@@ -48,6 +48,8 @@ pub(crate) struct Answer {
 }
 
 impl Link {
+    ghost use Rattle.tds_relay.specs.Posts.{post_in};
+
     pub(crate) fn new(
         alloc: Global,
         number: u64,
@@ -58,6 +60,9 @@ impl Link {
         ensures number { IfOk result (λ link. link.number ≡ number) }
         ensures unread { IfOk result (λ link. link.reader.taken ≡ []) }
         ensures unnamed { IfOk result (λ link. link.tag ≡ None) }
+        ensures nothing { IfOk result (λ link. (post_in link.out).bytes ≡ []) }
+        ensures sized { IfOk result (λ link. (link.reader.size ≡ size)
+            × (link.answer.size ≡ size)) }
     {
         let answer = Answer {
             alloc,
@@ -77,12 +82,17 @@ impl Link {
 }
 
 impl Answer {
-    ghost use Rattle.tds_relay.specs.Cutting.{IsCut, awaited, known_behind, left_of, passed_on};
-    ghost use Rattle.tds_relay.specs.News.{held};
+    ghost use Rattle.tds_relay.specs.Cutting.{IsCutTo, IsCut, awaited, at_its_beginning, ends_in, known_behind};
+    ghost use Rattle.tds_relay.specs.Cutting.{left_of, passed_on};
+    ghost use Rattle.tds_service.specs.Packets.{behind_packet};
+    ghost use Rattle.tds_wire.specs.Reading.{Reading};
+    ghost use Rattle.tds_relay.specs.News.{held, known_next};
     ghost use Rattle.tds_relay.specs.Posts.{post_in, put};
 
     /// Nothing has come of the message that comes next.
-    pub(crate) fn restart(&mut self) {
+    pub(crate) fn restart(&mut self)
+        ensures { self.new ≡ at_its_beginning self.old }
+    {
         self.walker.restart();
         self.known = Known::None;
     }
@@ -103,8 +113,11 @@ impl Answer {
         bytes: &[u8],
         on: &mut Outgoing,
     ) -> Result<(), NoMemory>
-        ensures { OnOk result ((sent : List ℕ) × IsCut (awaited owed self.old) header bytes.now sent
+        ensures cut { OnOk result ((sent : List ℕ)
+            × IsCut (awaited owed self.old) header bytes.now sent
             × (post_in on.new ≡ put sent (post_in on.old))) }
+        ensures behind { OnOk result (IsCutTo (awaited owed self.old) (ends_in header)
+            bytes.now self.new) }
     {
         self.known.awaits(owed);
         let ends = header.status.ends();
@@ -120,6 +133,9 @@ impl Answer {
     fn close(&mut self, ends: bool, kept: &mut Vec<u8>) -> Result<(), NoMemory>
         ensures kept { OnOk result (kept.new.items
             ≡ (if ends then kept.old.items ++ held self.old.known else kept.old.items)) }
+        ensures known { OnOk result (self.new.known
+            ≡ (if ends then known_next self.old.known else self.old.known)) }
+        ensures walker { OnOk result (self.new.walker ≡ behind_packet ends self.old.walker) }
         ensures size { self.new.size ≡ self.old.size }
     {
         if ends {
@@ -150,6 +166,9 @@ impl Answer {
             ≡ kept.old.items ++ (left_of self.old.known self.old.walker bytes.now).bytes) }
         ensures known { OnOk result (self.new.known
             ≡ (left_of self.old.known self.old.walker bytes.now).known) }
+        ensures stands { OnOk result ((next : Reading)
+            → (left_of self.old.known self.old.walker bytes.now).stands ≡ Some next
+            → self.new.walker ≡ next) }
         ensures size { self.new.size ≡ self.old.size }
     {
         let mut rest = bytes;

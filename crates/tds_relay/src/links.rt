@@ -1,5 +1,8 @@
 //! The connections by their numbers.
-ghost use Rattle.std.specs.Prelude.{◌≡◌, ◌≢◌, ◌<◌, ◌++◌, ℕ, List, IfOk, IfSome, drop, length, option_map, true};
+ghost use Rattle.std.specs.Prelude.{◌≡◌, ◌≢◌, ◌<◌, ◌++◌, ℕ, List, IfOk, IfSome, drop, false, length, option_map, true};
+ghost use Rattle.tds_relay.specs.Cutting.{at_its_beginning};
+ghost use Rattle.tds_relay.specs.Lent.{KeepsAnswers};
+ghost use Rattle.tds_relay.specs.Reads.{answer_at};
 ghost use Rattle.tds_relay.specs.Reads.{Sees, Stays, named_seen, open_at, opened_at, opened_seen, place_of};
 ghost use Rattle.tds_relay.specs.Reads.{seen_at, waits_on, without_link};
 ghost use Rattle.tds_relay.specs.Told.{is_there};
@@ -34,8 +37,11 @@ pub(crate) fn append_to(links: &mut Vec<Link>, number: u64, bytes: &[u8]) -> Res
     ensures read { Stays links.old.items links.new.items }
     ensures others { (other : ℕ) → other ≢ number
         → waits_on other links.new.items ≡ waits_on other links.old.items }
+    ensures unfit { IfOk result (λ fits. fits ≡ false
+        → waits_on number links.new.items ≡ waits_on number links.old.items) }
     ensures appends { IfOk result (λ fits. fits ≡ true → waits_on number links.new.items
         ≡ option_map (λ (waits : List ℕ). waits ++ bytes.now) (waits_on number links.old.items)) }
+    ensures answers { KeepsAnswers links.old.items links.new.items }
 {
     let Some(place) = place_in(links, number) else {
         return Ok(true);
@@ -51,6 +57,8 @@ pub(crate) fn restart(links: &mut Vec<Link>, number: u64)
     ensures read { Stays links.old.items links.new.items }
     ensures waits { (other : ℕ)
         → waits_on other links.new.items ≡ waits_on other links.old.items }
+    ensures begins { answer_at number links.new.items
+        ≡ option_map at_its_beginning (answer_at number links.old.items) }
 {
     let Some(place) = place_in(links, number) else {
         return;

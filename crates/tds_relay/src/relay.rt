@@ -17,21 +17,25 @@ ghost use Rattle.tds_relay.specs.Reads.{link_at, waits_on};
 ghost use Rattle.tds_relay.specs.Sparing.{OthersRest};
 ghost use Rattle.tds_relay.specs.Ties.{Cause, CausesRequest, Goes, Neither, desk_in};
 ghost use Rattle.tds_relay.specs.Told.{TellsTheSame, least_for, room_at, room_behind};
+ghost use Rattle.tds_relay.specs.Waiting.{StandsInLine};
 ghost use Rattle.tds_relay.specs.Walkers.{AllStand, IsUnread};
 ghost use Rattle.tds_relay.specs.declared.application.Application.{Application};
 ghost use Rattle.tds_relay.specs.declared.link.TheConstants.{COLUMNS};
 ghost use Rattle.tds_relay.specs.declared.outgoing.TheConstants.{PIECE};
 
 mod asking;
+mod bringing;
 mod coming;
 mod leaving;
 mod lending;
+mod limiting;
 mod places;
 mod putting;
 mod resuming;
 mod sending;
 mod starting;
 mod stopping;
+mod telling;
 
 use crate::NoMemory;
 use crate::application::Application;
@@ -60,6 +64,8 @@ pub struct Relay {
     size: PacketSize,
     features: Features,
     desk: Desk,
+    /// How many connections there may be: `set_most` alone changes that.
+    most: usize,
     applications: Slab<Application>,
     links: Vec<Link>,
     orders: Vec<Order>,
@@ -71,7 +77,7 @@ pub struct Relay {
 }
 
 impl Relay {
-    /// A relay of at most so many connections, with packets of this size. `features` is what the
+    /// A relay of never more connections than so many, with packets of this size. `features` is what the
     /// connections' logins acknowledge.
     pub fn new(
         alloc: Global,
@@ -83,6 +89,10 @@ impl Relay {
         ensures house { IfOk result (λ relay. house_in relay ≡ new_house most) }
         ensures unread { IfOk result (λ relay. (number : ℕ)
             → IsUnread COLUMNS features number relay.desk.service) }
+        ensures nothing { IfOk result (λ relay. (relay.links.items ≡ [])
+            × (relay.orders.items ≡ []) × (relay.refused ≡ None)) }
+        ensures sized { IfOk result (λ relay. (relay.size ≡ size) × (relay.features ≡ features)) }
+        ensures most { IfOk result (λ relay. relay.most ≡ most) }
     {
         let desk = Desk::new(alloc, most, size, features)?;
         Ok(Relay {
@@ -90,6 +100,7 @@ impl Relay {
             size,
             features,
             desk,
+            most,
             applications: Slab::new(alloc),
             links: Vec::new(alloc),
             orders: Vec::new(alloc),
@@ -231,6 +242,7 @@ impl Relay {
         ensures asks { AskAsBefore self.old.applications self.new.applications }
         ensures orders { self.new.orders.items ≡ self.old.orders.items }
         ensures closes { ClosesOnly Nobody (register_in self.old) (register_in self.new) }
+        ensures outbox { self.new.outbox.items ≡ self.old.outbox.items }
     {
         match self.applications.get_mut(key) {
             Some(application) => application.let_go(),
@@ -287,6 +299,7 @@ impl Relay {
         ensures stand { OnOk result (AllStand self.old.desk.service
             self.new.desk.service) }
         ensures body { (other : ℕ) → body_of other self.new ≡ body_of other self.old }
+        ensures lines { OnOk result (StandsInLine key self.new) }
         ensures closes { ClosesOnly Nobody (register_in self.old) (register_in self.new) }
     {
         if self.is_away(key) {
@@ -303,6 +316,7 @@ impl Relay {
         ensures underway { result ≡ false → find_key key (desk_in self.now.desk).holds ≡ None
             → (whole : Bool)
             → IsUnderway whole self.now.links.items key (hall_in self.now) }
+        ensures lines { result ≡ false → StandsInLine key self.now }
     {
         let Some(application) = self.applications.get(key) else {
             return false;

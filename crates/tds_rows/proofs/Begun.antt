@@ -5,7 +5,7 @@ use Rattle.tds_wire.specs.declared.fault.WireFault.TheVariants.{UnknownToken, No
 use Rattle.tds_wire.specs.declared.shape.Shape.{Shape}
 use Rattle.tds_wire.specs.Layout.{Read, Got, Short, Wrong, ◌>>=◌, bitmap}
 use Rattle.tds_rows.specs.declared.place.Place.{Place}
-use Rattle.tds_rows.specs.Places.{values_placed, placed_row}
+use Rattle.tds_rows.specs.Places.{row_placed, values_placed}
 use Rattle.tds_rows.proofs.Fronts.{one_got, one_short}
 
 abbrev pub AreBytes : List ℕ → Type 0
@@ -26,55 +26,99 @@ bitmap_short zero known bytes h = absurd (omega (arith, h))
 bitmap_short (suc n) known [] h = refl
 bitmap_short (suc n) known (b ∷ bytes) h = bitmap_short n (known ++ (b % 256) ∷ []) bytes (omega (arith, h))
 
-pub row_none : (shapes : List Shape) (bytes : List ℕ) → length bytes < 1 → placed_row shapes bytes ≡ Short
-unfolding placed_row
-row_none shapes bytes h = rw (one_short bytes h) refl
+pub row_none : (at : ℕ) (shapes : List Shape) (bytes : List ℕ) → length bytes < 1 → row_placed at shapes bytes ≡ Short
+unfolding row_placed
+row_none at shapes bytes h = rw (one_short bytes h) refl
 
-pub other_begun : (shapes : List Shape) (bytes : List ℕ) → 0 < length bytes → (get_or bytes 0 0 == 0xD1) ≡ false → (get_or bytes 0 0 == 0xD2) ≡ false
-    → placed_row shapes bytes ≡ Wrong UnknownToken (drop 1 bytes)
-unfolding placed_row
-other_begun shapes bytes h a b = rw (one_got bytes h) (rw a (rw b refl))
+-- ---- Of bytes that begin with it, at this place
 
-pub row_begun : (shapes : List Shape) (bytes : List ℕ) → 0 < length bytes → get_or bytes 0 0 ≡ 0xD1 → (length shapes == 0) ≡ false
-    → placed_row shapes bytes ≡ values_placed false [] 0 shapes 1 (drop 1 bytes)
-unfolding placed_row
-row_begun shapes bytes h e f = rw (one_got bytes h) (rw e (rw f refl))
+other_begun : (at : ℕ) (shapes : List Shape) (bytes : List ℕ) → 0 < length bytes → (get_or bytes 0 0 == 0xD1) ≡ false → (get_or bytes 0 0 == 0xD2) ≡ false
+    → row_placed at shapes bytes ≡ Wrong UnknownToken (drop 1 bytes)
+unfolding row_placed
+other_begun at shapes bytes h a b = rw (one_got bytes h) (rw a (rw b refl))
 
-pub row_of_none : (shapes : List Shape) (bytes : List ℕ) → 0 < length bytes → get_or bytes 0 0 ≡ 0xD1 → length shapes ≡ 0 → placed_row shapes bytes ≡ Wrong NoColumns (drop 1 bytes)
-unfolding placed_row
-row_of_none shapes bytes h e f =
+row_begun : (at : ℕ) (shapes : List Shape) (bytes : List ℕ) → 0 < length bytes → get_or bytes 0 0 ≡ 0xD1 → (length shapes == 0) ≡ false
+    → row_placed at shapes bytes ≡ values_placed false [] 0 shapes (at + 1) (drop 1 bytes)
+unfolding row_placed
+row_begun at shapes bytes h e f = rw (one_got bytes h) (rw e (rw f refl))
+
+row_of_none : (at : ℕ) (shapes : List Shape) (bytes : List ℕ) → 0 < length bytes → get_or bytes 0 0 ≡ 0xD1 → length shapes ≡ 0
+    → row_placed at shapes bytes ≡ Wrong NoColumns (drop 1 bytes)
+unfolding row_placed
+row_of_none at shapes bytes h e f =
+    let t : (length shapes == 0) ≡ true = rw f refl in
+    rw (one_got bytes h) (rw e (rw t refl))
+
+null_row_of_none : (at : ℕ) (shapes : List Shape) (bytes : List ℕ) → 0 < length bytes → get_or bytes 0 0 ≡ 0xD2 → length shapes ≡ 0
+    → row_placed at shapes bytes ≡ Wrong NoColumns (drop 1 bytes)
+unfolding row_placed
+null_row_of_none at shapes bytes h e f =
     let t : (length shapes == 0) ≡ true = rw f refl in
     rw (one_got bytes h) (rw e (rw t refl))
 
 abbrev bits_of : List Shape → ℕ
 bits_of shapes = (length shapes + 7) / 8
 
-abbrev behind_bits : List Shape → Read (List ℕ) → Read (List Place)
-behind_bits shapes r = r >>= λ bits rest. values_placed true bits 0 shapes (1 + bits_of shapes) rest
+abbrev behind_bits : ℕ → List Shape → Read (List ℕ) → Read (List Place)
+behind_bits at shapes r = r >>= λ bits rest. values_placed true bits 0 shapes (at + 1 + bits_of shapes) rest
 
-null_row_on : (shapes : List Shape) (bytes : List ℕ) → 0 < length bytes → get_or bytes 0 0 ≡ 0xD2 → (length shapes == 0) ≡ false
-    → placed_row shapes bytes ≡ behind_bits shapes (bitmap (bits_of shapes) [] (drop 1 bytes))
-unfolding placed_row
-null_row_on shapes bytes h e f = rw (one_got bytes h) (rw e (rw f refl))
+null_row_on : (at : ℕ) (shapes : List Shape) (bytes : List ℕ) → 0 < length bytes → get_or bytes 0 0 ≡ 0xD2 → (length shapes == 0) ≡ false
+    → row_placed at shapes bytes ≡ behind_bits at shapes (bitmap (bits_of shapes) [] (drop 1 bytes))
+unfolding row_placed
+null_row_on at shapes bytes h e f = rw (one_got bytes h) (rw e (rw f refl))
 
-pub null_row_begun : (shapes : List Shape) (n : ℕ) (bytes : List ℕ) → get_or bytes 0 0 ≡ 0xD2 → (length shapes == 0) ≡ false → AreBytes bytes
-    → n ≡ (length shapes + 7) / 8 → 1 + n ≤ length bytes → placed_row shapes bytes ≡ values_placed true (take (1 + n - 1) (drop 1 bytes)) 0 shapes (1 + n) (drop (1 + n) bytes)
-null_row_begun shapes n bytes e f are k h =
-    let same : n ≡ 1 + n - 1 = omega arith in
-    let shifted : AreBytes (drop 1 bytes) = λ i. rw (get_or-drop 1 bytes i 0) (are (1 + i)) in
-    null_row_on shapes bytes (omega (arith, h)) e f
-    ∙ (ap (λ (m : ℕ). bitmap m [] (drop 1 bytes) >>= λ bits rest. values_placed true bits 0 shapes (1 + m) rest) (sym k)
-    ∙ (ap (λ (r : Read (List ℕ)). r >>= λ bits rest. values_placed true bits 0 shapes (1 + n) rest) (bitmap_got n [] (drop 1 bytes) (omega (arith, h, length-drop 1 bytes)) shifted)
-    ∙ (ap (λ (xs : List ℕ). values_placed true (take n (drop 1 bytes)) 0 shapes (1 + n) xs) (drop-drop n 1 bytes)
-    ∙ ap (λ (m : ℕ). values_placed true (take m (drop 1 bytes)) 0 shapes (1 + n) (drop (1 + n) bytes)) same)))
+-- ---- At a place of bytes
 
-pub null_row_cut : (shapes : List Shape) (bytes : List ℕ) → 0 < length bytes → get_or bytes 0 0 ≡ 0xD2 → (length shapes == 0) ≡ false
-    → length bytes < 1 + (length shapes + 7) / 8 → placed_row shapes bytes ≡ Short
-null_row_cut shapes bytes h e f l =
-    null_row_on shapes bytes h e f ∙ ap (behind_bits shapes) (bitmap_short (bits_of shapes) [] (drop 1 bytes) (omega (arith, h, l, length-drop 1 bytes)))
+is_there : (at : ℕ) (bytes : List ℕ) → at < length bytes → 0 < length (drop at bytes)
+is_there at bytes h = omega (arith, h, length-drop at bytes)
 
-pub null_row_of_none : (shapes : List Shape) (bytes : List ℕ) → 0 < length bytes → get_or bytes 0 0 ≡ 0xD2 → length shapes ≡ 0 → placed_row shapes bytes ≡ Wrong NoColumns (drop 1 bytes)
-unfolding placed_row
-null_row_of_none shapes bytes h e f =
-    let t : (length shapes == 0) ≡ true = rw f refl in
-    rw (one_got bytes h) (rw e (rw t refl))
+front_is : (at : ℕ) (bytes : List ℕ) → get_or (drop at bytes) 0 0 ≡ get_or bytes at 0
+front_is at bytes =
+    let z : at + 0 ≡ at = omega arith in
+    get_or-drop at bytes 0 0 ∙ ap (λ (i : ℕ). get_or bytes i 0) z
+
+pub other_at : (at : ℕ) (shapes : List Shape) (bytes : List ℕ) → at < length bytes → (get_or bytes at 0 == 0xD1) ≡ false → (get_or bytes at 0 == 0xD2) ≡ false
+    → row_placed at shapes (drop at bytes) ≡ Wrong UnknownToken (drop (at + 1) bytes)
+other_at at shapes bytes h a b =
+    other_begun at shapes (drop at bytes) (is_there at bytes h) (ap (λ (n : ℕ). n == 0xD1) (front_is at bytes) ∙ a) (ap (λ (n : ℕ). n == 0xD2) (front_is at bytes) ∙ b)
+    ∙ ap (Wrong UnknownToken) (drop-drop 1 at bytes)
+
+pub row_at : (at : ℕ) (shapes : List Shape) (bytes : List ℕ) → at < length bytes → get_or bytes at 0 ≡ 0xD1 → (length shapes == 0) ≡ false
+    → row_placed at shapes (drop at bytes) ≡ values_placed false [] 0 shapes (at + 1) (drop (at + 1) bytes)
+row_at at shapes bytes h e f =
+    row_begun at shapes (drop at bytes) (is_there at bytes h) (front_is at bytes ∙ e) f ∙ ap (values_placed false [] 0 shapes (at + 1)) (drop-drop 1 at bytes)
+
+pub row_of_none_at : (at : ℕ) (shapes : List Shape) (bytes : List ℕ) → at < length bytes → get_or bytes at 0 ≡ 0xD1 → length shapes ≡ 0
+    → row_placed at shapes (drop at bytes) ≡ Wrong NoColumns (drop (at + 1) bytes)
+row_of_none_at at shapes bytes h e f =
+    row_of_none at shapes (drop at bytes) (is_there at bytes h) (front_is at bytes ∙ e) f ∙ ap (Wrong NoColumns) (drop-drop 1 at bytes)
+
+pub null_row_of_none_at : (at : ℕ) (shapes : List Shape) (bytes : List ℕ) → at < length bytes → get_or bytes at 0 ≡ 0xD2 → length shapes ≡ 0
+    → row_placed at shapes (drop at bytes) ≡ Wrong NoColumns (drop (at + 1) bytes)
+null_row_of_none_at at shapes bytes h e f =
+    null_row_of_none at shapes (drop at bytes) (is_there at bytes h) (front_is at bytes ∙ e) f ∙ ap (Wrong NoColumns) (drop-drop 1 at bytes)
+
+bits_at : (at : ℕ) (shapes : List Shape) (bytes : List ℕ) → at < length bytes → get_or bytes at 0 ≡ 0xD2 → (length shapes == 0) ≡ false
+    → row_placed at shapes (drop at bytes) ≡ behind_bits at shapes (bitmap (bits_of shapes) [] (drop (at + 1) bytes))
+bits_at at shapes bytes h e f =
+    null_row_on at shapes (drop at bytes) (is_there at bytes h) (front_is at bytes ∙ e) f
+    ∙ ap (λ (xs : List ℕ). behind_bits at shapes (bitmap (bits_of shapes) [] xs)) (drop-drop 1 at bytes)
+
+pub null_row_at : (at : ℕ) (shapes : List Shape) (n : ℕ) (bytes : List ℕ) → get_or bytes at 0 ≡ 0xD2 → (length shapes == 0) ≡ false → AreBytes bytes
+    → n ≡ (length shapes + 7) / 8 → at + 1 + n ≤ length bytes
+    → row_placed at shapes (drop at bytes) ≡ values_placed true (take (at + 1 + n - (at + 1)) (drop (at + 1) bytes)) 0 shapes (at + 1 + n) (drop (at + 1 + n) bytes)
+null_row_at at shapes n bytes e f are k h =
+    let same : n ≡ at + 1 + n - (at + 1) = omega arith in
+    let shifted : AreBytes (drop (at + 1) bytes) = λ i. rw (get_or-drop (at + 1) bytes i 0) (are (at + 1 + i)) in
+    bits_at at shapes bytes (omega (arith, h)) e f
+    ∙ (ap (λ (m : ℕ). bitmap m [] (drop (at + 1) bytes) >>= λ bits rest. values_placed true bits 0 shapes (at + 1 + m) rest) (sym k)
+    ∙ (ap (λ (r : Read (List ℕ)). r >>= λ bits rest. values_placed true bits 0 shapes (at + 1 + n) rest)
+    (bitmap_got n [] (drop (at + 1) bytes) (omega (arith, h, length-drop (at + 1) bytes)) shifted)
+    ∙ (ap (λ (xs : List ℕ). values_placed true (take n (drop (at + 1) bytes)) 0 shapes (at + 1 + n) xs) (drop-drop n (at + 1) bytes)
+    ∙ ap (λ (m : ℕ). values_placed true (take m (drop (at + 1) bytes)) 0 shapes (at + 1 + n) (drop (at + 1 + n) bytes)) same)))
+
+pub null_row_cut_at : (at : ℕ) (shapes : List Shape) (bytes : List ℕ) → at < length bytes → get_or bytes at 0 ≡ 0xD2 → (length shapes == 0) ≡ false
+    → length bytes < at + 1 + (length shapes + 7) / 8 → row_placed at shapes (drop at bytes) ≡ Short
+null_row_cut_at at shapes bytes h e f l =
+    bits_at at shapes bytes h e f
+    ∙ ap (behind_bits at shapes) (bitmap_short (bits_of shapes) [] (drop (at + 1) bytes) (omega (arith, h, l, length-drop (at + 1) bytes)))

@@ -6,7 +6,7 @@ use Rattle.tds_wire.specs.declared.shape.Shape.{Shape}
 use Rattle.tds_wire.specs.Layout.{Read, Got, Short, Wrong, ◌>>=◌, Seen, bitmap, is_null, token_at, token_behind, value, values}
 use Rattle.tds_rows.specs.declared.place.Place.{Place}
 use Rattle.tds_rows.specs.Laws.{begins_row, passed_as}
-use Rattle.tds_rows.specs.Places.{column_value_at, no_value, null_row_behind, value_place, values_placed, placed_row, row_behind}
+use Rattle.tds_rows.specs.Places.{column_value_at, no_value, null_row_behind, value_place, values_placed, placed_row, row_behind, row_placed}
 
 -- the places aside
 abbrev forget : Read (List Place) → Read (Unit {0})
@@ -64,7 +64,7 @@ placed s with_nulls nulls at bytes =
 
 row_by : (none : Bool) (s : Seen) (bytes : List ℕ)
     → (if none then Wrong NoColumns bytes else (values false [] 0 s.columns bytes >>= λ u rest. Got s rest))
-    ≡ passed_as s (if none then Wrong NoColumns bytes else row_behind s.columns bytes)
+    ≡ passed_as s (if none then Wrong NoColumns bytes else row_behind 0 s.columns bytes)
 row_by true s bytes = refl
 row_by false s bytes = placed s false [] 1 bytes
 
@@ -76,18 +76,18 @@ bits_by s at (Wrong fault rest) = refl
 
 null_row_by : (none : Bool) (s : Seen) (bytes : List ℕ)
     → (if none then Wrong NoColumns bytes else (bitmap ((length s.columns + 7) / 8) [] bytes >>= λ bits rest. values true bits 0 s.columns rest >>= λ u more. Got s more))
-    ≡ passed_as s (if none then Wrong NoColumns bytes else null_row_behind s.columns bytes)
+    ≡ passed_as s (if none then Wrong NoColumns bytes else null_row_behind 0 s.columns bytes)
 null_row_by true s bytes = refl
 null_row_by false s bytes = bits_by s (1 + (length s.columns + 7) / 8) (bitmap ((length s.columns + 7) / 8) [] bytes)
 
 row_is : (most kind : ℕ) (features : Features) (shapes : List Shape) (b : ℕ) (bytes : List ℕ) → b ≡ 0xD1
     → token_at most features (record { kind = kind; columns = shapes }) (b ∷ bytes) ≡ passed_as (record { kind = b; columns = shapes }) (placed_row shapes (b ∷ bytes))
-unfolding token_at token_behind placed_row
+unfolding token_at token_behind row_placed
 row_is most kind features shapes b bytes e = rw e (row_by (length shapes == 0) (record { kind = 0xD1; columns = shapes }) bytes)
 
 null_row_is : (most kind : ℕ) (features : Features) (shapes : List Shape) (b : ℕ) (bytes : List ℕ) → b ≡ 0xD2
     → token_at most features (record { kind = kind; columns = shapes }) (b ∷ bytes) ≡ passed_as (record { kind = b; columns = shapes }) (placed_row shapes (b ∷ bytes))
-unfolding token_at token_behind placed_row
+unfolding token_at token_behind row_placed
 null_row_is most kind features shapes b bytes e = rw e (null_row_by (length shapes == 0) (record { kind = 0xD2; columns = shapes }) bytes)
 
 second_kind : (b : ℕ) → (b == 0xD1) ≡ false → begins_row b ≡ true → b ≡ 0xD2

@@ -10,3 +10,4 @@ mod Listed
 mod Coming
 mod Ending
 mod Staying
+mod Many

@@ -1,5 +1,5 @@
 -- What a call found, as the definitions have it.
-use Rattle.std.specs.Prelude.{◌≡◌, ◌≢◌, ◌-◌, ◌≤◌, ◌<◌, ℕ, List, map, take, drop, get_or, length, Option, Some, None, Result, Ok, Err}
+use Rattle.std.specs.Prelude.{◌≡◌, ◌≢◌, ◌+◌, ◌-◌, ◌≤◌, ◌<◌, ℕ, List, map, take, drop, get_or, length, Option, Some, None, Result, Ok, Err}
 use Rattle.tds_wire.specs.declared.fault.WireFault.TheVariants as wire
 use Rattle.tds_wire.specs.declared.features.Features.{Features}
 use Rattle.tds_wire.specs.declared.shape.Shape.{Shape}
@@ -11,7 +11,7 @@ use Rattle.tds_rows.specs.declared.place.RowColumn.{RowColumn}
 use Rattle.tds_rows.specs.declared.place.RowFault.{RowFault}
 use Rattle.tds_rows.specs.declared.place.RowFault.TheVariants as fault
 use Rattle.tds_rows.specs.Columns.{metadata_at}
-use Rattle.tds_rows.specs.Places.{placed_row, two_from}
+use Rattle.tds_rows.specs.Places.{row_placed, two_from}
 
 -- ---- A value
 
@@ -27,21 +27,29 @@ EndsAfter x read bytes None = read ≡ Short
 
 -- ---- A row
 
--- bytes begin with this one
-abbrev pub IsKind : ℕ → List ℕ → Type 0
-IsKind kind bytes = (0 < length bytes) × (get_or bytes 0 0 ≡ kind)
+-- at this place of bytes stands this one
+abbrev pub IsKind : ℕ → ℕ → List ℕ → Type 0
+IsKind kind at bytes = (at < length bytes) × (get_or bytes at 0 ≡ kind)
 
 unfoldable pub column_shapes : List RowColumn → List Shape
 column_shapes columns = map (λ (c : RowColumn). shape_of c.shape) columns
 
+-- why there is no row at this place of bytes, with room for so many places
+abbrev pub NoRowAt : RowFault → ℕ → List Shape → List ℕ → ℕ → Type 0
+NoRowAt fault.Short at shapes bytes room = row_placed at shapes (drop at bytes) ≡ Short
+NoRowAt fault.OtherToken at shapes bytes room = row_placed at shapes (drop at bytes) ≡ Wrong wire.UnknownToken (drop (at + 1) bytes)
+NoRowAt fault.NoColumns at shapes bytes room = row_placed at shapes (drop at bytes) ≡ Wrong wire.NoColumns (drop (at + 1) bytes)
+NoRowAt fault.UnknownType at shapes bytes room = ⊥
+NoRowAt fault.NoRoom at shapes bytes room = room < length shapes
+
+-- the values of all columns of the row at this place, and where it ends; or why there is no such row
+abbrev pub RowFound : Result ℕ RowFault → ℕ → List Shape → List ℕ → List Place → Type 0
+RowFound (Ok n) at shapes bytes places = (n ≤ length bytes) × (row_placed at shapes (drop at bytes) ≡ Got (take (length shapes) places) (drop n bytes))
+RowFound (Err e) at shapes bytes places = NoRowAt e at shapes bytes (length places)
+
 -- the values of all columns, and how many bytes the row has; or why there is no such row
 abbrev pub PlacesFound : Result ℕ RowFault → List Shape → List ℕ → List Place → Type 0
-PlacesFound (Ok n) shapes bytes places = (n ≤ length bytes) × (placed_row shapes bytes ≡ Got (take (length shapes) places) (drop n bytes))
-PlacesFound (Err fault.Short) shapes bytes places = placed_row shapes bytes ≡ Short
-PlacesFound (Err fault.OtherToken) shapes bytes places = placed_row shapes bytes ≡ Wrong wire.UnknownToken (drop 1 bytes)
-PlacesFound (Err fault.NoColumns) shapes bytes places = placed_row shapes bytes ≡ Wrong wire.NoColumns (drop 1 bytes)
-PlacesFound (Err fault.UnknownType) shapes bytes places = ⊥
-PlacesFound (Err fault.NoRoom) shapes bytes places = length places < length shapes
+PlacesFound result shapes bytes places = RowFound result 0 shapes bytes places
 
 -- ---- Columns
 

@@ -1,5 +1,5 @@
 -- How rows stand beside the layout of tds_wire.
-use Rattle.std.specs.Prelude.{◌≡◌, ◌≤◌, ℕ, ◌+◌, ◌/◌, ◌==◌, ◌&&◌, ◌||◌, Bool, true, false, List, [], ◌∷◌, drop, get_or, length, take, Option, Some, None, ◌⊎◌}
+use Rattle.std.specs.Prelude.{◌≡◌, ◌≤◌, ℕ, zero, suc, ◌+◌, ◌-◌, ◌/◌, ◌==◌, ◌&&◌, ◌||◌, Bool, true, false, List, [], ◌∷◌, ◌++◌, drop, get_or, length, take, Option, Some, None, ◌⊎◌}
 use Rattle.tds_wire.specs.declared.shape.Shape.{Shape}
 use Rattle.tds_wire.specs.Layout.{Read, Got, ◌>>=◌, Seen, is_null, with_columns}
 use Rattle.tds_rows.specs.declared.place.Place.{Place}
@@ -34,14 +34,20 @@ Divides with_nulls nulls i (s ∷ shapes) at bytes (p ∷ ps) rest =
 Divides with_nulls nulls i [] at bytes (p ∷ ps) rest = ⊥
 Divides with_nulls nulls i (s ∷ shapes) at bytes [] rest = ⊥
 
--- The places divide a row behind its first byte, and an NBCROW behind its null bitmap.
-abbrev pub DividesBehind : Bool → List Shape → List ℕ → List Place → List ℕ → Type 0
-DividesBehind false shapes bytes found rest = Divides false [] 0 shapes 1 (drop 1 bytes) found rest
-DividesBehind true shapes bytes found rest =
-    Divides true (take ((length shapes + 7) / 8) (drop 1 bytes)) 0 shapes (1 + (length shapes + 7) / 8) (drop (1 + (length shapes + 7) / 8) bytes) found rest
+-- The places divide a row, which begins at this place of bytes, behind its first byte, and an NBCROW behind its null bitmap.
+abbrev pub DividesBehind : Bool → ℕ → List Shape → List ℕ → List Place → List ℕ → Type 0
+DividesBehind false at shapes bytes found rest = Divides false [] 0 shapes (at + 1) (drop (at + 1) bytes) found rest
+DividesBehind true at shapes bytes found rest =
+    Divides true (take ((length shapes + 7) / 8) (drop (at + 1) bytes)) 0 shapes (at + 1 + (length shapes + 7) / 8) (drop (at + 1 + (length shapes + 7) / 8) bytes) found rest
 
-abbrev pub DividesRow : List Shape → List ℕ → List Place → List ℕ → Type 0
-DividesRow shapes bytes found rest = DividesBehind (get_or bytes 0 0 == 0xD2) shapes bytes found rest
+abbrev pub DividesRow : ℕ → List Shape → List ℕ → List Place → List ℕ → Type 0
+DividesRow at shapes bytes found rest = DividesBehind (get_or bytes at 0 == 0xD2) at shapes bytes found rest
+
+-- They divide so many rows: each begins where the one before it has ended, and nothing stands between them.
+unfoldable pub DividesRows : ℕ → List Shape → List ℕ → List Place → List ℕ → Type 0
+DividesRows zero shapes bytes found rest = (found ≡ []) × (bytes ≡ rest)
+DividesRows (suc rows) shapes bytes found rest = (before : List Place) × (last : List Place) × (middle : List ℕ) × (found ≡ before ++ last)
+    × DividesRows rows shapes bytes before middle × DividesRow (length bytes - length middle) shapes bytes last rest
 
 -- The columns that are known behind a COLMETADATA: those that it describes; where it describes none, those from before.
 abbrev pub behind_metadata : Seen → Option (List RowColumn) → Seen

@@ -5,5 +5,6 @@ pub mod Kinds
 pub mod Columns
 pub mod Finding
 pub mod Laws
+pub mod Many
 pub mod Pieces
 pub mod Come

@@ -1,6 +1,6 @@
 -- Where the values of a row stand (MS-TDS 2.2.5.2, 2.2.7.15, 2.2.7.19). How far a value goes is what the layout of tds_wire passes of it; of
 -- these bytes the first ones are its prefix, and the last ones may close it.
-use Rattle.std.specs.Prelude.{ℕ, ◌+◌, ◌-◌, ◌*◌, ◌/◌, ◌==◌, ◌&&◌, ◌||◌, Bool, true, false, List, [], ◌∷◌, length, get_or, if◌then◌else◌}
+use Rattle.std.specs.Prelude.{ℕ, zero, suc, ◌+◌, ◌-◌, ◌*◌, ◌/◌, ◌==◌, ◌&&◌, ◌||◌, Bool, true, false, List, [], ◌∷◌, ◌++◌, length, get_or, if◌then◌else◌}
 use Rattle.tds_wire.specs.declared.fault.WireFault.TheVariants.{UnknownToken, NoColumns}
 use Rattle.tds_wire.specs.declared.shape.Shape.{Shape}
 use Rattle.tds_wire.specs.declared.shape.Shape.TheVariants as shape
@@ -72,16 +72,25 @@ values_placed with_nulls nulls i [] at bytes = Got [] bytes
 values_placed with_nulls nulls i (s ∷ others) at bytes = column_value_at (with_nulls && is_null nulls i) at s bytes >>= λ p rest.
     values_placed with_nulls nulls (i + 1) others (at + (length bytes - length rest)) rest >>= λ ps more. Got (p ∷ ps) more
 
--- behind the first byte of a ROW, and of an NBCROW
-abbrev pub row_behind : List Shape → List ℕ → Read (List Place)
-row_behind shapes bytes = values_placed false [] 0 shapes 1 bytes
+-- behind the first byte, which stands at this place, of a ROW, and of an NBCROW
+abbrev pub row_behind : ℕ → List Shape → List ℕ → Read (List Place)
+row_behind at shapes bytes = values_placed false [] 0 shapes (at + 1) bytes
 
-abbrev pub null_row_behind : List Shape → List ℕ → Read (List Place)
-null_row_behind shapes bytes = bitmap ((length shapes + 7) / 8) [] bytes >>= λ bits rest. values_placed true bits 0 shapes (1 + (length shapes + 7) / 8) rest
+abbrev pub null_row_behind : ℕ → List Shape → List ℕ → Read (List Place)
+null_row_behind at shapes bytes = bitmap ((length shapes + 7) / 8) [] bytes >>= λ bits rest. values_placed true bits 0 shapes (at + 1 + (length shapes + 7) / 8) rest
 
--- the values of the row that bytes begin with
-unfoldable pub placed_row : List Shape → List ℕ → Read (List Place)
-placed_row shapes bytes = one bytes >>= λ byte rest.
-    if byte == 0xD1 then (if length shapes == 0 then Wrong NoColumns rest else row_behind shapes rest)
-    else if byte == 0xD2 then (if length shapes == 0 then Wrong NoColumns rest else null_row_behind shapes rest)
+-- the values of the row that bytes begin with, whose first byte stands at this place
+unfoldable pub row_placed : ℕ → List Shape → List ℕ → Read (List Place)
+row_placed at shapes bytes = one bytes >>= λ byte rest.
+    if byte == 0xD1 then (if length shapes == 0 then Wrong NoColumns rest else row_behind at shapes rest)
+    else if byte == 0xD2 then (if length shapes == 0 then Wrong NoColumns rest else null_row_behind at shapes rest)
     else Wrong UnknownToken rest
+
+abbrev pub placed_row : List Shape → List ℕ → Read (List Place)
+placed_row shapes bytes = row_placed 0 shapes bytes
+
+-- The values of so many rows, one behind the other: one row more stands behind those before it, at the place behind their bytes.
+unfoldable pub rows_placed : ℕ → List Shape → List ℕ → Read (List Place)
+rows_placed zero shapes bytes = Got [] bytes
+rows_placed (suc rows) shapes bytes = rows_placed rows shapes bytes >>= λ found rest.
+    row_placed (length bytes - length rest) shapes rest >>= λ more last. Got (found ++ more) last

@@ -22,5 +22,5 @@ pub use laws::{
     places_stay_as_bytes_come, rows_are_those_of_the_layout,
 };
 pub use pieces::{PartsReader, Piece};
-pub use place::{Described, Place, RowColumn, RowFault};
-pub use rows::row_places;
+pub use place::{Described, Place, RowColumn, RowFault, RowsPlaced};
+pub use rows::{places_of_rows, row_places};

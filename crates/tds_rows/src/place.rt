@@ -45,6 +45,16 @@ pub struct Described {
     pub length: usize,
 }
 
+/// Rows one behind the other whose places were found.
+#[derive(Clone, Copy, Debug, PartialEq, Eq)]
+pub struct RowsPlaced {
+    pub rows: usize,
+    /// How many bytes they have.
+    pub taken: usize,
+    /// What stands behind them, where bytes are left.
+    pub stop: Option<RowFault>,
+}
+
 /// Why bytes are no such token.
 #[derive(Clone, Copy, Debug, PartialEq, Eq)]
 pub enum RowFault {

@@ -30,3 +30,8 @@ pub mod Spent
 pub mod Owned
 pub mod Owners
 pub mod Rising
+pub mod Ids
+pub mod Holders
+pub mod Paired
+pub mod Indexing
+pub mod Reindexing

@@ -75,7 +75,7 @@ not_met n [] i lt is = absurd (omega (arith, lt))
 not_met n (c ∷ cs) zero lt is = other c.number n (seat_in c) refl is
 not_met n (c ∷ cs) (suc i) lt is = not_met n cs i (omega (arith, lt)) is
 
-mapped : (cs : List code.Seat) → length (numbers_in cs) ≡ length cs
+pub mapped : (cs : List code.Seat) → length (numbers_in cs) ≡ length cs
 mapped [] = refl
 mapped (c ∷ cs) = ap suc (mapped cs)
 

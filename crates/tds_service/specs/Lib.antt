@@ -16,3 +16,4 @@ pub mod Sizes
 pub mod Beginning
 pub mod Rising
 pub mod Anew
+pub mod Index

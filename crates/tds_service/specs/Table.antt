@@ -14,8 +14,8 @@ use Rattle.tds_service.specs.declared.place.Place as code
 use Rattle.tds_service.specs.declared.place.Place.TheVariants as places
 use Rattle.tds_service.specs.declared.place.Rest.{Rest}
 use Rattle.tds_service.specs.declared.place.Rest.TheVariants as rests
-use Rattle.tds_service.specs.declared.place.Wanted.{Wanted}
-use Rattle.tds_service.specs.declared.place.Wanted.TheVariants as wants
+use Rattle.tds_service.specs.declared.place.Holder.{Holder}
+use Rattle.tds_service.specs.declared.place.Holder.TheVariants as holders
 use Rattle.tds_service.specs.declared.refusal.Refusal.{Refusal}
 use Rattle.tds_service.specs.declared.refusal.Refusal.TheVariants as refusals
 use Rattle.tds_service.specs.declared.seat.Seat as seats
@@ -67,11 +67,13 @@ without_closed rests.Closed index cs = take index cs ++ drop (index + 1) cs
 
 -- ---- Finding
 
-abbrev pub test_of : Wanted → Seat → Bool
-test_of (wants.Lease lease) c = has_lease lease c
-test_of (wants.Ticket ticket) c = has_ticket ticket c
-test_of (wants.Number number) c = has_number number c
-test_of wants.Lendable c = is_lendable c
+abbrev pub test_of : Holder → Seat → Bool
+test_of (holders.Lease lease) c = has_lease lease c
+test_of (holders.Ticket ticket) c = has_ticket ticket c
+
+abbrev pub id_of : Holder → ℕ
+id_of (holders.Lease lease) = lease
+id_of (holders.Ticket ticket) = ticket
 
 -- whether the connection at an index meets a test
 abbrev pub met : (Seat → Bool) → List seats.Seat → ℕ → Bool

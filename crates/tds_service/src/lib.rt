@@ -4,6 +4,7 @@
 
 mod connection;
 mod hearing;
+mod index;
 pub mod laws;
 mod outcome;
 mod place;

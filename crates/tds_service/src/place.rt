@@ -1,4 +1,6 @@
-//! Who holds a connection, and which one is wanted.
+//! Who holds a connection.
+ghost use Rattle.std.specs.Prelude.{◌≡◌};
+ghost use Rattle.tds_service.specs.Table.{id_of};
 
 /// Who holds a connection.
 #[derive(Clone, Copy, Debug, PartialEq, Eq)]
@@ -26,12 +28,20 @@ pub enum Rest {
     Closed,
 }
 
-/// The connection that is looked for: the first one of a lease, a ticket or a number; or one that
-/// is free and idle.
+/// Who is looked for.
 #[derive(Clone, Copy, Debug, PartialEq, Eq)]
-pub(crate) enum Wanted {
+pub(crate) enum Holder {
     Lease(u64),
     Ticket(u64),
-    Number(u64),
-    Lendable,
+}
+
+impl Holder {
+    pub(crate) fn id(self) -> u64
+        ensures { result ≡ id_of self }
+    {
+        match self {
+            Holder::Lease(lease) => lease,
+            Holder::Ticket(ticket) => ticket,
+        }
+    }
 }

@@ -1,12 +1,13 @@
 //! A connection in its service: its number and who holds it.
 ghost use Rattle.std.specs.Prelude.{◌≡◌, ◌≢◌, true, false};
-ghost use Rattle.tds_service.specs.Service.{clean_place, drained, is_idle, lease_in, rests};
+ghost use Rattle.tds_service.specs.Index.{holder_in};
+ghost use Rattle.tds_service.specs.Service.{clean_place, drained, is_idle, is_lendable, lease_in, rests};
 ghost use Rattle.tds_service.specs.Table.{place_of, rest_of, rests_of, seat_in, test_of};
 ghost use Rattle.tds_service.specs.Line as line;
 ghost use Rattle.tds_service.specs.Ties.{line_in};
 
 use crate::connection::Connection;
-use crate::place::{Place, Rest, Wanted};
+use crate::place::{Holder, Place, Rest};
 use std::cmp::Ordering;
 use std::sync::ledger::Ledger;
 use tds_client::ClientState;
@@ -97,27 +98,47 @@ impl Seat {
         self.place = self.place_behind();
     }
 
-    /// Whether it is the one that is wanted.
-    pub(crate) fn is_wanted(&self, wanted: Wanted) -> bool
-        ensures { result ≡ test_of wanted (seat_in self.now) }
+    /// Whether this one holds it.
+    pub(crate) fn is_held_by(&self, holder: Holder) -> bool
+        ensures { result ≡ test_of holder (seat_in self.now) }
     {
-        match (wanted, self.place) {
-            (Wanted::Lease(lease), Place::Leased(other)) => other == lease,
-            (Wanted::Lease(lease), Place::Cleaning(other)) => other == lease,
-            (Wanted::Lease(_), Place::Kept(_)) => false,
-            (Wanted::Lease(_), Place::Free) => false,
-            (Wanted::Lease(_), Place::Draining) => false,
-            (Wanted::Ticket(ticket), Place::Kept(other)) => other == ticket,
-            (Wanted::Ticket(_), Place::Leased(_)) => false,
-            (Wanted::Ticket(_), Place::Cleaning(_)) => false,
-            (Wanted::Ticket(_), Place::Free) => false,
-            (Wanted::Ticket(_), Place::Draining) => false,
-            (Wanted::Number(number), _) => self.number == number,
-            (Wanted::Lendable, Place::Free) => self.is_idle(),
-            (Wanted::Lendable, Place::Leased(_)) => false,
-            (Wanted::Lendable, Place::Cleaning(_)) => false,
-            (Wanted::Lendable, Place::Kept(_)) => false,
-            (Wanted::Lendable, Place::Draining) => false,
+        match (holder, self.place) {
+            (Holder::Lease(lease), Place::Leased(other)) => other == lease,
+            (Holder::Lease(lease), Place::Cleaning(other)) => other == lease,
+            (Holder::Lease(_), Place::Kept(_)) => false,
+            (Holder::Lease(_), Place::Free) => false,
+            (Holder::Lease(_), Place::Draining) => false,
+            (Holder::Ticket(ticket), Place::Kept(other)) => other == ticket,
+            (Holder::Ticket(_), Place::Leased(_)) => false,
+            (Holder::Ticket(_), Place::Cleaning(_)) => false,
+            (Holder::Ticket(_), Place::Free) => false,
+            (Holder::Ticket(_), Place::Draining) => false,
+        }
+    }
+
+    /// The id of the lease or the ticket that holds it, where one does.
+    pub(crate) fn holder(&self) -> Option<u64>
+        ensures { result ≡ holder_in self.now.place }
+    {
+        match self.place {
+            Place::Leased(lease) => Some(lease),
+            Place::Cleaning(lease) => Some(lease),
+            Place::Kept(ticket) => Some(ticket),
+            Place::Free => None,
+            Place::Draining => None,
+        }
+    }
+
+    /// Whether it can be lent: it is free and idle.
+    pub(crate) fn is_lendable(&self) -> bool
+        ensures { result ≡ is_lendable (seat_in self.now) }
+    {
+        match self.place {
+            Place::Free => self.is_idle(),
+            Place::Leased(_) => false,
+            Place::Cleaning(_) => false,
+            Place::Kept(_) => false,
+            Place::Draining => false,
         }
     }
 

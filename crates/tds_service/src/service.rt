@@ -1,5 +1,6 @@
 //! The service.
-ghost use Rattle.std.specs.Prelude.{◌≤◌, suc};
+ghost use Rattle.std.specs.Prelude.{◌≤◌, suc, vec_capacity};
+ghost use Rattle.tds_service.specs.Index.{IsIndex, IsIndex-prop, holders_in};
 ghost use Rattle.tds_service.specs.Rising.{RiseFrom, RiseFrom-prop, numbers_in};
 
 mod asking;
@@ -10,6 +11,7 @@ mod lending;
 mod looking;
 mod making;
 
+use crate::index::Indexed;
 use crate::seat::Seat;
 pub use asking::Asked;
 pub use lending::Lent;
@@ -29,7 +31,11 @@ pub struct Service {
     last: u64,
     given: u64,
     seats: Vec<Seat>,
+    index: Vec<Indexed>,
     ghost columns: { most ≤ 4096 },
     ghost rising: { RiseFrom 0 (numbers_in
         seats.items) (suc last) } by { RiseFrom-prop 0 (numbers_in seats.items) (suc last) },
+    ghost indexed: { IsIndex (holders_in seats.items) index.items given (vec_capacity
+        index) } by { IsIndex-prop (holders_in seats.items) index.items given
+            (vec_capacity index) },
 }

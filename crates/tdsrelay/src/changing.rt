@@ -3,7 +3,7 @@
 use crate::program::Program;
 use relay_house::Group;
 use relay_settings::{Asked, read_words};
-use relay_sockets::{Role, Whose};
+use relay_sockets::Role;
 use relay_status::put_answer;
 use std::fs::Files;
 use std::net::Net;
@@ -54,7 +54,7 @@ impl Program {
         let resumed = mem::replace(&mut self.resumed, Vec::new(self.house.alloc));
         for key in resumed.iter() {
             if self.ends_pause(*key) {
-                self.read_all_of(*key)?;
+                self.house.read_all_of(*key)?;
                 self.house.forget_deserted(*key);
             }
         }
@@ -71,23 +71,6 @@ impl Program {
             }
             _ => false,
         }
-    }
-
-    /// The applications of a group are read on, those first of which something has come first.
-    fn read_all_of(&mut self, key: usize) -> io::Result<()> {
-        let mut kept = Vec::new(self.house.alloc);
-        for (_, entry) in self.house.sockets.iter() {
-            if let Whose::Application(group, _) = entry.value.whose() {
-                if group == key {
-                    kept.push((entry.value.order, entry.key))?;
-                }
-            }
-        }
-        kept.sort_unstable();
-        for (_, socket) in kept.iter() {
-            self.house.sockets.read_on(*socket)?;
-        }
-        Ok(())
     }
 
     /// Reads the settings again for those who have asked for that. Where something is wrong, the old ones
@@ -107,6 +90,7 @@ impl Program {
         match read_words(rt, self.house.alloc, self.words.as_slice()) {
             Ok(settings) => {
                 self.take_over(settings.asked);
+                self.house.follow_most(rt)?;
                 self.house
                     .journal
                     .note("the settings are read again, by POST /reload");
@@ -139,11 +123,12 @@ impl Program {
         self.house.dismiss(rt, key)
     }
 
-    /// These settings are the ones from now on. Where it listens and tells stays as it was.
+    /// These settings are the ones from now on. Where it listens and tells, and its servers, stay as they were.
     fn take_over(&mut self, asked: Asked) {
         let before = self.house.asked;
         self.house.set(Asked {
             listen: before.listen,
+            servers: before.servers,
             ends_with_input: before.ends_with_input,
             ..asked
         });

@@ -3,7 +3,7 @@
 use crate::program::Program;
 use relay_house::Group;
 use relay_logins::number_of;
-use relay_settings::{Limits, lesser};
+use relay_settings::{Limits, lesser, server_of};
 use relay_sockets::{Socket, Whose, names_of};
 use relay_status::{At, GroupLine, SocketLine, put_group, put_json_group, put_socket};
 use std::io::{self, Write};
@@ -31,13 +31,13 @@ impl Program {
         writeln!(body, "")
     }
 
-    /// The applications whose login hasn't come yet, so that they are in no group.
+    /// The applications that are in no group: their login hasn't come yet, or they are owed an error.
     pub fn put_coming(&self, body: &mut Vec<u8>) -> io::Result<()> {
         let mut is_first = true;
         for (_, entry) in self.house.sockets.iter() {
-            if let Whose::Gate = entry.value.whose() {
+            if let Whose::Gate | Whose::Owed = entry.value.whose() {
                 if is_first {
-                    write!(body, "\nin no group yet\n")?;
+                    write!(body, "\nin no group\n")?;
                 }
                 is_first = false;
                 put_socket(body, &self.line_of(entry.key, &entry.value))?;
@@ -108,7 +108,7 @@ impl Program {
             names: socket.names(),
             peer: socket.peer,
             spid: socket.spid,
-            server: socket.server,
+            server: server_of(socket.server),
         }
     }
 
@@ -127,6 +127,6 @@ fn limit_of(at: At, limits: &Limits) -> u64 {
         At::InTransaction => lesser(limits.transaction, limits.hold),
         At::Free => limits.idle,
         At::Asking => limits.request,
-        At::Quiet | At::Kept | At::Held => 0,
+        At::Quiet | At::Kept | At::Owed | At::Held => 0,
     }
 }

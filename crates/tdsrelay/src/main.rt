@@ -12,8 +12,9 @@ mod watching;
 mod writing;
 
 use program::Program;
-use relay_settings::{Asked, MOST_SERVERS, RelayFault, Servers, SystemError, read_words};
+use relay_settings::{MOST_SERVERS, Named, RelayFault, Servers, SystemError, read_words};
 use socket_places::Place;
+use std::alloc::{AllocError, Global};
 use std::net::TcpStream;
 use std::process::ExitCode;
 use std::time::Duration;
@@ -52,18 +53,20 @@ fn run(rt: &HostRuntime) -> Result<(), RelayFault> {
         Ok(program) => program,
         Err(error) => return Err(RelayFault::of_listener(Place::Tcp(asked.listen), error)),
     };
+    let first = first_of(rt.alloc(), asked.servers, &settings.named)?;
+    program.house.names.begin(settings.names, settings.named)?;
     if asked.ends_with_input {
         program.end_with_input().map_err(RelayFault::of_input)?;
     }
     let Some(place) = settings.stats else {
-        return serve(rt, &mut program, asked);
+        return serve(rt, &mut program, asked.servers, first.as_str());
     };
     let path = match &place {
         Place::Unix(path) => path.clone()?,
         Place::Tcp(_) => String::new(rt.alloc()),
     };
     tell_at(rt, &mut program, place)?;
-    let done = serve(rt, &mut program, asked);
+    let done = serve(rt, &mut program, asked.servers, first.as_str());
     if !path.is_empty() {
         let _ = fs::remove_file(rt, path.as_str());
     }
@@ -84,16 +87,28 @@ fn tell_at(rt: &HostRuntime, program: &mut Program, place: Place) -> Result<(), 
 }
 
 /// Says where it serves, serves, and says how many applications it closed in the middle once it ends.
-fn serve(rt: &HostRuntime, program: &mut Program, asked: Asked) -> Result<(), RelayFault> {
+fn serve(
+    rt: &HostRuntime,
+    program: &mut Program,
+    servers: Servers,
+    first: &str,
+) -> Result<(), RelayFault> {
     let address = program.address();
-    if let Some(server) = asked.servers.at(0) {
-        let _ = eprintln!(rt; "relaying {address} to {server}");
-    }
-    look_at_servers(rt, asked.servers);
+    let _ = eprintln!(rt; "relaying {address} to {first}");
+    look_at_servers(rt, servers);
     let open = program.serve(rt).map_err(RelayFault::of_system)?;
     let last = format!(in rt.alloc(); "ended: applications {open}")?;
     program.say_last(last.as_str());
     Ok(())
+}
+
+/// The first server, as it is told.
+fn first_of(alloc: Global, servers: Servers, named: &[Named]) -> Result<String, AllocError> {
+    match (servers.at(0), named.first()) {
+        (Some(server), _) => format!(in alloc; "{server}"),
+        (None, Some(named)) => format!(in alloc; "{}:{}", named.host, named.port),
+        (None, None) => Ok(String::new(alloc)),
+    }
 }
 
 /// Says which servers take no connection now. It serves all the same: each login dials anew.

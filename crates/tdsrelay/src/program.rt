@@ -28,10 +28,11 @@ const ASKERS: Token = Token(usize::MAX - 2);
 const LOG: Token = Token(usize::MAX - 3);
 
 /// The milliseconds from one look at time limits to the next: ten times as long as the look takes, within
-/// these bounds. What a socket is at is seen then, so that a limit may run out twice that late.
+/// these bounds. What a socket is at is seen then: a limit runs out so much later at most, where it runs from a
+/// request's first bytes, and else twice so much.
 const SWEEP: u64 = 250;
 
-const LONGEST_SWEEP: u64 = 1000;
+const LONGEST_SWEEP: u64 = 500;
 
 /// The most who are accepted at once.
 const MOST: usize = 11_024;
@@ -134,6 +135,7 @@ impl Program {
     pub fn serve<R: Net + Clock + Files>(&mut self, rt: &R) -> io::Result<usize> {
         let mut events = Events::with_capacity(self.house.alloc, ROUND)?;
         let mut buffer = [0u8; PIECE];
+        self.house.look_after_names(rt)?;
         for _ in 0..u64::MAX {
             self.round(rt, &mut events, &mut buffer)?;
             if self.has_ended() {
@@ -169,17 +171,24 @@ impl Program {
         self.go_on()?;
         self.reload(rt)?;
         self.tell_on(rt)?;
-        let now = self.house.now();
-        if now >= self.swept.saturating_add(self.pause) {
-            self.swept = now;
-            self.began = milliseconds_since_1970(rt)?.saturating_sub(now);
-            self.accept()?;
-            self.sweep(rt)?;
-            self.look_at_clock(rt)?;
-            let took = self.house.now().saturating_sub(now);
-            self.pause = took.saturating_mul(10).clamp(SWEEP, LONGEST_SWEEP);
-        }
+        self.look_at_limits(rt)?;
         self.log.write(&mut self.house.journal.lines);
+        Ok(())
+    }
+
+    /// Looks at time limits, where that is due.
+    pub fn look_at_limits<R: Net + Clock>(&mut self, rt: &R) -> io::Result<()> {
+        let now = self.house.now();
+        if now < self.swept.saturating_add(self.pause) {
+            return Ok(());
+        }
+        self.swept = now;
+        self.began = milliseconds_since_1970(rt)?.saturating_sub(now);
+        self.accept()?;
+        self.sweep(rt)?;
+        self.look_at_clock(rt)?;
+        let took = self.house.now().saturating_sub(now);
+        self.pause = took.saturating_mul(10).clamp(SWEEP, LONGEST_SWEEP);
         Ok(())
     }
 
@@ -190,7 +199,7 @@ impl Program {
             .clamp(1, LONGEST_SWEEP)
     }
 
-    fn look_at_clock<R: Clock>(&mut self, rt: &R) -> io::Result<()> {
+    pub fn look_at_clock<R: Clock>(&mut self, rt: &R) -> io::Result<()> {
         let micros = u64::try_from(self.start.elapsed(rt)?.as_micros()).unwrap_or(u64::MAX);
         let millis = micros / 1000;
         self.house.journal.moment = Moment {
@@ -245,8 +254,12 @@ impl Program {
         }
     }
 
-    /// Accepts all who wait, and closes them at once where it is to end.
+    /// Accepts all who wait, and closes them at once where it is to end. Nobody is accepted before the names of servers
+    /// are known.
     fn accept(&mut self) -> io::Result<()> {
+        if !self.house.is_ready() {
+            return Ok(());
+        }
         for _ in 0..MOST {
             let Ok((stream, from)) = self.listener.accept() else {
                 return Ok(());

@@ -2,6 +2,7 @@
 
 use crate::program::Program;
 use relay_house::{Group, House, relay_of};
+use relay_settings::server_of;
 use relay_sockets::{Role, Whose};
 use relay_status::{
     At, FAR, Figures, NO_HTTP, PAGES, Page, STRANGE, UNMEANT, put_answer, put_metrics, put_server,
@@ -218,7 +219,7 @@ impl Program {
     fn put_servers(&self, body: &mut Vec<u8>) -> io::Result<()> {
         for (place, until) in self.house.upstream.away.iter().enumerate() {
             if let Some(server) = self.house.asked.servers.at(place) {
-                put_server(body, place, server, *until > self.house.now())?;
+                put_server(body, server_of(place), server, *until > self.house.now())?;
             }
         }
         Ok(())

@@ -7,23 +7,36 @@ use relay_settings::SystemError;
 use relay_sockets::{Came, Cause, Whose};
 use std::io;
 use std::net::Net;
+use std::rt::Clock;
 use tds_relay::Place;
 
 /// The most turns of a socket in a round, behind which the system is asked what others have.
 const TURNS: usize = 4;
 
+/// Behind so many turns time limits are looked at: a round of thousands may take longer than from one look to the
+/// next.
+const LOOK: usize = 64;
+
 impl Program {
     /// Each socket that has something to do has a turn, and further ones as long as it has more: so what a
     /// turn makes of another socket's costs no call of its own. None has more than a few, so that those who
     /// are reported meanwhile wait no longer than for that.
-    pub fn take_turns<R: Net>(&mut self, rt: &R, buffer: &mut [u8; PIECE]) -> io::Result<()> {
+    pub fn take_turns<R: Net + Clock>(
+        &mut self,
+        rt: &R,
+        buffer: &mut [u8; PIECE],
+    ) -> io::Result<()> {
         for _ in 0..TURNS {
             if !self.house.sockets.has_turns() {
                 break;
             }
             let turns = self.house.sockets.take_turns();
-            for key in turns.iter() {
+            for (count, key) in turns.iter().enumerate() {
                 self.turn(rt, *key, buffer)?;
+                if count % LOOK == LOOK - 1 {
+                    self.look_at_clock(rt)?;
+                    self.look_at_limits(rt)?;
+                }
             }
         }
         Ok(())
@@ -46,7 +59,7 @@ impl Program {
         };
         match socket.link.read(&mut buffer[..room]) {
             Ok(Came::Nothing) => Ok(()),
-            Ok(Came::End) => self.house.ended(rt, key, Cause::Closed),
+            Ok(Came::End) => self.house.has_shut(rt, key),
             Err(error) => {
                 let cause = Cause::Failed(SystemError::new(error));
                 self.house.ended(rt, key, cause)
@@ -84,7 +97,8 @@ impl Program {
         };
         match socket.whose() {
             Whose::Gate | Whose::Judged(_) | Whose::First(_) | Whose::Opening(..) => PIECE,
-            Whose::Asker | Whose::Leg(_) => PIECE,
+            Whose::Asker | Whose::Leg(_) | Whose::Again(_) => PIECE,
+            Whose::Owed | Whose::Names => PIECE,
             Whose::Application(group, key) => room_of(groups, group, key),
             Whose::Connection(group, number) => match relay_of(groups, group) {
                 Some(relay) => relay.room_on(number),
@@ -95,16 +109,16 @@ impl Program {
     }
 }
 
-/// How many bytes of an application may be read: none where its group is paused and it holds nothing.
+/// How many bytes of an application may be read: none where its group is held and it holds nothing.
 fn room_of(groups: &mut Groups<Group>, group: usize, key: usize) -> usize {
     let Some(group) = groups.get_mut(group) else {
         return PIECE;
     };
-    let is_paused = group.is_paused();
+    let is_held = group.is_held();
     let Some(relay) = group.relay() else {
         return PIECE;
     };
-    if is_paused && matches!(relay.place_of(key), Some(Place::Quiet)) {
+    if is_held && matches!(relay.place_of(key), Some(Place::Quiet)) {
         return 0;
     }
     relay.room(key)

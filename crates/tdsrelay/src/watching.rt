@@ -24,8 +24,9 @@ enum Why {
     Request,
     Idle,
     Old,
-    /// Its group is paused.
+    /// Its group is paused, or its login isn't let in any more.
     Paused,
+    Over,
     /// The relay ends.
     End,
 }
@@ -44,6 +45,7 @@ impl Why {
             Why::Idle => "was idle too long (--idle)",
             Why::Old => "is old enough (--life)",
             Why::Paused => "is closed, since its group is paused",
+            Why::Over => "is closed, since its login isn't let in any more (--judge-again)",
             Why::End => "is closed, since the relay ends",
         }
     }
@@ -65,7 +67,8 @@ impl Why {
                 50_108,
                 "The relay cancels a request that runs too long (--request).",
             )),
-            Why::Login | Why::Cancel | Why::Idle | Why::Old | Why::Paused => None,
+            Why::Login | Why::Cancel | Why::Idle | Why::Old => None,
+            Why::Paused | Why::Over => None,
         }
     }
 }
@@ -78,6 +81,8 @@ impl Program {
             self.sweep_one(rt, *key)?;
         }
         self.house.dial_held(rt)?;
+        self.house.judge_all(rt)?;
+        self.house.look_after_names(rt)?;
         self.house.check_all(rt)
     }
 
@@ -119,7 +124,7 @@ impl Program {
             self.limits_of(key),
             self.ending.is_some(),
         );
-        let is_paused = self.is_paused(key);
+        let why_free = self.why_free(key);
         let socket = self.house.sockets.get_mut(key)?;
         socket.see(at, mark, now);
         let lasted = now.saturating_sub(socket.seen.since);
@@ -127,8 +132,8 @@ impl Program {
         if is_ending && ends_at_once(at) {
             return Some(Why::End);
         }
-        if is_paused && at == At::Free {
-            return Some(Why::Paused);
+        if let (At::Free, Some(why)) = (at, why_free) {
+            return Some(why);
         }
         why_late(at, lasted, age, &limits)
     }
@@ -145,7 +150,7 @@ impl Program {
             None => return limits,
         };
         match whose {
-            Whose::First(_) | Whose::Opening(..) => {
+            Whose::First(_) | Whose::Opening(..) | Whose::Again(_) => {
                 if limits.login > 0 && count > 1 {
                     limits.login = (limits.login / count).max(1);
                 }
@@ -171,17 +176,18 @@ impl Program {
         }
     }
 
-    /// Whether the group of a socket that is a connection is paused.
-    fn is_paused(&self, key: usize) -> bool {
-        let Some(socket) = self.house.sockets.get(key) else {
-            return false;
+    /// Why a socket that is a connection is closed where nobody holds it, if it is.
+    fn why_free(&self, key: usize) -> Option<Why> {
+        let Whose::Connection(group, _) = self.house.sockets.get(key)?.whose() else {
+            return None;
         };
-        match socket.whose() {
-            Whose::Connection(group, _) => match self.house.groups.get(group) {
-                Some(group) => group.is_paused(),
-                None => false,
-            },
-            _ => false,
+        let group = self.house.groups.get(group)?;
+        if group.is_paused() {
+            Some(Why::Paused)
+        } else if group.is_over {
+            Some(Why::Over)
+        } else {
+            None
         }
     }
 
@@ -198,7 +204,9 @@ impl Program {
         match socket.whose() {
             Whose::Gate | Whose::Leg(_) => (At::Login, 0),
             Whose::Judged(_) => (At::Login, 1),
-            Whose::First(_) | Whose::Opening(..) => (At::Login, 0),
+            Whose::First(_) | Whose::Opening(..) | Whose::Again(_) => (At::Login, 0),
+            Whose::Owed => (At::Owed, 0),
+            Whose::Names => (At::Quiet, 0),
             Whose::Asker | Whose::Closing => (At::Other, 0),
             Whose::Application(group, application) => {
                 at_of(groups, group, application, socket.link.is_readable())
@@ -221,6 +229,9 @@ impl Program {
         match (whose, why) {
             (Whose::Application(group, application), Why::Cancel) => {
                 self.give_up(rt, group, application)
+            }
+            (Whose::Application(..), Why::End) if self.asks_nothing(key) => {
+                self.house.part_with(rt, key)
             }
             (Whose::Application(..), Why::Wait) if self.is_opening(key) => {
                 self.tell_unreached(key)?;
@@ -248,7 +259,7 @@ impl Program {
             Why::Request => raise(&mut counts.late_requests),
             Why::Idle => raise(&mut counts.idle),
             Why::Old => raise(&mut counts.old),
-            Why::End | Why::Paused => {}
+            Why::End | Why::Paused | Why::Over => {}
         }
     }
 
@@ -271,6 +282,14 @@ impl Program {
         }
     }
 
+    /// Whether an application asks nothing.
+    fn asks_nothing(&self, key: usize) -> bool {
+        match self.house.sockets.get(key) {
+            Some(socket) => matches!(socket.seen.at, At::Quiet | At::Holding | At::InTransaction),
+            None => false,
+        }
+    }
+
     /// An application has waited too long for its connection to open, and is told why.
     fn tell_unreached(&mut self, key: usize) -> io::Result<()> {
         match self.house.holding.sentence(self.house.alloc)? {
@@ -284,7 +303,7 @@ impl Program {
 fn ends_at_once(at: At) -> bool {
     matches!(
         at,
-        At::Login | At::Quiet | At::Kept | At::Holding | At::InTransaction | At::Waiting
+        At::Login | At::Quiet | At::Kept | At::Owed | At::Holding | At::InTransaction | At::Waiting
     )
 }
 
@@ -298,12 +317,13 @@ fn at_of(
     let Some(group) = groups.get_mut(group) else {
         return (At::Other, 0);
     };
-    let is_kept = group.is_paused() && has_more;
+    let (is_paused, is_beginning) = (group.is_paused(), group.is_beginning());
     let Some(relay) = group.relay() else {
         return (At::Other, 0);
     };
     let at = match at_in(relay, application) {
-        At::Quiet if is_kept => At::Kept,
+        At::Quiet if is_paused && has_more => At::Kept,
+        At::Quiet if is_beginning && has_more => At::Waiting,
         at => at,
     };
     (at, relay.begun_by(application))
@@ -356,7 +376,7 @@ fn why_late(at: At, lasted: u64, age: u64, limits: &Limits) -> Option<Why> {
             None => limited(limits.life, age, Why::Old),
         },
         At::Asking => limited(limits.request, lasted, Why::Request),
-        At::Quiet | At::Kept | At::Held => None,
+        At::Quiet | At::Kept | At::Owed | At::Held => None,
     }
 }
 

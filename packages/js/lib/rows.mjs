@@ -6,7 +6,7 @@ import { Fault } from "./fault.mjs";
 // The sizes of the header's structs, and where their fields lie.
 const COLUMN = { size: 40, nameStart: 0, nameLength: 8, most: 16, userType: 20, flags: 24, kind: 26, precision: 27, scale: 28, collation: 29, form: 34 };
 const PLACE = { size: 24, start: 0, length: 8, isNull: 16 };
-const COUNT = 8, PARTS = 16, CUT = 1, SAME = 2, MOST = 4096, IN_PARTS = 5, WANTS_BYTES = 24;
+const COUNT = 8, PARTS = 16, ENDED = 0, CUT = 1, SAME = 2, OTHER = 71, FULL = 74, MOST = 4096, IN_PARTS = 5, WANTS_BYTES = 24;
 
 function done(answer) {
   if (answer === CUT) throw new Fault(WANTS_BYTES);
@@ -17,6 +17,14 @@ function done(answer) {
 /** A number of 64 bits that is read as one of JavaScript's: places, which are below 2^53. */
 function placeAt(view, at) {
   return view.getUint32(at, true) + view.getUint32(at + 4, true) * 2 ** 32;
+}
+
+/** So many places of the library's memory, from this byte of it on, each behind so many bytes. */
+function placesIn(at, count, before) {
+  const view = memory.view(), all = [];
+  for (const end = at + count * PLACE.size; at < end; at += PLACE.size)
+    all.push(view.getUint8(at + PLACE.isNull) ? null : [before + placeAt(view, at), placeAt(view, at + PLACE.length)]);
+  return all;
 }
 
 /** The columns of a result. */
@@ -58,6 +66,25 @@ export class Columns {
   }
 
   /**
+   * The same of all rows that these bytes begin with, one behind the other, from the first of these bytes on: {rows, taken}, where
+   * `taken` is how many bytes they have. Behind them stands nothing, another token, or a row that isn't whole.
+   */
+  placesOfRows(bytes) {
+    const most = Math.max(this.#count, MOST - MOST % Math.max(this.#count, 1)), at = memory.lend(2 * COUNT + most * PLACE.size + bytes.length);
+    const found = at + 2 * COUNT, own = found + most * PLACE.size, rows = [];
+    memory.bytes(own, bytes.length).set(bytes);
+    for (let taken = 0, answer = FULL; ; taken += memory.count(at + COUNT)) {
+      if (answer !== FULL) return { rows, taken };
+      answer = calls.tds_places_of_rows(
+        BigInt(this.#at), BigInt(this.#count), BigInt(own + taken), BigInt(bytes.length - taken), BigInt(found), BigInt(most), BigInt(at),
+        BigInt(at + COUNT));
+      if (![ENDED, CUT, OTHER, FULL].includes(answer)) throw new Fault(answer);
+      for (let row = 0, many = memory.count(at); row < many; row++)
+        rows.push(placesIn(found + row * this.#count * PLACE.size, this.#count, taken));
+    }
+  }
+
+  /**
    * Of bytes that begin with the value of the column `first` of a row: the places of those values that are whole, as above, and where
    * the next value begins. `nulls` is the null bitmap of an NBCROW.
    */
@@ -77,10 +104,7 @@ export class Columns {
   }
 
   #found(first, behind) {
-    const view = memory.view(), all = [];
-    for (let index = first, at = this.#places() + first * PLACE.size; index < behind; index++, at += PLACE.size)
-      all.push(view.getUint8(at + PLACE.isNull) ? null : [placeAt(view, at), placeAt(view, at + PLACE.length)]);
-    return all;
+    return placesIn(this.#places() + first * PLACE.size, behind - first, 0);
   }
 }
 

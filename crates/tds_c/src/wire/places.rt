@@ -1,18 +1,21 @@
 //! The columns of a COLMETADATA, and where the values of a row stand.
 
-ghost use Rattle.std.specs.Prelude.{◌≡◌, ◌<◌, ℕ, Err, Result, drop, false, length, take};
-ghost use Rattle.tds_c.specs.Places.{TellsColumns, TellsCome, TellsRow, parts_number};
+ghost use Rattle.std.specs.Prelude.{◌≡◌, ◌<◌, ◌+◌, ◌*◌, ℕ, Err, Result, drop, false, length, take};
+ghost use Rattle.tds_c.specs.Places.{TellsColumns, TellsCome, TellsRow, TellsRows, parts_number};
 ghost use Rattle.tds_walk.specs.Wire.{truth};
 ghost use Rattle.tds_rows.specs.Come.{ValuesCome};
 ghost use Rattle.tds_rows.specs.Pieces.{PartsGoOn, parts_at};
 ghost use Rattle.tds_rows.specs.declared.come.Come.{Come as AnyCome};
 ghost use Rattle.tds_rows.specs.Finding.{Describes, PlacesFound, column_shapes};
 ghost use Rattle.tds_rows.specs.declared.place.Described.{Described as AnyDescribed};
+ghost use Rattle.tds_rows.specs.Many.{RowsFound};
+ghost use Rattle.tds_rows.specs.declared.place.RowsPlaced.{RowsPlaced as AnyRows};
 ghost use Rattle.tds_rows.specs.declared.place.RowFault.{RowFault as AnyFault};
 ghost use Rattle.tds_rows.specs.declared.place.RowFault.TheVariants as faults;
 
 use tds_rows::{
-    Come, Described, PartsReader, Place, RowColumn, RowFault, columns_of, row_places, row_values,
+    Come, Described, PartsReader, Place, RowColumn, RowFault, RowsPlaced, columns_of,
+    places_of_rows, row_places, row_values,
 };
 use tds_wire::Features;
 
@@ -95,6 +98,40 @@ pub extern "C" fn tds_row_places(
         × (drop (length columns.now) places.new ≡ drop (length columns.now) places.old) }
 {
     tell_row(row_places(columns, bytes, places), taken)
+}
+
+/// The number of why rows end.
+#[inline(always)]
+fn tell_rows(found: RowsPlaced, rows: &mut usize, taken: &mut usize) -> u8
+    ensures { TellsRows found result rows.new taken.new }
+{
+    *rows = found.rows;
+    *taken = found.taken;
+    match found.stop {
+        Some(fault) => fault.number(),
+        None => 0,
+    }
+}
+
+/// Where each value stands in the rows that bytes begin with, ROWs and NBCROWs of these columns, one
+/// behind the other, from the first of these bytes on: of `rows` rows, in `taken` bytes. 0 where no byte
+/// is left; else what stands behind them: 1 a row that isn't whole, 71 another token, 72 a row, and there
+/// are no columns, 74 more than there is room for.
+#[unsafe(no_mangle)]
+pub extern "C" fn tds_places_of_rows(
+    columns: &[RowColumn],
+    bytes: &[u8],
+    places: &mut [Place],
+    rows: &mut usize,
+    taken: &mut usize,
+) -> u8
+    ensures { (found : AnyRows) × TellsRows found result rows.new taken.new
+        × RowsFound found (column_shapes columns.now) bytes.now places.new
+        × (length places.new ≡ length places.old)
+        × (drop (rows.new * length columns.now + length columns.now) places.new
+        ≡ drop (rows.new * length columns.now + length columns.now) places.old) }
+{
+    tell_rows(places_of_rows(columns, bytes, places), rows, taken)
 }
 
 /// The number of what has come of a row of so many columns.

@@ -10,6 +10,7 @@ use Rattle.tds_relay.specs.declared.news.Known.{Known}
 use Rattle.tds_packet.specs.declared.header.Header.{Header}
 use Rattle.tds_relay.specs.declared.link.Answer.{Answer}
 use Rattle.tds_relay.specs.Cutting.{IsAnew, IsCut, Left, ends_in, known_behind, led, left_by, left_in, left_of, left_within, passed_on}
+use Rattle.tds_service.specs.Packets.{behind_packet}
 use Rattle.tds_relay.specs.News.{goes_on, goes_on_to_end, held, known_after, known_next}
 
 by_same : (known : Known) (bytes : List ℕ) (found : Found) (n : ℕ) (f g : Known → Reading → List ℕ → Left) → TakesSome (suc n) found → ((k : Known) (r : Reading) (rest : List ℕ) → length rest ≤ n → f k r rest ≡ g k r rest)
@@ -18,7 +19,7 @@ by_same known bytes (Sees token r rest) n f g h same = ap (led (goes_on_to_end k
 by_same known bytes (Inside r) n f g h same = refl
 by_same known bytes (Refuses refusal) n f g h same = refl
 
-pub none_left : (most : ℕ) (known : Known) (r : Reading) → left_within most known r [] ≡ record { bytes = []; known = known }
+pub none_left : (most : ℕ) (known : Known) (r : Reading) → left_within most known r [] ≡ record { bytes = []; known = known; stands = Some r }
 unfolding left_within
 none_left zero known r = refl
 none_left (suc most) known r = refl
@@ -39,7 +40,7 @@ step_is known r x xs =
     (λ k next rest few. same (length xs) (length rest) k next rest few (omega arith))
 
 -- bytes that no answer has there
-pub refused_is : (known : Known) (r : Reading) (bytes : List ℕ) (refusal : Refusal) → 0 < length bytes → next_token r bytes ≡ Refuses refusal → left_of known r bytes ≡ record { bytes = []; known = known }
+pub refused_is : (known : Known) (r : Reading) (bytes : List ℕ) (refusal : Refusal) → 0 < length bytes → next_token r bytes ≡ Refuses refusal → left_of known r bytes ≡ record { bytes = []; known = known; stands = None }
 refused_is known r [] refusal some is = absurd (omega (arith, some))
 refused_is known r (x ∷ xs) refusal some is = step_is known r x xs ∙ ap (λ (f : Found). left_by known (x ∷ xs) f left_of) is
 
@@ -49,11 +50,11 @@ front_is bytes count within =
     ap (λ (n : ℕ). take n bytes) (omega (arith, left, within))
 
 inside_is : (known : Known) (r : Reading) (bytes taken dropped : List ℕ) → taken ≡ bytes → dropped ≡ []
-    → record { bytes = goes_on known bytes; known = known_after known bytes } ≡ led (goes_on known taken) (left_of (known_after known taken) r dropped)
+    → record { bytes = goes_on known bytes; known = known_after known bytes; stands = Some r } ≡ led (goes_on known taken) (left_of (known_after known taken) r dropped)
 inside_is known r bytes taken dropped whole none =
-    subst (λ (t : List ℕ). record { bytes = goes_on known bytes; known = known_after known bytes } ≡ led (goes_on known t) (left_of (known_after known t) r dropped)) (sym whole)
-    (subst (λ (rest : List ℕ). record { bytes = goes_on known bytes; known = known_after known bytes } ≡ led (goes_on known bytes) (left_of (known_after known bytes) r rest)) (sym none)
-    (ap (λ (front : List ℕ). record { bytes = front; known = known_after known bytes }) (sym (append-nil (goes_on known bytes)))
+    subst (λ (t : List ℕ). record { bytes = goes_on known bytes; known = known_after known bytes; stands = Some r } ≡ led (goes_on known t) (left_of (known_after known t) r dropped)) (sym whole)
+    (subst (λ (rest : List ℕ). record { bytes = goes_on known bytes; known = known_after known bytes; stands = Some r } ≡ led (goes_on known bytes) (left_of (known_after known bytes) r rest)) (sym none)
+    (ap (λ (front : List ℕ). record { bytes = front; known = known_after known bytes; stands = Some r }) (sym (append-nil (goes_on known bytes)))
     ∙ ap (led (goes_on known bytes)) (sym (none_left 0 (known_after known bytes) r))))
 
 -- a token ends with these bytes, or they are all inside one
@@ -71,7 +72,7 @@ token_is known r r2 (x ∷ xs) count (Some token) some within all found =
     ∙ ap (λ (front : List ℕ). led (goes_on_to_end known front) (left_of (known_next (known_after known front)) r2 (drop count (x ∷ xs)))) (front_is (x ∷ xs) count within)
 
 abbrev KeepsOn : List ℕ → List ℕ → Left → Left → Type 0
-KeepsOn more kept later earlier = (more ++ later.bytes ≡ kept ++ earlier.bytes) × (later.known ≡ earlier.known)
+KeepsOn more kept later earlier = (more ++ later.bytes ≡ kept ++ earlier.bytes) × (later.known ≡ earlier.known) × (later.stands ≡ earlier.stands)
 
 -- one token more, or all that is left of the bytes
 pub kept_on : (kept more : List ℕ) (known known2 : Known) (r r2 : Reading) (bytes taken rest : List ℕ) (count : ℕ) (token : Option Token)
@@ -90,17 +91,29 @@ kept_on kept more known known2 r r2 bytes taken rest count token some within all
     ∙ ap (λ (l : Left). l.bytes) (sym step) in (
       ap (λ (m : List ℕ). m ++ (left_of known2 r2 rest).bytes) more_is ∙ append_assoc kept (passed_on ends known taken) (left_of known2 r2 rest).bytes ∙ ap (λ (l : List ℕ). kept ++ l) inner,
       ap (λ (l : Left). l.known) later ∙ ap (λ (l : Left). l.known) (sym step),
+      ap (λ (l : Left). l.stands) later ∙ ap (λ (l : Left). l.stands) (sym step),
     )
 
 -- nothing is left of the bytes
-pub ended_is : (known : Known) (r : Reading) (bytes : List ℕ) → bytes ≡ [] → left_of known r bytes ≡ record { bytes = []; known = known }
+pub ended_is : (known : Known) (r : Reading) (bytes : List ℕ) → bytes ≡ [] → left_of known r bytes ≡ record { bytes = []; known = known; stands = Some r }
 ended_is known r bytes none = ap (left_of known r) none ∙ none_left 0 known r
 
-pub kept_all : (kept target : List ℕ) (known : Known) (left : Left) → left ≡ record { bytes = []; known = known } → kept ++ left.bytes ≡ target → kept ≡ target
-kept_all kept target known left none is = sym (append-nil kept) ∙ ap (λ (l : Left). kept ++ l.bytes) (sym none) ∙ is
+pub kept_all : (kept target : List ℕ) (known : Known) (left : Left) (stands : Option Reading) → left ≡ record { bytes = []; known = known; stands = stands } → kept ++ left.bytes ≡ target → kept ≡ target
+kept_all kept target known left stands none is = sym (append-nil kept) ∙ ap (λ (l : Left). kept ++ l.bytes) (sym none) ∙ is
 
-pub known_all : (target known : Known) (left : Left) → left ≡ record { bytes = []; known = known } → left.known ≡ target → known ≡ target
-known_all target known left none is = ap (λ (l : Left). l.known) (sym none) ∙ is
+pub known_all : (target known : Known) (left : Left) (stands : Option Reading) → left ≡ record { bytes = []; known = known; stands = stands } → left.known ≡ target → known ≡ target
+known_all target known left stands none is = ap (λ (l : Left). l.known) (sym none) ∙ is
+
+-- where the walker stands, of which this was said
+pub stands_all : (target : Option Reading) (known : Known) (left : Left) (r next : Reading) → left ≡ record { bytes = []; known = known; stands = Some r } → left.stands ≡ target → target ≡ Some next → r ≡ next
+stands_all target known left r next none is there =
+    let same : Some r ≡ Some next = ap (λ (l : Left). l.stands) (sym none) ∙ is ∙ there in
+    cc
+
+pub stands_none : (target : Option Reading) (known : Known) (left : Left) (next : Reading) → left ≡ record { bytes = []; known = known; stands = None } → left.stands ≡ target → target ≡ Some next → ⊥
+stands_none target known left next none is there =
+    let same : None ≡ Some next = ap (λ (l : Left). l.stands) (sym none) ∙ is ∙ there in
+    let u : ⊥ = cc in u
 
 -- what is left is laid out anew
 pub cut_is : (a : Answer) (header : Header) (content : List ℕ) (size : ℕ) (ends : Bool) (kept all sent : List ℕ) (known : Known)
@@ -117,3 +130,14 @@ cut_is a header content size ends kept all sent known size_is ends_is kept_is kn
 pub no_bytes : (bytes : List ℕ) → length bytes ≡ 0 → bytes ≡ []
 no_bytes [] none = refl
 no_bytes (x ∷ xs) none = absurd (omega (arith, none))
+
+-- what is known behind it, and where the walker stands
+pub behind_is : (a : Answer) (content : List ℕ) (ends last : Bool) (first mid new : Known) (at now : Reading) → first ≡ a.known → ends ≡ last → mid ≡ (left_of first a.walker content).known
+    → ((next : Reading) → (left_of first a.walker content).stands ≡ Some next → at ≡ next) → new ≡ (if ends then known_next mid else mid) → now ≡ behind_packet ends at
+    → (new ≡ (if last then known_next (left_of a.known a.walker content).known else (left_of a.known a.walker content).known))
+    × ((next : Reading) → (left_of a.known a.walker content).stands ≡ Some next → now ≡ behind_packet last next)
+behind_is a content ends last first mid new at now known_is ends_is left_is stands_is new_is now_is = (
+  new_is ∙ ap (λ (k : Known). if ends then known_next k else k) (left_is ∙ ap (λ (k : Known). (left_of k a.walker content).known) known_is)
+      ∙ ap (λ (b : Bool). if b then known_next (left_of a.known a.walker content).known else (left_of a.known a.walker content).known) ends_is,
+  λ next there. now_is ∙ ap (behind_packet ends) (stands_is next (ap (λ (k : Known). (left_of k a.walker content).stands) known_is ∙ there)) ∙ ap (λ (b : Bool). behind_packet b next) ends_is,
+)

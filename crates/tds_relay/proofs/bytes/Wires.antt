@@ -1,8 +1,6 @@
 -- What is sent on a connection over calls, and what waits there then, is what waited and what was put.
-use Rattle.std.proofs.Common.{◌≡◌, ◌∙◌, ◌++◌, ℕ, List, [], ◌∷◌, drop, take, refl, sym, ap, append_assoc, append-nil}
+use Rattle.std.proofs.Common.{◌≡◌, ◌∙◌, ◌++◌, ℕ, List, [], ◌∷◌, drop, take, sym, ap, append_assoc, append-nil}
 use Rattle.std.proofs.lemmas.List.{take-append-drop}
-use Rattle.std.specs.Prelude.{Some}
-use Rattle.tds_relay.specs.Reads.{FillsAt}
 use Rattle.tds_relay.specs.Law.{Wire, Fills, Sends, FollowOn, put_in, went_out}
 
 pub goes_out : (waits last : List ℕ) (wires : List Wire) → FollowOn waits wires last → went_out waits wires ++ last ≡ waits ++ put_in wires

@@ -1,6 +1,6 @@
 -- An application keeps the connection that it holds, by the same lease, but for the reasons that are listed.
 use Rattle.std.proofs.Common.{◌≡◌, ◌∙◌, ◌⊎◌, ◌==◌, ◌++◌, ℕ, Bool, true, false, List, [], ◌∷◌, refl, sym, ap, subst, inl, inr}
-use Rattle.std.specs.Prelude.{Option, Some, None}
+use Rattle.std.specs.Prelude.{Some, None}
 use Rattle.std.proofs.lemmas.Bool.{eqb-true}
 use Rattle.tds_packet.specs.declared.status.Reset.{Reset}
 use Rattle.tds_packet.specs.declared.status.Reset.TheVariants.{KeepTransaction}
@@ -13,7 +13,7 @@ use Rattle.tds_relay.specs.Hall as hall
 use Rattle.tds_relay.specs.Hall.{AsksFor, Hall, IfWhose, MayDoAlone, MayMove, MayMoveAll, MayPart, Move, done_by, end_at, event_if, events_of, holder, moved, moved_all, new_hall, stops_of}
 use Rattle.tds_relay.specs.Law.{KeepsSession, Parts}
 use Rattle.tds_relay.proofs.promises.Caring.{Sound}
-use Rattle.tds_relay.proofs.held.Away.{IsAbsent, WaitsOnce, no_place}
+use Rattle.tds_relay.proofs.held.Away.{WaitsOnce, no_place}
 use Rattle.tds_relay.proofs.held.Lists.{places, theirs_found, theirs_none}
 use Rattle.tds_relay.proofs.held.Others.{IsOthers, found, passes}
 use Rattle.tds_relay.proofs.held.Ours.{came_done, deeds, heard_of, hears_right}

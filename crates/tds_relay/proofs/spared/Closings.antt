@@ -1,35 +1,34 @@
 -- Who is closed by a call, and that he is ordered closed: call behind call.
-use Rattle.std.proofs.Common.{◌≡◌, ◌≢◌, ◌⊎◌, ◌∙◌, ◌==◌, ◌||◌, not, ℕ, zero, suc, Bool, true, false, List, [], ◌∷◌, ◌++◌, Option, Some, None, inl, inr, refl, sym, ap, subst, append_assoc, append-nil, option_map, slice_index_or, slice_set, if◌then◌else◌}
+use Rattle.std.proofs.Common.{◌≡◌, ◌⊎◌, ◌∙◌, ℕ, true, List, [], Option, Some, None, inl, inr, refl, sym, ap, subst, slice_index_or}
 use Rattle.std.specs.Prelude.{Result, Ok, Err, OnOk}
-use Rattle.std.proofs.lemmas.Bool.{cases_eq, eqb-true}
-use Rattle.std.proofs.lemmas.List.{get_or-set_other}
-use Rattle.std.proofs.Math.ListN.{get_or-map}
-use Rattle.slab.specs.Slab.{Slab, get, with_value}
-use Rattle.tds_front.specs.Rules as rules
-use Rattle.tds_front.specs.declared.stage.Stage.{Stage}
-use Rattle.tds_relay.specs.declared.application.Application.{Application}
-use Rattle.tds_relay.specs.declared.link.Link.{Link}
 use Rattle.tds_relay.specs.declared.order.Order.{Order}
 use Rattle.tds_relay.specs.declared.order.Order.TheVariants as orders
-use Rattle.tds_relay.specs.declared.relay.Relay as code
-use Rattle.tds_relay.specs.Closings.{ClosesOnly, IsOrdered, IsWaiting, IsWho, Itself, Nobody, Register, is_shut, is_shut_at, name_with, open_name, register_in}
-use Rattle.tds_relay.specs.Fronts.{end_of, ends_in, goes_by, withdraws}
-use Rattle.tds_relay.specs.Hall.{End, Ends, Open, Over, change_end, end_at, lets_go, move_stage}
-use Rattle.tds_relay.specs.Law.{closing}
-use Rattle.tds_relay.specs.Ordering.{StayOrdered}
-use Rattle.tds_relay.specs.Posts.{Post, names_in, post_of, posts_in}
-use Rattle.tds_relay.specs.Reads.{Seen, StaysAt, Sees, link_at, opened_seen, seen_at, seen_of, with_open}
-use Rattle.tds_relay.proofs.spared.Ordered.{closing_stays, ordered_both, ordered_refl, ordered_same}
-use Rattle.tds_relay.proofs.steps.Fed.{ends_written}
-use Rattle.tds_relay.proofs.steps.Staying.{at_refl}
+use Rattle.tds_relay.specs.Closings.{Anybody, ClosesOnly, IsDue, KeptBeside, Nobody, OfApplication, OfConnection, Register, but_told, is_shut, is_shut_at, open_name}
+use Rattle.tds_relay.specs.Hall.{Ends, end_at}
+use Rattle.tds_relay.specs.Closings.{name_with}
+use Rattle.tds_relay.specs.Ordering.{IsOrdered, StayOrdered}
+use Rattle.tds_relay.specs.Posts.{Posts, names_of, post_at}
+use Rattle.tds_relay.specs.declared.fault.Refused.{Refused}
+use Rattle.tds_relay.specs.Reads.{seen_at}
+use Rattle.tds_relay.specs.Sending.{IsToWrite, IsWritten, Sending, called_at, name_in, sending_at}
+use Rattle.tds_relay.proofs.spared.Ordered.{ordered_both, ordered_refl}
+use Rattle.tds_relay.proofs.spared.Sending.{is_ordered_on}
 
 -- ---- One behind the other
 
 pub closes_refl : (May : ℕ → Type 0) (r : Register) → ClosesOnly May r r
-closes_refl May r = record { ordered = ordered_refl r.orders; told = refl; closes = λ key tag e. inl e; opens = λ number e. inl e }
-
-pub is_ordered_on : (x : Order) (a b : List Order) → StayOrdered a b → IsOrdered x a → IsOrdered x b
-is_ordered_on x a b s o = record { before = o.before; behind = o.behind ++ s.0; are = s.1 ∙ ap (λ (xs : List Order). xs ++ s.0) o.are ∙ append_assoc o.before (x ∷ o.behind) s.0 }
+closes_refl May r = record {
+  ordered = ordered_refl r.orders;
+  told = refl;
+  closes = λ key tag e. inl e;
+  opens = λ number e. inl e;
+  cuts = λ number tag e. inl e;
+  due = λ tag o. inl o;
+  writes = λ key. inl refl;
+  writes_on = λ number. inl refl;
+  were_open = λ key tag e. e;
+  were_called = λ number tag e. e;
+}
 
 closes_then : (May : ℕ → Type 0) (key tag : ℕ) (b c : Register) → ClosesOnly May b c → (open_name key b ≡ Some tag) ⊎ (May key × IsOrdered (orders.Close tag) b.orders)
     → (open_name key c ≡ Some tag) ⊎ (May key × IsOrdered (orders.Close tag) c.orders)
@@ -46,12 +45,81 @@ opens_then : (number : ℕ) (a b c : Register) → StayOrdered b.orders c.orders
 opens_then number a b c s h (inr o) = inr o
 opens_then number a b c s h (inl e) = opens_or number a b c s (h number e)
 
+cuts_then : (May : ℕ → Type 0) (number tag : ℕ) (b c : Register) → ClosesOnly May b c → (called_at number b.links ≡ Some tag) ⊎ IsOrdered (orders.Close tag) b.orders
+    → (called_at number c.links ≡ Some tag) ⊎ IsOrdered (orders.Close tag) c.orders
+cuts_then May number tag b c k (inl e) = k.cuts number tag e
+cuts_then May number tag b c k (inr o) = inr (is_ordered_on (orders.Close tag) b.orders c.orders k.ordered o)
+
+-- who is there no more comes no more
+none_by : (o p : Option ℕ) → ((tag : ℕ) → p ≡ Some tag → o ≡ Some tag) → o ≡ None → p ≡ None
+none_by o None were e = refl
+none_by o (Some tag) were e =
+    let is : o ≡ Some tag = were tag refl in
+    absurd (let u : None ≡ Some tag = sym e ∙ is in let v : ⊥ = cc in v)
+
+due_on : (May : ℕ → Type 0) (tag : ℕ) (a b c : Register) → ClosesOnly May b c → IsDue May tag a b → IsDue May tag a c
+due_on May tag a b c k (OfApplication key may was gone) = OfApplication key may was (none_by (open_name key b) (open_name key c) (k.were_open key) gone)
+due_on May tag a b c k (OfConnection number was gone) = OfConnection number was (none_by (called_at number b.links) (called_at number c.links) (k.were_called number) gone)
+
+due_from : (May : ℕ → Type 0) (tag : ℕ) (a b c : Register) → ClosesOnly May a b → IsDue May tag b c → IsDue May tag a c
+due_from May tag a b c h (OfApplication key may was gone) = OfApplication key may (h.were_open key tag was) gone
+due_from May tag a b c h (OfConnection number was gone) = OfConnection number (h.were_called number tag was) gone
+
+due_or : (May : ℕ → Type 0) (tag : ℕ) (a b c : Register) → ClosesOnly May b c → IsOrdered (orders.Close tag) a.orders ⊎ IsDue May tag a b → IsOrdered (orders.Close tag) a.orders ⊎ IsDue May tag a c
+due_or May tag a b c k (inl o) = inl o
+due_or May tag a b c k (inr d) = inr (due_on May tag a b c k d)
+
+due_then : (May : ℕ → Type 0) (tag : ℕ) (a b c : Register) → ClosesOnly May a b → ClosesOnly May b c → IsOrdered (orders.Close tag) b.orders ⊎ IsDue May tag b c → IsOrdered (orders.Close tag) a.orders ⊎ IsDue May tag a c
+due_then May tag a b c h k (inl o) = due_or May tag a b c k (h.due tag o)
+due_then May tag a b c h k (inr d) = inr (due_from May tag a b c h d)
+
+write_as : (o p : Option ℕ) (xs ys : List Order) → ((tag : ℕ) → p ≡ Some tag → o ≡ Some tag) → StayOrdered xs ys → IsToWrite o xs → IsToWrite p ys
+write_as o None xs ys were s w = tt
+write_as o (Some tag) xs ys were s w = is_ordered_on (orders.Write tag) xs ys s (subst (λ (q : Option ℕ). IsToWrite q xs) (were tag refl) w)
+
+writes_or : (May : ℕ → Type 0) (key : ℕ) (a b c : Register) → ClosesOnly May b c → post_at c.posts key ≡ post_at b.posts key → (post_at b.posts key ≡ post_at a.posts key) ⊎ IsToWrite (open_name key b) b.orders
+    → (post_at c.posts key ≡ post_at a.posts key) ⊎ IsToWrite (open_name key c) c.orders
+writes_or May key a b c k same (inl e) = inl (same ∙ e)
+writes_or May key a b c k same (inr w) = inr (write_as (open_name key b) (open_name key c) b.orders c.orders (k.were_open key) k.ordered w)
+
+writes_then : (May : ℕ → Type 0) (key : ℕ) (a b c : Register) → ClosesOnly May a b → ClosesOnly May b c → (post_at c.posts key ≡ post_at b.posts key) ⊎ IsToWrite (open_name key c) c.orders
+    → (post_at c.posts key ≡ post_at a.posts key) ⊎ IsToWrite (open_name key c) c.orders
+writes_then May key a b c h k (inr w) = inr w
+writes_then May key a b c h k (inl e) = writes_or May key a b c k e (h.writes key)
+
+named_on : (o : Option ℕ) (xs ys : List Order) → StayOrdered xs ys → IsToWrite o xs → IsToWrite o ys
+named_on o xs ys s w = write_as o o xs ys (λ tag e. e) s w
+
+nothing_or : (A : Type 0) (o : Option ℕ) (xs ys : List Order) → StayOrdered xs ys → A ⊎ IsToWrite o xs → A ⊎ IsToWrite o ys
+nothing_or A o xs ys s (inl e) = inl e
+nothing_or A o xs ys s (inr w) = inr (named_on o xs ys s w)
+
+written_on : (s : Option Sending) (xs ys : List Order) → StayOrdered xs ys → IsWritten s xs → IsWritten s ys
+written_on None xs ys more w = tt
+written_on (Some s) xs ys more w = nothing_or (s.1 ≡ []) s.0 xs ys more w
+
+sends_or : (number : ℕ) (a b c : Register) → StayOrdered b.orders c.orders → sending_at number c.links ≡ sending_at number b.links
+    → (sending_at number b.links ≡ sending_at number a.links) ⊎ IsWritten (sending_at number b.links) b.orders → (sending_at number c.links ≡ sending_at number a.links) ⊎ IsWritten (sending_at number c.links) c.orders
+sends_or number a b c more same (inl e) = inl (same ∙ e)
+sends_or number a b c more same (inr w) = inr (subst (λ (s : Option Sending). IsWritten s c.orders) (sym same) (written_on (sending_at number b.links) b.orders c.orders more w))
+
+sends_then : (May : ℕ → Type 0) (number : ℕ) (a b c : Register) → ClosesOnly May a b → StayOrdered b.orders c.orders → (sending_at number c.links ≡ sending_at number b.links) ⊎ IsWritten (sending_at number c.links) c.orders
+    → (sending_at number c.links ≡ sending_at number a.links) ⊎ IsWritten (sending_at number c.links) c.orders
+sends_then May number a b c h more (inr w) = inr w
+sends_then May number a b c h more (inl e) = sends_or number a b c more e (h.writes_on number)
+
 pub closes_both : (May : ℕ → Type 0) (a b c : Register) → ClosesOnly May a b → ClosesOnly May b c → ClosesOnly May a c
 closes_both May a b c h k = record {
   ordered = ordered_both a.orders b.orders c.orders h.ordered k.ordered;
   told = k.told ∙ h.told;
   closes = λ key tag e. closes_then May key tag b c k (h.closes key tag e);
   opens = λ number e. opens_then number a b c k.ordered h.opens (k.opens number e);
+  cuts = λ number tag e. cuts_then May number tag b c k (h.cuts number tag e);
+  due = λ tag o. due_then May tag a b c h k (k.due tag o);
+  writes = λ key. writes_then May key a b c h k (k.writes key);
+  writes_on = λ number. sends_then May number a b c h k.ordered (k.writes_on number);
+  were_open = λ key tag e. h.were_open key tag (k.were_open key tag e);
+  were_called = λ number tag e. h.were_called number tag (k.were_called number tag e);
 }
 
 -- where a call answers
@@ -65,12 +133,26 @@ may_or : (May More : ℕ → Type 0) (key : ℕ) (A : Type 0) (O : Type 0) → (
 may_or May More key A O f (inl a) = inl a
 may_or May More key A O f (inr x) = inr (f x.0, x.1)
 
+due_more : (May More : ℕ → Type 0) (tag : ℕ) (a b : Register) → ((key : ℕ) → May key → More key) → IsDue May tag a b → IsDue More tag a b
+due_more May More tag a b f (OfApplication key may was gone) = OfApplication key (f key may) was gone
+due_more May More tag a b f (OfConnection number was gone) = OfConnection number was gone
+
+due_may : (May More : ℕ → Type 0) (tag : ℕ) (a b : Register) (O : Type 0) → ((key : ℕ) → May key → More key) → O ⊎ IsDue May tag a b → O ⊎ IsDue More tag a b
+due_may May More tag a b O f (inl o) = inl o
+due_may May More tag a b O f (inr d) = inr (due_more May More tag a b f d)
+
 pub closes_more : (May More : ℕ → Type 0) (a b : Register) → ((key : ℕ) → May key → More key) → ClosesOnly May a b → ClosesOnly More a b
 closes_more May More a b f h = record {
   ordered = h.ordered;
   told = h.told;
   closes = λ key tag e. may_or May More key (open_name key b ≡ Some tag) (IsOrdered (orders.Close tag) b.orders) (f key) (h.closes key tag e);
   opens = h.opens;
+  cuts = h.cuts;
+  due = λ tag o. due_may May More tag a b (IsOrdered (orders.Close tag) a.orders) f (h.due tag o);
+  writes = h.writes;
+  writes_on = h.writes_on;
+  were_open = h.were_open;
+  were_called = h.were_called;
 }
 
 pub closes_more_on : {A E : Type 0} (r : Result A E) (May More : ℕ → Type 0) (a b : Register) → ((key : ℕ) → May key → More key) → OnOk r (ClosesOnly May a b) → OnOk r (ClosesOnly More a b)
@@ -97,239 +179,73 @@ closes_first r May a b c k h = closes_on r May a b c k (closes_nobody May a b h)
 pub closes_next : {A E : Type 0} (r : Result A E) (May More : ℕ → Type 0) (a b c : Register) → ((key : ℕ) → May key → More key) → OnOk r (ClosesOnly May b c) → ClosesOnly Nobody a b → OnOk r (ClosesOnly More a c)
 closes_next r May More a b c f k h = closes_on r More a b c (closes_more_on r May More b c f k) (closes_nobody More a b h)
 
--- ---- Connections
+-- somebody
+pub anybody : (May : ℕ → Type 0) (a b : Register) → ClosesOnly May a b → ClosesOnly Anybody a b
+anybody May a b h = closes_more May Anybody a b (λ key may. tt) h
 
-shut_seen : (o p : Option Seen) → ((had : Option Seen) → StaysAt had o → StaysAt had p) → is_shut p ≡ true → is_shut o ≡ true
-shut_seen o None stays e = absurd (let u : ⊥ = cc in u)
-shut_seen o (Some s) stays e =
-    let same : o ≡ Some s = stays o (at_refl o) in
-    ap is_shut same ∙ e
+pub anybody_on : {A E : Type 0} (r : Result A E) (May : ℕ → Type 0) (a b c : Register) → OnOk r (ClosesOnly May b c) → ClosesOnly Anybody a b → OnOk r (ClosesOnly Anybody a c)
+anybody_on r May a b c k h = closes_with r May Anybody a b c (λ key may. tt) k h
 
-pub shut_stays : (ls ms : List Link) → Sees ls ms → (number : ℕ) → is_shut (seen_at number ms) ≡ true → is_shut (seen_at number ls) ≡ true
-shut_stays ls ms sees number e = shut_seen (seen_at number ls) (seen_at number ms) (sees number) e
+pub anybody_then : {A E : Type 0} (r : Result A E) (May : ℕ → Type 0) (a b : Register) → OnOk r (ClosesOnly May a b) → OnOk r (ClosesOnly Anybody a b)
+anybody_then r May a b h = closes_more_on r May Anybody a b (λ key may. tt) h
 
--- ---- What nobody is closed by
+-- ---- A packet that comes
 
-pub closes_kept : (May : ℕ → Type 0) (a b : Register) → b.ends ≡ a.ends → b.names ≡ a.names → b.refused ≡ a.refused → Sees a.links b.links → StayOrdered a.orders b.orders → ClosesOnly May a b
-closes_kept May a b ends names told sees ordered = record {
-  ordered = ordered;
-  told = told;
-  closes = λ key tag e.
-      inl (ap (λ (es : Ends). name_with (end_at es key) (slice_index_or b.names key None)) ends ∙ ap (λ (ns : List (Option (Option ℕ))). name_with (end_at a.ends key) (slice_index_or ns key None)) names ∙ e);
-  opens = λ number e. inl (shut_stays a.links b.links sees number e);
-}
+heard_by : (tag : ℕ) (a b c : Register) → ((key : ℕ) → open_name key (but_told c a) ≡ open_name key (but_told b a)) → ((key : ℕ) → open_name key c ≡ open_name key b)
+    → ((number : ℕ) → sending_at number c.links ≡ sending_at number b.links) → IsDue Anybody tag (but_told b a) b → IsDue Anybody tag (but_told c a) c
+heard_by tag a b c first same sends (OfApplication key may was gone) = OfApplication key tt (first key ∙ was) (same key ∙ gone)
+heard_by tag a b c first same sends (OfConnection number was gone) = OfConnection number was (ap name_in (sends number) ∙ gone)
 
-moved_name : (by : End → End) → ((e : End) (n : Option (Option ℕ)) → name_with (Some (by e)) n ≡ name_with (Some e) n) → (key other : ℕ) (es : Ends) (n : Option (Option ℕ))
-    → name_with (end_at (change_end key by es) other) n ≡ name_with (end_at es other) n
-moved_name by keeps key other [] n = refl
-moved_name by keeps zero zero (None ∷ es) n = refl
-moved_name by keeps zero zero (Some e ∷ es) n = keeps e n
-moved_name by keeps zero (suc other) (e ∷ es) n = refl
-moved_name by keeps (suc key) zero (e ∷ es) n = refl
-moved_name by keeps (suc key) (suc other) (e ∷ es) n = moved_name by keeps key other es n
+heard_due : (tag : ℕ) (a b c : Register) → ((key : ℕ) → open_name key (but_told c a) ≡ open_name key (but_told b a)) → ((key : ℕ) → open_name key c ≡ open_name key b)
+    → ((number : ℕ) → sending_at number c.links ≡ sending_at number b.links) → IsOrdered (orders.Close tag) a.orders ⊎ IsDue Anybody tag (but_told b a) b → IsOrdered (orders.Close tag) a.orders ⊎ IsDue Anybody tag (but_told c a) c
+heard_due tag a b c first same sends (inl o) = inl o
+heard_due tag a b c first same sends (inr d) = inr (heard_by tag a b c first same sends d)
 
--- an end moves, and is open as it was
-pub closes_moved : (May : ℕ → Type 0) (key : ℕ) (by : End → End) (a b : Register) → ((e : End) (n : Option (Option ℕ)) → name_with (Some (by e)) n ≡ name_with (Some e) n) → b.ends ≡ change_end key by a.ends
-    → b.names ≡ a.names → b.refused ≡ a.refused → Sees a.links b.links → StayOrdered a.orders b.orders → ClosesOnly May a b
-closes_moved May key by a b keeps ends names told sees ordered = record {
-  ordered = ordered;
-  told = told;
-  closes = λ k tag e.
-      inl (ap (λ (es : Ends). name_with (end_at es k) (slice_index_or b.names k None)) ends ∙ moved_name by keeps key k a.ends (slice_index_or b.names k None)
-      ∙ ap (λ (ns : List (Option (Option ℕ))). name_with (end_at a.ends k) (slice_index_or ns k None)) names ∙ e);
-  opens = λ number e. inl (shut_stays a.links b.links sees number e);
-}
-
-end_is : (s : Slab Application) (key : ℕ) → end_at (ends_in s) key ≡ option_map end_of (get s key)
-end_is s key = get_or-map (option_map end_of) s.slots key None
-
--- one is written back that is open as it was
-set_name : (end : End) (key other : ℕ) (es : Ends) (n : Option (Option ℕ)) → ((m : Option (Option ℕ)) → name_with (Some end) m ≡ name_with (end_at es key) m)
-    → name_with (end_at (slice_set es key (Some end)) other) n ≡ name_with (end_at es other) n
-set_name end key other [] n same = refl
-set_name end zero zero (e ∷ es) n same = same n
-set_name end zero (suc other) (e ∷ es) n same = refl
-set_name end (suc key) zero (e ∷ es) n same = refl
-set_name end (suc key) (suc other) (e ∷ es) n same = set_name end key other es n same
-
-over_by : (b : Bool) (a c : Application) (m : Option (Option ℕ)) → name_with (Some (if b then Over c.fault else Open c.front c.is_withdrawn c.reset)) m ≡ name_with (Some (if b then Over a.fault else Open a.front a.is_withdrawn a.reset)) m
-over_by true a c m = refl
-over_by false a c None = refl
-over_by false a c (Some name) = refl
-
-open_as : (a c : Application) (m : Option (Option ℕ)) → c.is_over ≡ a.is_over → name_with (Some (end_of c)) m ≡ name_with (Some (end_of a)) m
-open_as a c m same =
-    subst (λ (b : Bool). name_with (Some (if b then Over c.fault else Open c.front c.is_withdrawn c.reset)) m ≡ name_with (Some (end_of a)) m) (sym same) (over_by a.is_over a c m)
-
-pub closes_written : (May : ℕ → Type 0) (s : Slab Application) (key : ℕ) (a c : Application) (r q : Register) → Some a ≡ get s key → c.is_over ≡ a.is_over → r.ends ≡ ends_in s → q.ends ≡ ends_in (with_value s key c)
-    → q.names ≡ r.names → q.refused ≡ r.refused → Sees r.links q.links → StayOrdered r.orders q.orders → ClosesOnly May r q
-closes_written May s key a c r q is same before behind names told sees ordered = record {
-  ordered = ordered;
-  told = told;
-  closes = λ k tag e.
-      inl (ap (λ (es : Ends). name_with (end_at es k) (slice_index_or q.names k None)) (behind ∙ ends_written s key c)
-      ∙ set_name (end_of c) key k (ends_in s) (slice_index_or q.names k None) (λ m. open_as a c m same ∙ sym (ap (λ (o : Option End). name_with o m) (end_is s key ∙ ap (option_map end_of) (sym is))))
-      ∙ ap (λ (ns : List (Option (Option ℕ))). name_with (end_at (ends_in s) k) (slice_index_or ns k None)) names
-      ∙ ap (λ (es : Ends). name_with (end_at es k) (slice_index_or r.names k None)) (sym before) ∙ e);
-  opens = λ number e. inl (shut_stays r.links q.links sees number e);
-}
-
--- ends that move
-pub keeps_lets_go : (e : End) (n : Option (Option ℕ)) → name_with (Some (lets_go e)) n ≡ name_with (Some e) n
-keeps_lets_go (Open front withdrawn asks) None = refl
-keeps_lets_go (Open front withdrawn asks) (Some name) = refl
-keeps_lets_go (Over why) n = refl
-
-pub keeps_withdraws : (e : End) (n : Option (Option ℕ)) → name_with (Some (withdraws e)) n ≡ name_with (Some e) n
-keeps_withdraws (Open front withdrawn asks) None = refl
-keeps_withdraws (Open front withdrawn asks) (Some name) = refl
-keeps_withdraws (Over why) n = refl
-
-keeps_stage : (by : Stage → Stage) (e : End) (n : Option (Option ℕ)) → name_with (Some (move_stage by e)) n ≡ name_with (Some e) n
-keeps_stage by (Open front withdrawn asks) None = refl
-keeps_stage by (Open front withdrawn asks) (Some name) = refl
-keeps_stage by (Over why) n = refl
-
-pub keeps_goes_by : (out : List ℕ) (e : End) (n : Option (Option ℕ)) → name_with (Some (goes_by out e)) n ≡ name_with (Some e) n
-keeps_goes_by [] e n = refl
-keeps_goes_by (byte ∷ bytes) e n = keeps_stage rules.went_on e n
-
-pub sees_refl : (ls : List Link) → Sees ls ls
-sees_refl ls = λ number had h. h
-
--- ---- Whom one is closed by
-
--- an application that isn't to be closed, and what it is called
-record IsNamed (tag : ℕ) (o : Option Application) : Type 0 where
-  its : Application
-  is : o ≡ Some its
-  here : its.is_over ≡ false
-  called : its.tag ≡ tag
-
-named_by : (b : Bool) (a : Application) (tag : ℕ) → a.is_over ≡ b → name_with (Some (if b then Over a.fault else Open a.front a.is_withdrawn a.reset)) (Some (Some a.tag)) ≡ Some tag → IsNamed tag (Some a)
-named_by true a tag b e = absurd (let u : ⊥ = cc in u)
-named_by false a tag b e = record { its = a; is = refl; here = b; called = (let u : Some a.tag ≡ Some tag = e in cc) }
-
-abbrev name_of : Option Application → Option (Option ℕ)
-name_of o = option_map (λ (p : Post). p.tag) (option_map post_of o)
-
-named_in : (o : Option Application) (tag : ℕ) → name_with (option_map end_of o) (name_of o) ≡ Some tag → IsNamed tag o
-named_in None tag e = absurd (let u : ⊥ = cc in u)
-named_in (Some a) tag e = named_by a.is_over a tag refl e
-
-name_is : (s : Slab Application) (key : ℕ) → slice_index_or (names_in s) key None ≡ name_of (get s key)
-name_is s key = get_or-map (option_map (λ (p : Post). p.tag)) (posts_in s) key None ∙ ap (option_map (λ (p : Post). p.tag)) (get_or-map (option_map post_of) s.slots key None)
-
-named : (r : code.Relay) (key tag : ℕ) → open_name key (register_in r) ≡ Some tag → IsNamed tag (get r.applications key)
-named r key tag e =
-    let s = r.applications in
-    named_in (get s key) tag (sym (ap (λ (o : Option End). name_with o (slice_index_or (names_in s) key None)) (end_is s key) ∙ ap (λ (n : Option (Option ℕ)). name_with (option_map end_of (get s key)) n) (name_is s key)) ∙ e)
-
-closing_order : (all : List Order) (o : Option Application) (tag : ℕ) → IsNamed tag o → IsOrdered (orders.Close tag) (closing o all)
-closing_order all o tag n = record {
-  before = all;
-  behind = [];
-  are = ap (λ (p : Option Application). closing p all) n.is ∙ rw n.here (ap (λ (t : ℕ). all ++ orders.Close t ∷ []) n.called);
-}
-
-ended_at : (key other tag : ℕ) (by : End → End) (old : code.Relay) (b : Register) → (other ≡ key) ⊎ (other ≢ key) → b.ends ≡ change_end key by (ends_in old.applications) → b.names ≡ names_in old.applications
-    → b.orders ≡ closing (get old.applications key) old.orders.items → open_name other (register_in old) ≡ Some tag → (open_name other b ≡ Some tag) ⊎ (Itself key other × IsOrdered (orders.Close tag) b.orders)
-ended_at key other tag by old b (inl same) ends names are e =
-    inr (
-      same,
-      subst (IsOrdered (orders.Close tag)) (sym are)
-          (closing_order old.orders.items (get old.applications key) tag (named old key tag (subst (λ (k : ℕ). open_name k (register_in old) ≡ Some tag) same e))),
-    )
-ended_at key other tag by old b (inr differs) ends names are e =
-    inl (ap (λ (es : Ends). name_with (end_at es other) (slice_index_or b.names other None)) ends
-    ∙ ap (λ (o : Option End). name_with o (slice_index_or b.names other None)) (get_or-set_other (ends_in old.applications) key other (option_map by (end_at (ends_in old.applications) key)) None differs)
-    ∙ ap (λ (ns : List (Option (Option ℕ))). name_with (end_at (ends_in old.applications) other) (slice_index_or ns other None)) names ∙ e)
-
-pub closing_is : (o : Option Application) (a : Application) (all : List Order) (tag : ℕ) → Some a ≡ o → a.is_over ≡ false → tag ≡ a.tag → all ++ orders.Close tag ∷ [] ≡ closing o all
-closing_is o a all tag is here called = ap (λ (n : ℕ). all ++ orders.Close n ∷ []) called ∙ sym (ap (λ (p : Option Application). closing p all) (sym is) ∙ rw here refl)
-
--- it is ordered closed, where it wasn't to be closed before
-pub closes_ended : (key : ℕ) (by : End → End) (old : code.Relay) (b : Register) → b.ends ≡ change_end key by (ends_in old.applications) → b.names ≡ names_in old.applications
-    → b.orders ≡ closing (get old.applications key) old.orders.items → b.refused ≡ old.refused → b.links ≡ old.links.items → ClosesOnly (Itself key) (register_in old) b
-closes_ended key by old b ends names are told links =
-    let more = closing_stays (get old.applications key) old.orders.items in
+-- What waits for applications changes by it, and why a connection was closed.
+pub closes_heard : (a b c : Register) → ClosesOnly Anybody (but_told b a) b → c.ends ≡ b.ends → names_of c.posts ≡ names_of b.posts → ((number : ℕ) → sending_at number c.links ≡ sending_at number b.links)
+    → ((number : ℕ) → is_shut_at number c ≡ true → is_shut_at number b ≡ true) → c.orders ≡ b.orders → c.kept.most ≡ b.kept.most → ClosesOnly Anybody (but_told c a) c
+closes_heard a b c h ends names sends shut are most =
+    let same : (key : ℕ) → open_name key c ≡ open_name key b =
+    λ key. ap (λ (es : Ends). name_with (end_at es key) (slice_index_or (names_of c.posts) key None)) ends
+    ∙ ap (λ (ns : List (Option (Option ℕ))). name_with (end_at b.ends key) (slice_index_or ns key None)) names in
+    let first : (key : ℕ) → open_name key (but_told c a) ≡ open_name key (but_told b a) = λ key. ap (λ (ns : List (Option (Option ℕ))). name_with (end_at a.ends key) (slice_index_or ns key None)) names in
     record {
-      ordered = (more.0, are ∙ more.1);
-      told = told;
-      closes = λ other tag e. ended_at key other tag by old b (cases_eq other key) ends names are e;
-      opens = λ number e. inl (ap (λ (ls : List Link). is_shut (seen_at number ls)) (sym links) ∙ e);
+      ordered = subst (StayOrdered a.orders) (sym are) h.ordered;
+      told = ap (λ (n : ℕ). let k : KeptBeside = record { refused = c.kept.refused; most = n } in k) (most ∙ ap (λ (k : KeptBeside). k.most) h.told);
+      closes = λ key tag e.
+          subst (λ (o : Option ℕ). (o ≡ Some tag) ⊎ (Anybody key × IsOrdered (orders.Close tag) c.orders)) (sym (same key))
+          (subst (λ (xs : List Order). (open_name key b ≡ Some tag) ⊎ (Anybody key × IsOrdered (orders.Close tag) xs)) (sym are) (h.closes key tag (sym (first key) ∙ e)));
+      opens = λ number e. subst (λ (xs : List Order). (is_shut_at number a ≡ true) ⊎ IsOrdered (orders.Open number) xs) (sym are) (h.opens number (shut number e));
+      cuts = λ number tag e.
+          subst (λ (o : Option ℕ). (o ≡ Some tag) ⊎ IsOrdered (orders.Close tag) c.orders) (sym (ap name_in (sends number)))
+          (subst (λ (xs : List Order). (called_at number b.links ≡ Some tag) ⊎ IsOrdered (orders.Close tag) xs) (sym are) (h.cuts number tag e));
+      due = λ tag o. heard_due tag a b c first same sends (h.due tag (subst (IsOrdered (orders.Close tag)) are o));
+      writes = λ key. inl refl;
+      writes_on = λ number.
+          subst (λ (s : Option Sending). (s ≡ sending_at number a.links) ⊎ IsWritten s c.orders) (sym (sends number))
+          (subst (λ (xs : List Order). (sending_at number b.links ≡ sending_at number a.links) ⊎ IsWritten (sending_at number b.links) xs) (sym are) (h.writes_on number));
+      were_open = λ key tag e. first key ∙ h.were_open key tag (sym (same key) ∙ e);
+      were_called = λ number tag e. h.were_called number tag (sym (ap name_in (sends number)) ∙ e);
     }
 
--- ---- One is to be opened
+abbrev told_with : Posts → Option Refused → Register → Register
+told_with posts refused r = record { ends = r.ends; posts = posts; links = r.links; orders = r.orders; kept = record { refused = refused; most = r.kept.most } }
 
-pushed_by : (b : Bool) (l : Link) (number : ℕ) → (l.number == number) ≡ b → is_shut (option_map seen_of (if b then Some l else None)) ≡ true → number ≡ l.number
-pushed_by true l number e shut = sym (eqb-true l.number number e)
-pushed_by false l number e shut = absurd (let u : ⊥ = cc in u)
+told_as : (a c d : Register) → ClosesOnly Anybody (but_told c a) d → d.posts ≡ c.posts → d.kept ≡ c.kept → ClosesOnly Anybody (but_told d a) d
+told_as a c d h posts told =
+    let first : ClosesOnly Anybody (told_with d.posts c.kept.refused a) d = subst (λ (ps : Posts). ClosesOnly Anybody (told_with ps c.kept.refused a) d) (sym posts) h in
+    subst (λ (o : Option Refused). ClosesOnly Anybody (told_with d.posts o a) d) (ap (λ (k : KeptBeside). k.refused) (sym told)) first
 
-pushed_or : (number : ℕ) (b : Bool) (l x : Link) (o p : Option Link) → (is_shut (option_map seen_of p) ≡ true → (is_shut (option_map seen_of o) ≡ true) ⊎ (number ≡ l.number))
-    → is_shut (option_map seen_of (if b then Some x else p)) ≡ true → (is_shut (option_map seen_of (if b then Some x else o)) ≡ true) ⊎ (number ≡ l.number)
-pushed_or number true l x o p later e = inl e
-pushed_or number false l x o p later e = later e
+-- what came of it is done
+pub closes_done : (a c d : Register) → ClosesOnly Anybody (but_told c a) c → ClosesOnly Anybody c d → d.posts ≡ c.posts → ClosesOnly Anybody (but_told d a) d
+closes_done a c d h k posts = told_as a c d (closes_both Anybody (but_told c a) c d h k) posts k.told
 
-shut_pushed : (ls : List Link) (l : Link) (number : ℕ) → is_shut (seen_at number (ls ++ l ∷ [])) ≡ true → (is_shut (seen_at number ls) ≡ true) ⊎ (number ≡ l.number)
-shut_pushed [] l number e = inr (pushed_by (l.number == number) l number refl e)
-shut_pushed (x ∷ xs) l number e = pushed_or number (x.number == number) l x (link_at number xs) (link_at number (xs ++ l ∷ [])) (shut_pushed xs l number) e
+pub closes_done_on : {A E : Type 0} (r : Result A E) (May : ℕ → Type 0) (a c d : Register) → OnOk r (ClosesOnly May c d) → OnOk r (d.posts ≡ c.posts) → ClosesOnly Anybody (but_told c a) c → OnOk r (ClosesOnly Anybody (but_told d a) d)
+closes_done_on (Ok x) May a c d k posts h = closes_done a c d h (closes_more May Anybody c d (λ key may. tt) k) posts
+closes_done_on (Err e) May a c d k posts h = tt
 
-ordered_or : (number n : ℕ) (before : List Order) (A : Type 0) → A ⊎ (number ≡ n) → A ⊎ IsOrdered (orders.Open number) (before ++ orders.Open n ∷ [])
-ordered_or number n before A (inl a) = inl a
-ordered_or number n before A (inr e) = inr (record { before = before; behind = []; are = ap (λ (m : ℕ). before ++ orders.Open m ∷ []) (sym e) })
-
-or_named : (number n named : ℕ) (A : Type 0) → n ≡ named → A ⊎ (number ≡ n) → A ⊎ (number ≡ named)
-or_named number n named A is (inl a) = inl a
-or_named number n named A is (inr e) = inr (e ∙ is)
-
--- a connection is there that is ordered opened
-pub closes_pushed : (May : ℕ → Type 0) (a b : Register) (l : Link) (named : ℕ) → b.ends ≡ a.ends → b.names ≡ a.names → b.refused ≡ a.refused → b.links ≡ a.links ++ l ∷ [] → l.number ≡ named
-    → b.orders ≡ a.orders ++ orders.Open named ∷ [] → ClosesOnly May a b
-closes_pushed May a b l named ends names told links is are = record {
-  ordered = (orders.Open named ∷ [], are);
-  told = told;
-  closes = λ key tag e.
-      inl (ap (λ (es : Ends). name_with (end_at es key) (slice_index_or b.names key None)) ends ∙ ap (λ (ns : List (Option (Option ℕ))). name_with (end_at a.ends key) (slice_index_or ns key None)) names ∙ e);
-  opens = λ number e.
-      subst (λ (xs : List Order). (is_shut_at number a ≡ true) ⊎ IsOrdered (orders.Open number) xs) (sym are)
-      (ordered_or number named a.orders (is_shut_at number a ≡ true) (or_named number l.number named (is_shut_at number a ≡ true) is (shut_pushed a.links l number (ap (λ (ls : List Link). is_shut (seen_at number ls)) (sym links) ∙ e))));
-}
-
-shut_by : (b : Bool) (l x : Link) (o p : Option Link) → l.is_open ≡ true → (is_shut (option_map seen_of p) ≡ true → is_shut (option_map seen_of o) ≡ true) → is_shut (option_map seen_of (if b then Some x else p)) ≡ true
-    → is_shut (option_map seen_of (if b then Some x else o)) ≡ true
-shut_by true l x o p is later e = e
-shut_by false l x o p is later e = later e
-
-open_by : (b : Bool) (l : Link) → l.is_open ≡ true → is_shut (option_map seen_of (if b then Some l else None)) ≡ true → is_shut None ≡ true
-open_by true l is e = absurd (let u : false ≡ true = sym (ap not is) ∙ e in let v : ⊥ = cc in v)
-open_by false l is e = e
-
-opened_behind : (ls : List Link) (l : Link) (number : ℕ) → l.is_open ≡ true → is_shut (seen_at number (ls ++ l ∷ [])) ≡ true → is_shut (seen_at number ls) ≡ true
-opened_behind [] l number is e = open_by (l.number == number) l is e
-opened_behind (x ∷ xs) l number is e = shut_by (x.number == number) l x (link_at number xs) (link_at number (xs ++ l ∷ [])) is (opened_behind xs l number is) e
-
--- one is there that is open
-pub closes_brought : (May : ℕ → Type 0) (a b : Register) (l : Link) → b.ends ≡ a.ends → b.names ≡ a.names → b.refused ≡ a.refused → b.links ≡ a.links ++ l ∷ [] → l.is_open ≡ true → b.orders ≡ a.orders → ClosesOnly May a b
-closes_brought May a b l ends names told links is are = record {
-  ordered = ordered_same a.orders b.orders are;
-  told = told;
-  closes = λ key tag e.
-      inl (ap (λ (es : Ends). name_with (end_at es key) (slice_index_or b.names key None)) ends ∙ ap (λ (ns : List (Option (Option ℕ))). name_with (end_at a.ends key) (slice_index_or ns key None)) names ∙ e);
-  opens = λ number e. inl (opened_behind a.links l number is (ap (λ (ls : List Link). is_shut (seen_at number ls)) (sym links) ∙ e));
-}
-
--- one is opened
-unshut : (b : Bool) (o : Option Seen) → is_shut (if b then option_map with_open o else o) ≡ true → is_shut o ≡ true
-unshut true None e = e
-unshut true (Some s) e = absurd (let u : ⊥ = cc in u)
-unshut false o e = e
-
-pub closes_opened : (May : ℕ → Type 0) (number : ℕ) (a b : Register) → b.ends ≡ a.ends → b.names ≡ a.names → b.refused ≡ a.refused → ((other : ℕ) → seen_at other b.links ≡ opened_seen number other a.links) → b.orders ≡ a.orders → ClosesOnly May a b
-closes_opened May number a b ends names told seen are = record {
-  ordered = ordered_same a.orders b.orders are;
-  told = told;
-  closes = λ key tag e.
-      inl (ap (λ (es : Ends). name_with (end_at es key) (slice_index_or b.names key None)) ends ∙ ap (λ (ns : List (Option (Option ℕ))). name_with (end_at a.ends key) (slice_index_or ns key None)) names ∙ e);
-  opens = λ other e. inl (unshut (other == number) (seen_at other a.links) (ap is_shut (sym (seen other)) ∙ e));
-}
+pub one_closes : (a b c d : Register) → ClosesOnly Anybody (but_told b a) b → c.ends ≡ b.ends → names_of c.posts ≡ names_of b.posts
+    → ((number : ℕ) → (sending_at number c.links ≡ sending_at number b.links) × (is_shut (seen_at number c.links) ≡ is_shut (seen_at number b.links))) → c.orders ≡ b.orders → c.kept.most ≡ b.kept.most → ClosesOnly Anybody c d → d.posts ≡ c.posts
+    → ClosesOnly Anybody (but_told d a) d
+one_closes a b c d h ends names same are most k posts =
+    closes_done a c d (closes_heard a b c h ends names (λ number. (same number).0) (λ number e. sym (same number).1 ∙ e) are most) k posts

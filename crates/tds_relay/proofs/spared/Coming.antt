@@ -1,5 +1,5 @@
 -- Requests, as something comes on a connection.
-use Rattle.std.proofs.Common.{◌≡◌, ◌⊎◌, ℕ, Bool, true, false, List, Option, Some, None, inl, inr, refl, sym, ap, subst, if◌then◌else◌}
+use Rattle.std.proofs.Common.{◌≡◌, ◌⊎◌, ℕ, Bool, true, false, List, Option, Some, None, inl, inr, sym, ap, subst, if◌then◌else◌}
 use Rattle.std.specs.Prelude.{Result, Ok, Err, OnOk}
 use Rattle.slab.specs.Slab.{Slab, get}
 use Rattle.tds_client.specs.Session.{ClientSession}
@@ -12,7 +12,7 @@ use Rattle.tds_relay.specs.declared.desk.Hold.{Hold}
 use Rattle.tds_relay.specs.declared.link.Link.{Link}
 use Rattle.tds_relay.specs.declared.relay.Relay as code
 use Rattle.tds_relay.specs.Bodies.{AskAsBefore, AskOn, Astray, Body, Closed, Going, Kept, Nowhere, Spared, Starts, body_by, body_in, body_of, going, going_by, going_of}
-use Rattle.tds_relay.specs.Coming.{AllAlong, Begins, Ends, GoesAlong, Hears, HearsOn, IsDoneWith, IsGoing, MayBeDone, Reads, Waits}
+use Rattle.tds_relay.specs.Coming.{AllAlong, Begins, Ends, GoesAlong, Hears, HearsOn, IsGoing, MayBeDone, Reads, Waits}
 use Rattle.tds_relay.specs.Desk.{find_key}
 use Rattle.tds_relay.specs.Reads.{waits_on}
 use Rattle.tds_relay.specs.Sparing.{AllGo, AllRest, IsUnkept, OthersRest}

@@ -80,7 +80,7 @@ seated d key h client sound its there =
     }
 
 -- another hold of its number is by its lease
-same_lease : (d : Desk) (h g : Hold) → Seated d h → Sits d.service g → g.number ≡ h.number → g.lease ≡ h.lease
+pub same_lease : (d : Desk) (h g : Hold) → Seated d h → Sits d.service g → g.number ≡ h.number → g.lease ≡ h.lease
 same_lease d h g at sits number =
     let there : seat_numbered g.number d.service.seats ≡ Some at.seat = subst (λ (n : ℕ). seat_numbered n d.service.seats ≡ Some at.seat) (sym number) at.numbered in
     let place : Leased g.lease ≡ Leased h.lease = sym (sits.lent at.seat there) ∙ at.place in

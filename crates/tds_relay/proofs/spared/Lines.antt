@@ -2,7 +2,6 @@
 use Rattle.std.proofs.Common.{◌≡◌, ◌≢◌, ◌∙◌, ◌==◌, ◌||◌, ◌++◌, ◌⊎◌, inl, inr, not, filter, ℕ, Bool, true, false, List, [], ◌∷◌, Option, Some, None, refl, sym, ap, subst, if◌then◌else◌}
 use Rattle.std.proofs.lemmas.Bool.{cases_eq, eq-eqb, eqb-true}
 use Rattle.tds_wire.specs.declared.told.Token.{Token}
-use Rattle.tds_service.specs.Parts.{Part}
 use Rattle.tds_service.specs.Service as calls
 use Rattle.tds_service.specs.Service.{Call, Service, lease_at, seat_numbered, step}
 use Rattle.tds_relay.specs.declared.desk.Hold.{Hold}

@@ -73,6 +73,14 @@ put_by false bytes p e all = absurd (let u : true ≡ false = sym (ap (λ (q : P
 pub put_waits : (bytes : List ℕ) (p q : Post) → q ≡ put bytes p → q.is_full ≡ false → q.bytes ≡ p.bytes ++ bytes
 put_waits bytes p q is all = ap (λ (r : Post). r.bytes) is ∙ put_by (fits p bytes) bytes p refl (sym (ap (λ (r : Post). r.is_full) is) ∙ all)
 
+full_by : (b : Bool) (bytes : List ℕ) (p : Post) → fits p bytes ≡ b → (put bytes p).is_full ≡ true → (put bytes p).bytes ≡ p.bytes
+full_by true bytes p e full = absurd (let u : false ≡ true = sym (ap (λ (q : Post). q.is_full) (put_fits bytes p e)) ∙ full in let v : ⊥ = cc in v)
+full_by false bytes p e full = ap (λ (q : Post). q.bytes) (put_fills bytes p e)
+
+-- where it is, none of it does
+pub put_unfit : (bytes : List ℕ) (p q : Post) → q ≡ put bytes p → q.is_full ≡ true → q.bytes ≡ p.bytes
+put_unfit bytes p q is full = ap (λ (r : Post). r.bytes) is ∙ full_by (fits p bytes) bytes p refl (sym (ap (λ (r : Post). r.is_full) is) ∙ full)
+
 either_put : (b : Bool) (bytes : List ℕ) (p : Post) → fits p bytes ≡ b → FillsAt (Some p.bytes) (Some (put bytes p).bytes)
 either_put true bytes p e = subst (λ (q : Post). FillsAt (Some p.bytes) (Some q.bytes)) (sym (put_fits bytes p e)) (bytes, refl)
 either_put false bytes p e = subst (λ (q : Post). FillsAt (Some p.bytes) (Some q.bytes)) (sym (put_fills bytes p e)) (fills_refl (Some p.bytes))
@@ -99,7 +107,7 @@ apart : (b : Bool) (k number other : ℕ) → (k == other) ≡ b → other ≢ n
 apart true k number other e differs is = absurd (differs (sym (eqb-true k other e) ∙ eqb-true k number is))
 apart false k number other e differs is = refl
 
-left_link : (number other : ℕ) (ls : List Link) → other ≢ number → link_at other (without_link number ls) ≡ link_at other ls
+pub left_link : (number other : ℕ) (ls : List Link) → other ≢ number → link_at other (without_link number ls) ≡ link_at other ls
 left_link number other [] differs = refl
 left_link number other (x ∷ xs) differs =
     let rest : link_at other (without_link number xs) ≡ link_at other xs = left_link number other xs differs in

@@ -1,5 +1,5 @@
 -- Who is to be written to, one call behind the other.
-use Rattle.std.proofs.Common.{◌≡◌, ◌≢◌, ◌⊎◌, ◌∙◌, ◌&&◌, ℕ, Bool, true, false, not, List, [], ◌∷◌, ◌++◌, Option, Some, None, inl, inr, refl, sym, ap, subst, append_assoc, append-nil, map, option_map, slice_index_or}
+use Rattle.std.proofs.Common.{◌≡◌, ◌≢◌, ◌⊎◌, ◌∙◌, ℕ, Bool, true, false, List, [], ◌∷◌, ◌++◌, Option, Some, None, inl, inr, refl, sym, ap, subst, append_assoc, option_map, slice_index_or}
 use Rattle.std.specs.Prelude.{Result, Ok, Err, OnOk}
 use Rattle.std.proofs.lemmas.Bool.{cases_eq}
 use Rattle.std.proofs.lemmas.List.{get_or-set_other}
@@ -27,7 +27,6 @@ use Rattle.tds_relay.specs.Posts.{Post, Posts, names_in, names_of, post_at, post
 use Rattle.tds_relay.specs.Taking.{IsDeaf}
 use Rattle.tds_relay.specs.Ties.{Connection, desk_in}
 use Rattle.tds_relay.specs.Waking.{HandsTo, IsToDo, IsWoken, PutsFor, Wakes, name_at}
-use Rattle.tds_relay.proofs.spared.Ordered.{ordered_both}
 use Rattle.tds_relay.proofs.steps.Handed.{withheld_is}
 use Rattle.tds_relay.proofs.steps.Posting.{post_is}
 use Rattle.tds_relay.proofs.steps.Told.{deaf_led, deaf_told}

@@ -123,7 +123,7 @@ kept_by : (over : Bool) (kind : MessageKind) (bytes more : List ℕ) (was whole 
 kept_by true kind bytes more was whole = Shuts
 kept_by false kind bytes more was whole = Keeps
 
-waits_is : (a : Application) (goes : Body) (kind : MessageKind) (whole : Bool) → a.asking ≡ asking.Waits kind whole → body_in (Some a) goes ≡ (if a.is_over then Closed else Kept kind a.held.items whole)
+pub waits_is : (a : Application) (goes : Body) (kind : MessageKind) (whole : Bool) → a.asking ≡ asking.Waits kind whole → body_in (Some a) goes ≡ (if a.is_over then Closed else Kept kind a.held.items whole)
 waits_is a goes kind whole is = ap (λ (x : Asking). body_in (Some (record a { asking = x })) goes) is
 
 -- with these bytes behind the others

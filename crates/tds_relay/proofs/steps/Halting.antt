@@ -1,19 +1,18 @@
 -- What an attention puts out that is handed on: it waits once, behind what waited on its connection.
-use Rattle.std.proofs.Common.{◌≡◌, ◌⊎◌, ◌∙◌, ◌++◌, ℕ, Bool, true, false, List, [], ◌∷◌, Option, Some, None, inl, inr, refl, sym, ap, subst, option_map, if◌then◌else◌}
+use Rattle.std.proofs.Common.{◌≡◌, ◌∙◌, ◌++◌, ℕ, Bool, true, false, List, [], ◌∷◌, Option, Some, None, inl, inr, refl, sym, ap, subst, option_map, if◌then◌else◌}
 use Rattle.std.specs.Prelude.{IsSome}
 use Rattle.slab.specs.Slab.{get}
 use Rattle.tds_client.specs.declared.fault.ClientRefusal.{ClientRefusal}
 use Rattle.tds_client.specs.Session.{ClientSession}
 use Rattle.tds_wire.specs.declared.told.Token.{Token}
 use Rattle.tds_service.specs.declared.seat.Seat as seats
-use Rattle.tds_service.specs.declared.service.Service as services
 use Rattle.tds_service.specs.Line as line
 use Rattle.tds_service.specs.Line.{Act, Line, turn}
 use Rattle.tds_service.specs.History.{line_after}
 use Rattle.tds_service.specs.Refusing.{refusal_in}
 use Rattle.tds_service.specs.Service as calls
 use Rattle.tds_service.specs.Service.{Did, Seat, Service, acts, acts_unless, find_by, has_lease, step}
-use Rattle.tds_service.specs.Table.{CancelsOut, client_by, client_of, seat_in, seats_in, service_in}
+use Rattle.tds_service.specs.Table.{CancelsOut, client_by, seat_in, seats_in, service_in}
 use Rattle.tds_service.specs.Ties.{cancel_out}
 use Rattle.tds_relay.specs.declared.application.Application.{Application}
 use Rattle.tds_relay.specs.declared.application.Asking.{Asking}

@@ -1,9 +1,7 @@
 -- What connections are called, along what is done to them; and applications.
-use Rattle.std.proofs.Common.{◌≡◌, ◌∙◌, ◌==◌, ◌⊎◌, inl, inr, ℕ, zero, suc, Bool, true, false, List, [], ◌∷◌, ◌++◌, Option, Some, None, refl, sym, ap, subst, map, slice_index_or, slice_set, option_map, if◌then◌else◌}
-use Rattle.std.specs.Prelude.{Result, Ok, Err, OnOk}
-use Rattle.std.proofs.lemmas.Bool.{eqb-true}
+use Rattle.std.proofs.Common.{◌≡◌, ◌==◌, inl, inr, ℕ, zero, suc, Bool, true, false, List, [], ◌∷◌, ◌++◌, Option, Some, None, refl, sym, subst, slice_index_or, slice_set, option_map, if◌then◌else◌}
 use Rattle.tds_relay.specs.declared.link.Link.{Link}
-use Rattle.tds_relay.specs.Reads.{CalledAt, IsCalled, IsToOpen, Seen, StaysAt, link_at, seen_at, seen_of}
+use Rattle.tds_relay.specs.Reads.{CalledAt, IsCalled, Seen, StaysAt, link_at, seen_at, seen_of}
 
 -- one that is yet to be opened may be there instead
 to_open : (is_open : Bool) (tag : Option ℕ) (o : Option Seen) → IsCalled false None o → IsCalled is_open tag o

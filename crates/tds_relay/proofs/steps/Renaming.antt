@@ -1,5 +1,5 @@
 -- What is seen of connections where one of them is opened or called otherwise; and what applications are tagged where what waits for one changes.
-use Rattle.std.proofs.Common.{◌≡◌, ◌∙◌, ◌==◌, inl, length, ℕ, zero, suc, Bool, true, false, List, [], ◌∷◌, ◌++◌, Option, Some, None, refl, sym, ap, subst, map, slice_index_or, slice_set, option_map, if◌then◌else◌}
+use Rattle.std.proofs.Common.{◌≡◌, ◌∙◌, ◌==◌, inl, length, ℕ, zero, suc, Bool, true, false, List, [], ◌∷◌, ◌++◌, Option, Some, None, refl, sym, ap, subst, slice_index_or, slice_set, option_map, if◌then◌else◌}
 use Rattle.std.specs.Prelude.{Result, Ok, Err, OnOk}
 use Rattle.std.proofs.lemmas.Bool.{eqb-false, eqb-true}
 use Rattle.slab.specs.Slab.{Slab}
@@ -9,7 +9,7 @@ use Rattle.tds_relay.specs.declared.application.Application.{Application}
 use Rattle.tds_relay.specs.declared.link.Link.{Link}
 use Rattle.tds_relay.specs.Fronts.{given_by}
 use Rattle.tds_relay.specs.House.{change_whose, put_all, put_some}
-use Rattle.tds_relay.specs.Posts.{Post, Posts, acknowledgement, tagged, change, fits, names_in, names_of, post_at, posts_in, put}
+use Rattle.tds_relay.specs.Posts.{Post, Posts, acknowledgement, tagged, change, fits, names_in, names_of, posts_in, put}
 use Rattle.tds_relay.specs.Reads.{IsCalled, Opens, Seen, Stays, link_at, place_of, seen_at, seen_of}
 use Rattle.tds_relay.proofs.steps.Naming.{is_called_on}
 use Rattle.tds_relay.proofs.steps.Placed.{IsAt, differs_by, is_at, none_there, other_seen}

@@ -1,8 +1,7 @@
 -- The news of a reset in a packet, by what its connection owes before it and behind it.
-use Rattle.std.proofs.Common.{◌≡◌, ◌∙◌, ◌==◌, ◌&&◌, ◌||◌, ◌+◌, ℕ, suc, Bool, true, false, List, [], ◌∷◌, Option, Some, None, is_some, not, arith, refl, sym, ap, subst, if◌then◌else◌}
+use Rattle.std.proofs.Common.{◌≡◌, ◌∙◌, ◌==◌, ◌&&◌, ◌||◌, ◌+◌, ℕ, Bool, true, false, List, [], ◌∷◌, Option, Some, None, is_some, not, arith, refl, sym, ap, subst, if◌then◌else◌}
 use Rattle.std.specs.Prelude.{Result, Ok, Err}
 use Rattle.tds_packet.specs.declared.status.Reset.{Reset}
-use Rattle.tds_packet.specs.declared.status.Reset.TheVariants as resets
 use Rattle.tds_packet.specs.declared.header.Header.{Header}
 use Rattle.tds_token.specs.declared.env_change.EnvChange.TheVariants as changes
 use Rattle.tds_client.specs.declared.fault.ClientFault.{ClientFault}

@@ -1,12 +1,12 @@
 -- What parts an application from its connection is asked for by its own bytes.
-use Rattle.std.proofs.Common.{◌≡◌, ◌∙◌, ◌⊎◌, ◌++◌, ℕ, List, [], ◌∷◌, refl, sym, ap, subst, inl, inr, append_assoc}
+use Rattle.std.proofs.Common.{◌≡◌, ◌∙◌, ◌⊎◌, ◌++◌, ℕ, List, [], ◌∷◌, sym, ap, subst, inl, inr, append_assoc}
 use Rattle.std.specs.Prelude.{Option, Some, None}
 use Rattle.tds_packet.specs.declared.status.Reset.{Reset}
 use Rattle.tds_packet.specs.declared.status.Reset.TheVariants.{Full, KeepTransaction}
 use Rattle.tds_relay.specs.declared.desk.Hold.{Hold}
 use Rattle.tds_relay.specs.Desk as desk
 use Rattle.tds_relay.specs.Desk.{find_key}
-use Rattle.tds_relay.specs.Giving.{Visit, house_in, moves_in}
+use Rattle.tds_relay.specs.Giving.{Visit, moves_in}
 use Rattle.tds_relay.specs.Hall as hall
 use Rattle.tds_relay.specs.Hall.{AsksFor, End, Open, Over, Hall, HasNoTransaction, MayMove, Move, end_at, moved, moved_all, new_hall}
 use Rattle.tds_relay.specs.House.{House, Step, Admits, after_all, new_house}

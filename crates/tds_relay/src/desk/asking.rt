@@ -10,7 +10,7 @@ ghost use Rattle.tds_relay.specs.Sparing.{OthersHold};
 ghost use Rattle.tds_relay.specs.Ties.{Turns, desk_in};
 ghost use Rattle.tds_relay.specs.Walkers.{AllStand};
 
-use super::lists::find_key;
+use super::holds::find_key;
 use super::{Desk, Hold};
 use tds_client::{Cancelled, MessageKind};
 use tds_service::Refusal;

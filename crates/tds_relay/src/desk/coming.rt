@@ -1,15 +1,17 @@
 //! What comes on connections, and whose it is.
-ghost use Rattle.std.specs.Prelude.{◌≡◌, ◌≢◌, ℕ, List, Some, IfOk, OnOk};
+ghost use Rattle.std.specs.Prelude.{◌≡◌, ◌≢◌, ℕ, List, Some, IfOk, OnOk, if◌then◌else◌};
 ghost use Rattle.tds_service.specs.Table.{reading_on, service_in};
+ghost use Rattle.tds_relay.specs.Cleaning.{MayClean};
 ghost use Rattle.tds_relay.specs.Desk.{Comes, Way, cleaned_by, settles, whose, whose_by};
 ghost use Rattle.tds_relay.specs.Fronts.{IsWhat};
 ghost use Rattle.tds_relay.specs.Hall.{done_by};
 ghost use Rattle.tds_relay.specs.Ties.{Makes, Settles, Turns, desk_in, part_on};
 ghost use Rattle.tds_relay.specs.Walkers.{AllRead, AllStand};
+ghost use Rattle.tds_relay.specs.declared.desk.coming.What.TheVariants.{Closed, Goes};
 
 use super::Desk;
-use super::leaving::{clean, forget};
-use super::lists::{find_lease, remove_number};
+use super::holds::find_lease;
+use super::leaving::{clean, cleaning_text, forget};
 use crate::NoMemory;
 use crate::fault::Broken;
 use std::alloc::AllocError;
@@ -81,7 +83,9 @@ fn unheard(refusal: Refusal) -> Result<Heard, NoMemory>
 }
 
 /// What is left of a connection that was cleaned, or is being cleaned.
-fn what_of(is_there: bool) -> What {
+fn what_of(is_there: bool) -> What
+    ensures { result ≡ (if is_there then Goes else Closed) }
+{
     if is_there { What::Goes } else { What::Closed }
 }
 
@@ -104,6 +108,8 @@ impl Desk {
             (part_on (reading_on number self.old.service) bytes.now ends))) }
         ensures read { OnOk result (AllRead number ends bytes.now self.old.service
             self.new.service) }
+        ensures cleans { IfOk result (λ heard. heard.what ≢ Closed
+            → MayClean out.old.items out.new.items) }
     {
         let came = match self.service.heard(number, bytes, ends) {
             Ok(came) => came,
@@ -151,6 +157,8 @@ impl Desk {
         ensures what { IfOk result (λ heard. (key : ℕ)
             → whose_by lease (desk_in self.old).holds ≡ Some key → heard ≡ what) }
         ensures stand { OnOk result (AllStand self.old.service self.new.service) }
+        ensures cleans { IfOk result (λ heard. heard ≢ Closed
+            → MayClean out.old.items out.new.items) }
     {
         match lease {
             Some(lease) => match find_lease(&self.holds, lease) {
@@ -161,7 +169,7 @@ impl Desk {
                 }
             },
             None => {
-                let is_there = clean(&mut self.service, number, &self.text, out)?;
+                let is_there = clean(&mut self.service, number, cleaning_text(), out)?;
                 Ok(what_of(is_there))
             }
         }

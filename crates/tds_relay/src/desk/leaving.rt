@@ -1,13 +1,16 @@
 //! Connections that are let go, and cleaned; that come without being asked for; and that are lost.
-ghost use Rattle.std.specs.Prelude.{◌≡◌, [], ℕ, Bool, IfOk, None, OnOk};
-ghost use Rattle.tds_service.specs.Table.{KeepsClientsOff, reading_on, service_in};
+ghost use Rattle.std.specs.Prelude.{◌≡◌, [], ℕ, Bool, IfOk, IfSome, None, OnOk, true};
+ghost use Rattle.tds_service.specs.Table.{KeepsClientsOff, client_of, reading_on, service_in};
+ghost use Rattle.tds_relay.specs.Cleaning.{GoesOutAtEnd, GoesOutAtAny, GoesOutBy, IsBatch, IsPutBehind};
 ghost use Rattle.tds_relay.specs.Desk.{Brings, Leaves, Loses, Renews, Way, cleaning, find_key, find_number};
 ghost use Rattle.tds_relay.specs.Desk.{key_of, releasing};
 ghost use Rattle.tds_relay.specs.Sparing.{AsideStay, OffHold, OthersHold};
 ghost use Rattle.tds_relay.specs.Ties.{IsNumberOf, Makes, Turns, desk_in, is_sent, lost_by};
 ghost use Rattle.tds_relay.specs.Walkers.{AllStand, IsLed};
+ghost use Rattle.tds_relay.specs.Words.{text_of_cleaning};
 
-use super::lists::{find_key, find_number, remove_key, remove_lease, remove_number};
+use super::holds::{find_key, find_number, remove_lease, remove_number};
+use super::lists::remove_key;
 use super::{Desk, Hold};
 use crate::NoMemory;
 use std::alloc::AllocError;
@@ -30,6 +33,13 @@ pub enum Renewed {
     NotKept,
     /// The connection of this number is to be closed.
     Closed(u64),
+}
+
+/// What a cleaning asks for, of two bytes a unit: the reset that goes with it leaves the isolation level as it is.
+pub(super) fn cleaning_text() -> &'static [u8]
+    ensures { result.now ≡ text_of_cleaning }
+{
+    b"s\0e\0t\0 \0t\0r\0a\0n\0s\0a\0c\0t\0i\0o\0n\0 \0i\0s\0o\0l\0a\0t\0i\0o\0n\0 \0l\0e\0v\0e\0l\0 \0r\0e\0a\0d\0 \0c\0o\0m\0m\0i\0t\0t\0e\0d\0"
 }
 
 /// The service has this connection no more.
@@ -61,6 +71,8 @@ pub(super) fn clean(
         (service_in service.new) out.old.items out.new.items) }
     ensures stand { OnOk result (AllStand service.old service.new) }
     ensures aside { OnOk result ((but : ℕ) → AsideStay but number service.old service.new) }
+    ensures puts { IfOk result (λ is_there. is_there ≡ true
+        → IsPutBehind (IsBatch text.now) out.old.items out.new.items) }
 {
     let Ok(lent) = service.clean(number) else {
         forget(service, number)?;
@@ -93,6 +105,9 @@ fn release(
         (service_in service.old) (service_in service.new) out.old.items out.new.items) }
     ensures stand { OnOk result (AllStand service.old service.new) }
     ensures aside { OnOk result (AsideStay hold.lease hold.number service.old service.new) }
+    ensures ends { IfOk result (λ is_there. is_there ≡ true
+        → IsPutBehind (GoesOutAtEnd text.now (client_of hold.lease service.old))
+        out.old.items out.new.items) }
 {
     match service.give_back(hold.lease, out) {
         Ok((_, Rest::Free)) => clean(service, hold.number, text, out),
@@ -116,13 +131,15 @@ impl Desk {
             IsNumberOf (find_key key (desk_in self.old).holds) left) }
         ensures stand { OnOk result (AllStand self.old.service self.new.service) }
         ensures others { OnOk result (OthersHold key self.old self.new) }
+        ensures ends { IfOk result (λ left. GoesOutBy self.old.service
+            (find_key key (desk_in self.old).holds) left out.old.items out.new.items) }
     {
         remove_key(&mut self.line, key);
         let Some(hold) = find_key(&self.holds, key) else {
             return Ok(None);
         };
         remove_lease(&mut self.holds, hold.lease);
-        let is_there = release(&mut self.service, hold, &self.text, out)?;
+        let is_there = release(&mut self.service, hold, cleaning_text(), out)?;
         Ok(Some(Left {
             number: hold.number,
             is_there,
@@ -135,6 +152,8 @@ impl Desk {
             × Turns (Brings gives way) (desk_in self.old) (desk_in self.new)
             out.old.items out.new.items) }
         ensures stand { OnOk result (AllStand self.old.service self.new.service) }
+        ensures ends { IfOk result (λ left. IfSome left
+            (GoesOutAtAny out.old.items out.new.items)) }
     {
         let lent = match self.service.lease() {
             Ok(lent) => lent,
@@ -146,7 +165,7 @@ impl Desk {
             lease: lent.lease,
             number: lent.number,
         };
-        let is_there = release(&mut self.service, hold, &self.text, out)?;
+        let is_there = release(&mut self.service, hold, cleaning_text(), out)?;
         Ok(Some(Left {
             number: lent.number,
             is_there,

@@ -1,5 +1,5 @@
 //! What applications say: requests, and cancels.
-ghost use Rattle.std.specs.Prelude.{◌≡◌, [], Bool, IfNone, IfOk, IfSome, OnOk, Some, drop, false, true};
+ghost use Rattle.std.specs.Prelude.{◌≡◌, [], Bool, IfNone, None, IfOk, IfSome, OnOk, Some, drop, false, true};
 ghost use Rattle.slab.specs.Slab.{get};
 ghost use Rattle.tds_relay.specs.Asking.{Asks, AsksOn, IfAsks, IsUnderway, waits_of};
 ghost use Rattle.tds_client.specs.Streams.{packets_are};
@@ -8,13 +8,16 @@ ghost use Rattle.tds_relay.specs.Bodies.{Begins, Body, Carries, CarriesOn, Grows
 ghost use Rattle.tds_relay.specs.Bodies.{body_of, last_of};
 ghost use Rattle.tds_relay.specs.Closings.{ClosesOnly, IsNoRequest, Itself, ItselfOrWaiting};
 ghost use Rattle.tds_relay.specs.Closings.{register_in};
+ghost use Rattle.tds_relay.specs.Desk.{find_key};
+ghost use Rattle.tds_relay.specs.Few.{Few, NobodyWaits};
 ghost use Rattle.tds_relay.specs.Fronts.{FedOn, Moved, ends_in, given_by, hall_in, house_in};
 ghost use Rattle.tds_relay.specs.Hall.{AsksFor, AsksToPart, IfAsked, end_at};
 ghost use Rattle.tds_relay.specs.House.{Steps};
 ghost use Rattle.tds_relay.specs.Posts.{names_in, posts_in};
 ghost use Rattle.tds_relay.specs.Reads.{Opens, Stays};
 ghost use Rattle.tds_relay.specs.Taking.{Tells, TellsOn};
-ghost use Rattle.tds_relay.specs.Ties.{Application, Goes, IsReached, NobodyWaits, desk_in};
+ghost use Rattle.tds_relay.specs.Ties.{Application, Goes, IsReached, desk_in};
+ghost use Rattle.tds_relay.specs.Waiting.{KeepsInLine};
 ghost use Rattle.tds_relay.specs.Walkers.{AllStand};
 
 use super::Relay;
@@ -39,7 +42,9 @@ impl Relay {
             (house_in self.new)) }
         ensures asks { OnOk result (Asks key (house_in self.old) piece.now []
             self.new.links.items (house_in self.new)) }
-        ensures served { OnOk result (NobodyWaits (desk_in self.new.desk)) }
+        ensures served { OnOk result (NobodyWaits self.new) }
+        ensures few { OnOk result (Few self.old.most self.old.links.items
+            self.new.links.items) }
         ensures opens { OnOk result (Opens self.old.links.items self.new.links.items) }
         ensures stand { OnOk result (AllStand self.old.desk.service
             self.new.desk.service) }
@@ -215,6 +220,8 @@ impl Relay {
         ensures stand { OnOk result (AllStand self.old.desk.service
             self.new.desk.service) }
         ensures body { OnOk result (Starts (body_of key self.old) (body_of key self.new)) }
+        ensures stays { find_key key (desk_in self.old.desk).holds ≡ None
+            → OnOk result (body_of key self.new ≡ body_of key self.old) }
         ensures closes { OnOk result (ClosesOnly (Itself key)
             (register_in self.old) (register_in self.new)) }
     {
@@ -325,6 +332,9 @@ impl Relay {
         ensures body { OnOk result ((mid : Body)
             × Grows whole bytes.now (body_of key self.old) mid
             × Starts mid (body_of key self.new)) }
+        ensures keeps { find_key key (desk_in self.old.desk).holds ≡ None
+            → OnOk result (KeepsInLine whole bytes.now (get self.old.applications key)
+            (body_of key self.new)) }
         ensures closes { OnOk result (ClosesOnly (Itself key)
             (register_in self.old) (register_in self.new)) }
     {

@@ -1,29 +1,33 @@
 //! What comes on connections.
-ghost use Rattle.std.specs.Prelude.{◌≡◌, ◌+◌, ◌&&◌, ℕ, not, None, Some, drop, false, length, true};
+ghost use Rattle.std.specs.Prelude.{◌≡◌, ◌≢◌, ◌+◌, ◌&&◌, ℕ, not, None, Some, drop, false, length, true};
 ghost use Rattle.std.specs.Prelude.{IfOk, IsNone, OnOk};
 ghost use Rattle.tds_service.specs.Table.{reading_on};
 ghost use Rattle.tds_relay.specs.Bodies.{AskAsBefore, Body, body_in};
-ghost use Rattle.tds_relay.specs.Coming.{AllAlong, MayBeDone};
+ghost use Rattle.tds_relay.specs.Closings.{Anybody, ClosesOnly, but_told, is_shut};
+ghost use Rattle.tds_relay.specs.Closings.{register_in};
+ghost use Rattle.tds_relay.specs.Coming.{AllAlong};
 ghost use Rattle.tds_relay.specs.Faults.{IsHeaderOf};
+ghost use Rattle.tds_relay.specs.Few.{Few, NobodyWaits, NoneNew};
 ghost use Rattle.tds_relay.specs.Fronts.{Moved, end_of, ends_in, hall_in, hall_of_ends, told_by, house_in, house_of};
 ghost use Rattle.tds_relay.specs.Fronts.{house_with};
-ghost use Rattle.tds_relay.specs.Hall.{change_end, change_whose, end_at, told};
+ghost use Rattle.tds_relay.specs.Hall.{told};
 ghost use Rattle.tds_relay.specs.Handing.{Brings, HearsBy, Passes, news_for, fed};
-ghost use Rattle.tds_relay.specs.House.{Steps, is_said};
+ghost use Rattle.tds_relay.specs.House.{Steps};
 ghost use Rattle.tds_relay.specs.Posts.{names_in, post_of, posts_in};
 ghost use Rattle.tds_relay.specs.Reads.{Comes, Continues, OpensOthers, Stays, StreamsAll, if_heard, open_at};
-ghost use Rattle.tds_relay.specs.Reads.{reader_at};
+ghost use Rattle.tds_relay.specs.Reads.{reader_at, seen_at, waits_on};
 ghost use Rattle.tds_relay.specs.Bounds.{IsRoom};
 ghost use Rattle.tds_relay.specs.Ordering.{StayOrdered};
-ghost use Rattle.tds_relay.specs.Ties.{Connection, Goes, IsReached, NobodyWaits, desk_in};
+ghost use Rattle.tds_relay.specs.Sending.{sending_at};
+ghost use Rattle.tds_relay.specs.Ties.{Connection, Goes, IsReached, desk_in};
+ghost use Rattle.tds_relay.specs.Waiting.{IsNotAcknowledged};
 ghost use Rattle.tds_relay.specs.Waking.{HandsTo, IsWoken, PutsFor, Wakes};
 ghost use Rattle.tds_relay.specs.Walkers.{AllStand, HasRead, ReadsBy};
-ghost use Rattle.tds_relay.specs.declared.desk.coming.What.TheVariants as whats;
 
 use super::Relay;
 use super::asking::behind;
 use crate::NoMemory;
-use crate::application::{Application, Asking};
+use crate::application::Application;
 use crate::desk::{Desk, Heard, What};
 use crate::fault::Refused;
 use crate::link::{Answer, Link, News};
@@ -41,7 +45,9 @@ impl Relay {
             ≡ names_in self.old.applications) }
         ensures steps { OnOk result (Steps (Connection number) (house_in self.old)
             (house_in self.new)) }
-        ensures served { OnOk result (NobodyWaits (desk_in self.new.desk)) }
+        ensures served { OnOk result (NobodyWaits self.new) }
+        ensures few { OnOk result (Few self.old.most self.old.links.items
+            self.new.links.items) }
         ensures comes { OnOk result (Comes number (open_at number self.old.links.items)
             (house_in self.old) self.old.desk.service piece.now
             (open_at number self.new.links.items) (house_in self.new) self.new.desk.service) }
@@ -52,6 +58,8 @@ impl Relay {
         ensures ordered { OnOk result (StayOrdered self.old.orders.items self.new.orders.items) }
         ensures wakes { OnOk result (Wakes (posts_in self.old.applications)
             self.new.applications self.new.orders.items) }
+        ensures closes { OnOk result (ClosesOnly Anybody
+            (but_told (register_in self.new) (register_in self.old)) (register_in self.new)) }
     {
         self.hear_all(number, piece)?;
         self.serve_line()
@@ -59,6 +67,7 @@ impl Relay {
 
     /// Hears them, packet by packet. A connection of which some aren't heard is lost.
     fn hear_all(&mut self, number: u64, piece: &[u8]) -> Result<(), NoMemory>
+        ensures none { OnOk result (NoneNew self.old.links.items self.new.links.items) }
         ensures goes { OnOk result (Goes (Connection number)
             (desk_in self.old.desk) (desk_in self.new.desk)) }
         ensures names { OnOk result (names_in self.new.applications
@@ -73,6 +82,8 @@ impl Relay {
         ensures ordered { OnOk result (StayOrdered self.old.orders.items self.new.orders.items) }
         ensures wakes { OnOk result (Wakes (posts_in self.old.applications)
             self.new.applications self.new.orders.items) }
+        ensures closes { OnOk result (ClosesOnly Anybody
+            (but_told (register_in self.new) (register_in self.old)) (register_in self.new)) }
     {
         let mut rest = piece;
         'taking: for _ in 0..=piece.len() {
@@ -89,6 +100,7 @@ impl Relay {
     /// Takes bytes up to the end of a packet, and hands on what is an application's. None where they
     /// are no packet of an answer. What comes on a connection that isn't open is nothing.
     fn hear(&mut self, number: u64, piece: &[u8]) -> Result<(usize, Option<Heard>), NoMemory>
+        ensures most { self.new.most ≡ self.old.most }
         ensures goes { OnOk result (Goes (Connection number)
             (desk_in self.old.desk) (desk_in self.new.desk)) }
         ensures names { OnOk result (names_in self.new.applications
@@ -107,6 +119,10 @@ impl Relay {
         ensures orders { self.new.orders.items ≡ self.old.orders.items }
         ensures puts { IfOk result (λ heard. PutsFor heard.1 (ends_in self.old.applications)
             (posts_in self.old.applications) (posts_in self.new.applications)) }
+        ensures same { OnOk result ((other : ℕ) → (sending_at other self.new.links.items
+            ≡ sending_at other self.old.links.items)
+            × (is_shut (seen_at other self.new.links.items)
+            ≡ is_shut (seen_at other self.old.links.items))) }
     {
         let Relay {
             desk,
@@ -145,6 +161,10 @@ impl Relay {
         ensures ordered { OnOk result (StayOrdered self.old.orders.items self.new.orders.items) }
         ensures wakes { OnOk result ((key : ℕ) → HandsTo heard key (ends_in self.old.applications)
             → IsWoken key self.new.applications self.new.orders.items) }
+        ensures others { IsNotAcknowledged heard → OnOk result ((other : ℕ) → other ≢ number
+            → waits_on other self.new.links.items ≡ waits_on other self.old.links.items) }
+        ensures closes { OnOk result (ClosesOnly Anybody
+            (register_in self.old) (register_in self.new)) }
     {
         let Some(heard) = heard else {
             return self.lose(number);
@@ -169,90 +189,6 @@ impl Relay {
                 self.counts.failed = self.counts.failed.saturating_add(1);
                 self.close_link(number)
             }
-        }
-    }
-
-    /// What came of a packet is told to its application's end. Answers whether this waited for the
-    /// acknowledgement of what it had taken back.
-    fn tell(&mut self, heard: Heard) -> Result<bool, NoMemory>
-        ensures desk { self.new.desk ≡ self.old.desk }
-        ensures kept { OnOk result (posts_in self.new.applications
-            ≡ posts_in self.old.applications) }
-        ensures ends { OnOk result (ends_in self.new.applications
-            ≡ change_whose heard.key (told heard.what) (ends_in self.old.applications)) }
-        ensures read { OnOk result (Stays self.old.links.items self.new.links.items) }
-        ensures asks { OnOk result (MayBeDone self.old.applications self.new.applications) }
-        ensures ordered { OnOk result (StayOrdered self.old.orders.items self.new.orders.items) }
-        ensures silent { IfOk result (λ resumes. resumes ≡ true → (key : ℕ)
-            → ¬ HandsTo (Some heard) key (ends_in self.old.applications)) }
-    {
-        let Some(key) = heard.key else {
-            return Ok(false);
-        };
-        match heard.what {
-            What::Goes => {
-                self.goes_on(key);
-                Ok(false)
-            }
-            What::Finished => {
-                self.answered(key);
-                Ok(false)
-            }
-            What::Acknowledged => Ok(self.acknowledged(key)),
-            What::Closed => {
-                self.end(key)?;
-                Ok(false)
-            }
-        }
-    }
-
-    /// A packet of an answer has come for an application.
-    fn goes_on(&mut self, key: usize)
-        ensures desk { self.new.desk ≡ self.old.desk }
-        ensures kept { posts_in self.new.applications ≡ posts_in self.old.applications }
-        ensures ends { ends_in self.new.applications
-            ≡ change_end key (told whats.Goes) (ends_in self.old.applications) }
-        ensures links { self.new.links.items ≡ self.old.links.items }
-        ensures orders { self.new.orders.items ≡ self.old.orders.items }
-        ensures asks { AskAsBefore self.old.applications self.new.applications }
-    {
-        match self.applications.get_mut(key) {
-            Some(application) => application.goes_on(),
-            None => {}
-        }
-    }
-
-    /// An application's request has its answer.
-    fn answered(&mut self, key: usize)
-        ensures desk { self.new.desk ≡ self.old.desk }
-        ensures kept { posts_in self.new.applications ≡ posts_in self.old.applications }
-        ensures ends { ends_in self.new.applications
-            ≡ change_end key (told whats.Finished) (ends_in self.old.applications) }
-        ensures links { self.new.links.items ≡ self.old.links.items }
-        ensures orders { self.new.orders.items ≡ self.old.orders.items }
-        ensures asks { MayBeDone self.old.applications self.new.applications }
-    {
-        match self.applications.get_mut(key) {
-            Some(application) => application.answered(),
-            None => {}
-        }
-    }
-
-    /// An application's attention has the acknowledgement; or what it took back has. Answers whether that.
-    fn acknowledged(&mut self, key: usize) -> bool
-        ensures desk { self.new.desk ≡ self.old.desk }
-        ensures kept { posts_in self.new.applications ≡ posts_in self.old.applications }
-        ensures ends { ends_in self.new.applications
-            ≡ change_end key (told whats.Acknowledged) (ends_in self.old.applications) }
-        ensures links { self.new.links.items ≡ self.old.links.items }
-        ensures orders { self.new.orders.items ≡ self.old.orders.items }
-        ensures asks { MayBeDone self.old.applications self.new.applications }
-        ensures silent { result ≡ true
-            → is_said whats.Acknowledged (end_at (ends_in self.old.applications) key) ≡ false }
-    {
-        match self.applications.get_mut(key) {
-            Some(application) => application.acknowledged(),
-            None => false,
         }
     }
 }

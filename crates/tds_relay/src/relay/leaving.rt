@@ -3,21 +3,24 @@ ghost use Rattle.std.specs.Prelude.{◌≡◌, ◌≢◌, ℕ, None, OnOk, Some,
 ghost use Rattle.slab.specs.Slab.{get};
 ghost use Rattle.tds_relay.specs.Apart.{Alone, LosesOnly};
 ghost use Rattle.tds_relay.specs.Bodies.{AskAsBefore, AskOn, Body, Closed, body_in};
+ghost use Rattle.tds_relay.specs.Cleaning.{OfItsHold, WaitsAtEnd, WaitsBehindEnd};
 ghost use Rattle.tds_relay.specs.Desk.{Loses, find_number, key_of, turn};
+ghost use Rattle.tds_relay.specs.Few.{Few, NobodyWaits};
 ghost use Rattle.tds_relay.specs.Fronts.{LetsGoFirst, Moved, MovedOn, ends_in, hall_in, hall_of_ends};
 ghost use Rattle.tds_relay.specs.Fronts.{house_in};
 ghost use Rattle.tds_relay.specs.Hall.{change_end, change_whose, closes, closes_for, end_at, holder};
 ghost use Rattle.tds_relay.specs.House.{Steps, StepsOn};
 ghost use Rattle.tds_relay.specs.Closings.{ClosesOnly, IsWaiting, IsWho, Itself, Nobody, WhoOrWaiting};
 ghost use Rattle.tds_relay.specs.Closings.{register_in, without_key};
+ghost use Rattle.tds_relay.specs.Lent.{KeepsAnswers};
 ghost use Rattle.tds_relay.specs.Law.{closing};
 ghost use Rattle.tds_relay.specs.Posts.{names_in, posts_in};
 ghost use Rattle.tds_relay.specs.Ordering.{StayOrdered};
-ghost use Rattle.tds_relay.specs.Reads.{Opens, Stays, reader_at, waits_on};
+ghost use Rattle.tds_relay.specs.Reads.{Opens, Stays, open_waits, reader_at, waits_on};
 ghost use Rattle.tds_relay.specs.Sparing.{AllGo, AllRest, OthersRest};
 ghost use Rattle.tds_relay.specs.Taking.{IsDeaf};
 ghost use Rattle.tds_relay.specs.Ties.{Application, Goes, GoesOn, IsReached, Leaving};
-ghost use Rattle.tds_relay.specs.Ties.{NobodyWaits, desk_in};
+ghost use Rattle.tds_relay.specs.Ties.{desk_in};
 ghost use Rattle.tds_relay.specs.Walkers.{AllStand};
 
 use super::Relay;
@@ -36,7 +39,9 @@ impl Relay {
             (house_in self.new)) }
         ensures names { OnOk result (names_in self.new.applications
             ≡ slice_set (names_in self.old.applications) key None) }
-        ensures served { OnOk result (NobodyWaits (desk_in self.new.desk)) }
+        ensures served { OnOk result (NobodyWaits self.new) }
+        ensures few { OnOk result (Few self.old.most self.old.links.items
+            self.new.links.items) }
         ensures opens { OnOk result (Opens self.old.links.items self.new.links.items) }
         ensures stand { OnOk result (AllStand self.old.desk.service
             self.new.desk.service) }
@@ -44,6 +49,8 @@ impl Relay {
         ensures ordered { OnOk result (StayOrdered self.old.orders.items self.new.orders.items) }
         ensures closes { OnOk result (ClosesOnly (IsWaiting (desk_in self.old.desk).line)
             (without_key key (register_in self.old)) (register_in self.new)) }
+        ensures ends { IsReached (desk_in self.old.desk) → OnOk result (OfItsHold WaitsBehindEnd key
+            self.old (λ number. open_waits number self.new.links.items)) }
     {
         let _ = self.applications.try_remove(key).is_some();
         self.release(key)?;
@@ -58,7 +65,9 @@ impl Relay {
         ensures steps { OnOk result (StepsOn (house_in self.old) (house_in self.new)) }
         ensures names { OnOk result (names_in self.new.applications
             ≡ names_in self.old.applications) }
-        ensures served { OnOk result (NobodyWaits (desk_in self.new.desk)) }
+        ensures served { OnOk result (NobodyWaits self.new) }
+        ensures few { OnOk result (Few self.old.most self.old.links.items
+            self.new.links.items) }
         ensures opens { OnOk result (Opens self.old.links.items self.new.links.items) }
         ensures stand { OnOk result (AllStand self.old.desk.service
             self.new.desk.service) }
@@ -183,6 +192,8 @@ impl Relay {
         ensures ordered { OnOk result (StayOrdered self.old.orders.items self.new.orders.items) }
         ensures closes { OnOk result (ClosesOnly Nobody
             (register_in self.old) (register_in self.new)) }
+        ensures ends { IsReached (desk_in self.old.desk) → OnOk result (OfItsHold WaitsAtEnd key
+            self.old (λ number. waits_on number self.new.links.items)) }
     {
         self.outbox.clear();
         let left = self.desk.leave(key, &mut self.outbox)?;
@@ -223,6 +234,9 @@ impl Relay {
         ensures line { OnOk result ((desk_in self.new.desk).line
             ≡ (desk_in self.old.desk).line) }
         ensures ordered { OnOk result (StayOrdered self.old.orders.items self.new.orders.items) }
+        ensures others { OnOk result ((other : ℕ) → other ≢ number
+            → waits_on other self.new.links.items ≡ waits_on other self.old.links.items) }
+        ensures answers { OnOk result (KeepsAnswers self.old.links.items self.new.links.items) }
         ensures closes { OnOk result (ClosesOnly (IsWho (holder (desk_in self.old.desk) number))
             (register_in self.old) (register_in self.new)) }
     {
@@ -245,6 +259,7 @@ impl Relay {
         ensures asks { OnOk result (AskOn self.old.applications self.new.applications) }
         ensures alone { OnOk result (Alone key (hall_in self.old) (hall_in self.new)) }
         ensures ordered { OnOk result (StayOrdered self.old.orders.items self.new.orders.items) }
+        ensures answers { OnOk result (KeepsAnswers self.old.links.items self.new.links.items) }
         ensures closes { OnOk result (ClosesOnly (Itself key)
             (register_in self.old) (register_in self.new)) }
     {
@@ -273,13 +288,11 @@ impl Relay {
         ensures others { OnOk result ((other : ℕ) → other ≢ number
             → waits_on other self.new.links.items ≡ waits_on other self.old.links.items) }
         ensures ordered { OnOk result (StayOrdered self.old.orders.items self.new.orders.items) }
+        ensures answers { OnOk result (KeepsAnswers self.old.links.items self.new.links.items) }
         ensures closes { OnOk result (ClosesOnly Nobody
             (register_in self.old) (register_in self.new)) }
     {
-        let tag = match self.link(number) {
-            Some(link) => link.tag,
-            None => None,
-        };
+        let tag = self.tag_on(number);
         remove_link(&mut self.links, number);
         match tag {
             Some(tag) => {
@@ -305,6 +318,7 @@ impl Relay {
         ensures shuts { OnOk result ((other : ℕ) → key ≡ Some other → (goes : Body)
             → body_in (get self.new.applications other) goes ≡ Closed) }
         ensures ordered { OnOk result (StayOrdered self.old.orders.items self.new.orders.items) }
+        ensures answers { OnOk result (KeepsAnswers self.old.links.items self.new.links.items) }
         ensures closes { OnOk result (ClosesOnly (IsWho key)
             (register_in self.old) (register_in self.new)) }
     {

@@ -1,28 +1,30 @@
 //! Connections that are lent to those who wait, opened, and asked.
-ghost use Rattle.std.specs.Prelude.{◌≡◌, ◌≢◌, ◌⊎◌, ◌++◌, [], ℕ, Bool, IfNone, IfOk, IfSome, IsSome, List, None, OnOk, Some};
+ghost use Rattle.std.specs.Prelude.{◌≡◌, ◌≢◌, ◌⊎◌, ◌++◌, [], ℕ, Bool, IfOk, IsSome, List, None, OnOk, Some};
 ghost use Rattle.std.specs.Prelude.{false, option_map, true};
 ghost use Rattle.slab.specs.Slab.{get};
 ghost use Rattle.tds_packet.specs.declared.status.Reset.TheVariants.{KeepTransaction};
 ghost use Rattle.tds_relay.specs.Apart.{Alone, UnlessServed};
 ghost use Rattle.tds_relay.specs.Asking.{IsUnderway, waits_of};
 ghost use Rattle.tds_relay.specs.Bodies.{AskAsBefore, Grows, Starts, body_of, going_of, held_of};
-ghost use Rattle.tds_relay.specs.Bringing.{IsNotBrought};
 ghost use Rattle.tds_relay.specs.Closings.{ClosesOnly, IsWaiting, IsWho, Itself, Nobody, WhoOrWaiting};
 ghost use Rattle.tds_relay.specs.Closings.{register_in};
 ghost use Rattle.tds_relay.specs.Desk.{find_number, key_of};
+ghost use Rattle.tds_relay.specs.Few.{Few, FewBy, NobodyWaits};
 ghost use Rattle.tds_relay.specs.Fronts.{MovedOn, ends_in, hall_in, house_in};
 ghost use Rattle.tds_relay.specs.Hall.{AsksFor, IsReset, end_at, holder};
-ghost use Rattle.tds_relay.specs.House.{Steps, StepsOn};
+ghost use Rattle.tds_relay.specs.House.{StepsOn};
+ghost use Rattle.tds_relay.specs.Lent.{BeginsOn, IsSizedOn, KeepsAnswers};
 ghost use Rattle.tds_relay.specs.Posts.{names_in, posts_in};
-ghost use Rattle.tds_relay.specs.Reads.{IsCalled, Opens, OpensFirst, OpensOne, Stays, named_seen, open_at};
-ghost use Rattle.tds_relay.specs.Reads.{opened_at, opened_seen, seen_at, waits_on};
+ghost use Rattle.tds_relay.specs.Reads.{Opens, OpensOne, Stays, named_seen, open_at};
+ghost use Rattle.tds_relay.specs.Cutting.{at_its_beginning};
+ghost use Rattle.tds_relay.specs.Reads.{answer_at, bytes_on, link_at, opened_at, opened_seen, seen_at, waits_on};
 ghost use Rattle.tds_relay.specs.Ordering.{StayOrdered};
 ghost use Rattle.tds_relay.specs.Sparing.{AllGo, AllRest, IsHeldBack, IsUnkept, OthersRest};
 ghost use Rattle.tds_relay.specs.Sparing.{StartsOn};
 ghost use Rattle.tds_relay.specs.Taking.{IsDeaf};
-ghost use Rattle.tds_relay.specs.Ties.{Goes, GoesOn, IsReached, Neither, NobodyWaits};
-ghost use Rattle.tds_relay.specs.Ties.{desk_in};
+ghost use Rattle.tds_relay.specs.Ties.{Goes, GoesOn, IsReached, desk_in};
 ghost use Rattle.tds_relay.specs.Told.{TellsTheSame};
+ghost use Rattle.tds_relay.specs.Waiting.{GoesOrWaits};
 ghost use Rattle.tds_relay.specs.Walkers.{AllStand};
 
 use super::Relay;
@@ -35,53 +37,14 @@ use crate::order::Order;
 use std::alloc::AllocError;
 
 impl Relay {
-    /// A connection that is open and logged in has come before any application asked: the first one of
-    /// all. It is cleaned first. Answers its number, or none where it isn't wanted.
-    #[tactic(auto, using(crate::proofs::steps::Reaching::reaches_turn, crate::proofs::steps::Reaching::reaches_turned, crate::proofs::spared::Resting::go_refl, crate::proofs::spared::Ordered::ordered_refl))]
-    pub fn bring(&mut self, tag: usize) -> Result<Option<u64>, NoMemory>
-        ensures goes { OnOk result (Goes Neither (desk_in self.old.desk) (desk_in self.new.desk)) }
-        ensures steps { OnOk result (Steps Neither (house_in self.old) (house_in self.new)) }
-        ensures kept { OnOk result (posts_in self.new.applications
-            ≡ posts_in self.old.applications) }
-        ensures opens { IfOk result (λ number.
-            OpensFirst number self.old.links.items self.new.links.items) }
-        ensures named { IfOk result (λ brought. IfSome brought (λ number.
-            IsCalled true (Some tag) (seen_at number self.new.links.items))) }
-        ensures names { OnOk result (names_in self.new.applications
-            ≡ names_in self.old.applications) }
-        ensures stand { OnOk result (AllStand self.old.desk.service
-            self.new.desk.service) }
-        ensures goes_on { OnOk result (AllGo self.old self.new) }
-        ensures ordered { OnOk result (StayOrdered self.old.orders.items self.new.orders.items) }
-        ensures closes { OnOk result (ClosesOnly (IsWaiting (desk_in self.old.desk).line)
-            (register_in self.old) (register_in self.new)) }
-        ensures tries { IfOk result (λ brought. IfNone brought (IsNotBrought self.old.links.items
-            (desk_in self.old.desk) (desk_in self.new.desk))) }
-    {
-        if !self.links.is_empty() {
-            return Ok(None);
-        }
-        self.outbox.clear();
-        let Some(left) = self.desk.bring(&mut self.outbox)? else {
-            return Ok(None);
-        };
-        if !left.is_there {
-            return Ok(None);
-        }
-        let mut link = self.new_link(left.number)?;
-        link.tag = Some(tag);
-        link.is_open = true;
-        self.links.push(link)?;
-        self.send_unheld(left.number)?;
-        self.serve_line()?;
-        Ok(Some(left.number))
-    }
-
-    fn new_link(&self, number: u64) -> Result<Link, NoMemory>
+    pub(super) fn new_link(&self, number: u64) -> Result<Link, NoMemory>
         ensures closed { IfOk result (λ link. link.is_open ≡ false) }
         ensures number { IfOk result (λ link. link.number ≡ number) }
         ensures unread { IfOk result (λ link. link.reader.taken ≡ []) }
         ensures unnamed { IfOk result (λ link. link.tag ≡ None) }
+        ensures nothing { IfOk result (λ link. bytes_on link ≡ []) }
+        ensures sized { IfOk result (λ link. (link.reader.size ≡ self.now.size)
+            × (link.answer.size ≡ self.now.size)) }
     {
         Link::new(self.alloc, number, self.size, self.features)
     }
@@ -106,7 +69,9 @@ impl Relay {
     pub fn opened(&mut self, number: u64) -> Result<(), NoMemory>
         ensures goes { OnOk result (GoesOn (desk_in self.old.desk) (desk_in self.new.desk)) }
         ensures steps { OnOk result (StepsOn (house_in self.old) (house_in self.new)) }
-        ensures served { OnOk result (NobodyWaits (desk_in self.new.desk)) }
+        ensures served { OnOk result (NobodyWaits self.new) }
+        ensures few { OnOk result (Few self.old.most self.old.links.items
+            self.new.links.items) }
         ensures opens { OnOk result (OpensOne number self.old.links.items self.new.links.items) }
         ensures names { OnOk result (names_in self.new.applications
             ≡ names_in self.old.applications) }
@@ -174,7 +139,9 @@ impl Relay {
         ensures kept { OnOk result (posts_in self.new.applications
             ≡ posts_in self.old.applications) }
         ensures moves { OnOk result (MovedOn (hall_in self.old) (hall_in self.new)) }
-        ensures served { OnOk result (NobodyWaits (desk_in self.new.desk)) }
+        ensures served { OnOk result (NobodyWaits self.new) }
+        ensures few { OnOk result (Few self.old.most self.old.links.items
+            self.new.links.items) }
         ensures opens { OnOk result (Opens self.old.links.items self.new.links.items) }
         ensures stand { OnOk result (AllStand self.old.desk.service
             self.new.desk.service) }
@@ -185,6 +152,9 @@ impl Relay {
             (register_in self.old) (register_in self.new)) }
     {
         'line: for _ in 0..u64::MAX {
+            if self.is_full() {
+                return Ok(());
+            }
             match self.desk.serve()? {
                 Some(served) => self.lend(served)?,
                 None => return Ok(()),
@@ -201,6 +171,7 @@ impl Relay {
             ≡ posts_in self.old.applications) }
         ensures moves { OnOk result (MovedOn (hall_in self.old) (hall_in self.new)) }
         ensures opens { OnOk result (Opens self.old.links.items self.new.links.items) }
+        ensures few { OnOk result (FewBy served.had self.old.links.items self.new.links.items) }
         ensures underway { (whole : Bool) → served.had ≡ true
             → waits_of (get self.old.applications served.hold.key) ≡ Some whole
             → OnOk result (IsUnderway whole self.new.links.items served.hold.key
@@ -211,6 +182,11 @@ impl Relay {
         ensures alone { OnOk result (Alone served.hold.key (hall_in self.old)
             (hall_in self.new)) }
         ensures ordered { OnOk result (StayOrdered self.old.orders.items self.new.orders.items) }
+        ensures begins { served.had ≡ true → OnOk result (BeginsOn served.hold.number
+            self.old.links.items self.new.links.items) }
+        ensures sized { served.had ≡ false
+            → link_at served.hold.number self.old.links.items ≡ None
+            → OnOk result (IsSizedOn self.old.size served.hold.number self.new.links.items) }
         ensures closes { OnOk result (ClosesOnly (Itself served.hold.key)
             (register_in self.old) (register_in self.new)) }
     {
@@ -233,6 +209,8 @@ impl Relay {
         ensures kept { posts_in self.new.applications ≡ posts_in self.old.applications }
         ensures ends { ends_in self.new.applications ≡ ends_in self.old.applications }
         ensures read { Stays self.old.links.items self.new.links.items }
+        ensures begins { answer_at number self.new.links.items
+            ≡ option_map at_its_beginning (answer_at number self.old.links.items) }
         ensures rests { AllRest self.old self.new }
         ensures orders { self.new.orders.items ≡ self.old.orders.items }
         ensures closes { ClosesOnly Nobody (register_in self.old) (register_in self.new) }
@@ -273,6 +251,8 @@ impl Relay {
             ⊎ IsHeldBack key self.old) }
         ensures alone { OnOk result (Alone key (hall_in self.old) (hall_in self.new)) }
         ensures ordered { OnOk result (StayOrdered self.old.orders.items self.new.orders.items) }
+        ensures placed { OnOk result (GoesOrWaits key self.new) }
+        ensures answers { OnOk result (KeepsAnswers self.old.links.items self.new.links.items) }
         ensures closes { OnOk result (ClosesOnly (Itself key)
             (register_in self.old) (register_in self.new)) }
     {
@@ -317,6 +297,7 @@ impl Relay {
             → OnOk result (AllRest self.old self.new) }
         ensures alone { OnOk result (Alone key (hall_in self.old) (hall_in self.new)) }
         ensures ordered { OnOk result (StayOrdered self.old.orders.items self.new.orders.items) }
+        ensures answers { OnOk result (KeepsAnswers self.old.links.items self.new.links.items) }
         ensures closes { OnOk result (ClosesOnly (Itself key)
             (register_in self.old) (register_in self.new)) }
     {
@@ -343,6 +324,7 @@ impl Relay {
         ensures gone { OnOk result (IsUnkept (body_of key self.new)) }
         ensures alone { OnOk result (Alone key (hall_in self.old) (hall_in self.new)) }
         ensures ordered { OnOk result (StayOrdered self.old.orders.items self.new.orders.items) }
+        ensures answers { OnOk result (KeepsAnswers self.old.links.items self.new.links.items) }
         ensures closes { OnOk result (ClosesOnly (Itself key)
             (register_in self.old) (register_in self.new)) }
     {
@@ -372,6 +354,7 @@ impl Relay {
         ensures others { OnOk result ((other : ℕ) → other ≢ number
             → waits_on other self.new.links.items ≡ waits_on other self.old.links.items) }
         ensures ordered { OnOk result (StayOrdered self.old.orders.items self.new.orders.items) }
+        ensures answers { OnOk result (KeepsAnswers self.old.links.items self.new.links.items) }
         ensures closes { OnOk result (ClosesOnly Nobody
             (register_in self.old) (register_in self.new)) }
     {

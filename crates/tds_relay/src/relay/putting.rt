@@ -6,6 +6,7 @@ ghost use Rattle.tds_relay.specs.Bodies.{AskAsBefore, ClientPuts, PutsOn};
 ghost use Rattle.tds_relay.specs.Closings.{ClosesOnly, Itself, Nobody, register_in};
 ghost use Rattle.tds_relay.specs.Fronts.{MayPut, MovedOn, ends_in, goes_by, hall_in, puts};
 ghost use Rattle.tds_relay.specs.Hall.{IfOpen, change_end, end_at};
+ghost use Rattle.tds_relay.specs.Lent.{KeepsAnswers};
 ghost use Rattle.tds_relay.specs.Ordering.{StayOrdered};
 ghost use Rattle.tds_relay.specs.Posts.{posts_in};
 ghost use Rattle.tds_relay.specs.Reads.{Stays};
@@ -35,6 +36,7 @@ impl Relay {
             → OnOk result (OthersRest key self.old self.new) }
         ensures alone { OnOk result (Alone key (hall_in self.old) (hall_in self.new)) }
         ensures ordered { OnOk result (StayOrdered self.old.orders.items self.new.orders.items) }
+        ensures answers { OnOk result (KeepsAnswers self.old.links.items self.new.links.items) }
         ensures closes { OnOk result (ClosesOnly (Itself key)
             (register_in self.old) (register_in self.new)) }
     {

@@ -1,6 +1,7 @@
 //! What an application that took its request back asks next, once the server has acknowledged that.
-ghost use Rattle.std.specs.Prelude.{◌≡◌, true, OnOk};
+ghost use Rattle.std.specs.Prelude.{◌≡◌, ℕ, true, OnOk, Some};
 ghost use Rattle.tds_packet.specs.declared.status.Reset.TheVariants.{KeepTransaction};
+ghost use Rattle.tds_relay.specs.Closings.{Anybody, ClosesOnly, register_in};
 ghost use Rattle.tds_relay.specs.Coming.{AllAlong};
 ghost use Rattle.tds_relay.specs.Fronts.{Moved, ends_in, hall_in};
 ghost use Rattle.tds_relay.specs.Hall.{AsksFor, IfWhose, MayPart, end_at, holder};
@@ -8,6 +9,7 @@ ghost use Rattle.tds_relay.specs.Ordering.{StayOrdered};
 ghost use Rattle.tds_relay.specs.Posts.{posts_in};
 ghost use Rattle.tds_relay.specs.Reads.{Stays};
 ghost use Rattle.tds_relay.specs.Ties.{Connection, Goes, IsReached, desk_in};
+ghost use Rattle.tds_relay.specs.Waiting.{Resumes, StandsInLine};
 ghost use Rattle.tds_relay.specs.Walkers.{AllStand};
 
 use super::Relay;
@@ -29,6 +31,9 @@ impl Relay {
         ensures bodies { IsReached (desk_in self.old.desk)
             → OnOk result (AllAlong self.old self.new) }
         ensures ordered { OnOk result (StayOrdered self.old.orders.items self.new.orders.items) }
+        ensures resumes { OnOk result (Resumes key self.old self.new) }
+        ensures closes { OnOk result (ClosesOnly Anybody
+            (register_in self.old) (register_in self.new)) }
     {
         if self.asks_to_keep(key) {
             self.keep(number, key)
@@ -53,6 +58,8 @@ impl Relay {
         ensures bodies { IsReached (desk_in self.old.desk)
             → OnOk result (AllAlong self.old self.new) }
         ensures ordered { OnOk result (StayOrdered self.old.orders.items self.new.orders.items) }
+        ensures closes { OnOk result (ClosesOnly Anybody
+            (register_in self.old) (register_in self.new)) }
     {
         match self.desk.renew(key)? {
             Renewed::Kept(hold) => {
@@ -80,6 +87,10 @@ impl Relay {
         ensures bodies { IsReached (desk_in self.old.desk)
             → OnOk result (AllAlong self.old self.new) }
         ensures ordered { OnOk result (StayOrdered self.old.orders.items self.new.orders.items) }
+        ensures lines { OnOk result ((key : ℕ)
+            → holder (desk_in self.old.desk) number ≡ Some key → StandsInLine key self.new) }
+        ensures closes { OnOk result (ClosesOnly Anybody
+            (register_in self.old) (register_in self.new)) }
     {
         if !self.may_replace(number) {
             return self.lose(number);

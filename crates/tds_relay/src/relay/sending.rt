@@ -4,6 +4,7 @@ ghost use Rattle.slab.specs.Slab.{get};
 ghost use Rattle.tds_relay.specs.Bodies.{AskAsBefore, AskOn};
 ghost use Rattle.tds_relay.specs.Bounds.{most_for};
 ghost use Rattle.tds_relay.specs.Closings.{ClosesOnly, IsWho, Itself, Nobody, register_in};
+ghost use Rattle.tds_relay.specs.Desk.{find_number};
 ghost use Rattle.tds_relay.specs.Fronts.{MovedOn, ends_in, hall_in, house_in};
 ghost use Rattle.tds_relay.specs.Hall.{holder};
 ghost use Rattle.tds_relay.specs.House.{Steps};
@@ -11,6 +12,7 @@ ghost use Rattle.tds_relay.specs.Ordering.{StayOrdered};
 ghost use Rattle.tds_relay.specs.Posts.{change, posts_in, unsent_of, without_first};
 ghost use Rattle.tds_relay.specs.Law.{waiting_on};
 ghost use Rattle.tds_relay.specs.Reads.{FillsBy, Sees, Stays, waits_on};
+ghost use Rattle.tds_relay.specs.Sending.{IsToWrite, called_at};
 ghost use Rattle.tds_relay.specs.Sparing.{AllRest, SendsOn};
 ghost use Rattle.tds_relay.specs.Ties.{GoesOn, IsReached, Neither, desk_in};
 ghost use Rattle.tds_relay.specs.Told.{TellsTheSame, held_name, holder_name, is_there};
@@ -123,6 +125,8 @@ impl Relay {
         ensures puts { OnOk result (FillsBy self.old.outbox.items
             (waits_on number self.old.links.items) (waits_on number self.new.links.items)) }
         ensures ordered { OnOk result (StayOrdered self.old.orders.items self.new.orders.items) }
+        ensures others { OnOk result ((other : ℕ) → other ≢ number
+            → waits_on other self.new.links.items ≡ waits_on other self.old.links.items) }
         ensures closes { OnOk result (ClosesOnly (IsWho (holder (desk_in self.old.desk) number))
             (register_in self.old) (register_in self.new)) }
     {
@@ -164,6 +168,9 @@ impl Relay {
         ensures sends { IsReached (desk_in self.old.desk)
             → OnOk result (SendsOn number self.old self.new) }
         ensures ordered { OnOk result (StayOrdered self.old.orders.items self.new.orders.items) }
+        ensures puts { find_number number (desk_in self.old.desk).holds ≡ None
+            → OnOk result (FillsBy self.old.outbox.items
+            (waits_on number self.old.links.items) (waits_on number self.new.links.items)) }
         ensures closes { OnOk result (ClosesOnly Nobody
             (register_in self.old) (register_in self.new)) }
     {
@@ -211,18 +218,27 @@ impl Relay {
         ensures links { OnOk result (self.new.links.items ≡ self.old.links.items) }
         ensures asks { OnOk result (AskAsBefore self.old.applications self.new.applications) }
         ensures ordered { OnOk result (StayOrdered self.old.orders.items self.new.orders.items) }
+        ensures writes { OnOk result (IsToWrite (called_at number self.new.links.items)
+            self.new.orders.items) }
         ensures closes { OnOk result (ClosesOnly Nobody
             (register_in self.old) (register_in self.new)) }
     {
-        let Some(link) = self.link(number) else {
-            return Ok(());
-        };
-        match link.tag {
+        match self.tag_on(number) {
             Some(tag) => {
                 self.orders.push(Order::Write(tag))?;
                 Ok(())
             }
             None => Ok(()),
+        }
+    }
+
+    /// What the connection of this number is called, if it is there and has a name.
+    pub(super) fn tag_on(&self, number: u64) -> Option<usize>
+        ensures { result ≡ called_at number self.now.links.items }
+    {
+        match self.link(number) {
+            Some(link) => link.tag,
+            None => None,
         }
     }
 }

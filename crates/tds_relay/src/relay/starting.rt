@@ -8,11 +8,13 @@ ghost use Rattle.tds_relay.specs.Closings.{ClosesOnly, Itself, register_in};
 ghost use Rattle.tds_relay.specs.Desk.{find_key};
 ghost use Rattle.tds_relay.specs.Fronts.{MovedOn, ends_in, hall_in};
 ghost use Rattle.tds_relay.specs.Hall.{IsReset, end_at};
+ghost use Rattle.tds_relay.specs.Lent.{KeepsAnswers};
 ghost use Rattle.tds_relay.specs.Ordering.{StayOrdered};
 ghost use Rattle.tds_relay.specs.Posts.{posts_in};
 ghost use Rattle.tds_relay.specs.Reads.{Stays};
 ghost use Rattle.tds_relay.specs.Sparing.{IsHeldBack, IsUnkept, OthersRest};
 ghost use Rattle.tds_relay.specs.Ties.{GoesOn, IsReached, desk_in};
+ghost use Rattle.tds_relay.specs.Waiting.{GoesOrWaits};
 ghost use Rattle.tds_relay.specs.Walkers.{AllStand};
 
 use super::Relay;
@@ -40,6 +42,8 @@ impl Relay {
             ⊎ IsHeldBack key self.old) }
         ensures alone { OnOk result (Alone key (hall_in self.old) (hall_in self.new)) }
         ensures ordered { OnOk result (StayOrdered self.old.orders.items self.new.orders.items) }
+        ensures placed { OnOk result (GoesOrWaits key self.new) }
+        ensures answers { OnOk result (KeepsAnswers self.old.links.items self.new.links.items) }
         ensures closes { OnOk result (ClosesOnly (Itself key)
             (register_in self.old) (register_in self.new)) }
     {

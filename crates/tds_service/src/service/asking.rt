@@ -9,6 +9,7 @@ ghost use Rattle.tds_service.specs.Refusing.{refusal_in};
 ghost use Rattle.tds_service.specs.Service as calls;
 ghost use Rattle.tds_service.specs.Service.{has_number};
 ghost use Rattle.tds_service.specs.Beginning.{MakesAlike};
+ghost use Rattle.tds_service.specs.Index.{holders_in};
 ghost use Rattle.tds_service.specs.Rising.{numbers_in};
 ghost use Rattle.tds_service.specs.Sizes.{KeepsSize, sizes_in};
 ghost use Rattle.tds_service.specs.Table.{Answers, DoesAt, Keeps, KeepsClients, Opens, Refuses};
@@ -17,11 +18,9 @@ ghost use Rattle.tds_service.specs.Table.{puts_on, reading_by, service_in};
 ghost use Rattle.tds_service.specs.Ties.{Does, DoesAll, answer_to, asked_answer, cancel_answer, finishing};
 ghost use Rattle.tds_service.specs.Ties.{line_in, putting, cancel_out};
 
-use crate::place::Wanted;
 use crate::refusal::{Refusal, refused};
 use crate::seat::Seat;
 use crate::service::Service;
-use crate::service::finding::find;
 use tds_client::{Cancelled, MessageKind};
 
 /// Which request was asked: its connection, and its number there.
@@ -46,6 +45,7 @@ fn ask_at(seats: &mut [Seat], index: usize, kind: MessageKind) -> Result<Asked, 
         ≡ reading_by (has_number n) seats.old }
     ensures sizes { sizes_in seats.new ≡ sizes_in seats.old }
     ensures numbers { numbers_in seats.new ≡ numbers_in seats.old }
+    ensures holders { holders_in seats.new ≡ holders_in seats.old }
 {
     let seat = &mut seats[index];
     match seat.connection.ask(kind) {
@@ -75,6 +75,7 @@ fn put_at(seats: &mut [Seat], index: usize, bytes: &[u8], out: &mut Vec<u8>) -> 
         ≡ reading_by (has_number n) seats.old }
     ensures sizes { sizes_in seats.new ≡ sizes_in seats.old }
     ensures numbers { numbers_in seats.new ≡ numbers_in seats.old }
+    ensures holders { holders_in seats.new ≡ holders_in seats.old }
 {
     let seat = &mut seats[index];
     match seat.connection.put(bytes, out) {
@@ -101,6 +102,7 @@ fn finish_at(seats: &mut [Seat], index: usize, out: &mut Vec<u8>) -> Result<u64,
         ≡ reading_by (has_number n) seats.old }
     ensures sizes { sizes_in seats.new ≡ sizes_in seats.old }
     ensures numbers { numbers_in seats.new ≡ numbers_in seats.old }
+    ensures holders { holders_in seats.new ≡ holders_in seats.old }
 {
     let seat = &mut seats[index];
     match seat.connection.finish(out) {
@@ -130,6 +132,7 @@ fn cancel_at(
         ≡ reading_by (has_number n) seats.old }
     ensures sizes { sizes_in seats.new ≡ sizes_in seats.old }
     ensures numbers { numbers_in seats.new ≡ numbers_in seats.old }
+    ensures holders { holders_in seats.new ≡ holders_in seats.old }
 {
     let seat = &mut seats[index];
     match seat.connection.cancel(out) {
@@ -153,7 +156,7 @@ impl Service {
         ensures sizes { KeepsSize self.old self.new }
         ensures makes { MakesAlike self.old self.new }
     {
-        match find(&self.seats, Wanted::Lease(lease)) {
+        match self.find_lease(lease) {
             Some(index) => ask_at(&mut self.seats, index, kind),
             None => Err(Refusal::Unknown),
         }
@@ -177,7 +180,7 @@ impl Service {
         ensures sizes { KeepsSize self.old self.new }
         ensures makes { MakesAlike self.old self.new }
     {
-        match find(&self.seats, Wanted::Lease(lease)) {
+        match self.find_lease(lease) {
             Some(index) => put_at(&mut self.seats, index, bytes, out),
             None => Err(Refusal::Unknown),
         }
@@ -199,7 +202,7 @@ impl Service {
         ensures sizes { KeepsSize self.old self.new }
         ensures makes { MakesAlike self.old self.new }
     {
-        match find(&self.seats, Wanted::Lease(lease)) {
+        match self.find_lease(lease) {
             Some(index) => finish_at(&mut self.seats, index, out),
             None => Err(Refusal::Unknown),
         }
@@ -222,7 +225,7 @@ impl Service {
         ensures sizes { KeepsSize self.old self.new }
         ensures makes { MakesAlike self.old self.new }
     {
-        match find(&self.seats, Wanted::Lease(lease)) {
+        match self.find_lease(lease) {
             Some(index) => cancel_at(&mut self.seats, index, out),
             None => Err(Refusal::Unknown),
         }

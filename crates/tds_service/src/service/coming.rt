@@ -10,6 +10,7 @@ ghost use Rattle.tds_service.specs.Packets.{Reads, noted, outcome_answer, packet
 ghost use Rattle.tds_service.specs.Service as calls;
 ghost use Rattle.tds_service.specs.Service.{drained, find_by, has_number, lease_in};
 ghost use Rattle.tds_service.specs.Beginning.{MakesAlike};
+ghost use Rattle.tds_service.specs.Index.{holders_in};
 ghost use Rattle.tds_service.specs.Rising.{numbers_in};
 ghost use Rattle.tds_service.specs.Sizes.{KeepsSize, sizes_in};
 ghost use Rattle.tds_service.specs.Table.{Comes, ComesUntold, KeepsClientsOff, KeepsOthers, ReadsAt};
@@ -81,6 +82,7 @@ fn came_at(
     ensures untold { OnErr result (told.new.items ≡ told.old.items) }
     ensures sizes { sizes_in seats.new ≡ sizes_in seats.old }
     ensures numbers { numbers_in seats.new ≡ numbers_in seats.old }
+    ensures holders { holders_in seats.new ≡ holders_in seats.old }
 {
     let seat = &mut seats[index];
     if let Err(refusal) = make_room(seat, bytes.len(), tells, told) {

@@ -1,25 +1,28 @@
 //! Which connection is wanted.
-ghost use Rattle.std.specs.Prelude.{◌≡◌, ◌<◌, None, IfSome, IfNone};
+ghost use Rattle.std.specs.Prelude.{◌≡◌, ◌<◌, ◌≤◌, ◌+◌, ℕ, length, None, IfSome, IfNone};
 ghost use Rattle.tds_numbers.specs.Rising.{Rises};
-ghost use Rattle.tds_service.specs.Rising.{numbers_in};
-ghost use Rattle.tds_service.specs.Service.{find_by, seat_numbered, has_number};
+ghost use Rattle.tds_service.specs.Index.{FindEachOther, holders_in, ids_in};
+ghost use Rattle.tds_service.specs.Rising.{RiseFrom, numbers_in};
+ghost use Rattle.tds_service.specs.Service.{find_by, has_lease, has_number, has_ticket};
+ghost use Rattle.tds_service.specs.Service.{is_lendable, seat_numbered};
 ghost use Rattle.tds_service.specs.Table.{FirstMet, seats_in, test_of};
 
-use crate::place::Wanted;
+use crate::index::{Indexed, find_id, number_at};
+use crate::place::Holder;
 use crate::seat::Seat;
 use crate::service::Service;
 use std::marker::Brand;
 use std::sync::ledger::{Blank, Ledger};
 use tds_numbers::{Steps, find_in};
 
-/// The place in the table of the first connection that is wanted.
+/// The place in the table of the first connection that can be lent.
 #[inline(always)]
-pub(crate) fn find(seats: &[Seat], wanted: Wanted) -> Option<usize>
-    ensures first { IfSome result (FirstMet (test_of wanted) seats.now) }
-    ensures none { IfNone result (find_by (test_of wanted) (seats_in seats.now) ≡ None) }
+pub(crate) fn find_lendable(seats: &[Seat]) -> Option<usize>
+    ensures first { IfSome result (FirstMet is_lendable seats.now) }
+    ensures none { IfNone result (find_by is_lendable (seats_in seats.now) ≡ None) }
 {
     for (index, seat) in seats.iter().enumerate() {
-        if seat.is_wanted(wanted) {
+        if seat.is_lendable() {
             return Some(index);
         }
     }
@@ -35,6 +38,34 @@ impl Service {
     {
         find_counted::<Brand>(&self.seats, number, Blank::new(1))
     }
+
+    /// The place in the table of the connection that this lease holds.
+    pub(crate) fn find_lease(&self, lease: u64) -> Option<usize>
+        ensures first { IfSome result (FirstMet (has_lease lease) self.now.seats.items) }
+        ensures none { IfNone result
+            (find_by (has_lease lease) (seats_in self.now.seats.items) ≡ None) }
+    {
+        held_counted::<Brand>(
+            &self.seats,
+            &self.index,
+            Holder::Lease(lease),
+            Blank::new(1),
+        )
+    }
+
+    /// The place in the table of the connection that this ticket keeps.
+    pub(crate) fn find_ticket(&self, ticket: u64) -> Option<usize>
+        ensures first { IfSome result (FirstMet (has_ticket ticket) self.now.seats.items) }
+        ensures none { IfNone result
+            (find_by (has_ticket ticket) (seats_in self.now.seats.items) ≡ None) }
+    {
+        held_counted::<Brand>(
+            &self.seats,
+            &self.index,
+            Holder::Ticket(ticket),
+            Blank::new(1),
+        )
+    }
 }
 
 fn find_counted<L: Ledger>(seats: &[Seat], number: u64, blank: Blank) -> Option<usize>
@@ -47,4 +78,57 @@ fn find_counted<L: Ledger>(seats: &[Seat], number: u64, blank: Blank) -> Option<
 {
     let mut steps = Steps::<L>::from_blank(blank);
     find_in(seats, number, &mut steps)
+}
+
+/// The place in the table of the connection that is held by this one: its id is found by halves, and
+/// its number. Each search takes at most as many steps as how many connections there are has binary
+/// digits: 7 up to 64 connections, 11 up to 1,024.
+fn find_held<L: Ledger>(
+    seats: &[Seat],
+    index: &[Indexed],
+    holder: Holder,
+    steps: &mut Steps<L>,
+) -> Option<usize>
+    requires rising { (top : ℕ) × RiseFrom 0 (numbers_in seats.now) top }
+    requires ids { (top : ℕ) × RiseFrom 0 (ids_in index.now) top }
+    requires finds { FindEachOther (holders_in seats.now) index.now }
+    requires few { length index.now ≤ length seats.now }
+    ensures first { IfSome result (FirstMet (test_of holder) seats.now) }
+    ensures none { IfNone result (find_by (test_of holder) (seats_in seats.now) ≡ None) }
+    ensures few { length seats.now ≤ 64 → steps.new ≤ steps.old + 7 + 7 }
+    ensures cost { length seats.now ≤ 1024 → steps.new ≤ steps.old + 11 + 11 }
+{
+    let at = match find_id(index, holder.id(), steps) {
+        Some(at) => at,
+        None => return None,
+    };
+    let place = match find_in(seats, number_at(index, at), steps) {
+        Some(place) => place,
+        None => return None,
+    };
+    if seats[place].is_held_by(holder) {
+        Some(place)
+    } else {
+        None
+    }
+}
+
+fn held_counted<L: Ledger>(
+    seats: &[Seat],
+    index: &[Indexed],
+    holder: Holder,
+    blank: Blank,
+) -> Option<usize>
+    requires name { L.name ≡ blank.name }
+    requires parts { L.parts ≡ blank.parts }
+    requires some { 0 < blank.parts }
+    requires rising { (top : ℕ) × RiseFrom 0 (numbers_in seats.now) top }
+    requires ids { (top : ℕ) × RiseFrom 0 (ids_in index.now) top }
+    requires finds { FindEachOther (holders_in seats.now) index.now }
+    requires few { length index.now ≤ length seats.now }
+    ensures first { IfSome result (FirstMet (test_of holder) seats.now) }
+    ensures none { IfNone result (find_by (test_of holder) (seats_in seats.now) ≡ None) }
+{
+    let mut steps = Steps::<L>::from_blank(blank);
+    find_held(seats, index, holder, &mut steps)
 }

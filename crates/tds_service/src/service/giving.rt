@@ -14,11 +14,11 @@ ghost use Rattle.tds_service.specs.Table.{reading_by, rest_of, seat_in, service_
 ghost use Rattle.tds_service.specs.Ties.{DoesAll, answer_to, line_in, cancel_out};
 
 use crate::connection::Connection;
-use crate::place::{Place, Rest, Wanted};
+use crate::index::{forget, forget_any, go_on};
+use crate::place::{Place, Rest};
 use crate::refusal::Refusal;
 use crate::seat::Seat;
 use crate::service::Service;
-use crate::service::finding::find;
 use tds_client::ClientRefusal;
 
 /// Cancels what is underway, also on a broken connection, where nothing is.
@@ -191,10 +191,11 @@ impl Service {
         ensures sizes { KeepsSize self.old self.new }
         ensures makes { MakesAlike self.old self.new }
     {
-        match find(&self.seats, Wanted::Lease(lease)) {
+        match self.find_lease(lease) {
             Some(index) => match give_back_at(&mut self.seats, index, out) {
                 Ok((number, rest)) => {
                     close(&mut self.seats, index, rest);
+                    forget(&mut self.index, lease);
                     Ok((number, rest))
                 }
                 Err(refusal) => Err(refusal),
@@ -217,10 +218,11 @@ impl Service {
         ensures sizes { KeepsSize self.old self.new }
         ensures makes { MakesAlike self.old self.new }
     {
-        match find(&self.seats, Wanted::Lease(lease)) {
+        match self.find_lease(lease) {
             Some(index) => match cleaned_at(&mut self.seats, index) {
                 Ok((number, rest)) => {
                     close(&mut self.seats, index, rest);
+                    forget(&mut self.index, lease);
                     Ok((number, rest))
                 }
                 Err(refusal) => Err(refusal),
@@ -241,9 +243,10 @@ impl Service {
         ensures makes { MakesAlike self.old self.new }
     {
         let ticket = self.next_given()?;
-        match find(&self.seats, Wanted::Lease(lease)) {
+        match self.find_lease(lease) {
             Some(index) => match keep_at(&mut self.seats, index, ticket) {
-                Ok(_) => {
+                Ok(number) => {
+                    go_on(&mut self.index, lease, ticket, number);
                     self.given = ticket;
                     Ok(ticket)
                 }
@@ -265,10 +268,11 @@ impl Service {
         ensures sizes { KeepsSize self.old self.new }
         ensures makes { MakesAlike self.old self.new }
     {
-        match find(&self.seats, Wanted::Ticket(ticket)) {
+        match self.find_ticket(ticket) {
             Some(index) => {
                 let (number, rest) = rest_at(&mut self.seats, index);
                 close(&mut self.seats, index, rest);
+                forget(&mut self.index, ticket);
                 Ok((number, rest))
             }
             None => Err(Refusal::Unknown),
@@ -288,7 +292,8 @@ impl Service {
     {
         match self.find_number(number) {
             Some(index) => {
-                self.seats.remove(index);
+                let seat = self.seats.remove(index);
+                forget_any(&mut self.index, seat.holder());
                 Ok(())
             }
             None => Err(Refusal::Unknown),

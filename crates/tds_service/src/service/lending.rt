@@ -13,11 +13,12 @@ ghost use Rattle.tds_service.specs.Table.{Steps, reading_by, seat_in, service_in
 ghost use Rattle.tds_service.specs.Ties.{Does, answer_to, line_in};
 
 use crate::connection::Connection;
-use crate::place::{Place, Wanted};
+use crate::index::{add, go_on, reserve};
+use crate::place::Place;
 use crate::refusal::Refusal;
 use crate::seat::Seat;
 use crate::service::Service;
-use crate::service::finding::find;
+use crate::service::finding::find_lendable;
 use tds_packet::Reset;
 
 /// A lease: its number, the connection's, and whether somebody had that before. One that nobody had
@@ -82,7 +83,7 @@ fn clean_at(seats: &mut [Seat], index: usize, lease: u64) -> Result<u64, Refusal
     ensures sizes { sizes_in seats.new ≡ sizes_in seats.old }
     ensures numbers { numbers_in seats.new ≡ numbers_in seats.old }
 {
-    if seats[index].is_wanted(Wanted::Lendable) {
+    if seats[index].is_lendable() {
         lend_at(seats, index, Place::Cleaning(lease), Reset::Full)
     } else {
         Err(Refusal::NotNow)
@@ -130,12 +131,16 @@ impl Service {
             Ok(connection) => connection,
             Err(_) => return Err(Refusal::Memory),
         };
+        if reserve(&mut self.index, self.seats.len() + 1).is_err() {
+            return Err(Refusal::Memory);
+        }
         let seat = Seat {
             number,
             place: Place::Leased(lease),
             connection,
         };
         self.seats.push_reserved(seat);
+        add(&mut self.index, lease, number);
         self.last = number;
         self.given = lease;
         Ok(Lent {
@@ -161,7 +166,7 @@ impl Service {
         ensures makes { MakesAlike self.old self.new }
     {
         let lease = self.next_given()?;
-        match find(&self.seats, Wanted::Lendable) {
+        match find_lendable(&self.seats) {
             Some(index) => match lend_at(
                 &mut self.seats,
                 index,
@@ -169,6 +174,7 @@ impl Service {
                 Reset::Full,
             ) {
                 Ok(number) => {
+                    add(&mut self.index, lease, number);
                     self.given = lease;
                     Ok(lent_again(lease, number))
                 }
@@ -190,11 +196,12 @@ impl Service {
         ensures makes { MakesAlike self.old self.new }
     {
         let lease = self.next_given()?;
-        match find(&self.seats, Wanted::Ticket(ticket)) {
+        match self.find_ticket(ticket) {
             Some(index) => {
                 let reset = Reset::KeepTransaction;
                 match lend_at(&mut self.seats, index, Place::Leased(lease), reset) {
                     Ok(number) => {
+                        go_on(&mut self.index, ticket, lease, number);
                         self.given = lease;
                         Ok(lent_again(lease, number))
                     }
@@ -221,6 +228,7 @@ impl Service {
         match self.find_number(number) {
             Some(index) => match clean_at(&mut self.seats, index, lease) {
                 Ok(number) => {
+                    add(&mut self.index, lease, number);
                     self.given = lease;
                     Ok(lent_again(lease, number))
                 }

@@ -1,11 +1,12 @@
 //! What whoever watches a service may know of a connection.
 ghost use Rattle.std.specs.Prelude.{◌≡◌, is_some, option_map};
 ghost use Rattle.tds_service.specs.Anew.{begins_anew};
-ghost use Rattle.tds_service.specs.Service.{Seat, is_open, seat_numbered};
+ghost use Rattle.tds_service.specs.Service.{Seat, find_by, is_lendable, is_open, seat_numbered};
 ghost use Rattle.tds_service.specs.Table.{place_of, service_in};
 
 use crate::place::Place;
 use crate::service::Service;
+use crate::service::finding::find_lendable;
 
 impl Service {
     /// Who holds the connection of this number, if there is one.
@@ -46,5 +47,15 @@ impl Service {
     {
         let index = self.find_number(number)?;
         Some(self.seats[index].connection.begins_anew())
+    }
+
+    /// Whether a connection is free: the next lease is of one that somebody had before.
+    pub fn has_free(&self) -> bool
+        ensures { result ≡ is_some (find_by is_lendable (service_in self.now).seats) }
+    {
+        match find_lendable(&self.seats) {
+            Some(_) => true,
+            None => false,
+        }
     }
 }

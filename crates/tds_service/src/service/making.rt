@@ -38,6 +38,7 @@ impl Service {
             last: 0,
             given: 0,
             seats: Vec::new(alloc),
+            index: Vec::new(alloc),
         })
     }
 }

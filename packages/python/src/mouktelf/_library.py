@@ -2,7 +2,7 @@
 
 import ctypes
 import pathlib
-from ctypes import POINTER, Structure, c_char_p, c_int32, c_size_t, c_uint8, c_uint16, c_uint32, c_uint64
+from ctypes import POINTER, Structure, c_char_p, c_int32, c_size_t, c_uint8, c_uint16, c_uint32, c_uint64, c_void_p
 
 VERSION = "0.1.0"
 _FOLDER = pathlib.Path(__file__).parent
@@ -127,49 +127,50 @@ class JudgeFinding(Structure):
 
 _CLIENT, _COUNT, _BYTES = POINTER(ClientValue), POINTER(c_size_t), c_char_p
 _ROOM, _WALK, _MEMORY = POINTER(c_uint8), POINTER(WireWalk), POINTER(WireMemory)
-_NUMBER, _LENT, _TABLE = POINTER(c_uint64), POINTER(LentValue), (POINTER(ServiceValue), POINTER(SeatValue), c_size_t)
+# What the calls of each request read and write is handed to them by its address: that takes the least time.
+_AT, _NUMBER, _LENT, _TABLE = c_void_p, POINTER(c_uint64), POINTER(LentValue), (c_void_p, c_void_p, c_size_t)
 _CALLS = {
-    "tds_packets_read": (_BYTES, c_size_t, c_uint16, c_uint8, POINTER(Packet), c_size_t, _COUNT),
+    "tds_packets_read": (_BYTES, c_size_t, c_uint16, c_uint8, _AT, c_size_t, _AT),
     "tds_client_new": (c_uint16, _CLIENT),
     "tds_client_mark_reset": (_CLIENT, c_uint8),
     "tds_client_start_batch": (_CLIENT, POINTER(c_uint16), c_size_t, POINTER(c_uint8), c_size_t, _COUNT),
     "tds_client_start_begin": (_CLIENT, c_uint8, POINTER(c_uint8), c_size_t, _COUNT),
     "tds_client_start_commit": (_CLIENT, c_uint8, POINTER(c_uint8), c_size_t, _COUNT),
     "tds_client_start_rollback": (_CLIENT, c_uint8, POINTER(c_uint8), c_size_t, _COUNT),
-    "tds_client_send": (_CLIENT, _BYTES, c_size_t, POINTER(c_uint8), c_size_t, _COUNT),
-    "tds_client_cancel": (_CLIENT, POINTER(c_uint8), c_size_t, _COUNT),
+    "tds_client_send": (_AT, _BYTES, c_size_t, _AT, c_size_t, _AT),
+    "tds_client_cancel": (_AT, _AT, c_size_t, _AT),
     "tds_client_take": (_CLIENT, _BYTES, c_size_t),
-    "tds_client_start_message": (_CLIENT, c_uint8, _ROOM, c_size_t, _COUNT),
-    "tds_client_put": (_CLIENT, _ROOM, c_size_t, _COUNT, _BYTES, c_size_t, _COUNT, _ROOM, c_size_t, _COUNT),
-    "tds_client_finish": (_CLIENT, _ROOM, c_size_t, _ROOM, c_size_t, _COUNT),
+    "tds_client_start_message": (_AT, c_uint8, _AT, c_size_t, _AT),
+    "tds_client_put": (_AT, _AT, c_size_t, _AT, _BYTES, c_size_t, _AT, _AT, c_size_t, _AT),
+    "tds_client_ask": (_AT, c_uint8, _BYTES, c_size_t, _AT, c_size_t, _AT),
+    "tds_client_finish": (_AT, _AT, c_size_t, _AT, c_size_t, _AT),
     "tds_client_heard_change": (_CLIENT, c_uint8, c_uint64),
     "tds_client_heard_done": (_CLIENT, c_uint8, c_uint16),
     "tds_client_heard_other": (_CLIENT,),
     "tds_client_message_ended": (_CLIENT,),
     "tds_client_lost": (_CLIENT,),
     "tds_wire_new": (c_uint16, c_uint8, c_uint8, _WALK, _MEMORY),
-    "tds_wire_next": (_WALK, _MEMORY, _BYTES, c_size_t, _COUNT, _ROOM),
+    "tds_wire_next": (_AT, _AT, _BYTES, c_size_t, _AT, _AT),
     "tds_wire_is_between": (_WALK, _MEMORY),
     "tds_wire_restart": (_WALK, _MEMORY),
-    "tds_client_hear": (_CLIENT, _WALK, _MEMORY, _BYTES, c_size_t, c_uint8, _COUNT, _ROOM, c_size_t, _COUNT),
+    "tds_client_hear": (_AT, _AT, _AT, _BYTES, c_size_t, c_uint8, _AT, _AT, c_size_t, _AT),
     "tds_tokens_next": (_BYTES, c_size_t, POINTER(Cursor), POINTER(TokenValue), c_size_t, _COUNT),
     "tds_columns": (_BYTES, c_size_t, c_uint8, POINTER(ColumnValue), c_size_t, _COUNT, _COUNT),
     "tds_row_places": (POINTER(ColumnValue), c_size_t, _BYTES, c_size_t, _ROOM, c_size_t, _COUNT),
+    "tds_places_of_rows": (POINTER(ColumnValue), c_size_t, _BYTES, c_size_t, _ROOM, c_size_t, _COUNT, _COUNT),
     "tds_row_values": (
         POINTER(ColumnValue), c_size_t, c_size_t, _BYTES, c_size_t, _BYTES, c_size_t, _ROOM, c_size_t, _COUNT, _COUNT,
     ),
     "tds_parts_next": (POINTER(PartsValue), _BYTES, c_size_t, _COUNT, _COUNT, _COUNT),
     "tds_service_lease": (*_TABLE, _LENT),
-    "tds_service_find": (*_TABLE, c_uint64, _COUNT),
-    "tds_service_at": (*_TABLE, c_uint64, _COUNT),
-    "tds_service_ask": (*_TABLE, c_uint64, c_uint8, _ROOM, c_size_t, _COUNT, POINTER(AskedValue)),
-    "tds_service_put": (*_TABLE, c_uint64, _ROOM, c_size_t, _COUNT, _BYTES, c_size_t, _COUNT, _ROOM, c_size_t, _COUNT),
-    "tds_service_finish": (*_TABLE, c_uint64, _ROOM, c_size_t, _ROOM, c_size_t, _COUNT),
+    "tds_service_find": (*_TABLE, c_uint64, _AT),
+    "tds_service_at": (*_TABLE, c_uint64, _AT),
+    "tds_service_ask": (*_TABLE, c_uint64, c_uint8, _AT, c_size_t, _AT, _AT),
+    "tds_service_put": (*_TABLE, c_uint64, _AT, c_size_t, _AT, _BYTES, c_size_t, _AT, _AT, c_size_t, _AT),
+    "tds_service_finish": (*_TABLE, c_uint64, _AT, c_size_t, _AT, c_size_t, _AT),
     "tds_service_cancel": (*_TABLE, c_uint64, _ROOM, c_size_t, _COUNT),
     "tds_service_came": (*_TABLE, c_uint64, POINTER(WireToken), POINTER(WhoseValue)),
-    "tds_service_hear": (
-        *_TABLE, c_uint64, _WALK, _MEMORY, _BYTES, c_size_t, c_uint8, _COUNT, _ROOM, c_size_t, _COUNT, POINTER(WhoseValue),
-    ),
+    "tds_service_hear": (*_TABLE, c_uint64, _AT, _AT, _BYTES, c_size_t, c_uint8, _AT, _AT, c_size_t, _AT, _AT),
     "tds_service_message_ended": (*_TABLE, c_uint64, c_uint8, POINTER(WhoseValue)),
     "tds_service_give_back": (*_TABLE, c_uint64, _ROOM, c_size_t, _COUNT, _NUMBER),
     "tds_service_drained": (*_TABLE, c_uint64),
@@ -184,13 +185,15 @@ _CALLS = {
     ),
     "tds_play": (_BYTES, c_size_t, POINTER(c_uint8), c_size_t, _COUNT),
 }
+_SLOW = ("tds_judge", "tds_play")
 
 
 def _load() -> ctypes.CDLL:
     library = next(_FOLDER.glob("libmouktelf.so.*"), None)
     if library is None:
         raise ImportError(f"no library lies in {_FOLDER}: pip install {_FOLDER.parent.parent} compiles one and installs the package")
-    found = ctypes.CDLL(str(library))
+    # A call of a request takes microseconds: no thread is waited for behind it. What judges and plays lets others run meanwhile.
+    found, slow = ctypes.PyDLL(str(library)), ctypes.CDLL(str(library))
     found.mouktelf_version.restype = c_uint32
     found.mouktelf_version.argtypes = ()
     major, minor, patch = map(int, VERSION.split("."))
@@ -200,6 +203,8 @@ def _load() -> ctypes.CDLL:
         # The player is in a release's library alone.
         if name == "tds_play" and not hasattr(found, name):
             continue
+        if name in _SLOW:
+            setattr(found, name, getattr(slow, name))
         call = getattr(found, name)
         # Without it ctypes reads the three bytes above, too.
         call.restype = c_uint8

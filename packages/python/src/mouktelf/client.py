@@ -1,19 +1,21 @@
 """The client's end of one connection."""
 
-from ctypes import byref, c_size_t, c_uint8, c_uint16, string_at
+import threading
+from ctypes import addressof, byref, c_size_t, c_uint8, c_uint16
 from enum import IntEnum
 from functools import partial
-from typing import Any, List, NamedTuple, Optional, Tuple
+from typing import List, NamedTuple, Optional, Tuple
 
 from ._library import LIBRARY, ClientValue, Packet
+from ._rooms import Sending
 from .fault import Fault
-from .wire import Tells, Walk, Walked, from_place, hears
+from .wire import Tells, Walk, Walked, from_place, hears, walked
 
 _MESSAGE_MOST = 4022
 _NO_NEXT = 255
 _TO_CLIENT = 1
-_FULL, _TELL, _WANTS_BYTES, _FIRST_FAULT = 1, 10, 24, 20
-_HEADER, _RESET, _NEW_IS_TOLD = 8, 18, (8, 11)
+_FULL, _TELL, _OUT_OF_RANGE, _WANTS_BYTES, _FIRST_FAULT = 1, 10, 23, 24, 20
+_HEADER, _RESET, _NEW_IS_TOLD, _AT_ONCE = 8, 18, (8, 11), 16
 
 
 class Answer(IntEnum):
@@ -30,7 +32,7 @@ class Answer(IntEnum):
 
 
 Acknowledged = Answer.ACKNOWLEDGED
-_ANSWERS = (None, *Answer)
+ANSWERS = (None, *Answer)
 
 
 class MessageKind(IntEnum):
@@ -78,13 +80,11 @@ class Client:
     def __init__(self, size: int, walk: Optional[Walk] = None) -> None:
         """`walk` is the one that it hears by, where the login acknowledged what a `Walk` has to know."""
         self._value, self._message, self._walk = ClientValue(), b"", walk
-        self._kept, self._waiting = (c_uint8 * 1)(), c_size_t()
-        # What calls write to, once for all of them.
-        self._out, self._count, self._taken = (c_uint8 * 16)(), c_size_t(), c_size_t()
-        self._hears = partial(LIBRARY.tds_client_hear, byref(self._value))
         if not 0 <= size <= 0xFFFF:
-            raise Fault(23)
+            raise Fault(_OUT_OF_RANGE)
         _done(LIBRARY.tds_client_new(size, byref(self._value)))
+        self._at, self._room = addressof(self._value), Sending(size)
+        self._hears = partial(LIBRARY.tds_client_hear, self._at)
 
     @property
     def stage(self) -> Stage:
@@ -125,17 +125,9 @@ class Client:
 
     def send(self) -> Tuple[Answer, bytes]:
         """In sending: the request's next packet, and whether it is the LAST or there are MORE."""
-        room, out, count = self._room()
-        number = _done(LIBRARY.tds_client_send(byref(self._value), self._message, len(self._message), out, room, byref(count)))
-        return Answer(number), string_at(out, count.value)
-
-    def _room(self) -> Tuple[int, Any, c_size_t]:
-        """Room for a packet: how much, where, and where its length is written."""
-        room = self._value.size
-        if len(self._out) < room:
-            self._out = (c_uint8 * room)()
-        self._count.value = 0
-        return room, self._out, self._count
+        room = self._room
+        number = _done(LIBRARY.tds_client_send(self._at, self._message, len(self._message), room.packet_at, room.size, room.count_at))
+        return Answer(number), room.written()
 
     def send_all(self) -> bytes:
         """The packets of the request that are still to go out."""
@@ -147,36 +139,44 @@ class Client:
 
     def cancel(self) -> Tuple[Answer, bytes]:
         """Cancels what is underway. Behind ASKED send the bytes, and hear packets until ACKNOWLEDGED."""
-        _, out, count = self._room()
-        number = _done(LIBRARY.tds_client_cancel(byref(self._value), out, 16, byref(count)))
-        return Answer(number), string_at(out, count.value)
+        room = self._room
+        room.clear()
+        number = _done(LIBRARY.tds_client_cancel(self._at, room.packet_at, room.size, room.count_at))
+        return Answer(number), room.written()
+
+    def ask(self, kind: MessageKind, body: bytes) -> bytes:
+        """In idle: begins a message, puts its whole body and ends it: its packets."""
+        room = self._room
+        answer = LIBRARY.tds_client_ask(self._at, kind, body, len(body), room.packet_at, room.size, room.count_at)
+        if answer == _OUT_OF_RANGE:
+            # It is more than a packet has room for.
+            self.start_message(kind)
+            return self.put(body) + self.finish()
+        _done(answer)
+        return room.written()
 
     def start_message(self, kind: MessageKind) -> None:
         """In idle: begins a message that is sent in parts. Its body comes by `put`, and `finish` ends it."""
-        room = self._value.size - _HEADER
+        room = self._room
         # A call that is refused writes nothing.
-        kept, waiting = self._kept if len(self._kept) == room else (c_uint8 * room)(), c_size_t()
-        _done(LIBRARY.tds_client_start_message(byref(self._value), kind, kept, room, byref(waiting)))
-        self._kept, self._waiting = kept, waiting
+        _done(LIBRARY.tds_client_start_message(self._at, kind, room.kept_at, room.most, room.waiting_at))
 
     def put(self, data: bytes) -> bytes:
         """In sending: puts bytes of the message's body, and gives the packets that are full."""
-        room, out, count = self._room()
-        taken, packets, answer, at = self._taken, b"", _FULL, 0
+        room, size, packets, answer, at = self._room, len(data), [], _FULL, 0
         while answer == _FULL:
             answer = _done(LIBRARY.tds_client_put(
-                byref(self._value), self._kept, len(self._kept), byref(self._waiting), from_place(data, at), len(data) - at,
-                byref(taken), out, room, byref(count)))
-            if count.value:
-                packets += string_at(out, count.value)
-            at += taken.value
-        return packets
+                self._at, room.kept_at, room.most, room.waiting_at, from_place(data, at), size - at, room.taken_at, room.packet_at,
+                room.size, room.count_at))
+            packets.append(room.written())
+            at += room.taken.value
+        return b"".join(packets)
 
     def finish(self) -> bytes:
         """Ends the message, and gives its last packet."""
-        room, out, count = self._room()
-        _done(LIBRARY.tds_client_finish(byref(self._value), self._kept, self._waiting, out, room, byref(count)))
-        return string_at(out, count.value)
+        room = self._room
+        _done(LIBRARY.tds_client_finish(self._at, room.kept_at, room.waiting, room.packet_at, room.size, room.count_at))
+        return room.written()
 
     def heard(self, token: Walked) -> bool:
         """Hears a token that a walk of your own has found, in place of `hear`. Whether the caller that asked is told of it: behind
@@ -212,23 +212,26 @@ class Client:
         Behind a cancel nothing is told. A `Fault` has in `tokens` what was told before it."""
         if len(packet) < _HEADER:
             raise Fault(_WANTS_BYTES)
-        return self._hear(bytes(packet), _HEADER, packet[1] & 1)
+        answer, told = self.hear_plain(bytes(packet), packet[1] & 1, _HEADER)
+        return Heard(answer, walked(told))
 
     def follow(self, packet: bytes) -> Answer:
         """The same, where nobody wants the tokens: for who reads rows by a reader of his own, and wants the client's state alone."""
         if len(packet) < _HEADER:
             raise Fault(_WANTS_BYTES)
-        return self._hear(bytes(packet), _HEADER, packet[1] & 1, False).answer
+        return ANSWERS[hears(self._hears, self.walk, bytes(packet), _HEADER, packet[1] & 1, tells=False)[0]]
 
     def hear_data(self, data: bytes, ends: bool) -> Heard:
         """The same of a packet's data, behind its header, or of a piece of them; `ends` is bit 1 of the packet's status, with its
         last piece."""
-        return self._hear(bytes(data), 0, ends)
+        answer, told = self.hear_plain(bytes(data), ends)
+        return Heard(answer, walked(told))
 
-    def _hear(self, data: bytes, at: int, ends: int, tells: bool = True) -> Heard:
+    def hear_plain(self, data: bytes, ends: int, at: int = 0) -> Tuple[Answer, List[Tuple[int, ...]]]:
+        """The same from a place on, where tokens are told as plain tuples, each of a `Walked`'s values."""
         # It is `walk.tokens`, `heard` and `message_ended`, for 256 tokens in one call.
-        answer, told = hears(self._hears, self.walk, data, at, ends, tells=tells)
-        return Heard(_ANSWERS[answer], told)
+        answer, told = hears(self._hears, self.walk, data, at, ends)
+        return ANSWERS[answer], told
 
     def message_ended(self) -> Answer:
         """Hears that a message has ended, behind the packet whose status has bit 1: MORE, FINISHED or ACKNOWLEDGED."""
@@ -245,16 +248,26 @@ def _level(isolation: int) -> int:
     return isolation
 
 
+class _Found(threading.local):
+    """Room for packets that are found, of each thread."""
+
+    def __init__(self) -> None:
+        self.packets, self.count = (Packet * _AT_ONCE)(), c_size_t()
+        self.at, self.count_at = addressof(self.packets), addressof(self.count)
+
+
+_FOUND = _Found()
+
+
 def packets_of(data: bytes, size: int) -> Tuple[List[bytes], bytes]:
     """The packets from a server at the front of these bytes, and the rest, behind which the next bytes go."""
     if not 0 <= size <= 0xFFFF:
-        raise Fault(23)
-    data = bytes(data)
-    found, packets, count, at = (Packet * 16)(), [], c_size_t(), 0
+        raise Fault(_OUT_OF_RANGE)
+    data, packets, at, room = bytes(data), [], 0, _FOUND
     while True:
-        number = LIBRARY.tds_packets_read(from_place(data, at), len(data) - at, size, _TO_CLIENT, found, 16, byref(count))
-        for place in range(count.value):
-            length = found[place].length
+        number = LIBRARY.tds_packets_read(from_place(data, at), len(data) - at, size, _TO_CLIENT, room.at, _AT_ONCE, room.count_at)
+        for place in range(room.count.value):
+            length = room.packets[place].length
             packets.append(data[at: at + length])
             at += length
         if number == _WANTS_BYTES:

@@ -18,13 +18,13 @@ class Outgoing:
 
     def __init__(self, write: Callable[[bytes], object], lock: Optional[threading.Lock] = None) -> None:
         """`write` writes all the bytes that it is handed, as `sendall` of a socket, or `write` of an asyncio writer."""
-        self._write, self._lock = write, lock or threading.Lock()
+        self._write, self.lock = write, lock or threading.Lock()
         self._waiting: List[bytes] = []
         self._is_writing, self._holder = False, 0
         self._failed: Optional[BaseException] = None
 
     def __enter__(self) -> "Outgoing":
-        self._lock.acquire()
+        self.lock.acquire()
         self._holder = threading.get_ident()
         return self
 
@@ -36,27 +36,30 @@ class Outgoing:
             self._waiting.append(data)
 
     def __exit__(self, kind: Optional[type], *_: object) -> None:
-        self._holder, writes = 0, bool(self._waiting) and not self._is_writing
-        # Whoever writes is chosen before somebody else can put anything.
-        self._is_writing |= writes
-        self._lock.release()
-        if writes:
-            self._drain()
+        self._holder, data = 0, b""
+        if self._waiting and not (self._is_writing or self._failed):
+            # Whoever writes is chosen before somebody else can put anything.
+            data, self._is_writing = self._taken(), True
+        self.lock.release()
+        if data:
+            self._drain(data)
         elif self._failed and kind is None:
             raise self._failed
 
-    def _drain(self) -> None:
-        while True:
-            with self._lock:
-                data, self._waiting = b"".join(self._waiting), []
-                if not data or self._failed:
-                    self._is_writing = False
-                    break
+    def _taken(self) -> bytes:
+        waiting, self._waiting = self._waiting, []
+        return waiting[0] if len(waiting) == 1 else b"".join(waiting)
+
+    def _drain(self, data: bytes) -> None:
+        while data:
             try:
                 self._write(data)
             except BaseException as why:
-                with self._lock:
+                with self.lock:
                     self._failed, self._waiting, self._is_writing = why, [], False
                 raise
+            with self.lock:
+                data = b"" if self._failed else self._taken()
+                self._is_writing = bool(data)
         if self._failed:
             raise self._failed

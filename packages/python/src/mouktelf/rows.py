@@ -18,7 +18,7 @@ from .fault import Fault
 from .values import Type, joined_parts, reader_of
 
 COLMETADATA, ROW, NBCROW = 0x81, 0xD1, 0xD2
-_OK, _CUT, _SAME, _FIRST_FAULT, _WANTS_BYTES, _MOST, _PARTS = 0, 1, 2, 20, 24, 4096, 5
+_OK, _CUT, _SAME, _FIRST_FAULT, _WANTS_BYTES, _OTHER, _FULL, _MOST, _PARTS = 0, 1, 2, 20, 24, 71, 74, 4096, 5
 _PLACE = struct.Struct("=QQB7x")
 
 
@@ -66,6 +66,32 @@ class Columns:
         """Where each value stands in a ROW or an NBCROW, from its first byte on: start, length, and 1 where it is null."""
         _done(LIBRARY.tds_row_places(self._raw, self._count, row, len(row), self._room, self._count, self._ref))
         return list(_PLACE.iter_unpack(self._bytes)) if self._count else []
+
+    def places_of_rows(self, data: bytes) -> Tuple[List[List[Tuple[int, int, int]]], int]:
+        """The same of all rows that these bytes begin with, one behind the other, from the first of these bytes on; and how many bytes
+        they have. Behind them stands nothing, another token, or a row that isn't whole."""
+        data, count, rows, taken = bytes(data), max(self._count, 1), c_size_t(), c_size_t()
+        room = count * min(max(_MOST // count, 1), len(data) + 1)
+        found, answer, at, all_rows = bytearray(_PLACE.size * room), _FULL, 0, []  # type: bytearray, int, int, List[List[Tuple[int, int, int]]]
+        lent = (c_uint8 * len(found)).from_buffer(found)
+        while answer == _FULL:
+            rest = data[at:] if at else data
+            answer = LIBRARY.tds_places_of_rows(self._raw, self._count, rest, len(rest), lent, room, byref(rows), byref(taken))
+            places = list(_PLACE.iter_unpack(memoryview(found)[:_PLACE.size * rows.value * self._count]))
+            if at:
+                places = [(start + at, length, null) for start, length, null in places]
+            all_rows += [places[it:it + count] for it in range(0, len(places), count)]
+            at += taken.value
+        if answer not in (_OK, _CUT, _OTHER):
+            raise Fault(answer)
+        return all_rows, at
+
+    def values_of_rows(self, data: bytes) -> Tuple[List[Tuple[Any, ...]], int]:
+        """The values of those rows, by `mouktelf.values`, and how many bytes they have."""
+        data = bytes(data)
+        rows, taken = self.places_of_rows(data)
+        return [tuple([None if null else reader(data[start:start + length]) for (start, length, null), reader in zip(row, self._readers)])
+                for row in rows], taken
 
     def come(self, data: bytes, first: int = 0, nulls: bytes = b"") -> Tuple[List[Tuple[int, int, int]], int]:
         """Of bytes that begin with the value of the column `first` of a row where each value stands that is whole, and where the next

@@ -1,15 +1,16 @@
 """A table of connections that callers share, in front of any server: who holds each one, and what becomes of it."""
 
-from ctypes import byref, c_size_t, c_uint8, c_uint64, string_at
+from ctypes import addressof, byref, c_size_t, c_uint8, c_uint64
 from dataclasses import dataclass
 from enum import IntEnum
 from functools import partial
 from typing import Any, Dict, List, NamedTuple, Optional, Tuple
 
 from ._library import LIBRARY, AskedValue, ClientValue, LentValue, SeatValue, ServiceValue, WhoseValue, WireToken
-from .client import Answer, Client, MessageKind
+from ._rooms import Sending
+from .client import ANSWERS, Answer, Client, MessageKind
 from .fault import Fault
-from .wire import TOKEN, Walk, Walked, from_place, hears
+from .wire import Walk, Walked, from_place, hears, walked
 
 _FULL, _TELL, _FIRST_FAULT, _OUT_OF_RANGE, _WANTS_BYTES, _NOT_NOW, _ATTENTION_MOST, _HEADER = 1, 10, 20, 23, 24, 36, 16, 8
 # Where a seat is: lent, being cleaned, kept for a ticket.
@@ -59,7 +60,7 @@ class Came(NamedTuple):
     lease: int
     request: int
     answer: Answer
-    tokens: List[Walked]
+    tokens: List[Any]
 
 
 class Ended(NamedTuple):
@@ -81,18 +82,22 @@ class Service:
             raise Fault(_OUT_OF_RANGE)
         # That of a size that no client can have is refused.
         Client(size)
-        self._most, self._value, self._seats = most, ServiceValue(0, 0, 0, size), (SeatValue * most)()
-        # By a lease; and by a connection's number its walk.
+        self._value, self._seats, self._whose = ServiceValue(0, 0, 0, size), (SeatValue * most)(), WhoseValue()
+        self._index = c_size_t()
+        self._index_at = addressof(self._index)
+        self._at = addressof(self._value), addressof(self._seats), most
+        # By a lease; and by a connection's number its walk, and the room for its packets.
         self._clients: Dict[int, "_Held"] = {}
-        self._kept: Dict[int, Tuple] = {}
+        self._rooms: Dict[int, Sending] = {}
         self._walks: Dict[int, Walk] = {}
+        self._sending: Dict[int, Sending] = {}
 
     def __len__(self) -> int:
         """How many connections there are."""
         return self._value.count
 
     def _call(self, call, *words) -> int:
-        answer = call(byref(self._value), self._seats, self._most, *words)
+        answer = call(*self._at, *words)
         if answer >= _FIRST_FAULT:
             raise Fault(answer)
         return answer
@@ -109,12 +114,16 @@ class Service:
     def _ended(self, holder: int, rest: Rest, number: int, sends: bytes = b"") -> Ended:
         self._forget(holder)
         if rest == Rest.CLOSED:
-            self._walks.pop(number, None)
+            self._gone(number)
         return Ended(number, rest, sends)
+
+    def _gone(self, number: int) -> None:
+        self._walks.pop(number, None)
+        self._sending.pop(number, None)
 
     def _forget(self, lease: int) -> None:
         self._clients.pop(lease, None)
-        self._kept.pop(lease, None)
+        self._rooms.pop(lease, None)
 
     def lease(self) -> Lent:
         """Lends a free connection that is idle, and marks it for a full reset; else a new one, which is to be opened and
@@ -123,36 +132,39 @@ class Service:
 
     def ask(self, lease: int, kind: MessageKind) -> Asked:
         """Begins a request of a lease. Its body comes by `put`, and `finish` ends it."""
-        kept, out, _ = self._kept.get(lease) or self._room(lease)
-        waiting, asked = c_size_t(), AskedValue()
+        room, asked = self._room(lease), AskedValue()
         # A call that is refused writes nothing.
-        self._call(LIBRARY.tds_service_ask, _number(lease), kind, kept, len(kept), byref(waiting), byref(asked))
-        self._kept[lease] = kept, out, waiting
+        self._call(LIBRARY.tds_service_ask, _number(lease), kind, room.kept_at, room.most, room.waiting_at, addressof(asked))
         return Asked(asked.number, asked.request)
 
-    def _room(self, lease: int) -> Tuple[Any, Any, c_size_t]:
-        """Room for a message's packets: for what waits, for a packet, and how much waits."""
-        size = self._seat(LIBRARY.tds_service_find, lease).client.size
-        return (c_uint8 * (size - _HEADER))(), (c_uint8 * size)(), c_size_t()
+    def _room(self, lease: int) -> Sending:
+        """Room for the packets of a lease's connection."""
+        room = self._rooms.get(lease)
+        if room is None:
+            seat = self._seat(LIBRARY.tds_service_find, lease)
+            room = self._sending.get(seat.number)
+            if room is None or room.size != seat.client.size:
+                room = self._sending[seat.number] = Sending(seat.client.size)
+            self._rooms[lease] = room
+        return room
 
     def put(self, lease: int, data: bytes) -> bytes:
         """Puts bytes of the request's body, and gives the packets that are full."""
-        kept, out, waiting = self._kept.get(lease) or self._room(lease)
-        taken, count, packets, answer, at = c_size_t(), c_size_t(), b"", _FULL, 0
+        room, size, packets, answer, at = self._room(lease), len(data), [], _FULL, 0
         while answer == _FULL:
-            answer = self._call(LIBRARY.tds_service_put, _number(lease), kept, len(kept), byref(waiting), from_place(data, at),
-                                len(data) - at, byref(taken), out, len(out), byref(count))
-            if count.value:
-                packets += string_at(out, count.value)
-            at += taken.value
-        return packets
+            answer = self._call(
+                LIBRARY.tds_service_put, _number(lease), room.kept_at, room.most, room.waiting_at, from_place(data, at), size - at,
+                room.taken_at, room.packet_at, room.size, room.count_at)
+            packets.append(room.written())
+            at += room.taken.value
+        return b"".join(packets)
 
     def finish(self, lease: int) -> bytes:
         """Ends the request, and gives its last packet."""
-        kept, out, waiting = self._kept.get(lease) or self._room(lease)
-        count = c_size_t()
-        self._call(LIBRARY.tds_service_finish, _number(lease), kept, waiting, out, len(out), byref(count))
-        return string_at(out, count.value)
+        room = self._room(lease)
+        self._call(
+            LIBRARY.tds_service_finish, _number(lease), room.kept_at, room.waiting, room.packet_at, room.size, room.count_at)
+        return room.written()
 
     def ask_batch(self, lease: int, text: str) -> Tuple[Asked, bytes]:
         """Asks a batch, whole: which request it is, and its packets."""
@@ -169,19 +181,23 @@ class Service:
     def hear(self, number: int, packet: bytes) -> Came:
         """Hears one packet on the connection of this number, whoever holds it, as `Client.hear`; a connection that drained is free
         behind ACKNOWLEDGED."""
-        return self._hear(number, packet, True)
+        if len(packet) < _HEADER:
+            raise Fault(_WANTS_BYTES)
+        came = self.hear_plain(number, bytes(packet), packet[1] & 1, _HEADER)
+        return came._replace(tokens=walked(came.tokens))
 
     def follow(self, number: int, packet: bytes) -> Came:
         """The same, where nobody wants the tokens."""
-        return self._hear(number, packet, False)
-
-    def _hear(self, number: int, packet: bytes, tells: bool) -> Came:
         if len(packet) < _HEADER:
             raise Fault(_WANTS_BYTES)
-        whose, table = WhoseValue(), (byref(self._value), self._seats, self._most, _number(number))
-        answer, told = hears(
-            partial(LIBRARY.tds_service_hear, *table), self.walk(number), bytes(packet), _HEADER, packet[1] & 1, byref(whose), tells=tells)
-        return Came(whose.lease, whose.request, Answer(answer), told)
+        return self.hear_plain(number, bytes(packet), packet[1] & 1, _HEADER, False)
+
+    def hear_plain(self, number: int, data: bytes, ends: int, at: int = 0, tells: bool = True) -> Came:
+        """The same of a packet's data from a place on, as `Client.hear_plain`."""
+        call = partial(LIBRARY.tds_service_hear, *self._at, _number(number))
+        walk, whose = self._walks.get(number) or self.walk(number), self._whose
+        answer, told = hears(call, walk, data, at, ends, addressof(whose), tells=tells)
+        return Came(whose.lease, whose.request, ANSWERS[answer], told)
 
     def logged_in(self, number: int, size: int, walk: Optional[Walk] = None) -> None:
         """The connection of this number, which is new, is logged in, and the login agreed on packets of this size; `walk` is the one
@@ -194,6 +210,7 @@ class Service:
         if answer >= _FIRST_FAULT:
             raise Fault(answer)
         seat.client = value
+        self._rooms.pop(seat.holder, None)
         if walk is not None:
             self._walks[number] = walk
 
@@ -207,7 +224,7 @@ class Service:
     def came(self, number: int, token: Walked) -> Whose:
         """Hears a token that a walk of your own has found on the connection of this number, in place of `hear`: whose it is, and
         whether he is told."""
-        value, whose = WireToken.from_buffer_copy(TOKEN.pack(*token)), WhoseValue()
+        value, whose = WireToken.from_buffer_copy(token.packed), WhoseValue()
         answer = self._call(LIBRARY.tds_service_came, _number(number), byref(value), byref(whose))
         return Whose(whose.lease, whose.request, answer == _TELL)
 
@@ -238,9 +255,8 @@ class Service:
         return seat.holder if seat.place in (_LENT, _CLEANING, _KEPT) else 0
 
     def _seat(self, call, key: int) -> SeatValue:
-        index = c_size_t()
-        self._call(call, _number(key), byref(index))
-        return self._seats[index.value]
+        self._call(call, _number(key), self._index_at)
+        return self._seats[self._index.value]
 
     def give_back(self, lease: int) -> Ended:
         """Ends a lease. What is underway is cancelled, and what `sends` has is to be sent for that."""
@@ -258,7 +274,7 @@ class Service:
         holder = self.holder(number)
         self._call(LIBRARY.tds_service_lost, _number(number))
         self._forget(holder)
-        self._walks.pop(number, None)
+        self._gone(number)
 
     def keep(self, lease: int) -> int:
         """Keeps a connection that is idle in a transaction, and gives a ticket for it. The lease is spent."""
@@ -290,21 +306,34 @@ class _Held(Client):
 
     def __init__(self, service: Service, call, key: int) -> None:
         self._service, self._by, self._key = service, call, key
-        self._message = b""
-        self._kept, self._waiting = (c_uint8 * 1)(), c_size_t()
-        self._out, self._count, self._taken = (c_uint8 * 16)(), c_size_t(), c_size_t()
+        self._message, self._own = b"", None  # type: bytes, Optional[Sending]
+
+    @property
+    def _seat(self) -> SeatValue:
+        return self._service._seat(self._by, self._key)
 
     @property
     def _value(self) -> ClientValue:
-        return self._service._seat(self._by, self._key).client
+        return self._seat.client
+
+    @property
+    def _at(self) -> int:  # type: ignore[override]
+        return addressof(self._value)
+
+    @property
+    def _room(self) -> Sending:  # type: ignore[override]
+        size = self._value.size
+        if self._own is None or self._own.size != size:
+            self._own = Sending(size)
+        return self._own
 
     @property
     def _hears(self) -> Any:  # type: ignore[override]
-        return partial(LIBRARY.tds_client_hear, byref(self._value))
+        return partial(LIBRARY.tds_client_hear, self._at)
 
     @property
     def walk(self) -> Walk:
-        return self._service.walk(self._service._seat(self._by, self._key).number)
+        return self._service.walk(self._seat.number)
 
 
 def _number(number: int) -> int:

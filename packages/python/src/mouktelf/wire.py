@@ -1,20 +1,19 @@
 """Where each token of an answer ends, for every type of column of TDS 7.2 to 7.4 (MS-TDS 2.2.7)."""
 
 import struct
-import threading
-from ctypes import byref, c_char_p, c_size_t, c_uint8, c_void_p, cast
+from ctypes import addressof, byref, c_char_p, c_void_p, cast
 from enum import IntEnum
-from functools import partial
 from operator import itemgetter
-from typing import Any, Iterator, List, NamedTuple, Optional, Tuple
+from typing import Any, Iterable, Iterator, List, NamedTuple, Optional, Tuple
 
 from ._library import LIBRARY, WireMemory, WireWalk
+from ._rooms import Own, Telling
 from .fault import Fault, Refused
 
 _ENDED, _MORE, _TELL, _FIRST_FAULT = 0, 1, 10, 20
 AT_ONCE = 256
-# struct tds_wire_token, all of it.
-TOKEN = struct.Struct("=8QiIHH6B6x")
+# struct tds_wire_token: all of it; what it has of a token of which nothing is told, as a row; and where it has what is told.
+TOKEN, _FRONT, _TELLS_AT = struct.Struct("=8QiIHH6B6x"), struct.Struct("=2Q60x2B10x"), 77
 
 
 class Tells(IntEnum):
@@ -40,22 +39,32 @@ class Place(NamedTuple):
     length: int
 
 
+def _behind(place: int) -> property:
+    """A field that a token has of which something is told."""
+    return property(lambda it: it[place] if len(it) > place else 0)
+
+
 class Walked(tuple):
-    """A token that has ended: a plain tuple of what mouktelf.h has in it, and a name for each. A field that its kind doesn't
-    have is 0.
+    """A token that has ended: a tuple, and a name for each field of mouktelf.h. One that its kind doesn't have is 0.
 
     DONE: status, command, value (the count of rows). TRANSACTION: change, value and old_value, descriptors.
     PACKET_SIZE: size. VALUES: change, text (the new one), others (the old one). MESSAGE: number, state, severity, text,
     others (names and line). RETURN_STATUS: number. SESSION_STATE: size (its number), is_recoverable, text (the states)."""
 
     __slots__ = ()
-    start, length, value, old_value = (property(itemgetter(it)) for it in range(4))
-    text = property(lambda it: Place(it[4], it[5]))
-    others = property(lambda it: Place(it[6], it[7]))
-    number, size, status, command, kind = (property(itemgetter(it)) for it in range(8, 13))
-    tells = property(lambda it: _TELLS[it[13]])
-    change, state, severity = (property(itemgetter(it)) for it in range(14, 17))
-    is_recoverable = property(lambda it: it[17] == 1)
+    start, length, kind = (property(itemgetter(it)) for it in range(3))
+    tells = property(lambda it: _TELLS[it[3]])
+    value, old_value = (_behind(it) for it in (4, 5))
+    text = property(lambda it: Place(*(it[6:8] or (0, 0))))
+    others = property(lambda it: Place(*(it[8:10] or (0, 0))))
+    number, size, status, command, change, state, severity = (_behind(it) for it in range(10, 17))
+    is_recoverable = property(lambda it: it[17:] == (1,))
+
+    @property
+    def packed(self) -> bytes:
+        """As a call reads it."""
+        it = (*self, *bytes(14))
+        return TOKEN.pack(*it[:2], *it[4:14], *it[2:4], *it[14:18])
 
     def __repr__(self) -> str:
         told = ", ".join(f"{name}={getattr(self, name)!r}" for name in _FIELDS if getattr(self, name) not in (0, (0, 0)))
@@ -65,23 +74,21 @@ class Walked(tuple):
 _FIELDS = ("start", "length", "kind", "value", "old_value", "text", "others", "number", "size", "status", "command", "change",
            "state", "severity", "is_recoverable")
 _TELLS = tuple(Tells)
-_walked = partial(tuple.__new__, Walked)
 
 
-class _Room(threading.local):
-    """Room for the tokens that a call writes. Each thread has its own, since ctypes lets others run in the middle of a call."""
+def _told(room: Telling, count: int) -> List[Tuple[int, ...]]:
+    """The first tokens that were written: start, length, kind, what is told, and behind these, where something is, all else."""
+    size, view = TOKEN.size, room.view[: count * TOKEN.size]
+    found, tells = [*_FRONT.iter_unpack(view)], bytes(view[_TELLS_AT::size])
+    if any(tells):
+        for at, it in enumerate(tells):
+            if it:
+                whole = TOKEN.unpack_from(view, size * at)
+                found[at] += (*whole[2:12], *whole[14:])
+    return found
 
-    def __init__(self) -> None:
-        self.bytes = bytearray(AT_ONCE * TOKEN.size)
-        self.view, self.tokens = memoryview(self.bytes), (c_uint8 * len(self.bytes)).from_buffer(self.bytes)
-        self.taken, self.count = c_size_t(), c_size_t()
 
-    def told(self, count: int) -> Iterator[Walked]:
-        """The first ones that were written."""
-        return map(_walked, TOKEN.iter_unpack(self.view[: count * TOKEN.size]))
-
-
-ROOM = _Room()
+OWN = Own(AT_ONCE * TOKEN.size)
 
 
 class Walk:
@@ -91,6 +98,7 @@ class Walk:
         """With room for so many columns. `encryption` and `ranks` say that the FEATUREEXTACK of the login acknowledged
         column encryption, and data classification of version 2."""
         self._value, self._memory = WireWalk(), WireMemory()
+        self.places = addressof(self._value), addressof(self._memory)
         LIBRARY.tds_wire_new(min(max(most, 0), 0xFFFF), encryption, ranks, byref(self._value), byref(self._memory))
 
     def next(self, data: bytes) -> Tuple[int, Optional[Walked]]:
@@ -98,11 +106,11 @@ class Walk:
         return self._next(c_char_p(data), len(data))
 
     def _next(self, data: c_char_p, length: int) -> Tuple[int, Optional[Walked]]:
-        room = ROOM
-        answer = LIBRARY.tds_wire_next(byref(self._value), byref(self._memory), data, length, byref(room.count), room.tokens)
+        room = OWN.room
+        answer = LIBRARY.tds_wire_next(*self.places, data, length, room.count_at, room.tokens_at)
         if answer > _MORE:
             raise self.fault(answer)
-        return room.count.value, next(room.told(1)) if answer == _ENDED else None
+        return room.count.value, Walked(*_told(room, 1)) if answer == _ENDED else None
 
     def fault(self, number: int) -> Fault:
         """The fault of this number: of a byte that this walk has refused, with its place."""
@@ -129,21 +137,25 @@ class Walk:
         LIBRARY.tds_wire_restart(byref(self._value), byref(self._memory))
 
 
-def hears(call, walk: Walk, data: bytes, at: int, ends: int, *whose, tells: bool = True) -> Tuple[int, List[Walked]]:
+def hears(call, walk: Walk, data: bytes, at: int, ends: int, *whose, tells: bool = True) -> Tuple[int, List[Tuple[int, ...]]]:
     """Lets a client or a table hear what ends in these data from a place on, by this walk and by `call`, in one call for 256 tokens:
-    what it answers, and the tokens that are told, unless nobody wants them. A Fault has those that were told before it."""
-    room, told, answer, length = ROOM, [], _TELL, len(data)
-    value, memory, taken, count = byref(walk._value), byref(walk._memory), byref(room.taken), byref(room.count)
+    what it answers, and the tokens that are told, unless nobody wants them, as plain tuples. A Fault has those told before it."""
+    room, told, answer, length, (value, memory) = OWN.room, [], _TELL, len(data), walk.places
     while answer == _TELL:
-        answer = call(value, memory, from_place(data, at), length - at, ends, taken, room.tokens, AT_ONCE, count, *whose)
+        answer = call(value, memory, from_place(data, at), length - at, ends, room.taken_at, room.tokens_at, AT_ONCE, room.count_at, *whose)
         if tells:
-            told += room.told(room.count.value)
+            told += _told(room, room.count.value)
         at += room.taken.value
     if answer < _FIRST_FAULT:
         return answer or _MORE, told
     fault = walk.fault(answer)
-    fault.tokens = told
+    fault.tokens = walked(told)
     raise fault
+
+
+def walked(told: Iterable[Tuple[int, ...]]) -> List[Walked]:
+    """Tokens with their names, of plain tuples."""
+    return [*map(Walked, told)]
 
 
 def from_place(data: bytes, at: int) -> Any:

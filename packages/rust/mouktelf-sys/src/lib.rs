@@ -221,6 +221,8 @@ extern "C" {
     pub fn tds_columns(bytes: *const u8, length: usize, encryption: u8, columns: *mut Column, room: usize, count: &mut usize, taken: &mut usize) -> u8;
     pub fn tds_row_places(columns: *const Column, count: usize, bytes: *const u8, length: usize, places: *mut RowPlace, room: usize, taken: &mut usize) -> u8;
     #[allow(clippy::too_many_arguments)]
+    pub fn tds_places_of_rows(columns: *const Column, count: usize, bytes: *const u8, length: usize, places: *mut RowPlace, room: usize, rows: &mut usize, taken: &mut usize) -> u8;
+    #[allow(clippy::too_many_arguments)]
     pub fn tds_row_values(columns: *const Column, count: usize, first: usize, nulls: *const u8, bits: usize, bytes: *const u8, length: usize, places: *mut RowPlace, room: usize, next: &mut usize, taken: &mut usize) -> u8;
     pub fn tds_parts_next(parts: &mut Parts, bytes: *const u8, length: usize, start: &mut usize, count: &mut usize, taken: &mut usize) -> u8;
     #[allow(clippy::too_many_arguments)]

@@ -62,6 +62,20 @@ impl Columns {
         Ok(taken)
     }
 
+    /// The same of the rows that these bytes begin with, one behind the other, from the first of these bytes on, row by row, at the front
+    /// of `places`: how many rows these are, and how many bytes they have. Behind them stands nothing, another token, a row that isn't
+    /// whole, or one more than there is room for.
+    pub fn places_of_rows(&self, bytes: &[u8], places: &mut [RowPlace]) -> Result<(usize, usize), Fault> {
+        let (mut rows, mut taken) = (0, 0);
+        // SAFETY: each pointer and length is that of one slice or vector.
+        let answer = unsafe {
+            raw::tds_places_of_rows(
+                self.raw.as_ptr(), self.raw.len(), bytes.as_ptr(), bytes.len(), places.as_mut_ptr(), places.len(), &mut rows, &mut taken,
+            )
+        };
+        if matches!(answer, 0 | 1 | 71 | 74) { Ok((rows, taken)) } else { Err(Fault::of(answer)) }
+    }
+
     /// Of bytes that begin with the value of the column `first` of a row, where each value stands that is whole, from the first of these
     /// bytes on; gives which column's value comes next, and where it begins. `nulls` is the null bitmap of an NBCROW. Those places of
     /// `places` are written that are these columns'.

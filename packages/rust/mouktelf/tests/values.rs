@@ -1,7 +1,7 @@
 //! 10,000 random rows of all types: each value as it was made is what its bytes are read as. The bytes are written here, by MS-TDS
 //! 2.2.5.5. (packages/python/test_values.py compares the same with python-tds.)
 
-use mouktelf::rows::{Columns, Parts};
+use mouktelf::rows::{Columns, Parts, RowPlace};
 use mouktelf::values::{joined_parts, value_of, Day, Decimal, Type, Value};
 
 const ROWS: usize = 10_000;
@@ -199,6 +199,17 @@ fn rows_are_read() {
     assert_eq!(columns.places(&[&row[..], &[0xD1]].concat(), &mut places), Ok(row.len()));
     assert_eq!(places.iter().map(|it| (it.start, it.length, it.null)).collect::<Vec<_>>(), [(2, 4, 0), (8, 2, 0), (18, 12, 0)]);
     assert!(columns.values(&row[..20]).is_err());
+    // Both rows behind one another, and a DONE; where there is room for one alone; where the second is cut.
+    let both = [&row[..], &[0xD2, 0b110, 4, 9, 0, 0, 0, 0xFD]].concat();
+    let mut room = [RowPlace::default(); 7];
+    assert_eq!(columns.places_of_rows(&both, &mut room), Ok((2, row.len() + 7)));
+    assert_eq!(
+        room[..6].iter().map(|it| (it.start, it.length, it.null)).collect::<Vec<_>>(),
+        [(2, 4, 0), (8, 2, 0), (18, 12, 0), (37, 4, 0), (41, 0, 1), (41, 0, 1)]
+    );
+    assert_eq!(columns.places_of_rows(&both, &mut room[..5]), Ok((1, row.len())));
+    assert_eq!(columns.places_of_rows(&both[..40], &mut room), Ok((1, row.len())));
+    assert_eq!(columns.places_of_rows(&[], &mut []), Ok((0, 0)));
     // Its bytes up to anywhere: the values that are whole, from any column on, and one in parts as it comes.
     assert_eq!(columns.come(0, &[], &row[1..20], &mut places), Ok((2, 9)));
     assert_eq!((places[1].start, places[1].length), (7, 2));

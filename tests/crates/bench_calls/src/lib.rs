@@ -7,10 +7,13 @@
 //! memory KIND COUNT SIZE` makes so many idle ends or pools at once, so that its memory can be seen.
 //! `bench_calls leases COUNT TIMES` makes a pool of so many connections, lends the one that is free, the
 //! last, and gives it back, so many times.
+//! `bench_calls exchanges COUNT TIMES` makes a service of so many connections, all of them held, and does
+//! so many requests with their answers on the last one.
 #![tactic(auto)]
 
 mod asking;
 mod counted;
+mod exchanging;
 mod fault;
 mod idle;
 mod leasing;
@@ -22,6 +25,7 @@ mod walks;
 
 use asking::{Hear, Take, Values};
 use counted::Counted;
+use exchanging::{all_held, exchange};
 use fault::SpeedFault;
 use idle::Idle;
 use leasing::{lend_last, nearly_lent};
@@ -145,6 +149,9 @@ fn obey(rt: &HostRuntime, words: &[String]) -> Result<(), SpeedFault> {
         [verb, count, times] if verb.as_str() == "leases" => {
             lend(rt, count.as_str(), number(times.as_str())?)
         }
+        [verb, count, times] if verb.as_str() == "exchanges" => {
+            exchange_all(rt, number(count.as_str())?, number(times.as_str())?)
+        }
         [verb, size, names @ ..] if verb.as_str() == "count" => {
             count_all(rt, packet_size(size.as_str())?, names)
         }
@@ -172,6 +179,12 @@ fn lend(rt: &HostRuntime, count: &str, times: u32) -> Result<(), SpeedFault> {
     let count = count.parse::<u16>().map_err(|_| SpeedFault::Usage)?;
     let mut pool = nearly_lent(rt.alloc(), count, packet_size("4096")?)?;
     lend_last(rt.alloc(), &mut pool, times)
+}
+
+/// Does so many exchanges on the last connection of a service of so many.
+fn exchange_all(rt: &HostRuntime, count: u32, times: u32) -> Result<(), SpeedFault> {
+    let (mut service, lease) = all_held(rt.alloc(), count as usize, packet_size("4096")?)?;
+    exchange(rt.alloc(), &mut service, lease, times)
 }
 
 fn count_all(rt: &HostRuntime, size: PacketSize, names: &[String]) -> Result<(), SpeedFault> {

@@ -2,8 +2,9 @@ use Rattle.std.proofs.Common.{List, ap, rules, sym, ◌++◌, ◌∙◌, ℕ}
 use Rattle.tds_relay.specs.declared.link.Link.{Link}
 use Rattle.tds_relay.specs.Reads.{bytes_on, place_of, seen_of}
 use Rattle.tds_relay.specs.Posts.{Post, post_in}
-use Rattle.tds_relay.proofs.spared.Waits.{fills_put, none_waits, one_waits, others_wait, put_waits}
+use Rattle.tds_relay.proofs.spared.Waits.{fills_put, none_waits, one_waits, others_wait, put_unfit, put_waits, waits_same}
 use Rattle.tds_relay.proofs.steps.Staying.{fills_same, stays_written}
+use Rattle.tds_relay.proofs.spared.Begun.{answers_refl, answers_written}
 use Rattle.tds_relay.proofs.links.append_to.Goals as goal
 
 pub returns-clause-read : goal.returns-clause-read
@@ -41,3 +42,20 @@ pub returns-in_default-clause-appends : goal.returns-in_default-clause-appends
 returns-in_default-clause-appends c = λ fits.
     none_waits (λ (waits : List ℕ). waits ++ c.args.bytes.now) c.args.number c.args.links.now.items
     (ap (λ (ls : List Link). place_of c.args.number ls) (sym c.deref.ensures.value) ∙ sym c.place_in.ensures.is ∙ c.in_default.is)
+
+pub returns-clause-unfit : goal.returns-clause-unfit
+returns-clause-unfit c = λ unfit.
+    waits_same c.args.links.now.items c.in-Some.place c.index_mut-link.result.now _
+    (ap (λ (l : Link). l.number) c.index_mut-link.ensures.value)
+    (put_unfit c.args.bytes.now _ _ c.in_ok-append.ensures.post (search rules) ∙ ap bytes_on c.index_mut-link.ensures.value) c.args.number
+
+pub returns-clause-answers : goal.returns-clause-answers
+returns-clause-answers c = answers_written c.args.links.now.items c.in-Some.place c.index_mut-link.result.now _
+    (ap (λ (l : Link). l.number) c.index_mut-link.ensures.value) (ap (λ (l : Link). l.answer) c.index_mut-link.ensures.value)
+
+pub returns-in_err-append-clause-answers : goal.returns-in_err-append-clause-answers
+returns-in_err-append-clause-answers c = answers_written c.args.links.now.items c.in-Some.place c.index_mut-link.result.now _
+    (ap (λ (l : Link). l.number) c.index_mut-link.ensures.value) (ap (λ (l : Link). l.answer) c.index_mut-link.ensures.value)
+
+pub returns-in_default-clause-answers : goal.returns-in_default-clause-answers
+returns-in_default-clause-answers c = answers_refl c.args.links.now.items

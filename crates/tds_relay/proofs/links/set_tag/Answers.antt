@@ -1,4 +1,4 @@
-use Rattle.std.proofs.Common.{List, Some, ap, refl, sym, ◌∙◌}
+use Rattle.std.proofs.Common.{List, Some, ap, sym, ◌∙◌}
 use Rattle.tds_relay.specs.declared.link.Link.{Link}
 use Rattle.tds_relay.specs.Posts.{post_in}
 use Rattle.tds_relay.specs.Reads.{Seen, with_tag, place_of}

@@ -10,6 +10,7 @@ use Rattle.tds_rows.proofs.rows.places_from.Goals as goal
 pub columns-init : goal.columns-init
 columns-init c = record {
   done = c.requires.start;
+  on = omega arith;
   column = omega arith;
   room = refl;
   others = refl;
@@ -35,12 +36,13 @@ columns-preserved c =
     let found = rest_stands c.is_skipped-skipped.result c.columns.done _ bytes c.columns.done (Some (c.in-Some.place, n)) c.in-Some.ensures in
     record {
       done = omega (arith, found.0, length-drop c.columns.done bytes, c.columns.invariant.done);
+      on = omega (arith, c.columns.invariant.on);
       column = omega (arith, less);
-      room = length-set c.columns.places i c.in-Some.place ∙ c.columns.invariant.room;
-      others = drop-set-lt (length c.args.columns.now) c.columns.places i c.in-Some.place less ∙ c.columns.invariant.others;
+      room = length-set c.columns.places i c.write.new.to ∙ c.columns.invariant.room;
+      others = drop-set-lt (length c.args.columns.now) c.columns.places i c.write.new.to less ∙ c.columns.invariant.others;
       exact =
           ap (λ (ps : List Place). with_front ps (values_placed c.args.with_nulls c.args.nulls.now (i + 1) (drop (i + 1) (column_shapes c.args.columns.now)) (c.columns.done + n) (drop (c.columns.done + n) bytes)))
-          (take_more_set c.columns.places i c.in-Some.place room)
+          (take_more_set c.columns.places i c.write.new.to room ∙ ap (λ (p : Place). take i c.columns.places ++ p ∷ []) c.write.ensures)
           ∙ (ap (λ (xs : List ℕ). with_front (take i c.columns.places ++ c.in-Some.place ∷ []) (values_placed c.args.with_nulls c.args.nulls.now (i + 1) (drop (i + 1) (column_shapes c.args.columns.now)) (c.columns.done + n) xs))
           (sym (drop-drop n c.columns.done bytes))
           ∙ (sym (column_step c.args.columns.now i _ (take i c.columns.places) c.args.with_nulls c.args.nulls.now c.columns.done n c.in-Some.place (drop c.columns.done bytes)

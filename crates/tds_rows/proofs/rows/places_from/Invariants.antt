@@ -8,6 +8,7 @@ use Rattle.tds_rows.proofs.rows.places_from.Given as goal
 abbrev pub invariant-columns : goal.invariant-columns
 invariant-columns l = record {
   done : l.done ≤ length l.bytes;
+  on : l.start ≤ l.done;
   column : l.column ≤ length l.columns;
   room : length l.places ≡ length l.fn.places;
   others : drop (length l.columns) l.places ≡ drop (length l.columns) l.fn.places;

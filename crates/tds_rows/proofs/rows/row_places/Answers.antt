@@ -1,7 +1,7 @@
 use Rattle.std.proofs.Common.{rules, arith, ◌<◌, length}
 use Rattle.tds_rows.specs.Finding.{column_shapes}
 use Rattle.tds_rows.proofs.Going.{as_many}
-use Rattle.tds_rows.proofs.Begun.{other_begun, row_none}
+use Rattle.tds_rows.proofs.Begun.{row_none}
 use Rattle.tds_rows.proofs.rows.row_places.Goals as goal
 
 pub returns-then-places-columns-clause-exact : goal.returns-then-places-columns-clause-exact
@@ -10,7 +10,4 @@ returns-then-places-columns-clause-exact c = omega (arith, as_many c.args.column
 pub returns-then-is_empty-clause-exact : goal.returns-then-is_empty-clause-exact
 returns-then-is_empty-clause-exact c =
     let none : length c.args.bytes.now < 1 = search rules in
-    row_none (column_shapes c.args.columns.now) c.args.bytes.now none
-
-pub returns-in_default-clause-exact : goal.returns-in_default-clause-exact
-returns-in_default-clause-exact c = other_begun (column_shapes c.args.columns.now) c.args.bytes.now (search rules) (search rules) (search rules)
+    row_none 0 (column_shapes c.args.columns.now) c.args.bytes.now none

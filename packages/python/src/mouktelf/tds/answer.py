@@ -7,7 +7,11 @@ from ..wire import Tells, Walked
 from . import errors
 from .errors import Message, error_of
 
+# A token that is told: the values of a Walked.
+Told = Tuple[int, ...]
 _COLUMNS, _ROW, _NULLS_ROW, _RETURNED, _ERROR = 0x81, 0xD1, 0xD2, 0xAC, 0xAA
+_STARTS, _LENGTH, _KIND, _TELLS = 0, 1, 2, 3
+_DONE, _MESSAGE, _STATUS = int(Tells.DONE), int(Tells.MESSAGE), int(Tells.RETURN_STATUS)
 _FAILED, _COUNTED = 0x02, 0x10
 _NO_COLUMNS = b"\x81\xff\xff"
 
@@ -33,6 +37,9 @@ class ResultSet:
 class Answer:
     """The answer of one request. `is_ended`: nothing more comes. `failure` makes the error that says why it isn't whole."""
 
+    __slots__ = ("sets", "messages", "outputs", "return_status", "is_ended", "is_dropped", "is_cancelled", "failure", "_open", "_errors",
+                 "_pieces", "_before")
+
     def __init__(self) -> None:
         self.sets: Deque[ResultSet] = collections.deque()
         self.messages: List[Message] = []
@@ -47,44 +54,47 @@ class Answer:
         self._pieces: List[bytes] = []
         self._before = 0
 
-    def hear(self, data: bytes, tokens: List[Walked], ends: bool) -> None:
+    def hear(self, data: bytes, tokens: List[Told], ends: int) -> None:
         """Takes a packet's data, and the tokens that are told of it; `ends` says that its message does."""
         if self.is_cancelled:
             return
-        if not tokens:
-            self._pieces.append(data)
-        else:
-            data = b"".join((*self._pieces, data)) if self._pieces else data
+        if tokens:
+            if self._pieces:
+                data = b"".join((*self._pieces, data))
             self._take(data, tokens)
-            behind = tokens[-1][0] + tokens[-1][1]
-            rest = data[behind - self._before:]
-            self._pieces, self._before = [rest] if rest else [], behind
         if ends:
             self._pieces, self._before = [], 0
+        elif tokens:
+            behind = tokens[-1][_STARTS] + tokens[-1][_LENGTH]
+            rest = data[behind - self._before:]
+            self._pieces, self._before = [rest] if rest else [], behind
+        else:
+            self._pieces.append(data)
 
-    def _take(self, data: bytes, tokens: List[Walked]) -> None:
+    def _take(self, data: bytes, tokens: List[Told]) -> None:
         before = self._before
         for token in tokens:
-            start = token[0] - before
-            if token[12] in (_ROW, _NULLS_ROW):
+            start, kind = token[_STARTS] - before, token[_KIND]
+            own = data[start: start + token[_LENGTH]]
+            if kind == _ROW or kind == _NULLS_ROW:
                 if self._open and not self._open.is_dropped:
-                    self._open.rows.append(data[start: start + token[1]])
+                    self._open.rows.append(own)
+            elif kind == _COLUMNS:
+                if not own.startswith(_NO_COLUMNS):
+                    self._open = ResultSet(own, self.is_dropped)
+                    self.sets.append(self._open)
             else:
-                self._other(token, data, start)
+                self._other(token, own, data)
 
-    def _other(self, token: Walked, data: bytes, start: int) -> None:
-        own, tells = data[start: start + token.length], token.tells
-        if token.kind == _COLUMNS:
-            if not own.startswith(_NO_COLUMNS):
-                self._open = ResultSet(own, self.is_dropped)
-                self.sets.append(self._open)
-        elif tells == Tells.DONE:
-            self._statement_ended(token.status, token.value)
-        elif tells == Tells.MESSAGE:
-            self._told(_message_of(token, data, self._before))
-        elif tells == Tells.RETURN_STATUS:
-            self.return_status = token.number
-        elif token.kind == _RETURNED:
+    def _other(self, token: Told, own: bytes, data: bytes) -> None:
+        tells, named = token[_TELLS], Walked(token)
+        if tells == _DONE:
+            self._statement_ended(named.status, named.value)
+        elif tells == _MESSAGE:
+            self._told(_message_of(named, data, self._before))
+        elif tells == _STATUS:
+            self.return_status = named.number
+        elif named.kind == _RETURNED:
             self.outputs.append(own)
 
     def _told(self, message: Message) -> None:

@@ -9,7 +9,7 @@ from . import bulk, errors
 from .exchange import COMMIT, ROLL_BACK, Alone, begin
 from .place import Place, Row
 from .session import Session
-from .spelling import LoggedIn, Spelling, log_in
+from .spelling import LoggedIn, Spelling, log_in, named
 from .transport import Encrypted, Transport
 
 
@@ -18,14 +18,15 @@ def transport_of(logged_in: LoggedIn) -> Transport:
     return Encrypted(logged_in.socket, logged_in.tls) if logged_in.tls else Transport(logged_in.socket)
 
 
-def connect(dsn: str = "localhost", *, timeout: Optional[float] = None, login_timeout: float = 15, cancel_timeout: float = 10,
-            autocommit: bool = False, isolation_level: int = 0, **how: Any) -> "Connection":
-    """Connects, and logs in by python-tds, whose other words `how` are: port, user, password, database, auth, cafile ..
+def connect(dsn: str = "localhost", *by_place: str, timeout: Optional[float] = None, login_timeout: float = 15,
+            cancel_timeout: float = 10, autocommit: bool = False, isolation_level: int = 0, **how: Any) -> "Connection":
+    """Connects, and logs in by python-tds, whose other words `how` are: port, database, user, password, auth, cafile .. `by_place`
+    are database, user and password.
 
     Of the seconds `timeout` is the limit of each call that waits for an answer (None for none): behind it the request is cancelled.
     `login_timeout` is that of the login, and `cancel_timeout` that of a cancel's acknowledgement, before the connection is given up.
     Raises OperationalError and its kinds where there is no connection, or the login is refused."""
-    found = log_in(dsn, login_timeout, **how)
+    found = log_in(timeout=login_timeout, **named(dsn, by_place, how))
     transport = transport_of(found)
     session = Session(Alone(Client(found.size)), Outgoing(transport.write), found.size, transport, cancel_timeout)
     return Connection(session, found.spelling, timeout, autocommit, isolation_level)
@@ -68,7 +69,7 @@ class Connection:
         session = self.session
         with session.turn:
             session.settle(self.until())
-            return session.link.descriptor != 0
+            return session.descriptor != 0
 
     def until(self) -> Optional[float]:
         """By when a call that begins now is to be done."""
@@ -92,14 +93,14 @@ class Connection:
         session = self.session
         if not self._autocommit:
             session.settle(until)
-            if session.link.descriptor == 0:
+            if session.descriptor == 0:
                 session.run(MessageKind.TRANSACTION, begin(self.isolation_level), until)
 
     def _end(self, body: bytes) -> None:
         session, until = self.session, self.until()
         with session.turn:
             session.settle(until)
-            if session.link.descriptor:
+            if session.descriptor:
                 session.run(MessageKind.TRANSACTION, body, until)
 
     def close(self) -> None:

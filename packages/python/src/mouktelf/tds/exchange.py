@@ -10,12 +10,9 @@ from ..client import Client, MessageKind, packets_of
 from ..fault import Fault
 from ..outgoing import Outgoing
 from ..service import Service
-from ..wire import Walked
 from . import errors
-from .answer import Answer
+from .answer import Answer, Told
 
-# So many bytes of a body are put at once.
-_PART = 1 << 16
 _HEADER = 8
 # The bodies of a transaction's ends (MS-TDS 2.2.6.9).
 COMMIT, ROLL_BACK = b"\7\0\0\0", b"\x08\0\0\0"
@@ -38,17 +35,9 @@ class Alone:
 
     def __init__(self, client: Client) -> None:
         self._client = client
-        self.cancel = client.cancel
-        self.lost = client.lost
-
-    def ask(self, kind: MessageKind, body: bytes) -> bytes:
-        """The packets of a request."""
-        self._client.start_message(kind)
-        return b"".join((*map(self._client.put, _parts(body)), self._client.finish()))
-
-    def hear(self, packet: bytes) -> Tuple[Did, List[Walked]]:
-        """What one packet did, and the tokens that are told."""
-        return self._client.hear(packet)
+        # The packets of a request; what one packet's data did, and the tokens that are told.
+        self.ask, self.hear = client.ask, client.hear_plain
+        self.cancel, self.lost = client.cancel, client.lost
 
     @property
     def descriptor(self) -> int:
@@ -64,17 +53,17 @@ class Leased:
 
     def ask(self, kind: MessageKind, body: bytes) -> bytes:
         """The packets of a request."""
-        self._request = self._service.ask(self.lease, kind).request
-        put = (self._service.put(self.lease, it) for it in _parts(body))
-        return b"".join((*put, self._service.finish(self.lease)))
+        service, lease = self._service, self.lease
+        self._request = service.ask(lease, kind).request
+        return service.put(lease, body) + service.finish(lease)
 
     def cancel(self) -> Tuple[Did, bytes]:
         """Cancels what is underway: the bytes to send."""
         return self._service.cancel(self.lease)
 
-    def hear(self, packet: bytes) -> Tuple[Did, List[Walked]]:
-        """What one packet did, and the tokens that are told: none that is another's."""
-        lease, request, answer, tokens = self._service.hear(self.number, packet)
+    def hear(self, data: bytes, ends: int) -> Tuple[Did, List[Told]]:
+        """What one packet's data did, and the tokens that are told: none that is another's."""
+        lease, request, answer, tokens = self._service.hear_plain(self.number, data, ends)
         if tokens and (lease, request) != (self.lease, self._request):
             raise errors.InternalError(f"lease {self.lease} is told what is lease {lease}'s")
         return answer, tokens
@@ -105,9 +94,9 @@ class Draining:
         """Nobody cancels here: that is done."""
         return Did.ALREADY, b""
 
-    def hear(self, packet: bytes) -> Tuple[Did, List[Walked]]:
-        """What one packet did; nobody is told of it."""
-        _, _, answer, _ = self._service.hear(self._number, packet)
+    def hear(self, data: bytes, ends: int) -> Tuple[Did, List[Told]]:
+        """What one packet's data did; nobody is told of it."""
+        answer = self._service.hear_plain(self._number, data, ends).answer
         if answer == Did.ACKNOWLEDGED:
             self.is_free()
         return answer, []
@@ -125,10 +114,6 @@ class Draining:
     def descriptor(self) -> int:
         """That of the open transaction, 0 for none."""
         return self._service.connection(self._number).descriptor
-
-
-def _parts(body: bytes) -> List[bytes]:
-    return [body[at: at + _PART] for at in range(0, len(body), _PART)]
 
 
 class _Calling:
@@ -172,6 +157,7 @@ class Exchange:
         self.cancel_until: Optional[float] = None
         self.owes_rollback = False
         self._size, self._came, self._descriptor = size, b"", 0
+        self._calling = _Calling(self)
 
     def start(self, answer: Answer, kind: MessageKind, body: bytes) -> None:
         """Asks, where nothing is underway: from here on what comes is this answer's."""
@@ -180,7 +166,7 @@ class Exchange:
         if self._came:
             raise self.lost("a part of a packet has come where nothing was asked")
         try:
-            with _Calling(self):
+            with self._calling:
                 packets = self.link.ask(kind, body)
                 self.current, answer.is_ended = answer, False
                 self.outgoing.put(packets)
@@ -189,7 +175,7 @@ class Exchange:
 
     def cancel(self, answer: Answer) -> bool:
         """Cancels the request of this answer, where it is underway still: never another one's. From any thread."""
-        with _Calling(self):
+        with self._calling:
             if self.current is not answer or answer.is_cancelled:
                 return False
             attention = self.link.cancel()[1]
@@ -215,26 +201,32 @@ class Exchange:
         if not piece:
             raise self.lost("the server has closed the connection")
         try:
-            packets, self._came = packets_of(self._came + piece, self._size)
+            packets, self._came = packets_of(self._came + piece if self._came else piece, self._size)
             for packet in packets:
-                with _Calling(self):
+                # Nobody cancels meanwhile.
+                with self.outgoing.lock:
                     self._hear(packet)
         except Fault as why:
             error = self.lost(f"the server broke the protocol: {why}")
             if awaited is None or not awaited.is_ended or awaited.failure:
                 raise error from why
+        except Exception:
+            raise
+        except BaseException:
+            self.lost("it was interrupted in the middle of what came")
+            raise
 
     def _hear(self, packet: bytes) -> None:
-        did, tokens = self.link.hear(packet)
+        data, ends = packet[_HEADER:], packet[1] & 1
+        did, tokens = self.link.hear(data, ends)
         answer = self.current
         if answer is None:
             return
-        answer.hear(packet[_HEADER:], tokens, bool(packet[1] & 1))
-        if did not in (Did.FINISHED, Did.ACKNOWLEDGED):
-            return
-        answer.is_ended, self.current = True, None
-        if did == Did.ACKNOWLEDGED:
-            self.cancel_until = None
+        answer.hear(data, tokens, ends)
+        if did is Did.FINISHED:
+            answer.is_ended, self.current = True, None
+        elif did is Did.ACKNOWLEDGED:
+            answer.is_ended, self.current, self.cancel_until = True, None, None
             self.owes_rollback = self.link.descriptor not in (0, self._descriptor)
 
     def lost(self, text: str) -> errors.Error:
@@ -249,6 +241,12 @@ class Exchange:
                 self.link.lost()
             self.close()
         return self.failure()
+
+    @property
+    def descriptor(self) -> int:
+        """That of the open transaction, 0 for none, by what was heard."""
+        with self.outgoing.lock:
+            return self.link.descriptor
 
     @property
     def is_clear(self) -> bool:

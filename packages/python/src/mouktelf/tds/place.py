@@ -1,6 +1,6 @@
 """Where a cursor stands in an answer. Threads and asyncio have the same; who waits is theirs."""
 
-from typing import Any, List, Optional, Sequence, Tuple, Type
+from typing import Any, List, Optional, Tuple, Type
 
 from . import errors
 from .answer import Answer, ResultSet
@@ -76,14 +76,11 @@ class Place:
             raise errors.ProgrammingError("the last request has given no rows")
         return self._set
 
-    def _read(self, rows: Sequence[bytes]) -> List[Row]:
-        return [*map(self._columns.read, rows)] if self._columns else []
-
     def _taken(self, most: Optional[int] = None) -> List[Row]:
         """The rows that are here, at most so many."""
         rows = self._set.rows
         count = len(rows) if most is None else min(most, len(rows))
-        return self._read([rows.popleft() for _ in range(count)])
+        return self._columns.read_all([rows.popleft() for _ in range(count)])  # type: ignore[union-attr]
 
     def _with_outputs(self, parameters: Any) -> Any:
         """A copy of a call's parameters, with what came of those that are outputs."""

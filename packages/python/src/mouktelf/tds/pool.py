@@ -12,7 +12,7 @@ from .answer import Answer
 from .connection import Connection, transport_of
 from .exchange import Draining, Leased
 from .session import Session
-from .spelling import log_in
+from .spelling import log_in, named
 from .table import CLEANING, Line, Statistics, Table
 
 
@@ -60,7 +60,7 @@ class Pool:
     Each lease finds a session as a new one is: its first request asks for a reset. A connection that breaks, or that the server
     closes, is replaced."""
 
-    def __init__(self, dsn: str = "localhost", *, most: int = 8, least: int = 0, wait: float = 30, cleans: bool = False,
+    def __init__(self, dsn: str = "localhost", *by_place: str, most: int = 8, least: int = 0, wait: float = 30, cleans: bool = False,
                  timeout: Optional[float] = None, login_timeout: float = 15, cancel_timeout: float = 10, autocommit: bool = False,
                  isolation_level: int = 0, blocksize: int = 4096, **how: Any) -> None:
         """`least` are opened at once; who finds none free waits up to `wait` seconds, the first one first. With `cleans` each is
@@ -68,7 +68,7 @@ class Pool:
         of `connect`."""
         self.timeout, self.autocommit, self.isolation_level = timeout, autocommit, isolation_level
         self._wait, self._cleans, self._login_timeout, self._cancel_timeout = wait, cleans, login_timeout, cancel_timeout
-        self._how = dict(how, dsn=dsn, blocksize=blocksize)
+        self._how = dict(named(dsn, by_place, how), blocksize=blocksize)
         self._table = Table(most, blocksize)
         for it in [self.connection() for _ in range(least)]:
             it.close()
@@ -95,6 +95,9 @@ class Pool:
         return Session(link, line.outgoing, line.size, line.transport, self._cancel_timeout)
 
     def _lease(self, until: float) -> Lent:
+        at_once = self._table.lease()
+        if at_once:
+            return at_once
         mine, is_woken = threading.Event(), False
         while True:
             mine.clear()

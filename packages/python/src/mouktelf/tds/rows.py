@@ -60,7 +60,14 @@ class Columns:
 
     def read(self, row: bytes) -> Row:
         """The values of a ROW or NBCROW. DataError where they can't be read."""
-        return readable(self._with_nulls if row[0] == _NULLS else self._whole, row)
+        return readable(self._values, row)
+
+    def read_all(self, rows: List[bytes]) -> List[Row]:
+        """The same of some rows."""
+        return readable(lambda it: [*map(self._values, it)], rows)
+
+    def _values(self, row: bytes) -> Row:
+        return self._with_nulls(row) if row[0] == _NULLS else self._whole(row)
 
     def _whole(self, row: bytes) -> Row:
         found, at = [], 1
@@ -94,8 +101,8 @@ def returned(token: bytes) -> Tuple[int, Any]:
     return place, take(token, reader.at)[0]
 
 
-def readable(read: Callable[[bytes], Any], token: bytes) -> Any:
-    """What is read of a token. DataError where it can't be: the session is none the worse for it."""
+def readable(read: Callable[[Any], Any], token: Any) -> Any:
+    """What is read of a token, or of some. DataError where it can't be: the session is none the worse for it."""
     try:
         return read(token)
     except (errors.Error, MemoryError):

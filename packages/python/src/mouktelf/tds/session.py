@@ -9,10 +9,7 @@ from ..outgoing import Outgoing
 from . import errors
 from .answer import Answer
 from .exchange import ROLL_BACK, Exchange, Late, Link
-from .transport import Transport
-
-# A wait looks so often, in seconds, whether somebody else has cancelled meanwhile.
-LOOK = 1.0
+from .transport import LOOK, Transport
 
 
 class Session(Exchange):
@@ -29,12 +26,17 @@ class Session(Exchange):
     def ask(self, answer: Answer, kind: MessageKind, body: bytes, until: Optional[float]) -> None:
         """Asks, behind what is underway."""
         with self.turn:
-            self.settle(until)
+            if self.current or self.failure or self.owes_rollback:
+                self.settle(until)
             # What has come before it is asked isn't its answer: an end, or a breach.
-            strays = None if self.transport.is_quiet() else self.transport.read(0)
-            if strays is not None:
-                self.take(strays)
+            if not self.transport.is_quiet():
+                self._take_strays()
             self.start(answer, kind, body)
+
+    def _take_strays(self) -> None:
+        strays = self.transport.read(0)
+        if strays is not None:
+            self.take(strays)
 
     def run(self, kind: MessageKind, body: bytes, until: Optional[float]) -> Answer:
         """Asks, and reads the whole answer. Raises the first error that it has."""

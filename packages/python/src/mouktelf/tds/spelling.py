@@ -4,7 +4,7 @@ Nothing else of this package knows python-tds. It is asked by `pytds.connect` un
 taken over, and what it keeps of the connection is asked only how values are spelled. Tried with python-tds 1.11."""
 
 import struct
-from typing import Any, List, Mapping, NamedTuple, Optional, Sequence, Tuple
+from typing import Any, Dict, List, Mapping, NamedTuple, Optional, Sequence, Tuple
 
 from ..client import MessageKind
 from . import errors
@@ -17,6 +17,8 @@ except ImportError as why:
 
 output, default, Binary, Column = pytds.output, pytds.default, pytds.Binary, _tds.tds_base.Column
 _BY_NUMBER, _EXECUTE_SQL = 0xFFFF, 10
+# These words may stand behind the server's by their places, as python-tds takes them.
+_BY_PLACE = ("database", "user", "password")
 # What python-tds does with cursors, rows and connections of its own.
 _NOT_OURS = ("use_mars", "pooling", "use_tz", "as_dict", "row_strategy")
 
@@ -31,6 +33,16 @@ class LoggedIn(NamedTuple):
     spelling: "Spelling"
 
 
+def named(dsn: str, by_place: Tuple[str, ...], how: Dict[str, Any]) -> Dict[str, Any]:
+    """The words of a connection by their names, its server's as `dsn`: behind that database, user and password may stand by their
+    places. TypeError: more than these, or one is there twice."""
+    found = dict(zip(_BY_PLACE, by_place))
+    if len(by_place) > len(_BY_PLACE) or found.keys() & how.keys():
+        raise TypeError("by their places stand the server, the database, the user and the password")
+    rest = {name: it for name, it in how.items() if name not in ("server", "host")}
+    return {"dsn": how.get("server") or how.get("host") or dsn, **found, **rest}
+
+
 def log_in(dsn: str, timeout: float, **how: Any) -> LoggedIn:
     """Connects and logs in. `timeout` is in seconds, for each step of it, and `how` as of `pytds.connect`. Raises the errors of this
     package."""
@@ -38,7 +50,6 @@ def log_in(dsn: str, timeout: float, **how: Any) -> LoggedIn:
         raise errors.NotSupportedError(f"{name} is python-tds's own; for a pool there is mouktelf.tds.Pool")
     # By itself python-tds tries several times, and the first time gives a server a twelfth of the limit for each answer.
     how.setdefault("disable_connect_retry", not (how.get("failover_partner") or how.get("load_balancer")))
-    dsn = how.pop("server", None) or dsn
     try:
         return taken_over(pytds.connect(dsn=dsn, autocommit=True, login_timeout=timeout, **how))
     except pytds.Error as why:
@@ -47,6 +58,11 @@ def log_in(dsn: str, timeout: float, **how: Any) -> LoggedIn:
         raise errors.OperationalError(f"no connection to {dsn}: {why}") from why
     except ValueError as why:
         raise errors.InterfaceError(*why.args) from why
+    except Exception as why:
+        # The errors of TLS, and of the file that says whom to trust: python-tds gives them on.
+        if not type(why).__module__.startswith("OpenSSL"):
+            raise
+        raise errors.OperationalError(f"no encrypted connection to {dsn}: {why}") from why
 
 
 def taken_over(connection: Any) -> LoggedIn:
@@ -148,14 +164,14 @@ class _Body(_tds._TdsWriter):
 
 def placed(operation: str, parameters: Any) -> Tuple[str, List[Tuple[str, Any]]]:
     """The text with a name in each place of a parameter, and the names with their values. Of None the text says NULL."""
-    if isinstance(parameters, Mapping):
-        names = {name: f"@{name}" for name in parameters}
-        places: Any = {name: "NULL" if value is None else names[name] for name, value in parameters.items()}
-        pairs = [(names[name], value) for name, value in parameters.items()]
-    else:
-        pairs = [(f"@P{place}", value) for place, value in enumerate(parameters, 1)]
-        places = tuple("NULL" if value is None else name for name, value in pairs)
     try:
+        if isinstance(parameters, Mapping):
+            names = {name: f"@{name}" for name in parameters}
+            places: Any = {name: "NULL" if value is None else names[name] for name, value in parameters.items()}
+            pairs = [(names[name], value) for name, value in parameters.items()]
+        else:
+            pairs = [(f"@P{place}", value) for place, value in enumerate(parameters, 1)]
+            places = tuple("NULL" if value is None else name for name, value in pairs)
         return operation % places, [it for it in pairs if it[1] is not None]
     except (TypeError, KeyError, ValueError) as why:
         raise errors.ProgrammingError(f"the parameters don't fit the text: {why}") from why

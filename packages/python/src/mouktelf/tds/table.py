@@ -70,18 +70,18 @@ class Table:
         except Fault as why:
             raise errors.InterfaceError(f"the pool refuses it: {why}") from why
 
-    def lease(self, wakes: Callable[[], object], is_woken: bool) -> Optional[Lent]:
-        """Lends a connection, where one can be, and nobody waits who came before. Else None, and who asks waits: at the end, or at
-        the front where he was woken for nothing."""
+    def lease(self, wakes: Optional[Callable[[], object]] = None, is_woken: bool = False) -> Optional[Lent]:
+        """Lends a connection, where one can be, and nobody waits who came before. Else None, and who says what wakes him waits: at
+        the end, or at the front where he was woken for nothing."""
         with self.lock:
             if self.is_closed:
                 raise errors.InterfaceError("the pool is closed")
             lent = self._lease() if is_woken or not self.waiting else None
             if lent:
                 self.leases, self.lent = self.leases + 1, self.lent + 1
-            elif is_woken:
+            elif is_woken and wakes:
                 self.waiting.appendleft(wakes)
-            else:
+            elif wakes:
                 self.waits += 1
                 self.waiting.append(wakes)
             return lent

@@ -3,6 +3,7 @@
 import contextlib
 import select
 import socket
+import struct
 import threading
 import time
 from typing import Any, Optional
@@ -10,13 +11,17 @@ from typing import Any, Optional
 _AT_ONCE = 1 << 16
 # So many seconds a peer may take nothing of what is written, before the connection is given up.
 STALLS = 60.0
+# A wait looks so often, in seconds, whether somebody else has cancelled meanwhile.
+LOOK = 1.0
 
 
 class Transport:
     """The bytes of one connection."""
 
     def __init__(self, sock: socket.socket) -> None:
-        sock.setblocking(False)
+        sock.setblocking(True)
+        # A struct timeval. So a read is one call of the system, without a poll before it.
+        sock.setsockopt(socket.SOL_SOCKET, socket.SO_RCVTIMEO, struct.pack("ll", int(LOOK), 0))
         self._socket = sock
         self._readable, self._writable = select.poll(), select.poll()
         self._readable.register(sock, select.POLLIN)
@@ -27,14 +32,14 @@ class Transport:
         left = memoryview(data)
         while left:
             try:
-                left = left[self._socket.send(left):]
+                left = left[self._socket.send(left, socket.MSG_DONTWAIT):]
             except BlockingIOError:
                 if not self._writable.poll(STALLS * 1000):
                     raise OSError(f"the server has taken nothing for {STALLS:.0f} s") from None
 
     def read(self, seconds: float) -> Optional[bytes]:
-        """What has come, after at most so many seconds: empty where the peer has closed, None where nothing came."""
-        if not self._readable.poll(max(seconds, 0) * 1000):
+        """What has come, after at most so many seconds, and `LOOK`: empty where the peer has closed, None where nothing came."""
+        if seconds < LOOK and not self._readable.poll(max(seconds, 0) * 1000):
             return None
         try:
             return self._socket.recv(_AT_ONCE)

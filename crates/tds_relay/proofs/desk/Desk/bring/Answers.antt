@@ -1,4 +1,5 @@
 use Rattle.tds_relay.proofs.bytes.Walking.{lease_stand, same_stand}
+use Rattle.tds_relay.proofs.spared.Cleaned.{any_text}
 use Rattle.tds_relay.proofs.desk.Desk.bring.Goals as goal
 
 pub returns-clause-stand : goal.returns-clause-stand
@@ -6,3 +7,6 @@ returns-clause-stand c = λ n r h. c.in_ok-is_there.ensures.stand n r (lease_sta
 
 pub returns-in-Err-clause-stand : goal.returns-in-Err-clause-stand
 returns-in-Err-clause-stand c = same_stand c.args.self.now.service c.lease.new.self c.in-Err.ensures.err c.in-Err.ensures.makes c.in-Err.ensures.keeps
+
+pub returns-clause-ends : goal.returns-clause-ends
+returns-clause-ends c = λ there. any_text c.cleaning_text.result.now _ _ _ c.cleaning_text.ensures (c.in_ok-is_there.ensures.ends there)

@@ -1,5 +1,7 @@
 use Rattle.std.proofs.Common.{refl, rules}
 use Rattle.tds_relay.proofs.spared.Aside.{left_others, none_others}
+use Rattle.tds_relay.specs.Desk.{find_key}
+use Rattle.tds_relay.proofs.spared.Cleaned.{ends_none, ends_some, text_is}
 use Rattle.tds_relay.proofs.desk.Desk.leave.Goals as goal
 
 pub returns-in_default-clause-others : goal.returns-in_default-clause-others
@@ -7,3 +9,10 @@ returns-in_default-clause-others c = none_others c.args.self.now _ c.args.key re
 
 pub returns-clause-others : goal.returns-clause-others
 returns-clause-others c = left_others c.args.self.now _ c.args.key c.in-Some.hold (search rules) (search rules) c.in_ok-is_there.ensures.aside
+
+pub returns-in_default-clause-ends : goal.returns-in_default-clause-ends
+returns-in_default-clause-ends c = ends_none c.args.self.now.service (find_key c.args.key c.args.self.now.holds.items) _ _
+
+pub returns-clause-ends : goal.returns-clause-ends
+returns-clause-ends c = ends_some c.args.self.now.service (find_key c.args.key c.args.self.now.holds.items) c.in-Some.hold _ _ _ (search rules)
+    (λ there. text_is c.cleaning_text.result.now _ _ _ c.cleaning_text.ensures (c.in_ok-is_there.ensures.ends there))

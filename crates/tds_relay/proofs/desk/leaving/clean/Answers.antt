@@ -7,6 +7,7 @@ use Rattle.tds_relay.proofs.steps.Made.{cleaned_whole, cleaned_unended}
 use Rattle.tds_service.specs.Service as calls
 use Rattle.tds_relay.proofs.bytes.Walking.{keeps_stand, same_stand}
 use Rattle.tds_relay.proofs.spared.Aside.{above_given, called_for, forgot_for, lent_given, refl_for, refused_for, same_for}
+use Rattle.tds_relay.proofs.spared.Cleaned.{cleans}
 use Rattle.tds_relay.proofs.desk.leaving.clean.Goals as goal
 
 pub returns-in_default-finish-clause-makes : goal.returns-in_default-finish-clause-makes
@@ -80,3 +81,8 @@ returns-clause-aside c = λ but lease client differs aside there.
     (called_for lease c.in-Ok.lent.lease c.args.number c.ask.new.self c.put.new.self c.finish.new.self (calls.Put c.in-Ok.lent.lease (puts_on c.in-Ok.lent.lease c.ask.new.self c.args.text.now)) tt c.in-Ok-put.ensures.ok.service_is c.in-Ok-put.ensures.clients (lent_given (service_in c.args.service.now) c.args.number c.in-Ok.lent.lease c.in-Ok.lent.number c.in-Ok.lent.had lease c.in-Ok.ensures.ok.reply_is aside.given)
     (called_for lease c.in-Ok.lent.lease c.args.number c.put.new.self c.finish.new.self c.finish.new.self (calls.Finish c.in-Ok.lent.lease (puts_on c.in-Ok.lent.lease c.put.new.self [])) tt c.in-Ok-finish.ensures.ok.service_is c.in-Ok-finish.ensures.clients (lent_given (service_in c.args.service.now) c.args.number c.in-Ok.lent.lease c.in-Ok.lent.number c.in-Ok.lent.had lease c.in-Ok.ensures.ok.reply_is aside.given)
     (refl_for lease c.args.number c.finish.new.self))))) client aside there
+
+pub returns-clause-puts : goal.returns-clause-puts
+returns-clause-puts c = λ there.
+    cleans c.args.text.now c.in-Ok.lent.lease c.clean.new.self c.ask.new.self c.put.new.self c.finish.new.self c.args.out.now.items c.put.new.out.items c.finish.new.out.items c.in-Ok-ask.ensures.opened c.in-Ok-put.ensures.puts
+    c.in-Ok-finish.ensures.ends

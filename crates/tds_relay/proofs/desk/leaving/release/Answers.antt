@@ -8,6 +8,7 @@ use Rattle.tds_relay.proofs.bytes.Walking.{same_stand}
 use Rattle.tds_service.specs.Service as calls
 use Rattle.tds_relay.proofs.steps.Reaching.{ok_more}
 use Rattle.tds_relay.proofs.spared.Aside.{called_for, forgot_for, refl_for, refused_for}
+use Rattle.tds_relay.proofs.spared.Cleaned.{cancelled, cancelled_cleaned}
 use Rattle.tds_relay.proofs.desk.leaving.release.Goals as goal
 
 pub returns-in-Ok-default-Free-clause-makes : goal.returns-in-Ok-default-Free-clause-makes
@@ -53,3 +54,10 @@ pub returns-in_ok-forget-in-Err-clause-aside : goal.returns-in_ok-forget-in-Err-
 returns-in_ok-forget-in-Err-clause-aside c = λ lease client differs aside there.
     (refused_for lease c.args.hold.lease c.args.hold.number c.args.service.now c.give_back.new.self c.forget.new.service c.in-Err.ensures.err c.give_back.ensures.clients differs
     (forgot_for lease c.args.hold.number c.give_back.new.self c.forget.new.service c.in_ok-forget-in-Err.ensures.clients)) client aside there
+
+pub returns-in-Ok-default-Free-clause-ends : goal.returns-in-Ok-default-Free-clause-ends
+returns-in-Ok-default-Free-clause-ends c = IfOk-weaker c.clean.result _ _
+    (λ is_there h there. cancelled_cleaned c.args.text.now c.args.hold.lease c.args.service.now c.args.out.now.items c.give_back.new.out.items c.clean.new.out.items c.in-Ok-default-Free.ensures.stops (h there)) c.clean.ensures.puts
+
+pub returns-in-Ok-default-Draining-clause-ends : goal.returns-in-Ok-default-Draining-clause-ends
+returns-in-Ok-default-Draining-clause-ends c = λ there. cancelled c.args.text.now c.args.hold.lease c.args.service.now c.args.out.now.items c.give_back.new.out.items c.in-Ok-default-Draining.ensures.stops

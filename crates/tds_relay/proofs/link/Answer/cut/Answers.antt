@@ -1,7 +1,7 @@
 use Rattle.std.proofs.Common.{◌≡◌, ◌∙◌, ◌++◌, ◌<◌, Bool, [], ap, drop, length, rules, subst, sym}
 use Rattle.tds_wire.specs.Reading.{Reading, found_to, next_token}
 use Rattle.tds_relay.specs.Cutting.{known_behind, left_of, passed_on}
-use Rattle.tds_relay.proofs.bytes.Cuts.{ended_is, kept_all, kept_on, known_all, no_bytes, refused_is}
+use Rattle.tds_relay.proofs.bytes.Cuts.{ended_is, kept_all, kept_on, known_all, no_bytes, refused_is, stands_all, stands_none}
 use Rattle.tds_relay.proofs.link.Answer.cut.Goals as goal
 
 pub tokens-preserved : goal.tokens-preserved
@@ -16,6 +16,7 @@ tokens-preserved c =
     record {
       kept = on.0 ∙ c.tokens.invariant.kept;
       known = on.1 ∙ c.tokens.invariant.known;
+      stands = on.2 ∙ c.tokens.invariant.stands;
       size = c.in_ok-pass.ensures.size ∙ c.tokens.invariant.size;
     }
 
@@ -23,22 +24,34 @@ pub returns-after-tokens-clause-kept : goal.returns-after-tokens-clause-kept
 returns-after-tokens-clause-kept c =
     let zero : length c.tokens.rest.now ≡ 0 = search rules in
     let none : c.tokens.rest.now ≡ [] = no_bytes c.tokens.rest.now zero in
-    kept_all _ _ c.tokens.self.known (left_of c.tokens.self.known c.tokens.self.walker c.tokens.rest.now) (ended_is c.tokens.self.known c.tokens.self.walker c.tokens.rest.now none) c.tokens.invariant.kept
+    kept_all _ _ c.tokens.self.known (left_of c.tokens.self.known c.tokens.self.walker c.tokens.rest.now) _ (ended_is c.tokens.self.known c.tokens.self.walker c.tokens.rest.now none) c.tokens.invariant.kept
 
 pub returns-after-tokens-clause-known : goal.returns-after-tokens-clause-known
 returns-after-tokens-clause-known c =
     let zero : length c.tokens.rest.now ≡ 0 = search rules in
     let none : c.tokens.rest.now ≡ [] = no_bytes c.tokens.rest.now zero in
-    known_all _ c.tokens.self.known (left_of c.tokens.self.known c.tokens.self.walker c.tokens.rest.now) (ended_is c.tokens.self.known c.tokens.self.walker c.tokens.rest.now none) c.tokens.invariant.known
+    known_all _ c.tokens.self.known (left_of c.tokens.self.known c.tokens.self.walker c.tokens.rest.now) _ (ended_is c.tokens.self.known c.tokens.self.walker c.tokens.rest.now none) c.tokens.invariant.known
 
 pub returns-in_default-clause-kept : goal.returns-in_default-clause-kept
 returns-in_default-clause-kept c =
     let some : 0 < length c.tokens.rest.now = search rules in
-    kept_all _ _ c.tokens.self.known (left_of c.tokens.self.known c.tokens.self.walker c.tokens.rest.now)
+    kept_all _ _ c.tokens.self.known (left_of c.tokens.self.known c.tokens.self.walker c.tokens.rest.now) _
     (refused_is c.tokens.self.known c.tokens.self.walker c.tokens.rest.now c.in_default.field-0 some (sym c.in_default.ensures.exact)) c.tokens.invariant.kept
 
 pub returns-in_default-clause-known : goal.returns-in_default-clause-known
 returns-in_default-clause-known c =
     let some : 0 < length c.tokens.rest.now = search rules in
-    known_all _ c.tokens.self.known (left_of c.tokens.self.known c.tokens.self.walker c.tokens.rest.now)
+    known_all _ c.tokens.self.known (left_of c.tokens.self.known c.tokens.self.walker c.tokens.rest.now) _
     (refused_is c.tokens.self.known c.tokens.self.walker c.tokens.rest.now c.in_default.field-0 some (sym c.in_default.ensures.exact)) c.tokens.invariant.known
+
+pub returns-after-tokens-clause-stands : goal.returns-after-tokens-clause-stands
+returns-after-tokens-clause-stands c = λ next there.
+    let zero : length c.tokens.rest.now ≡ 0 = search rules in
+    let none : c.tokens.rest.now ≡ [] = no_bytes c.tokens.rest.now zero in
+    stands_all _ c.tokens.self.known (left_of c.tokens.self.known c.tokens.self.walker c.tokens.rest.now) c.tokens.self.walker next (ended_is c.tokens.self.known c.tokens.self.walker c.tokens.rest.now none) c.tokens.invariant.stands there
+
+pub returns-in_default-clause-stands : goal.returns-in_default-clause-stands
+returns-in_default-clause-stands c = λ next there.
+    let some : 0 < length c.tokens.rest.now = search rules in
+    absurd (stands_none _ c.tokens.self.known (left_of c.tokens.self.known c.tokens.self.walker c.tokens.rest.now) next
+    (refused_is c.tokens.self.known c.tokens.self.walker c.tokens.rest.now c.in_default.field-0 some (sym c.in_default.ensures.exact)) c.tokens.invariant.stands there)

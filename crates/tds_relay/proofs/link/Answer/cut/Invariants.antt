@@ -9,5 +9,6 @@ abbrev pub invariant-tokens : goal.invariant-tokens
 invariant-tokens l = record {
   kept : l.kept.items ++ (left_of l.self.known l.self.walker l.rest).bytes ≡ l.fn.kept.items ++ (left_of l.fn.self.known l.fn.self.walker l.fn.bytes).bytes;
   known : (left_of l.self.known l.self.walker l.rest).known ≡ (left_of l.fn.self.known l.fn.self.walker l.fn.bytes).known;
+  stands : (left_of l.self.known l.self.walker l.rest).stands ≡ (left_of l.fn.self.known l.fn.self.walker l.fn.bytes).stands;
   size : l.self.size ≡ l.fn.self.size;
 }

@@ -1,14 +1,14 @@
 use Rattle.std.proofs.Common.{◌≡◌, ◌∙◌, ◌++◌, List, ℕ, ap, subst}
-use Rattle.tds_relay.specs.Cutting.{IsAnew, IsCut, awaited, left_of}
+use Rattle.tds_relay.specs.Cutting.{IsAnew, IsCut, awaited, ends_in, left_of}
 use Rattle.tds_relay.specs.declared.news.Known.{Known}
 use Rattle.tds_relay.specs.News.{awaiting}
 use Rattle.tds_relay.specs.Posts.{post_in, put}
-use Rattle.tds_relay.proofs.bytes.Cuts.{cut_is}
-use Rattle.tds_relay.proofs.steps.Reaching.{ok_more}
+use Rattle.tds_relay.proofs.bytes.Cuts.{behind_is, cut_is}
+use Rattle.tds_relay.proofs.steps.Reaching.{ok_if, ok_more}
 use Rattle.tds_relay.proofs.link.Answer.put_without_news.Goals as goal
 
-pub returns : goal.returns
-returns c =
+pub returns-clause-cut : goal.returns-clause-cut
+returns-clause-cut c =
     let made = c.in_ok-put_data.ensures in
     let kept : c.cut.new.kept.items ≡ (left_of (awaiting c.args.owed c.args.self.now.known) c.args.self.now.walker c.args.bytes.now).bytes =
     c.in_ok-cut.ensures.kept ∙ ap (λ (front : List ℕ). front ++ (left_of c.awaits.new.self c.args.self.now.walker c.args.bytes.now).bytes) c.new-kept.ensures.items
@@ -24,3 +24,9 @@ returns c =
       post ∙ ap (λ (bytes : List ℕ). put bytes (post_in c.args.on.now)) (c.deref-2.ensures.value ∙ made.2 ∙ ap (λ (front : List ℕ). front ++ made.0) c.new-packets.ensures.items),
     ))
     c.append.ensures.post
+
+pub returns-clause-behind : goal.returns-clause-behind
+returns-clause-behind c =
+    let owed = awaited c.args.owed c.args.self.now in
+    ok_if c.append.result _ (behind_is owed c.args.bytes.now c.ends-ends.result (ends_in c.args.header) c.awaits.new.self c.cut.new.self.known c.close.new.self.known c.cut.new.self.walker c.close.new.self.walker c.awaits.ensures
+    c.ends-ends.ensures c.in_ok-cut.ensures.known c.in_ok-cut.ensures.stands c.in_ok-close.ensures.known c.in_ok-close.ensures.walker)

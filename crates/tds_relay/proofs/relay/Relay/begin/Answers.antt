@@ -12,11 +12,11 @@ use Rattle.slab.specs.Slab.{get, with_value}
 use Rattle.tds_relay.proofs.steps.Bodied.{none_closed, same_starts, shut_starts}
 use Rattle.tds_relay.proofs.steps.Going.{begun}
 use Rattle.tds_relay.proofs.steps.Underway.{waits_written, written_there}
-use Rattle.tds_relay.proofs.spared.Ordered.{ordered_refl}
-use Rattle.tds_relay.specs.Posts.{names_of}
 use Rattle.tds_relay.proofs.steps.Posting.{posts_kept}
-use Rattle.tds_relay.proofs.spared.Closings.{closes_both, closes_kept, closes_nobody, closes_on, sees_refl}
 use Rattle.tds_relay.specs.Closings.{Itself}
+use Rattle.tds_relay.proofs.spared.Closings.{closes_both, closes_nobody, closes_on}
+use Rattle.tds_relay.proofs.spared.Sending.{kept_refl}
+use Rattle.tds_relay.proofs.spared.Shutting.{closes_kept, unclosed}
 use Rattle.tds_relay.proofs.relay.Relay.begin.Goals as goal
 
 pub returns-in-false-default-clause-goes : goal.returns-in-false-default-clause-goes
@@ -94,23 +94,23 @@ returns-in-false-default-clause-body c = ok_if c.wait.result _ (_, begun (get (w
 
 pub returns-in_default-message_kind-clause-closes : goal.returns-in_default-message_kind-clause-closes
 returns-in_default-message_kind-clause-closes c = closes_on c.expel.result (Itself c.args.key) _ _ _ c.expel.ensures.closes
-    (closes_kept (Itself c.args.key) _ _ (ends_kept c.args.self.now.applications c.args.key c.in-Some.application.now c.in-Some.application.now c.in-Some.ensures.value refl) (ap names_of (posts_kept c.args.self.now.applications c.args.key c.in-Some.application.now c.in-Some.application.now c.in-Some.ensures.value refl)) refl (sees_refl c.args.self.now.links.items) (ordered_refl c.args.self.now.orders.items))
+    (closes_kept (Itself c.args.key) _ _ (ends_kept c.args.self.now.applications c.args.key c.in-Some.application.now c.in-Some.application.now c.in-Some.ensures.value refl) (posts_kept c.args.self.now.applications c.args.key c.in-Some.application.now c.in-Some.application.now c.in-Some.ensures.value refl) refl (kept_refl c.args.self.now.links.items) (unclosed _ _ refl))
 
 pub returns-in-false-default-clause-closes : goal.returns-in-false-default-clause-closes
 returns-in-false-default-clause-closes c = ok_if c.wait.result _ (closes_both (Itself c.args.key) _ _ _
-    (closes_kept (Itself c.args.key) _ _ (ends_kept c.args.self.now.applications c.args.key c.in-Some.application.now c.forget.new.self c.in-Some.ensures.value c.forget.ensures.end) (ap names_of (posts_kept c.args.self.now.applications c.args.key c.in-Some.application.now c.forget.new.self c.in-Some.ensures.value c.forget.ensures.post)) refl (sees_refl c.args.self.now.links.items) (ordered_refl c.args.self.now.orders.items)) (closes_nobody (Itself c.args.key) _ _ c.wait.ensures.closes))
+    (closes_kept (Itself c.args.key) _ _ (ends_kept c.args.self.now.applications c.args.key c.in-Some.application.now c.forget.new.self c.in-Some.ensures.value c.forget.ensures.end) (posts_kept c.args.self.now.applications c.args.key c.in-Some.application.now c.forget.new.self c.in-Some.ensures.value c.forget.ensures.post) refl (kept_refl c.args.self.now.links.items) (unclosed _ _ refl)) (closes_nobody (Itself c.args.key) _ _ c.wait.ensures.closes))
 
 pub returns-in-true-None-clause-closes : goal.returns-in-true-None-clause-closes
 returns-in-true-None-clause-closes c = closes_on c.start.result (Itself c.args.key) _ _ _ c.start.ensures.closes
-    (closes_kept (Itself c.args.key) _ _ (ends_kept c.args.self.now.applications c.args.key c.in-Some.application.now c.forget.new.self c.in-Some.ensures.value c.forget.ensures.end) (ap names_of (posts_kept c.args.self.now.applications c.args.key c.in-Some.application.now c.forget.new.self c.in-Some.ensures.value c.forget.ensures.post)) refl (sees_refl c.args.self.now.links.items) (ordered_refl c.args.self.now.orders.items))
+    (closes_kept (Itself c.args.key) _ _ (ends_kept c.args.self.now.applications c.args.key c.in-Some.application.now c.forget.new.self c.in-Some.ensures.value c.forget.ensures.end) (posts_kept c.args.self.now.applications c.args.key c.in-Some.application.now c.forget.new.self c.in-Some.ensures.value c.forget.ensures.post) refl (kept_refl c.args.self.now.links.items) (unclosed _ _ refl))
 
 pub returns-then-may_keep_later-clause-closes : goal.returns-then-may_keep_later-clause-closes
-returns-then-may_keep_later-clause-closes c = closes_kept (Itself c.args.key) _ _ (ends_kept c.args.self.now.applications c.args.key c.in-Some.application.now c.forget.new.self c.in-Some.ensures.value c.forget.ensures.end) (ap names_of (posts_kept c.args.self.now.applications c.args.key c.in-Some.application.now c.forget.new.self c.in-Some.ensures.value c.forget.ensures.post)) refl (sees_refl c.args.self.now.links.items) (ordered_refl c.args.self.now.orders.items)
+returns-then-may_keep_later-clause-closes c = closes_kept (Itself c.args.key) _ _ (ends_kept c.args.self.now.applications c.args.key c.in-Some.application.now c.forget.new.self c.in-Some.ensures.value c.forget.ensures.end) (posts_kept c.args.self.now.applications c.args.key c.in-Some.application.now c.forget.new.self c.in-Some.ensures.value c.forget.ensures.post) refl (kept_refl c.args.self.now.links.items) (unclosed _ _ refl)
 
 pub returns-else-may_keep_later-clause-closes : goal.returns-else-may_keep_later-clause-closes
 returns-else-may_keep_later-clause-closes c = closes_on c.renew.result (Itself c.args.key) _ _ _ c.renew.ensures.closes
-    (closes_kept (Itself c.args.key) _ _ (ends_kept c.args.self.now.applications c.args.key c.in-Some.application.now c.forget.new.self c.in-Some.ensures.value c.forget.ensures.end) (ap names_of (posts_kept c.args.self.now.applications c.args.key c.in-Some.application.now c.forget.new.self c.in-Some.ensures.value c.forget.ensures.post)) refl (sees_refl c.args.self.now.links.items) (ordered_refl c.args.self.now.orders.items))
+    (closes_kept (Itself c.args.key) _ _ (ends_kept c.args.self.now.applications c.args.key c.in-Some.application.now c.forget.new.self c.in-Some.ensures.value c.forget.ensures.end) (posts_kept c.args.self.now.applications c.args.key c.in-Some.application.now c.forget.new.self c.in-Some.ensures.value c.forget.ensures.post) refl (kept_refl c.args.self.now.links.items) (unclosed _ _ refl))
 
 pub returns-in-true-Some-Full-clause-closes : goal.returns-in-true-Some-Full-clause-closes
 returns-in-true-Some-Full-clause-closes c = closes_on c.change.result (Itself c.args.key) _ _ _ c.change.ensures.closes
-    (closes_kept (Itself c.args.key) _ _ (ends_kept c.args.self.now.applications c.args.key c.in-Some.application.now c.forget.new.self c.in-Some.ensures.value c.forget.ensures.end) (ap names_of (posts_kept c.args.self.now.applications c.args.key c.in-Some.application.now c.forget.new.self c.in-Some.ensures.value c.forget.ensures.post)) refl (sees_refl c.args.self.now.links.items) (ordered_refl c.args.self.now.orders.items))
+    (closes_kept (Itself c.args.key) _ _ (ends_kept c.args.self.now.applications c.args.key c.in-Some.application.now c.forget.new.self c.in-Some.ensures.value c.forget.ensures.end) (posts_kept c.args.self.now.applications c.args.key c.in-Some.application.now c.forget.new.self c.in-Some.ensures.value c.forget.ensures.post) refl (kept_refl c.args.self.now.links.items) (unclosed _ _ refl))

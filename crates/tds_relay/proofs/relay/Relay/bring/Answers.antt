@@ -9,9 +9,9 @@ use Rattle.tds_relay.proofs.spared.Resting.{go_both, none_go, go_refl}
 use Rattle.tds_relay.proofs.steps.Renaming.{first_called}
 use Rattle.tds_relay.specs.Posts.{names_of}
 use Rattle.tds_relay.proofs.spared.Ordered.{ordered_both}
-use Rattle.tds_relay.proofs.spared.Closings.{closes_both, closes_brought, closes_more, closes_nobody}
 use Rattle.tds_relay.proofs.spared.Lines.{waited}
-use Rattle.tds_relay.specs.Closings.{IsWaiting, Nobody}
+use Rattle.tds_relay.specs.Closings.{IsWaiting, register_in}
+use Rattle.tds_relay.proofs.spared.Closings.{closes_both, closes_more, closes_nobody, closes_refl}
 use Rattle.tds_relay.proofs.relay.Relay.bring.Goals as goal
 
 pub returns-in_default-clause-goes : goal.returns-in_default-clause-goes
@@ -87,12 +87,23 @@ returns-clause-kept c = c.in_ok-serve_line.ensures.kept ∙ c.in_ok-send_unheld.
 pub returns-clause-closes : goal.returns-clause-closes
 returns-clause-closes c =
     let old = desk_in c.args.self.now.desk in
-    let mid = desk_in c.send_unheld.new.self.desk in
-    closes_both (IsWaiting old.line) _ _ _
-    (closes_nobody (IsWaiting old.line) _ _ (closes_both Nobody _ _ _ (closes_brought Nobody _ _ _ refl refl refl c.in_ok-push.ensures.items refl refl) c.in_ok-send_unheld.ensures.closes))
-    (closes_more (IsWaiting mid.line) (IsWaiting old.line) _ _
-    (λ key. waited Neither old mid key (λ none. none) (λ from h. c.in_ok-send_unheld.ensures.goes Neither from (reaches_turn Neither from _ _ _ _ _ c.in_ok-left.ensures.turns.2 refl h)))
-    c.in_ok-serve_line.ensures.closes)
+    let mid = desk_in c.send_unheld.new.self.desk in (
+      c.push.new.self.items,
+      inr (_, c.in_ok-push.ensures.items, refl, refl, c.in_ok-link.ensures.nothing),
+      closes_both (IsWaiting old.line) _ _ _ (closes_nobody (IsWaiting old.line) _ _ c.in_ok-send_unheld.ensures.closes)
+          (closes_more (IsWaiting mid.line) (IsWaiting old.line) _ _
+          (λ key. waited Neither old mid key (λ none. none) (λ from h. c.in_ok-send_unheld.ensures.goes Neither from (reaches_turn Neither from _ _ _ _ _ c.in_ok-left.ensures.turns.2 refl h)))
+          c.in_ok-serve_line.ensures.closes),
+    )
+
+pub returns-then-not-is_empty-clause-closes : goal.returns-then-not-is_empty-clause-closes
+returns-then-not-is_empty-clause-closes c = (c.args.self.now.links.items, inl refl, closes_refl (IsWaiting (desk_in c.args.self.now.desk).line) (register_in c.args.self.now))
+
+pub returns-in_default-clause-closes : goal.returns-in_default-clause-closes
+returns-in_default-clause-closes c = (c.args.self.now.links.items, inl refl, closes_refl (IsWaiting (desk_in c.args.self.now.desk).line) (register_in c.args.self.now))
+
+pub returns-then-not-left-clause-closes : goal.returns-then-not-left-clause-closes
+returns-then-not-left-clause-closes c = (c.args.self.now.links.items, inl refl, closes_refl (IsWaiting (desk_in c.args.self.now.desk).line) (register_in c.args.self.now))
 
 pub returns-then-not-is_empty-clause-tries : goal.returns-then-not-is_empty-clause-tries
 returns-then-not-is_empty-clause-tries c =

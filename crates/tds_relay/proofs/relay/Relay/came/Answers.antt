@@ -13,6 +13,9 @@ use Rattle.tds_relay.proofs.spared.Ordered.{ordered_on}
 use Rattle.tds_relay.proofs.spared.Waking.{wakes_on}
 use Rattle.tds_relay.proofs.steps.Reaching.{ok_more, reached_on}
 use Rattle.tds_relay.proofs.steps.Told.{deaf_led_on}
+use Rattle.tds_relay.specs.Closings.{register_in}
+use Rattle.tds_relay.proofs.spared.Closings.{closes_done_on}
+use Rattle.tds_relay.proofs.spared.Few.{few_behind, most_kept}
 use Rattle.tds_relay.proofs.relay.Relay.came.Goals as goal
 
 pub returns-clause-steps : goal.returns-clause-steps
@@ -43,3 +46,9 @@ pub returns-clause-wakes : goal.returns-clause-wakes
 returns-clause-wakes c =
     wakes_on c.serve_line.result (posts_in c.args.self.now.applications) c.hear_all.new.self.applications c.serve_line.new.self.applications _ _ c.in_ok-hear_all.ensures.wakes c.serve_line.ensures.kept c.serve_line.ensures.ordered
     (λ key d. deaf_led_on c.serve_line.result Neither key (hall_in c.hear_all.new.self) (hall_in c.serve_line.new.self) (ok_more c.serve_line.result _ _ (λ m. m Neither) c.serve_line.ensures.moves) d)
+
+pub returns-clause-closes : goal.returns-clause-closes
+returns-clause-closes c = closes_done_on c.serve_line.result _ (register_in c.args.self.now) (register_in c.hear_all.new.self) (register_in c.serve_line.new.self) c.serve_line.ensures.closes c.serve_line.ensures.kept c.in_ok-hear_all.ensures.closes
+
+pub returns-clause-few : goal.returns-clause-few
+returns-clause-few c = few_behind c.serve_line.result _ _ _ _ _ (most_kept _ _ (c.in_ok-hear_all.ensures.closes.told)) (c.in_ok-hear_all.ensures.none) c.serve_line.ensures.few

@@ -9,8 +9,8 @@ use Rattle.tds_relay.specs.Bodies.{body_of, going_of}
 use Rattle.slab.specs.Slab.{get}
 use Rattle.tds_relay.proofs.steps.Bodied.{shut_starts}
 use Rattle.tds_relay.proofs.steps.Going.{waits_starts}
-use Rattle.tds_relay.proofs.spared.Closings.{closes_both, closes_first, closes_nobody}
 use Rattle.tds_relay.specs.Closings.{Itself, Nobody}
+use Rattle.tds_relay.proofs.spared.Closings.{closes_both, closes_first, closes_nobody}
 use Rattle.tds_relay.proofs.relay.Relay.change.Goals as goal
 
 pub returns-then-not-has_nothing_out-clause-moves : goal.returns-then-not-has_nothing_out-clause-moves

@@ -1,8 +1,9 @@
 use Rattle.tds_relay.proofs.steps.Staying.{stays_same}
 use Rattle.tds_relay.proofs.spared.Ordered.{ordered_closing}
-use Rattle.tds_relay.proofs.spared.Closings.{closes_next, closes_nobody}
 use Rattle.tds_relay.specs.Closings.{IsWho, Itself}
 use Rattle.std.proofs.Common.{◌∙◌, ap, sym, ℕ, Some}
+use Rattle.tds_relay.proofs.spared.Closings.{closes_next, closes_nobody}
+use Rattle.tds_relay.proofs.spared.Begun.{answers_then}
 use Rattle.tds_relay.proofs.relay.Relay.close.Goals as goal
 
 pub returns-in-Some-clause-read : goal.returns-in-Some-clause-read
@@ -16,3 +17,6 @@ returns-in-Some-clause-closes c = closes_next c.end.result (Itself c.in-Some.key
 
 pub returns-in-None-clause-closes : goal.returns-in-None-clause-closes
 returns-in-None-clause-closes c = closes_nobody (IsWho c.args.key) _ _ c.in_ok-close_link.ensures.closes
+
+pub returns-in-Some-clause-answers : goal.returns-in-Some-clause-answers
+returns-in-Some-clause-answers c = answers_then c.end.result _ _ _ c.in_ok-close_link.ensures.answers c.end.ensures.links

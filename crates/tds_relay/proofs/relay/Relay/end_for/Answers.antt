@@ -1,12 +1,13 @@
 use Rattle.tds_relay.specs.Hall.{closes_for}
 use Rattle.tds_relay.proofs.steps.Fronts.{ends_moved, ends_kept}
 use Rattle.tds_relay.proofs.steps.Posting.{posts_kept}
-use Rattle.tds_relay.proofs.spared.Ordered.{ordered_refl}
-use Rattle.tds_relay.specs.Posts.{names_of}
-use Rattle.std.proofs.Common.{ap, refl, ◌∙◌, rules}
-use Rattle.tds_relay.proofs.spared.Closings.{closes_ended, closes_kept, closing_is, sees_refl}
+use Rattle.std.proofs.Common.{ap, refl, ℕ, ◌++◌, ◌∷◌, [], ◌∙◌, rules}
+use Rattle.tds_relay.specs.Closings.{register_in}
+use Rattle.tds_relay.specs.declared.order.Order.TheVariants as orders
 use Rattle.tds_relay.specs.Closings.{Itself}
-use Rattle.slab.specs.Slab.{get}
+use Rattle.tds_relay.proofs.spared.Ended.{closes_ended, its_end, its_name}
+use Rattle.tds_relay.proofs.spared.Sending.{kept_refl}
+use Rattle.tds_relay.proofs.spared.Shutting.{closes_kept, unclosed, over_closes}
 use Rattle.tds_relay.proofs.relay.Relay.end_for.Goals as goal
 
 pub returns-in_ok-push-in-Some-clause-kept : goal.returns-in_ok-push-in-Some-clause-kept
@@ -16,8 +17,12 @@ pub returns-in_ok-push-in-Some-clause-ends : goal.returns-in_ok-push-in-Some-cla
 returns-in_ok-push-in-Some-clause-ends c = ends_moved c.args.self.now.applications c.args.key c.in-Some.application.now c.close.new.self (closes_for c.args.why) c.in-Some.ensures.value c.close.ensures.end
 
 pub returns-then-application-clause-closes : goal.returns-then-application-clause-closes
-returns-then-application-clause-closes c = closes_kept (Itself c.args.key) _ _ (ends_kept c.args.self.now.applications c.args.key c.in-Some.application.now c.in-Some.application.now c.in-Some.ensures.value refl) (ap names_of (posts_kept c.args.self.now.applications c.args.key c.in-Some.application.now c.in-Some.application.now c.in-Some.ensures.value refl)) refl (sees_refl c.args.self.now.links.items) (ordered_refl c.args.self.now.orders.items)
+returns-then-application-clause-closes c = closes_kept (Itself c.args.key) _ _ (ends_kept c.args.self.now.applications c.args.key c.in-Some.application.now c.in-Some.application.now c.in-Some.ensures.value refl) (posts_kept c.args.self.now.applications c.args.key c.in-Some.application.now c.in-Some.application.now c.in-Some.ensures.value refl) refl (kept_refl c.args.self.now.links.items) (unclosed _ _ refl)
 
 pub returns-in_ok-push-in-Some-clause-closes : goal.returns-in_ok-push-in-Some-clause-closes
-returns-in_ok-push-in-Some-clause-closes c = closes_ended c.args.key (closes_for c.args.why) c.args.self.now _ (ends_moved c.args.self.now.applications c.args.key c.in-Some.application.now c.close.new.self (closes_for c.args.why) c.in-Some.ensures.value c.close.ensures.end) (ap names_of (posts_kept c.args.self.now.applications c.args.key c.in-Some.application.now c.close.new.self c.in-Some.ensures.value c.close.ensures.post))
-    (c.in_ok-push-in-Some.ensures.items ∙ closing_is (get c.args.self.now.applications c.args.key) c.in-Some.application.now c.args.self.now.orders.items c.close.new.self.tag c.in-Some.ensures.value (search rules) c.close.ensures.tag) refl refl
+returns-in_ok-push-in-Some-clause-closes c =
+    let old = c.args.self.now in
+    let a = c.in-Some.application.now in
+    closes_ended c.args.key a.tag (closes_for c.args.why) (register_in old) _ (over_closes c.args.why) (ends_moved old.applications c.args.key a c.close.new.self (closes_for c.args.why) c.in-Some.ensures.value c.close.ensures.end)
+    (posts_kept old.applications c.args.key a c.close.new.self c.in-Some.ensures.value c.close.ensures.post) (its_name old c.args.key a c.in-Some.ensures.value (search rules)) (its_end old c.args.key a c.in-Some.ensures.value)
+    (c.in_ok-push-in-Some.ensures.items ∙ ap (λ (n : ℕ). old.orders.items ++ orders.Close n ∷ []) c.close.ensures.tag) refl refl

@@ -10,8 +10,8 @@ use Rattle.tds_relay.specs.Taking.{IsDeaf}
 use Rattle.tds_relay.proofs.steps.Told.{deaf_for, lets_go_deaf}
 use Rattle.tds_relay.proofs.bytes.Calls.{stand_from}
 use Rattle.tds_relay.proofs.spared.Resting.{all_others, all_rest, others_on}
-use Rattle.tds_relay.proofs.spared.Closings.{closes_behind}
 use Rattle.tds_relay.specs.Closings.{Itself}
+use Rattle.tds_relay.proofs.spared.Closings.{closes_behind}
 use Rattle.tds_relay.proofs.relay.Relay.expel_for.Goals as goal
 
 pub returns-clause-goes : goal.returns-clause-goes

@@ -12,8 +12,9 @@ use Rattle.tds_relay.proofs.spared.Resting.{all_on, same_on}
 use Rattle.tds_relay.specs.Fronts.{hall_in}
 use Rattle.tds_relay.proofs.spared.Apart.{alone_both, alone_changed}
 use Rattle.tds_relay.proofs.spared.Ordered.{ordered_closing}
-use Rattle.tds_relay.proofs.spared.Closings.{closes_on}
 use Rattle.tds_relay.specs.Closings.{Itself}
+use Rattle.tds_relay.proofs.spared.Closings.{closes_on}
+use Rattle.tds_relay.proofs.spared.Begun.{answers_then}
 use Rattle.tds_relay.proofs.relay.Relay.fail.Goals as goal
 
 pub returns-clause-goes : goal.returns-clause-goes
@@ -49,3 +50,6 @@ returns-clause-ordered c = ordered_closing c.end.result _ _ _ _ c.end.ensures.or
 
 pub returns-clause-closes : goal.returns-clause-closes
 returns-clause-closes c = closes_on c.end.result (Itself c.args.key) _ _ _ c.end.ensures.closes c.in_ok-lose_own.ensures.closes
+
+pub returns-clause-answers : goal.returns-clause-answers
+returns-clause-answers c = answers_then c.end.result _ _ _ c.in_ok-lose_own.ensures.answers c.end.ensures.links

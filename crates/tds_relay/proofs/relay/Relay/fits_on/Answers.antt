@@ -1,15 +1,20 @@
+use Rattle.std.proofs.Common.{refl, rules}
+use Rattle.tds_relay.specs.Closings.{Nobody, register_in}
 use Rattle.tds_relay.proofs.steps.Staying.{stays_then}
-use Rattle.tds_relay.proofs.spared.Closings.{closes_both, closes_kept}
-use Rattle.tds_relay.specs.Closings.{Nobody}
-use Rattle.tds_relay.proofs.spared.Ordered.{ordered_refl}
-use Rattle.std.proofs.Common.{refl}
+use Rattle.tds_relay.proofs.spared.Shutting.{closes_filled_on, closes_kept, unclosed, unfit_kept}
+use Rattle.tds_relay.proofs.spared.Begun.{answers_same, answers_both}
 use Rattle.tds_relay.proofs.relay.Relay.fits_on.Goals as goal
 
 pub returns-clause-read : goal.returns-clause-read
 returns-clause-read c = stays_then _ _ _ c.append_to.ensures.read c.in_ok-order_write_on.ensures.links
 
 pub returns-then-not-fits-clause-closes : goal.returns-then-not-fits-clause-closes
-returns-then-not-fits-clause-closes c = closes_kept Nobody _ _ refl refl refl c.append_to.ensures.read.seen (ordered_refl c.args.self.now.orders.items)
+returns-then-not-fits-clause-closes c = closes_kept Nobody _ _ refl refl refl (unfit_kept c.args.number _ _ c.append_to.ensures.read.seen c.append_to.ensures.others (c.in_ok-fits.ensures.unfit (search rules))) (unclosed _ _ refl)
 
 pub returns-clause-closes : goal.returns-clause-closes
-returns-clause-closes c = closes_both Nobody _ _ _ (closes_kept Nobody _ _ refl refl refl c.append_to.ensures.read.seen (ordered_refl c.args.self.now.orders.items)) c.in_ok-order_write_on.ensures.closes
+returns-clause-closes c =
+    closes_filled_on Nobody c.args.number c.deref.result.now (register_in c.args.self.now) _ _ c.in_ok-order_write_on.ensures.ends c.in_ok-order_write_on.ensures.kept refl c.append_to.ensures.read.seen c.append_to.ensures.others (c.in_ok-fits.ensures.appends (search rules)) refl
+    c.in_ok-order_write_on.ensures.links c.in_ok-order_write_on.ensures.writes c.in_ok-order_write_on.ensures.closes
+
+pub returns-clause-answers : goal.returns-clause-answers
+returns-clause-answers c = answers_both _ _ _ c.append_to.ensures.answers (answers_same _ _ c.in_ok-order_write_on.ensures.links)

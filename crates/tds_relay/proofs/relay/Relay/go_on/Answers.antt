@@ -1,19 +1,22 @@
-use Rattle.std.proofs.Common.{ap, refl, ◌≡◌, rules}
+use Rattle.std.proofs.Common.{ap, refl, ◌≡◌, ◌∙◌, Option, rules, subst}
 use Rattle.tds_relay.specs.declared.application.Asking.TheVariants as asking
 use Rattle.tds_relay.specs.Hall.{change_end, closes}
 use Rattle.tds_relay.specs.Ties.{Application}
 use Rattle.tds_relay.proofs.steps.Fronts.{ends_kept, moves_closes}
-use Rattle.tds_relay.proofs.steps.Reaching.{ok_more}
+use Rattle.tds_relay.proofs.steps.Reaching.{ok_if, ok_more}
 use Rattle.tds_relay.specs.Bodies.{Closed, Shuts, Stays, body_of, going_of}
 use Rattle.slab.specs.Slab.{get, with_value}
 use Rattle.tds_relay.proofs.steps.Bodied.{none_closed, shut_starts}
 use Rattle.tds_relay.proofs.steps.Going.{grows_going, grows_kept, grows_then}
 use Rattle.tds_relay.proofs.steps.Underway.{written_there}
-use Rattle.tds_relay.proofs.spared.Ordered.{ordered_refl}
-use Rattle.tds_relay.specs.Posts.{names_of}
 use Rattle.tds_relay.proofs.steps.Posting.{posts_kept}
-use Rattle.tds_relay.proofs.spared.Closings.{closes_kept, closes_on, sees_refl}
 use Rattle.tds_relay.specs.Closings.{Itself}
+use Rattle.tds_relay.proofs.spared.Closings.{closes_on}
+use Rattle.tds_relay.proofs.spared.Sending.{kept_refl}
+use Rattle.tds_relay.proofs.spared.Shutting.{closes_kept, unclosed}
+use Rattle.tds_relay.specs.declared.application.Application.{Application as AnApplication}
+use Rattle.tds_relay.specs.Waiting.{KeepsInLine}
+use Rattle.tds_relay.proofs.spared.Lined.{fits_not, goes_waits, kept_more, no_application, nothing_waits}
 use Rattle.tds_relay.proofs.relay.Relay.go_on.Goals as goal
 
 pub returns-then-not-branch-clause-moves : goal.returns-then-not-branch-clause-moves
@@ -66,16 +69,48 @@ returns-in-Goes-clause-body c =
 
 pub returns-in-Nothing-clause-closes : goal.returns-in-Nothing-clause-closes
 returns-in-Nothing-clause-closes c = closes_on c.expel.result (Itself c.args.key) _ _ _ c.expel.ensures.closes
-    (closes_kept (Itself c.args.key) _ _ (ends_kept c.args.self.now.applications c.args.key c.in-Some.application.now c.in-Some.application.now c.in-Some.ensures.value refl) (ap names_of (posts_kept c.args.self.now.applications c.args.key c.in-Some.application.now c.in-Some.application.now c.in-Some.ensures.value refl)) refl (sees_refl c.args.self.now.links.items) (ordered_refl c.args.self.now.orders.items))
+    (closes_kept (Itself c.args.key) _ _ (ends_kept c.args.self.now.applications c.args.key c.in-Some.application.now c.in-Some.application.now c.in-Some.ensures.value refl) (posts_kept c.args.self.now.applications c.args.key c.in-Some.application.now c.in-Some.application.now c.in-Some.ensures.value refl) refl (kept_refl c.args.self.now.links.items) (unclosed _ _ refl))
 
 pub returns-then-not-branch-clause-closes : goal.returns-then-not-branch-clause-closes
 returns-then-not-branch-clause-closes c = closes_on c.expel-then-not-branch.result (Itself c.args.key) _ _ _ c.expel-then-not-branch.ensures.closes
-    (closes_kept (Itself c.args.key) _ _ (ends_kept c.args.self.now.applications c.args.key c.in-Some.application.now c.keep.new.self c.in-Some.ensures.value c.keep.ensures.end) (ap names_of (posts_kept c.args.self.now.applications c.args.key c.in-Some.application.now c.keep.new.self c.in-Some.ensures.value c.keep.ensures.post)) refl (sees_refl c.args.self.now.links.items) (ordered_refl c.args.self.now.orders.items))
+    (closes_kept (Itself c.args.key) _ _ (ends_kept c.args.self.now.applications c.args.key c.in-Some.application.now c.keep.new.self c.in-Some.ensures.value c.keep.ensures.end) (posts_kept c.args.self.now.applications c.args.key c.in-Some.application.now c.keep.new.self c.in-Some.ensures.value c.keep.ensures.post) refl (kept_refl c.args.self.now.links.items) (unclosed _ _ refl))
 
 pub returns-else-not-branch-clause-closes : goal.returns-else-not-branch-clause-closes
 returns-else-not-branch-clause-closes c = closes_on c.seek.result (Itself c.args.key) _ _ _ c.seek.ensures.closes
-    (closes_kept (Itself c.args.key) _ _ (ends_kept c.args.self.now.applications c.args.key c.in-Some.application.now _ c.in-Some.ensures.value c.keep.ensures.end) (ap names_of (posts_kept c.args.self.now.applications c.args.key c.in-Some.application.now _ c.in-Some.ensures.value c.keep.ensures.post)) refl (sees_refl c.args.self.now.links.items) (ordered_refl c.args.self.now.orders.items))
+    (closes_kept (Itself c.args.key) _ _ (ends_kept c.args.self.now.applications c.args.key c.in-Some.application.now _ c.in-Some.ensures.value c.keep.ensures.end) (posts_kept c.args.self.now.applications c.args.key c.in-Some.application.now _ c.in-Some.ensures.value c.keep.ensures.post) refl (kept_refl c.args.self.now.links.items) (unclosed _ _ refl))
 
 pub returns-in-Goes-clause-closes : goal.returns-in-Goes-clause-closes
 returns-in-Goes-clause-closes c = closes_on c.put.result (Itself c.args.key) _ _ _ c.put.ensures.closes
-    (closes_kept (Itself c.args.key) _ _ (ends_kept c.args.self.now.applications c.args.key c.in-Some.application.now c.in-Some.application.now c.in-Some.ensures.value refl) (ap names_of (posts_kept c.args.self.now.applications c.args.key c.in-Some.application.now c.in-Some.application.now c.in-Some.ensures.value refl)) refl (sees_refl c.args.self.now.links.items) (ordered_refl c.args.self.now.orders.items))
+    (closes_kept (Itself c.args.key) _ _ (ends_kept c.args.self.now.applications c.args.key c.in-Some.application.now c.in-Some.application.now c.in-Some.ensures.value refl) (posts_kept c.args.self.now.applications c.args.key c.in-Some.application.now c.in-Some.application.now c.in-Some.ensures.value refl) refl (kept_refl c.args.self.now.links.items) (unclosed _ _ refl))
+
+pub returns-in_default-clause-keeps : goal.returns-in_default-clause-keeps
+returns-in_default-clause-keeps c = λ none. no_application c.args.whole c.args.bytes.now _ _ (search rules)
+
+pub returns-in-Nothing-clause-keeps : goal.returns-in-Nothing-clause-keeps
+returns-in-Nothing-clause-keeps c = λ none.
+    ok_if c.expel.result _
+    (subst (λ (o : Option AnApplication). KeepsInLine c.args.whole c.args.bytes.now o (body_of c.args.key c.expel.new.self)) c.in-Some.ensures.value
+    (λ here fits kind was asks. absurd (nothing_waits c.in-Some.application.now.asking kind was (search rules) asks)))
+
+pub returns-in-Goes-clause-keeps : goal.returns-in-Goes-clause-keeps
+returns-in-Goes-clause-keeps c = λ none.
+    ok_if c.put.result _
+    (subst (λ (o : Option AnApplication). KeepsInLine c.args.whole c.args.bytes.now o (body_of c.args.key c.put.new.self)) c.in-Some.ensures.value
+    (λ here fits kind was asks. absurd (goes_waits c.in-Some.application.now.asking kind was (search rules) asks)))
+
+pub returns-then-not-branch-clause-keeps : goal.returns-then-not-branch-clause-keeps
+returns-then-not-branch-clause-keeps c = λ none.
+    ok_if c.expel-then-not-branch.result _
+    (subst (λ (o : Option AnApplication). KeepsInLine c.args.whole c.args.bytes.now o (body_of c.args.key c.expel-then-not-branch.new.self)) c.in-Some.ensures.value
+    (λ here fits kind was asks. absurd (fits_not _ _ (c.in_ok-keep-in-Waits.ensures.long (search rules)) fits)))
+
+pub returns-else-not-branch-clause-keeps : goal.returns-else-not-branch-clause-keeps
+returns-else-not-branch-clause-keeps c = λ none.
+    let s = c.args.self.now.applications in
+    let a = c.in-Some.application.now in
+    let there = c.in-Some.ensures.value in
+    let kept = c.in_ok-keep-in-Waits.ensures.body (search rules) in
+    ok_more c.seek.result _ _
+    (λ same. subst (λ (o : Option AnApplication). KeepsInLine c.args.whole c.args.bytes.now o (body_of c.args.key c.seek.new.self)) there
+    (λ here fits kind was asks. same ∙ kept_more _ a _ _ c.in-Waits.kind kind _ was c.args.whole c.args.bytes.now (written_there s c.args.key a _ there) here c.in-Waits.is asks refl kept.0 kept.1))
+    (c.seek.ensures.stays none)

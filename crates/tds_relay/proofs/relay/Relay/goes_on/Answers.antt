@@ -2,6 +2,10 @@ use Rattle.tds_relay.specs.declared.desk.coming.What.TheVariants as whats
 use Rattle.tds_relay.specs.Hall.{told}
 use Rattle.tds_relay.proofs.steps.Fronts.{ends_moved}
 use Rattle.tds_relay.proofs.steps.Posting.{posts_kept}
+use Rattle.std.proofs.Common.{refl}
+use Rattle.tds_relay.specs.Closings.{Nobody}
+use Rattle.tds_relay.proofs.spared.Sending.{kept_refl}
+use Rattle.tds_relay.proofs.spared.Shutting.{closes_moved, keeps_goes, unclosed}
 use Rattle.tds_relay.proofs.relay.Relay.goes_on.Goals as goal
 
 pub returns-in-Some-clause-kept : goal.returns-in-Some-clause-kept
@@ -9,3 +13,10 @@ returns-in-Some-clause-kept c = posts_kept c.args.self.now.applications c.args.k
 
 pub returns-in-Some-clause-ends : goal.returns-in-Some-clause-ends
 returns-in-Some-clause-ends c = ends_moved c.args.self.now.applications c.args.key c.in-Some.application.now c.goes_on.new.self (told whats.Goes) c.in-Some.ensures.value c.goes_on.ensures.end
+
+pub returns-in-Some-clause-closes : goal.returns-in-Some-clause-closes
+returns-in-Some-clause-closes c =
+    let s = c.args.self.now.applications in
+    let a = c.in-Some.application.now in
+    closes_moved Nobody c.args.key (told whats.Goes) _ _ keeps_goes (ends_moved s c.args.key a c.goes_on.new.self (told whats.Goes) c.in-Some.ensures.value c.goes_on.ensures.end)
+    (posts_kept s c.args.key a c.goes_on.new.self c.in-Some.ensures.value c.goes_on.ensures.post) refl (kept_refl c.args.self.now.links.items) (unclosed _ _ refl)

@@ -11,6 +11,8 @@ use Rattle.tds_relay.proofs.steps.Placed.{others_written}
 use Rattle.tds_relay.proofs.steps.Staying.{others_open, opens_refl}
 use Rattle.tds_relay.proofs.steps.Reaching.{ok_if}
 use Rattle.std.proofs.Common.{inl}
+use Rattle.tds_relay.specs.Sending.{sending_of}
+use Rattle.tds_relay.proofs.spared.Sending.{same_written, sending_same}
 use Rattle.tds_relay.proofs.relay.Relay.hear.Goals as goal
 
 pub returns-in_default-clause-continues : goal.returns-in_default-clause-continues
@@ -62,3 +64,18 @@ returns-in_default-clause-asks c = λ key goes. refl
 
 pub returns-then-not-link-clause-asks : goal.returns-then-not-link-clause-asks
 returns-then-not-link-clause-asks c = λ key goes. refl
+
+pub returns-in_default-clause-same : goal.returns-in_default-clause-same
+returns-in_default-clause-same c = λ other. (refl, refl)
+
+pub returns-then-not-link-clause-same : goal.returns-then-not-link-clause-same
+returns-then-not-link-clause-same c =
+    same_written c.args.self.now.links.items c.in-Some.place c.index_mut-link.result.now _
+    (ap (λ (l : Link). l.number) c.index_mut-link.ensures.value) (ap sending_of c.index_mut-link.ensures.value) (ap (λ (l : Link). l.is_open) c.index_mut-link.ensures.value)
+
+pub returns-clause-same : goal.returns-clause-same
+returns-clause-same c =
+    ok_if c.hear_on.result _ (same_written c.args.self.now.links.items c.in-Some.place c.index_mut-link.result.now _
+    (c.hear_on.ensures.number ∙ ap (λ (l : Link). l.number) c.index_mut-link.ensures.value)
+    (sending_same c.index_mut-link.result.now c.hear_on.new.link c.hear_on.ensures.tag c.hear_on.ensures.out ∙ ap sending_of c.index_mut-link.ensures.value)
+    (c.hear_on.ensures.is_open ∙ ap (λ (l : Link). l.is_open) c.index_mut-link.ensures.value))

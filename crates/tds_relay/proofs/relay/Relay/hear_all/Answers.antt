@@ -17,6 +17,10 @@ use Rattle.tds_relay.proofs.steps.Reaching.{ok_more, reached_on}
 use Rattle.tds_relay.proofs.steps.Renaming.{names_on}
 use Rattle.tds_relay.proofs.steps.Staying.{gone_open, opens_refl, others_both, others_open, others_stay, others_stay_on}
 use Rattle.tds_relay.proofs.bytes.Streaming.{streams_begin, streams_left, streams_lost, streams_on}
+use Rattle.tds_relay.specs.Closings.{Anybody, ClosesOnly, but_told, register_in}
+use Rattle.tds_relay.proofs.spared.Closings.{closes_done_on, closes_refl, one_closes}
+use Rattle.tds_relay.proofs.spared.Few.{none_both, none_heard, none_on, none_refl, none_stays}
+use Rattle.tds_relay.specs.Few.{NoneNew}
 use Rattle.tds_relay.proofs.relay.Relay.hear_all.Goals as goal
 use Rattle.tds_relay.proofs.relay.Relay.hear_all.Goals.{else-taking-test, then-taking-test+else-is_empty+in_ok-count+in_ok-heard+else-counter-end}
 
@@ -27,7 +31,9 @@ taking-init c = record {
   streams = streams_begin c.args.number (open_at c.args.number c.args.self.now.links.items) (house_in c.args.self.now) c.args.self.now.desk.service c.args.piece.now;
   others = others_open c.args.number _ _ (opens_refl c.args.self.now.links.items);
   bodies = λ reached. along_refl c.args.self.now;
+  closes = closes_refl Anybody (register_in c.args.self.now);
   ordered = ordered_refl c.args.self.now.orders.items;
+  none = none_refl c.args.self.now.links.items;
   wakes = wakes_same (posts_in c.args.self.now.applications) c.args.self.now.applications c.args.self.now.orders.items refl;
 }
 
@@ -43,7 +49,12 @@ taking-preserved c = record {
   others = others_stay c.args.number _ _ _ (others_both c.args.number _ _ _ c.taking.invariant.others c.in_ok-count.ensures.others) c.in_ok-heard.ensures.read;
   bodies = λ reached.
       one_along c.args.number c.args.self.now c.taking.self c.hear.new.self c.heard.new.self reached (c.taking.invariant.bodies reached) c.taking.invariant.goes c.in_ok-count.ensures.goes c.in_ok-count.ensures.asks c.in_ok-heard.ensures.bodies;
+  closes =
+      one_closes (register_in c.args.self.now) (register_in c.taking.self) (register_in c.hear.new.self) (register_in c.heard.new.self) c.taking.invariant.closes c.in_ok-count.ensures.ends c.in_ok-count.ensures.names c.in_ok-count.ensures.same c.hear.ensures.orders c.hear.ensures.most c.in_ok-heard.ensures.closes c.in_ok-heard.ensures.kept;
   ordered = ordered_more _ _ _ _ c.taking.invariant.ordered c.hear.ensures.orders c.in_ok-heard.ensures.ordered;
+  none =
+      none_both _ _ _ c.taking.invariant.none
+      (none_both _ _ _ (none_heard _ _ (λ other. (c.in_ok-count.ensures.same other).0)) (none_stays _ _ c.in_ok-heard.ensures.read));
   wakes =
       one_wakes c.args.number (posts_in c.args.self.now.applications) c.taking.self c.hear.new.self c.heard.new.self _ c.taking.invariant.wakes c.in_ok-count.ensures.ends c.in_ok-count.ensures.names c.in_ok-count.ensures.puts c.hear.ensures.orders
       c.in_ok-heard.ensures.kept c.in_ok-heard.ensures.ordered c.in_ok-heard.ensures.moves c.in_ok-heard.ensures.wakes;
@@ -139,3 +150,28 @@ returns-clause-goes c =
           subst to (sym w.self-is) (λ from h. w.in_ok-heard.ensures.goes from (w.in_ok-count.ensures.goes from (c.taking.invariant.goes from h)))
     ] in
     ok_more c.lose.result _ _ (λ g from h. g (Connection c.args.number) from (led from h)) c.lose.ensures.goes
+
+pub returns-clause-closes : goal.returns-clause-closes
+returns-clause-closes c =
+    let to : Relay → Type 0 = λ r. ClosesOnly Anybody (but_told (register_in r) (register_in c.args.self.now)) (register_in r) in
+    let led : to c.taking-test.self =
+    elim c.taking-test.branch [
+      | else-taking-test w ↦ subst to (sym w.self-is) c.taking.invariant.closes
+      | then-taking-test+else-is_empty+in_ok-count+in_ok-heard+else-counter-end w ↦
+          subst to (sym w.self-is)
+          (one_closes (register_in c.args.self.now) (register_in c.taking.self) (register_in w.hear.new.self) (register_in w.heard.new.self) c.taking.invariant.closes w.in_ok-count.ensures.ends w.in_ok-count.ensures.names w.in_ok-count.ensures.same w.hear.ensures.orders w.hear.ensures.most w.in_ok-heard.ensures.closes w.in_ok-heard.ensures.kept)
+    ] in
+    closes_done_on c.lose.result _ (register_in c.args.self.now) (register_in c.taking-test.self) (register_in c.lose.new.self) c.lose.ensures.closes c.lose.ensures.kept led
+
+pub returns-clause-none : goal.returns-clause-none
+returns-clause-none c =
+    let to : Relay → Type 0 = λ r. NoneNew c.args.self.now.links.items r.links.items in
+    let led : to c.taking-test.self =
+    elim c.taking-test.branch [
+      | else-taking-test w ↦ subst to (sym w.self-is) c.taking.invariant.none
+      | then-taking-test+else-is_empty+in_ok-count+in_ok-heard+else-counter-end w ↦
+          subst to (sym w.self-is)
+          (none_both _ _ _ c.taking.invariant.none
+          (none_both _ _ _ (none_heard _ _ (λ other. (w.in_ok-count.ensures.same other).0)) (none_stays _ _ w.in_ok-heard.ensures.read)))
+    ] in
+    none_on c.lose.result _ _ _ led c.lose.ensures.read

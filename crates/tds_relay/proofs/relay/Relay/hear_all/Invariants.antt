@@ -1,5 +1,7 @@
 use Rattle.std.proofs.Common.{◌≡◌}
+use Rattle.tds_relay.specs.Closings.{Anybody, ClosesOnly, but_told, register_in}
 use Rattle.tds_relay.specs.Coming.{AllAlong}
+use Rattle.tds_relay.specs.Few.{NoneNew}
 use Rattle.tds_relay.specs.Fronts.{house_in}
 use Rattle.tds_relay.specs.Ordering.{StayOrdered}
 use Rattle.tds_relay.specs.Posts.{names_in, posts_in}
@@ -15,6 +17,8 @@ invariant-taking l = record {
   streams : Streams l.fn.number (open_at l.fn.number l.fn.self.links.items) (house_in l.fn.self) l.fn.self.desk.service l.fn.piece l.rest (open_at l.fn.number l.self.links.items) (house_in l.self) l.self.desk.service;
   others : OpensOthers l.fn.number l.fn.self.links.items l.self.links.items;
   bodies : IsReached (desk_in l.fn.self.desk) → AllAlong l.fn.self l.self;
+  closes : ClosesOnly Anybody (but_told (register_in l.self) (register_in l.fn.self)) (register_in l.self);
   ordered : StayOrdered l.fn.self.orders.items l.self.orders.items;
+  none : NoneNew l.fn.self.links.items l.self.links.items;
   wakes : Wakes (posts_in l.fn.self.applications) l.self.applications l.self.orders.items;
 }

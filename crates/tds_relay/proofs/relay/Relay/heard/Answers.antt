@@ -1,6 +1,6 @@
 use Rattle.std.proofs.Common.{◌∙◌, ap, refl, rules, subst, sym}
 use Rattle.tds_relay.specs.Fronts.{ends_in}
-use Rattle.tds_relay.specs.Ties.{Connection, IsReached, desk_in}
+use Rattle.tds_relay.specs.Ties.{Connection, IsReached, Reaches, desk_in}
 use Rattle.tds_relay.proofs.steps.Fronts.{moves_same, told_none, told_some}
 use Rattle.tds_relay.proofs.steps.Reaching.{ok_more, ok_if}
 use Rattle.tds_relay.proofs.steps.Staying.{stays_both, stays_on, stays_same}
@@ -10,6 +10,10 @@ use Rattle.tds_relay.proofs.spared.Ordered.{ordered_both, ordered_on}
 use Rattle.tds_relay.specs.declared.desk.Desk as desks
 use Rattle.tds_relay.proofs.spared.Resting.{put_reached}
 use Rattle.tds_relay.proofs.spared.Waking.{hands_as, hands_nobody, not_closed, not_nobody, woken_mine}
+use Rattle.tds_relay.specs.Closings.{Anybody}
+use Rattle.tds_relay.proofs.spared.Closings.{anybody, anybody_on, anybody_then, closes_both}
+use Rattle.tds_relay.specs.Reads.{waits_on}
+use Rattle.tds_relay.proofs.spared.Lined.{acknowledges}
 use Rattle.tds_relay.proofs.relay.Relay.heard.Goals as goal
 
 pub returns-in_default-clause-moves : goal.returns-in_default-clause-moves
@@ -237,3 +241,67 @@ returns-in-Closed-Some-clause-wakes c = ok_if c.close_link.result _ (λ key h. a
 
 pub returns-in-Closed-None-clause-wakes : goal.returns-in-Closed-None-clause-wakes
 returns-in-Closed-None-clause-wakes c = ok_if c.close_link-in-Closed-None.result _ (λ key h. absurd (not_closed c.in-Some.heard key _ (search rules) (hands_as c.args.heard c.in-Some.heard key _ c.in-Some.is h)))
+
+pub returns-in_default-clause-closes : goal.returns-in_default-clause-closes
+returns-in_default-clause-closes c = anybody_then c.lose.result _ _ _ c.lose.ensures.closes
+
+pub returns-in-Goes-Some-clause-closes : goal.returns-in-Goes-Some-clause-closes
+returns-in-Goes-Some-clause-closes c = anybody_on c.order_write.result _ _ _ _ c.order_write.ensures.closes (closes_both Anybody _ _ _ c.in_ok-resumes.ensures.closes (anybody _ _ _ c.in_ok-send_on.ensures.closes))
+
+pub returns-in-Finished-Some-clause-closes : goal.returns-in-Finished-Some-clause-closes
+returns-in-Finished-Some-clause-closes c = anybody_on c.order_write-in-Finished-Some.result _ _ _ _ c.order_write-in-Finished-Some.ensures.closes (closes_both Anybody _ _ _ c.in_ok-resumes.ensures.closes (anybody _ _ _ c.in_ok-send_on.ensures.closes))
+
+pub returns-else-resumes-clause-closes : goal.returns-else-resumes-clause-closes
+returns-else-resumes-clause-closes c = anybody_on c.order_write-else-resumes.result _ _ _ _ c.order_write-else-resumes.ensures.closes (closes_both Anybody _ _ _ c.in_ok-resumes.ensures.closes (anybody _ _ _ c.in_ok-send_on.ensures.closes))
+
+pub returns-then-resumes-clause-closes : goal.returns-then-resumes-clause-closes
+returns-then-resumes-clause-closes c = anybody_on c.resume.result _ _ _ _ c.resume.ensures.closes (closes_both Anybody _ _ _ c.in_ok-resumes.ensures.closes (anybody _ _ _ c.in_ok-send_on.ensures.closes))
+
+pub returns-in-Closed-Some-clause-closes : goal.returns-in-Closed-Some-clause-closes
+returns-in-Closed-Some-clause-closes c = anybody_on c.close_link.result _ _ _ _ c.close_link.ensures.closes (closes_both Anybody _ _ _ c.in_ok-resumes.ensures.closes (anybody _ _ _ c.in_ok-send_on.ensures.closes))
+
+pub returns-in-Closed-None-clause-closes : goal.returns-in-Closed-None-clause-closes
+returns-in-Closed-None-clause-closes c = anybody_on c.close_link-in-Closed-None.result _ _ _ _ c.close_link-in-Closed-None.ensures.closes (closes_both Anybody _ _ _ c.in_ok-resumes.ensures.closes (anybody _ _ _ c.in_ok-send_on.ensures.closes))
+
+pub returns-in-Goes-None-clause-closes : goal.returns-in-Goes-None-clause-closes
+returns-in-Goes-None-clause-closes c = closes_both Anybody _ _ _ c.in_ok-resumes.ensures.closes (anybody _ _ _ c.in_ok-send_on.ensures.closes)
+
+pub returns-in-Finished-None-clause-closes : goal.returns-in-Finished-None-clause-closes
+returns-in-Finished-None-clause-closes c = closes_both Anybody _ _ _ c.in_ok-resumes.ensures.closes (anybody _ _ _ c.in_ok-send_on.ensures.closes)
+
+pub returns-in-Acknowledged-None-clause-closes : goal.returns-in-Acknowledged-None-clause-closes
+returns-in-Acknowledged-None-clause-closes c = closes_both Anybody _ _ _ c.in_ok-resumes.ensures.closes (anybody _ _ _ c.in_ok-send_on.ensures.closes)
+
+pub returns-in-Goes-Some-clause-others : goal.returns-in-Goes-Some-clause-others
+returns-in-Goes-Some-clause-others c = λ not. ok_more c.order_write.result _ _ (λ same other differs. ap (waits_on other) same ∙ c.in_ok-send_on.ensures.others other differs ∙ ap (waits_on other) c.in_ok-resumes.ensures.links) c.order_write.ensures.links
+
+pub returns-in-Finished-Some-clause-others : goal.returns-in-Finished-Some-clause-others
+returns-in-Finished-Some-clause-others c = λ not. ok_more c.order_write-in-Finished-Some.result _ _ (λ same other differs. ap (waits_on other) same ∙ c.in_ok-send_on.ensures.others other differs ∙ ap (waits_on other) c.in_ok-resumes.ensures.links) c.order_write-in-Finished-Some.ensures.links
+
+pub returns-in-Goes-None-clause-others : goal.returns-in-Goes-None-clause-others
+returns-in-Goes-None-clause-others c = λ not other differs. c.in_ok-send_on.ensures.others other differs ∙ ap (waits_on other) c.in_ok-resumes.ensures.links
+
+pub returns-in-Finished-None-clause-others : goal.returns-in-Finished-None-clause-others
+returns-in-Finished-None-clause-others c = λ not other differs. c.in_ok-send_on.ensures.others other differs ∙ ap (waits_on other) c.in_ok-resumes.ensures.links
+
+pub returns-then-resumes-clause-others : goal.returns-then-resumes-clause-others
+returns-then-resumes-clause-others c = λ not. absurd (acknowledges c.args.heard c.in-Some.heard c.in-Some.is (search rules) not)
+
+pub returns-else-resumes-clause-others : goal.returns-else-resumes-clause-others
+returns-else-resumes-clause-others c = λ not. absurd (acknowledges c.args.heard c.in-Some.heard c.in-Some.is (search rules) not)
+
+pub returns-in-Acknowledged-None-clause-others : goal.returns-in-Acknowledged-None-clause-others
+returns-in-Acknowledged-None-clause-others c = λ not. absurd (acknowledges c.args.heard c.in-Some.heard c.in-Some.is (search rules) not)
+
+pub returns-in-Closed-Some-clause-others : goal.returns-in-Closed-Some-clause-others
+returns-in-Closed-Some-clause-others c = λ not.
+    ok_more c.close_link.result _ _ (λ o other differs. o other differs ∙ c.in_ok-send_on.ensures.others other differs ∙ ap (waits_on other) c.in_ok-resumes.ensures.links) c.close_link.ensures.others
+
+pub returns-in-Closed-None-clause-others : goal.returns-in-Closed-None-clause-others
+returns-in-Closed-None-clause-others c = λ not.
+    ok_more c.close_link-in-Closed-None.result _ _ (λ o other differs. o other differs ∙ c.in_ok-send_on.ensures.others other differs ∙ ap (waits_on other) c.in_ok-resumes.ensures.links) c.close_link-in-Closed-None.ensures.others
+
+pub returns-then-resumes-clause-goes : goal.returns-then-resumes-clause-goes
+returns-then-resumes-clause-goes c =
+    ok_more c.resume.result _ _
+    (λ g from h. g from (c.in_ok-send_on.ensures.goes (Connection c.args.number) from (subst (λ (d : desks.Desk). Reaches (Connection c.args.number) from (desk_in d)) (sym c.in_ok-resumes.ensures.desk) h))) c.resume.ensures.goes

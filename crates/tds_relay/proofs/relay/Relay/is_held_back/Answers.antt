@@ -1,4 +1,4 @@
-use Rattle.std.proofs.Common.{◌≡◌, ◌∙◌, Bool, None, Option, Some, ap, inl, inr, rules, sym}
+use Rattle.std.proofs.Common.{◌≡◌, ◌∙◌, None, Some, ap, inl, inr, rules, sym}
 use Rattle.tds_relay.specs.Asking.{Opens, waits_of}
 use Rattle.tds_relay.specs.Sparing.{Drains}
 use Rattle.tds_relay.specs.Sparing as sparing

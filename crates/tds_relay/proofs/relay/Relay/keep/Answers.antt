@@ -9,6 +9,8 @@ use Rattle.tds_relay.proofs.spared.Coming.{alike_along, along_on, asks_along_on,
 use Rattle.tds_relay.proofs.spared.Ordered.{ordered_on, ordered_same}
 use Rattle.tds_relay.specs.Ties.{IsReached}
 use Rattle.tds_relay.proofs.steps.Reaching.{reached_on}
+use Rattle.tds_relay.specs.Closings.{Nobody}
+use Rattle.tds_relay.proofs.spared.Closings.{anybody, anybody_on, anybody_then}
 use Rattle.tds_relay.proofs.relay.Relay.keep.Goals as goal
 
 pub returns-in-Kept-clause-goes : goal.returns-in-Kept-clause-goes
@@ -67,3 +69,9 @@ returns-in-Closed-clause-bodies c = λ reached. asks_along_on c.close.result c.a
 
 pub returns-in-Kept-clause-ordered : goal.returns-in-Kept-clause-ordered
 returns-in-Kept-clause-ordered c = ordered_on c.start_kept.result _ _ _ c.start_kept.ensures.ordered (ordered_same _ _ c.restart.ensures.orders)
+
+pub returns-in-Kept-clause-closes : goal.returns-in-Kept-clause-closes
+returns-in-Kept-clause-closes c = anybody_on c.start_kept.result _ _ _ _ c.start_kept.ensures.closes (anybody Nobody _ _ c.restart.ensures.closes)
+
+pub returns-in-Closed-clause-closes : goal.returns-in-Closed-clause-closes
+returns-in-Closed-clause-closes c = anybody_then c.close.result _ _ _ c.close.ensures.closes

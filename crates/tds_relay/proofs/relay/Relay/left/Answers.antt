@@ -14,10 +14,14 @@ use Rattle.tds_relay.specs.Bodies.{body_in}
 use Rattle.tds_relay.specs.declared.application.Application.{Application as AnApplication}
 use Rattle.tds_relay.proofs.steps.Renaming.{names_left, names_on}
 use Rattle.tds_relay.specs.Posts.{names_in, names_of}
-use Rattle.tds_relay.proofs.spared.Ordered.{ordered_on, ordered_refl}
-use Rattle.tds_relay.proofs.spared.Closings.{closes_both, closes_kept, closes_nobody, closes_with, sees_refl}
+use Rattle.tds_relay.proofs.spared.Ordered.{ordered_on}
 use Rattle.tds_relay.proofs.spared.Lines.{waited_left}
 use Rattle.tds_relay.specs.Closings.{IsWaiting, Nobody, register_in, without_key}
+use Rattle.tds_relay.proofs.spared.Closings.{closes_both, closes_nobody, closes_with}
+use Rattle.tds_relay.proofs.spared.Sending.{kept_refl}
+use Rattle.tds_relay.proofs.spared.Shutting.{closes_kept, unclosed}
+use Rattle.tds_relay.proofs.spared.Cleaned.{left_served}
+use Rattle.tds_relay.proofs.spared.Few.{few_behind, most_kept, none_stays}
 use Rattle.tds_relay.proofs.relay.Relay.left.Goals as goal
 
 pub returns-clause-left : goal.returns-clause-left
@@ -65,4 +69,10 @@ returns-clause-closes c = let old = c.args.self.now in
     let quit = ends_quit old.applications c.try_remove.new.self c.args.key c.try_remove.result c.try_remove.ensures.value c.try_remove.ensures.slots c.try_remove.ensures.absent in
     let gone = quits_is old.applications c.try_remove.new.self c.args.key c.try_remove.result c.try_remove.ensures.value c.try_remove.ensures.slots c.try_remove.ensures.absent in
     closes_with c.serve_line.result (IsWaiting (desk_in c.release.new.self.desk).line) (IsWaiting (desk_in c.args.self.now.desk).line) _ _ _ (waited_left c.args.key (desk_in old.desk) (desk_in c.release.new.self.desk) c.in_ok-release.ensures.leaving) c.serve_line.ensures.closes
-    (closes_nobody (IsWaiting (desk_in c.args.self.now.desk).line) _ _ (closes_both Nobody _ _ _ (closes_kept Nobody (without_key c.args.key (register_in old)) _ quit (ap names_of gone ∙ names_left c.args.key (posts_in old.applications)) refl (sees_refl old.links.items) (ordered_refl old.orders.items)) c.in_ok-release.ensures.closes))
+    (closes_nobody (IsWaiting (desk_in c.args.self.now.desk).line) _ _ (closes_both Nobody _ _ _ (closes_kept Nobody (without_key c.args.key (register_in old)) _ quit gone refl (kept_refl old.links.items) (unclosed _ _ refl)) c.in_ok-release.ensures.closes))
+
+pub returns-clause-ends : goal.returns-clause-ends
+returns-clause-ends c = λ reached. left_served c.serve_line.result c.args.key c.args.self.now c.release.new.self c.serve_line.new.self (c.in_ok-release.ensures.ends reached) c.serve_line.ensures.opens
+
+pub returns-clause-few : goal.returns-clause-few
+returns-clause-few c = few_behind c.serve_line.result _ _ _ _ _ (most_kept _ _ (c.in_ok-release.ensures.closes.told)) (none_stays _ _ c.in_ok-release.ensures.read) c.serve_line.ensures.few

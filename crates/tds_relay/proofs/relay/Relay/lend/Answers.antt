@@ -1,4 +1,6 @@
-use Rattle.std.proofs.Common.{refl, ap, subst, sym}
+use Rattle.std.proofs.Common.{List, refl, ap, subst, sym, rules}
+use Rattle.tds_relay.specs.declared.link.Link.{Link}
+use Rattle.tds_relay.specs.Lent.{IsSizedOn}
 use Rattle.tds_relay.specs.Ties.{desk_in, IsReached}
 use Rattle.tds_relay.proofs.steps.Fronts.{moves_same}
 use Rattle.tds_relay.proofs.steps.Reaching.{ok_more}
@@ -9,8 +11,11 @@ use Rattle.tds_relay.proofs.spared.Resting.{go_on, go_on_one, pushed_rest, rest_
 use Rattle.tds_relay.specs.Fronts.{hall_in}
 use Rattle.tds_relay.proofs.spared.Apart.{alone_on, alone_refl, alone_same}
 use Rattle.tds_relay.proofs.spared.Ordered.{ordered_on, ordered_same}
-use Rattle.tds_relay.proofs.spared.Closings.{closes_first, closes_pushed}
 use Rattle.tds_relay.specs.Closings.{Itself}
+use Rattle.tds_relay.proofs.spared.Closings.{closes_first}
+use Rattle.tds_relay.proofs.spared.Shutting.{closes_pushed}
+use Rattle.tds_relay.proofs.spared.Begun.{begins_on, pushed_sized}
+use Rattle.tds_relay.proofs.spared.Few.{few_again, few_pushed, none_stays}
 use Rattle.tds_relay.proofs.relay.Relay.lend.Goals as goal
 
 pub returns-then-served-clause-opens : goal.returns-then-served-clause-opens
@@ -51,4 +56,17 @@ pub returns-then-served-clause-closes : goal.returns-then-served-clause-closes
 returns-then-served-clause-closes c = closes_first c.start_kept.result (Itself c.args.served.hold.key) _ _ _ c.start_kept.ensures.closes c.restart.ensures.closes
 
 pub returns-clause-closes : goal.returns-clause-closes
-returns-clause-closes c = closes_pushed (Itself c.args.served.hold.key) _ _ _ c.args.served.hold.number refl refl refl c.in_ok-push.ensures.items c.in_ok-link.ensures.number c.in_ok-push-2.ensures.items
+returns-clause-closes c = closes_pushed (Itself c.args.served.hold.key) _ _ _ c.args.served.hold.number refl refl refl c.in_ok-push.ensures.items c.in_ok-link.ensures.number c.in_ok-link.ensures.unnamed c.in_ok-link.ensures.nothing c.in_ok-push-2.ensures.items
+
+pub returns-then-served-clause-begins : goal.returns-then-served-clause-begins
+returns-then-served-clause-begins c = λ had. begins_on c.start_kept.result c.args.served.hold.number _ _ _ c.restart.ensures.begins c.start_kept.ensures.answers
+
+pub returns-clause-sized : goal.returns-clause-sized
+returns-clause-sized c = λ had none.
+    subst (λ (ls : List Link). IsSizedOn c.args.self.now.size c.args.served.hold.number ls) (sym c.in_ok-push.ensures.items) (pushed_sized c.args.self.now.size c.args.served.hold.number c.args.self.now.links.items c.in_ok-link.link none c.in_ok-link.ensures.sized)
+
+pub returns-then-served-clause-few : goal.returns-then-served-clause-few
+returns-then-served-clause-few c = few_again c.start_kept.result c.args.served.had _ _ _ (search rules) (none_stays _ _ c.restart.ensures.read) c.start_kept.ensures.read
+
+pub returns-clause-few : goal.returns-clause-few
+returns-clause-few c = few_pushed c.args.served.had c.in_ok-link.link _ _ (search rules) c.in_ok-push.ensures.items

@@ -1,11 +1,10 @@
 use Rattle.tds_relay.specs.Hall.{lets_go}
 use Rattle.tds_relay.proofs.steps.Fronts.{ends_moved}
 use Rattle.tds_relay.proofs.steps.Posting.{posts_kept}
-use Rattle.tds_relay.proofs.spared.Ordered.{ordered_refl}
-use Rattle.tds_relay.specs.Posts.{names_of}
-use Rattle.std.proofs.Common.{ap, refl}
-use Rattle.tds_relay.proofs.spared.Closings.{closes_moved, keeps_lets_go, sees_refl}
+use Rattle.std.proofs.Common.{refl}
 use Rattle.tds_relay.specs.Closings.{Nobody}
+use Rattle.tds_relay.proofs.spared.Sending.{kept_refl}
+use Rattle.tds_relay.proofs.spared.Shutting.{closes_moved, keeps_lets_go, unclosed}
 use Rattle.tds_relay.proofs.relay.Relay.let_go.Goals as goal
 
 pub returns-in-Some-clause-kept : goal.returns-in-Some-clause-kept
@@ -15,4 +14,4 @@ pub returns-in-Some-clause-ends : goal.returns-in-Some-clause-ends
 returns-in-Some-clause-ends c = ends_moved c.args.self.now.applications c.args.key c.in-Some.application.now c.let_go.new.self lets_go c.in-Some.ensures.value c.let_go.ensures.end
 
 pub returns-in-Some-clause-closes : goal.returns-in-Some-clause-closes
-returns-in-Some-clause-closes c = closes_moved Nobody c.args.key lets_go _ _ keeps_lets_go (ends_moved c.args.self.now.applications c.args.key c.in-Some.application.now c.let_go.new.self lets_go c.in-Some.ensures.value c.let_go.ensures.end) (ap names_of (posts_kept c.args.self.now.applications c.args.key c.in-Some.application.now c.let_go.new.self c.in-Some.ensures.value c.let_go.ensures.post)) refl (sees_refl c.args.self.now.links.items) (ordered_refl c.args.self.now.orders.items)
+returns-in-Some-clause-closes c = closes_moved Nobody c.args.key lets_go _ _ keeps_lets_go (ends_moved c.args.self.now.applications c.args.key c.in-Some.application.now c.let_go.new.self lets_go c.in-Some.ensures.value c.let_go.ensures.end) (posts_kept c.args.self.now.applications c.args.key c.in-Some.application.now c.let_go.new.self c.in-Some.ensures.value c.let_go.ensures.post) refl (kept_refl c.args.self.now.links.items) (unclosed _ _ refl)

@@ -8,8 +8,8 @@ use Rattle.tds_relay.proofs.spared.Resting.{lost_on}
 use Rattle.tds_relay.specs.Fronts.{ends_in}
 use Rattle.tds_relay.specs.Hall.{change_whose, closes, holder}
 use Rattle.tds_relay.proofs.spared.Apart.{line_loses}
-use Rattle.tds_relay.proofs.spared.Closings.{closes_more_on}
 use Rattle.tds_relay.specs.Closings.{IsWho}
+use Rattle.tds_relay.proofs.spared.Closings.{closes_more_on}
 use Rattle.tds_relay.proofs.relay.Relay.lose.Goals as goal
 
 pub returns-clause-lost : goal.returns-clause-lost

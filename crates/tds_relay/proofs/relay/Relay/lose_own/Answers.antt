@@ -2,10 +2,11 @@ use Rattle.std.proofs.Common.{◌≡◌, ◌==◌, ◌∙◌, Some, ap, rules, s
 use Rattle.std.proofs.lemmas.Bool.{eqb-true}
 use Rattle.tds_relay.specs.Fronts.{hall_in}
 use Rattle.tds_relay.proofs.spared.Apart.{alone_lost}
-use Rattle.tds_relay.proofs.spared.Closings.{closes_more_on}
 use Rattle.tds_relay.specs.Closings.{IsWho, Itself}
 use Rattle.tds_relay.specs.Hall.{holder}
 use Rattle.tds_relay.specs.Ties.{desk_in}
+use Rattle.tds_relay.proofs.spared.Closings.{closes_more_on}
+use Rattle.tds_relay.proofs.spared.Begun.{answers_refl}
 use Rattle.tds_relay.proofs.relay.Relay.lose_own.Goals as goal
 
 pub returns-then-holder-key-clause-alone : goal.returns-then-holder-key-clause-alone
@@ -21,3 +22,9 @@ returns-then-holder-key-clause-closes c = closes_more_on c.lose.result (IsWho (h
     let its : Some key ≡ Some c.in-Some.holder = sym e ∙ sym c.key_on.ensures ∙ c.in-Some.is in
     let one : key ≡ c.in-Some.holder = cc in
     one ∙ eqb-true c.in-Some.holder c.args.key same) c.lose.ensures.closes
+
+pub returns-else-holder-key-clause-answers : goal.returns-else-holder-key-clause-answers
+returns-else-holder-key-clause-answers c = answers_refl c.args.self.now.links.items
+
+pub returns-in-None-clause-answers : goal.returns-in-None-clause-answers
+returns-in-None-clause-answers c = answers_refl c.args.self.now.links.items

@@ -10,9 +10,10 @@ use Rattle.tds_relay.proofs.steps.Renaming.{names_on}
 use Rattle.tds_relay.specs.Posts.{names_in, names_of}
 use Rattle.std.proofs.Common.{ap, ◌∙◌, inl, inr, sym}
 use Rattle.tds_relay.proofs.spared.Ordered.{ordered_on}
-use Rattle.tds_relay.proofs.spared.Closings.{closes_more, closes_with}
 use Rattle.tds_relay.specs.Closings.{IsWaiting, IsWho, WhoOrWaiting}
 use Rattle.tds_relay.specs.Hall.{holder, is_in}
+use Rattle.tds_relay.proofs.spared.Closings.{closes_more, closes_with}
+use Rattle.tds_relay.proofs.spared.Few.{few_behind, most_kept, none_stays}
 use Rattle.tds_relay.proofs.relay.Relay.lost.Goals as goal
 
 pub returns-clause-steps : goal.returns-clause-steps
@@ -47,3 +48,6 @@ returns-clause-ordered c = ordered_on c.serve_line.result _ _ _ c.serve_line.ens
 pub returns-clause-closes : goal.returns-clause-closes
 returns-clause-closes c = closes_with c.serve_line.result (IsWaiting (desk_in c.lose.new.self.desk).line) (WhoOrWaiting (holder (desk_in c.args.self.now.desk) c.args.number) (desk_in c.args.self.now.desk).line) _ _ _ (λ key e. inr (ap (is_in key) (sym c.in_ok-lose.ensures.line) ∙ e)) c.serve_line.ensures.closes
     (closes_more (IsWho (holder (desk_in c.args.self.now.desk) c.args.number)) (WhoOrWaiting (holder (desk_in c.args.self.now.desk) c.args.number) (desk_in c.args.self.now.desk).line) _ _ (λ key e. inl e) c.in_ok-lose.ensures.closes)
+
+pub returns-clause-few : goal.returns-clause-few
+returns-clause-few c = few_behind c.serve_line.result _ _ _ _ _ (most_kept _ _ (c.in_ok-lose.ensures.closes.told)) (none_stays _ _ c.in_ok-lose.ensures.read) c.serve_line.ensures.few

@@ -1,12 +1,11 @@
-use Rattle.std.proofs.Common.{◌∙◌, rules, ap, refl}
+use Rattle.std.proofs.Common.{◌∙◌, rules, refl}
 use Rattle.tds_relay.specs.Fronts.{end_of, goes_by}
 use Rattle.tds_relay.proofs.steps.Fronts.{ends_moved}
 use Rattle.tds_relay.proofs.steps.Posting.{posts_kept}
 use Rattle.tds_relay.proofs.steps.Putting.{gone_where}
-use Rattle.tds_relay.proofs.spared.Ordered.{ordered_refl}
-use Rattle.tds_relay.specs.Posts.{names_of}
-use Rattle.tds_relay.proofs.spared.Closings.{closes_moved, keeps_goes_by, sees_refl}
 use Rattle.tds_relay.specs.Closings.{Nobody}
+use Rattle.tds_relay.proofs.spared.Sending.{kept_refl}
+use Rattle.tds_relay.proofs.spared.Shutting.{closes_moved, keeps_goes_by, unclosed}
 use Rattle.tds_relay.proofs.relay.Relay.note_went_on.Goals as goal
 
 pub returns-in-Some-clause-kept : goal.returns-in-Some-clause-kept
@@ -21,4 +20,4 @@ pub returns-in-Some-clause-closes : goal.returns-in-Some-clause-closes
 returns-in-Some-clause-closes c = closes_moved Nobody c.args.key (goes_by c.args.self.now.outbox.items) _ _ (keeps_goes_by c.args.self.now.outbox.items)
     (ends_moved c.args.self.now.applications c.args.key c.in-Some.application.now c.went_on.new.self (goes_by c.args.self.now.outbox.items) c.in-Some.ensures.value
     (c.went_on.ensures.end ∙ gone_where c.args.self.now.outbox.items c.is_empty.result (end_of c.in-Some.application.now) (search rules) c.if-is_empty.false))
-    (ap names_of (posts_kept c.args.self.now.applications c.args.key c.in-Some.application.now c.went_on.new.self c.in-Some.ensures.value c.went_on.ensures.post)) refl (sees_refl c.args.self.now.links.items) (ordered_refl c.args.self.now.orders.items)
+    (posts_kept c.args.self.now.applications c.args.key c.in-Some.application.now c.went_on.new.self c.in-Some.ensures.value c.went_on.ensures.post) refl (kept_refl c.args.self.now.links.items) (unclosed _ _ refl)

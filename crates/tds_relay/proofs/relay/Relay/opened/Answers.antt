@@ -11,10 +11,11 @@ use Rattle.tds_relay.proofs.spared.Starting.{started_on}
 use Rattle.tds_relay.proofs.steps.Renaming.{names_on}
 use Rattle.tds_relay.specs.Posts.{names_in, names_of}
 use Rattle.tds_relay.proofs.spared.Ordered.{ordered_both, ordered_on, ordered_same}
-use Rattle.tds_relay.proofs.spared.Closings.{closes_both, closes_more, closes_nobody, closes_with}
 use Rattle.tds_relay.proofs.spared.Lines.{waited_on}
 use Rattle.tds_relay.specs.Closings.{IsWaiting, IsWho, Nobody, WhoOrWaiting}
 use Rattle.tds_relay.specs.Hall.{holder, is_in}
+use Rattle.tds_relay.proofs.spared.Closings.{closes_both, closes_more, closes_nobody, closes_with}
+use Rattle.tds_relay.proofs.spared.Few.{few_behind, most_kept, none_both, none_same, none_stays}
 use Rattle.tds_relay.proofs.relay.Relay.opened.Goals as goal
 
 pub returns-clause-steps : goal.returns-clause-steps
@@ -78,3 +79,6 @@ returns-clause-closes c = let same = c.order_write_on.ensures.desk ∙ c.set_ope
     (λ key e. inr (ap (λ (d : code.Desk). is_in key (desk_in d).line) (sym same) ∙ waited_on (desk_in c.order_write_on.new.self.desk) (desk_in c.start_on.new.self.desk) c.in_ok-start_on.ensures.goes key e)) c.serve_line.ensures.closes
     (closes_both (WhoOrWaiting (holder (desk_in c.args.self.now.desk) c.args.number) (desk_in c.args.self.now.desk).line) _ _ _ (closes_nobody (WhoOrWaiting (holder (desk_in c.args.self.now.desk) c.args.number) (desk_in c.args.self.now.desk).line) _ _ first)
     (closes_more (IsWho (holder (desk_in c.order_write_on.new.self.desk) c.args.number)) (WhoOrWaiting (holder (desk_in c.args.self.now.desk) c.args.number) (desk_in c.args.self.now.desk).line) _ _ (λ key e. inl (ap (λ (d : code.Desk). holder (desk_in d) c.args.number) (sym same) ∙ e)) c.in_ok-start_on.ensures.closes))
+
+pub returns-clause-few : goal.returns-clause-few
+returns-clause-few c = few_behind c.serve_line.result _ _ _ _ _ (most_kept _ _ (c.in_ok-start_on.ensures.closes.told ∙ c.in_ok-order_write_on.ensures.closes.told ∙ c.set_open.ensures.closes.told)) (none_both _ _ _ (none_same _ _ c.set_open.ensures.waits) (none_stays _ _ (stays_behind _ _ _ c.in_ok-order_write_on.ensures.links c.in_ok-start_on.ensures.read))) c.serve_line.ensures.few

@@ -19,8 +19,9 @@ use Rattle.tds_relay.specs.Fronts.{MayPut, hall_in}
 use Rattle.tds_relay.specs.Hall.{closes}
 use Rattle.tds_relay.proofs.spared.Apart.{alone_both, alone_changed, alone_on, alone_same}
 use Rattle.tds_relay.proofs.spared.Ordered.{ordered_both, ordered_closing, ordered_on, ordered_refl, ordered_same}
-use Rattle.tds_relay.proofs.spared.Closings.{closes_both, closes_first, closes_nobody}
 use Rattle.tds_relay.specs.Closings.{Itself, Nobody}
+use Rattle.tds_relay.proofs.spared.Closings.{closes_both, closes_first, closes_nobody}
+use Rattle.tds_relay.proofs.spared.Begun.{answers_both, answers_from, answers_on, answers_same, answers_unchanged}
 use Rattle.tds_relay.proofs.relay.Relay.put.Goals as goal
 
 pub returns-in_default-clause-moves : goal.returns-in_default-clause-moves
@@ -184,3 +185,15 @@ returns-then-fits-clause-closes c = closes_nobody (Itself c.args.key) _ _ (close
 
 pub returns-else-fits-clause-closes : goal.returns-else-fits-clause-closes
 returns-else-fits-clause-closes c = closes_first c.fail-else-fits.result (Itself c.args.key) _ _ _ c.fail-else-fits.ensures.closes (closes_both Nobody _ _ _ c.note_went_on.ensures.closes c.in_ok-fits.ensures.closes)
+
+pub returns-in_default-clause-answers : goal.returns-in_default-clause-answers
+returns-in_default-clause-answers c = answers_unchanged c.end.result _ _ c.end.ensures.links
+
+pub returns-then-not-is_put-clause-answers : goal.returns-then-not-is_put-clause-answers
+returns-then-not-is_put-clause-answers c = answers_from c.fail-then-not-is_put.result _ _ _ c.note_went_on.ensures.links c.fail-then-not-is_put.ensures.answers
+
+pub returns-then-fits-clause-answers : goal.returns-then-fits-clause-answers
+returns-then-fits-clause-answers c = answers_both _ _ _ (answers_same _ _ c.note_went_on.ensures.links) c.in_ok-fits.ensures.answers
+
+pub returns-else-fits-clause-answers : goal.returns-else-fits-clause-answers
+returns-else-fits-clause-answers c = answers_on c.fail-else-fits.result _ _ _ (answers_both _ _ _ (answers_same _ _ c.note_went_on.ensures.links) c.in_ok-fits.ensures.answers) c.fail-else-fits.ensures.answers

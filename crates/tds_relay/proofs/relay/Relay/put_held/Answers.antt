@@ -11,11 +11,12 @@ use Rattle.tds_relay.specs.Fronts.{ends_in, hall_in, hall_of_ends}
 use Rattle.tds_relay.specs.Ties.{desk_in}
 use Rattle.tds_relay.proofs.steps.Fronts.{ends_kept}
 use Rattle.tds_relay.proofs.spared.Apart.{alone_on, alone_same}
-use Rattle.tds_relay.proofs.spared.Ordered.{ordered_refl}
-use Rattle.tds_relay.specs.Posts.{names_of}
 use Rattle.tds_relay.proofs.steps.Posting.{posts_kept}
-use Rattle.tds_relay.proofs.spared.Closings.{closes_kept, closes_on, sees_refl}
 use Rattle.tds_relay.specs.Closings.{Itself}
+use Rattle.tds_relay.proofs.spared.Closings.{closes_on}
+use Rattle.tds_relay.proofs.spared.Sending.{kept_refl}
+use Rattle.tds_relay.proofs.spared.Shutting.{closes_kept, unclosed}
+use Rattle.tds_relay.proofs.spared.Begun.{answers_refl}
 use Rattle.tds_relay.proofs.relay.Relay.put_held.Goals as goal
 
 pub returns-in_default-clause-body : goal.returns-in_default-clause-body
@@ -50,4 +51,7 @@ returns-clause-alone c =
 
 pub returns-clause-closes : goal.returns-clause-closes
 returns-clause-closes c = closes_on c.put.result (Itself c.args.key) _ _ _ c.put.ensures.closes
-    (closes_kept (Itself c.args.key) _ _ (ends_kept c.args.self.now.applications c.args.key c.in-Some.application.now _ c.in-Some.ensures.value c.forget.ensures.end) (ap names_of (posts_kept c.args.self.now.applications c.args.key c.in-Some.application.now _ c.in-Some.ensures.value c.forget.ensures.post)) refl (sees_refl c.args.self.now.links.items) (ordered_refl c.args.self.now.orders.items))
+    (closes_kept (Itself c.args.key) _ _ (ends_kept c.args.self.now.applications c.args.key c.in-Some.application.now _ c.in-Some.ensures.value c.forget.ensures.end) (posts_kept c.args.self.now.applications c.args.key c.in-Some.application.now _ c.in-Some.ensures.value c.forget.ensures.post) refl (kept_refl c.args.self.now.links.items) (unclosed _ _ refl))
+
+pub returns-in_default-clause-answers : goal.returns-in_default-clause-answers
+returns-in_default-clause-answers c = answers_refl c.args.self.now.links.items

@@ -8,8 +8,9 @@ use Rattle.tds_relay.proofs.spared.Letting.{left_rest, shut_rest, unheld_rest, l
 use Rattle.tds_relay.specs.Desk.{find_key}
 use Rattle.tds_relay.specs.declared.desk.Desk as code
 use Rattle.tds_relay.proofs.spared.Ordered.{ordered_on, ordered_same}
-use Rattle.tds_relay.proofs.spared.Closings.{closes_on, closes_with}
 use Rattle.tds_relay.specs.Closings.{IsWho, Nobody}
+use Rattle.tds_relay.proofs.spared.Closings.{closes_on, closes_with}
+use Rattle.tds_relay.proofs.spared.Cleaned.{left_by, nobody_left, shut_by, waits_none}
 use Rattle.tds_relay.proofs.relay.Relay.release.Goals as goal
 
 pub returns-in_default-clause-lets_go : goal.returns-in_default-clause-lets_go
@@ -81,3 +82,16 @@ returns-then-left-clause-closes c = closes_on c.send_unheld.result Nobody _ _ _ 
 
 pub returns-else-left-clause-closes : goal.returns-else-left-clause-closes
 returns-else-left-clause-closes c = closes_with c.close.result (IsWho None) Nobody _ _ _ (λ key e. (let u : ⊥ = cc in u)) c.close.ensures.closes c.let_go.ensures.closes
+
+pub returns-in_default-clause-ends : goal.returns-in_default-clause-ends
+returns-in_default-clause-ends c = λ reached. nobody_left c.args.key (find_key c.args.key c.args.self.now.desk.holds.items) c.args.self.now c.let_go.new.self refl (search rules)
+
+pub returns-then-left-clause-ends : goal.returns-then-left-clause-ends
+returns-then-left-clause-ends c = λ reached.
+    left_by c.send_unheld.result c.args.key c.in-Some.left (find_key c.args.key c.args.self.now.desk.holds.items) c.in_ok-left.ensures.turns.0 c.in_ok-left.ensures.turns.1 c.args.self.now c.let_go.new.self c.send_unheld.new.self c.leave.new.self _ _ c.let_go.new.self.outbox.items refl (search rules)
+    (search rules) reached (search rules) (search rules) c.let_go.ensures.outbox c.in_ok-left.ensures.turns.2 c.let_go.ensures.desk c.let_go.ensures.links c.send_unheld.ensures.puts
+
+pub returns-else-left-clause-ends : goal.returns-else-left-clause-ends
+returns-else-left-clause-ends c = λ reached.
+    shut_by c.close.result c.args.key c.in-Some.left (find_key c.args.key c.args.self.now.desk.holds.items) c.args.self.now c.close.new.self refl (search rules)
+    (ok_more c.close.result _ _ (λ g. waits_none c.in-Some.left.number c.close.new.self.links.items g) c.close.ensures.gone)

@@ -11,8 +11,8 @@ use Rattle.slab.specs.Slab.{Slab, get}
 use Rattle.tds_relay.specs.declared.application.Application as an
 use Rattle.tds_relay.proofs.steps.Bodied.{closed_body, closed_starts, shut_starts}
 use Rattle.tds_relay.proofs.steps.Going.{waits_from}
-use Rattle.tds_relay.proofs.spared.Closings.{closes_first, closes_more_on}
 use Rattle.tds_relay.specs.Closings.{IsWho, Itself}
+use Rattle.tds_relay.proofs.spared.Closings.{closes_first, closes_more_on}
 use Rattle.tds_relay.proofs.relay.Relay.renew.Goals as goal
 
 pub returns-in-Kept-clause-goes : goal.returns-in-Kept-clause-goes

@@ -1,4 +1,4 @@
-use Rattle.std.proofs.Common.{◌∙◌, List, Some, ap, refl, rules, subst, sym}
+use Rattle.std.proofs.Common.{◌∙◌, ℕ, List, ap, refl, rules, subst, sym}
 use Rattle.tds_relay.specs.declared.desk.Desk as code
 use Rattle.tds_relay.specs.declared.link.Link.{Link}
 use Rattle.tds_relay.specs.Reads.{Stays}
@@ -9,6 +9,12 @@ use Rattle.tds_relay.proofs.steps.Staying.{stays_then}
 use Rattle.tds_relay.proofs.bytes.Calls.{stand_at, stand_on}
 use Rattle.tds_relay.proofs.spared.Coming.{along_both, body_along, rest_along, same_along, same_along_on}
 use Rattle.tds_relay.proofs.spared.Ordered.{ordered_both, ordered_same}
+use Rattle.tds_relay.specs.Closings.{Nobody}
+use Rattle.tds_relay.proofs.spared.Closings.{anybody, anybody_then, closes_both}
+use Rattle.tds_relay.specs.Waiting.{StandsInLine}
+use Rattle.tds_relay.specs.Waiting as waiting
+use Rattle.tds_relay.proofs.spared.Cleaned.{not_both}
+use Rattle.tds_relay.proofs.spared.Lined.{lost_deaf, same_key}
 use Rattle.tds_relay.proofs.relay.Relay.replace.Goals as goal
 
 pub returns-in_default-clause-goes : goal.returns-in_default-clause-goes
@@ -62,3 +68,23 @@ returns-clause-bodies c = λ reached.
 
 pub returns-clause-ordered : goal.returns-clause-ordered
 returns-clause-ordered c = ok_if c.wait.result _ (ordered_both _ _ _ (ordered_both _ _ _ (ordered_same _ _ c.let_go.ensures.orders) c.in_ok-close_link.ensures.ordered) (ordered_same _ _ c.wait.ensures.orders))
+
+pub returns-then-not-may_replace-clause-closes : goal.returns-then-not-may_replace-clause-closes
+returns-then-not-may_replace-clause-closes c = anybody_then c.lose.result _ _ _ c.lose.ensures.closes
+
+pub returns-in_default-clause-closes : goal.returns-in_default-clause-closes
+returns-in_default-clause-closes c = anybody_then c.close_link.result _ _ _ c.close_link.ensures.closes
+
+pub returns-clause-closes : goal.returns-clause-closes
+returns-clause-closes c = ok_if c.wait.result _ (anybody Nobody _ _ (closes_both Nobody _ _ _ (closes_both Nobody _ _ _ c.let_go.ensures.closes c.in_ok-close_link.ensures.closes) c.wait.ensures.closes))
+
+pub returns-then-not-may_replace-clause-lines : goal.returns-then-not-may_replace-clause-lines
+returns-then-not-may_replace-clause-lines c = ok_more c.lose.result _ _ (λ e key its. waiting.Closes (lost_deaf key _ _ _ e its)) c.lose.ensures.ends
+
+pub returns-in_default-clause-lines : goal.returns-in_default-clause-lines
+returns-in_default-clause-lines c = ok_if c.close_link.result _ (λ key its. absurd (not_both _ key its (sym (sym c.in_default.is ∙ c.in_ok-holder.ensures.whose))))
+
+pub returns-clause-lines : goal.returns-clause-lines
+returns-clause-lines c =
+    ok_more c.wait.result _ _
+    (λ l key its. subst (λ (k : ℕ). StandsInLine k c.wait.new.self) (same_key c.in-Some.key key _ (sym c.in-Some.is ∙ c.in_ok-holder.ensures.whose) its) l) c.wait.ensures.lines

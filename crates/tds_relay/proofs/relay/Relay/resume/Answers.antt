@@ -1,6 +1,7 @@
-use Rattle.std.proofs.Common.{rules}
-use Rattle.tds_relay.proofs.steps.Reaching.{ok_more}
+use Rattle.std.proofs.Common.{inl, inr, rules}
+use Rattle.tds_relay.proofs.steps.Reaching.{ok_if, ok_more}
 use Rattle.tds_relay.proofs.spared.Coming.{start_along}
+use Rattle.tds_relay.proofs.spared.Closings.{anybody_then}
 use Rattle.tds_relay.proofs.relay.Relay.resume.Goals as goal
 
 pub returns-then-asks_to_keep-clause-moves : goal.returns-then-asks_to_keep-clause-moves
@@ -9,3 +10,12 @@ returns-then-asks_to_keep-clause-moves c = ok_more c.keep.result _ _ (λ m. m (c
 pub returns-else-asks_to_keep-clause-bodies : goal.returns-else-asks_to_keep-clause-bodies
 returns-else-asks_to_keep-clause-bodies c = λ reached.
     start_along c.start_kept.result c.args.key c.args.self.now c.start_kept.new.self reached c.start_kept.ensures.body c.start_kept.ensures.others
+
+pub returns-else-asks_to_keep-clause-closes : goal.returns-else-asks_to_keep-clause-closes
+returns-else-asks_to_keep-clause-closes c = anybody_then c.start_kept.result _ _ _ c.start_kept.ensures.closes
+
+pub returns-then-asks_to_keep-clause-resumes : goal.returns-then-asks_to_keep-clause-resumes
+returns-then-asks_to_keep-clause-resumes c = ok_if c.keep.result _ (inl (c.asks_to_keep.ensures (search rules)))
+
+pub returns-else-asks_to_keep-clause-resumes : goal.returns-else-asks_to_keep-clause-resumes
+returns-else-asks_to_keep-clause-resumes c = ok_more c.start_kept.result _ _ (λ p. inr p) c.start_kept.ensures.placed

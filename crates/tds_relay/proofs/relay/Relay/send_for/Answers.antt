@@ -1,15 +1,11 @@
-use Rattle.std.proofs.Common.{ap, inl, rules, subst, sym, ◌∙◌}
-use Rattle.tds_relay.specs.Ties.{desk_in, IsReached}
+use Rattle.std.proofs.Common.{ap}
+use Rattle.tds_relay.specs.Ties.{desk_in}
 use Rattle.tds_relay.proofs.steps.Fronts.{moves_same}
 use Rattle.tds_relay.proofs.steps.Reaching.{ok_more}
-use Rattle.tds_relay.proofs.steps.Staying.{filled_by, gone_filled, stays_on}
+use Rattle.tds_relay.proofs.steps.Staying.{stays_on}
 use Rattle.tds_relay.proofs.bytes.Calls.{stand_from}
-use Rattle.tds_relay.proofs.spared.Letting.{sent_all}
-use Rattle.tds_relay.specs.declared.desk.Desk as code
-use Rattle.tds_relay.proofs.spared.Ordered.{ordered_on}
-use Rattle.tds_relay.proofs.spared.Closings.{closes_nobody, closes_next, closes_first}
-use Rattle.tds_relay.specs.Closings.{IsWho, Itself}
-use Rattle.tds_relay.specs.Hall.{holder}
+use Rattle.tds_relay.specs.Closings.{Itself}
+use Rattle.tds_relay.proofs.spared.Closings.{closes_first, closes_nobody}
 use Rattle.tds_relay.proofs.relay.Relay.send_for.Goals as goal
 
 pub returns-else-fits-clause-read : goal.returns-else-fits-clause-read

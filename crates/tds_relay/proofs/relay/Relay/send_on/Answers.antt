@@ -7,9 +7,9 @@ use Rattle.tds_relay.proofs.bytes.Calls.{stand_from}
 use Rattle.tds_relay.proofs.spared.Letting.{sent_all}
 use Rattle.tds_relay.specs.declared.desk.Desk as code
 use Rattle.tds_relay.proofs.spared.Ordered.{ordered_on}
-use Rattle.tds_relay.proofs.spared.Closings.{closes_nobody, closes_next}
 use Rattle.tds_relay.specs.Closings.{IsWho}
 use Rattle.tds_relay.specs.Hall.{holder}
+use Rattle.tds_relay.proofs.spared.Closings.{closes_next, closes_nobody}
 use Rattle.tds_relay.proofs.relay.Relay.send_on.Goals as goal
 
 pub returns-else-fits-clause-read : goal.returns-else-fits-clause-read
@@ -47,3 +47,6 @@ returns-then-fits-clause-closes c = closes_nobody (IsWho (holder (desk_in c.args
 
 pub returns-else-fits-clause-closes : goal.returns-else-fits-clause-closes
 returns-else-fits-clause-closes c = closes_next c.lose.result (IsWho (holder (desk_in c.fits_on.new.self.desk) c.args.number)) (IsWho (holder (desk_in c.args.self.now.desk) c.args.number)) _ _ _ (λ key e. ap (λ (d : code.Desk). holder (desk_in d) c.args.number) (sym c.fits_on.ensures.desk) ∙ e) c.lose.ensures.closes c.in_ok-fits.ensures.closes
+
+pub returns-else-fits-clause-others : goal.returns-else-fits-clause-others
+returns-else-fits-clause-others c = ok_more c.lose.result _ _ (λ o other differs. o other differs ∙ c.in_ok-fits.ensures.others other differs) c.lose.ensures.others

@@ -2,14 +2,17 @@ use Rattle.std.proofs.Common.{ap, inl, rules, subst, sym, ◌∙◌, ◌≡◌, 
 use Rattle.tds_relay.specs.Ties.{desk_in, IsReached}
 use Rattle.tds_relay.proofs.steps.Fronts.{moves_same}
 use Rattle.tds_relay.proofs.steps.Reaching.{ok_more}
-use Rattle.tds_relay.proofs.steps.Staying.{filled_by, gone_filled, stays_on}
+use Rattle.tds_relay.proofs.steps.Staying.{stays_on}
 use Rattle.tds_relay.proofs.bytes.Calls.{stand_from}
 use Rattle.tds_relay.proofs.spared.Letting.{sent_all}
 use Rattle.tds_relay.specs.declared.desk.Desk as code
 use Rattle.tds_relay.proofs.spared.Ordered.{ordered_on}
-use Rattle.tds_relay.proofs.spared.Closings.{closes_nobody, closes_next, closes_with}
 use Rattle.tds_relay.specs.Closings.{IsWho, Nobody}
 use Rattle.tds_relay.specs.Hall.{holder}
+use Rattle.tds_relay.proofs.spared.Closings.{closes_with}
+use Rattle.tds_relay.specs.Desk.{find_number, key_of}
+use Rattle.tds_relay.proofs.spared.Cleaned.{not_both}
+use Rattle.tds_relay.proofs.steps.Staying.{filled_by, gone_filled}
 use Rattle.tds_relay.proofs.relay.Relay.send_unheld.Goals as goal
 
 pub returns-in-None-clause-read : goal.returns-in-None-clause-read
@@ -45,3 +48,13 @@ returns-in-None-clause-ordered c = ordered_on c.lose.result _ _ _ c.lose.ensures
 pub returns-in-None-clause-closes : goal.returns-in-None-clause-closes
 returns-in-None-clause-closes c = closes_with c.lose.result (IsWho (holder (desk_in c.fits_on.new.self.desk) c.args.number)) Nobody _ _ _
     (λ key e. (let u : None ≡ Some key = sym (sym c.key_on.ensures ∙ c.in-None.is) ∙ e in let v : ⊥ = cc in v)) c.lose.ensures.closes c.in_ok-fits.ensures.closes
+
+pub returns-then-fits-clause-puts : goal.returns-then-fits-clause-puts
+returns-then-fits-clause-puts c = λ none. filled_by c.args.self.now.outbox.items _ _ (c.in_ok-fits.ensures.waits (search rules))
+
+pub returns-in-Some-clause-puts : goal.returns-in-Some-clause-puts
+returns-in-Some-clause-puts c = λ none.
+    absurd (not_both _ _ c.in-Some.is (c.key_on.ensures ∙ ap (λ (d : code.Desk). key_of (find_number c.args.number (desk_in d).holds)) c.fits_on.ensures.desk ∙ ap key_of none))
+
+pub returns-in-None-clause-puts : goal.returns-in-None-clause-puts
+returns-in-None-clause-puts c = λ none. ok_more c.lose.result _ _ (λ g. gone_filled c.args.self.now.outbox.items c.args.number _ c.lose.new.self.links.items g) c.lose.ensures.gone

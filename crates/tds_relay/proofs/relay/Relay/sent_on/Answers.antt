@@ -3,7 +3,7 @@ use Rattle.std.specs.Prelude.{option_and_then}
 use Rattle.slab.specs.Slab.{get}
 use Rattle.tds_relay.specs.Places.{holder}
 use Rattle.tds_relay.specs.Ties.{desk_in}
-use Rattle.tds_relay.specs.Told.{holder_name, is_there, name_of}
+use Rattle.tds_relay.specs.Told.{holder_name, name_of}
 use Rattle.tds_relay.proofs.relay.Relay.sent_on.Goals as goal
 
 pub returns-then-not-forget_sent-clause-whose : goal.returns-then-not-forget_sent-clause-whose

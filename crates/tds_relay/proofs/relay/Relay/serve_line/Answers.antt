@@ -1,4 +1,4 @@
-use Rattle.std.proofs.Common.{refl, ◌∙◌}
+use Rattle.std.proofs.Common.{refl, ◌∙◌, inr, rules}
 use Rattle.tds_relay.proofs.spared.Apart.{unserved_on}
 use Rattle.tds_relay.proofs.spared.Ordered.{ordered_both}
 use Rattle.tds_relay.proofs.steps.Fronts.{moves_does}
@@ -8,8 +8,9 @@ use Rattle.tds_relay.proofs.spared.Resting.{go_both, reached_on_does, reached_se
 use Rattle.tds_relay.specs.Closings.{IsWaiting, Itself}
 use Rattle.tds_relay.specs.Fronts.{hall_in}
 use Rattle.tds_relay.specs.Ties.{desk_in}
-use Rattle.tds_relay.proofs.spared.Closings.{closes_both, closes_more, closes_refl}
 use Rattle.tds_relay.proofs.spared.Lines.{served_waited}
+use Rattle.tds_relay.proofs.spared.Closings.{closes_both, closes_more}
+use Rattle.tds_relay.proofs.spared.Few.{few_lent, most_kept}
 use Rattle.tds_relay.proofs.relay.Relay.serve_line.Goals as goal
 
 pub line-preserved : goal.line-preserved
@@ -23,6 +24,7 @@ line-preserved c = record {
       go_both _ _ _ (λ r. reached_serves _ _ _ _ c.in_ok-served.ensures.ok.0 (reached_on_does _ _ c.line.invariant.goes r))
       (served_go _ _ _ c.line.invariant.goes c.line.invariant.going c.in_ok-served.ensures.holds refl refl) c.in_ok-lend-in-Some.ensures.goes_on;
   ordered = ordered_both _ _ _ c.line.invariant.ordered c.in_ok-lend-in-Some.ensures.ordered;
+  few = few_lent _ _ _ _ _ (desk_in c.line.self.desk) _ c.in-Some.served (most_kept _ _ c.line.invariant.closes.told) (c.is_full.ensures.lends (search rules)) c.in_ok-served.ensures.ok.1 c.in-Some.is c.in_ok-lend-in-Some.ensures.few c.line.invariant.few;
   closes =
       closes_both (IsWaiting (desk_in c.args.self.now.desk).line) _ _ _ c.line.invariant.closes
       (closes_more (Itself c.in-Some.served.hold.key) (IsWaiting (desk_in c.args.self.now.desk).line) _ _
@@ -45,3 +47,9 @@ returns-in-None-clause-goes_on c = served_go _ _ _ c.line.invariant.goes c.line.
 
 pub returns-in-None-clause-goes : goal.returns-in-None-clause-goes
 returns-in-None-clause-goes c = λ by from h. reaches_turn by from _ _ _ _ _ c.in_ok-served.ensures.ok.0 tt (c.line.invariant.goes by from h)
+
+pub returns-then-is_full-clause-apart : goal.returns-then-is_full-clause-apart
+returns-then-is_full-clause-apart c = λ key e. (c.line.invariant.unserved.was key e).1
+
+pub returns-then-is_full-clause-served : goal.returns-then-is_full-clause-served
+returns-then-is_full-clause-served c = inr (c.is_full.ensures.full (search rules))

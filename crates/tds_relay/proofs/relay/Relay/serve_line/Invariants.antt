@@ -1,4 +1,5 @@
 use Rattle.std.proofs.Common.{◌≡◌}
+use Rattle.tds_relay.specs.Few.{Few}
 use Rattle.tds_relay.specs.Fronts.{MovedOn, hall_in}
 use Rattle.tds_relay.specs.Ordering.{StayOrdered}
 use Rattle.tds_relay.specs.Posts.{posts_in}
@@ -20,5 +21,6 @@ invariant-line l = record {
   going : AllGo l.fn.self l.self;
   ordered : StayOrdered l.fn.self.orders.items l.self.orders.items;
   unserved : Unserved (hall_in l.fn.self) (hall_in l.self);
+  few : Few l.fn.self.most l.fn.self.links.items l.self.links.items;
   closes : ClosesOnly (IsWaiting (desk_in l.fn.self.desk).line) (register_in l.fn.self) (register_in l.self);
 }

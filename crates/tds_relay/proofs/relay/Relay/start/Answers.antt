@@ -19,6 +19,7 @@ use Rattle.tds_relay.specs.Fronts.{ends_in, hall_in, hall_of_ends}
 use Rattle.tds_relay.specs.Hall.{closes}
 use Rattle.tds_relay.proofs.spared.Apart.{alone_changed, alone_on, alone_same, line_does}
 use Rattle.tds_relay.proofs.spared.Ordered.{ordered_closing, ordered_refl}
+use Rattle.tds_relay.proofs.spared.Begun.{answers_refl, answers_unchanged}
 use Rattle.tds_relay.proofs.relay.Relay.start.Goals as goal
 
 pub returns-in-Ok-clause-goes : goal.returns-in-Ok-clause-goes
@@ -135,3 +136,45 @@ returns-in-Ok-clause-closes c = c.put_held.ensures.closes
 
 pub returns-in-Err-clause-closes : goal.returns-in-Err-clause-closes
 returns-in-Err-clause-closes c = c.fail.ensures.closes
+
+pub returns-in_default-clause-placed : goal.returns-in_default-clause-placed
+returns-in_default-clause-placed c = inl (unkept_none c.args.self.now.applications c.args.key _ (search rules))
+
+pub returns-then-application-clause-placed : goal.returns-then-application-clause-placed
+returns-then-application-clause-placed c = inl (unkept_over c.args.self.now.applications c.args.key c.in-Some.application.now _ c.in-Some.ensures (search rules))
+
+pub returns-in_default-asking-clause-placed : goal.returns-in_default-asking-clause-placed
+returns-in_default-asking-clause-placed c = inl (unkept_there c.args.key c.args.self.now c.in-Some.application.now c.in-Some.ensures (search rules))
+
+pub returns-in_default-hold_of-clause-placed : goal.returns-in_default-hold_of-clause-placed
+returns-in_default-hold_of-clause-placed c = ok_more c.end.result _ _ (λ s. inl (unkept_closed _ (s _))) c.end.ensures.shuts
+
+pub returns-then-application-2-clause-placed : goal.returns-then-application-2-clause-placed
+returns-then-application-2-clause-placed c = inr (Drains (taken_back c.args.self.now.applications c.args.key c.in-Some.application.now c.in-Some.ensures (search rules) (search rules)))
+
+pub returns-then-not-is_open-clause-placed : goal.returns-then-not-is_open-clause-placed
+returns-then-not-is_open-clause-placed c = inr (sparing.Opens c.in-Some-hold_of.hold (sym c.hold_of.ensures ∙ c.in-Some-hold_of.is) (c.is_open.ensures.shut (search rules)))
+
+pub returns-in-Ok-clause-placed : goal.returns-in-Ok-clause-placed
+returns-in-Ok-clause-placed c = ok_more c.put_held.result _ _ (λ g. inl g) c.put_held.ensures.gone
+
+pub returns-in-Err-clause-placed : goal.returns-in-Err-clause-placed
+returns-in-Err-clause-placed c = ok_more c.fail.result _ _ (λ d. inl (unkept_closed _ (shut c.fail.new.self.applications c.args.key _ d))) c.fail.ensures.over
+
+pub returns-in_default-clause-answers : goal.returns-in_default-clause-answers
+returns-in_default-clause-answers c = answers_refl c.args.self.now.links.items
+
+pub returns-then-application-clause-answers : goal.returns-then-application-clause-answers
+returns-then-application-clause-answers c = answers_refl c.args.self.now.links.items
+
+pub returns-in_default-asking-clause-answers : goal.returns-in_default-asking-clause-answers
+returns-in_default-asking-clause-answers c = answers_refl c.args.self.now.links.items
+
+pub returns-then-application-2-clause-answers : goal.returns-then-application-2-clause-answers
+returns-then-application-2-clause-answers c = answers_refl c.args.self.now.links.items
+
+pub returns-then-not-is_open-clause-answers : goal.returns-then-not-is_open-clause-answers
+returns-then-not-is_open-clause-answers c = answers_refl c.args.self.now.links.items
+
+pub returns-in_default-hold_of-clause-answers : goal.returns-in_default-hold_of-clause-answers
+returns-in_default-hold_of-clause-answers c = answers_unchanged c.end.result _ _ c.end.ensures.links

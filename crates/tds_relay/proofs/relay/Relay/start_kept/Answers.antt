@@ -1,4 +1,4 @@
-use Rattle.std.proofs.Common.{◌≡◌, ◌∙◌, None, inl, refl, rules, sym}
+use Rattle.std.proofs.Common.{◌≡◌, ◌∙◌, None, inl, rules, sym}
 use Rattle.tds_relay.specs.Asking.{Closes}
 use Rattle.tds_relay.specs.Bodies.{Stays, body_of, going_of}
 use Rattle.tds_relay.specs.Fronts.{hall_in}
@@ -10,6 +10,7 @@ use Rattle.tds_relay.proofs.steps.Staying.{stays_refl}
 use Rattle.tds_relay.proofs.spared.Apart.{alone_refl}
 use Rattle.tds_relay.proofs.spared.Resting.{others_all, others_refl}
 use Rattle.tds_relay.proofs.spared.Starting.{unkept_closed}
+use Rattle.tds_relay.proofs.spared.Begun.{answers_refl}
 use Rattle.tds_relay.proofs.relay.Relay.start_kept.Goals as goal
 
 pub returns-in_default-clause-moves : goal.returns-in_default-clause-moves
@@ -49,3 +50,12 @@ returns-clause-others c = λ reached. others_all c.fail.result c.args.key c.args
 
 pub returns-clause-waits : goal.returns-clause-waits
 returns-clause-waits c = ok_more c.fail.result _ _ (λ d. inl (unkept_closed _ (shut c.fail.new.self.applications c.args.key _ d))) c.fail.ensures.over
+
+pub returns-then-is_held_back-clause-placed : goal.returns-then-is_held_back-clause-placed
+returns-then-is_held_back-clause-placed c = c.is_held_back.ensures.held (sym c.hold_of.ensures ∙ c.in-Some.is) (search rules)
+
+pub returns-clause-placed : goal.returns-clause-placed
+returns-clause-placed c = ok_more c.fail.result _ _ (λ d. inl (unkept_closed _ (shut c.fail.new.self.applications c.args.key _ d))) c.fail.ensures.over
+
+pub returns-then-is_held_back-clause-answers : goal.returns-then-is_held_back-clause-answers
+returns-then-is_held_back-clause-answers c = answers_refl c.args.self.now.links.items

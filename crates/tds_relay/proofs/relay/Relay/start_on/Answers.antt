@@ -3,10 +3,10 @@ use Rattle.tds_relay.proofs.spared.Resting.{go_on_one, go_refl}
 use Rattle.tds_relay.specs.Bodies.{body_of}
 use Rattle.tds_relay.specs.Sparing.{IsHeldBack, IsUnkept}
 use Rattle.tds_relay.proofs.spared.Starting.{none_own, own_on}
-use Rattle.tds_relay.proofs.spared.Closings.{closes_more_on}
 use Rattle.tds_relay.specs.Closings.{IsWho, Itself}
 use Rattle.tds_relay.specs.Hall.{holder}
 use Rattle.tds_relay.specs.Ties.{desk_in}
+use Rattle.tds_relay.proofs.spared.Closings.{closes_more_on}
 use Rattle.tds_relay.proofs.relay.Relay.start_on.Goals as goal
 
 pub returns-in-Some-clause-goes_on : goal.returns-in-Some-clause-goes_on

@@ -17,9 +17,10 @@ use Rattle.tds_relay.proofs.steps.Bodied.{asks_kept, same_starts, shut_starts}
 use Rattle.tds_relay.proofs.steps.Carried.{carries_deaf, carries_fed, carries_moved, carries_refused}
 use Rattle.tds_relay.proofs.steps.Renaming.{names_given}
 use Rattle.tds_relay.specs.Posts.{names_of}
-use Rattle.tds_relay.proofs.spared.Ordered.{ordered_refl}
-use Rattle.tds_relay.proofs.spared.Closings.{closes_both, closes_kept, closes_written, sees_refl}
 use Rattle.tds_relay.specs.Closings.{Itself}
+use Rattle.tds_relay.proofs.spared.Closings.{closes_both}
+use Rattle.tds_relay.proofs.spared.Sending.{kept_refl}
+use Rattle.tds_relay.proofs.spared.Shutting.{closes_kept, closes_written, unclosed}
 use Rattle.tds_relay.proofs.relay.Relay.take.Goals as goal
 
 pub returns-in-Err-clause-tells : goal.returns-in-Err-clause-tells
@@ -145,12 +146,12 @@ pub returns-then-application-clause-names : goal.returns-then-application-clause
 returns-then-application-clause-names c = ap names_of (posts_kept c.args.self.now.applications c.args.key c.in-Some.application.now c.in-Some.application.now c.in-Some.ensures.value refl)
 
 pub returns-then-application-clause-closes : goal.returns-then-application-clause-closes
-returns-then-application-clause-closes c = closes_kept (Itself c.args.key) _ _ (ends_kept c.args.self.now.applications c.args.key c.in-Some.application.now c.in-Some.application.now c.in-Some.ensures.value refl) (ap names_of (posts_kept c.args.self.now.applications c.args.key c.in-Some.application.now c.in-Some.application.now c.in-Some.ensures.value refl)) refl (sees_refl c.args.self.now.links.items) (ordered_refl c.args.self.now.orders.items)
+returns-then-application-clause-closes c = closes_kept (Itself c.args.key) _ _ (ends_kept c.args.self.now.applications c.args.key c.in-Some.application.now c.in-Some.application.now c.in-Some.ensures.value refl) (posts_kept c.args.self.now.applications c.args.key c.in-Some.application.now c.in-Some.application.now c.in-Some.ensures.value refl) refl (kept_refl c.args.self.now.links.items) (unclosed _ _ refl)
 
 pub returns-in-Err-clause-closes : goal.returns-in-Err-clause-closes
 returns-in-Err-clause-closes c = closes_both (Itself c.args.key) _ _ _
-    (closes_written (Itself c.args.key) c.args.self.now.applications c.args.key c.in-Some.application.now c.feed.new.self _ _ c.in-Some.ensures.value c.feed.ensures.over refl refl (ap names_of (posts_kept c.args.self.now.applications c.args.key c.in-Some.application.now c.feed.new.self c.in-Some.ensures.value c.feed.ensures.post)) refl (sees_refl c.args.self.now.links.items) (ordered_refl c.args.self.now.orders.items)) c.in_ok-expel_for-in-Err.ensures.closes
+    (closes_written (Itself c.args.key) c.args.self.now.applications c.args.key c.in-Some.application.now c.feed.new.self _ _ c.in-Some.ensures.value c.feed.ensures.over refl refl (posts_kept c.args.self.now.applications c.args.key c.in-Some.application.now c.feed.new.self c.in-Some.ensures.value c.feed.ensures.post) refl (kept_refl c.args.self.now.links.items) (unclosed _ _ refl)) c.in_ok-expel_for-in-Err.ensures.closes
 
 pub returns-clause-closes : goal.returns-clause-closes
-returns-clause-closes c = closes_both (Itself c.args.key) _ _ _ (closes_written (Itself c.args.key) c.args.self.now.applications c.args.key c.in-Some.application.now c.feed.new.self _ _ c.in-Some.ensures.value c.feed.ensures.over refl refl (ap names_of (posts_kept c.args.self.now.applications c.args.key c.in-Some.application.now c.feed.new.self c.in-Some.ensures.value c.feed.ensures.post)) refl (sees_refl c.args.self.now.links.items) (ordered_refl c.args.self.now.orders.items))
+returns-clause-closes c = closes_both (Itself c.args.key) _ _ _ (closes_written (Itself c.args.key) c.args.self.now.applications c.args.key c.in-Some.application.now c.feed.new.self _ _ c.in-Some.ensures.value c.feed.ensures.over refl refl (posts_kept c.args.self.now.applications c.args.key c.in-Some.application.now c.feed.new.self c.in-Some.ensures.value c.feed.ensures.post) refl (kept_refl c.args.self.now.links.items) (unclosed _ _ refl))
     c.in_ok-obey.ensures.closes

@@ -11,8 +11,8 @@ use Rattle.tds_relay.proofs.steps.Told.{deaf_behind, deaf_closed}
 use Rattle.tds_relay.proofs.steps.Staying.{stays_from}
 use Rattle.tds_relay.proofs.bytes.Calls.{stand_at, stand_on}
 use Rattle.tds_relay.proofs.steps.Bodied.{asks_then, forgot_on, kept_on_ok}
-use Rattle.tds_relay.proofs.spared.Closings.{closes_both, closes_first}
 use Rattle.tds_relay.specs.Closings.{Itself, Nobody}
+use Rattle.tds_relay.proofs.spared.Closings.{closes_both, closes_first}
 use Rattle.tds_relay.proofs.relay.Relay.take_back.Goals as goal
 
 pub returns-in-Some-clause-moves : goal.returns-in-Some-clause-moves

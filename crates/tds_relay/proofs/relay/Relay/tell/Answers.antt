@@ -2,8 +2,8 @@ use Rattle.tds_relay.specs.declared.desk.coming.What.TheVariants as whats
 use Rattle.tds_relay.proofs.steps.Fronts.{told_as, told_nobody}
 use Rattle.tds_relay.proofs.spared.Ordered.{ordered_closed}
 use Rattle.tds_relay.proofs.spared.Waking.{not_silent}
-use Rattle.tds_relay.proofs.steps.Reaching.{ok_more}
-use Rattle.std.proofs.Common.{inl, rules}
+use Rattle.tds_relay.specs.Closings.{Anybody, Itself, Nobody, register_in}
+use Rattle.tds_relay.proofs.spared.Closings.{anybody, closes_refl}
 use Rattle.tds_relay.proofs.relay.Relay.tell.Goals as goal
 
 pub returns-in_default-clause-ends : goal.returns-in_default-clause-ends
@@ -26,3 +26,18 @@ returns-in_ok-end-in-Closed-clause-ordered c = ordered_closed _ _ _ c.in_ok-end-
 
 pub returns-in-Acknowledged-clause-silent : goal.returns-in-Acknowledged-clause-silent
 returns-in-Acknowledged-clause-silent c = λ resumes key h. not_silent c.args.heard c.in-Some.key key _ c.in-Some.is c.in-Acknowledged.is (c.acknowledged.ensures.silent resumes) h
+
+pub returns-in_default-clause-closes : goal.returns-in_default-clause-closes
+returns-in_default-clause-closes c = closes_refl Anybody (register_in c.args.self.now)
+
+pub returns-in-Goes-clause-closes : goal.returns-in-Goes-clause-closes
+returns-in-Goes-clause-closes c = anybody Nobody _ _ c.goes_on.ensures.closes
+
+pub returns-in-Finished-clause-closes : goal.returns-in-Finished-clause-closes
+returns-in-Finished-clause-closes c = anybody Nobody _ _ c.answered.ensures.closes
+
+pub returns-in-Acknowledged-clause-closes : goal.returns-in-Acknowledged-clause-closes
+returns-in-Acknowledged-clause-closes c = anybody Nobody _ _ c.acknowledged.ensures.closes
+
+pub returns-in_ok-end-in-Closed-clause-closes : goal.returns-in_ok-end-in-Closed-clause-closes
+returns-in_ok-end-in-Closed-clause-closes c = anybody (Itself c.in-Some.key) _ _ c.in_ok-end-in-Closed.ensures.closes

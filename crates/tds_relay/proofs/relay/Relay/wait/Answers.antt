@@ -2,6 +2,7 @@ use Rattle.std.proofs.Common.{refl, rules}
 use Rattle.tds_relay.proofs.steps.Fronts.{moves_does}
 use Rattle.tds_relay.proofs.steps.Reaching.{ok_more, reaches_turn}
 use Rattle.tds_relay.proofs.steps.Underway.{in_line}
+use Rattle.tds_relay.proofs.spared.Lined.{stands_last}
 use Rattle.tds_relay.proofs.relay.Relay.wait.Goals as goal
 
 pub returns-then-is_away-clause-goes : goal.returns-then-is_away-clause-goes
@@ -13,3 +14,6 @@ returns-then-is_away-clause-moves c =
 
 pub returns-then-is_away-clause-underway : goal.returns-then-is_away-clause-underway
 returns-then-is_away-clause-underway c = λ none. ok_more c.wait.result _ _ (λ t whole. in_line whole _ c.args.key _ _ _ t.desk_is) c.wait.ensures.ok
+
+pub returns-then-is_away-clause-lines : goal.returns-then-is_away-clause-lines
+returns-then-is_away-clause-lines c = ok_more c.wait.result _ _ (λ t. stands_last _ _ c.args.key t.desk_is) c.wait.ensures.ok

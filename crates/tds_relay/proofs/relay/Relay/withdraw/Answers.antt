@@ -1,11 +1,10 @@
 use Rattle.tds_relay.specs.Fronts.{withdraws}
 use Rattle.tds_relay.proofs.steps.Fronts.{ends_moved}
 use Rattle.tds_relay.proofs.steps.Posting.{posts_kept}
-use Rattle.tds_relay.proofs.spared.Ordered.{ordered_refl}
-use Rattle.tds_relay.specs.Posts.{names_of}
-use Rattle.std.proofs.Common.{ap, refl}
-use Rattle.tds_relay.proofs.spared.Closings.{closes_moved, keeps_withdraws, sees_refl}
+use Rattle.std.proofs.Common.{refl}
 use Rattle.tds_relay.specs.Closings.{Nobody}
+use Rattle.tds_relay.proofs.spared.Sending.{kept_refl}
+use Rattle.tds_relay.proofs.spared.Shutting.{closes_moved, keeps_withdraws, unclosed}
 use Rattle.tds_relay.proofs.relay.Relay.withdraw.Goals as goal
 
 pub returns-in-Some-clause-kept : goal.returns-in-Some-clause-kept
@@ -15,4 +14,4 @@ pub returns-in-Some-clause-ends : goal.returns-in-Some-clause-ends
 returns-in-Some-clause-ends c = ends_moved c.args.self.now.applications c.args.key c.in-Some.application.now c.withdraw.new.self withdraws c.in-Some.ensures.value c.withdraw.ensures.end
 
 pub returns-in-Some-clause-closes : goal.returns-in-Some-clause-closes
-returns-in-Some-clause-closes c = closes_moved Nobody c.args.key withdraws _ _ keeps_withdraws (ends_moved c.args.self.now.applications c.args.key c.in-Some.application.now c.withdraw.new.self withdraws c.in-Some.ensures.value c.withdraw.ensures.end) (ap names_of (posts_kept c.args.self.now.applications c.args.key c.in-Some.application.now c.withdraw.new.self c.in-Some.ensures.value c.withdraw.ensures.post)) refl (sees_refl c.args.self.now.links.items) (ordered_refl c.args.self.now.orders.items)
+returns-in-Some-clause-closes c = closes_moved Nobody c.args.key withdraws _ _ keeps_withdraws (ends_moved c.args.self.now.applications c.args.key c.in-Some.application.now c.withdraw.new.self withdraws c.in-Some.ensures.value c.withdraw.ensures.end) (posts_kept c.args.self.now.applications c.args.key c.in-Some.application.now c.withdraw.new.self c.in-Some.ensures.value c.withdraw.ensures.post) refl (kept_refl c.args.self.now.links.items) (unclosed _ _ refl)

@@ -18,7 +18,7 @@ returns-then-news-clause-passes c =
       by = subst (λ (b : Bool). IsOf tells b (awaited c.args.news.is_owed c.args.answer.now) c.args.packet.header c.args.packet.«data».now (Without tells made.0)) (sym c.if-news.true) (made.0, refl, made.1);
       is = called_so c.args.application.now.tag _ _ (Some (behind_news tells made.0)) (made.2 ∙ ap (λ (p : Post). put made.0 p) c.in_ok-put_news.ensures.post ∙ news_first tells made.0 (post_in c.args.application.now.out));
     })
-    c.put_without_news.ensures
+    c.put_without_news.ensures.cut
 
 pub returns-else-news-clause-passes : goal.returns-else-news-clause-passes
 returns-else-news-clause-passes c =

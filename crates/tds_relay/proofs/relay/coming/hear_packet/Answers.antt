@@ -1,4 +1,4 @@
-use Rattle.std.proofs.Common.{◌≡◌, ◌∙◌, ◌&&◌, ◌||◌, not, Bool, Option, ap, false, refl, rules, sym, true, Some, ℕ, subst}
+use Rattle.std.proofs.Common.{◌≡◌, ◌∙◌, ◌&&◌, not, Bool, Option, ap, false, refl, rules, sym, true, Some, ℕ, subst}
 use Rattle.std.specs.Prelude.{IsSome}
 use Rattle.tds_service.specs.Table.{reading_on}
 use Rattle.tds_relay.specs.declared.link.News.{News}

@@ -12,7 +12,7 @@ use Rattle.tds_service.proofs.service.Service.ask.Goals as goal
 
 pub returns-in-Some-clause-ok : goal.returns-in-Some-clause-ok
 returns-in-Some-clause-ok c =
-    let at = reached_at (has_lease c.args.lease) c.args.self.now c.ask_at.new.seats c.deref.ensures.value c.deref_mut.ensures.value c.in-Some.ensures.first (first_of (omega arith, search rules)) in
+    let at = reached_at (has_lease c.args.lease) c.args.self.now c.ask_at.new.seats refl c.deref_mut.ensures.value c.in-Some.ensures.first (first_of (omega arith, search rules)) in
     let seat = at.here.seat in
     IfOk-weaker c.ask_at.result _ _
     (λ done h.
@@ -24,7 +24,7 @@ returns-in-Some-clause-ok c =
 
 pub returns-in-Some-clause-names : goal.returns-in-Some-clause-names
 returns-in-Some-clause-names c =
-    let at = reached_at (has_lease c.args.lease) c.args.self.now c.ask_at.new.seats c.deref.ensures.value c.deref_mut.ensures.value c.in-Some.ensures.first (first_of (omega arith, search rules)) in
+    let at = reached_at (has_lease c.args.lease) c.args.self.now c.ask_at.new.seats refl c.deref_mut.ensures.value c.in-Some.ensures.first (first_of (omega arith, search rules)) in
     let seat = at.here.seat in
     let heard = seat.connection.client.heard in
     IfOk-weaker c.ask_at.result _ _
@@ -36,14 +36,14 @@ returns-in-Some-clause-names c =
 
 pub returns-in-Some-clause-refused : goal.returns-in-Some-clause-refused
 returns-in-Some-clause-refused c =
-    let at = reached_at (has_lease c.args.lease) c.args.self.now c.ask_at.new.seats c.deref.ensures.value c.deref_mut.ensures.value c.in-Some.ensures.first (first_of (omega arith, search rules)) in
+    let at = reached_at (has_lease c.args.lease) c.args.self.now c.ask_at.new.seats refl c.deref_mut.ensures.value c.in-Some.ensures.first (first_of (omega arith, search rules)) in
     on_err c.ask_at.result _ _
     (λ refusal h. refuses_there at line.Ask (line.Ask ∷ []) refusal (h at.here.seat at.here.at_lent) (ask_never (line_in at.here.seat.connection)))
     c.ask_at.ensures.refused
 
 pub returns-in-Some-clause-opened : goal.returns-in-Some-clause-opened
 returns-in-Some-clause-opened c =
-    let at = reached_at (has_lease c.args.lease) c.args.self.now c.ask_at.new.seats c.deref.ensures.value c.deref_mut.ensures.value c.in-Some.ensures.first (first_of (omega arith, search rules)) in
+    let at = reached_at (has_lease c.args.lease) c.args.self.now c.ask_at.new.seats refl c.deref_mut.ensures.value c.in-Some.ensures.first (first_of (omega arith, search rules)) in
     on_done c.ask_at.result _ _
     (λ done h.
     let k = h at.here.seat at.here.at_lent in
@@ -52,7 +52,7 @@ returns-in-Some-clause-opened c =
 
 pub returns-in-Some-clause-clients : goal.returns-in-Some-clause-clients
 returns-in-Some-clause-clients c =
-    let at = reached_at (has_lease c.args.lease) c.args.self.now c.ask_at.new.seats c.deref.ensures.value c.deref_mut.ensures.value c.in-Some.ensures.first (first_of (omega arith, search rules)) in
+    let at = reached_at (has_lease c.args.lease) c.args.self.now c.ask_at.new.seats refl c.deref_mut.ensures.value c.in-Some.ensures.first (first_of (omega arith, search rules)) in
     on_done c.ask_at.result _ _
     (λ done h.
     let k = h at.here.seat at.here.at_lent in
@@ -61,5 +61,5 @@ returns-in-Some-clause-clients c =
 
 pub returns-in-Some-clause-sizes : goal.returns-in-Some-clause-sizes
 returns-in-Some-clause-sizes c =
-    let at = reached_at (has_lease c.args.lease) c.args.self.now c.ask_at.new.seats c.deref.ensures.value c.deref_mut.ensures.value c.in-Some.ensures.first (first_of (omega arith, search rules)) in
+    let at = reached_at (has_lease c.args.lease) c.args.self.now c.ask_at.new.seats refl c.deref_mut.ensures.value c.in-Some.ensures.first (first_of (omega arith, search rules)) in
     sizes_there at _ refl c.ask_at.ensures.sizes refl

@@ -11,7 +11,7 @@ use Rattle.tds_service.proofs.service.Service.cancel.Goals as goal
 
 pub returns-in-Some-clause-ok : goal.returns-in-Some-clause-ok
 returns-in-Some-clause-ok c =
-    let at = reached_at (has_lease c.args.lease) c.args.self.now c.cancel_at.new.seats c.deref.ensures.value c.deref_mut.ensures.value c.in-Some.ensures.first (first_of (omega arith, search rules)) in
+    let at = reached_at (has_lease c.args.lease) c.args.self.now c.cancel_at.new.seats refl c.deref_mut.ensures.value c.in-Some.ensures.first (first_of (omega arith, search rules)) in
     let seat = at.here.seat in
     let n = seat.connection.asked in
     IfOk-weaker c.cancel_at.result _ _
@@ -24,7 +24,7 @@ returns-in-Some-clause-ok c =
 
 pub returns-in-Some-clause-how : goal.returns-in-Some-clause-how
 returns-in-Some-clause-how c =
-    let at = reached_at (has_lease c.args.lease) c.args.self.now c.cancel_at.new.seats c.deref.ensures.value c.deref_mut.ensures.value c.in-Some.ensures.first (first_of (omega arith, search rules)) in
+    let at = reached_at (has_lease c.args.lease) c.args.self.now c.cancel_at.new.seats refl c.deref_mut.ensures.value c.in-Some.ensures.first (first_of (omega arith, search rules)) in
     let n = at.here.seat.connection.asked in
     IfOk-weaker c.cancel_at.result _ _
     (λ done h. (n, answers_there at line.Cancel (cancel_answer n done.1) (h at.here.seat at.here.at_lent).5.answer_is (cancelled_fine n done.1)))
@@ -32,21 +32,21 @@ returns-in-Some-clause-how c =
 
 pub returns-in-Some-clause-stops : goal.returns-in-Some-clause-stops
 returns-in-Some-clause-stops c =
-    let at = reached_at (has_lease c.args.lease) c.args.self.now c.cancel_at.new.seats c.deref.ensures.value c.deref_mut.ensures.value c.in-Some.ensures.first (first_of (omega arith, search rules)) in
+    let at = reached_at (has_lease c.args.lease) c.args.self.now c.cancel_at.new.seats refl c.deref_mut.ensures.value c.in-Some.ensures.first (first_of (omega arith, search rules)) in
     on_ok_weaker c.cancel_at.result
     (λ h. (at.here.seat.connection.client, held_here c.args.lease c.args.self.now c.deref_mut.result.now c.in-Some.index at.here, h at.here.seat at.here.at_lent))
     c.cancel_at.ensures.stops
 
 pub returns-in-Some-clause-refused : goal.returns-in-Some-clause-refused
 returns-in-Some-clause-refused c =
-    let at = reached_at (has_lease c.args.lease) c.args.self.now c.cancel_at.new.seats c.deref.ensures.value c.deref_mut.ensures.value c.in-Some.ensures.first (first_of (omega arith, search rules)) in
+    let at = reached_at (has_lease c.args.lease) c.args.self.now c.cancel_at.new.seats refl c.deref_mut.ensures.value c.in-Some.ensures.first (first_of (omega arith, search rules)) in
     on_err c.cancel_at.result _ _
     (λ refusal h. refuses_there at line.Cancel (line.Cancel ∷ []) refusal (h at.here.seat at.here.at_lent) (cancel_never (line_in at.here.seat.connection)))
     c.cancel_at.ensures.refused
 
 pub returns-in-Some-clause-clients : goal.returns-in-Some-clause-clients
 returns-in-Some-clause-clients c =
-    let at = reached_at (has_lease c.args.lease) c.args.self.now c.cancel_at.new.seats c.deref.ensures.value c.deref_mut.ensures.value c.in-Some.ensures.first (first_of (omega arith, search rules)) in
+    let at = reached_at (has_lease c.args.lease) c.args.self.now c.cancel_at.new.seats refl c.deref_mut.ensures.value c.in-Some.ensures.first (first_of (omega arith, search rules)) in
     on_done c.cancel_at.result _ _
     (λ done h.
     let k = h at.here.seat at.here.at_lent in
@@ -55,5 +55,5 @@ returns-in-Some-clause-clients c =
 
 pub returns-in-Some-clause-sizes : goal.returns-in-Some-clause-sizes
 returns-in-Some-clause-sizes c =
-    let at = reached_at (has_lease c.args.lease) c.args.self.now c.cancel_at.new.seats c.deref.ensures.value c.deref_mut.ensures.value c.in-Some.ensures.first (first_of (omega arith, search rules)) in
+    let at = reached_at (has_lease c.args.lease) c.args.self.now c.cancel_at.new.seats refl c.deref_mut.ensures.value c.in-Some.ensures.first (first_of (omega arith, search rules)) in
     sizes_there at _ refl c.cancel_at.ensures.sizes refl

@@ -1,17 +1,22 @@
 use Rattle.std.proofs.Common.{◌≡◌, ◌∙◌, ◌+◌, List, [], ◌∷◌, true, length, suc, refl, sym, ap, subst, arith, rules}
 use Rattle.std.proofs.lemmas.List.{with_items_is}
-use Rattle.std.specs.Prelude.{Option, Some}
+use Rattle.std.specs.Prelude.{Option, Some, vec_capacity}
 use Rattle.tds_wire.specs.declared.told.Token.{Token}
 use Rattle.tds_packet.specs.declared.status.Reset.TheVariants.{Full}
 use Rattle.tds_service.specs.declared.seat.Seat as code
 use Rattle.tds_service.specs.declared.refusal.Refusal.{Refusal}
 use Rattle.tds_service.specs.declared.refusal.Refusal.TheVariants as refusals
 use Rattle.tds_service.specs.Line as line
-use Rattle.tds_service.specs.Service.{Service, Seat, Cleaning, Lent, NotNow, Step, cleans, does, nothing, find_by, has_number, is_lendable, lease_in}
+use Rattle.tds_service.specs.Service.{Service, Seat, Cleaning, Lent, NotNow, Step, cleans, does, nothing, find_by, has_number, is_lendable, lease_in, is_idle}
 use Rattle.tds_service.specs.Table.{StepsIn, RefusesIn, service_in, seat_in, seats_in, place_of}
 use Rattle.tds_service.proofs.Tables.{here_in, found_here, lends_here, lent_same, steps_as, not_now_in, done_in}
 use Rattle.tds_service.proofs.Holding.{lends_clients, lendable_held}
 use Rattle.tds_service.proofs.Sizing.{keeps_sizes}
+use Rattle.tds_service.specs.Index.{holder_in}
+use Rattle.tds_service.specs.Ties.{line_in}
+use Rattle.tds_service.proofs.Indexing.{lendable_id}
+use Rattle.tds_service.proofs.Reached.{reached_at}
+use Rattle.tds_service.proofs.Reindexing.{newest_of, room_there, lent_index, rising_there}
 use Rattle.tds_service.proofs.service.Service.clean.Goals as goal
 
 pub returns-in-Ok-clause-ok : goal.returns-in-Ok-clause-ok
@@ -67,3 +72,23 @@ returns-in-Ok-clause-sizes c =
     let news = c.clean_at.new.seats in
     let len : length news ≡ c.args.self.now.seats.len = first_of (omega arith, search rules) in
     keeps_sizes c.args.self.now _ c.deref_mut.result.now news c.deref_mut.ensures.value (with_items_is c.args.self.now.seats news len) c.clean_at.ensures.sizes refl
+
+pub add-requires-clause-newest : goal.add-requires-clause-newest
+add-requires-clause-newest c = newest_of c.args.self.now c.in_ok-lease.lease c.in_ok-lease.ensures.value
+
+pub add-requires-clause-room : goal.add-requires-clause-room
+add-requires-clause-room c =
+    let at = reached_at (has_number c.args.number) c.args.self.now c.clean_at.new.seats refl c.deref_mut.ensures.value c.in-Some.ensures.first (first_of (omega arith, search rules)) in
+    let k = c.in-Ok.ensures.ok at.here.seat at.here.at_lent in
+    room_there at (lendable_id at.here.seat.place (is_idle (line_in at.here.seat.connection).stage) k.6)
+
+pub invariant_of-self-clause-indexed : goal.invariant_of-self-clause-indexed
+invariant_of-self-clause-indexed c =
+    let at = reached_at (has_number c.args.number) c.args.self.now c.clean_at.new.seats refl c.deref_mut.ensures.value c.in-Some.ensures.first (first_of (omega arith, search rules)) in
+    let k = c.in-Ok.ensures.ok at.here.seat at.here.at_lent in
+    lent_index at k.0 c.in_ok-lease.lease c.in-Ok.number (vec_capacity c.add.new.index) c.add.new.index.items k.1 k.2
+    (lendable_id at.here.seat.place (is_idle (line_in at.here.seat.connection).stage) k.6)
+    (ap holder_in k.3) c.in_ok-lease.ensures.value k.4 c.add.ensures.adds c.add.ensures.capacity
+
+pub invariant_of-self-clause-rising : goal.invariant_of-self-clause-rising
+invariant_of-self-clause-rising c = rising_there (reached_at (has_number c.args.number) c.args.self.now c.clean_at.new.seats refl c.deref_mut.ensures.value c.in-Some.ensures.first (first_of (omega arith, search rules))) c.clean_at.ensures.numbers

@@ -19,7 +19,7 @@ use Rattle.tds_service.proofs.service.Service.finish.Goals as goal
 pub returns-in-Some-clause-ok : goal.returns-in-Some-clause-ok
 returns-in-Some-clause-ok c =
     let old = service_in c.args.self.now in
-    let at = reached_at (has_lease c.args.lease) c.args.self.now c.finish_at.new.seats c.deref.ensures.value c.deref_mut.ensures.value c.in-Some.ensures.first (first_of (omega arith, search rules)) in
+    let at = reached_at (has_lease c.args.lease) c.args.self.now c.finish_at.new.seats refl c.deref_mut.ensures.value c.in-Some.ensures.first (first_of (omega arith, search rules)) in
     let client = at.here.seat.connection.client in
     let acts = packets (full_in client (left_of client.stage)) ++ line.Send true ∷ [] in
     IfOk-weaker c.finish_at.result _ _
@@ -33,14 +33,14 @@ returns-in-Some-clause-ok c =
 
 pub returns-in-Some-clause-refused : goal.returns-in-Some-clause-refused
 returns-in-Some-clause-refused c =
-    let at = reached_at (has_lease c.args.lease) c.args.self.now c.finish_at.new.seats c.deref.ensures.value c.deref_mut.ensures.value c.in-Some.ensures.first (first_of (omega arith, search rules)) in
+    let at = reached_at (has_lease c.args.lease) c.args.self.now c.finish_at.new.seats refl c.deref_mut.ensures.value c.in-Some.ensures.first (first_of (omega arith, search rules)) in
     on_err c.finish_at.result _ _
     (λ refusal h. λ count. refuses_there at (line.Send true) (packets count ++ line.Send true ∷ []) refusal (h at.here.seat at.here.at_lent) (send_never (line_in at.here.seat.connection) true))
     c.finish_at.ensures.refused
 
 pub returns-in-Some-clause-ends : goal.returns-in-Some-clause-ends
 returns-in-Some-clause-ends c =
-    let at = reached_at (has_lease c.args.lease) c.args.self.now c.finish_at.new.seats c.deref.ensures.value c.deref_mut.ensures.value c.in-Some.ensures.first (first_of (omega arith, search rules)) in
+    let at = reached_at (has_lease c.args.lease) c.args.self.now c.finish_at.new.seats refl c.deref_mut.ensures.value c.in-Some.ensures.first (first_of (omega arith, search rules)) in
     on_done c.finish_at.result _ _
     (λ done h.
     let k = h at.here.seat at.here.at_lent in
@@ -49,7 +49,7 @@ returns-in-Some-clause-ends c =
 
 pub returns-in-Some-clause-clients : goal.returns-in-Some-clause-clients
 returns-in-Some-clause-clients c =
-    let at = reached_at (has_lease c.args.lease) c.args.self.now c.finish_at.new.seats c.deref.ensures.value c.deref_mut.ensures.value c.in-Some.ensures.first (first_of (omega arith, search rules)) in
+    let at = reached_at (has_lease c.args.lease) c.args.self.now c.finish_at.new.seats refl c.deref_mut.ensures.value c.in-Some.ensures.first (first_of (omega arith, search rules)) in
     on_done c.finish_at.result _ _
     (λ done h.
     let k = h at.here.seat at.here.at_lent in
@@ -58,5 +58,5 @@ returns-in-Some-clause-clients c =
 
 pub returns-in-Some-clause-sizes : goal.returns-in-Some-clause-sizes
 returns-in-Some-clause-sizes c =
-    let at = reached_at (has_lease c.args.lease) c.args.self.now c.finish_at.new.seats c.deref.ensures.value c.deref_mut.ensures.value c.in-Some.ensures.first (first_of (omega arith, search rules)) in
+    let at = reached_at (has_lease c.args.lease) c.args.self.now c.finish_at.new.seats refl c.deref_mut.ensures.value c.in-Some.ensures.first (first_of (omega arith, search rules)) in
     sizes_there at _ refl c.finish_at.ensures.sizes refl

@@ -1,4 +1,4 @@
-use Rattle.std.proofs.Common.{◌≡◌, ◌∙◌, ◌+◌, ◌<◌, ◌==◌, ℕ, true, List, [], ◌∷◌, ◌++◌, length, suc, refl, sym, ap, subst, arith, rules}
+use Rattle.std.proofs.Common.{◌≡◌, ◌∙◌, ◌+◌, ◌<◌, ◌==◌, ℕ, true, List, [], ◌∷◌, ◌++◌, length, suc, refl, sym, ap, subst, arith, rules, ◌≤◌}
 use Rattle.std.proofs.lemmas.Bool.Decides.{nat_tests}
 use Rattle.tds_client.specs.Session.{ClientSession}
 use Rattle.tds_service.specs.declared.seat.Seat as code
@@ -13,6 +13,10 @@ use Rattle.tds_service.proofs.Keeping.{keeps_added, reads_added}
 use Rattle.tds_service.proofs.Holding.{kept_added, other_held}
 use Rattle.tds_service.proofs.Sizing.{keeps_sizes_added}
 use Rattle.tds_service.proofs.Rising.{added}
+use Rattle.std.specs.Prelude.{vec_capacity}
+use Rattle.tds_service.specs.declared.index.Indexed.{Indexed}
+use Rattle.tds_service.specs.Index.{ids_in}
+use Rattle.tds_service.proofs.Reindexing.{newest_of, few_ids, opened_index}
 use Rattle.tds_service.proofs.service.Service.open.Goals as goal
 
 pub returns-clause-ok : goal.returns-clause-ok
@@ -81,3 +85,26 @@ invariant_of-self-2-clause-rising c =
     subst (λ (n : ℕ). RiseFrom 0 (numbers_in c.push_reserved.new.self.items) (suc n)) (sym next)
     (subst (λ (cs : List code.Seat). RiseFrom 0 (numbers_in cs) (suc (suc s.last))) (sym (c.push_reserved.ensures.items ∙ ap (λ (cs : List code.Seat). cs ++ new ∷ []) c.reserve.ensures.items))
     (added 0 items new (suc s.last) s.rising next))
+
+pub add-requires-clause-newest : goal.add-requires-clause-newest
+add-requires-clause-newest c =
+    let s = c.args.self.now in
+    subst (λ (es : List Indexed). RiseFrom 0 (ids_in es) c.args.lease) (sym c.reserve-2.ensures.items) (newest_of s c.args.lease c.requires)
+
+pub add-requires-clause-room : goal.add-requires-clause-room
+add-requires-clause-room c =
+    let s = c.args.self.now in
+    let same : length c.reserve-2.new.index.items ≡ length s.index.items = ap (λ (es : List Indexed). length es) c.reserve-2.ensures.items in
+    let few : length s.index.items ≤ length s.seats.items = few_ids s in
+    let room : suc (length s.seats.items) ≤ vec_capacity c.reserve-2.new.index = first_of (search rules, omega arith) in
+    omega (arith, same, few, room)
+
+pub invariant_of-self-2-clause-indexed : goal.invariant_of-self-2-clause-indexed
+invariant_of-self-2-clause-indexed c =
+    let s = c.args.self.now in
+    let new : code.Seat = record { number = s.last + 1; place = places.Leased c.args.lease; connection = c.in-Ok.connection } in
+    let next : s.last + 1 ≡ suc s.last = omega arith in
+    let room : suc (length s.seats.items) ≤ vec_capacity c.reserve-2.new.index = first_of (search rules, omega arith) in
+    opened_index s new c.push_reserved.new.self.items c.args.lease (vec_capacity c.add.new.index) c.reserve-2.new.index.items c.add.new.index.items
+    (c.push_reserved.ensures.items ∙ ap (λ (cs : List code.Seat). cs ++ new ∷ []) c.reserve.ensures.items) next refl c.requires
+    (subst (λ (n : ℕ). suc (length s.seats.items) ≤ n) (sym c.add.ensures.capacity) room) c.reserve-2.ensures.items c.add.ensures.adds

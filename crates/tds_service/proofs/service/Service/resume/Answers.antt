@@ -1,6 +1,6 @@
 use Rattle.std.proofs.Common.{◌≡◌, ◌∙◌, ◌+◌, List, [], ◌∷◌, true, length, suc, refl, sym, ap, subst, arith, rules}
 use Rattle.std.proofs.lemmas.List.{with_items_is}
-use Rattle.std.specs.Prelude.{Option, Some}
+use Rattle.std.specs.Prelude.{Option, Some, vec_capacity}
 use Rattle.tds_wire.specs.declared.told.Token.{Token}
 use Rattle.tds_packet.specs.declared.status.Reset.TheVariants.{KeepTransaction}
 use Rattle.tds_service.specs.declared.seat.Seat as code
@@ -13,6 +13,10 @@ use Rattle.tds_service.specs.Ties.{line_in}
 use Rattle.tds_service.proofs.Tables.{here_in, found_here, meets_here, lends_here, lent_same, steps_as, marked_idle, refused_busy, not_now_in, done_in}
 use Rattle.tds_service.proofs.Holding.{lends_clients, kept_held}
 use Rattle.tds_service.proofs.Sizing.{keeps_sizes}
+use Rattle.tds_service.specs.Index.{holder_in}
+use Rattle.tds_service.proofs.Indexing.{ticket_id}
+use Rattle.tds_service.proofs.Reached.{reached_at}
+use Rattle.tds_service.proofs.Reindexing.{newest_of, found_id, room_of, gone_on_index, rising_there}
 use Rattle.tds_service.proofs.service.Service.resume.Goals as goal
 
 pub returns-in-Ok-clause-ok : goal.returns-in-Ok-clause-ok
@@ -22,7 +26,7 @@ returns-in-Ok-clause-ok c =
     let index = c.in-Some.index in
     let lease = c.in_ok-lease.lease in
     let news = c.lend_at.new.seats in
-    let here = here_in (has_ticket c.args.ticket) items c.deref.result.now c.deref_mut.result.now index c.deref.ensures.value c.deref_mut.ensures.value c.in-Some.ensures.first in
+    let here = here_in (has_ticket c.args.ticket) items c.args.self.now.seats.items c.deref_mut.result.now index refl c.deref_mut.ensures.value c.in-Some.ensures.first in
     let len : length news ≡ c.args.self.now.seats.len = first_of (omega arith, search rules) in
     let items_are = with_items_is c.args.self.now.seats news len in
     let k = c.in-Ok.ensures.ok here.seat here.at_lent in
@@ -42,7 +46,7 @@ returns-in-Err-clause-refused c =
     let old = service_in c.args.self.now in
     let items = c.args.self.now.seats.items in
     let index = c.in-Some.index in
-    let here = here_in (has_ticket c.args.ticket) items c.deref.result.now c.deref_mut.result.now index c.deref.ensures.value c.deref_mut.ensures.value c.in-Some.ensures.first in
+    let here = here_in (has_ticket c.args.ticket) items c.args.self.now.seats.items c.deref_mut.result.now index refl c.deref_mut.ensures.value c.in-Some.ensures.first in
     let found = found_here (has_ticket c.args.ticket) items c.deref_mut.result.now index here in
     let busy = c.in-Err.ensures.refused.1 here.seat here.at_lent in
     subst (λ (r : Refusal). RefusesIn old (resumes old (has_ticket c.args.ticket) (find_by (has_ticket c.args.ticket) old.seats)) r) (sym c.in-Err.ensures.refused.0)
@@ -55,7 +59,7 @@ returns-in-Ok-clause-clients c =
     let index = c.in-Some.index in
     let lent = c.deref_mut.result.now in
     let news = c.lend_at.new.seats in
-    let here = here_in (has_ticket c.args.ticket) items c.deref.result.now lent index c.deref.ensures.value c.deref_mut.ensures.value c.in-Some.ensures.first in
+    let here = here_in (has_ticket c.args.ticket) items c.args.self.now.seats.items lent index refl c.deref_mut.ensures.value c.in-Some.ensures.first in
     let len : length news ≡ c.args.self.now.seats.len = first_of (omega arith, search rules) in
     let items_are = with_items_is c.args.self.now.seats news len in
     let k = c.in-Ok.ensures.ok here.seat here.at_lent in
@@ -69,3 +73,26 @@ returns-in-Ok-clause-sizes c =
     let news = c.lend_at.new.seats in
     let len : length news ≡ c.args.self.now.seats.len = first_of (omega arith, search rules) in
     keeps_sizes c.args.self.now _ c.deref_mut.result.now news c.deref_mut.ensures.value (with_items_is c.args.self.now.seats news len) c.lend_at.ensures.sizes refl
+
+pub go_on-requires-clause-newest : goal.go_on-requires-clause-newest
+go_on-requires-clause-newest c = newest_of c.args.self.now c.in_ok-lease.lease c.in_ok-lease.ensures.value
+
+pub go_on-requires-clause-there : goal.go_on-requires-clause-there
+go_on-requires-clause-there c =
+    let at = reached_at (has_ticket c.args.ticket) c.args.self.now c.lend_at.new.seats refl c.deref_mut.ensures.value c.in-Some.ensures.first (first_of (omega arith, search rules)) in
+    let k = c.in-Ok.ensures.ok at.here.seat at.here.at_lent in
+    found_id at c.args.ticket c.in-Ok.number (ticket_id c.args.ticket at.here.seat.place (meets_here (has_ticket c.args.ticket) c.args.self.now.seats.items c.deref_mut.result.now c.in-Some.index at.here)) k.4
+
+pub go_on-requires-clause-room : goal.go_on-requires-clause-room
+go_on-requires-clause-room c = room_of c.args.self.now
+
+pub invariant_of-self-clause-indexed : goal.invariant_of-self-clause-indexed
+invariant_of-self-clause-indexed c =
+    let at = reached_at (has_ticket c.args.ticket) c.args.self.now c.lend_at.new.seats refl c.deref_mut.ensures.value c.in-Some.ensures.first (first_of (omega arith, search rules)) in
+    let k = c.in-Ok.ensures.ok at.here.seat at.here.at_lent in
+    gone_on_index at k.0 c.args.ticket c.in_ok-lease.lease c.in-Ok.number (vec_capacity c.go_on.new.index) c.go_on.new.index.items k.1 k.2
+    (ticket_id c.args.ticket at.here.seat.place (meets_here (has_ticket c.args.ticket) c.args.self.now.seats.items c.deref_mut.result.now c.in-Some.index at.here))
+    (ap holder_in k.3) c.in_ok-lease.ensures.value k.4 c.go_on.ensures.goes_on c.go_on.ensures.capacity
+
+pub invariant_of-self-clause-rising : goal.invariant_of-self-clause-rising
+invariant_of-self-clause-rising c = rising_there (reached_at (has_ticket c.args.ticket) c.args.self.now c.lend_at.new.seats refl c.deref_mut.ensures.value c.in-Some.ensures.first (first_of (omega arith, search rules))) c.lend_at.ensures.numbers

@@ -1,5 +1,6 @@
 use Rattle.std.proofs.Common.{refl}
 use Rattle.tds_service.proofs.Keeping.{keeps_set}
+use Rattle.tds_service.proofs.Indexing.{holders_set}
 use Rattle.tds_service.proofs.Rising.{numbers_set}
 use Rattle.tds_service.proofs.Sizing.{sizes_set}
 use Rattle.tds_service.proofs.service.asking.cancel_at.Goals as goal
@@ -12,3 +13,6 @@ returns-in-Ok-clause-sizes c = sizes_set c.index-seats-index.result _ c.args.sea
 
 pub returns-in-Ok-clause-numbers : goal.returns-in-Ok-clause-numbers
 returns-in-Ok-clause-numbers c = numbers_set c.index-seats-index.result _ c.args.seats.now c.args.index c.requires refl
+
+pub returns-in-Ok-clause-holders : goal.returns-in-Ok-clause-holders
+returns-in-Ok-clause-holders c = holders_set c.index-seats-index.result _ c.args.seats.now c.args.index c.requires refl refl

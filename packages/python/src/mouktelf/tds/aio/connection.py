@@ -8,15 +8,15 @@ from ...outgoing import Outgoing
 from .. import errors
 from ..exchange import COMMIT, ROLL_BACK, Alone, begin
 from ..place import Place, Row
-from ..spelling import Spelling
+from ..spelling import Spelling, named
 from .session import Session
 from .transport import opened
 
 
-async def connect(dsn: str = "localhost", *, timeout: Optional[float] = None, login_timeout: float = 15, cancel_timeout: float = 10,
-                  autocommit: bool = False, isolation_level: int = 0, **how: Any) -> "Connection":
+async def connect(dsn: str = "localhost", *by_place: str, timeout: Optional[float] = None, login_timeout: float = 15,
+                  cancel_timeout: float = 10, autocommit: bool = False, isolation_level: int = 0, **how: Any) -> "Connection":
     """As `mouktelf.tds.connect`."""
-    found = await opened(dsn, login_timeout, **how)
+    found = await opened(timeout=login_timeout, **named(dsn, by_place, how))
     session = Session(Alone(Client(found.size)), Outgoing(found.transport.write), found.size, found.transport, cancel_timeout)
     return Connection(session, found.spelling, timeout, autocommit, isolation_level)
 
@@ -40,7 +40,7 @@ class Connection:
         session = self.session
         async with session.turn:
             await session.settle(self.until())
-            return session.link.descriptor != 0
+            return session.descriptor != 0
 
     def until(self) -> Optional[float]:
         """By when a call that begins now is to be done."""
@@ -64,14 +64,14 @@ class Connection:
         session = self.session
         if not self.autocommit:
             await session.settle(until)
-            if session.link.descriptor == 0:
+            if session.descriptor == 0:
                 await session.run(MessageKind.TRANSACTION, begin(self.isolation_level), until)
 
     async def _end(self, body: bytes) -> None:
         session, until = self.session, self.until()
         async with session.turn:
             await session.settle(until)
-            if session.link.descriptor:
+            if session.descriptor:
                 await session.run(MessageKind.TRANSACTION, body, until)
 
     async def close(self) -> None:

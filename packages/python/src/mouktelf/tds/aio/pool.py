@@ -11,6 +11,7 @@ from ...service import Lent, Rest
 from .. import errors
 from ..answer import Answer
 from ..exchange import Draining, Leased
+from ..spelling import named
 from ..table import CLEANING, Line, Statistics, Table
 from .connection import Connection
 from .session import Session
@@ -76,13 +77,13 @@ def _wake(waiter: "asyncio.Future[None]") -> None:
 class Pool:
     """As `mouktelf.tds.Pool`: `async with pool.connection() as connection`, or `connection = await pool.connection()`."""
 
-    def __init__(self, dsn: str = "localhost", *, most: int = 8, wait: float = 30, cleans: bool = False,
+    def __init__(self, dsn: str = "localhost", *by_place: str, most: int = 8, wait: float = 30, cleans: bool = False,
                  timeout: Optional[float] = None, login_timeout: float = 15, cancel_timeout: float = 10, autocommit: bool = False,
                  isolation_level: int = 0, blocksize: int = 4096, **how: Any) -> None:
         """As of `mouktelf.tds.Pool`."""
         self.timeout, self.autocommit, self.isolation_level = timeout, autocommit, isolation_level
         self._wait, self._cleans, self._login_timeout, self._cancel_timeout = wait, cleans, login_timeout, cancel_timeout
-        self._how = dict(how, dsn=dsn, blocksize=blocksize)
+        self._how = dict(named(dsn, by_place, how), blocksize=blocksize)
         self._table = Table(most, blocksize)
 
     def connection(self, wait: Optional[float] = None) -> _Lending:

@@ -9,7 +9,7 @@ from ...outgoing import Outgoing
 from .. import errors
 from ..answer import Answer
 from ..exchange import ROLL_BACK, Exchange, Late, Link
-from ..session import LOOK
+from ..transport import LOOK
 from .transport import Transport
 
 

@@ -1,0 +1,62 @@
+-- What the relay puts on a connection itself, where an application lets that go: what cancels its request, and a cleaning.
+use Rattle.std.specs.Prelude.{◌≡◌, ◌⊎◌, ℕ, true, List, [], ◌∷◌, ◌++◌, Option, Some, None}
+use Rattle.tds_client.specs.declared.message.MessageKind.TheVariants.{Batch}
+use Rattle.tds_client.specs.Session.{ClientSession}
+use Rattle.tds_client.specs.Streams.{opened}
+use Rattle.tds_service.specs.declared.service.Service as services
+use Rattle.tds_service.specs.Table.{client_of}
+use Rattle.tds_service.specs.Ties.{cancel_out}
+use Rattle.tds_relay.specs.declared.desk.Hold.{Hold}
+use Rattle.tds_relay.specs.declared.desk.leaving.Left.{Left}
+use Rattle.tds_relay.specs.declared.relay.Relay as code
+use Rattle.tds_relay.specs.Bodies.{ArePut}
+use Rattle.tds_relay.specs.Desk.{find_key}
+use Rattle.tds_relay.specs.Reads.{waits_on}
+use Rattle.tds_relay.specs.Words.{text_of_cleaning}
+
+-- These bytes are a whole batch of this text, by a client that begins it.
+pub record IsBatch (text out : List ℕ) : Type 0 where
+  pub from : ClientSession
+  pub to : ClientSession
+  pub put : ArePut true text (opened from Batch) to out
+
+-- What is so was put behind what there was.
+pub record IsPutBehind (Is : List ℕ → Type 0) (before after : List ℕ) : Type 0 where
+  pub out : List ℕ
+  pub is : Is out
+  pub appended : after ≡ before ++ out
+
+-- A cleaning was, or nothing.
+abbrev pub MayClean : List ℕ → List ℕ → Type 0
+MayClean before after = (after ≡ before) ⊎ IsPutBehind (IsBatch text_of_cleaning) before after
+
+-- What goes out where a client's connection is let go: what cancels its request, if one is out; and behind that a batch of this text, or none
+-- yet, while something is still to come there.
+pub record GoesOutAtEnd (text : List ℕ) (client : Option ClientSession) (out : List ℕ) : Type 0 where
+  pub session : ClientSession
+  pub was : client ≡ Some session
+  pub does : (out ≡ cancel_out session.stage) ⊎ IsPutBehind (IsBatch text) (cancel_out session.stage) out
+
+-- of a connection that an application held, where it is there still
+abbrev pub GoesOutBy : services.Service → Option Hold → Option Left → List ℕ → List ℕ → Type 0
+GoesOutBy s None left before after = Unit {0}
+GoesOutBy s (Some hold) None before after = Unit {0}
+GoesOutBy s (Some hold) (Some left) before after = left.is_there ≡ true → IsPutBehind (GoesOutAtEnd text_of_cleaning (client_of hold.lease s)) before after
+
+-- of any
+abbrev pub GoesOutAtAny : List ℕ → List ℕ → Left → Type 0
+GoesOutAtAny before after left = left.is_there ≡ true → (client : Option ClientSession) × IsPutBehind (GoesOutAtEnd text_of_cleaning client) before after
+
+-- It waits there, behind what waited; or the connection is there no more.
+pub data WaitsAtEnd (client : Option ClientSession) (old : Option (List ℕ)) : Option (List ℕ) → Type 0 where
+  IsShut : WaitsAtEnd client old None
+  HasMore : (waits out : List ℕ) → old ≡ Some waits → GoesOutAtEnd text_of_cleaning client out → WaitsAtEnd client old (Some (waits ++ out))
+
+-- And more may wait behind it.
+pub data WaitsBehindEnd (client : Option ClientSession) (old : Option (List ℕ)) : Option (List ℕ) → Type 0 where
+  IsShutSince : WaitsBehindEnd client old None
+  HasMoreSince : (waits out more : List ℕ) → old ≡ Some waits → GoesOutAtEnd text_of_cleaning client out → WaitsBehindEnd client old (Some ((waits ++ out) ++ more))
+
+-- where an application held one
+abbrev pub OfItsHold : (Option ClientSession → Option (List ℕ) → Option (List ℕ) → Type 0) → ℕ → code.Relay → (ℕ → Option (List ℕ)) → Type 0
+OfItsHold Left key old now = (hold : Hold) → find_key key old.desk.holds.items ≡ Some hold → Left (client_of hold.lease old.desk.service) (waits_on hold.number old.links.items) (now hold.number)

@@ -1,0 +1,41 @@
+-- That no request is forgotten which waits.
+use Rattle.std.specs.Prelude.{◌≡◌, ◌≢◌, ◌≤◌, ◌⊎◌, ◌++◌, ℕ, Bool, true, false, length, List, IsSome, Option, Some, None}
+use Rattle.tds_packet.specs.declared.status.Reset.TheVariants.{KeepTransaction}
+use Rattle.tds_client.specs.declared.message.MessageKind.{MessageKind}
+use Rattle.tds_relay.specs.declared.application.Application.{Application}
+use Rattle.tds_relay.specs.declared.application.Asking.TheVariants as asking
+use Rattle.tds_relay.specs.declared.desk.coming.Heard.{Heard}
+use Rattle.tds_relay.specs.declared.desk.coming.What.TheVariants as whats
+use Rattle.tds_relay.specs.declared.relay.Relay as code
+use Rattle.tds_relay.specs.Bodies.{Body, Kept, body_of}
+use Rattle.tds_relay.specs.Desk.{find_key}
+use Rattle.tds_relay.specs.Fronts.{ends_in}
+use Rattle.tds_relay.specs.Hall.{AsksFor, end_at, is_in}
+use Rattle.tds_relay.specs.Sparing.{IsHeldBack, IsUnkept}
+use Rattle.tds_relay.specs.Taking.{IsDeaf}
+use Rattle.tds_relay.specs.Told.{room_to_keep}
+
+-- It goes on, or waits for its connection to open, or for the acknowledgement of what its application took back.
+abbrev pub GoesOrWaits : ℕ → code.Relay → Type 0
+GoesOrWaits key r = IsUnkept (body_of key r) ⊎ IsHeldBack key r
+
+-- Once that is acknowledged it goes on so, unless it asks for the reset that keeps its transaction.
+abbrev pub Resumes : ℕ → code.Relay → code.Relay → Type 0
+Resumes key old new = AsksFor KeepTransaction (end_at (ends_in old.applications) key) ⊎ GoesOrWaits key new
+
+-- Its application stands in the line; or is to be closed, or holds a connection.
+pub data StandsInLine (key : ℕ) (r : code.Relay) : Type 0 where
+  Stands : is_in key r.desk.line.items ≡ true → StandsInLine key r
+  Closes : IsDeaf (end_at (ends_in r.applications) key) → StandsInLine key r
+  Holds : IsSome (find_key key r.desk.holds.items) → StandsInLine key r
+
+-- What was heard of a packet, if something was, acknowledges nothing.
+abbrev pub IsNotAcknowledged : Option Heard → Type 0
+IsNotAcknowledged None = Unit {0}
+IsNotAcknowledged (Some heard) = heard.what ≢ whats.Acknowledged
+
+-- These bytes of a request that stands in the line are kept behind the others, where they are no more than may be kept.
+abbrev pub KeepsInLine : Bool → List ℕ → Option Application → Body → Type 0
+KeepsInLine whole more None new = Unit {0}
+KeepsInLine whole more (Some a) new =
+    a.is_over ≡ false → length more ≤ room_to_keep a → (kind : MessageKind) (was : Bool) → a.asking ≡ asking.Waits kind was → new ≡ Kept kind (a.held.items ++ more) whole

@@ -1,0 +1,66 @@
+//! The first connection of all, which has come before any application asked.
+ghost use Rattle.std.specs.Prelude.{◌≡◌, IfNone, IfOk, IfSome, List, None, OnOk, Some};
+ghost use Rattle.std.specs.Prelude.{true};
+ghost use Rattle.tds_relay.specs.Bringing.{IsFirst, IsNotBrought};
+ghost use Rattle.tds_relay.specs.Closings.{ClosesOnly, IsWaiting};
+ghost use Rattle.tds_relay.specs.Closings.{register_in, with_links};
+ghost use Rattle.tds_relay.specs.Fronts.{house_in};
+ghost use Rattle.tds_relay.specs.House.{Steps};
+ghost use Rattle.tds_relay.specs.Posts.{names_in, posts_in};
+ghost use Rattle.tds_relay.specs.Reads.{IsCalled, OpensFirst};
+ghost use Rattle.tds_relay.specs.Reads.{seen_at};
+ghost use Rattle.tds_relay.specs.Ordering.{StayOrdered};
+ghost use Rattle.tds_relay.specs.Sparing.{AllGo};
+ghost use Rattle.tds_relay.specs.Ties.{Goes, Neither};
+ghost use Rattle.tds_relay.specs.Ties.{desk_in};
+ghost use Rattle.tds_relay.specs.Walkers.{AllStand};
+
+use super::Relay;
+use crate::NoMemory;
+use crate::link::Link;
+
+impl Relay {
+    /// A connection that is open and logged in has come before any application asked: the first one of
+    /// all. It is cleaned first. Answers its number, or none where it isn't wanted.
+    #[tactic(auto, using(crate::proofs::steps::Reaching::reaches_turn, crate::proofs::steps::Reaching::reaches_turned, crate::proofs::spared::Resting::go_refl, crate::proofs::spared::Ordered::ordered_refl))]
+    pub fn bring(&mut self, tag: usize) -> Result<Option<u64>, NoMemory>
+        ensures goes { OnOk result (Goes Neither (desk_in self.old.desk) (desk_in self.new.desk)) }
+        ensures steps { OnOk result (Steps Neither (house_in self.old) (house_in self.new)) }
+        ensures kept { OnOk result (posts_in self.new.applications
+            ≡ posts_in self.old.applications) }
+        ensures opens { IfOk result (λ number.
+            OpensFirst number self.old.links.items self.new.links.items) }
+        ensures named { IfOk result (λ brought. IfSome brought (λ number.
+            IsCalled true (Some tag) (seen_at number self.new.links.items))) }
+        ensures names { OnOk result (names_in self.new.applications
+            ≡ names_in self.old.applications) }
+        ensures stand { OnOk result (AllStand self.old.desk.service
+            self.new.desk.service) }
+        ensures goes_on { OnOk result (AllGo self.old self.new) }
+        ensures ordered { OnOk result (StayOrdered self.old.orders.items self.new.orders.items) }
+        ensures closes { OnOk result ((first : List Link)
+            × IsFirst tag self.old.links.items first
+            × ClosesOnly (IsWaiting (desk_in self.old.desk).line)
+            (with_links first (register_in self.old)) (register_in self.new)) }
+        ensures tries { IfOk result (λ brought. IfNone brought (IsNotBrought self.old.links.items
+            (desk_in self.old.desk) (desk_in self.new.desk))) }
+    {
+        if !self.links.is_empty() {
+            return Ok(None);
+        }
+        self.outbox.clear();
+        let Some(left) = self.desk.bring(&mut self.outbox)? else {
+            return Ok(None);
+        };
+        if !left.is_there {
+            return Ok(None);
+        }
+        let mut link = self.new_link(left.number)?;
+        link.tag = Some(tag);
+        link.is_open = true;
+        self.links.push(link)?;
+        self.send_unheld(left.number)?;
+        self.serve_line()?;
+        Ok(Some(left.number))
+    }
+}

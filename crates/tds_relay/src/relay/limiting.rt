@@ -1,0 +1,57 @@
+//! How many connections there may be.
+ghost use Rattle.std.specs.Prelude.{◌≡◌, OnOk, false, true};
+ghost use Rattle.tds_relay.specs.Apart.{UnlessServed};
+ghost use Rattle.tds_relay.specs.Closings.{ClosesOnly, IsWaiting};
+ghost use Rattle.tds_relay.specs.Closings.{register_in, with_most};
+ghost use Rattle.tds_relay.specs.Few.{Few, IsCrowded, MayServe, NobodyWaits};
+ghost use Rattle.tds_relay.specs.Fronts.{MovedOn, hall_in};
+ghost use Rattle.tds_relay.specs.Ordering.{StayOrdered};
+ghost use Rattle.tds_relay.specs.Posts.{posts_in};
+ghost use Rattle.tds_relay.specs.Reads.{Opens};
+ghost use Rattle.tds_relay.specs.Sparing.{AllGo};
+ghost use Rattle.tds_relay.specs.Ties.{GoesOn, desk_in};
+ghost use Rattle.tds_relay.specs.Walkers.{AllStand};
+
+use super::Relay;
+use crate::NoMemory;
+
+impl Relay {
+    /// There may be so many connections from now on, and never more than `new` was told. Where more may be than
+    /// before, those who wait are lent them; where more are there than may be, none is closed, and none is opened
+    /// until fewer are.
+    pub fn set_most(&mut self, most: usize) -> Result<(), NoMemory>
+        ensures goes { OnOk result (GoesOn (desk_in self.old.desk) (desk_in self.new.desk)) }
+        ensures kept { OnOk result (posts_in self.new.applications
+            ≡ posts_in self.old.applications) }
+        ensures moves { OnOk result (MovedOn (hall_in self.old) (hall_in self.new)) }
+        ensures served { OnOk result (NobodyWaits self.new) }
+        ensures few { OnOk result (Few most self.old.links.items self.new.links.items) }
+        ensures opens { OnOk result (Opens self.old.links.items self.new.links.items) }
+        ensures stand { OnOk result (AllStand self.old.desk.service
+            self.new.desk.service) }
+        ensures goes_on { OnOk result (AllGo self.old self.new) }
+        ensures apart { OnOk result (UnlessServed (hall_in self.old) (hall_in self.new)) }
+        ensures ordered { OnOk result (StayOrdered self.old.orders.items self.new.orders.items) }
+        ensures closes { OnOk result (ClosesOnly (IsWaiting (desk_in self.old.desk).line)
+            (with_most most (register_in self.old)) (register_in self.new)) }
+    {
+        self.most = most;
+        self.serve_line()
+    }
+
+    /// Whether whoever waits isn't lent a connection: as many are there as may be, and none is free.
+    pub(super) fn is_full(&self) -> bool
+        ensures full { result ≡ true
+            → IsCrowded self.now.most self.now.links.items (desk_in self.now.desk) }
+        ensures lends { result ≡ false
+            → MayServe self.now.most self.now.links.items (desk_in self.now.desk) }
+    {
+        if self.links.len() < self.most {
+            return false;
+        }
+        if self.desk.waiting() == 0 {
+            return false;
+        }
+        !self.desk.has_free()
+    }
+}

@@ -1,0 +1,111 @@
+//! What is told to applications' ends of what comes.
+ghost use Rattle.std.specs.Prelude.{◌≡◌, ℕ, None, Some, false, true};
+ghost use Rattle.std.specs.Prelude.{IfOk, OnOk};
+ghost use Rattle.tds_relay.specs.Bodies.{AskAsBefore};
+ghost use Rattle.tds_relay.specs.Closings.{Anybody, ClosesOnly, Nobody};
+ghost use Rattle.tds_relay.specs.Closings.{register_in};
+ghost use Rattle.tds_relay.specs.Coming.{MayBeDone};
+ghost use Rattle.tds_relay.specs.Fronts.{ends_in};
+ghost use Rattle.tds_relay.specs.Hall.{change_end, change_whose, end_at, told};
+ghost use Rattle.tds_relay.specs.House.{is_said};
+ghost use Rattle.tds_relay.specs.Posts.{posts_in};
+ghost use Rattle.tds_relay.specs.Reads.{Stays};
+ghost use Rattle.tds_relay.specs.Ordering.{StayOrdered};
+ghost use Rattle.tds_relay.specs.Waking.{HandsTo};
+ghost use Rattle.tds_relay.specs.declared.desk.coming.What.TheVariants as whats;
+
+use super::Relay;
+use crate::NoMemory;
+use crate::desk::{Heard, What};
+
+impl Relay {
+    /// What came of a packet is told to its application's end. Answers whether this waited for the
+    /// acknowledgement of what it had taken back.
+    pub(super) fn tell(&mut self, heard: Heard) -> Result<bool, NoMemory>
+        ensures desk { self.new.desk ≡ self.old.desk }
+        ensures kept { OnOk result (posts_in self.new.applications
+            ≡ posts_in self.old.applications) }
+        ensures ends { OnOk result (ends_in self.new.applications
+            ≡ change_whose heard.key (told heard.what) (ends_in self.old.applications)) }
+        ensures read { OnOk result (Stays self.old.links.items self.new.links.items) }
+        ensures asks { OnOk result (MayBeDone self.old.applications self.new.applications) }
+        ensures ordered { OnOk result (StayOrdered self.old.orders.items self.new.orders.items) }
+        ensures silent { IfOk result (λ resumes. resumes ≡ true → (key : ℕ)
+            → ¬ HandsTo (Some heard) key (ends_in self.old.applications)) }
+        ensures links { OnOk result (self.new.links.items ≡ self.old.links.items) }
+        ensures closes { OnOk result (ClosesOnly Anybody
+            (register_in self.old) (register_in self.new)) }
+    {
+        let Some(key) = heard.key else {
+            return Ok(false);
+        };
+        match heard.what {
+            What::Goes => {
+                self.goes_on(key);
+                Ok(false)
+            }
+            What::Finished => {
+                self.answered(key);
+                Ok(false)
+            }
+            What::Acknowledged => Ok(self.acknowledged(key)),
+            What::Closed => {
+                self.end(key)?;
+                Ok(false)
+            }
+        }
+    }
+
+    /// A packet of an answer has come for an application.
+    fn goes_on(&mut self, key: usize)
+        ensures desk { self.new.desk ≡ self.old.desk }
+        ensures kept { posts_in self.new.applications ≡ posts_in self.old.applications }
+        ensures ends { ends_in self.new.applications
+            ≡ change_end key (told whats.Goes) (ends_in self.old.applications) }
+        ensures links { self.new.links.items ≡ self.old.links.items }
+        ensures orders { self.new.orders.items ≡ self.old.orders.items }
+        ensures asks { AskAsBefore self.old.applications self.new.applications }
+        ensures closes { ClosesOnly Nobody (register_in self.old) (register_in self.new) }
+    {
+        match self.applications.get_mut(key) {
+            Some(application) => application.goes_on(),
+            None => {}
+        }
+    }
+
+    /// An application's request has its answer.
+    fn answered(&mut self, key: usize)
+        ensures desk { self.new.desk ≡ self.old.desk }
+        ensures kept { posts_in self.new.applications ≡ posts_in self.old.applications }
+        ensures ends { ends_in self.new.applications
+            ≡ change_end key (told whats.Finished) (ends_in self.old.applications) }
+        ensures links { self.new.links.items ≡ self.old.links.items }
+        ensures orders { self.new.orders.items ≡ self.old.orders.items }
+        ensures asks { MayBeDone self.old.applications self.new.applications }
+        ensures closes { ClosesOnly Nobody (register_in self.old) (register_in self.new) }
+    {
+        match self.applications.get_mut(key) {
+            Some(application) => application.answered(),
+            None => {}
+        }
+    }
+
+    /// An application's attention has the acknowledgement; or what it took back has. Answers whether that.
+    fn acknowledged(&mut self, key: usize) -> bool
+        ensures desk { self.new.desk ≡ self.old.desk }
+        ensures kept { posts_in self.new.applications ≡ posts_in self.old.applications }
+        ensures ends { ends_in self.new.applications
+            ≡ change_end key (told whats.Acknowledged) (ends_in self.old.applications) }
+        ensures links { self.new.links.items ≡ self.old.links.items }
+        ensures orders { self.new.orders.items ≡ self.old.orders.items }
+        ensures asks { MayBeDone self.old.applications self.new.applications }
+        ensures silent { result ≡ true
+            → is_said whats.Acknowledged (end_at (ends_in self.old.applications) key) ≡ false }
+        ensures closes { ClosesOnly Nobody (register_in self.old) (register_in self.new) }
+    {
+        match self.applications.get_mut(key) {
+            Some(application) => application.acknowledged(),
+            None => false,
+        }
+    }
+}
