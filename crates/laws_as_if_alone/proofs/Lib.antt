@@ -9,3 +9,4 @@ pub mod Examples
 pub mod Refused
 pub mod Visits
 pub mod Bytes
+pub mod Parting

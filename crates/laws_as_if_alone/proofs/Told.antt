@@ -77,13 +77,13 @@ module _ {V : Type 0} (server : Server V) (key count : ℕ) (s : Session V) (w :
   held_next : Next server key count s w m
   held_next = held_by m.event refl
 
-one_moment : {V : Type 0} (server : Server V) (key count : ℕ) (s : Session V) (w : World V) (m : Moment V) → Story server key s w → Sound w.desk → AllSit w.desk → IsOrderly key w m → Next server key count s w m
+pub one_moment : {V : Type 0} (server : Server V) (key count : ℕ) (s : Session V) (w : World V) (m : Moment V) → Story server key s w → Sound w.desk → AllSit w.desk → IsOrderly key w m → Next server key count s w m
 one_moment server key count s w m (inl k) sound sit orderly = held_next server key count s w m k sound sit orderly
 one_moment server key count s w m (inr x) sound sit orderly = away_next server key count s w m x sound orderly
 
 -- ---- All of them
 
-joined : (xs ys zs : List (Item Token)) → (xs ++ ys) ++ zs ≡ xs ++ (ys ++ zs)
+pub joined : (xs ys zs : List (Item Token)) → (xs ++ ys) ++ zs ≡ xs ++ (ys ++ zs)
 joined [] ys zs = refl
 joined (x ∷ xs) ys zs = ap (λ (ws : List (Item Token)). x ∷ ws) (joined xs ys zs)
 
@@ -92,7 +92,7 @@ no_more [] = refl
 no_more (x ∷ xs) = ap (λ (ws : List (Item Token)). x ∷ ws) (no_more xs)
 
 -- What was given since the last request, and what is given and underway from here on.
-abbrev Goes : {V : Type 0} → Server V → List (Item Token) → List (Item Token) → Session V → List (Ask V) → List (Item Token) → Type 0
+abbrev pub Goes : {V : Type 0} → Server V → List (Item Token) → List (Item Token) → Session V → List (Ask V) → List (Item Token) → Type 0
 Goes server said before s asked behind = answers_alone server (said ++ before) s asked ≡ said ++ behind
 
 -- an answer that is over
@@ -120,7 +120,7 @@ asks_one {V} server count s next said before items began behind (Ends number) as
     (ap (λ (x : ℕ). take x (said ++ before)) (h.0 ∙ sym is) ∙ take-append_seam said before) h.2 h.1 i more
 
 -- One moment, and then the others.
-then_more : {V : Type 0} (server : Server V) (count : ℕ) (s next : Session V) (said before items began behind : List (Item Token)) (now asked : List (Ask V)) → length said ≡ count
+pub then_more : {V : Type 0} (server : Server V) (count : ℕ) (s next : Session V) (said before items began behind : List (Item Token)) (now asked : List (Ask V)) → length said ≡ count
     → Follows server count s before now items next began
     → ((more : List (Item Token)) → length more ≡ count_behind count now items → Goes server more began next asked behind) → Goes server said before s (now ++ asked) (items ++ behind)
 then_more {V} server count s next said before items began behind [] asked is h more =
@@ -154,7 +154,7 @@ all_hold : {V : Type 0} (server : Server V) (w : World V) (ms : List (Moment V))
 all_hold server w [] h = h
 all_hold server w (m ∷ ms) h = all_hold server (happens turn server w m) ms (turn_sound w.desk m.event h.0, turn_sits w.desk h.0 h.1 m.event)
 
-reached_holds : {V : Type 0} (server : Server V) (max : ℕ) (before : List (Moment V)) → Holds (reached server max before)
+pub reached_holds : {V : Type 0} (server : Server V) (max : ℕ) (before : List (Moment V)) → Holds (reached server max before)
 reached_holds server max before = all_hold server (new_world server max) before (always_sound max [], tt)
 
 pub as_if_alone : {V : Type 0} (server : Server V) (max key : ℕ) (before moments : List (Moment V)) → IsAway key (reached server max before).desk

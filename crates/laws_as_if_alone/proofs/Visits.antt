@@ -12,7 +12,7 @@ pub desk_along : {V : Type 0} (server : Server V) (w : World V) (ms : List (Mome
 desk_along server w [] = refl
 desk_along server w (m ∷ ms) = desk_along server (happens turn server w m) ms
 
-all_orderly : {V : Type 0} (server : Server V) (key : ℕ) (w : World V) (ms : List (Moment V)) → WaitsAway key w.desk (events_in ms) → AllSaid turn key server w ms → AllOrderly turn key server w ms
+pub all_orderly : {V : Type 0} (server : Server V) (key : ℕ) (w : World V) (ms : List (Moment V)) → WaitsAway key w.desk (events_in ms) → AllSaid turn key server w ms → AllOrderly turn key server w ms
 all_orderly server key w [] waits said = tt
 all_orderly server key w (m ∷ ms) waits said = (record { waits = waits.0; said = said.0 }, all_orderly server key (happens turn server w m) ms waits.1 said.1)
 
