@@ -19,7 +19,7 @@ use Rattle.tds_relay.proofs.held.Ours.{Gone, leaves_gone}
 use Rattle.tds_relay.proofs.held.Seated.{AllSit, turn_sits}
 use Rattle.laws_as_if_alone.specs.Serving.{Ask, Moment, Server, World, answers_alone, fresh, happens, new_world, reached, reset_if, world_after}
 use Rattle.laws_as_if_alone.specs.Alone.{AllOrderly, IsOrderly, asks_by, count_behind, found_next, given, given_in, underway}
-use Rattle.laws_as_if_alone.specs.Parting.{AllParted, AsIfUnparted, IsParted, Parts, asked_by, asks_but}
+use Rattle.laws_as_if_alone.specs.Parting.{AllParted, AsIfUnparted, IsParted, Partings, asks_unless, asks_but}
 use Rattle.laws_as_if_alone.specs.Visits.{AllSaid, Moments, events_in, world_in}
 use Rattle.laws_as_if_alone.proofs.Own.{Follows, StandsAt}
 use Rattle.laws_as_if_alone.proofs.Story.{Holding, Story, moved, underway_held, underway_none}
@@ -89,14 +89,14 @@ module _ {V : Type 0} (server : Server V) (key count : ℕ) (s : Session V) (w :
 
 -- ---- All of them
 
-told_but : {V : Type 0} (parts : Parts V) (server : Server V) (key count : ℕ) (s : Session V) (w : World V) (ms : List (Moment V)) (said : List (Item Token)) → length said ≡ count → Story server key s w → Sound w.desk
+told_but : {V : Type 0} (parts : Partings V) (server : Server V) (key count : ℕ) (s : Session V) (w : World V) (ms : List (Moment V)) (said : List (Item Token)) → length said ≡ count → Story server key s w → Sound w.desk
     → AllSit w.desk → AllOrderly turn key server w ms → AllParted parts turn key server w ms
     → Goes server said (underway key w) s (asks_but parts turn key server count w ms) (given turn key server w ms ++ underway key (world_after turn server w ms))
 told_but parts server key count s w [] said is story sound sit orderly parted = refl
 told_but {V} parts server key count s w (m ∷ ms) said is story sound sit orderly parted =
     let n = next_by server key count s w m story sound sit orderly.0 (parts w m) parted.0 in
     let w2 = happens turn server w m in
-    let now = asked_by parts key server w m count in
+    let now = asks_unless parts key server w m count in
     let items = given_in key w.desk m.event in
     let count2 = count_behind count now items in
     let behind = given turn key server w2 ms ++ underway key (world_after turn server w2 ms) in
@@ -104,7 +104,7 @@ told_but {V} parts server key count s w (m ∷ ms) said is story sound sit order
     (λ more size. told_but parts server key count2 n.next w2 ms more size n.story (turn_sound w.desk m.event sound) (turn_sits w.desk sound sit m.event) orderly.1 parted.1)
     ∙ ap (λ (x : List (Item Token)). said ++ x) (sym (joined items (given turn key server w2 ms) (underway key (world_after turn server w2 ms))))
 
-pub as_if_unparted : {V : Type 0} (parts : Parts V) (server : Server V) (max key : ℕ) (before moments : List (Moment V)) → IsAway key (reached server max before).desk
+pub as_if_unparted : {V : Type 0} (parts : Partings V) (server : Server V) (max key : ℕ) (before moments : List (Moment V)) → IsAway key (reached server max before).desk
     → AllOrderly turn key server (reached server max before) moments → AllParted parts turn key server (reached server max before) moments
     → AsIfUnparted parts turn key server (reached server max before) moments (world_after turn server (reached server max before) moments)
 as_if_unparted {V} parts server max key before moments away uncut parted =
@@ -114,7 +114,7 @@ as_if_unparted {V} parts server max key before moments away uncut parted =
     let all = told_but parts server key 0 (fresh server) w moments [] refl story (reached_holds server max before).0 (reached_holds server max before).1 uncut parted in
     sym all ∙ ap (λ (x : List (Item Token)). answers_alone server x (fresh server) (asks_but parts turn key server 0 w moments)) (underway_none key w none)
 
-pub unparted_in_visits : {V : Type 0} (parts : Parts V) (server : Server V) (max key : ℕ) (v : Visit max key) (ms : Moments V v)
+pub unparted_in_visits : {V : Type 0} (parts : Partings V) (server : Server V) (max key : ℕ) (v : Visit max key) (ms : Moments V v)
     → IsAway key (desk_after (new_desk max) (done_before v)) → WaitsAway key (desk_after (new_desk max) (done_before v)) (done_since v)
     → AllSaid turn key server (world_in server ms) ms.since → AllParted parts turn key server (world_in server ms) ms.since
     → AsIfUnparted parts turn key server (world_in server ms) ms.since (world_after turn server (world_in server ms) ms.since)

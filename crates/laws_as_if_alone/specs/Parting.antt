@@ -22,24 +22,24 @@ pub record IsParted {V : Type 0} (key : ℕ) (server : Server V) (w : World V) (
   pub rests : found_next server w hold seat ≡ fresh server
 
 -- In which moments it is parted so: any of them, as whoever asks chooses.
-abbrev pub Parts : Type 0 → Type 0
-Parts V = World V → Moment V → Bool
+abbrev pub Partings : Type 0 → Type 0
+Partings V = World V → Moment V → Bool
 
-abbrev pub AllParted : {V : Type 0} → Parts V → (Desk → Event → Turn) → ℕ → Server V → World V → List (Moment V) → Type 0
+abbrev pub AllParted : {V : Type 0} → Partings V → (Desk → Event → Turn) → ℕ → Server V → World V → List (Moment V) → Type 0
 AllParted parts turns key server w [] = Unit {0}
 AllParted parts turns key server w (m ∷ ms) = (parts w m ≡ true → IsParted key server w m) × AllParted parts turns key server (happens turns server w m) ms
 
 -- What it asks, without the full resets of those moments.
-abbrev pub asked_by : {V : Type 0} → Parts V → ℕ → Server V → World V → Moment V → ℕ → List (Ask V)
-asked_by parts key server w m count = if parts w m then [] else asks_by key server w m count m.event
+abbrev pub asks_unless : {V : Type 0} → Partings V → ℕ → Server V → World V → Moment V → ℕ → List (Ask V)
+asks_unless parts key server w m count = if parts w m then [] else asks_by key server w m count m.event
 
-abbrev pub asks_but : {V : Type 0} → Parts V → (Desk → Event → Turn) → ℕ → Server V → ℕ → World V → List (Moment V) → List (Ask V)
+abbrev pub asks_but : {V : Type 0} → Partings V → (Desk → Event → Turn) → ℕ → Server V → ℕ → World V → List (Moment V) → List (Ask V)
 asks_but parts turns key server count w [] = []
 asks_but parts turns key server count w (m ∷ ms) =
-    asked_by parts key server w m count
-    ++ asks_but parts turns key server (count_behind count (asked_by parts key server w m count) (given_in key w.desk m.event)) (happens turns server w m) ms
+    asks_unless parts key server w m count
+    ++ asks_but parts turns key server (count_behind count (asks_unless parts key server w m count) (given_in key w.desk m.event)) (happens turns server w m) ms
 
 -- What it was given, and what is underway to it, is what a new server of its own answers to these: it was never reset where it was parted.
-abbrev pub AsIfUnparted : {V : Type 0} → Parts V → (Desk → Event → Turn) → ℕ → Server V → World V → List (Moment V) → World V → Type 0
+abbrev pub AsIfUnparted : {V : Type 0} → Partings V → (Desk → Event → Turn) → ℕ → Server V → World V → List (Moment V) → World V → Type 0
 AsIfUnparted parts turns key server w ms behind =
     given turns key server w ms ++ underway key behind ≡ answers_alone server [] (fresh server) (asks_but parts turns key server 0 w ms)

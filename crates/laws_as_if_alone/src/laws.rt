@@ -10,7 +10,7 @@ ghost use Rattle.laws_as_if_alone.specs.Serving.{Moment, Server, fresh, reached,
 ghost use Rattle.laws_as_if_alone.specs.Alone.{AllOrderly, AsIfAlone, IsAtRest, asks, found_next};
 ghost use Rattle.laws_as_if_alone.specs.Alone.{given, underway};
 ghost use Rattle.laws_as_if_alone.specs.Bytes.{AllRead, ReadAsIfAlone, Walkers, walkers_in};
-ghost use Rattle.laws_as_if_alone.specs.Parting.{AllParted, AsIfUnparted, Parts};
+ghost use Rattle.laws_as_if_alone.specs.Parting.{AllParted, AsIfUnparted, Partings};
 ghost use Rattle.laws_as_if_alone.specs.Visits.{AllSaid, Moments, world_in};
 
 use tds_relay::laws::waits_once;
@@ -70,7 +70,7 @@ pub fn alone_in_visits<V>()
 /// that tells all that a reset would change: wherever it is parted nothing is asked on its connection, and the session
 /// there is what a login leaves.
 pub fn alone_by_transactions<V>()
-    ensures { (server : Server V) (parts : Parts V) (max key : ℕ) (v : Visit max key)
+    ensures { (server : Server V) (parts : Partings V) (max key : ℕ) (v : Visit max key)
         (ms : Moments V v) → AllSaid turn key server (world_in server ms) ms.since
         → AllParted parts turn key server (world_in server ms) ms.since
         → AsIfUnparted parts turn key server (world_in server ms) ms.since
