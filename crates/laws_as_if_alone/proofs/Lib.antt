@@ -4,9 +4,9 @@ pub mod Held
 pub mod Renewed
 pub mod Away
 pub mod Told
+pub mod Turns
 pub mod Orderly
 pub mod Examples
 pub mod Refused
 pub mod Visits
 pub mod Bytes
-pub mod Parting

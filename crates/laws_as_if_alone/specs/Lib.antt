@@ -1,5 +1,5 @@
 pub mod Alone
 pub mod Bytes
 pub mod Serving
+pub mod Turns
 pub mod Visits
-pub mod Parting
