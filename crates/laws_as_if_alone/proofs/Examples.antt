@@ -1,5 +1,6 @@
 -- Two applications over one connection, worked out by the checker.
-use Rattle.std.proofs.Common.{◌≡◌, ℕ, suc, true, List, [], ◌∷◌, refl}
+use Rattle.std.proofs.Common.{◌≡◌, ℕ, suc, Bool, true, false, List, [], ◌∷◌, ◌++◌, length, refl}
+use Rattle.std.specs.Prelude.{Option, Some, None}
 use Rattle.tds_token.specs.declared.env_change.EnvChange.TheVariants as changes
 use Rattle.tds_client.specs.declared.sign.DoneKind.TheVariants.{Statement}
 use Rattle.tds_client.specs.declared.sign.Sign.TheVariants as signs
@@ -8,11 +9,14 @@ use Rattle.tds_wire.specs.declared.told.Token.{Token}
 use Rattle.tds_wire.specs.declared.told.Told.TheVariants as tells
 use Rattle.tds_service.specs.Parts as parts
 use Rattle.tds_service.specs.Parts.{Item, Part}
+use Rattle.tds_service.specs.Line.{new_line}
+use Rattle.tds_service.specs.Service.{Free, Seat, seat_numbered}
 use Rattle.laws_conforming_server.specs.Lawful.{Session}
 use Rattle.tds_relay.specs.Desk as desk
 use Rattle.tds_relay.specs.Desk.{Event, Sharing, Way, turn}
 use Rattle.tds_relay.specs.declared.desk.Mode.TheVariants.{Sessions}
-use Rattle.laws_as_if_alone.specs.Serving.{Moment, Request, Server, answers_alone, but_news, fresh, new_world}
+use Rattle.laws_as_if_alone.specs.Serving.{Moment, Request, Server, answers_alone, but_news, fresh, new_world, world_after}
+use Rattle.laws_as_if_alone.specs.Turns.{AllParkedFresh, IsParkedFresh, asks_but}
 use Rattle.laws_as_if_alone.specs.Alone.{AllOrderly, asks, given}
 use Rattle.laws_as_if_alone.proofs.Orderly.{orderly}
 
@@ -175,3 +179,67 @@ kept_orderly : AllOrderly turn 2 counter_late (new_world counter_late one) kept
 unfolding place_change place_done
 kept_orderly =
     orderly turn 2 counter_late (new_world counter_late one) kept (record { holds = refl; waits = refl }, ((λ r. ([], refl, refl)), ((λ r. ([], refl, refl)), tt)))
+
+-- ---- The first is parked behind its answer, which leaves its session as it was, and asks again on what it is lent next
+
+abbrev reads : Request ℕ
+reads = λ s. record { items = row s.settings ∷ done ∷ []; after = s }
+
+abbrev reading : Event → Moment ℕ
+reading event = record { event = event; request = reads; left = session 7 }
+
+abbrev until_parked : List (Moment ℕ)
+until_parked = at (desk.Waits 1) ∷ at desk.Serves ∷ at (desk.Does 1 desk.Asks) ∷ reading (desk.Does 1 (desk.Ends 0)) ∷ at (desk.Comes 1 (whole (row 0 ∷ done ∷ [])) way) ∷ []
+
+abbrev parked : List (Moment ℕ)
+parked =
+    until_parked ++ cleaning (desk.Leaves 1 true way) ∷ at (desk.Comes 1 (whole (news ∷ done ∷ [])) way) ∷ at (desk.Waits 1) ∷ at desk.Serves ∷ at (desk.Does 1 desk.Asks)
+    ∷ reading (desk.Does 1 (desk.Ends 0)) ∷ at (desk.Comes 1 (whole (news ∷ row 0 ∷ done ∷ [])) way) ∷ []
+
+abbrev is_parking : Event → Bool
+is_parking (desk.Waits key) = false
+is_parking (desk.Unwaits key) = false
+is_parking desk.Serves = false
+is_parking (desk.Brings gives how) = false
+is_parking (desk.Does key deed) = false
+is_parking (desk.Leaves key gives how) = true
+is_parking (desk.Renews key resumes) = false
+is_parking (desk.Comes number part how) = false
+is_parking (desk.Loses number) = false
+
+abbrev parks : Moment ℕ → Bool
+parks m = is_parking m.event
+
+abbrev its_seat : Option Seat → Seat
+its_seat None = record { number = 0; place = Free; line = new_line }
+its_seat (Some c) = c
+
+parked_given : given turn 1 counter (new_world counter one) parked ≡ row 0 ∷ done ∷ row 0 ∷ done ∷ []
+unfolding place_change place_done
+parked_given = refl
+
+parked_alone : answers_alone counter [] (fresh counter) (asks_but parks turn 1 counter 0 (new_world counter one) parked) ≡ row 0 ∷ done ∷ row 0 ∷ done ∷ []
+unfolding place_change place_done
+parked_alone = refl
+
+-- nothing is asked by that but the two requests
+parked_asks : length (asks_but parks turn 1 counter 0 (new_world counter one) parked) ≡ 2
+unfolding place_change place_done
+parked_asks = refl
+
+no_park : {P : Type 0} → false ≡ true → P
+no_park e = absurd (let u : ⊥ = cc in u)
+
+parked_fresh : AllParkedFresh parks turn 1 counter (new_world counter one) parked
+unfolding place_change place_done
+parked_fresh =
+    let parked_here : IsParkedFresh 1 counter (world_after turn counter (new_world counter one) until_parked) (cleaning (desk.Leaves 1 true way)) = record {
+      gives = true;
+      way = way;
+      leaves = refl;
+      hold = record { key = 1; lease = 1; number = 1 };
+      seat = its_seat (seat_numbered 1 (world_after turn counter (new_world counter one) until_parked).desk.service.seats);
+      rests = record { holds = refl; waits = refl; there = refl; lent = refl; idle = refl };
+      session = refl;
+    } in
+    (no_park, (no_park, (no_park, (no_park, (no_park, ((λ e. parked_here), (no_park, (no_park, (no_park, (no_park, (no_park, (no_park, tt))))))))))))

@@ -19,6 +19,7 @@ const BEGUN: [u8; 14] = [0xE3, 11, 0, 8, 8, 9, 0, 0, 0, 0, 0, 0, 0, 0];
 const COMMITTED: [u8; 14] = [0xE3, 11, 0, 9, 0, 8, 9, 0, 0, 0, 0, 0, 0, 0];
 
 /// A relay of one connection, and two applications.
+#[derive(Drop)]
 struct Two {
     alloc: Global,
     relay: Relay,
@@ -41,7 +42,7 @@ pub(crate) fn park(alloc: Global) -> io::Result<Option<&'static str>> {
     let Some(mut two) = Two::new(alloc, Mode::Sessions)? else {
         return Ok(Some("a connection is opened by sessions"));
     };
-    two.answer(two.first, &[])?;
+    two.answer(two.first, &[], &[])?;
     if two.relay.park(two.first)? {
         return Ok(Some("by sessions nobody is parked"));
     }
@@ -95,19 +96,28 @@ impl Two {
         is
     }
 
-    /// The server answers these tokens and DONE. Whether the application is given that, and all of it is sent.
-    fn answer(&mut self, key: usize, tokens: &[u8]) -> Result<bool, AllocError> {
+    /// The server answers these tokens and DONE, behind the news of a reset or not. Whether the application is
+    /// given that without the news, and all of it is sent.
+    fn answer(&mut self, key: usize, news: &[u8], tokens: &[u8]) -> Result<bool, AllocError> {
+        let came = self.packet(news, tokens)?;
+        let given = self.packet(&[], tokens)?;
+        self.relay.came(self.number, came.as_slice())?;
+        let unsent = self.relay.unsent(key);
+        let is = unsent == given.as_slice();
+        let count = unsent.len();
+        let _ = self.relay.sent(key, count);
+        Ok(is)
+    }
+
+    /// An answer of these tokens and DONE.
+    fn packet(&self, news: &[u8], tokens: &[u8]) -> Result<Vec<u8>, AllocError> {
         let mut data = Vec::new(self.alloc);
+        data.extend_from_slice(news)?;
         data.extend_from_slice(tokens)?;
         data.extend_from_slice(&DONE)?;
         let mut bytes = Vec::new(self.alloc);
         put_packet(&mut bytes, ANSWER, ENDS, data.as_slice())?;
-        self.relay.came(self.number, bytes.as_slice())?;
-        let unsent = self.relay.unsent(key);
-        let is = unsent == bytes.as_slice();
-        let count = unsent.len();
-        let _ = self.relay.sent(key, count);
-        Ok(is)
+        Ok(bytes)
     }
 
     /// The first one has a transaction: while its request is out, and while that is open, it isn't parked.
@@ -115,14 +125,14 @@ impl Two {
         if self.relay.park(self.first)? {
             return Ok(Some("a request that is out isn't parked"));
         }
-        if !self.answer(self.first, &BEGUN)? {
+        if !self.answer(self.first, &[], &BEGUN)? {
             return Ok(Some("the first one is answered"));
         }
         if self.relay.park(self.first)? {
             return Ok(Some("a transaction isn't parked"));
         }
         self.ask(self.first)?;
-        if !self.is_sent(0) || !self.answer(self.first, &COMMITTED)? {
+        if !self.is_sent(0) || !self.answer(self.first, &[], &COMMITTED)? {
             return Ok(Some("the first one is answered again"));
         }
         Ok(None)
@@ -137,10 +147,11 @@ impl Two {
         if !self.relay.park(self.first)? || self.relay.place_of(self.first) != Some(Place::Quiet) {
             return Ok(Some("the first one is parked"));
         }
-        if !self.is_sent(RESETS) || self.answer(self.first, &NEWS)? {
+        // The relay cleans the connection, and lends it: its next request begins a session there.
+        if !self.is_sent(RESETS) || self.answer(self.first, &NEWS, &[])? {
             return Ok(Some("nobody is told of the cleaning"));
         }
-        if !self.is_sent(0) || !self.answer(self.second, &[])? {
+        if !self.is_sent(RESETS) || !self.answer(self.second, &NEWS, &[])? {
             return Ok(Some("the second one is answered"));
         }
         self.ask(self.first)?;
@@ -148,8 +159,8 @@ impl Two {
             return Ok(Some("the second one is parked"));
         }
         let _ = self.is_sent(RESETS);
-        let _ = self.answer(self.second, &NEWS)?;
-        if !self.is_sent(0) || !self.answer(self.first, &[])? {
+        let _ = self.answer(self.second, &NEWS, &[])?;
+        if !self.is_sent(RESETS) || !self.answer(self.first, &NEWS, &[])? {
             return Ok(Some("the first one is answered on what it is lent next"));
         }
         Ok(None)
