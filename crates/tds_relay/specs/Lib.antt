@@ -25,6 +25,7 @@ pub mod Ordering
 pub mod Places
 pub mod Law
 pub mod Lent
+pub mod Linking
 pub mod Posts
 pub mod Promises
 pub mod Reads
