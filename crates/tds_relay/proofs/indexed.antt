@@ -1,3 +1,5 @@
 pub mod Halves
 pub mod Climbing
+pub mod Index
 pub mod Holding
+pub mod Placing

@@ -26,6 +26,7 @@ pub mod Parking
 pub mod Places
 pub mod Law
 pub mod Lent
+pub mod Linking
 pub mod Posts
 pub mod Promises
 pub mod Reads

@@ -1,5 +1,6 @@
--- Numbers that don't fall, and where a search among them ends.
-use Rattle.std.specs.Prelude.{ℕ, suc, ◌+◌, ◌-◌, ◌^◌, ◌<◌, ◌≤◌, Bool, List, [], ◌∷◌, if◌then◌else◌}
+-- Numbers that don't fall, and where a search among them ends; what stands by such ids, and what of it stands under one.
+use Rattle.std.specs.Prelude.{ℕ, suc, ◌+◌, ◌-◌, ◌^◌, ◌<◌, ◌≤◌, ◌==◌, Bool, List, [], ◌∷◌, map, Option, Some, None, if◌then◌else◌}
+use Rattle.tds_relay.specs.declared.index.Indexed.{Indexed}
 
 -- each is this one or above
 abbrev pub AreFrom : ℕ → List ℕ → Type 0
@@ -26,3 +27,20 @@ pub record Cuts (count : ℕ) (at : ℕ → ℕ) (limit low high : ℕ) : Type 0
 pub record Lasts (most first steps low high : ℕ) : Type 0 where
   pub within : steps ≤ first + most
   pub few : high < low + 2 ^ (first + most - steps)
+
+-- ---- What stands by ids
+
+abbrev pub ids_in : {T : Type 0} → List (Indexed T) → List ℕ
+ids_in {T} es = map (λ (e : Indexed T). e.id) es
+
+-- what stands under an id, in order
+abbrev pub under : {T : Type 0} → ℕ → List (Indexed T) → List T
+under id [] = []
+under id (e ∷ es) = if e.id == id then e.item ∷ under id es else under id es
+
+abbrev pub first : {T : Type 0} → List T → Option T
+first [] = None
+first (x ∷ xs) = Some x
+
+abbrev pub one_if : {T : Type 0} → ℕ → ℕ → T → List T
+one_if id other x = if id == other then x ∷ [] else []

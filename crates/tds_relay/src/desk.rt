@@ -17,7 +17,6 @@ ghost use Rattle.tds_relay.specs.declared.link.TheConstants.{COLUMNS};
 mod asking;
 mod coming;
 mod holds;
-mod index;
 mod leaving;
 mod lists;
 

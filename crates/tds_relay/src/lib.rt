@@ -9,6 +9,7 @@
 mod application;
 mod desk;
 mod fault;
+mod index;
 pub mod laws;
 mod link;
 mod links;

@@ -1,6 +1,6 @@
 //! The relay: who is there, and what whoever carries its bytes asks of it.
 ghost use Rattle.std.specs.Prelude.{◌≡◌, ◌-◌, ◌≤◌, [], ℕ, Bool, IfOk, IfSome, None, OnOk, Some, false, length};
-ghost use Rattle.std.specs.Prelude.{IsSome, option_copied, true, vec_len};
+ghost use Rattle.std.specs.Prelude.{IsSome, option_copied, true};
 ghost use Rattle.slab.specs.Slab.{get, slab_len};
 ghost use Rattle.tds_relay.specs.Asking.{IsUnderway};
 ghost use Rattle.tds_relay.specs.Bodies.{AskAsBefore, Nowhere, body_of};
@@ -43,7 +43,7 @@ use crate::application::Application;
 use crate::desk::{Desk, Mode};
 use crate::fault::Refused;
 use crate::link::Link;
-use crate::links::place_in;
+use crate::links::{Links, link_in};
 use crate::order::Order;
 use crate::outgoing::{BESIDE, PIECE};
 pub use places::{Counts, Place, PlaceOn};
@@ -68,7 +68,7 @@ pub struct Relay {
     /// How many connections there may be: `set_most` alone changes that.
     most: usize,
     applications: Slab<Application>,
-    links: Vec<Link>,
+    links: Links,
     orders: Vec<Order>,
     /// Where the desk puts what is to be sent on a connection.
     outbox: Vec<u8>,
@@ -106,7 +106,7 @@ impl Relay {
             desk,
             most,
             applications: Slab::new(alloc),
-            links: Vec::new(alloc),
+            links: Links::new(alloc),
             orders: Vec::new(alloc),
             outbox: Vec::new(alloc),
             counts: Counts::none(),
@@ -224,7 +224,7 @@ impl Relay {
 
     /// How many connections there are.
     pub fn connections(&self) -> usize
-        ensures { result ≡ vec_len self.now.links }
+        ensures { result ≡ length self.now.links.items }
     {
         self.links.len()
     }
@@ -337,7 +337,6 @@ impl Relay {
     fn link(&self, number: u64) -> Option<&Link>
         ensures { option_copied result ≡ link_at number self.now.links.items }
     {
-        let place = place_in(&self.links, number)?;
-        Some(&self.links[place])
+        link_in(&self.links, number)
     }
 }

@@ -67,8 +67,9 @@ none_from number from (x ∷ xs) e = none_by (x.number == number) number from x 
 pub is_nowhere : (number : ℕ) (ls : List Link) → place_of number ls ≡ None → link_at number ls ≡ None
 is_nowhere number ls e = none_from number 0 ls e
 
-pub within_is : (number : ℕ) (ls : List Link) (place : ℕ) → place_of number ls ≡ Some place → place < length ls
-within_is number ls place e = (is_at number ls place e).within
+pub within_is : (found : Option ℕ) (number : ℕ) (ls : List Link) → place_of number ls ≡ found → IfSome found (λ place. place < length ls)
+within_is None number ls e = tt
+within_is (Some place) number ls e = (is_at number ls place e).within
 
 -- ---- The one of a number
 

@@ -1,10 +1,12 @@
 //! Who holds what.
-ghost use Rattle.std.specs.Prelude.{◌≡◌, ◌++◌, ◌∷◌, [], ◌<◌, OnOk, OnErr};
+ghost use Rattle.std.specs.Prelude.{◌≡◌, ◌++◌, ◌∷◌, [], ◌<◌, ◌==◌, ℕ, not, true, filter, OnOk, OnErr};
+ghost use Rattle.tds_relay.specs.declared.desk.Hold.{Hold};
+ghost use Rattle.tds_relay.specs.Sorted.{Climbs, ids_in, under};
 ghost use Rattle.tds_relay.specs.Desk.{find_key, find_lease, find_number, without_lease, without_number};
 
 use super::Hold;
-use super::index::{Indexed, add, drop_lease, drop_number, find};
 use crate::NoMemory;
+use crate::index::{Indexed, add, find};
 use std::alloc::Global;
 use std::marker::Model;
 
@@ -13,9 +15,9 @@ use std::marker::Model;
 #[derive(Drop)]
 pub(crate) struct Holds {
     list: Vec<Hold>,
-    keys: Vec<Indexed>,
-    leases: Vec<Indexed>,
-    numbers: Vec<Indexed>,
+    keys: Vec<Indexed<Hold>>,
+    leases: Vec<Indexed<Hold>>,
+    numbers: Vec<Indexed<Hold>>,
 }
 
 impl Model for Holds {
@@ -120,4 +122,24 @@ pub(super) fn find_number(holds: &Holds, number: u64) -> Option<Hold>
     ensures { result ≡ find_number number holds.now.items }
 {
     find(&holds.numbers, number)
+}
+
+/// Takes out what is held by a lease.
+fn drop_lease(index: &mut Vec<Indexed<Hold>>, lease: u64)
+    requires climbs { Climbs (ids_in index.old.items) }
+    ensures climbs { Climbs (ids_in index.new.items) }
+    ensures drops { (id : ℕ) → under id index.new.items
+        ≡ filter (λ (h : Hold). not (h.lease == lease)) (under id index.old.items) }
+{
+    index.retain(|entry| entry.item.lease != lease);
+}
+
+/// Takes out what is held of a connection.
+fn drop_number(index: &mut Vec<Indexed<Hold>>, number: u64)
+    requires climbs { Climbs (ids_in index.old.items) }
+    ensures climbs { Climbs (ids_in index.new.items) }
+    ensures drops { (id : ℕ) → under id index.new.items
+        ≡ filter (λ (h : Hold). not (h.number == number)) (under id index.old.items) }
+{
+    index.retain(|entry| entry.item.number != number);
 }

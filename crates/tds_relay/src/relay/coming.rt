@@ -136,7 +136,7 @@ impl Relay {
         let Some(place) = place_in(links, number) else {
             return Ok((piece.len(), Some(NOTHING)));
         };
-        let link = &mut links[place];
+        let link = &mut links.list[place];
         if !link.is_open {
             return Ok((piece.len(), Some(NOTHING)));
         }

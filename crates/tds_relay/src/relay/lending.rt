@@ -32,7 +32,7 @@ use crate::NoMemory;
 use crate::application::Asking;
 use crate::desk::Served;
 use crate::link::Link;
-use crate::links::{append_to, place_in, restart, set_open, set_tag};
+use crate::links::{append_to, link_in, restart, set_open, set_tag};
 use crate::order::Order;
 use std::alloc::AllocError;
 
@@ -372,8 +372,8 @@ impl Relay {
         ensures shut { result ≡ false → open_at number self.now.links.items ≡ None }
         ensures there { result ≡ true → IsSome (waits_on number self.now.links.items) }
     {
-        match place_in(&self.links, number) {
-            Some(place) => self.links[place].is_open,
+        match link_in(&self.links, number) {
+            Some(link) => link.is_open,
             None => false,
         }
     }

@@ -9,7 +9,7 @@ use thiserror::Error;
 /// Why a walk isn't done.
 #[derive(Debug, Drop, Error)]
 pub enum SpeedFault {
-    #[error("usage: bench_calls count SIZE FILE.., walk WALK FILE SIZE TIMES, sizes, memory KIND COUNT SIZE, leases COUNT TIMES, or exchanges COUNT TIMES")]
+    #[error("usage: bench_calls count SIZE FILE.., walk WALK FILE SIZE TIMES, sizes, memory KIND COUNT SIZE, leases COUNT TIMES, exchanges COUNT TIMES, or relayed COUNT TIMES")]
     Usage,
     #[error("error: input or output")]
     Io,
@@ -17,7 +17,7 @@ pub enum SpeedFault {
     Memory,
     #[error("error: the bytes end inside a packet")]
     Cut,
-    #[error("error: an end, a pool or a service refuses a call")]
+    #[error("error: an end, a pool, a service or a relay refuses a call")]
     Refused,
     #[error("error: packet {0}")]
     Packet(u8),

@@ -8,7 +8,8 @@
 //! `bench_calls leases COUNT TIMES` makes a pool of so many connections, lends the one that is free, the
 //! last, and gives it back, so many times.
 //! `bench_calls exchanges COUNT TIMES` makes a service of so many connections, all of them held, and does
-//! so many requests with their answers on the last one.
+//! so many requests with their answers on the last one. `bench_calls relayed COUNT TIMES` does so through a
+//! relay, each of whose connections an application holds.
 #![tactic(auto)]
 
 mod asking;
@@ -19,6 +20,7 @@ mod idle;
 mod leasing;
 mod packets;
 mod pieces;
+mod relaying;
 mod serving;
 mod sizes;
 mod walks;
@@ -30,6 +32,7 @@ use fault::SpeedFault;
 use idle::Idle;
 use leasing::{lend_last, nearly_lent};
 use pieces::pieces;
+use relaying::{all_lent, relay_all};
 use serving::{Look, serve};
 use sizes::print_sizes;
 use std::alloc::Global;
@@ -152,6 +155,9 @@ fn obey(rt: &HostRuntime, words: &[String]) -> Result<(), SpeedFault> {
         [verb, count, times] if verb.as_str() == "exchanges" => {
             exchange_all(rt, number(count.as_str())?, number(times.as_str())?)
         }
+        [verb, count, times] if verb.as_str() == "relayed" => {
+            relay_last(rt, number(count.as_str())?, number(times.as_str())?)
+        }
         [verb, size, names @ ..] if verb.as_str() == "count" => {
             count_all(rt, packet_size(size.as_str())?, names)
         }
@@ -185,6 +191,12 @@ fn lend(rt: &HostRuntime, count: &str, times: u32) -> Result<(), SpeedFault> {
 fn exchange_all(rt: &HostRuntime, count: u32, times: u32) -> Result<(), SpeedFault> {
     let (mut service, lease) = all_held(rt.alloc(), count as usize, packet_size("4096")?)?;
     exchange(rt.alloc(), &mut service, lease, times)
+}
+
+/// Does so many exchanges of the last application of a relay of so many.
+fn relay_last(rt: &HostRuntime, count: u32, times: u32) -> Result<(), SpeedFault> {
+    let (mut relay, key, number) = all_lent(rt.alloc(), count as usize, packet_size("4096")?)?;
+    relay_all(&mut relay, key, number, times)
 }
 
 fn count_all(rt: &HostRuntime, size: PacketSize, names: &[String]) -> Result<(), SpeedFault> {

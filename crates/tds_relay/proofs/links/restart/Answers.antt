@@ -1,34 +1,40 @@
-use Rattle.std.proofs.Common.{List, None, Option, Some, ap, option_map, sym, ◌∙◌, ◌≡◌}
+use Rattle.std.proofs.Common.{None, Option, Some, ap, option_map, sym, ◌∙◌, ◌≡◌}
 use Rattle.tds_relay.specs.declared.link.Link.{Link}
+use Rattle.tds_relay.specs.Linking.{Linked}
 use Rattle.tds_relay.specs.Posts.{post_in}
 use Rattle.tds_relay.specs.Cutting.{at_its_beginning}
 use Rattle.tds_relay.specs.Reads.{answer_on, bytes_on, link_at, place_of, seen_of}
 use Rattle.tds_relay.proofs.steps.Placed.{IsAt, is_at, is_nowhere}
 use Rattle.tds_relay.proofs.spared.Waits.{waits_same}
 use Rattle.tds_relay.proofs.steps.Staying.{fills_same, stays_written}
+use Rattle.tds_relay.proofs.indexed.Placing.{placed_written}
 use Rattle.tds_relay.proofs.links.restart.Goals as goal
 
 pub returns-clause-read : goal.returns-clause-read
-returns-clause-read c =
-    stays_written c.args.links.now.items c.in-Some.place c.index_mut-link.result.now _
+returns-clause-read c = rw (← c.links.view_is) (
+    stays_written c.links.inside.list.items c.in-Some.place c.index_mut-link.result.now _
     (ap (λ (l : Link). l.number) c.index_mut-link.ensures.value) (ap seen_of c.index_mut-link.ensures.value)
-    (fills_same _ _ (ap bytes_on c.index_mut-link.ensures.value))
+    (fills_same _ _ (ap bytes_on c.index_mut-link.ensures.value)))
 
 pub returns-clause-waits : goal.returns-clause-waits
-returns-clause-waits c =
-    waits_same c.args.links.now.items c.in-Some.place c.index_mut-link.result.now _
-    (ap (λ (l : Link). l.number) c.index_mut-link.ensures.value) (ap (λ (l : Link). (post_in l.out).bytes) c.index_mut-link.ensures.value)
+returns-clause-waits c = rw (← c.links.view_is) (
+    waits_same c.links.inside.list.items c.in-Some.place c.index_mut-link.result.now _
+    (ap (λ (l : Link). l.number) c.index_mut-link.ensures.value) (ap (λ (l : Link). (post_in l.out).bytes) c.index_mut-link.ensures.value))
 
 pub returns-in_default-clause-begins : goal.returns-in_default-clause-begins
 returns-in_default-clause-begins c =
     let none : link_at c.args.number c.args.links.now.items ≡ None =
-    is_nowhere c.args.number c.args.links.now.items (ap (λ (ls : List Link). place_of c.args.number ls) (sym c.deref.ensures.value) ∙ sym c.place_in.ensures.is ∙ c.in_default.is) in
+    is_nowhere c.args.number c.args.links.now.items (sym c.place_in.ensures.is ∙ c.in_default.is) in
     ap (option_map answer_on) none ∙ sym (ap (λ (o : Option Link). option_map at_its_beginning (option_map answer_on o)) none)
 
 pub returns-clause-begins : goal.returns-clause-begins
-returns-clause-begins c =
-    let at : IsAt c.args.number c.args.links.now.items c.in-Some.place =
-    is_at c.args.number c.args.links.now.items c.in-Some.place (ap (λ (ls : List Link). place_of c.args.number ls) (sym c.deref.ensures.value) ∙ sym c.place_in.ensures.is ∙ c.in-Some.is) in
+returns-clause-begins c = rw (← c.links.view_is) (
+    let at : IsAt c.args.number c.links.inside.list.items c.in-Some.place =
+    is_at c.args.number c.links.inside.list.items c.in-Some.place (ap (λ (v : Linked). place_of c.args.number v.items) c.links.view_is ∙ sym c.place_in.ensures.is ∙ c.in-Some.is) in
     ap (option_map answer_on) (at.written c.index_mut-link.result.now _ (ap (λ (l : Link). l.number) c.index_mut-link.ensures.value))
     ∙ ap Some (c.restart.ensures ∙ ap (λ (l : Link). at_its_beginning l.answer) c.index_mut-link.ensures.value)
-    ∙ sym (ap (λ (o : Option Link). option_map at_its_beginning (option_map answer_on o)) (at.found c.index_mut-link.result.now))
+    ∙ sym (ap (λ (o : Option Link). option_map at_its_beginning (option_map answer_on o)) (at.found c.index_mut-link.result.now)))
+
+pub invariant_of-links : goal.invariant_of-links
+invariant_of-links c =
+    placed_written c.links.inside.list.items c.links.inside.places.items c.in-Some.place c.index_mut-link.result.now _ c.links.invariant (ap (λ (l : Link). l.number) c.index_mut-link.ensures.value)

@@ -42,7 +42,7 @@ returns-clause-steps c =
 pub returns-clause-opens : goal.returns-clause-opens
 returns-clause-opens c =
     let none : c.is_empty.result ≡ true = search rules in
-    first_opens _ _ c.args.self.now.links.items _ _ _ (sym (ap (λ (k : ℕ). k == 0) c.args.self.now.links.ok.0) ∙ sym c.is_empty.ensures ∙ none) c.in_ok-push.ensures.items c.in_ok-link.ensures.number c.in_ok-link.ensures.unread refl
+    first_opens _ _ c.args.self.now.links.items _ _ _ (sym c.is_empty.ensures ∙ none) c.in_ok-push.ensures.items c.in_ok-link.ensures.number c.in_ok-link.ensures.unread refl
     c.in_ok-send_unheld.ensures.read c.in_ok-serve_line.ensures.opens
 
 pub returns-clause-stand : goal.returns-clause-stand
@@ -51,19 +51,19 @@ returns-clause-stand c = λ n r h. c.in_ok-serve_line.ensures.stand n r (c.in_ok
 pub returns-in_default-clause-goes_on : goal.returns-in_default-clause-goes_on
 returns-in_default-clause-goes_on c =
     let none : c.is_empty.result ≡ true = search rules in
-    none_go c.args.self.now _ (none_there c.args.self.now.links.items (sym (ap (λ (k : ℕ). k == 0) c.args.self.now.links.ok.0) ∙ sym c.is_empty.ensures ∙ none)) (λ key goes. inl refl)
+    none_go c.args.self.now _ (none_there c.args.self.now.links.items (sym c.is_empty.ensures ∙ none)) (λ key goes. inl refl)
 
 pub returns-then-not-left-clause-goes_on : goal.returns-then-not-left-clause-goes_on
 returns-then-not-left-clause-goes_on c =
     let none : c.is_empty.result ≡ true = search rules in
-    none_go c.args.self.now _ (none_there c.args.self.now.links.items (sym (ap (λ (k : ℕ). k == 0) c.args.self.now.links.ok.0) ∙ sym c.is_empty.ensures ∙ none)) (λ key goes. inl refl)
+    none_go c.args.self.now _ (none_there c.args.self.now.links.items (sym c.is_empty.ensures ∙ none)) (λ key goes. inl refl)
 
 pub returns-clause-goes_on : goal.returns-clause-goes_on
 returns-clause-goes_on c =
     let none : c.is_empty.result ≡ true = search rules in
     go_both c.args.self.now c.send_unheld.new.self c.serve_line.new.self
     (λ r. reached_on Neither _ _ (λ from h. c.in_ok-send_unheld.ensures.goes Neither from (reaches_turn Neither from _ _ _ _ _ c.in_ok-left.ensures.turns.2 refl h)) r)
-    (none_go c.args.self.now c.send_unheld.new.self (none_there c.args.self.now.links.items (sym (ap (λ (k : ℕ). k == 0) c.args.self.now.links.ok.0) ∙ sym c.is_empty.ensures ∙ none)) c.in_ok-send_unheld.ensures.asks)
+    (none_go c.args.self.now c.send_unheld.new.self (none_there c.args.self.now.links.items (sym c.is_empty.ensures ∙ none)) c.in_ok-send_unheld.ensures.asks)
     c.in_ok-serve_line.ensures.goes_on
 
 pub returns-then-not-is_empty-clause-goes_on : goal.returns-then-not-is_empty-clause-goes_on
@@ -75,7 +75,7 @@ returns-clause-names c = ap names_of (c.in_ok-serve_line.ensures.kept ∙ c.in_o
 pub returns-clause-named : goal.returns-clause-named
 returns-clause-named c =
     let none : c.is_empty.result ≡ true = search rules in
-    first_called _ c.args.tag _ c.args.self.now.links.items _ _ _ (sym (ap (λ (k : ℕ). k == 0) c.args.self.now.links.ok.0) ∙ sym c.is_empty.ensures ∙ none) c.in_ok-push.ensures.items refl refl
+    first_called _ c.args.tag _ c.args.self.now.links.items _ _ _ (sym c.is_empty.ensures ∙ none) c.in_ok-push.ensures.items refl refl
     c.in_ok-send_unheld.ensures.read c.in_ok-serve_line.ensures.opens
 
 pub returns-clause-ordered : goal.returns-clause-ordered
@@ -108,7 +108,7 @@ returns-then-not-left-clause-closes c = (c.args.self.now.links.items, inl refl, 
 pub returns-then-not-is_empty-clause-tries : goal.returns-then-not-is_empty-clause-tries
 returns-then-not-is_empty-clause-tries c =
     let some : c.is_empty.result ≡ false = search rules in
-    inl (sym (ap (λ (k : ℕ). k == 0) c.args.self.now.links.ok.0) ∙ sym c.is_empty.ensures ∙ some)
+    inl (sym c.is_empty.ensures ∙ some)
 
 pub returns-in_default-clause-tries : goal.returns-in_default-clause-tries
 returns-in_default-clause-tries c = inr (c.in_ok-left.ensures.turns.0, c.in_ok-left.ensures.turns.1, c.in_ok-left.ensures.turns.2.desk_is)

@@ -1,5 +1,6 @@
 use Rattle.std.proofs.Common.{List, Option, ap, length, refl, sym, ◌∙◌, rules}
 use Rattle.tds_relay.specs.declared.link.Link.{Link}
+use Rattle.tds_relay.specs.Linking.{Linked}
 use Rattle.tds_relay.specs.declared.desk.coming.Heard.{Heard}
 use Rattle.tds_relay.specs.Fronts.{ends_in, house_in, house_with, told_by}
 use Rattle.tds_relay.specs.declared.outgoing.Outgoing.{Outgoing}
@@ -13,45 +14,46 @@ use Rattle.tds_relay.proofs.steps.Reaching.{ok_if}
 use Rattle.std.proofs.Common.{inl}
 use Rattle.tds_relay.specs.Sending.{sending_of}
 use Rattle.tds_relay.proofs.spared.Sending.{same_written, sending_same}
+use Rattle.tds_relay.proofs.indexed.Placing.{placed_written}
 use Rattle.tds_relay.proofs.relay.Relay.hear.Goals as goal
 
 pub returns-in_default-clause-continues : goal.returns-in_default-clause-continues
 returns-in_default-clause-continues c =
     unheard c.args.number c.args.piece.now (length c.args.piece.now) c.args.self.now.links.items (house_in c.args.self.now) c.args.self.now.desk.service
-    (ap (λ (ls : List Link). place_of c.args.number ls) (sym c.deref.ensures.value) ∙ sym c.place_in.ensures.is ∙ c.in_default.is)
+    (sym c.place_in.ensures.is ∙ c.in_default.is)
 
 pub returns-clause-continues : goal.returns-clause-continues
-returns-clause-continues c =
-    hear_at c.hear_on.result c.args.number c.args.self.now.links.items c.in-Some.place c.index_mut-link.result.now c.hear_on.new.link c.args.piece.now (house_in c.args.self.now)
+returns-clause-continues c = rw (← c.links.view_is) (
+    hear_at c.hear_on.result c.args.number c.links.inside.list.items c.in-Some.place c.index_mut-link.result.now c.hear_on.new.link c.args.piece.now (house_in c.args.self.now)
     (λ (heard : Option Heard). house_with (desk_in c.hear_on.new.desk) (told_by heard (ends_in c.args.self.now.applications)) (posts_in c.hear_on.new.applications))
     c.args.self.now.desk.service c.hear_on.new.desk.service
-    (ap (λ (ls : List Link). place_of c.args.number ls) (sym c.deref.ensures.value) ∙ sym c.place_in.ensures.is ∙ c.in-Some.is)
-    c.index_mut-link.ensures.value c.hear_on.ensures.number (search rules) c.hear_on.ensures.is_open refl c.hear_on.ensures.hears c.hear_on.ensures.read
+    (ap (λ (v : Linked). place_of c.args.number v.items) c.links.view_is ∙ sym c.place_in.ensures.is ∙ c.in-Some.is)
+    c.index_mut-link.ensures.value c.hear_on.ensures.number (search rules) c.hear_on.ensures.is_open refl c.hear_on.ensures.hears c.hear_on.ensures.read)
 
 pub returns-then-not-link-clause-continues : goal.returns-then-not-link-clause-continues
-returns-then-not-link-clause-continues c =
-    unopened c.args.number c.args.piece.now (length c.args.piece.now) c.args.self.now.links.items c.in-Some.place c.index_mut-link.result.now (house_in c.args.self.now) c.args.self.now.desk.service
-    (ap (λ (ls : List Link). place_of c.args.number ls) (sym c.deref.ensures.value) ∙ sym c.place_in.ensures.is ∙ c.in-Some.is)
-    c.index_mut-link.ensures.value (search rules)
+returns-then-not-link-clause-continues c = rw (← c.links.view_is) (
+    unopened c.args.number c.args.piece.now (length c.args.piece.now) c.links.inside.list.items c.in-Some.place c.index_mut-link.result.now (house_in c.args.self.now) c.args.self.now.desk.service
+    (ap (λ (v : Linked). place_of c.args.number v.items) c.links.view_is ∙ sym c.place_in.ensures.is ∙ c.in-Some.is)
+    c.index_mut-link.ensures.value (search rules))
 
 pub returns-in_default-clause-others : goal.returns-in_default-clause-others
 returns-in_default-clause-others c = others_open c.args.number _ _ (opens_refl c.args.self.now.links.items)
 
 pub returns-then-not-link-clause-others : goal.returns-then-not-link-clause-others
-returns-then-not-link-clause-others c =
-    others_written c.args.number c.args.self.now.links.items c.in-Some.place c.index_mut-link.result.now _
-    (ap (λ (ls : List Link). place_of c.args.number ls) (sym c.deref.ensures.value) ∙ sym c.place_in.ensures.is ∙ c.in-Some.is)
+returns-then-not-link-clause-others c = rw (← c.links.view_is) (
+    others_written c.args.number c.links.inside.list.items c.in-Some.place c.index_mut-link.result.now _
+    (ap (λ (v : Linked). place_of c.args.number v.items) c.links.view_is ∙ sym c.place_in.ensures.is ∙ c.in-Some.is)
     (ap (λ (l : Link). l.number) c.index_mut-link.ensures.value)
-    (ap (λ (l : Link). l.is_open) c.index_mut-link.ensures.value) (ap (λ (l : Link). l.tag) c.index_mut-link.ensures.value) (ap bytes_on c.index_mut-link.ensures.value)
+    (ap (λ (l : Link). l.is_open) c.index_mut-link.ensures.value) (ap (λ (l : Link). l.tag) c.index_mut-link.ensures.value) (ap bytes_on c.index_mut-link.ensures.value))
 
 pub returns-clause-others : goal.returns-clause-others
-returns-clause-others c =
-    ok_if c.hear_on.result _ (others_written c.args.number c.args.self.now.links.items c.in-Some.place c.index_mut-link.result.now _
-    (ap (λ (ls : List Link). place_of c.args.number ls) (sym c.deref.ensures.value) ∙ sym c.place_in.ensures.is ∙ c.in-Some.is)
+returns-clause-others c = rw (← c.links.view_is) (
+    ok_if c.hear_on.result _ (others_written c.args.number c.links.inside.list.items c.in-Some.place c.index_mut-link.result.now _
+    (ap (λ (v : Linked). place_of c.args.number v.items) c.links.view_is ∙ sym c.place_in.ensures.is ∙ c.in-Some.is)
     (c.hear_on.ensures.number ∙ ap (λ (l : Link). l.number) c.index_mut-link.ensures.value)
     (c.hear_on.ensures.is_open ∙ ap (λ (l : Link). l.is_open) c.index_mut-link.ensures.value)
     (c.hear_on.ensures.tag ∙ ap (λ (l : Link). l.tag) c.index_mut-link.ensures.value)
-    (ap (λ (o : Outgoing). (post_in o).bytes) c.hear_on.ensures.out ∙ ap bytes_on c.index_mut-link.ensures.value))
+    (ap (λ (o : Outgoing). (post_in o).bytes) c.hear_on.ensures.out ∙ ap bytes_on c.index_mut-link.ensures.value)))
 
 pub returns-in_default-clause-puts : goal.returns-in_default-clause-puts
 returns-in_default-clause-puts c = λ key. inl refl
@@ -69,13 +71,22 @@ pub returns-in_default-clause-same : goal.returns-in_default-clause-same
 returns-in_default-clause-same c = λ other. (refl, refl)
 
 pub returns-then-not-link-clause-same : goal.returns-then-not-link-clause-same
-returns-then-not-link-clause-same c =
-    same_written c.args.self.now.links.items c.in-Some.place c.index_mut-link.result.now _
-    (ap (λ (l : Link). l.number) c.index_mut-link.ensures.value) (ap sending_of c.index_mut-link.ensures.value) (ap (λ (l : Link). l.is_open) c.index_mut-link.ensures.value)
+returns-then-not-link-clause-same c = rw (← c.links.view_is) (
+    same_written c.links.inside.list.items c.in-Some.place c.index_mut-link.result.now _
+    (ap (λ (l : Link). l.number) c.index_mut-link.ensures.value) (ap sending_of c.index_mut-link.ensures.value) (ap (λ (l : Link). l.is_open) c.index_mut-link.ensures.value))
 
 pub returns-clause-same : goal.returns-clause-same
-returns-clause-same c =
-    ok_if c.hear_on.result _ (same_written c.args.self.now.links.items c.in-Some.place c.index_mut-link.result.now _
+returns-clause-same c = rw (← c.links.view_is) (
+    ok_if c.hear_on.result _ (same_written c.links.inside.list.items c.in-Some.place c.index_mut-link.result.now _
     (c.hear_on.ensures.number ∙ ap (λ (l : Link). l.number) c.index_mut-link.ensures.value)
     (sending_same c.index_mut-link.result.now c.hear_on.new.link c.hear_on.ensures.tag c.hear_on.ensures.out ∙ ap sending_of c.index_mut-link.ensures.value)
-    (c.hear_on.ensures.is_open ∙ ap (λ (l : Link). l.is_open) c.index_mut-link.ensures.value))
+    (c.hear_on.ensures.is_open ∙ ap (λ (l : Link). l.is_open) c.index_mut-link.ensures.value)))
+
+pub invariant_of-links : goal.invariant_of-links
+invariant_of-links c =
+    placed_written c.links.inside.list.items c.links.inside.places.items c.in-Some.place c.index_mut-link.result.now _ c.links.invariant (ap (λ (l : Link). l.number) c.index_mut-link.ensures.value)
+
+pub invariant_of-links-2 : goal.invariant_of-links-2
+invariant_of-links-2 c =
+    placed_written c.links.inside.list.items c.links.inside.places.items c.in-Some.place c.index_mut-link.result.now _ c.links.invariant
+    (c.hear_on.ensures.number ∙ ap (λ (l : Link). l.number) c.index_mut-link.ensures.value)
