@@ -35,7 +35,7 @@ session_said [] = session_at_login
 session_said (r ∷ past) = remarked (session_said past) r
 
 -- what such a past made of a session
-pub record IsSaid (s : Session) : Type 0 where
+pub record HasPast (s : Session) : Type 0 where
   pub past : List Remark
   pub is : s ≡ session_said past
 

@@ -1,7 +1,7 @@
 //! A watch over both directions of a connection's wire, from the login's answer on.
 
 ghost use Rattle.std.specs.Prelude.{◌≡◌, ◌≤◌, ◌&&◌, ◌||◌, not, IfOk, length, true};
-ghost use Rattle.tds_state.specs.Pasts.{IsSaid};
+ghost use Rattle.tds_state.specs.Pasts.{HasPast};
 ghost use Rattle.tds_state.specs.Sessions.{session_rests};
 
 use crate::NoMemory;
@@ -71,7 +71,7 @@ impl Watch {
     /// Where a growth was refused.
     #[tactic(auto, using(crate::proofs::Saying::said_nothing))]
     pub fn new(alloc: Global, features: Features) -> Result<Watch, NoMemory>
-        ensures said { IfOk result (λ watch. IsSaid watch.tracker.session) }
+        ensures said { IfOk result (λ watch. HasPast watch.tracker.session) }
     {
         Ok(Watch {
             tracker: Tracker::new(alloc)?,
@@ -88,7 +88,7 @@ impl Watch {
     /// The login is answered by a message with these data.
     pub fn let_in(&mut self, answer: &[u8])
         ensures lost { self.old.is_lost ≡ true → self.new ≡ self.old }
-        ensures said { IsSaid self.old.tracker.session → IsSaid self.new.tracker.session }
+        ensures said { HasPast self.old.tracker.session → HasPast self.new.tracker.session }
     {
         if !self.is_lost {
             self.hear(answer);
@@ -115,7 +115,7 @@ impl Watch {
     /// These bytes have gone out.
     pub fn sent(&mut self, bytes: &[u8])
         ensures lost { self.old.is_lost ≡ true → self.new ≡ self.old }
-        ensures said { IsSaid self.old.tracker.session → IsSaid self.new.tracker.session }
+        ensures said { HasPast self.old.tracker.session → HasPast self.new.tracker.session }
     {
         if self.is_lost {
             return;
@@ -133,7 +133,7 @@ impl Watch {
     /// The first ones of these have: how many.
     fn send_some(&mut self, piece: &[u8]) -> usize
         ensures within { result ≤ length piece.now }
-        ensures said { IsSaid self.old.tracker.session → IsSaid self.new.tracker.session }
+        ensures said { HasPast self.old.tracker.session → HasPast self.new.tracker.session }
     {
         let (count, brought) = self.out.take(piece);
         match brought {
@@ -147,7 +147,7 @@ impl Watch {
 
     /// A packet of the client's begins.
     fn send_head(&mut self, head: Head)
-        ensures said { IsSaid self.old.tracker.session → IsSaid self.new.tracker.session }
+        ensures said { HasPast self.old.tracker.session → HasPast self.new.tracker.session }
     {
         match Status::read(head.status, Direction::ToServer) {
             Some(status) if head.kind == ATTENTION => {
@@ -164,7 +164,7 @@ impl Watch {
     /// An attention has gone out, as one is written, or as none is.
     #[tactic(auto, using(crate::proofs::Saying::said_cancelled))]
     fn cancel(&mut self, is_lawful: bool)
-        ensures said { IsSaid self.old.tracker.session → IsSaid self.new.tracker.session }
+        ensures said { HasPast self.old.tracker.session → HasPast self.new.tracker.session }
     {
         self.lose_if(self.is_within || !is_lawful);
         self.tracker.cancel();
@@ -173,7 +173,7 @@ impl Watch {
     /// Where no request goes on, one of this type begins with a packet of this status.
     #[tactic(auto, using(crate::proofs::Saying::said_asked))]
     fn ask(&mut self, kind: u8, status: Status)
-        ensures said { IsSaid self.old.tracker.session → IsSaid self.new.tracker.session }
+        ensures said { HasPast self.old.tracker.session → HasPast self.new.tracker.session }
     {
         if self.is_within {
             return;
@@ -190,7 +190,7 @@ impl Watch {
     /// A packet of a request that goes on has this type and this status.
     #[tactic(auto, using(crate::proofs::Saying::said_cancelled))]
     fn go_on(&mut self, kind: u8, status: Status)
-        ensures said { IsSaid self.old.tracker.session → IsSaid self.new.tracker.session }
+        ensures said { HasPast self.old.tracker.session → HasPast self.new.tracker.session }
     {
         self.is_within = !status.ends();
         self.lose_if(kind != self.kind);
@@ -202,7 +202,7 @@ impl Watch {
     /// Data of a request have gone out.
     #[tactic(auto, using(crate::proofs::Saying::said_sent))]
     fn send_data(&mut self, data: &[u8])
-        ensures said { IsSaid self.old.tracker.session → IsSaid self.new.tracker.session }
+        ensures said { HasPast self.old.tracker.session → HasPast self.new.tracker.session }
     {
         let mut prefix = self.prefix;
         let body = prefix.pass(data);
@@ -216,7 +216,7 @@ impl Watch {
     /// These bytes have come.
     pub fn came(&mut self, bytes: &[u8])
         ensures lost { self.old.is_lost ≡ true → self.new ≡ self.old }
-        ensures said { IsSaid self.old.tracker.session → IsSaid self.new.tracker.session }
+        ensures said { HasPast self.old.tracker.session → HasPast self.new.tracker.session }
     {
         if self.is_lost {
             return;
@@ -234,7 +234,7 @@ impl Watch {
     /// The first ones of these have: how many.
     fn hear_some(&mut self, piece: &[u8]) -> usize
         ensures within { result ≤ length piece.now }
-        ensures said { IsSaid self.old.tracker.session → IsSaid self.new.tracker.session }
+        ensures said { HasPast self.old.tracker.session → HasPast self.new.tracker.session }
     {
         let (count, brought) = self.back.take(piece);
         match brought {
@@ -248,7 +248,7 @@ impl Watch {
 
     /// A packet of the server's begins.
     fn hear_head(&mut self, head: Head)
-        ensures said { IsSaid self.old.tracker.session → IsSaid self.new.tracker.session }
+        ensures said { HasPast self.old.tracker.session → HasPast self.new.tracker.session }
     {
         let status = Status::read(head.status, Direction::ToClient);
         self.lose_if(head.kind != ANSWER || status.is_none());
@@ -259,7 +259,7 @@ impl Watch {
 
     /// Data of a packet have come, with which it ends or doesn't.
     fn hear_data(&mut self, data: &[u8], ends: bool)
-        ensures said { IsSaid self.old.tracker.session → IsSaid self.new.tracker.session }
+        ensures said { HasPast self.old.tracker.session → HasPast self.new.tracker.session }
     {
         self.hear(data);
         if ends {
@@ -269,7 +269,7 @@ impl Watch {
 
     /// A packet of the server's ends, and its message with it or not.
     fn end_packet(&mut self)
-        ensures said { IsSaid self.old.tracker.session → IsSaid self.new.tracker.session }
+        ensures said { HasPast self.old.tracker.session → HasPast self.new.tracker.session }
     {
         if self.back.head.status == 1 {
             self.end();
@@ -279,7 +279,7 @@ impl Watch {
     /// A message of the server's has ended.
     #[tactic(auto, using(crate::proofs::Saying::said_ended))]
     fn end(&mut self)
-        ensures said { IsSaid self.old.tracker.session → IsSaid self.new.tracker.session }
+        ensures said { HasPast self.old.tracker.session → HasPast self.new.tracker.session }
     {
         let is_whole = self.is_between();
         self.lose_if(!is_whole);
@@ -295,7 +295,7 @@ impl Watch {
     /// Data of a message have come.
     #[tactic(auto, using(crate::proofs::Saying::said_heard))]
     fn hear(&mut self, data: &[u8])
-        ensures said { IsSaid self.old.tracker.session → IsSaid self.new.tracker.session }
+        ensures said { HasPast self.old.tracker.session → HasPast self.new.tracker.session }
     {
         let mut rest = data;
         'tokens: for _ in 0..data.len() {

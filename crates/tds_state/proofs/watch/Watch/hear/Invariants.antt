@@ -1,5 +1,5 @@
-use Rattle.tds_state.specs.Pasts.{IsSaid}
+use Rattle.tds_state.specs.Pasts.{HasPast}
 use Rattle.tds_state.proofs.watch.Watch.hear.Given as goal
 
 abbrev pub invariant-tokens : goal.invariant-tokens
-invariant-tokens l = IsSaid l.fn.self.tracker.session → IsSaid l.self.tracker.session
+invariant-tokens l = HasPast l.fn.self.tracker.session → HasPast l.self.tracker.session
