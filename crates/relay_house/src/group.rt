@@ -1,11 +1,12 @@
 //! Applications whose logins are equal, or one that is alone, and their relay.
 
+use crate::resting::Resting;
 use relay_logins::{FEATURES, Who};
 use relay_status::{Done, NOTHING};
 use std::alloc::{AllocError, Global};
 use std::net::IpAddr;
 use tds_packet::PacketSize;
-use tds_relay::{PlaceOn, Relay};
+use tds_relay::{Mode, PlaceOn, Relay};
 
 /// The most connections that a group may ever have, whatever it is set to: as `--most` takes.
 const MOST: usize = 1_024;
@@ -52,6 +53,12 @@ pub struct Group {
     /// The millisecond in which a server let its login in last, and whether one doesn't any more.
     pub judged: u64,
     pub is_over: bool,
+    /// For how long its applications keep what they are lent.
+    pub mode: Mode,
+    /// Its connections that rest, the numbers of those from which somebody was parted, and how often that was.
+    pub resting: Resting,
+    pub parted: Vec<u64>,
+    pub partings: u64,
 }
 
 impl Pair {
@@ -67,7 +74,9 @@ impl Pair {
 impl Group {
     /// A group whose first login the server judges, which these wait for, the first one of them there.
     pub fn new(
+        alloc: Global,
         who: Who,
+        mode: Mode,
         waiting: Vec<usize>,
         size: PacketSize,
         pair: Option<Pair>,
@@ -87,6 +96,10 @@ impl Group {
             first: None,
             judged: 0,
             is_over: false,
+            mode,
+            resting: Resting::new(alloc),
+            parted: Vec::new(alloc),
+            partings: 0,
         }
     }
 
@@ -134,6 +147,7 @@ impl Group {
                     cancels: counts.cancels,
                     cleanings: counts.cleanings,
                     failed: counts.failed,
+                    partings: self.partings,
                 }
             }
         }
@@ -170,6 +184,31 @@ impl Group {
         }
     }
 
+    /// How many of its connections from which somebody was parted are cleaned still.
+    pub fn count_parted(&mut self) -> usize {
+        let Stage::Open(relay, _) = &self.stage else {
+            return 0;
+        };
+        let mut kept: usize = 0;
+        for place in 0..self.parted.len() {
+            let number = match self.parted.get(place) {
+                Some(number) => *number,
+                None => break,
+            };
+            if matches!(
+                relay.place_on(number),
+                Some(PlaceOn::Cleaning | PlaceOn::Draining)
+            ) {
+                if let Some(first) = self.parted.get_mut(kept) {
+                    *first = number;
+                }
+                kept = kept.saturating_add(1);
+            }
+        }
+        self.parted.truncate(kept);
+        kept
+    }
+
     /// Whether nobody is left of it.
     pub fn is_deserted(&self) -> bool {
         match &self.stage {
@@ -189,7 +228,7 @@ impl Group {
         answer: Vec<u8>,
     ) -> Result<(), AllocError> {
         self.size = size;
-        self.stage = Stage::Open(Relay::new(alloc, MOST, size, FEATURES)?, answer);
+        self.stage = Stage::Open(Relay::new(alloc, self.mode, MOST, size, FEATURES)?, answer);
         self.set_most(most)
     }
 
