@@ -21,10 +21,16 @@ impl House {
             groups,
             ..
         } = self;
-        let (Some(socket), Some(group)) = (sockets.get_mut(key), groups.get_mut(group)) else {
+        let Some(socket) = sockets.get_mut(key) else {
             return Ok(());
         };
-        if socket.rests() != Some(true) || !is_held(group, number) {
+        if socket.rests() != Some(true) {
+            return Ok(());
+        }
+        let Some(group) = groups.get_mut(group) else {
+            return Ok(());
+        };
+        if !is_held(group, number) {
             return Ok(());
         }
         socket.rest = group.resting.add(key)?;
