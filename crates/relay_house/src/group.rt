@@ -184,28 +184,25 @@ impl Group {
         }
     }
 
-    /// How many of its connections from which somebody was parted are cleaned still.
+    /// How many of its connections from which somebody was parted are cleaned still. The others are forgotten.
     pub fn count_parted(&mut self) -> usize {
-        let Stage::Open(relay, _) = &self.stage else {
+        let Group { stage, parted, .. } = self;
+        let Stage::Open(relay, _) = stage else {
             return 0;
         };
         let mut kept: usize = 0;
-        for place in 0..self.parted.len() {
-            let number = match self.parted.get(place) {
-                Some(number) => *number,
-                None => break,
+        for place in 0..parted.len() {
+            let Some(number) = parted.get(place).copied() else {
+                break;
             };
-            if matches!(
-                relay.place_on(number),
-                Some(PlaceOn::Cleaning | PlaceOn::Draining)
-            ) {
-                if let Some(first) = self.parted.get_mut(kept) {
+            if is_cleaned(relay, number) {
+                if let Some(first) = parted.get_mut(kept) {
                     *first = number;
                 }
                 kept = kept.saturating_add(1);
             }
         }
-        self.parted.truncate(kept);
+        parted.truncate(kept);
         kept
     }
 
@@ -240,4 +237,12 @@ impl Group {
             None => Ok(()),
         }
     }
+}
+
+/// Whether the connection of this number is cleaned, or what was underway on it is cancelled.
+fn is_cleaned(relay: &Relay, number: u64) -> bool {
+    matches!(
+        relay.place_on(number),
+        Some(PlaceOn::Cleaning | PlaceOn::Draining)
+    )
 }
