@@ -15,7 +15,7 @@ from relay_told import Relay, closes, error_packet, let_in, rows
 REFUSED = 50100
 # Of no machine (RFC 5737).
 NOBODYS = "203.0.113.77"
-SETTINGS = ("most, alone, total, kinds, least, any-application, stats, log, log-json, judge, login, wait, cancel, idle, life, hold, "
+SETTINGS = ("most, alone, total, kinds, least, any-application, share, stats, log, log-json, judge, login, wait, cancel, idle, life, hold, "
             "transaction, request, drain, check, away, judge-again, half-closed, spin, keepalive, unacknowledged")
 
 
@@ -196,6 +196,7 @@ def beginnings(program, cases, room):
                 (["--wait", "x"], 2, '--wait takes seconds, 0 to 604800, and not "x"'),
                 (["--alone", "4097"], 2, '--alone takes 0 to 4096 connections, and not "4097"'),
                 (["--most", "0"], 2, '--most takes 1 to 1024 connections, and not "0"'),
+                (["--share", "statement"], 2, '--share takes session or transaction, and not "statement"'),
                 (["--spin", "1001"], 2, '--spin takes 0 to 1000 microseconds, and not "1001"'),
                 ([f"127.0.0.1:{it}" for it in range(1, 9)], 2, "there are more than 8 servers: leave some out"),
                 (["sql.example:1433"], 2, 'SERVER "sql.example" is a name: --names unix:PATH says where `tdstls names` answers (docs/RELAY.md)'),

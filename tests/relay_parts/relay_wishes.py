@@ -11,10 +11,11 @@ import socket
 import struct
 import time
 
-from peers import PATIENCE, PROXY_HEADER, batch, connect, message, packet
+from peers import PATIENCE, PROXY_HEADER, batch, connect, login, message, packet
+from relay_logins import with_features
 from relay_operator import all_of, until
 from relay_servers import DONE, Before, until_some
-from relay_told import Relay, error_in, error_packet, let_in, login_of, rows
+from relay_told import Relay, error_in, error_of, error_packet, let_in, login_of, rows
 
 LATE, LOST = 50108, 50109
 
@@ -144,6 +145,25 @@ def joined(program, cases, server):
             other = let_in(relay, "", "billing", "otto", "sales")
             cases.same(f"another user has a group of his own {words}", relay.json()["groups_shared"], count + 1)
             other.close()
+
+
+def recovered(program, cases, server):
+    """Session recovery is asked for where the application asks, with nothing to be recovered, and the setting says so: a
+    group of its own. Its server doesn't acknowledge it, so nobody is parted."""
+    asks, bare = with_features((1, b"")), login()
+    for words, told in (((), [bare]), (("--share", "transaction"), [bare, asks]), (("--share", "session"), [bare])):
+        with Before(server) as before, Relay(program, before.port, "--most", "1", "--wait", "1", *words) as relay:
+            links = []
+            for it in (bare, asks, with_features((4, b"\1"), (1, b"")), with_features((1, bytes(8))), with_features((4, b"\1"))):
+                links.append(connect(relay.port))
+                links[-1].sendall(it)
+                message(links[-1])
+            cases.same(f"what the server is told {words}", [it.hex() for it in before.logins], [it[8:].hex() for it in told])
+            cases.same(f"groups {words}", ["partings" in it for it in relay.json()["groups"]], [it == asks for it in told])
+            cases.check(f"a row {words}", rows(links[1], 1))
+            links[2].sendall(batch("rows 2 1"))
+            cases.check(f"who waits isn't lent it {words}", error_of(links[2]) == 50101)
+            cases.check(f"the holder goes on {words}", rows(links[1], 3))
 
 
 def lost(program, cases, server):

@@ -8,6 +8,7 @@ use relay_status::raise;
 use std::net::Net;
 use std::{io, mem};
 use tds_packet::PacketSize;
+use tds_relay::Mode;
 
 impl House {
     /// Takes bytes of a login, and gives what is left of them.
@@ -137,7 +138,7 @@ impl House {
             self.forget(group);
             return Ok(());
         }
-        self.heard(rt, group, number, rest)
+        self.heard_behind(rt, key, group, number, rest)
     }
 
     /// A group gets its relay, with this connection, whose number is answered.
@@ -149,6 +150,7 @@ impl House {
         answer: Vec<u8>,
     ) -> io::Result<Option<u64>> {
         let alloc = self.alloc;
+        self.watch_in(key, group, &answer)?;
         let Some(judged) = self.groups.get_mut(group) else {
             return Ok(None);
         };
@@ -264,8 +266,12 @@ impl House {
             Dialed::Routed(target) => {
                 return self.follow(rt, key, Whose::Opening(group, number), &target);
             }
-            Dialed::In(size, _) if self.has_size(group, size) => {}
-            Dialed::In(..) => return self.shut(rt, key, group, Cause::OtherSize),
+            Dialed::In(size, answer) => {
+                if !self.has_size(group, size) {
+                    return self.shut(rt, key, group, Cause::OtherSize);
+                }
+                self.watch_in(key, group, &answer)?;
+            }
             Dialed::Leg(_) => return self.shut(rt, key, group, Cause::Refused(0)),
             Dialed::Refused(_, error) => {
                 return self.shut(rt, key, group, Cause::Refused(error));
@@ -275,7 +281,30 @@ impl House {
         if let Some(relay) = relay_of(&mut self.groups, group) {
             relay.opened(number)?;
         }
-        self.heard(rt, group, number, rest)
+        self.heard_behind(rt, key, group, number, rest)
+    }
+
+    /// A connection's login was answered so: where its group's applications are parted from theirs, it is watched.
+    fn watch_in(&mut self, key: usize, group: usize, answer: &[u8]) -> io::Result<()> {
+        match self.groups.get(group) {
+            Some(group) if group.mode == Mode::Transactions => {
+                Ok(self.sockets.begin_watching(key, answer)?)
+            }
+            _ => Ok(()),
+        }
+    }
+
+    /// These bytes came on a connection behind its login's answer.
+    fn heard_behind<R: Net>(
+        &mut self,
+        rt: &R,
+        key: usize,
+        group: usize,
+        number: u64,
+        rest: &[u8],
+    ) -> io::Result<()> {
+        self.sockets.watch(key, rest);
+        self.heard(rt, key, group, number, rest)
     }
 
     /// The server doesn't let the logins of a group in any more: who comes later is judged anew.

@@ -1,5 +1,6 @@
 //! Applications whose logins are equal, or one that is alone, and their relay.
 
+use crate::resting::Resting;
 use relay_logins::{FEATURES, Who};
 use relay_status::{Done, NOTHING};
 use std::alloc::{AllocError, Global};
@@ -52,6 +53,12 @@ pub struct Group {
     /// The millisecond in which a server let its login in last, and whether one doesn't any more.
     pub judged: u64,
     pub is_over: bool,
+    /// For how long its applications keep what they are lent.
+    pub mode: Mode,
+    /// Its connections that rest, the numbers of those from which somebody was parted, and how often that was.
+    pub resting: Resting,
+    pub parted: Vec<u64>,
+    pub partings: u64,
 }
 
 impl Pair {
@@ -67,7 +74,9 @@ impl Pair {
 impl Group {
     /// A group whose first login the server judges, which these wait for, the first one of them there.
     pub fn new(
+        alloc: Global,
         who: Who,
+        mode: Mode,
         waiting: Vec<usize>,
         size: PacketSize,
         pair: Option<Pair>,
@@ -87,6 +96,10 @@ impl Group {
             first: None,
             judged: 0,
             is_over: false,
+            mode,
+            resting: Resting::new(alloc),
+            parted: Vec::new(alloc),
+            partings: 0,
         }
     }
 
@@ -134,6 +147,7 @@ impl Group {
                     cancels: counts.cancels,
                     cleanings: counts.cleanings,
                     failed: counts.failed,
+                    partings: self.partings,
                 }
             }
         }
@@ -170,6 +184,28 @@ impl Group {
         }
     }
 
+    /// How many of its connections from which somebody was parted are cleaned still. The others are forgotten.
+    pub fn count_parted(&mut self) -> usize {
+        let Group { stage, parted, .. } = self;
+        let Stage::Open(relay, _) = stage else {
+            return 0;
+        };
+        let mut kept: usize = 0;
+        for place in 0..parted.len() {
+            let Some(number) = parted.get(place).copied() else {
+                break;
+            };
+            if is_cleaned(relay, number) {
+                if let Some(first) = parted.get_mut(kept) {
+                    *first = number;
+                }
+                kept = kept.saturating_add(1);
+            }
+        }
+        parted.truncate(kept);
+        kept
+    }
+
     /// Whether nobody is left of it.
     pub fn is_deserted(&self) -> bool {
         match &self.stage {
@@ -189,10 +225,7 @@ impl Group {
         answer: Vec<u8>,
     ) -> Result<(), AllocError> {
         self.size = size;
-        self.stage = Stage::Open(
-            Relay::new(alloc, Mode::Sessions, MOST, size, FEATURES)?,
-            answer,
-        );
+        self.stage = Stage::Open(Relay::new(alloc, self.mode, MOST, size, FEATURES)?, answer);
         self.set_most(most)
     }
 
@@ -204,4 +237,12 @@ impl Group {
             None => Ok(()),
         }
     }
+}
+
+/// Whether the connection of this number is cleaned, or what was underway on it is cancelled.
+fn is_cleaned(relay: &Relay, number: u64) -> bool {
+    matches!(
+        relay.place_on(number),
+        Some(PlaceOn::Cleaning | PlaceOn::Draining)
+    )
 }

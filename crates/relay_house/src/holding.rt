@@ -155,6 +155,8 @@ impl House {
             return self.obey(rt, group);
         }
         if count_all(&self.groups) > self.asked.total && !self.free_one(rt)? {
+            // Once it is cleaned, the connection of one that rests is free.
+            let _ = self.part_any(rt)?;
             let now = self.now();
             return Ok(
                 self.holding

@@ -3,14 +3,16 @@
 use crate::group::{Group, Pair, Stage};
 use crate::house::{House, relay_of};
 use relay_logins::{
-    FULL, Kind, NO_NOTICES, NOTIFIES, Passed, REFUSED, SharedLogin, TOO_MANY, kind_of,
+    FULL, Keeping, Kind, NO_NOTICES, NOTIFIES, Passed, REFUSED, SharedLogin, TOO_MANY, kind_of,
     leave_out_features, put_error, put_saved, who_of,
 };
+use relay_settings::Share;
 use relay_sockets::{Cause, News, Role, Whose};
 use relay_status::raise;
 use std::io;
 use std::net::{IpAddr, Net};
 use tds_packet::PacketSize;
+use tds_relay::Mode;
 
 impl House {
     /// These bytes came on a socket, which isn't of somebody who asks what the relay does.
@@ -36,7 +38,7 @@ impl House {
                 }
                 self.obey(rt, group)
             }
-            Whose::Connection(group, number) => self.heard(rt, group, number, piece),
+            Whose::Connection(group, number) => self.heard(rt, key, group, number, piece),
             Whose::Gate => self.passed(rt, key, piece),
             Whose::First(group) => self.first_dialed(rt, key, group, piece),
             Whose::Opening(group, number) => self.dialed(rt, key, group, number, piece),
@@ -56,6 +58,7 @@ impl House {
     pub(crate) fn heard<R: Net>(
         &mut self,
         rt: &R,
+        key: usize,
         group: usize,
         number: u64,
         piece: &[u8],
@@ -64,6 +67,7 @@ impl House {
             if let Some(relay) = relay_of(&mut self.groups, group) {
                 relay.came(number, piece)?;
             }
+            self.note_rest(key, group, number)?;
         }
         self.obey(rt, group)
     }
@@ -93,7 +97,11 @@ impl House {
 
     /// Its LOGIN7 has come.
     fn log_in<R: Net>(&mut self, rt: &R, key: usize, mut message: Vec<u8>) -> io::Result<()> {
-        leave_out_features(self.alloc, &mut message)?;
+        let keeping = match self.asked.share {
+            Share::Session => Keeping::Federated,
+            Share::Transaction => Keeping::Recovery,
+        };
+        leave_out_features(self.alloc, &mut message, keeping)?;
         self.name(key, &message)?;
         if self.is_too_many(key) {
             self.put_refusal_of(key, TOO_MANY, FULL)?;
@@ -101,7 +109,10 @@ impl House {
         }
         match kind_of(message) {
             Kind::Wrong(why) => self.refuse(rt, key, why),
-            Kind::Alone(login) => self.begin_alone(rt, key, login),
+            Kind::Alone(mut login) => {
+                leave_out_features(self.alloc, &mut login, Keeping::Federated)?;
+                self.begin_alone(rt, key, login)
+            }
             Kind::Shared(login) => self.share(rt, key, login),
         }
     }
@@ -165,7 +176,12 @@ impl House {
         if let Some(why) = self.make_room(rt, true, self.address_of(key))? {
             return self.refuse(rt, key, why);
         }
-        let Some(begun) = self.group_with(key, login.message(), None)? else {
+        let mode = if login.asks_for_recovery() {
+            Mode::Transactions
+        } else {
+            Mode::Sessions
+        };
+        let Some(begun) = self.group_with(key, login.message(), mode, None)? else {
             return Ok(());
         };
         let group = self.groups.begin(login, begun);
@@ -177,7 +193,7 @@ impl House {
         if let Some(why) = self.make_room(rt, false, self.address_of(key))? {
             return self.refuse(rt, key, why);
         }
-        let Some(begun) = self.group_with(key, &login, Some(Pair::of(key)))? else {
+        let Some(begun) = self.group_with(key, &login, Mode::Sessions, Some(Pair::of(key)))? else {
             return Ok(());
         };
         let group = self.groups.begin_alone(login, begun);
@@ -195,6 +211,7 @@ impl House {
         &self,
         key: usize,
         login: &[u8],
+        mode: Mode,
         pair: Option<Pair>,
     ) -> io::Result<Option<Group>> {
         let Some(size) = PacketSize::new(4_096) else {
@@ -204,7 +221,8 @@ impl House {
         waiting.push(key)?;
         let who = who_of(self.alloc, login)?;
         let from = self.address_of(key);
-        Ok(Some(Group::new(who, waiting, size, pair, from)))
+        let alloc = self.alloc;
+        Ok(Some(Group::new(alloc, who, mode, waiting, size, pair, from)))
     }
 
     /// A server is dialed for the first login of a group, if that found room.

@@ -10,8 +10,17 @@ use std::net::Net;
 use tds_relay::{Order, Place};
 
 impl House {
-    /// Does what a group's relay says is to be done.
+    /// Does what a group's relay says is to be done; and parts those at rest where others wait.
     pub fn obey<R: Net>(&mut self, rt: &R, group: usize) -> io::Result<()> {
+        self.follow_orders(rt, group)?;
+        self.part_those_at_rest(rt, group)?;
+        self.end_beginning(group)?;
+        self.forget_deserted(group);
+        Ok(())
+    }
+
+    /// Does what a group's relay says is to be done.
+    pub(crate) fn follow_orders<R: Net>(&mut self, rt: &R, group: usize) -> io::Result<()> {
         for _ in 0..u64::MAX {
             let orders = match relay_of(&mut self.groups, group) {
                 Some(relay) => relay.orders(),
@@ -24,8 +33,6 @@ impl House {
                 self.follow_order(rt, group, *order)?;
             }
         }
-        self.end_beginning(group)?;
-        self.forget_deserted(group);
         Ok(())
     }
 

@@ -1,6 +1,7 @@
 -- What a LOGIN7 says (MS-TDS 2.2.6.4), and what of it makes its session: where two logins differ in any of
 -- that, neither is lent a connection of the other.
-use Rattle.std.specs.Prelude.{ℕ, ◌+◌, ◌*◌, ◌≡◌, ◌≤◌, ◌==◌, ◌||◌, nat_lt, List, [], length, Option, Some, None, IsSome, if◌then◌else◌, slice_index, slice_range, bit_and}
+use Rattle.std.specs.Prelude.{ℕ, ◌+◌, ◌*◌, ◌≡◌, ◌≤◌, ◌==◌, ◌||◌, ◌⊎◌, nat_lt, List, [], ◌∷◌, length, Option, Some, None, IsSome, if◌then◌else◌, slice_index, slice_range, bit_and}
+use Rattle.std.specs.Int.{w32, from_le_bytes}
 use Rattle.relay_logins.specs.declared.login7.Kind.{Kind}
 use Rattle.relay_logins.specs.declared.login7.Kind.TheVariants as kinds
 use Rattle.relay_logins.specs.declared.login7.SharedLogin.{SharedLogin}
@@ -26,6 +27,27 @@ text_at bytes place =
 unfoldable pub part_at : List ℕ → ℕ → ℕ → List ℕ
 part_at bytes from to =
     if nat_lt to from || nat_lt (length bytes) to then [] else slice_range bytes from to
+
+-- the number that four bytes spell, the lowest one first
+unfoldable pub long_of : List ℕ → ℕ
+long_of [] = 0
+long_of (a ∷ []) = 0
+long_of (a ∷ b ∷ []) = 0
+long_of (a ∷ b ∷ c ∷ []) = 0
+long_of (a ∷ b ∷ c ∷ d ∷ []) = from_le_bytes w32 (a ∷ b ∷ c ∷ d ∷ [])
+long_of (a ∷ b ∷ c ∷ d ∷ e ∷ more) = 0
+
+-- the same from this place on; 0 where they haven't come
+abbrev pub long_at : List ℕ → ℕ → ℕ
+long_at bytes place = long_of (part_at bytes place (place + 4))
+
+-- what stands from the features' place on (FeatureExt)
+abbrev pub features_in : List ℕ → List ℕ
+features_in bytes = part_at bytes (long_at bytes (number_at bytes 56)) (length bytes)
+
+-- no feature is asked for, or session recovery alone, without data
+abbrev pub AsksNoMore : List ℕ → Type 0
+AsksNoMore bytes = (bit_and (slice_index bytes 27) 16 ≡ 0) ⊎ (features_in bytes ≡ 1 ∷ 0 ∷ 0 ∷ 0 ∷ 0 ∷ 255 ∷ [])
 
 -- What makes a session. The host's name, the process and the client's own number may differ.
 pub record Session : Type 0 where
@@ -72,11 +94,12 @@ pub record IsWhole (bytes : List ℕ) : Type 0 where
   pub language : IsSome (text_at bytes 64)
   pub database : IsSome (text_at bytes 68)
 
--- It is a user's of the server, by this password, which stays; no file is attached, no feature asked for.
+-- It is a user's of the server, by this password, which stays; no file is attached, no feature asked for but
+-- session recovery.
 pub record MayShare (bytes : List ℕ) : Type 0 where
   pub no_integrated : bit_and (slice_index bytes 25) 128 ≡ 0
   pub no_new_password : bit_and (slice_index bytes 27) 1 ≡ 0
-  pub no_features : bit_and (slice_index bytes 27) 16 ≡ 0
+  pub no_features : AsksNoMore bytes
   pub no_leg : number_at bytes 80 ≡ 0
   pub no_file : number_at bytes 84 ≡ 0
 

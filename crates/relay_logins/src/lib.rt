@@ -14,7 +14,7 @@ mod program;
 mod table;
 
 pub use dial::{Dial, Dialed, FEATURES, Target, Unfit, Way};
-pub use features::leave_out_features;
+pub use features::{Keeping, leave_out_features};
 pub use gate::{Gate, Passed};
 pub use groups::{Group, Groups};
 pub use leg::{Leg, Taken};

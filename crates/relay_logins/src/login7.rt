@@ -1,8 +1,9 @@
 //! LOGIN7 (MS-TDS 2.2.6.4): which logins make equal sessions, and which can't be shared.
 ghost use Rattle.std.specs.Prelude.{◌≡◌, ◌≤◌, ◌<◌, IsTrue, length, option_copied};
 ghost use Rattle.relay_logins.specs.Session.{HaveEqualFields, HaveEqualTexts, IfAlone, IfShared, IsWhole};
-ghost use Rattle.relay_logins.specs.Session.{MayShare, number_at, part_at, session_in, text_at};
+ghost use Rattle.relay_logins.specs.Session.{AsksNoMore, MayShare, number_at, part_at, session_in, text_at};
 
+use crate::features::asks_recovery_alone;
 use std::alloc::{AllocError, Global};
 
 /// Where the fixed fields end, and the texts may begin.
@@ -71,6 +72,14 @@ impl SharedLogin {
     {
         self.message.as_slice()
     }
+
+    /// Whether it asks for session recovery.
+    pub fn asks_for_recovery(&self) -> bool {
+        match self.message.get(FLAGS_3) {
+            Some(flags) => *flags & FEATURES != 0,
+            None => false,
+        }
+    }
 }
 
 /// Whether two logins say the same of their sessions.
@@ -103,7 +112,7 @@ fn has_equal_part(one: &[u8], other: &[u8], from: usize, to: usize) -> bool
 
 /// The bytes from one place to another one; none where they haven't all come.
 #[tactic(auto, unfolding(crate::specs::Session::part_at))]
-fn part_at(message: &[u8], from: usize, to: usize) -> &[u8]
+pub(crate) fn part_at(message: &[u8], from: usize, to: usize) -> &[u8]
     ensures { result.now ≡ part_at message.now from to }
 {
     match message.get(from..to) {
@@ -138,7 +147,7 @@ fn has_equal_text(one: &[u8], other: &[u8], place: usize) -> bool
     }
 }
 
-fn is_same(one: &[u8], other: &[u8]) -> bool
+pub(crate) fn is_same(one: &[u8], other: &[u8]) -> bool
     ensures equal { IsTrue result → one.now ≡ other.now }
     ensures all { one.now ≡ other.now → IsTrue result }
 {
@@ -164,7 +173,8 @@ pub fn kind_of(message: Vec<u8>) -> Kind
     Kind::Shared(SharedLogin { message })
 }
 
-/// Whether it is a user's of the server, by this password, which stays; attaches no file; asks for no feature.
+/// Whether it is a user's of the server, by this password, which stays; attaches no file; asks for no feature
+/// but session recovery.
 fn may_share(message: &[u8]) -> bool
     requires { 94 ≤ length message.now }
     ensures may { IsTrue result → MayShare message.now }
@@ -172,9 +182,19 @@ fn may_share(message: &[u8]) -> bool
 {
     message[FLAGS_2] & INTEGRATED == 0
         && message[FLAGS_3] & NEW_PASSWORD == 0
-        && message[FLAGS_3] & FEATURES == 0
+        && asks_no_more(message)
         && number_at(message, FIRST_LEG + 2) == 0
         && number_at(message, ATTACHED + 2) == 0
+}
+
+/// Whether it asks for no feature, or for session recovery alone, with nothing to be recovered. Where two of
+/// these have equal flags, either both ask for it or none does.
+fn asks_no_more(message: &[u8]) -> bool
+    requires { 94 ≤ length message.now }
+    ensures may { IsTrue result → AsksNoMore message.now }
+    ensures all { AsksNoMore message.now → IsTrue result }
+{
+    message[FLAGS_3] & FEATURES == 0 || asks_recovery_alone(message)
 }
 
 /// Whether each text of its session stands in it.

@@ -1,7 +1,7 @@
 //! The application's name in LOGIN7 (MS-TDS 2.2.6.4, AppName): where that parts no groups, each login names the
 //! relay in its place.
 
-use crate::features::set_length;
+use crate::features::{move_recovery, set_length};
 use crate::login7::{PROGRAM, SharedLogin};
 use std::alloc::AllocError;
 
@@ -16,8 +16,12 @@ impl SharedLogin {
         let Ok(place) = u16::try_from(self.message.len()) else {
             return Ok(());
         };
+        let recovers = self.asks_for_recovery();
         self.message.extend_from_slice(&NAME)?;
         set_place(&mut self.message, place);
+        if recovers {
+            move_recovery(&mut self.message)?;
+        }
         set_length(&mut self.message);
         Ok(())
     }

@@ -12,13 +12,14 @@ use toml::{Table, Value};
 const MOST: usize = 65_536;
 
 /// What a file may set.
-const NAMES: [&str; 26] = [
+const NAMES: [&str; 27] = [
     "most",
     "alone",
     "total",
     "kinds",
     "least",
     "any-application",
+    "share",
     "stats",
     "log",
     "log-json",

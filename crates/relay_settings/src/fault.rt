@@ -35,6 +35,9 @@ pub enum RelayFault {
     /// The word whose count can't be, what may be, and of what; and as what it is given.
     #[error("error: --{0} takes {1} to {2} {3}, and not {4:?}")]
     Count(&'static str, usize, usize, &'static str, String),
+    /// As what is given for how long a connection is kept.
+    #[error("error: --share takes session or transaction, and not {0:?}")]
+    Share(String),
     #[error("error: there are more than 8 servers: leave some out")]
     Servers,
     /// As what the addresses of proxies are given.

@@ -1,7 +1,7 @@
 //! The settings: each word and what it is.
 
 /// The words that take a value: the name, and what it is.
-pub const SETTINGS: [(&str, &str); 25] = [
+pub const SETTINGS: [(&str, &str); 26] = [
     (
         "most",
         "CONNECTIONS at most for equal logins, 1 to 1024 [16]",
@@ -21,6 +21,10 @@ pub const SETTINGS: [(&str, &str); 25] = [
     (
         "least",
         "CONNECTIONS of equal logins that are kept however idle they are, 0 to 1024 [0]",
+    ),
+    (
+        "share",
+        "session, or transaction: who asks nothing and loses nothing is parted for who waits [session]",
     ),
     (
         "login",

@@ -9,6 +9,7 @@ use crate::limits::{Limits, MOST as MOST_SECONDS, USUAL as USUAL_LIMITS};
 use crate::named::{Named, named_by};
 use crate::proxies::Proxies;
 use crate::servers::Servers;
+use crate::share::Share;
 use crate::table::{FLAGS, SETTINGS};
 use clap::{Arg, ArgAction, ArgMatches, Command};
 use socket_places::{Keeping, Place, USUAL as USUAL_KEEPING};
@@ -34,6 +35,8 @@ pub struct Asked {
     pub least: usize,
     /// Whether logins share connections that differ in the application's name.
     pub joins_applications: bool,
+    /// For how long an application keeps the connection that it is lent.
+    pub share: Share,
     pub limits: Limits,
     /// For so many microseconds behind a report it doesn't wait for the next one, but asks for it.
     pub spin: u64,
@@ -117,6 +120,7 @@ fn asked_by(
         kinds: count_of(alloc, matches, config, &COUNT_KINDS)?,
         least: count_of(alloc, matches, config, &COUNT_LEAST)?,
         joins_applications: is_set(matches, config, "any-application")?,
+        share: share_of(alloc, matches, config)?,
         spin: count_of(alloc, matches, config, &COUNT_SPIN)? as u64,
         keeping: keeping_of(alloc, matches, config)?,
         limits: limits_of(alloc, matches, config)?,
@@ -270,6 +274,24 @@ fn proxies_of(alloc: Global, matches: &ArgMatches, config: &Config) -> Result<Pr
     match Proxies::read(word) {
         Some(proxies) => Ok(proxies),
         None => Err(RelayFault::Proxies(String::from_str(alloc, word)?)),
+    }
+}
+
+/// For how long an application keeps the connection that it is lent.
+fn share_of(alloc: Global, matches: &ArgMatches, config: &Config) -> Result<Share, RelayFault> {
+    let set = match config.text("share")? {
+        None => Share::Session,
+        Some(text) => match Share::read(text) {
+            Some(share) => share,
+            None => return Err(config.fault("share", "session or transaction is wanted")?),
+        },
+    };
+    let Some(word) = matches.get_str("share") else {
+        return Ok(set);
+    };
+    match Share::read(word) {
+        Some(share) => Ok(share),
+        None => Err(RelayFault::Share(String::from_str(alloc, word)?)),
     }
 }
 

@@ -26,7 +26,7 @@ impl Sockets {
         Ok(())
     }
 
-    /// These bytes came on a socket.
+    /// These bytes came on a socket: they are read where it is watched, and judged where that is asked for.
     pub fn judge(&mut self, key: usize, bytes: &[u8], journal: &mut Journal) -> io::Result<()> {
         let Sockets {
             table,
@@ -34,6 +34,9 @@ impl Sockets {
             ..
         } = self;
         if let Some(socket) = table.get_mut(key) {
+            if let Some(watch) = &mut socket.watch {
+                watch.came(bytes);
+            }
             if let Some(judged) = &mut socket.judged {
                 judged.take(true, journal.moment.micros, bytes, findings)?;
             }

@@ -8,6 +8,7 @@ mod link;
 mod room;
 mod socket;
 mod sockets;
+mod watching;
 
 pub use ending::Cause;
 pub use link::{Came, Link, News};

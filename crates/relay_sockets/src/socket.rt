@@ -7,6 +7,7 @@ use relay_status::{Asker, At, Judged, Names, Role as Told, Whom};
 use std::io;
 use std::net::SocketAddr;
 use tds_judge::Finding;
+use tds_state::Watch;
 
 /// What a socket is.
 #[derive(Drop)]
@@ -117,6 +118,9 @@ pub struct Socket {
     pub is_answered: bool,
     /// Where judging is asked for.
     pub judged: Option<Judged>,
+    /// Of a connection, where applications are parted from theirs; and the number of the last rest there.
+    pub(crate) watch: Option<Box<Watch>>,
+    pub rest: u64,
 }
 
 impl Socket {
@@ -151,6 +155,8 @@ impl Socket {
             asked: None,
             is_answered: false,
             judged: None,
+            watch: None,
+            rest: 0,
         }
     }
 
@@ -194,6 +200,9 @@ impl Socket {
         findings: &mut Vec<Finding>,
     ) -> io::Result<usize> {
         let count = self.link.send(bytes)?.min(bytes.len());
+        if let Some(watch) = &mut self.watch {
+            watch.sent(&bytes[..count]);
+        }
         if let Some(judged) = &mut self.judged {
             judged.take(false, time, &bytes[..count], findings)?;
         }

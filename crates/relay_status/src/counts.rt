@@ -11,6 +11,8 @@ pub struct Done {
     /// Connections that were let go and are cleaned, and those that were closed instead.
     pub cleanings: u64,
     pub failed: u64,
+    /// How often an application that rested was parted from its connection, for one that waited.
+    pub partings: u64,
 }
 
 /// What has done nothing yet.
@@ -19,6 +21,7 @@ pub const NOTHING: Done = Done {
     cancels: 0,
     cleanings: 0,
     failed: 0,
+    partings: 0,
 };
 
 /// What it has done. Each of them only grows.
@@ -92,5 +95,6 @@ pub fn sum(one: Done, other: Done) -> Done {
         cancels: one.cancels.saturating_add(other.cancels),
         cleanings: one.cleanings.saturating_add(other.cleanings),
         failed: one.failed.saturating_add(other.failed),
+        partings: one.partings.saturating_add(other.partings),
     }
 }

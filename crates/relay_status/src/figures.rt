@@ -124,7 +124,7 @@ impl Figures {
     }
 
     /// What was done since the relay began.
-    fn counted(&self) -> [Figure; 24] {
+    fn counted(&self) -> [Figure; 25] {
         [
             ("applications", "let_in", self.counts.let_in),
             ("applications", "refused", self.counts.refused),
@@ -136,6 +136,7 @@ impl Figures {
             ("done", "cancels", self.done.cancels),
             ("done", "cleanings", self.done.cleanings),
             ("done", "cleanings_failed", self.done.failed),
+            ("done", "partings", self.done.partings),
             ("limits", "login", self.counts.late_logins),
             ("limits", "wait", self.counts.late_waits),
             ("limits", "cancel", self.counts.late_cancels),

@@ -15,6 +15,8 @@ pub struct GroupLine<'a> {
     pub names: Names<'a>,
     /// The most connections.
     pub most: usize,
+    /// How often an application was parted from its connection, where it is shared by transactions.
+    pub partings: Option<u64>,
 }
 
 /// Who an application says that it is, in letters that need no escape.
@@ -44,6 +46,8 @@ pub struct SocketLine<'a> {
     /// A connection's process at the server, and the server's place in the list.
     pub spid: u16,
     pub server: usize,
+    /// Whether a connection rests, where that is known.
+    pub rests: Option<bool>,
 }
 
 /// A server's place and address, and whether it has failed lately.
@@ -64,7 +68,11 @@ pub fn put_server(
 pub fn put_group(body: &mut Vec<u8>, group: &GroupLine<'_>) -> io::Result<()> {
     put_group_kind(body, group)?;
     put_group_names(body, &group.names)?;
-    writeln!(body, ", at most {} connections", group.most)?;
+    write!(body, ", at most {} connections", group.most)?;
+    if let Some(count) = group.partings {
+        write!(body, ", shared by transactions, {count} partings")?;
+    }
+    writeln!(body, "")?;
     if group.paused.is_some() {
         writeln!(
             body,
@@ -111,12 +119,22 @@ pub fn put_socket(body: &mut Vec<u8>, socket: &SocketLine<'_>) -> io::Result<()>
     let (role, number, at) = (socket.role.words(), socket.number, socket.at.words());
     write!(body, "  {role} {number} {at}")?;
     put_partner(body, socket)?;
+    put_rest(body, socket)?;
     put_seconds(body, socket)?;
     put_names(body, socket)?;
     if let Role::Connection = socket.role {
         write!(body, " (SPID {}, server {})", socket.spid, socket.server)?;
     }
     writeln!(body, "")
+}
+
+/// Whether it rests, where somebody holds it.
+fn put_rest(body: &mut Vec<u8>, socket: &SocketLine<'_>) -> io::Result<()> {
+    match (socket.rests, socket.partner) {
+        (Some(true), Some(_)) => write!(body, " and rests"),
+        (Some(false), Some(_)) => write!(body, " and doesn't rest"),
+        _ => Ok(()),
+    }
 }
 
 fn put_seconds(body: &mut Vec<u8>, socket: &SocketLine<'_>) -> io::Result<()> {

@@ -37,9 +37,11 @@ fn put_at(body: &mut Vec<u8>, socket: &SocketLine<'_>) -> io::Result<()> {
 fn put_process(body: &mut Vec<u8>, socket: &SocketLine<'_>) -> io::Result<()> {
     if let Role::Connection = socket.role {
         let (spid, server) = (socket.spid, socket.server);
-        write!(body, ",\"spid\":{spid},\"server\":{server}")
-    } else {
-        Ok(())
+        write!(body, ",\"spid\":{spid},\"server\":{server}")?;
+    }
+    match socket.rests {
+        Some(rests) => write!(body, ",\"rests\":{rests}"),
+        None => Ok(()),
     }
 }
 
@@ -91,6 +93,9 @@ pub fn put_json_group(body: &mut Vec<u8>, group: &GroupLine<'_>) -> io::Result<(
 fn put_sharing(body: &mut Vec<u8>, group: &GroupLine<'_>) -> io::Result<()> {
     let is_shared = if group.is_shared { "true" } else { "false" };
     write!(body, ",\"most\":{},\"shared\":{is_shared}", group.most)?;
+    if let Some(count) = group.partings {
+        write!(body, ",\"partings\":{count}")?;
+    }
     match group.paused {
         Some(seconds) => write!(body, ",\"paused_seconds\":{seconds}"),
         None => Ok(()),

@@ -11,3 +11,4 @@ pub mod Resting
 pub mod Tellings
 pub mod Letters
 pub mod Pieces
+mod Saying

@@ -34,6 +34,11 @@ unfoldable pub session_said : List Remark → Session
 session_said [] = session_at_login
 session_said (r ∷ past) = remarked (session_said past) r
 
+-- what such a past made of a session
+pub record HasPast (s : Session) : Type 0 where
+  pub past : List Remark
+  pub is : s ≡ session_said past
+
 -- ---- The server tells its states (MS-TDS 2.2.7.11, 2.2.7.21)
 
 unfoldable pub was_asked : List Remark → Bool

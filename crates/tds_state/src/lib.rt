@@ -6,10 +6,13 @@ mod asked;
 mod hearing;
 mod kept;
 pub mod laws;
+mod packets;
+mod prefix;
 mod session;
 mod states;
 mod tracker;
 mod values;
+mod watch;
 
 pub use asked::{Asked, Request};
 pub use kept::Kept;
@@ -17,6 +20,7 @@ pub use session::{Flight, Session};
 pub use states::StateSpot;
 pub use tracker::Tracker;
 pub use values::Values;
+pub use watch::Watch;
 
 /// The answer of a growth that was refused.
 pub type NoMemory = std::alloc::AllocError;

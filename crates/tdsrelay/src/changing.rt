@@ -123,12 +123,14 @@ impl Program {
         self.house.dismiss(rt, key)
     }
 
-    /// These settings are the ones from now on. Where it listens and tells, and its servers, stay as they were.
+    /// These settings are the ones from now on. Where it listens and tells, its servers, and for how long
+    /// applications keep connections stay as they were.
     fn take_over(&mut self, asked: Asked) {
         let before = self.house.asked;
         self.house.set(Asked {
             listen: before.listen,
             servers: before.servers,
+            share: before.share,
             ends_with_input: before.ends_with_input,
             ..asked
         });

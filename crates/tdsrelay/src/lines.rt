@@ -7,6 +7,7 @@ use relay_settings::{Limits, lesser, server_of};
 use relay_sockets::{Socket, Whose, names_of};
 use relay_status::{At, GroupLine, SocketLine, put_group, put_json_group, put_socket};
 use std::io::{self, Write};
+use tds_relay::Mode;
 
 /// The most of a line that are told.
 const MOST_TOLD: usize = 100;
@@ -90,6 +91,10 @@ impl Program {
             },
             names: names_of(&group.who),
             most: group.most,
+            partings: match group.mode {
+                Mode::Sessions => None,
+                Mode::Transactions => Some(group.partings),
+            },
         }
     }
 
@@ -109,6 +114,7 @@ impl Program {
             peer: socket.peer,
             spid: socket.spid,
             server: server_of(socket.server),
+            rests: socket.rests(),
         }
     }
 

@@ -80,6 +80,7 @@ impl Program {
         for key in keys.iter() {
             self.sweep_one(rt, *key)?;
         }
+        self.house.part_all(rt)?;
         self.house.dial_held(rt)?;
         self.house.judge_all(rt)?;
         self.house.look_after_names(rt)?;
@@ -218,8 +219,12 @@ impl Program {
         }
     }
 
-    /// Closes it. An application is told why, where nothing else waits for it.
+    /// Closes it, or parts it from the connection that it has held for too long, where it loses nothing by that.
+    /// An application is told why, where nothing else waits for it.
     fn end<R: Net>(&mut self, rt: &R, key: usize, why: Why) -> io::Result<()> {
+        if matches!(why, Why::Hold) && self.house.part_one(rt, key)? {
+            return Ok(());
+        }
         self.count(why);
         self.house.say("socket", key, why.words());
         let whose = match self.house.sockets.get(key) {

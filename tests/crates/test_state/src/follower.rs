@@ -1,8 +1,8 @@
-//! A tracker, and a walker over what its server says.
+//! A tracker, and a walker over what its server says; or a watch, which has both.
 
 use std::alloc::{AllocError, Global};
 use tds_packet::Reset;
-use tds_state::{Request, Tracker};
+use tds_state::{Request, Tracker, Watch};
 use tds_wire::{Features, Walker};
 
 /// A step that can't be read, or whose bytes are no answer.
@@ -13,6 +13,8 @@ pub(crate) struct StepFault;
 pub(crate) struct Follower {
     tracker: Tracker,
     walker: Walker,
+    watch: Watch,
+    is_watched: bool,
 }
 
 impl Follower {
@@ -24,15 +26,22 @@ impl Follower {
         Ok(Follower {
             tracker: Tracker::new(alloc)?,
             walker: Walker::new(alloc, 64, features)?,
+            watch: Watch::new(alloc, features)?,
+            is_watched: false,
         })
     }
 
     pub(crate) fn rests(&self) -> bool {
-        self.tracker.rests()
+        if self.is_watched {
+            self.watch.rests()
+        } else {
+            self.tracker.rests()
+        }
     }
 
     /// Does a step: `hear BYTES` is a whole message of the server's, `part BYTES` one that goes on; `batch`, `call` or
-    /// `load`, behind it `full` or `keep` and the body's bytes; `more BYTES` of a body; `cancel`.
+    /// `load`, behind it `full` or `keep` and the body's bytes; `more BYTES` of a body; `cancel`. `login BYTES` begins a
+    /// watch; `out BYTES` and `in BYTES` are packets.
     pub(crate) fn step(
         &mut self,
         alloc: Global,
@@ -52,6 +61,13 @@ impl Follower {
                     return Ok(Err(StepFault));
                 };
                 self.send(bytes.as_slice(), size);
+                return Ok(Ok(()));
+            }
+            "login" | "out" | "in" => {
+                let Some(bytes) = bytes_of(alloc, rest)? else {
+                    return Ok(Err(StepFault));
+                };
+                self.watch_step(verb, bytes.as_slice(), size);
                 return Ok(Ok(()));
             }
             "cancel" => {
@@ -75,6 +91,27 @@ impl Follower {
         self.tracker.ask(kind, reset);
         self.send(bytes.as_slice(), size);
         Ok(Ok(()))
+    }
+
+    fn watch_step(&mut self, verb: &str, bytes: &[u8], size: usize) {
+        if verb == "login" {
+            self.watch.let_in(bytes);
+            self.is_watched = true;
+            return;
+        }
+        let mut left = bytes;
+        for _ in 0..bytes.len() {
+            if left.is_empty() {
+                return;
+            }
+            let (piece, others) = left.split_at(left.len().min(size.max(1)));
+            if verb == "out" {
+                self.watch.sent(piece);
+            } else {
+                self.watch.came(piece);
+            }
+            left = others;
+        }
     }
 
     fn send(&mut self, bytes: &[u8], size: usize) {
