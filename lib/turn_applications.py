@@ -10,7 +10,7 @@ from peers import ATTENTION, PATIENCE, login, with_features
 from turn_sessions import DATABASE, LANGUAGE, LAST, Session, Vices, ends_with
 from turn_tokens import (
     ACKNOWLEDGED, BATCH, CALL, DONE, END, EXECUTE, LOAD, RECOVERY, RESET, RESET_BUT_TRANSACTION, UNPREPARE,
-    calls_body, change, done, headers, let_in, packets, tokens)
+    calls_body, change, done, headers, let_in, packets, text_of, tokens)
 
 # All that another one's session could have left.
 EVERYTHING = "get a;get b;get c;get t;get level;get text;where;open;sum b;unlock;hidden"
@@ -111,7 +111,8 @@ class Application:
         self.writer.write(packets(kind, data if kind == LOAD else headers(self.descriptor) + data, status))
         return change(18, b"") if resets else b""
 
-    async def asks_so(self, what, kind, data, parts, end, status=END):
+    async def exchange(self, what, kind, data, parts, end, status=END):
+        """Asks, and is answered what its own session answers to that: its parts, its news, and this end."""
         self.trace.append(what)
         first = self.send(kind, data, status)
         told = await self.hear()
@@ -119,15 +120,17 @@ class Application:
         return told
 
     async def ask(self, text, status=END):
-        return await self.asks_so((text, status), BATCH, text.encode("utf-16le"), self.own.batch(text), ends_with("batch"), status)
+        parts = self.own.batch(text)
+        return await self.exchange((text, status), BATCH, text_of(text), parts, ends_with("batch"), status)
 
     async def call(self, *calls):
-        real = [(name, self.handles.get(value, value) if name in (EXECUTE, UNPREPARE) else value) for name, value in calls]
-        return await self.asks_so(calls, CALL, calls_body(real), self.own.calls(calls), ends_with("calls"))
+        real = [(name, self.handles.get(value, value) if name in (EXECUTE, UNPREPARE) else value)
+                for name, value in calls]
+        return await self.exchange(calls, CALL, calls_body(real), self.own.calls(calls), ends_with("calls"))
 
     async def load(self, count):
         data = bytes(4 * count)
-        return await self.asks_so("load", LOAD, data, self.own.load(data), ends_with("load", data))
+        return await self.exchange("load", LOAD, data, self.own.load(data), ends_with("load", data))
 
     async def cancels(self):
         """Cancels what it has asked, or nothing, and gives what it is told up to the acknowledgement."""
@@ -141,7 +144,7 @@ class Application:
         """A batch that is cancelled once this has come. Its server has done all of it, none, or the front of it: gives
         the sessions that could have said what is told."""
         self.trace.append(("cancelled", text))
-        self.send(BATCH, text.encode("utf-16le"))
+        self.send(BATCH, text_of(text))
         await when
         told = await self.cancels()
         possible = [own for own, said in self.possible(text) if compared(told) == compared(said)]
@@ -152,7 +155,7 @@ class Application:
     async def finds(self, possible):
         """Asks which of these sessions it has: one of them."""
         self.trace.append("digest")
-        self.send(BATCH, "digest".encode("utf-16le"))
+        self.send(BATCH, text_of("digest"))
         told = await self.hear()
         for self.own in possible:
             if compared(told) == compared(tokens(b"".join(self.own.batch("digest")) + self.news() + done())):

@@ -8,7 +8,7 @@ from peers import PATIENCE
 from turn_applications import EVERYTHING, Application, Wrong
 from turn_tokens import (
     ACKNOWLEDGED, BATCH, END, EXECUTE, EXECUTE_SQL, PREPARE, PREPARE_AND_EXECUTE, RESET, RESET_BUT_TRANSACTION,
-    UNPREPARE, done, headers, packets, tokens)
+    UNPREPARE, done, headers, packets, text_of, tokens)
 
 
 class Deeds:
@@ -57,7 +57,7 @@ class Deeds:
             self.untold[gets] = self.rng.randrange(1, 1 << 30)
             return await self.it.ask(sets.format(self.untold[gets]))
         self.it.trace.append(gets)
-        self.it.send(BATCH, gets.encode("utf-16le"))
+        self.it.send(BATCH, text_of(gets))
         told = await self.it.hear()
         wanted = [[("columns", 1), ("row", value)] for value in (0, self.untold[gets])]
         if told[:2] not in wanted:
@@ -129,7 +129,8 @@ class Deeds:
     async def cancelled(self):
         first, name = self.rng.randrange(100_000), self.name
         text = self.rng.choice([
-            f"rows {first} {self.rng.randrange(20, 900)}", f"set {name} 2;rows {first} {self.rng.randrange(20, 400)};set {name} 0",
+            f"rows {first} {self.rng.randrange(20, 900)}",
+            f"set {name} 2;rows {first} {self.rng.randrange(20, 400)};set {name} 0",
             f"rows {first} 60;set {name} 1;rows 5 200", f"rows 1 40;use d1;rows {first} 100;use d0",
             f"rows 1 40;create z;rows {first} 200;drop z", f"set {name} 1;rows {first} 100"])
         await self.it.finds(await self.it.cancelled(text, asyncio.sleep(self.rng.choice([0, self.rng.random() * 0.02]))))
@@ -154,13 +155,13 @@ class Deeds:
         self.it.same("a cancel of nothing", await self.it.cancels(), tokens(done(ACKNOWLEDGED)))
 
     async def half(self):
-        self.it.send(BATCH, "se".encode("utf-16le"), 0)
+        self.it.send(BATCH, text_of("se"), 0)
         await self.idle()
 
     async def ends(self):
         """It ends behind a part of its request, or in the middle of its answer."""
         text = self.rng.choice(["set a 2;create q;begin;rows 1 400", "begin", "set b 1", "use d3", "hide 7;insert bulk t"])
-        whole = packets(BATCH, headers(self.it.descriptor) + text.encode("utf-16le"))
+        whole = packets(BATCH, headers(self.it.descriptor) + text_of(text))
         cut = self.rng.choice([len(whole), self.rng.randrange(len(whole) + 1)])
         self.it.writer.write(whole[:cut])
         await self.it.writer.drain()

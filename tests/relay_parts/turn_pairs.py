@@ -124,8 +124,9 @@ async def played(pair, deed):
         await deed(pair)
         await pair.end()
     finally:
-        if pair.task and not pair.task.done():
-            pair.task.cancel()
+        # Where the first one has met something wrong, what the second one is at doesn't matter.
+        if pair.task and not pair.task.cancel() and not pair.task.cancelled():
+            pair.task.exception()
 
 
 def play(program, cases, deed, wanted, vices, words, who):
@@ -133,7 +134,8 @@ def play(program, cases, deed, wanted, vices, words, who):
     with Server(vices) as server, Relay(program, server.port, "--most", "1", *words) as relay:
         pair = Pair(relay, server, **who)
         asyncio.run(played(pair, deed))
-        cases.check(f"{deed.__name__}: its connection is {wanted or 'kept or shared'}", not wanted or pair.found == wanted, pair.found)
+        is_so = pair.found in ([wanted] if wanted else ["kept", "shared"])
+        cases.check(f"{deed.__name__}: its connection is {wanted or 'kept or shared'}", is_so, pair.found)
 
 
 def beside(cases, scenes):

@@ -6,7 +6,8 @@ What `pair.other()` is, turn_states says.
 from turn_pairs import case, kept, shared
 from turn_sessions import Vices, ends_with
 from turn_tokens import (
-    ACKNOWLEDGED, BATCH, CALL, END, EXECUTE, EXECUTE_SQL, PREPARE, PREPARE_AND_EXECUTE, RESET, RESET_BUT_TRANSACTION, UNPREPARE, calls_body, done, headers, packets, rows, tokens, wide_rows)
+    ACKNOWLEDGED, BATCH, CALL, END, EXECUTE, EXECUTE_SQL, PREPARE, PREPARE_AND_EXECUTE, RESET, RESET_BUT_TRANSACTION,
+    UNPREPARE, calls_body, done, headers, packets, rows, text_of, tokens, wide_rows)
 
 
 # ---- Transactions
@@ -196,7 +197,7 @@ async def cancel_of_nothing(pair):
 
 @kept()
 async def answer_to_come(pair):
-    pair.a.send(BATCH, "wait;get a".encode("utf-16le"))
+    pair.a.send(BATCH, text_of("wait;get a"))
     await pair.waits()
     await pair.other()
     pair.server.go_on()
@@ -209,7 +210,7 @@ async def answer_that_is_not_read(pair):
     """It is more than all sockets on its way hold."""
     with open("/proc/sys/net/ipv4/tcp_wmem", encoding="ascii") as it:
         count = 1000 + int(it.read().split()[2]) // 1000
-    pair.a.send(BATCH, f"fill {count}".encode("utf-16le"))
+    pair.a.send(BATCH, text_of(f"fill {count}"))
     await pair.stuck()
     await pair.other()
     if await pair.a.message() != wide_rows(count) + ends_with("batch"):
@@ -219,7 +220,7 @@ async def answer_that_is_not_read(pair):
 
 @kept()
 async def half_of_a_request(pair):
-    whole = packets(BATCH, headers(0) + ("get a" + " " * 200).encode("utf-16le"), most=100)
+    whole = packets(BATCH, headers(0) + text_of("get a" + " " * 200), most=100)
     pair.a.writer.write(whole[:108])
     await pair.other()
     pair.a.writer.write(whole[108:])
@@ -230,7 +231,7 @@ async def half_of_a_request(pair):
 @case(None)
 async def part_of_a_packet(pair):
     """Nothing has gone on: it may be parted, or not."""
-    whole = packets(BATCH, headers(0) + "get a".encode("utf-16le"))
+    whole = packets(BATCH, headers(0) + text_of("get a"))
     pair.a.writer.write(whole[:20])
     await pair.other()
     pair.a.writer.write(whole[20:])
@@ -240,7 +241,7 @@ async def part_of_a_packet(pair):
 
 @shared()
 async def half_of_a_request_that_is_cancelled(pair):
-    pair.a.writer.write(packets(BATCH, headers(0) + "get".encode("utf-16le"), 0))
+    pair.a.writer.write(packets(BATCH, headers(0) + text_of("get"), 0))
     pair.a.same("its cancel", await pair.a.cancels(), tokens(done(ACKNOWLEDGED)))
     await pair.a.ask("get a")
     await pair.other()

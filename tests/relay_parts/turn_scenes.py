@@ -11,7 +11,7 @@ from relay_told import Relay
 from turn_applications import EVERYTHING, Application
 from turn_pairs import CLEANING, PATIENCE, ROUNDS, SHARES, beside, until
 from turn_server import Server
-from turn_tokens import ACKNOWLEDGED, BATCH, END, RESET, done, tokens
+from turn_tokens import ACKNOWLEDGED, BATCH, END, RESET, done, text_of, tokens
 
 # Its connection has ended.
 LOST = 50109
@@ -49,7 +49,7 @@ async def waits(relay, count=1):
 
 async def is_ended(one, text):
     """Whether an application is told at its next request that its connection has ended, and then ends."""
-    one.send(BATCH, text.encode("utf-16le"))
+    one.send(BATCH, text_of(text))
     told = await one.hear()
     return told[0] == ("error", LOST) and await one.reader.read() == b""
 
@@ -109,7 +109,7 @@ async def goes_on_elsewhere(cases, server, relay, one, two, three):
 
 async def parted_waits(cases, relay, parted):
     """Both connections have a transaction: who was parted waits, and takes that back."""
-    parted.send(BATCH, "get a".encode("utf-16le"))
+    parted.send(BATCH, text_of("get a"))
     await waits(relay)
     cancels_nothing(parted, await parted.cancels())
     cases.same("who cancels waits no more", relay.json()["applications_waiting"], 0)
@@ -117,7 +117,7 @@ async def parted_waits(cases, relay, parted):
 
 @scene(count=6)
 async def all_in_turn(cases, server, relay, *ones):
-    """Six on one connection, all at once, again and again; then each fifth of their requests is a transaction."""
+    """Six on one connection, all at once, again and again; then each in a transaction."""
     for number in range(10):
         await served(*(it.ask(f"rows {place * 1000 + number} 30;get a") for place, it in enumerate(ones)))
     for _ in range(3):
@@ -150,13 +150,13 @@ async def leaves_while_it_is_parted(cases, server, relay, one, two):
 async def cancels_while_it_is_parted(cases, server, relay, one, two):
     """An attention reaches nobody else's request."""
     await one.ask("get a")
-    two.send(BATCH, "wait;get a".encode("utf-16le"))
+    two.send(BATCH, text_of("wait;get a"))
     await until(lambda: server.is_waited_at, "the server's wait")
     cancels_nothing(one, await one.cancels())
-    one.send(BATCH, "get a".encode("utf-16le"))
+    one.send(BATCH, text_of("get a"))
     await waits(relay)
     cancels_nothing(one, await one.cancels())
-    one.send(BATCH, "get a".encode("utf-16le"))
+    one.send(BATCH, text_of("get a"))
     await waits(relay)
     await one.leave()
     server.go_on()
