@@ -6,27 +6,26 @@ What is wanted is written by hand.
 
 import asyncio
 
-from cases import ran
 from relay_told import Relay
 from turn_applications import EVERYTHING, Application
 from turn_pairs import CLEANING, PATIENCE, ROUNDS, SHARES, beside, until
 from turn_server import Server
 from turn_tokens import ACKNOWLEDGED, BATCH, END, RESET, done, text_of, tokens
 
-# Its connection has ended.
-LOST = 50109
+# It holds a connection for long; its connection has ended.
+LATE_HOLD, LOST = 50102, 50109
 SCENES = []
 
 
-def scene(most=1, count=2):
+def scene(most=1, count=2, words=()):
     """A scene of so many applications that ask for session recovery, at a relay with so many connections."""
     def add(deed):
-        SCENES.append((deed, most, count))
+        SCENES.append((deed, most, count, words))
         return deed
     return add
 
 
-def play(program, cases, deed, most, count):
+def play(program, cases, deed, most, count, words):
     async def run(port, server, relay):
         ones = [await Application(port, server.vices).connect() for _ in range(count)]
         await deed(cases, server, relay, *ones)
@@ -34,7 +33,7 @@ def play(program, cases, deed, most, count):
             await it.leave()
         await until(lambda: not server.left_over(), f"nothing left over, but {server.left_over()}")
 
-    with Server() as server, Relay(program, server.port, "--most", str(most), *SHARES) as relay:
+    with Server() as server, Relay(program, server.port, "--most", str(most), *SHARES, *words) as relay:
         asyncio.run(asyncio.wait_for(run(relay.port, server, relay), 4 * PATIENCE))
 
 
@@ -47,11 +46,11 @@ async def waits(relay, count=1):
     await until(lambda: relay.json()["applications_waiting"] == count, f"{count} in the line")
 
 
-async def is_ended(one, text):
-    """Whether an application is told at its next request that its connection has ended, and then ends."""
+async def is_ended(one, text, error=LOST):
+    """Whether an application is told this at its next request, and then ends."""
     one.send(BATCH, text_of(text))
     told = await one.hear()
-    return told[0] == ("error", LOST) and await one.reader.read() == b""
+    return told[0] == ("error", error) and await one.reader.read() == b""
 
 
 def cancels_nothing(one, told):
@@ -70,6 +69,8 @@ async def on_the_wire(cases, server, relay, one, two):
     texts = [asked if asked == CLEANING else asked[1] for asked in server.asked_on(one.process)]
     cases.same("what was asked there", texts, [CLEANING, "get a", "get b", CLEANING, "get c", CLEANING, "get t", "get a"])
     cases.same("what it was asked to recover", server.logins, [(one.process, b"")])
+    found = relay.json()
+    cases.same("each turn is counted", (found["groups"][0]["partings"], found["total_done_partings"]), (2, 2))
 
 
 @scene(most=2)
@@ -243,8 +244,38 @@ async def by_sessions_beside(cases, server, relay, one, two):
     cases.same("what logins ask to recover", sorted((it for _, it in server.logins), key=str), [None, b""])
 
 
+@scene(words=("--hold", "1"))
+async def held_too_long(cases, server, relay, one, two):
+    """Who rests is parted, though nobody waits, and goes on; who has something there is told and ends."""
+    await one.ask("get a")
+    await two.ask("set a 1")
+    await until(lambda: relay.json()["total_limits_hold"] == 1, "the limit")
+    cases.check("who has a setting is told at its next request", await is_ended(two, "get a", LATE_HOLD))
+    await one.ask(EVERYTHING)
+    await until(lambda: not relay.json()["connections_held"], "who rests is parted")
+    await one.ask(EVERYTHING)
+    cases.same("nobody else met the limit", relay.json()["total_limits_hold"], 1)
+
+
+@scene(words=("--total", "1"))
+async def others_of_another_kind(cases, server, relay, one, two):
+    """Where no connection more may be open at all, one that rests gives way to who shares others."""
+    three = await Application(relay.port, locale=1).connect()
+    await one.ask("get a")
+    await three.ask(EVERYTHING)
+    await one.ask("set a 1")
+    late = asyncio.ensure_future(three.ask(EVERYTHING))
+    await waits(relay)
+    await two.leave()
+    await one.ask("get a;set a 0")
+    await served(late)
+    await one.ask(EVERYTHING)
+    cases.same("there is one connection", len(server.peers), 1)
+    await three.leave()
+
+
 def from_file(program, cases, room):
-    """By its name in the file; and a word that is none."""
+    """By its name in the file."""
     path = f"{room}/turns.toml"
     with open(path, "w", encoding="ascii") as file:
         file.write('share = "transaction"\nmost = 1\n')
@@ -258,8 +289,7 @@ def from_file(program, cases, room):
 
     with Server() as server, Relay(program, server.port, "--config", path) as relay:
         asyncio.run(run(relay.port))
-    _, told, status = ran([program, "127.0.0.1:0", "127.0.0.1:1", "--share", "request"])
-    cases.check("what is no way of sharing", status == 2 and b"share" in told, (status, told))
+        cases.same("by a file, there is one connection", len(server.logins), 1)
 
 
 def scenes(program, cases, room):
