@@ -7,7 +7,6 @@ import random
 import time
 
 from peers import Relay
-from processes import processor
 from turn_applications import Application, Wrong
 from turn_server import Server
 from turn_tokens import PREPARE
@@ -29,16 +28,16 @@ def serves(way):
 class Many:
     """Applications that stay, ask, think and ask again: what was served."""
 
-    def __init__(self, port, transactions, prepare):
-        self.port, self.transactions, self.prepare = port, transactions, prepare
-        self.took, self.served, self.wrong = [], set(), []
+    def __init__(self, transactions, prepare):
+        self.transactions, self.prepare = transactions, prepare
+        self.took, self.served, self.wrong, self.is_over = [], set(), [], False
 
-    async def one(self, place):
+    async def one(self, port, asks, place):
         rng = random.Random(place)
         await asyncio.sleep(rng.random())
-        it = await Application(self.port, asks=self.asks).connect()
+        it = await Application(port, asks=asks).connect()
         prepares = rng.random() * 100 < self.prepare
-        while True:
+        while not self.is_over:
             await asyncio.sleep(rng.expovariate(1 / THINKS))
             is_many = rng.random() * 100 < self.transactions
             for text in ("begin", "set t 1;get t", "rollback") if is_many else ("get a",):
@@ -48,16 +47,16 @@ class Many:
                 self.took.append(time.monotonic() - before)
                 self.served.add(place)
 
-    async def guarded(self, place):
+    async def guarded(self, *words):
         try:
-            await self.one(place)
+            await self.one(*words)
         except (Wrong, OSError, asyncio.IncompleteReadError, asyncio.TimeoutError) as error:
-            self.wrong.append(f"{place}: {error!r}"[:500])
+            self.wrong.append(repr(error)[:500])
 
-    async def run(self, asks):
-        self.asks = asks
-        tasks = [asyncio.ensure_future(self.guarded(place)) for place in range(APPLICATIONS)]
+    async def run(self, port, asks):
+        tasks = [asyncio.ensure_future(self.guarded(port, asks, place)) for place in range(APPLICATIONS)]
         await asyncio.wait(tasks, timeout=SECONDS)
+        self.is_over = True
         for it in tasks:
             it.cancel()
         await asyncio.wait(tasks)
@@ -65,23 +64,22 @@ class Many:
 
 def line(program, port, name, way, kind):
     """One row of the table, and what was wrong."""
-    many = Many(port, *kind)
+    many = Many(*kind)
     place = type("Place", (), {"port": port})
     words = ["--share", way] if way == "transaction" else []
     with Relay(program, place, CONNECTIONS, *words) as relay:
-        asyncio.run(many.run(way == "transaction"))
-        each = processor(relay.child.pid) / max(len(many.took), 1)
+        asyncio.run(many.run(relay.port, way == "transaction"))
     took = sorted(many.took) or [0]
     half, most = (1000 * took[int(share * (len(took) - 1))] for share in (0.5, 0.99))
-    print(f"| {name} | {way} | {len(many.took) / SECONDS:.0f} | {len(many.served)} | {half:.1f} | {most:.1f} | {each * 1e6:.0f} |", flush=True)
+    print(f"| {name} | {way} | {len(many.took) / SECONDS:.0f} | {len(many.served)} | {half:.1f} | {most:.1f} |", flush=True)
     return many.wrong
 
 
 def share(program):
     """The table; whether no answer was wrong."""
     print(f"{APPLICATIONS} applications on {CONNECTIONS} connections, each thinks {THINKS} s on average, {SECONDS} s:\n")
-    print("| What they do | By | Requests a second | Served | Median, ms | 99th of 100, ms | The relay's processor, us a request |")
-    print("|---|---|---|---|---|---|---|", flush=True)
+    print("| What they do | By | Requests a second | Served | Median, ms | 99th of 100, ms |")
+    print("|---|---|---|---|---|---|", flush=True)
     wrong = []
     for name, kind in KINDS.items():
         for way in ("session", "transaction"):

@@ -95,7 +95,7 @@ class Pair:
         await self.b.leave()
         await self.clock.leave()
         await until(lambda: not self.relay.json()["connections_held"], "connections that nobody holds")
-        await until(lambda: not self.server.left_over(), f"nothing left over, but {self.server.left_over()}")
+        await until(lambda: not self.server.left_over(), "sessions in which nothing is left")
 
 
 CASES = []

@@ -31,7 +31,7 @@ def play(program, cases, deed, most, count, words):
         await deed(cases, server, relay, *ones)
         for it in ones:
             await it.leave()
-        await until(lambda: not server.left_over(), f"nothing left over, but {server.left_over()}")
+        await until(lambda: not server.left_over(), "sessions in which nothing is left")
 
     with Server() as server, Relay(program, server.port, "--most", str(most), *SHARES, *words) as relay:
         asyncio.run(asyncio.wait_for(run(relay.port, server, relay), 4 * PATIENCE))
