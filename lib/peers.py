@@ -141,6 +141,18 @@ def login(version=0x74000004, size=4096, more=0):
     return packet(0x10, struct.pack("<III", 94 + more, version, size) + bytes(82 + more))
 
 
+def with_features(*features):
+    """A LOGIN7 that asks for these features (MS-TDS 2.2.6.4): a number and data each."""
+    block = b"".join(bytes([number]) + struct.pack("<I", len(data)) + data for number, data in features) + b"\xff"
+    data = bytearray(login(more=4 + len(block)))[8:]
+    data[27] |= 0x10
+    struct.pack_into("<HH", data, 56, 94, 4)
+    struct.pack_into("<I", data, 94, 98)
+    data[98:] = block
+    struct.pack_into("<I", data, 0, len(data))
+    return packet(0x10, bytes(data))
+
+
 def batch(text, descriptor=0, status=1):
     """A batch behind its headers, inside of this transaction (MS-TDS 2.2.6.7, 2.2.5.3.2)."""
     headers = struct.pack("<IIHQI", 22, 18, 2, descriptor, 1)

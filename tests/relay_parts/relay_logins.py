@@ -4,7 +4,7 @@ import socket
 import struct
 import time
 
-from peers import ATTENTION, PATIENCE, Relay, batch, connect, login, message, packet
+from peers import ATTENTION, PATIENCE, Relay, batch, connect, login, message, packet, with_features
 from relay_applications import Application, tokens
 from relay_servers import DONE, Before, ack, federated, routing, sspi, until_some
 
@@ -17,18 +17,6 @@ def named(**places):
     for place, bits in places.items():
         data[8 + int(place[1:])] |= bits
     return bytes(data)
-
-
-def with_features(*features):
-    """A LOGIN7 that asks for these features (MS-TDS 2.2.6.4): a number and data each."""
-    block = b"".join(bytes([number]) + struct.pack("<I", len(data)) + data for number, data in features) + b"\xff"
-    data = bytearray(login(more=4 + len(block)))[8:]
-    data[27] |= 0x10
-    struct.pack_into("<HH", data, 56, 94, 4)
-    struct.pack_into("<I", data, 94, 98)
-    data[98:] = block
-    struct.pack_into("<I", data, 0, len(data))
-    return packet(0x10, bytes(data))
 
 
 def closed(link, seconds=PATIENCE):

@@ -1,0 +1,276 @@
+"""Cases of tests/relay_turns: what is asked: transactions, calls, bulk loads, cancels, resets, and what is underway.
+
+What `pair.other()` is, turn_states says.
+"""
+
+from turn_pairs import case, kept, shared
+from turn_sessions import Vices, ends_with
+from turn_tokens import (
+    ACKNOWLEDGED, BATCH, CALL, END, EXECUTE, EXECUTE_SQL, PREPARE, PREPARE_AND_EXECUTE, RESET, RESET_BUT_TRANSACTION,
+    UNPREPARE, calls_body, done, headers, packets, rows, text_of, tokens, wide_rows)
+
+
+# ---- Transactions
+
+
+@kept()
+async def transaction(pair):
+    await pair.a.ask("begin")
+    await pair.other()
+    await pair.a.ask("open;commit")
+    await pair.served()
+    await pair.a.ask("open")
+
+
+@kept()
+async def transaction_that_a_reset_keeps(pair):
+    """What a full reset would clear may be there still."""
+    await pair.a.ask("begin")
+    await pair.a.ask("open", END | RESET_BUT_TRANSACTION)
+    await pair.a.ask("commit")
+    await pair.other()
+    await pair.a.ask("open")
+
+
+@shared()
+async def transactions_that_ended(pair):
+    await pair.a.ask("begin")
+    await pair.a.ask("commit")
+    await pair.a.ask("begin")
+    await pair.a.ask("rollback")
+    await pair.other()
+    await pair.a.ask("open")
+
+
+# ---- Calls
+
+
+@kept()
+async def prepared(pair):
+    await pair.a.call((PREPARE, "get b"))
+    await pair.other()
+    await pair.a.call((EXECUTE, 1))
+
+
+@kept()
+async def prepared_and_executed(pair):
+    await pair.a.call((PREPARE_AND_EXECUTE, "get b"))
+    await pair.other()
+    await pair.a.call((EXECUTE, 1))
+
+
+@kept()
+async def prepared_and_unprepared(pair):
+    """Handles aren't counted."""
+    await pair.a.call((PREPARE, "get b"))
+    await pair.a.call((UNPREPARE, 1))
+    await pair.other()
+    await pair.a.call((EXECUTE, 1))
+
+
+@kept()
+async def prepared_and_then_asked(pair):
+    await pair.a.call((PREPARE, "get b"))
+    await pair.a.ask("get a")
+    await pair.other()
+    await pair.a.call((EXECUTE, 1))
+
+
+@kept()
+async def prepared_behind_another_call(pair):
+    """A message of two calls, of which the first one's name alone is harmless."""
+    await pair.a.call((EXECUTE_SQL, "get a"), (PREPARE, "get b"))
+    await pair.other()
+    await pair.a.call((EXECUTE, 1))
+
+
+@shared()
+async def executed(pair):
+    await pair.a.call((EXECUTE_SQL, "get a"))
+    await pair.a.call(("sp_executesql", "get a"))
+    await pair.other()
+    await pair.a.call((EXECUTE_SQL, "get a"))
+
+
+@shared()
+async def plain_name(pair):
+    await pair.a.call(("dbo.echo", 5))
+    await pair.other()
+    await pair.a.call(("dbo.echo", 6))
+
+
+@kept()
+async def name_of_the_system(pair):
+    await pair.a.call(("sys.sp_other", 5))
+    await pair.other()
+
+
+# ---- Bulk loads
+
+
+@kept()
+async def load_to_come(pair):
+    await pair.a.ask("insert bulk t")
+    await pair.other()
+    await pair.a.load(10)
+
+
+@shared()
+async def load_that_came(pair):
+    await pair.a.ask("insert bulk t")
+    await pair.a.load(10)
+    await pair.a.ask("set c 0")
+    await pair.other()
+    await pair.a.ask("get c")
+
+
+# ---- Cancels: their server waits until it is cancelled
+
+
+async def cancelled(pair):
+    """A batch whose server has changed a state, and hasn't changed it back."""
+    return await pair.a.cancelled("set a 1;rows 1 20;wait;set a 0", pair.waits())
+
+
+@kept()
+async def cancelled_behind_a_setting(pair):
+    possible = await cancelled(pair)
+    await pair.other()
+    await pair.a.finds(possible)
+    await pair.a.ask("get a;set a 0")
+    await pair.served()
+
+
+@kept(vices=Vices(is_late=True))
+async def cancelled_where_it_is_told_late(pair):
+    """The server tells what it has changed with its next answer."""
+    possible = await cancelled(pair)
+    await pair.other()
+    await pair.a.finds(possible)
+    await pair.a.ask("get a;set a 0")
+    await pair.served()
+
+
+@kept(vices=Vices(is_late=True))
+async def cancelled_and_asked_where_it_is_told_late(pair):
+    await pair.a.finds(await cancelled(pair))
+    await pair.other()
+    await pair.a.ask("get a")
+
+
+@kept()
+async def cancelled_until_it_is_asked(pair):
+    """One whole answer more is awaited, though nothing was changed."""
+    possible = await pair.a.cancelled("rows 1 20;wait", pair.waits())
+    await pair.other()
+    await pair.a.finds(possible)
+    await pair.served()
+
+
+@shared()
+async def cancelled_and_asked(pair):
+    await pair.a.finds(await pair.a.cancelled("rows 1 20;wait", pair.waits()))
+    await pair.other()
+    await pair.a.ask("get a")
+
+
+@kept()
+async def cancelled_call(pair):
+    """It may have made what isn't told."""
+    pair.a.send(CALL, calls_body([(EXECUTE_SQL, "rows 1 20;wait")]))
+    await pair.waits()
+    pair.a.same("a call", await pair.a.cancels(), tokens(rows(1, 20) + done(ACKNOWLEDGED)))
+    await pair.a.ask("get a")
+    await pair.other()
+    await pair.a.ask("get a")
+
+
+@shared()
+async def cancel_of_nothing(pair):
+    pair.a.same("a cancel of nothing", await pair.a.cancels(), tokens(done(ACKNOWLEDGED)))
+    await pair.other()
+    await pair.a.ask("get a")
+
+
+# ---- What is underway
+
+
+@kept()
+async def answer_to_come(pair):
+    pair.a.send(BATCH, text_of("wait;get a"))
+    await pair.waits()
+    await pair.other()
+    pair.server.go_on()
+    pair.a.same("an answer", await pair.a.hear(), tokens(rows(0, 1) + ends_with("batch")))
+    await pair.served()
+
+
+@kept(room=4096)
+async def answer_that_is_not_read(pair):
+    """It is more than all sockets on its way hold."""
+    with open("/proc/sys/net/ipv4/tcp_wmem", encoding="ascii") as it:
+        count = 1000 + int(it.read().split()[2]) // 1000
+    pair.a.send(BATCH, text_of(f"fill {count}"))
+    await pair.stuck()
+    await pair.other()
+    if await pair.a.message() != wide_rows(count) + ends_with("batch"):
+        raise OSError("another answer")
+    await pair.served()
+
+
+@kept()
+async def half_of_a_request(pair):
+    whole = packets(BATCH, headers(0) + text_of("get a" + " " * 200), most=100)
+    pair.a.writer.write(whole[:108])
+    await pair.other()
+    pair.a.writer.write(whole[108:])
+    pair.a.same("an answer", await pair.a.hear(), tokens(rows(0, 1) + ends_with("batch")))
+    await pair.served()
+
+
+@case(None)
+async def part_of_a_packet(pair):
+    """Nothing has gone on: it may be parted, or not."""
+    whole = packets(BATCH, headers(0) + text_of("get a"))
+    pair.a.writer.write(whole[:20])
+    await pair.other()
+    pair.a.writer.write(whole[20:])
+    pair.a.same("an answer", await pair.a.hear(), tokens(rows(0, 1) + ends_with("batch")))
+    await pair.served()
+
+
+@shared()
+async def half_of_a_request_that_is_cancelled(pair):
+    pair.a.writer.write(packets(BATCH, headers(0) + text_of("get"), 0))
+    pair.a.same("its cancel", await pair.a.cancels(), tokens(done(ACKNOWLEDGED)))
+    await pair.a.ask("get a")
+    await pair.other()
+    await pair.a.ask("get a")
+
+
+# ---- Resets of its own
+
+
+@shared()
+async def reset_behind_all_of_that(pair):
+    await pair.a.call((PREPARE, "get b"))
+    await pair.a.ask("set a 1;create b;use d2;lock;begin")
+    await pair.a.ask("get a", END | RESET)
+    await pair.other()
+    await pair.a.ask("get a;sum b;where;open")
+
+
+@shared()
+async def reset_but_for_no_transaction(pair):
+    await pair.a.ask("get a", END | RESET_BUT_TRANSACTION)
+    await pair.other()
+    await pair.a.ask("get a")
+
+
+@kept()
+async def reset_while_another_waits(pair):
+    """Behind its reset the other one is served, and so is itself, who is told of it."""
+    await pair.a.ask("set a 1;create b;begin")
+    await pair.other()
+    await pair.a.ask("get a;sum b;open", END | RESET)
+    await pair.served()
