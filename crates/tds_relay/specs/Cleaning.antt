@@ -1,5 +1,5 @@
 -- What the relay puts on a connection itself, where an application lets that go: what cancels its request, and a cleaning.
-use Rattle.std.specs.Prelude.{◌≡◌, ◌⊎◌, ℕ, true, List, [], ◌∷◌, ◌++◌, Option, Some, None}
+use Rattle.std.specs.Prelude.{◌≡◌, ◌⊎◌, ◌==◌, ℕ, Bool, true, false, List, [], ◌∷◌, ◌++◌, Option, Some, None, length}
 use Rattle.tds_client.specs.declared.message.MessageKind.TheVariants.{Batch}
 use Rattle.tds_client.specs.Session.{ClientSession}
 use Rattle.tds_client.specs.Streams.{opened}
@@ -8,10 +8,11 @@ use Rattle.tds_service.specs.Table.{client_of}
 use Rattle.tds_service.specs.Ties.{cancel_out}
 use Rattle.tds_relay.specs.declared.desk.Hold.{Hold}
 use Rattle.tds_relay.specs.declared.desk.leaving.Left.{Left}
+use Rattle.tds_relay.specs.declared.link.Link.{Link}
 use Rattle.tds_relay.specs.declared.relay.Relay as code
 use Rattle.tds_relay.specs.Bodies.{ArePut}
-use Rattle.tds_relay.specs.Desk.{find_key}
-use Rattle.tds_relay.specs.Reads.{waits_on}
+use Rattle.tds_relay.specs.Desk.{Brings, Desk, Way, find_key, turn}
+use Rattle.tds_relay.specs.Reads.{bytes_on, waits_on}
 use Rattle.tds_relay.specs.Words.{text_of_cleaning}
 
 -- These bytes are a whole batch of this text, by a client that begins it.
@@ -60,3 +61,14 @@ pub data WaitsBehindEnd (client : Option ClientSession) (old : Option (List ℕ)
 -- where an application held one
 abbrev pub OfItsHold : (Option ClientSession → Option (List ℕ) → Option (List ℕ) → Type 0) → ℕ → code.Relay → (ℕ → Option (List ℕ)) → Type 0
 OfItsHold Left key old now = (hold : Hold) → find_key key old.desk.holds.items ≡ Some hold → Left (client_of hold.lease old.desk.service) (waits_on hold.number old.links.items) (now hold.number)
+
+-- ---- One that has come before any application asked is cleaned first
+
+-- There were connections before; or the desk has done what it does to bring one, of which the service lends none, or memory is refused to its
+-- cleaning.
+abbrev pub IsNotBrought : List Link → Desk → Desk → Type 0
+IsNotBrought links old new = ((length links == 0) ≡ false) ⊎ ((gives : Bool) × (way : Way) × (new ≡ (turn old (Brings gives way)).desk))
+
+-- One is behind them that is open and called so, on which nothing waits; or none is.
+abbrev pub IsFirst : ℕ → List Link → List Link → Type 0
+IsFirst tag old new = (new ≡ old) ⊎ ((l : Link) × (new ≡ old ++ l ∷ []) × (l.tag ≡ Some tag) × (l.is_open ≡ true) × (bytes_on l ≡ []))

@@ -5,7 +5,6 @@ pub mod Away
 pub mod Behind
 pub mod Bodies
 pub mod Bounds
-pub mod Bringing
 pub mod Cleaning
 pub mod Coming
 pub mod Closings

@@ -1,7 +1,7 @@
 //! The first connection of all, which has come before any application asked.
 ghost use Rattle.std.specs.Prelude.{◌≡◌, IfNone, IfOk, IfSome, List, None, OnOk, Some};
 ghost use Rattle.std.specs.Prelude.{true};
-ghost use Rattle.tds_relay.specs.Bringing.{IsFirst, IsNotBrought};
+ghost use Rattle.tds_relay.specs.Cleaning.{IsFirst, IsNotBrought};
 ghost use Rattle.tds_relay.specs.Closings.{ClosesOnly, IsWaiting};
 ghost use Rattle.tds_relay.specs.Closings.{register_in, with_links};
 ghost use Rattle.tds_relay.specs.Fronts.{house_in};
