@@ -19,6 +19,7 @@ use std::marker::Model;
 /// found by halves.
 #[derive(Drop)]
 pub(crate) struct Links {
+    /// Whoever writes to one of these keeps its number.
     pub(crate) list: Vec<Link>,
     places: Vec<Indexed<usize>>,
 }

@@ -1,6 +1,6 @@
 -- What is held, beside what stands by its ids.
 use Rattle.std.proofs.Common.{◌≡◌, ◌∙◌, ℕ, Bool, true, false, ◌==◌, List, [], ◌∷◌, ◌++◌, refl, sym, ap}
-use Rattle.std.specs.Prelude.{filter, Option, Some, None, if◌then◌else◌}
+use Rattle.std.specs.Prelude.{filter, Option, Some, if◌then◌else◌}
 use Rattle.tds_relay.specs.declared.desk.Hold.{Hold}
 use Rattle.tds_relay.specs.declared.index.Indexed.{Indexed}
 use Rattle.tds_relay.specs.Desk.{find_key, find_lease, find_number}

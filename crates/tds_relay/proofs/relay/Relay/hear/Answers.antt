@@ -1,4 +1,4 @@
-use Rattle.std.proofs.Common.{List, Option, ap, length, refl, sym, ◌∙◌, rules}
+use Rattle.std.proofs.Common.{Option, ap, length, refl, sym, ◌∙◌, rules}
 use Rattle.tds_relay.specs.declared.link.Link.{Link}
 use Rattle.tds_relay.specs.Linking.{Linked}
 use Rattle.tds_relay.specs.declared.desk.coming.Heard.{Heard}

@@ -1,4 +1,4 @@
-use Rattle.std.proofs.Common.{refl, ◌≡◌, ◌∙◌, List, None, Option, Some, ap, option_map, sym, subst}
+use Rattle.std.proofs.Common.{refl, ◌≡◌, ◌∙◌, None, Option, Some, ap, option_map, sym, subst}
 use Rattle.std.specs.Prelude.{IsSome, option_copied}
 use Rattle.tds_relay.specs.declared.link.Link.{Link}
 use Rattle.tds_relay.specs.Reads.{bytes_on, link_at, open_of, seen_of}
