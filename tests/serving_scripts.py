@@ -130,8 +130,9 @@ def faults(program, cases):
         with scripted(program, json.dumps({"version": 1, "events": events})) as server:
             told = until_closed(server.port, sent) or b""
             cases.check(name, struct.pack("<I", number) in told, told)
-    for name, events, least in (("a late answer", [["late", 1, 400]], 0.4), ("a late login", [["late", 0, 400]], 0.4),
-                                ("a connection that is closed", [["close", 400]], 0.4)):
+    # Its time is that at which its round began: on a machine that is held up, some time before the request was sent.
+    for name, events, least in (("a late answer", [["late", 1, 400]], 0.2), ("a late login", [["late", 0, 400]], 0.2),
+                                ("a connection that is closed", [["close", 400]], 0.2)):
         with scripted(program, json.dumps({"version": 1, "events": events})) as server:
             started = time.monotonic()
             if events[0][0] == "close":
