@@ -11,7 +11,7 @@ use Rattle.tds_service.specs.Service.{Seat, lease_at, seat_numbered}
 use Rattle.tds_relay.specs.Away.{done_since}
 use Rattle.tds_relay.specs.Behind.{events_along}
 use Rattle.tds_relay.specs.Desk as desk
-use Rattle.tds_relay.specs.Desk.{Desk, Event, desk_after, new_desk, turn, whose, whose_by}
+use Rattle.tds_relay.specs.Desk.{Desk, Event, Sharing, desk_after, new_desk, turn, whose, whose_by}
 use Rattle.tds_relay.specs.Giving.{ReadVisit, Visit, house_in, moves_in}
 use Rattle.tds_relay.specs.Hall as hall
 use Rattle.tds_relay.specs.Hall.{Hall, Move, IsQuiet, MayDoAlone, MayMove, end_at, event_if, events_of, moved, stops_of}
@@ -116,32 +116,32 @@ all_read key at h (Removes k gives way ∷ steps) may reads =
 
 -- ---- In a visit
 
-desk_in_world : {V : Type 0} (server : Server V) (max key : ℕ) (v : Visit max key) (ms : Moments V v) → (house_in v).hall.desk ≡ (world_in server ms).desk
-desk_in_world server max key v ms =
-    desk_is max key v ∙ sym (desk_along server (new_world server max) ms.before ∙ ap (desk_after (new_desk max)) ms.before_is)
+desk_in_world : {V : Type 0} (server : Server V) (sharing : Sharing) (key : ℕ) (v : Visit sharing key) (ms : Moments V v) → (house_in v).hall.desk ≡ (world_in server ms).desk
+desk_in_world server sharing key v ms =
+    desk_is sharing key v ∙ sym (desk_along server (new_world server sharing) ms.before ∙ ap (desk_after (new_desk sharing)) ms.before_is)
 
 -- what is read behind the first steps
 read_later : (n : ℕ) (r : Reading) (h : House) (xs ys : List Step) → AreRead n r h (xs ++ ys) → AreRead n (stands_behind n r h xs) (after_all h xs) ys
 read_later n r h [] ys reads = reads
 read_later n r h (x ∷ xs) ys reads = read_later n (stands_by n r h x) (after h x) xs ys reads.1
 
-pub read_since : (max key : ℕ) (v : ReadVisit max key) → AllRead (walkers_in v) (house_in v.visit) v.visit.since
-read_since max key v n =
+pub read_since : (sharing : Sharing) (key : ℕ) (v : ReadVisit sharing key) → AllRead (walkers_in v) (house_in v.visit) v.visit.since
+read_since sharing key v n =
     let r = (v.read n).0 in
     let enters : List Step = Admits key v.visit.ends v.visit.posts ∷ [] in
-    let all : AreRead n r (new_house max) ((v.visit.before ++ enters) ++ v.visit.since) =
-    subst (λ (steps : List Step). AreRead n r (new_house max) steps) (sym (append_assoc v.visit.before enters v.visit.since)) (v.read n).2 in
-    read_later n r (new_house max) (v.visit.before ++ enters) v.visit.since all
+    let all : AreRead n r (new_house sharing) ((v.visit.before ++ enters) ++ v.visit.since) =
+    subst (λ (steps : List Step). AreRead n r (new_house sharing) steps) (sym (append_assoc v.visit.before enters v.visit.since)) (v.read n).2 in
+    read_later n r (new_house sharing) (v.visit.before ++ enters) v.visit.since all
 
-pub alone_in_bytes : {V : Type 0} (server : Server V) (max key : ℕ) (v : Visit max key) (ms : Moments V v) (at : Walkers) → AllRead at (house_in v) v.since
+pub alone_in_bytes : {V : Type 0} (server : Server V) (sharing : Sharing) (key : ℕ) (v : Visit sharing key) (ms : Moments V v) (at : Walkers) → AllRead at (house_in v) v.since
     → AsIfAlone turn key server (fresh server) (world_in server ms) ms.since (world_after turn server (world_in server ms) ms.since)
     → ReadAsIfAlone turn server (fresh server) at v (world_in server ms) ms.since (world_after turn server (world_in server ms) ms.since)
-alone_in_bytes server max key v ms at reads alone =
+alone_in_bytes server sharing key v ms at reads alone =
     let w = world_in server ms in
     let behind = world_after turn server w ms.since in
     let is : read_all key at (house_in v) v.since ≡ given turn key server w ms.since =
-    all_read key at (house_in v) v.since (came max key v).may_since reads
-    ∙ ap (λ (d : Desk). along key d (done_since v)) (desk_in_world server max key v ms)
+    all_read key at (house_in v) v.since (came sharing key v).may_since reads
+    ∙ ap (λ (d : Desk). along key d (done_since v)) (desk_in_world server sharing key v ms)
     ∙ ap (λ (es : List Event). along key w.desk es) (sym ms.since_is)
     ∙ sym (given_along key server w ms.since) in
     ap (λ (xs : List (Item Token)). xs ++ underway key behind) is ∙ alone

@@ -10,7 +10,8 @@ use Rattle.tds_service.specs.Parts as parts
 use Rattle.tds_service.specs.Parts.{Item, Part}
 use Rattle.laws_conforming_server.specs.Lawful.{Session}
 use Rattle.tds_relay.specs.Desk as desk
-use Rattle.tds_relay.specs.Desk.{Event, Way, turn}
+use Rattle.tds_relay.specs.Desk.{Event, Sharing, Way, turn}
+use Rattle.tds_relay.specs.declared.desk.Mode.TheVariants.{Sessions}
 use Rattle.laws_as_if_alone.specs.Serving.{Moment, Request, Server, answers_alone, but_news, fresh, new_world}
 use Rattle.laws_as_if_alone.specs.Alone.{AllOrderly, asks, given}
 use Rattle.laws_as_if_alone.proofs.Orderly.{orderly}
@@ -62,6 +63,10 @@ at event = record { event = event; request = counts; left = session 7 }
 abbrev pub cleaning : Event → Moment ℕ
 cleaning event = record { event = event; request = cleans; left = session 7 }
 
+-- one connection
+abbrev pub one : Sharing
+one = record { most = 1; mode = Sessions }
+
 abbrev pub way : Way
 way = desk.Sent 0 0
 
@@ -80,27 +85,27 @@ play =
     ∷ cleaning (desk.Comes 1 (whole (acknowledged ∷ [])) way) ∷ at (desk.Comes 1 (whole (news ∷ done ∷ [])) way) ∷ at desk.Serves ∷ at (desk.Does 2 desk.Asks) ∷ at (desk.Does 2 (desk.Ends 0))
     ∷ at (desk.Comes 1 (piece (news ∷ row 0 ∷ [])) way) ∷ at (desk.Comes 1 (whole (done ∷ [])) way) ∷ []
 
-second_is_given : given turn 2 counter (new_world counter 1) play ≡ row 0 ∷ done ∷ []
+second_is_given : given turn 2 counter (new_world counter one) play ≡ row 0 ∷ done ∷ []
 unfolding place_change place_done
 second_is_given = refl
 
-first_is_given : given turn 1 counter (new_world counter 1) play ≡ row 0 ∷ done ∷ row 1 ∷ []
+first_is_given : given turn 1 counter (new_world counter one) play ≡ row 0 ∷ done ∷ row 1 ∷ []
 unfolding place_change place_done
 first_is_given = refl
 
-second_alone : answers_alone counter [] (fresh counter) (asks turn 2 counter 0 (new_world counter 1) play) ≡ row 0 ∷ done ∷ []
+second_alone : answers_alone counter [] (fresh counter) (asks turn 2 counter 0 (new_world counter one) play) ≡ row 0 ∷ done ∷ []
 unfolding place_change place_done
 second_alone = refl
 
 -- what it was given before it left is a beginning
-first_alone : answers_alone counter [] (fresh counter) (asks turn 1 counter 0 (new_world counter 1) play) ≡ row 0 ∷ done ∷ row 1 ∷ []
+first_alone : answers_alone counter [] (fresh counter) (asks turn 1 counter 0 (new_world counter one) play) ≡ row 0 ∷ done ∷ row 1 ∷ []
 unfolding place_change place_done
 first_alone = refl
 
-second_is_orderly : AllOrderly turn 2 counter (new_world counter 1) play
+second_is_orderly : AllOrderly turn 2 counter (new_world counter one) play
 unfolding place_change place_done
 second_is_orderly =
-    orderly turn 2 counter (new_world counter 1) play (record { holds = refl; waits = refl }, ((λ r. (done ∷ [], refl, tt)), ((λ r. ([], refl, refl)), tt)))
+    orderly turn 2 counter (new_world counter one) play (record { holds = refl; waits = refl }, ((λ r. (done ∷ [], refl, tt)), ((λ r. ([], refl, refl)), tt)))
 
 -- ---- The second cancels in the middle of an answer, and goes on in the session that is left
 
@@ -109,18 +114,18 @@ cancelled =
     at (desk.Waits 2) ∷ at desk.Serves ∷ at (desk.Does 2 desk.Asks) ∷ at (desk.Does 2 (desk.Ends 0)) ∷ at (desk.Comes 1 (piece (row 0 ∷ [])) way) ∷ at (desk.Does 2 desk.Stops)
     ∷ at (desk.Comes 1 (whole (done ∷ acknowledged ∷ [])) way) ∷ at (desk.Does 2 desk.Asks) ∷ at (desk.Does 2 (desk.Ends 0)) ∷ at (desk.Comes 1 (whole (row 7 ∷ done ∷ [])) way) ∷ []
 
-cancelled_given : given turn 2 counter (new_world counter 1) cancelled ≡ row 0 ∷ row 7 ∷ done ∷ []
+cancelled_given : given turn 2 counter (new_world counter one) cancelled ≡ row 0 ∷ row 7 ∷ done ∷ []
 unfolding place_change place_done
 cancelled_given = refl
 
-cancelled_alone : answers_alone counter [] (fresh counter) (asks turn 2 counter 0 (new_world counter 1) cancelled) ≡ row 0 ∷ row 7 ∷ done ∷ []
+cancelled_alone : answers_alone counter [] (fresh counter) (asks turn 2 counter 0 (new_world counter one) cancelled) ≡ row 0 ∷ row 7 ∷ done ∷ []
 unfolding place_change place_done
 cancelled_alone = refl
 
-cancelled_orderly : AllOrderly turn 2 counter (new_world counter 1) cancelled
+cancelled_orderly : AllOrderly turn 2 counter (new_world counter one) cancelled
 unfolding place_change place_done
 cancelled_orderly =
-    orderly turn 2 counter (new_world counter 1) cancelled (record { holds = refl; waits = refl }, ((λ r. (done ∷ [], refl, tt)), ((λ r. tt), ((λ r. ([], refl, refl)), tt))))
+    orderly turn 2 counter (new_world counter one) cancelled (record { holds = refl; waits = refl }, ((λ r. (done ∷ [], refl, tt)), ((λ r. tt), ((λ r. ([], refl, refl)), tt))))
 
 -- ---- The connection of the second is lost amid its answer, and whoever has its number next begins anew
 
@@ -129,18 +134,18 @@ lost =
     at (desk.Waits 2) ∷ at desk.Serves ∷ at (desk.Does 2 desk.Asks) ∷ at (desk.Does 2 (desk.Ends 0)) ∷ at (desk.Comes 1 (piece (row 0 ∷ [])) way) ∷ at (desk.Loses 1)
     ∷ at (desk.Waits 2) ∷ at desk.Serves ∷ at (desk.Does 2 desk.Asks) ∷ at (desk.Does 2 (desk.Ends 0)) ∷ at (desk.Comes 2 (whole (row 0 ∷ done ∷ [])) way) ∷ []
 
-lost_given : given turn 2 counter (new_world counter 1) lost ≡ row 0 ∷ row 0 ∷ done ∷ []
+lost_given : given turn 2 counter (new_world counter one) lost ≡ row 0 ∷ row 0 ∷ done ∷ []
 unfolding place_change place_done
 lost_given = refl
 
-lost_alone : answers_alone counter [] (fresh counter) (asks turn 2 counter 0 (new_world counter 1) lost) ≡ row 0 ∷ row 0 ∷ done ∷ []
+lost_alone : answers_alone counter [] (fresh counter) (asks turn 2 counter 0 (new_world counter one) lost) ≡ row 0 ∷ row 0 ∷ done ∷ []
 unfolding place_change place_done
 lost_alone = refl
 
-lost_orderly : AllOrderly turn 2 counter (new_world counter 1) lost
+lost_orderly : AllOrderly turn 2 counter (new_world counter one) lost
 unfolding place_change place_done
 lost_orderly =
-    orderly turn 2 counter (new_world counter 1) lost (record { holds = refl; waits = refl }, ((λ r. (done ∷ [], refl, tt)), (record { holds = refl; waits = refl }, ((λ r. ([], refl, refl)), tt))))
+    orderly turn 2 counter (new_world counter one) lost (record { holds = refl; waits = refl }, ((λ r. (done ∷ [], refl, tt)), (record { holds = refl; waits = refl }, ((λ r. ([], refl, refl)), tt))))
 
 -- ---- One keeps its transaction over its own reset, which sets all else anew
 
@@ -158,15 +163,15 @@ kept =
     at (desk.Waits 2) ∷ at desk.Serves ∷ at (desk.Does 2 desk.Asks) ∷ beginning (desk.Does 2 (desk.Ends 0)) ∷ at (desk.Comes 1 (whole (begun ∷ done ∷ [])) way) ∷ at (desk.Renews 2 true)
     ∷ at (desk.Does 2 desk.Asks) ∷ at (desk.Does 2 (desk.Ends 0)) ∷ at (desk.Comes 1 (whole (row 0 ∷ news ∷ done ∷ [])) way) ∷ []
 
-kept_given : given turn 2 counter_late (new_world counter_late 1) kept ≡ begun ∷ done ∷ row 0 ∷ done ∷ []
+kept_given : given turn 2 counter_late (new_world counter_late one) kept ≡ begun ∷ done ∷ row 0 ∷ done ∷ []
 unfolding place_change place_done
 kept_given = refl
 
-kept_alone : answers_alone counter_late [] (fresh counter_late) (asks turn 2 counter_late 0 (new_world counter_late 1) kept) ≡ begun ∷ done ∷ row 0 ∷ done ∷ []
+kept_alone : answers_alone counter_late [] (fresh counter_late) (asks turn 2 counter_late 0 (new_world counter_late one) kept) ≡ begun ∷ done ∷ row 0 ∷ done ∷ []
 unfolding place_change place_done
 kept_alone = refl
 
-kept_orderly : AllOrderly turn 2 counter_late (new_world counter_late 1) kept
+kept_orderly : AllOrderly turn 2 counter_late (new_world counter_late one) kept
 unfolding place_change place_done
 kept_orderly =
-    orderly turn 2 counter_late (new_world counter_late 1) kept (record { holds = refl; waits = refl }, ((λ r. ([], refl, refl)), ((λ r. ([], refl, refl)), tt)))
+    orderly turn 2 counter_late (new_world counter_late one) kept (record { holds = refl; waits = refl }, ((λ r. ([], refl, refl)), ((λ r. ([], refl, refl)), tt)))

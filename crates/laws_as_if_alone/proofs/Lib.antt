@@ -4,6 +4,7 @@ pub mod Held
 pub mod Renewed
 pub mod Away
 pub mod Told
+pub mod Turns
 pub mod Orderly
 pub mod Examples
 pub mod Refused

@@ -10,7 +10,7 @@ use Rattle.tds_relay.specs.Desk.{Desk, Event, Turn, find_key, holding, moves, re
 use Rattle.laws_as_if_alone.specs.Serving.{Moment, answers_alone, fresh, new_world, world_after}
 use Rattle.laws_as_if_alone.specs.Alone.{AllOrderly, AsIfAlone, asks, given, underway}
 use Rattle.laws_as_if_alone.proofs.Orderly.{orderly}
-use Rattle.laws_as_if_alone.proofs.Examples.{at, counter, done, row, way, whole}
+use Rattle.laws_as_if_alone.proofs.Examples.{at, counter, done, one, row, way, whole}
 
 numbers_differ : (xs ys : List (Item Token)) (m n : ℕ) (rest : List (Item Token)) → xs ≡ row m ∷ rest → ys ≡ row n ∷ rest → (m ≡ n → ⊥) → xs ≡ ys → ⊥
 numbers_differ xs ys m n rest e f never same =
@@ -33,23 +33,23 @@ handed_on =
     at (desk.Waits 1) ∷ at desk.Serves ∷ at (desk.Does 1 desk.Asks) ∷ at (desk.Does 1 (desk.Ends 0)) ∷ at (desk.Comes 1 (whole (row 0 ∷ done ∷ [])) way) ∷ at (desk.Waits 2)
     ∷ at (desk.Leaves 1 true way) ∷ at (desk.Does 2 desk.Asks) ∷ at (desk.Does 2 (desk.Ends 0)) ∷ at (desk.Comes 1 (whole (row 1 ∷ done ∷ [])) way) ∷ []
 
-handed_on_orderly : AllOrderly hands_on 2 counter (new_world counter 1) handed_on
+handed_on_orderly : AllOrderly hands_on 2 counter (new_world counter one) handed_on
 unfolding place_change place_done
 handed_on_orderly =
-    orderly hands_on 2 counter (new_world counter 1) handed_on (record { holds = refl; waits = refl }, ((λ r. ([], refl, refl)), tt))
+    orderly hands_on 2 counter (new_world counter one) handed_on (record { holds = refl; waits = refl }, ((λ r. ([], refl, refl)), tt))
 
-handed_on_given : given hands_on 2 counter (new_world counter 1) handed_on ++ underway 2 (world_after hands_on counter (new_world counter 1) handed_on) ≡ row 1 ∷ done ∷ []
+handed_on_given : given hands_on 2 counter (new_world counter one) handed_on ++ underway 2 (world_after hands_on counter (new_world counter one) handed_on) ≡ row 1 ∷ done ∷ []
 unfolding place_change place_done
 handed_on_given = refl
 
-handed_on_alone : answers_alone counter [] (fresh counter) (asks hands_on 2 counter 0 (new_world counter 1) handed_on) ≡ row 0 ∷ done ∷ []
+handed_on_alone : answers_alone counter [] (fresh counter) (asks hands_on 2 counter 0 (new_world counter one) handed_on) ≡ row 0 ∷ done ∷ []
 unfolding place_change place_done
 handed_on_alone = refl
 
-hands_on_refused : AsIfAlone hands_on 2 counter (fresh counter) (new_world counter 1) handed_on (world_after hands_on counter (new_world counter 1) handed_on) → ⊥
+hands_on_refused : AsIfAlone hands_on 2 counter (fresh counter) (new_world counter one) handed_on (world_after hands_on counter (new_world counter one) handed_on) → ⊥
 hands_on_refused same =
-    numbers_differ (given hands_on 2 counter (new_world counter 1) handed_on ++ underway 2 (world_after hands_on counter (new_world counter 1) handed_on))
-    (answers_alone counter [] (fresh counter) (asks hands_on 2 counter 0 (new_world counter 1) handed_on)) 1 0 (done ∷ []) handed_on_given handed_on_alone
+    numbers_differ (given hands_on 2 counter (new_world counter one) handed_on ++ underway 2 (world_after hands_on counter (new_world counter one) handed_on))
+    (answers_alone counter [] (fresh counter) (asks hands_on 2 counter 0 (new_world counter one) handed_on)) 1 0 (done ∷ []) handed_on_given handed_on_alone
     (λ e. let u : ⊥ = omega (arith, e) in u) same
 
 -- One by which whoever comes to wait takes over what another holds.
@@ -65,26 +65,26 @@ abbrev taken_over : List (Moment ℕ)
 taken_over =
     at (desk.Waits 1) ∷ at desk.Serves ∷ at (desk.Does 1 desk.Asks) ∷ at (desk.Does 1 (desk.Ends 0)) ∷ at (desk.Waits 2) ∷ at (desk.Comes 1 (whole (row 0 ∷ done ∷ [])) way) ∷ []
 
-taken_over_orderly : AllOrderly takes_over 2 counter (new_world counter 1) taken_over
+taken_over_orderly : AllOrderly takes_over 2 counter (new_world counter one) taken_over
 unfolding place_change place_done
 taken_over_orderly =
-    orderly takes_over 2 counter (new_world counter 1) taken_over (record { holds = refl; waits = refl }, ((λ r. ([], refl, refl)), tt))
+    orderly takes_over 2 counter (new_world counter one) taken_over (record { holds = refl; waits = refl }, ((λ r. ([], refl, refl)), tt))
 
-taken_over_given : given takes_over 2 counter (new_world counter 1) taken_over ++ underway 2 (world_after takes_over counter (new_world counter 1) taken_over) ≡ row 0 ∷ done ∷ []
+taken_over_given : given takes_over 2 counter (new_world counter one) taken_over ++ underway 2 (world_after takes_over counter (new_world counter one) taken_over) ≡ row 0 ∷ done ∷ []
 unfolding place_change place_done
 taken_over_given = refl
 
-taken_over_alone : answers_alone counter [] (fresh counter) (asks takes_over 2 counter 0 (new_world counter 1) taken_over) ≡ []
+taken_over_alone : answers_alone counter [] (fresh counter) (asks takes_over 2 counter 0 (new_world counter one) taken_over) ≡ []
 unfolding place_change place_done
 taken_over_alone = refl
 
 some_none : (xs ys : List (Item Token)) (x : Item Token) (rest : List (Item Token)) → xs ≡ x ∷ rest → ys ≡ [] → xs ≡ ys → ⊥
 some_none xs ys x rest e f same = let u : ⊥ = cc in u
 
-takes_over_refused : AsIfAlone takes_over 2 counter (fresh counter) (new_world counter 1) taken_over (world_after takes_over counter (new_world counter 1) taken_over) → ⊥
+takes_over_refused : AsIfAlone takes_over 2 counter (fresh counter) (new_world counter one) taken_over (world_after takes_over counter (new_world counter one) taken_over) → ⊥
 takes_over_refused same =
-    some_none (given takes_over 2 counter (new_world counter 1) taken_over ++ underway 2 (world_after takes_over counter (new_world counter 1) taken_over))
-    (answers_alone counter [] (fresh counter) (asks takes_over 2 counter 0 (new_world counter 1) taken_over)) (row 0) (done ∷ []) taken_over_given taken_over_alone same
+    some_none (given takes_over 2 counter (new_world counter one) taken_over ++ underway 2 (world_after takes_over counter (new_world counter one) taken_over))
+    (answers_alone counter [] (fresh counter) (asks takes_over 2 counter 0 (new_world counter one) taken_over)) (row 0) (done ∷ []) taken_over_given taken_over_alone same
 
 -- One that doesn't send what is asked to its end.
 abbrev keeps_back : Desk → Event → Turn
@@ -94,17 +94,17 @@ keeps_back d event = turn d event
 abbrev kept_back : List (Moment ℕ)
 kept_back = at (desk.Waits 1) ∷ at desk.Serves ∷ at (desk.Does 1 desk.Asks) ∷ at (desk.Does 1 (desk.Ends 0)) ∷ []
 
-kept_back_orderly : AllOrderly keeps_back 1 counter (new_world counter 1) kept_back
+kept_back_orderly : AllOrderly keeps_back 1 counter (new_world counter one) kept_back
 kept_back_orderly =
-    orderly keeps_back 1 counter (new_world counter 1) kept_back (record { holds = refl; waits = refl }, tt)
+    orderly keeps_back 1 counter (new_world counter one) kept_back (record { holds = refl; waits = refl }, tt)
 
-kept_back_given : given keeps_back 1 counter (new_world counter 1) kept_back ++ underway 1 (world_after keeps_back counter (new_world counter 1) kept_back) ≡ []
+kept_back_given : given keeps_back 1 counter (new_world counter one) kept_back ++ underway 1 (world_after keeps_back counter (new_world counter one) kept_back) ≡ []
 kept_back_given = refl
 
-kept_back_alone : answers_alone counter [] (fresh counter) (asks keeps_back 1 counter 0 (new_world counter 1) kept_back) ≡ row 0 ∷ done ∷ []
+kept_back_alone : answers_alone counter [] (fresh counter) (asks keeps_back 1 counter 0 (new_world counter one) kept_back) ≡ row 0 ∷ done ∷ []
 kept_back_alone = refl
 
-keeps_back_refused : AsIfAlone keeps_back 1 counter (fresh counter) (new_world counter 1) kept_back (world_after keeps_back counter (new_world counter 1) kept_back) → ⊥
+keeps_back_refused : AsIfAlone keeps_back 1 counter (fresh counter) (new_world counter one) kept_back (world_after keeps_back counter (new_world counter one) kept_back) → ⊥
 keeps_back_refused same =
-    some_none (answers_alone counter [] (fresh counter) (asks keeps_back 1 counter 0 (new_world counter 1) kept_back))
-    (given keeps_back 1 counter (new_world counter 1) kept_back ++ underway 1 (world_after keeps_back counter (new_world counter 1) kept_back)) (row 0) (done ∷ []) kept_back_alone kept_back_given (sym same)
+    some_none (answers_alone counter [] (fresh counter) (asks keeps_back 1 counter 0 (new_world counter one) kept_back))
+    (given keeps_back 1 counter (new_world counter one) kept_back ++ underway 1 (world_after keeps_back counter (new_world counter one) kept_back)) (row 0) (done ∷ []) kept_back_alone kept_back_given (sym same)

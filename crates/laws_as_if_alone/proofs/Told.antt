@@ -13,7 +13,7 @@ use Rattle.laws_conforming_server.specs.Lawful.{Session, reset_by}
 use Rattle.tds_relay.specs.declared.desk.Hold.{Hold}
 use Rattle.tds_relay.specs.Away.{IsAway}
 use Rattle.tds_relay.specs.Desk as desk
-use Rattle.tds_relay.specs.Desk.{Event, find_key, new_desk, turn}
+use Rattle.tds_relay.specs.Desk.{Event, Sharing, find_key, new_desk, turn}
 use Rattle.tds_relay.specs.Promises.{comes_to_wait}
 use Rattle.tds_relay.proofs.promises.Caring.{Sound}
 use Rattle.tds_relay.proofs.promises.Bringing.{always_sound, turn_sound}
@@ -77,13 +77,13 @@ module _ {V : Type 0} (server : Server V) (key count : ℕ) (s : Session V) (w :
   held_next : Next server key count s w m
   held_next = held_by m.event refl
 
-one_moment : {V : Type 0} (server : Server V) (key count : ℕ) (s : Session V) (w : World V) (m : Moment V) → Story server key s w → Sound w.desk → AllSit w.desk → IsOrderly key w m → Next server key count s w m
+pub one_moment : {V : Type 0} (server : Server V) (key count : ℕ) (s : Session V) (w : World V) (m : Moment V) → Story server key s w → Sound w.desk → AllSit w.desk → IsOrderly key w m → Next server key count s w m
 one_moment server key count s w m (inl k) sound sit orderly = held_next server key count s w m k sound sit orderly
 one_moment server key count s w m (inr x) sound sit orderly = away_next server key count s w m x sound orderly
 
 -- ---- All of them
 
-joined : (xs ys zs : List (Item Token)) → (xs ++ ys) ++ zs ≡ xs ++ (ys ++ zs)
+pub joined : (xs ys zs : List (Item Token)) → (xs ++ ys) ++ zs ≡ xs ++ (ys ++ zs)
 joined [] ys zs = refl
 joined (x ∷ xs) ys zs = ap (λ (ws : List (Item Token)). x ∷ ws) (joined xs ys zs)
 
@@ -92,7 +92,7 @@ no_more [] = refl
 no_more (x ∷ xs) = ap (λ (ws : List (Item Token)). x ∷ ws) (no_more xs)
 
 -- What was given since the last request, and what is given and underway from here on.
-abbrev Goes : {V : Type 0} → Server V → List (Item Token) → List (Item Token) → Session V → List (Ask V) → List (Item Token) → Type 0
+abbrev pub Goes : {V : Type 0} → Server V → List (Item Token) → List (Item Token) → Session V → List (Ask V) → List (Item Token) → Type 0
 Goes server said before s asked behind = answers_alone server (said ++ before) s asked ≡ said ++ behind
 
 -- an answer that is over
@@ -120,7 +120,7 @@ asks_one {V} server count s next said before items began behind (Ends number) as
     (ap (λ (x : ℕ). take x (said ++ before)) (h.0 ∙ sym is) ∙ take-append_seam said before) h.2 h.1 i more
 
 -- One moment, and then the others.
-then_more : {V : Type 0} (server : Server V) (count : ℕ) (s next : Session V) (said before items began behind : List (Item Token)) (now asked : List (Ask V)) → length said ≡ count
+pub then_more : {V : Type 0} (server : Server V) (count : ℕ) (s next : Session V) (said before items began behind : List (Item Token)) (now asked : List (Ask V)) → length said ≡ count
     → Follows server count s before now items next began
     → ((more : List (Item Token)) → length more ≡ count_behind count now items → Goes server more began next asked behind) → Goes server said before s (now ++ asked) (items ++ behind)
 then_more {V} server count s next said before items began behind [] asked is h more =
@@ -154,40 +154,40 @@ all_hold : {V : Type 0} (server : Server V) (w : World V) (ms : List (Moment V))
 all_hold server w [] h = h
 all_hold server w (m ∷ ms) h = all_hold server (happens turn server w m) ms (turn_sound w.desk m.event h.0, turn_sits w.desk h.0 h.1 m.event)
 
-reached_holds : {V : Type 0} (server : Server V) (max : ℕ) (before : List (Moment V)) → Holds (reached server max before)
-reached_holds server max before = all_hold server (new_world server max) before (always_sound max [], tt)
+pub reached_holds : {V : Type 0} (server : Server V) (sharing : Sharing) (before : List (Moment V)) → Holds (reached server sharing before)
+reached_holds server sharing before = all_hold server (new_world server sharing) before (always_sound sharing [], tt)
 
-pub as_if_alone : {V : Type 0} (server : Server V) (max key : ℕ) (before moments : List (Moment V)) → IsAway key (reached server max before).desk
-    → AllOrderly turn key server (reached server max before) moments
-    → AsIfAlone turn key server (fresh server) (reached server max before) moments (world_after turn server (reached server max before) moments)
-as_if_alone {V} server max key before moments away uncut =
-    let w = reached server max before in
+pub as_if_alone : {V : Type 0} (server : Server V) (sharing : Sharing) (key : ℕ) (before moments : List (Moment V)) → IsAway key (reached server sharing before).desk
+    → AllOrderly turn key server (reached server sharing before) moments
+    → AsIfAlone turn key server (fresh server) (reached server sharing before) moments (world_after turn server (reached server sharing before) moments)
+as_if_alone {V} server sharing key before moments away uncut =
+    let w = reached server sharing before in
     let none = none_theirs key w.desk.holds away.holds in
     let story : Story server key (fresh server) w = inr (record { none = none; session = refl; once = inl away.waits }) in
-    let all = told server key 0 (fresh server) w moments [] refl story (reached_holds server max before).0 (reached_holds server max before).1 uncut in
+    let all = told server key 0 (fresh server) w moments [] refl story (reached_holds server sharing before).0 (reached_holds server sharing before).1 uncut in
     sym all ∙ ap (λ (x : List (Item Token)). answers_alone server x (fresh server) (asks turn key server 0 w moments)) (underway_none key w none)
 
-pub goes_on : {V : Type 0} (server : Server V) (max key : ℕ) (before moments : List (Moment V)) (h : Hold) (c : Seat) → IsAtRest key (reached server max before).desk h c
-    → AllOrderly turn key server (reached server max before) moments
-    → AsIfAlone turn key server (found_next server (reached server max before) h c) (reached server max before) moments (world_after turn server (reached server max before) moments)
-goes_on {V} server max key before moments h c rest uncut =
-    let w = reached server max before in
+pub goes_on : {V : Type 0} (server : Server V) (sharing : Sharing) (key : ℕ) (before moments : List (Moment V)) (h : Hold) (c : Seat) → IsAtRest key (reached server sharing before).desk h c
+    → AllOrderly turn key server (reached server sharing before) moments
+    → AsIfAlone turn key server (found_next server (reached server sharing before) h c) (reached server sharing before) moments (world_after turn server (reached server sharing before) moments)
+goes_on {V} server sharing key before moments h c rest uncut =
+    let w = reached server sharing before in
     let s = found_next server w h c in
     let idle : StandsAt server s line.Idle c.line.heard.mark (w.ends h.number) = refl in
     let stands : Stands server s c.line (w.ends h.number) = subst (λ (x : Stage). StandsAt server s x c.line.heard.mark (w.ends h.number)) (sym rest.idle) idle in
     let its : Its w.desk key h c = record { sole = rest.holds; there = rest.there; lent = rest.lent; line = rest.waits } in
-    let sound = (reached_holds server max before).0 in
+    let sound = (reached_holds server sharing before).0 in
     let story : Story server key s w = inl (record { hold = h; seat = c; its = its; stands = stands }) in
-    let all = told server key 0 s w moments [] refl story sound (reached_holds server max before).1 uncut in
+    let all = told server key 0 s w moments [] refl story sound (reached_holds server sharing before).1 uncut in
     let nothing : underway key w ≡ [] = underway_held key w h c line.Idle (found w.desk key h c sound its) rest.there rest.idle in
     sym all ∙ ap (λ (x : List (Item Token)). answers_alone server x s (asks turn key server 0 w moments)) nothing
 
 -- Whoever shares with it, it's given the same where it asks the same.
-pub given_alike : {V : Type 0} (server : Server V) (max most key other : ℕ) (before there moments others : List (Moment V)) → IsAway key (reached server max before).desk → IsAway other (reached server most there).desk
-    → AllOrderly turn key server (reached server max before) moments → AllOrderly turn other server (reached server most there) others
-    → asks turn key server 0 (reached server max before) moments ≡ asks turn other server 0 (reached server most there) others
-    → given turn key server (reached server max before) moments ++ underway key (world_after turn server (reached server max before) moments)
-    ≡ given turn other server (reached server most there) others ++ underway other (world_after turn server (reached server most there) others)
-given_alike {V} server max most key other before there moments others away gone uncut whole same =
-    as_if_alone server max key before moments away uncut ∙ ap (λ (x : List (Ask V)). answers_alone server [] (fresh server) x) same
-    ∙ sym (as_if_alone server most other there others gone whole)
+pub given_alike : {V : Type 0} (server : Server V) (sharing alike : Sharing) (key other : ℕ) (before there moments others : List (Moment V)) → IsAway key (reached server sharing before).desk → IsAway other (reached server alike there).desk
+    → AllOrderly turn key server (reached server sharing before) moments → AllOrderly turn other server (reached server alike there) others
+    → asks turn key server 0 (reached server sharing before) moments ≡ asks turn other server 0 (reached server alike there) others
+    → given turn key server (reached server sharing before) moments ++ underway key (world_after turn server (reached server sharing before) moments)
+    ≡ given turn other server (reached server alike there) others ++ underway other (world_after turn server (reached server alike there) others)
+given_alike {V} server sharing alike key other before there moments others away gone uncut whole same =
+    as_if_alone server sharing key before moments away uncut ∙ ap (λ (x : List (Ask V)). answers_alone server [] (fresh server) x) same
+    ∙ sym (as_if_alone server alike other there others gone whole)

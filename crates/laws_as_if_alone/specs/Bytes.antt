@@ -6,7 +6,7 @@ use Rattle.tds_wire.specs.Reading.{Reading}
 use Rattle.tds_service.specs.Packets.{items_from}
 use Rattle.tds_service.specs.Parts.{Item}
 use Rattle.laws_conforming_server.specs.Lawful.{Session}
-use Rattle.tds_relay.specs.Desk.{Desk, Event, Turn, whose}
+use Rattle.tds_relay.specs.Desk.{Desk, Event, Sharing, Turn, whose}
 use Rattle.tds_relay.specs.Giving.{ReadVisit, Visit, house_in}
 use Rattle.tds_relay.specs.House.{House, Step, Admits, Hands, after, new_house}
 use Rattle.tds_relay.specs.Walkers.{AreRead, stands_behind, stands_by}
@@ -33,15 +33,15 @@ read_all key at h (step ∷ steps) = read_in key at h step ++ read_all key (walk
 
 -- Where each stands where an application has come: where the packets of all steps before have left it, the first one of which it read from
 -- its beginning.
-abbrev pub walkers_in : {max key : ℕ} → ReadVisit max key → Walkers
-walkers_in {max} {key} v =
-    λ number. stands_behind number (v.read number).0 (new_house max) (v.visit.before ++ Admits key v.visit.ends v.visit.posts ∷ [])
+abbrev pub walkers_in : {sharing : Sharing} {key : ℕ} → ReadVisit sharing key → Walkers
+walkers_in {sharing} {key} v =
+    λ number. stands_behind number (v.read number).0 (new_house sharing) (v.visit.before ++ Admits key v.visit.ends v.visit.posts ∷ [])
 
 -- Each packet that comes is read from there.
 abbrev pub AllRead : Walkers → House → List Step → Type 0
 AllRead at h steps = (number : ℕ) → AreRead number (at number) h steps
 
 -- These tokens, and what is underway, are what a server of its own answers.
-abbrev pub ReadAsIfAlone : {V : Type 0} {max key : ℕ} → (Desk → Event → Turn) → Server V → Session V → Walkers → Visit max key → World V → List (Moment V) → World V → Type 0
-ReadAsIfAlone {V} {max} {key} turns server s at v w ms behind =
+abbrev pub ReadAsIfAlone : {V : Type 0} {sharing : Sharing} {key : ℕ} → (Desk → Event → Turn) → Server V → Session V → Walkers → Visit sharing key → World V → List (Moment V) → World V → Type 0
+ReadAsIfAlone {V} {sharing} {key} turns server s at v w ms behind =
     read_all key at (house_in v) v.since ++ underway key behind ≡ answers_alone server [] s (asks turns key server 0 w ms)

@@ -1,4 +1,5 @@
 pub mod Alone
 pub mod Bytes
 pub mod Serving
+pub mod Turns
 pub mod Visits

@@ -11,7 +11,7 @@ use Rattle.tds_service.specs.History.{Done}
 use Rattle.tds_service.specs.Service.{Service, on, steps}
 use Rattle.laws_conforming_server.specs.Lawful.{Session, reset_by}
 use Rattle.tds_relay.specs.Desk as desk
-use Rattle.tds_relay.specs.Desk.{Desk, Event, Turn, new_desk, turn}
+use Rattle.tds_relay.specs.Desk.{Desk, Event, Sharing, Turn, new_desk, turn}
 
 -- What a request is answered, and the session that it leaves.
 pub record Served (V : Type 0) : Type 0 where
@@ -124,8 +124,8 @@ pub record World (V : Type 0) : Type 0 where
   pub desk : Desk
   pub ends : ℕ → End V
 
-abbrev pub new_world : {V : Type 0} → Server V → ℕ → World V
-new_world server max = record { desk = new_desk max; ends = λ n. new_end server }
+abbrev pub new_world : {V : Type 0} → Server V → Sharing → World V
+new_world server sharing = record { desk = new_desk sharing; ends = λ n. new_end server }
 
 abbrev pub packets_in : List (Done Token) → List Packet
 packets_in [] = []
@@ -146,5 +146,5 @@ world_after turns server w [] = w
 world_after turns server w (m ∷ ms) = world_after turns server (happens turns server w m) ms
 
 -- Where a relay comes by these.
-abbrev pub reached : {V : Type 0} → Server V → ℕ → List (Moment V) → World V
-reached server max ms = world_after turn server (new_world server max) ms
+abbrev pub reached : {V : Type 0} → Server V → Sharing → List (Moment V) → World V
+reached server sharing ms = world_after turn server (new_world server sharing) ms

@@ -1,7 +1,7 @@
 -- The moments of a visit to a relay.
 use Rattle.std.specs.Prelude.{◌≡◌, ℕ, List, [], ◌∷◌, map}
 use Rattle.tds_relay.specs.Away.{done_before, done_since}
-use Rattle.tds_relay.specs.Desk.{Desk, Event, Turn}
+use Rattle.tds_relay.specs.Desk.{Desk, Event, Sharing, Turn}
 use Rattle.tds_relay.specs.Giving.{Visit}
 use Rattle.laws_as_if_alone.specs.Alone.{IsSaid}
 use Rattle.laws_as_if_alone.specs.Serving.{Moment, Server, World, happens, reached}
@@ -10,15 +10,15 @@ abbrev pub events_in : {V : Type 0} → List (Moment V) → List Event
 events_in {V} ms = map (λ (m : Moment V). m.event) ms
 
 -- Those before an application came, and those since: in them there happens at the desk what the visit's steps do there.
-pub record Moments (V : Type 0) {max key : ℕ} (v : Visit max key) : Type 0 where
+pub record Moments (V : Type 0) {sharing : Sharing} {key : ℕ} (v : Visit sharing key) : Type 0 where
   pub before : List (Moment V)
   pub since : List (Moment V)
   pub before_is : events_in before ≡ done_before v
   pub since_is : events_in since ≡ done_since v
 
 -- where it has come
-abbrev pub world_in : {V : Type 0} {max key : ℕ} {v : Visit max key} → Server V → Moments V v → World V
-world_in {V} {max} server ms = reached server max ms.before
+abbrev pub world_in : {V : Type 0} {sharing : Sharing} {key : ℕ} {v : Visit sharing key} → Server V → Moments V v → World V
+world_in {V} {sharing} server ms = reached server sharing ms.before
 
 -- What comes of an answer that it reads is what the server there says next, or a fault.
 abbrev pub AllSaid : {V : Type 0} → (Desk → Event → Turn) → ℕ → Server V → World V → List (Moment V) → Type 0

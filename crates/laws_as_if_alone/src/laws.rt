@@ -1,15 +1,16 @@
 //! What an application of a relay can tell of the others. Each function does nothing when it runs: its
 //! contract is the law.
-ghost use Rattle.std.specs.Prelude.{◌≡◌, ◌++◌, ℕ, List};
+ghost use Rattle.std.specs.Prelude.{◌≡◌, ◌++◌, ℕ, Bool, List};
 ghost use Rattle.tds_service.specs.Service.{Seat};
 ghost use Rattle.tds_relay.specs.declared.desk.Hold.{Hold};
 ghost use Rattle.tds_relay.specs.Away.{IsAway};
-ghost use Rattle.tds_relay.specs.Desk.{turn};
+ghost use Rattle.tds_relay.specs.Desk.{Sharing, turn};
 ghost use Rattle.tds_relay.specs.Giving.{ReadVisit, Visit, house_in};
 ghost use Rattle.laws_as_if_alone.specs.Serving.{Moment, Server, fresh, reached, world_after};
 ghost use Rattle.laws_as_if_alone.specs.Alone.{AllOrderly, AsIfAlone, IsAtRest, asks, found_next};
 ghost use Rattle.laws_as_if_alone.specs.Alone.{given, underway};
 ghost use Rattle.laws_as_if_alone.specs.Bytes.{AllRead, ReadAsIfAlone, Walkers, walkers_in};
+ghost use Rattle.laws_as_if_alone.specs.Turns.{AllParkedFresh, AsIfUnparked};
 ghost use Rattle.laws_as_if_alone.specs.Visits.{AllSaid, Moments, world_in};
 
 use tds_relay::laws::waits_once;
@@ -20,42 +21,69 @@ use tds_relay::laws::waits_once;
 pub fn as_if_alone<V>()
     // What an application is given, and what is underway to it, is what a new server of its own answers to
     // what it asks, whatever is cut: from a moment at which it neither waits nor holds a connection.
-    ensures new { (server : Server V) (max key : ℕ) (before moments : List (Moment V))
-        → IsAway key (reached server max before).desk
-        → AllOrderly turn key server (reached server max before) moments
-        → AsIfAlone turn key server (fresh server) (reached server max before) moments
-        (world_after turn server (reached server max before) moments) }
+    ensures new { (server : Server V) (sharing : Sharing) (key : ℕ)
+        (before moments : List (Moment V))
+        → IsAway key (reached server sharing before).desk
+        → AllOrderly turn key server (reached server sharing before) moments
+        → AsIfAlone turn key server (fresh server) (reached server sharing before) moments
+        (world_after turn server (reached server sharing before) moments) }
     // So it is from a moment at which it holds a connection and asks nothing there, of a server in the
     // session that its next request finds.
-    ensures rest { (server : Server V) (max key : ℕ) (before moments : List (Moment V))
-        (h : Hold) (c : Seat) → IsAtRest key (reached server max before).desk h c
-        → AllOrderly turn key server (reached server max before) moments
-        → AsIfAlone turn key server (found_next server (reached server max before) h c)
-        (reached server max before) moments
-        (world_after turn server (reached server max before) moments) }
+    ensures rest { (server : Server V) (sharing : Sharing) (key : ℕ)
+        (before moments : List (Moment V)) (h : Hold) (c : Seat)
+        → IsAtRest key (reached server sharing before).desk h c
+        → AllOrderly turn key server (reached server sharing before) moments
+        → AsIfAlone turn key server (found_next server (reached server sharing before) h c)
+        (reached server sharing before) moments
+        (world_after turn server (reached server sharing before) moments) }
 {}
+
+/// An application that is parked only where its session is as a new one can't tell that it was: what it is given, and
+/// what is underway to it, is what a new server of its own answers to its requests and its own resets alone. It is so
+/// of any moments in which it lets its connection go while it asks nothing there, and its next request would find a
+/// new session.
+pub fn alone_by_turns<V>()
+    // So it is from a moment at which it neither waits nor holds a connection;
+    ensures new { (server : Server V) (sharing : Sharing) (key : ℕ) (parks : Moment V → Bool)
+        (before moments : List (Moment V))
+        → IsAway key (reached server sharing before).desk
+        → AllOrderly turn key server (reached server sharing before) moments
+        → AllParkedFresh parks turn key server (reached server sharing before) moments
+        → AsIfUnparked parks turn key server (fresh server) (reached server sharing before) moments
+        (world_after turn server (reached server sharing before) moments) }
+    // and from where it enters a relay, behind any steps, and while it stays.
+    ensures visits { (server : Server V) (sharing : Sharing) (key : ℕ) (parks : Moment V → Bool)
+        (v : Visit sharing key) (ms : Moments V v)
+        → AllSaid turn key server (world_in server ms) ms.since
+        → AllParkedFresh parks turn key server (world_in server ms) ms.since
+        → AsIfUnparked parks turn key server (fresh server) (world_in server ms) ms.since
+        (world_after turn server (world_in server ms) ms.since) }
+{
+    waits_once();
+}
 
 /// Whoever shares with it, an application is given the same where it asks the same, as far as both go.
 pub fn given_alike<V>()
-    ensures { (server : Server V) (max most key other : ℕ)
+    ensures { (server : Server V) (sharing alike : Sharing) (key other : ℕ)
         (before there moments others : List (Moment V))
-        → IsAway key (reached server max before).desk
-        → IsAway other (reached server most there).desk
-        → AllOrderly turn key server (reached server max before) moments
-        → AllOrderly turn other server (reached server most there) others
-        → asks turn key server 0 (reached server max before) moments
-        ≡ asks turn other server 0 (reached server most there) others
-        → given turn key server (reached server max before) moments
-        ++ underway key (world_after turn server (reached server max before) moments)
-        ≡ given turn other server (reached server most there) others
-        ++ underway other (world_after turn server (reached server most there) others) }
+        → IsAway key (reached server sharing before).desk
+        → IsAway other (reached server alike there).desk
+        → AllOrderly turn key server (reached server sharing before) moments
+        → AllOrderly turn other server (reached server alike there) others
+        → asks turn key server 0 (reached server sharing before) moments
+        ≡ asks turn other server 0 (reached server alike there) others
+        → given turn key server (reached server sharing before) moments
+        ++ underway key (world_after turn server (reached server sharing before) moments)
+        ≡ given turn other server (reached server alike there) others
+        ++ underway other (world_after turn server (reached server alike there) others) }
 {}
 
 /// What an application is given, and what is underway to it, is what a new server of its own answers to what
 /// it asks, but for the news of resets: from where it enters a relay, behind any steps, and while it stays.
 /// Only of what comes of the answers that it reads something is supposed: it's what the server says next.
 pub fn alone_in_visits<V>()
-    ensures { (server : Server V) (max key : ℕ) (v : Visit max key) (ms : Moments V v)
+    ensures { (server : Server V) (sharing : Sharing) (key : ℕ) (v : Visit sharing key)
+        (ms : Moments V v)
         → AllSaid turn key server (world_in server ms) ms.since
         → AsIfAlone turn key server (fresh server) (world_in server ms) ms.since
         (world_after turn server (world_in server ms) ms.since) }
@@ -70,13 +98,14 @@ pub fn alone_in_visits<V>()
 pub fn alone_in_bytes<V>()
     // The first packet on each connection is read by a walker that has read nothing: so it is in all steps that calls
     // of a relay make, from a new one on (`read_from_new` of `tds_relay`).
-    ensures new { (server : Server V) (max key : ℕ) (v : ReadVisit max key) (ms : Moments V v.visit)
+    ensures new { (server : Server V) (sharing : Sharing) (key : ℕ) (v : ReadVisit sharing key)
+        (ms : Moments V v.visit)
         → AllSaid turn key server (world_in server ms) ms.since
         → ReadAsIfAlone turn server (fresh server) (walkers_in v) v.visit (world_in server ms)
         ms.since (world_after turn server (world_in server ms) ms.since) }
     // So it is from wherever walkers stand, where each packet is read from there.
-    ensures there { (server : Server V) (max key : ℕ) (v : Visit max key) (ms : Moments V v)
-        (at : Walkers) → AllRead at (house_in v) v.since
+    ensures there { (server : Server V) (sharing : Sharing) (key : ℕ) (v : Visit sharing key)
+        (ms : Moments V v) (at : Walkers) → AllRead at (house_in v) v.since
         → AllSaid turn key server (world_in server ms) ms.since
         → ReadAsIfAlone turn server (fresh server) at v (world_in server ms) ms.since
         (world_after turn server (world_in server ms) ms.since) }

@@ -5,7 +5,7 @@ use relay_status::{Done, NOTHING};
 use std::alloc::{AllocError, Global};
 use std::net::IpAddr;
 use tds_packet::PacketSize;
-use tds_relay::{PlaceOn, Relay};
+use tds_relay::{Mode, PlaceOn, Relay};
 
 /// The most connections that a group may ever have, whatever it is set to: as `--most` takes.
 const MOST: usize = 1_024;
@@ -189,7 +189,10 @@ impl Group {
         answer: Vec<u8>,
     ) -> Result<(), AllocError> {
         self.size = size;
-        self.stage = Stage::Open(Relay::new(alloc, MOST, size, FEATURES)?, answer);
+        self.stage = Stage::Open(
+            Relay::new(alloc, Mode::Sessions, MOST, size, FEATURES)?,
+            answer,
+        );
         self.set_most(most)
     }
 

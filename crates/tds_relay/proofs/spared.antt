@@ -11,6 +11,7 @@ pub mod Letting
 pub mod Lines
 pub mod Lined
 pub mod Ordered
+pub mod Parks
 pub mod Resting
 pub mod Sending
 pub mod Shutting

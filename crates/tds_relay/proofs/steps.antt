@@ -10,6 +10,7 @@ pub mod Halting
 pub mod Handed
 pub mod Made
 pub mod Naming
+pub mod Parked
 pub mod Placed
 pub mod Posting
 pub mod Putting

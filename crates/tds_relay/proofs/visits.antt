@@ -3,6 +3,7 @@ pub mod Closing
 pub mod Handing
 pub mod Owing
 pub mod Owned
+pub mod Parking
 pub mod Reached
 pub mod Replies
 pub mod Said

@@ -1,7 +1,7 @@
 -- An application that has nothing at the desk, and where one comes to wait.
 use Rattle.std.specs.Prelude.{◌≡◌, ℕ, ◌==◌, List, [], ◌∷◌, filter, None}
 use Rattle.tds_relay.specs.Behind.{events_along}
-use Rattle.tds_relay.specs.Desk.{Desk, Event, find_key, turn}
+use Rattle.tds_relay.specs.Desk.{Desk, Event, Sharing, find_key, turn}
 use Rattle.tds_relay.specs.Giving.{Visit, house_in, moves_in}
 use Rattle.tds_relay.specs.Hall.{new_hall}
 use Rattle.tds_relay.specs.Promises.{comes_to_wait}
@@ -17,8 +17,8 @@ WaitsAway key d [] = Unit {0}
 WaitsAway key d (event ∷ events) = (comes_to_wait event ≡ key ∷ [] → IsAway key d) × WaitsAway key (turn d event).desk events
 
 -- What is done at the desk before an application comes, and since.
-abbrev pub done_before : {max key : ℕ} → Visit max key → List Event
-done_before {max} v = events_along (new_hall max) (moves_in v.before)
+abbrev pub done_before : {sharing : Sharing} {key : ℕ} → Visit sharing key → List Event
+done_before {sharing} v = events_along (new_hall sharing) (moves_in v.before)
 
-abbrev pub done_since : {max key : ℕ} → Visit max key → List Event
+abbrev pub done_since : {sharing : Sharing} {key : ℕ} → Visit sharing key → List Event
 done_since v = events_along (house_in v).hall (moves_in v.since)

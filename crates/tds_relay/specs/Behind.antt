@@ -18,7 +18,7 @@ use Rattle.tds_service.specs.Line as line
 use Rattle.tds_service.specs.Line.{Answer}
 use Rattle.tds_service.specs.Promises.{ends_message}
 use Rattle.tds_relay.specs.Desk as desk
-use Rattle.tds_relay.specs.Desk.{Event, whose}
+use Rattle.tds_relay.specs.Desk.{Event, Sharing, whose}
 use Rattle.tds_relay.specs.Fronting.{AnswersOnce, done_on}
 use Rattle.tds_relay.specs.Hall.{End, Open, Over, Hall, Move, Sends, Comes, Feeds, Enters, Quits, done_by, end_at, events_of, moved, sent_by, Ends as AllEnds, MayMoveAll, moved_all, new_hall}
 
@@ -103,20 +103,20 @@ Stays key (move ∷ moves) = StaysIn key move × Stays key moves
 -- ---- An application's stay
 
 -- It enters, behind these moves, with which these are the ends; and these are the moves since.
-pub record Stay (max key : ℕ) : Type 0 where
+pub record Stay (sharing : Sharing) (key : ℕ) : Type 0 where
   pub before : List Move
   pub ends : AllEnds
   pub since : List Move
-  pub may : MayMoveAll (new_hall max) (before ++ Enters key ends ∷ since)
+  pub may : MayMoveAll (new_hall sharing) (before ++ Enters key ends ∷ since)
   pub stays : Stays key since
 
 -- what passes its end then
-abbrev pub passed_in : {max key : ℕ} → Stay max key → List passing.Event
-passed_in {max} {key} s = passed key (moved_all (new_hall max) (s.before ++ Enters key s.ends ∷ [])) s.since
+abbrev pub passed_in : {sharing : Sharing} {key : ℕ} → Stay sharing key → List passing.Event
+passed_in {sharing} {key} s = passed key (moved_all (new_hall sharing) (s.before ++ Enters key s.ends ∷ [])) s.since
 
 -- All that is done at the desk, also before it came. Each server answers each request once at most, also behind an attention.
-abbrev pub done_in : {max key : ℕ} → Stay max key → List Event
-done_in {max} {key} s = events_along (new_hall max) (s.before ++ Enters key s.ends ∷ s.since)
+abbrev pub done_in : {sharing : Sharing} {key : ℕ} → Stay sharing key → List Event
+done_in {sharing} {key} s = events_along (new_hall sharing) (s.before ++ Enters key s.ends ∷ s.since)
 
-abbrev pub AllAnswerOnce : {max key : ℕ} → Stay max key → Type 0
-AllAnswerOnce {max} s = (number : ℕ) → AnswersOnce false (done_on max number (done_in s))
+abbrev pub AllAnswerOnce : {sharing : Sharing} {key : ℕ} → Stay sharing key → Type 0
+AllAnswerOnce {sharing} s = (number : ℕ) → AnswersOnce false (done_on sharing number (done_in s))

@@ -5,7 +5,6 @@ use Rattle.tds_service.specs.Parts.{Part}
 use Rattle.tds_listen.specs.declared.fault.ListenFault.{ListenFault}
 use Rattle.tds_relay.specs.declared.desk.Hold.{Hold}
 use Rattle.tds_relay.specs.declared.desk.Mode.{Mode}
-use Rattle.tds_relay.specs.declared.desk.Mode.TheVariants.{Sessions}
 use Rattle.tds_relay.specs.declared.fault.Broken.{Broken}
 use Rattle.tds_service.specs.Line as line
 use Rattle.tds_service.specs.History.{Done}
@@ -21,8 +20,13 @@ pub record Desk : Type 0 where
   pub line : List ℕ
   pub broken : Option Broken
 
-abbrev pub new_desk : ℕ → Desk
-new_desk max = record { mode = Sessions; service = calls.new_service max; holds = []; line = []; broken = None }
+-- How connections are shared: at most so many, and for how long each is lent.
+pub record Sharing : Type 0 where
+  pub most : ℕ
+  pub mode : Mode
+
+abbrev pub new_desk : Sharing → Desk
+new_desk sharing = record { mode = sharing.mode; service = calls.new_service sharing.most; holds = []; line = []; broken = None }
 
 -- How far a cleaning came: it was sent, in so many packets; or memory was refused to its first, second, third or fourth call.
 pub data Way : Type 0 where

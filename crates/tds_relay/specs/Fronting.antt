@@ -8,7 +8,7 @@ use Rattle.tds_service.specs.Line as line
 use Rattle.tds_service.specs.Line.{Packet, Answer}
 use Rattle.tds_service.specs.Promises.{ends_message}
 use Rattle.tds_service.specs.Service.{Call, new_service, on, steps}
-use Rattle.tds_relay.specs.Desk.{Desk, Event, new_desk, turn}
+use Rattle.tds_relay.specs.Desk.{Desk, Event, Sharing, new_desk, turn}
 
 -- ---- What happens on a connection
 
@@ -68,5 +68,5 @@ calls_along d [] = []
 calls_along d (event ∷ events) = (turn d event).calls ++ calls_along (turn d event).desk events
 
 -- what was done on a connection
-abbrev pub done_on : ℕ → ℕ → List Event → List (Done Token)
-done_on max number events = on number (steps (new_service max) (calls_along (new_desk max) events))
+abbrev pub done_on : Sharing → ℕ → List Event → List (Done Token)
+done_on sharing number events = on number (steps (new_service sharing.most) (calls_along (new_desk sharing) events))

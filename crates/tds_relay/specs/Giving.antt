@@ -8,7 +8,7 @@ use Rattle.tds_front.specs.Serving.{Happening, Comes, Goes, Closes, Reply, Token
 use Rattle.tds_front.specs.declared.stage.Stage.TheVariants as stages
 use Rattle.tds_relay.specs.Behind.{events_along, passed}
 use Rattle.tds_relay.specs.Cutting.{ends_in}
-use Rattle.tds_relay.specs.Desk.{Event, whose}
+use Rattle.tds_relay.specs.Desk.{Event, Sharing, whose}
 use Rattle.tds_relay.specs.Fronting.{AnswersOnce, done_on}
 use Rattle.tds_relay.specs.Hall as hall
 use Rattle.tds_relay.specs.Hall.{Move, end_at, new_hall}
@@ -89,50 +89,50 @@ IsKept key h steps =
 -- ---- From where it has come
 
 -- An application comes, behind these steps, and these are the steps since.
-pub record Visit (max key : ℕ) : Type 0 where
+pub record Visit (sharing : Sharing) (key : ℕ) : Type 0 where
   pub before : List Step
   pub ends : hall.Ends
   pub posts : Posts
   pub since : List Step
-  pub may : MayAll (new_house max) (before ++ Admits key ends posts ∷ since)
+  pub may : MayAll (new_house sharing) (before ++ Admits key ends posts ∷ since)
   pub stays : StaysAll key since
 
 -- So one does in steps by which each packet on each connection is read from where the one before has left its walker, the first one by a
 -- walker that has read nothing, as the relay's service was told.
-pub record ReadVisit (max key : ℕ) : Type 0 where
-  pub visit : Visit max key
+pub record ReadVisit (sharing : Sharing) (key : ℕ) : Type 0 where
+  pub visit : Visit sharing key
   pub most : ℕ
   pub features : Features
-  pub read : AllReadAnew most features (new_house max) (visit.before ++ Admits key visit.ends visit.posts ∷ visit.since)
+  pub read : AllReadAnew most features (new_house sharing) (visit.before ++ Admits key visit.ends visit.posts ∷ visit.since)
 
 -- where it has come
-abbrev pub house_in : {max key : ℕ} → Visit max key → House
-house_in {max} {key} v = after_all (new_house max) (v.before ++ Admits key v.ends v.posts ∷ [])
+abbrev pub house_in : {sharing : Sharing} {key : ℕ} → Visit sharing key → House
+house_in {sharing} {key} v = after_all (new_house sharing) (v.before ++ Admits key v.ends v.posts ∷ [])
 
-abbrev pub given_in : {max key : ℕ} → Visit max key → List Given
-given_in {max} {key} v = given_all key (house_in v) v.since
+abbrev pub given_in : {sharing : Sharing} {key : ℕ} → Visit sharing key → List Given
+given_in {sharing} {key} v = given_all key (house_in v) v.since
 
-abbrev pub sent_in : {max key : ℕ} → Visit max key → List ℕ
-sent_in {max} {key} v = sent_all key (house_in v) v.since
+abbrev pub sent_in : {sharing : Sharing} {key : ℕ} → Visit sharing key → List ℕ
+sent_in {sharing} {key} v = sent_all key (house_in v) v.since
 
 -- what waits for it at last
-abbrev pub waits_in : {max key : ℕ} → Visit max key → Option Post
-waits_in {max} {key} v = post_at (after_all (house_in v) v.since).posts key
+abbrev pub waits_in : {sharing : Sharing} {key : ℕ} → Visit sharing key → Option Post
+waits_in {sharing} {key} v = post_at (after_all (house_in v) v.since).posts key
 
 abbrev pub moves_in : List Step → List Move
 moves_in [] = []
 moves_in (step ∷ steps) = moves_of step ++ moves_in steps
 
 -- what passes between it and its end (tds_front, Passing)
-abbrev pub happens_in : {max key : ℕ} → Visit max key → List Happening
-happens_in {max} {key} v = towards None stages.Quiet (passed key (house_in v).hall (moves_in v.since))
+abbrev pub happens_in : {sharing : Sharing} {key : ℕ} → Visit sharing key → List Happening
+happens_in {sharing} {key} v = towards None stages.Quiet (passed key (house_in v).hall (moves_in v.since))
 
 -- All that is done at the desk, also before it came. Each server answers each request once at most, also behind an attention.
-abbrev pub done_in : {max key : ℕ} → Visit max key → List Event
-done_in {max} {key} v = events_along (new_hall max) (moves_in (v.before ++ Admits key v.ends v.posts ∷ v.since))
+abbrev pub done_in : {sharing : Sharing} {key : ℕ} → Visit sharing key → List Event
+done_in {sharing} {key} v = events_along (new_hall sharing) (moves_in (v.before ++ Admits key v.ends v.posts ∷ v.since))
 
-abbrev pub ServersAnswerOnce : {max key : ℕ} → Visit max key → Type 0
-ServersAnswerOnce {max} v = (number : ℕ) → AnswersOnce false (done_on max number (done_in v))
+abbrev pub ServersAnswerOnce : {sharing : Sharing} {key : ℕ} → Visit sharing key → Type 0
+ServersAnswerOnce {sharing} v = (number : ℕ) → AnswersOnce false (done_on sharing number (done_in v))
 
 -- ---- Said by a server
 

@@ -1,5 +1,5 @@
 -- Who holds which connection, and the ends of applications: how they move together, move by move. One total function.
-use Rattle.std.specs.Prelude.{◌≡◌, ◌≢◌, ◌⊎◌, ℕ, ◌==◌, ◌||◌, Bool, true, false, List, [], ◌∷◌, Option, Some, None, Result, Ok, Err, if◌then◌else◌, option_map, slice_index_or, slice_set}
+use Rattle.std.specs.Prelude.{◌≡◌, ◌≢◌, ◌⊎◌, ℕ, ◌==◌, ◌&&◌, ◌||◌, Bool, true, false, List, [], ◌∷◌, Option, Some, None, Result, Ok, Err, if◌then◌else◌, option_map, slice_index_or, slice_set}
 use Rattle.tds_packet.specs.declared.status.Reset.{Reset}
 use Rattle.tds_packet.specs.declared.status.Reset.TheVariants.{Full, KeepTransaction}
 use Rattle.tds_front.specs.declared.fault.FrontFault.{FrontFault}
@@ -20,11 +20,10 @@ use Rattle.tds_service.specs.Service as calls
 use Rattle.tds_service.specs.Service.{step}
 use Rattle.tds_relay.specs.declared.desk.coming.What.{What}
 use Rattle.tds_relay.specs.declared.desk.coming.What.TheVariants as whats
-use Rattle.tds_relay.specs.declared.desk.Hold.{Hold}
 use Rattle.tds_relay.specs.Desk as desk
-use Rattle.tds_relay.specs.Desk.{Desk, Deed, Event, Way, desk_after, find_key, find_number, key_of, new_desk, turn, whose}
+use Rattle.tds_relay.specs.Desk.{Desk, Deed, Event, Sharing, Way, desk_after, find_key, find_number, key_of, new_desk, turn, whose}
 use Rattle.tds_relay.specs.Anew.{AsksNothing, ResetsFor, WhereAsked}
-use Rattle.tds_relay.specs.Places.{open_on}
+use Rattle.tds_relay.specs.Places.{HasNoTransaction, holds_clean, is_by_transactions, is_done_with}
 use Rattle.tds_relay.specs.Promises.{Each}
 use Rattle.tds_relay.specs.Ties as causes
 use Rattle.tds_relay.specs.Ties.{Cause, Causes, sent_along}
@@ -58,8 +57,8 @@ pub record Hall : Type 0 where
   pub desk : Desk
   pub ends : Ends
 
-abbrev pub new_hall : ℕ → Hall
-new_hall max = record { desk = new_desk max; ends = [] }
+abbrev pub new_hall : Sharing → Hall
+new_hall sharing = record { desk = new_desk sharing; ends = [] }
 
 -- ---- How one moves
 
@@ -270,14 +269,6 @@ AsksFor reset end = IfAsked (Some reset) end
 abbrev pub IsReset : Desk → ℕ → Option End → Type 0
 IsReset d key end = IfOpenAsks (λ asks. ResetsFor asks (find_key key d.holds) d) end
 
--- No transaction is open on the connection that it holds.
-abbrev pub IsClosedOn : Option Hold → Desk → Type 0
-IsClosedOn None d = Unit {0}
-IsClosedOn (Some hold) d = open_on d hold.number ≢ Some true
-
-abbrev pub HasNoTransaction : Desk → ℕ → Type 0
-HasNoTransaction d key = IsClosedOn (find_key key d.holds) d
-
 -- Its request asks for a full reset; or for one that keeps its transaction, and it has none open.
 abbrev pub AsksToPart : Hall → ℕ → Type 0
 AsksToPart h key = AsksFor Full (end_at h.ends key) ⊎ (AsksFor KeepTransaction (end_at h.ends key) × HasNoTransaction h.desk key)
@@ -285,6 +276,15 @@ AsksToPart h key = AsksFor Full (end_at h.ends key) ⊎ (AsksFor KeepTransaction
 -- It may be parted from its connection, and stay: its request asks for that, and nothing of it has gone on; or it is to be closed.
 abbrev pub MayPart : Hall → ℕ → Type 0
 MayPart h key = IfOpen IsHere (end_at h.ends key) × AsksToPart h key
+
+abbrev pub is_at_end : Option End → Bool
+is_at_end None = false
+is_at_end (Some (Open front withdrawn asks)) = is_done_with front.stage withdrawn asks
+is_at_end (Some (Over why)) = false
+
+-- It may be parked, where connections are shared by transactions: its end asks nothing, and the connection that it holds is clean.
+abbrev pub may_park : Hall → ℕ → Bool
+may_park h key = is_by_transactions h.desk.mode && (is_at_end (end_at h.ends key) && holds_clean (find_key key h.desk.holds) h.desk)
 
 abbrev pub is_in : ℕ → List ℕ → Bool
 is_in key [] = false
@@ -345,11 +345,11 @@ pub record HasEntered (key : ℕ) (old new : Ends) : Type 0 where
   pub begins : end_at new key ≡ Some (Open (new_front size) false None)
   pub others_stay : (other : ℕ) → other ≢ key → end_at new other ≡ end_at old other
 
--- Who lets a connection go and stays, or has it replaced, may be parted from it.
+-- Who lets a connection go and stays, or has it replaced, may be parted from it; or is parked.
 abbrev pub MayMove : Hall → Move → Type 0
 MayMove h (Does event) = MayDoAlone h event
 MayMove h (Sends key deed) = IsPut deed × MayDo deed (end_at h.ends key)
-MayMove h (LetsGo key gives way) = MayPart h key
+MayMove h (LetsGo key gives way) = MayPart h key ⊎ (may_park h key ≡ true)
 MayMove h (Loses number) = Unit {0}
 MayMove h (Replaces number) = IfWhose (MayPart h) (holder h.desk number)
 MayMove h (Comes number part way) = Unit {0}

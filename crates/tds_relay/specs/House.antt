@@ -18,7 +18,7 @@ use Rattle.tds_relay.specs.declared.desk.coming.What.{What}
 use Rattle.tds_relay.specs.declared.desk.coming.What.TheVariants as whats
 use Rattle.tds_relay.specs.declared.link.Answer.{Answer}
 use Rattle.tds_relay.specs.Cutting.{IsCut, ends_in}
-use Rattle.tds_relay.specs.Desk.{Way, owes_reset, whose}
+use Rattle.tds_relay.specs.Desk.{Sharing, Way, owes_reset, whose}
 use Rattle.tds_relay.specs.Hall as hall
 use Rattle.tds_relay.specs.Hall.{End, Open, Over, Ends, Hall, Move, CausesMove, HasEntered, IsQuiet, MayMove, done_by, end_at, moved_all, new_hall, what_in}
 use Rattle.tds_relay.specs.Posts as waiting
@@ -31,8 +31,8 @@ pub record House : Type 0 where
   pub hall : Hall
   pub posts : Posts
 
-abbrev pub new_house : ℕ → House
-new_house max = record { hall = new_hall max; posts = [] }
+abbrev pub new_house : Sharing → House
+new_house sharing = record { hall = new_hall sharing; posts = [] }
 
 -- How a packet is handed on, behind the news of a reset or not: as it came; or as these bytes, without the news of one. Or not at all.
 pub data Manner : Type 0 where
@@ -238,5 +238,5 @@ StepsOn old new = (by : Cause) → Steps by old new
 -- ---- A house that a relay is at
 
 -- Steps lead to it from a new one.
-abbrev pub IsLedTo : ℕ → House → Type 0
-IsLedTo max h = (steps : List Step) × (after_all (new_house max) steps ≡ h) × MayAll (new_house max) steps
+abbrev pub IsLedTo : Sharing → House → Type 0
+IsLedTo sharing h = (steps : List Step) × (after_all (new_house sharing) steps ≡ h) × MayAll (new_house sharing) steps

@@ -1,5 +1,5 @@
 -- What a user of a relay is promised, in its own words.
-use Rattle.std.specs.Prelude.{◌≡◌, ◌⊎◌, ℕ, List, [], ◌∷◌, ◌++◌, drop, take, Option, Some, None, if◌then◌else◌}
+use Rattle.std.specs.Prelude.{◌≡◌, ◌⊎◌, ℕ, false, List, [], ◌∷◌, ◌++◌, drop, take, Option, Some, None, if◌then◌else◌}
 use Rattle.tds_packet.specs.declared.status.Reset.{Reset}
 use Rattle.tds_packet.specs.declared.status.Reset.TheVariants.{Full, KeepTransaction}
 use Rattle.tds_relay.specs.House.{after_all}
@@ -9,12 +9,16 @@ use Rattle.tds_relay.specs.Reads.{FillsAt, waits_on}
 use Rattle.tds_relay.specs.declared.link.Link.{Link}
 use Rattle.tds_relay.specs.declared.application.Application.{Application}
 use Rattle.tds_relay.specs.declared.desk.Hold.{Hold}
+use Rattle.tds_relay.specs.declared.desk.Mode.TheVariants.{Transactions}
+use Rattle.tds_front.specs.declared.front.Front.{Front}
+use Rattle.tds_front.specs.declared.stage.Stage.TheVariants.{Quiet}
 use Rattle.tds_relay.specs.declared.order.Order.{Order}
 use Rattle.tds_relay.specs.declared.order.Order.TheVariants as orders
 use Rattle.tds_relay.specs.Desk as desk
-use Rattle.tds_relay.specs.Desk.{Wrong, find_key, hearing}
+use Rattle.tds_relay.specs.Desk.{Sharing, Wrong, find_key, hearing, owes_reset}
+use Rattle.tds_relay.specs.Places.{HasNoTransaction, open_on}
 use Rattle.tds_relay.specs.Giving.{Visit, house_in}
-use Rattle.tds_relay.specs.Hall.{Hall, Move, Does, LetsGo, Loses, Replaces, Comes, Quits, AsksFor, HasNoTransaction, IfOpen, IsHere, done_by, end_at, moved}
+use Rattle.tds_relay.specs.Hall.{Hall, Move, Does, LetsGo, Loses, Replaces, Comes, Quits, AsksFor, IfOpen, IsHere, Open, done_by, end_at, moved}
 
 -- ---- (1) What leaves
 
@@ -49,19 +53,47 @@ KeepsSession key h move =
     (hold : Hold) → find_key key h.desk.holds ≡ Some hold
     → (find_key key (moved h move).desk.holds ≡ Some hold) ⊎ Parts (λ reset. AsksFor reset (end_at h.ends key)) key hold h move
 
+-- Connections are shared by transactions, its end asks nothing, took nothing back that the server hasn't acknowledged, and has been told of
+-- each reset that it asked for; and on the connection that it holds no transaction is open, and no news of a reset is to come.
+pub record Rested (h : Hall) (key : ℕ) : Type 0 where
+  pub mode : h.desk.mode ≡ Transactions
+  pub front : Front
+  pub end : end_at h.ends key ≡ Some (Open front false None)
+  pub quiet : front.stage ≡ Quiet
+  pub hold : Hold
+  pub holds : find_key key h.desk.holds ≡ Some hold
+  pub closed : open_on h.desk hold.number ≡ Some false
+  pub told : owes_reset hold.number h.desk ≡ false
+
+-- It is parked where it rested.
+abbrev pub IsParked : ℕ → Hall → Move → Type 0
+IsParked key h (LetsGo other gives way) = (other ≡ key) × Rested h key
+IsParked key h move = ⊥
+
+-- Or it is parked: that is all.
+abbrev pub KeepsTransaction : ℕ → Hall → Move → Type 0
+KeepsTransaction key h move =
+    (hold : Hold) → find_key key h.desk.holds ≡ Some hold
+    → (find_key key (moved h move).desk.holds ≡ Some hold) ⊎ (Parts (λ reset. AsksFor reset (end_at h.ends key)) key hold h move ⊎ IsParked key h move)
+
 -- where a visit's steps have led
-abbrev pub hall_behind : {max key : ℕ} → Visit max key → Hall
-hall_behind {max} {key} v = (after_all (house_in v) v.since).hall
+abbrev pub hall_behind : {sharing : Sharing} {key : ℕ} → Visit sharing key → Hall
+hall_behind {sharing} {key} v = (after_all (house_in v) v.since).hall
 
 -- The last request that has begun by its own bytes asks for this reset, and it has neither been told of it nor taken the request back; or it
 -- is to be closed.
-abbrev pub HasAsked : {max key : ℕ} → Visit max key → Reset → Type 0
-HasAsked {max} {key} v reset = (wants None (happens_to v) ≡ Some reset) ⊎ IsDeaf (end_at (hall_behind v).ends key)
+abbrev pub HasAsked : {sharing : Sharing} {key : ℕ} → Visit sharing key → Reset → Type 0
+HasAsked {sharing} {key} v reset = (wants None (happens_to v) ≡ Some reset) ⊎ IsDeaf (end_at (hall_behind v).ends key)
 
-abbrev pub KeepsOwn : {max key : ℕ} → Visit max key → Move → Type 0
-KeepsOwn {max} {key} v move =
+abbrev pub KeepsOwn : {sharing : Sharing} {key : ℕ} → Visit sharing key → Move → Type 0
+KeepsOwn {sharing} {key} v move =
     (hold : Hold) → find_key key (hall_behind v).desk.holds ≡ Some hold
     → (find_key key (moved (hall_behind v) move).desk.holds ≡ Some hold) ⊎ Parts (HasAsked v) key hold (hall_behind v) move
+
+abbrev pub KeepsOwnOrRests : {sharing : Sharing} {key : ℕ} → Visit sharing key → Move → Type 0
+KeepsOwnOrRests {sharing} {key} v move =
+    (hold : Hold) → find_key key (hall_behind v).desk.holds ≡ Some hold
+    → (find_key key (moved (hall_behind v) move).desk.holds ≡ Some hold) ⊎ (Parts (HasAsked v) key hold (hall_behind v) move ⊎ IsParked key (hall_behind v) move)
 
 -- ---- (3) Who is to be closed is ordered closed, once
 

@@ -22,6 +22,7 @@ pub mod Holding
 pub mod House
 pub mod News
 pub mod Ordering
+pub mod Parking
 pub mod Places
 pub mod Law
 pub mod Lent

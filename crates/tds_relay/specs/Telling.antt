@@ -10,7 +10,7 @@ use Rattle.tds_front.specs.Bytes.{fed}
 use Rattle.tds_wire.specs.declared.told.Token.{Token}
 use Rattle.tds_service.specs.Parts.{Part}
 use Rattle.tds_relay.specs.declared.desk.coming.What.{What}
-use Rattle.tds_relay.specs.Desk.{owes_reset, whose}
+use Rattle.tds_relay.specs.Desk.{Sharing, owes_reset, whose}
 use Rattle.tds_relay.specs.Giving.{Visit, house_in}
 use Rattle.tds_relay.specs.Hall.{End, Open, Over, done_by, end_at, what_in}
 use Rattle.tds_relay.specs.House as house
@@ -90,5 +90,5 @@ AsksJust asks (Some (Open front withdrawn is)) = is ≡ asks
 AsksJust asks (Some (Over why)) = Unit {0}
 
 -- from where an application has come
-abbrev pub happens_to : {max key : ℕ} → Visit max key → List Event
-happens_to {max} {key} v = happen key (house_in v) v.since
+abbrev pub happens_to : {sharing : Sharing} {key : ℕ} → Visit sharing key → List Event
+happens_to {sharing} {key} v = happen key (house_in v) v.since

@@ -14,7 +14,7 @@ use Rattle.tds_relay.specs.declared.desk.Desk as code
 use Rattle.tds_relay.specs.declared.desk.Hold.{Hold}
 use Rattle.tds_relay.specs.declared.desk.Served.{Served}
 use Rattle.tds_relay.specs.declared.desk.leaving.Left.{Left}
-use Rattle.tds_relay.specs.Desk.{Desk, Event, Deed, Waits, Unwaits, Serves, Brings, Does, Leaves, Renews, Comes, Loses, Asks, Puts, Ends, Stops, Way, Sent, NotLent, NotAsked, NotPut, NotEnded, desk_after, new_desk, turn}
+use Rattle.tds_relay.specs.Desk.{Desk, Event, Deed, Sharing, Waits, Unwaits, Serves, Brings, Does, Leaves, Renews, Comes, Loses, Asks, Puts, Ends, Stops, Way, Sent, NotLent, NotAsked, NotPut, NotEnded, desk_after, new_desk, turn}
 use Rattle.tds_relay.specs.Promises.{Cancels, Each, attentions_on}
 
 abbrev pub desk_in : code.Desk → Desk
@@ -98,7 +98,7 @@ pub record Reaches (by : Cause) (old new : Desk) : Type 0 where
 
 -- It is reached from a new one by events.
 abbrev pub IsReached : Desk → Type 0
-IsReached d = (max : ℕ) × (events : List Event) × (desk_after (new_desk max) events ≡ d)
+IsReached d = (sharing : Sharing) × (events : List Event) × (desk_after (new_desk sharing) events ≡ d)
 
 -- Wherever a desk was reached from, this one is.
 abbrev pub Goes : Cause → Desk → Desk → Type 0

@@ -17,6 +17,7 @@ use Rattle.tds_service.specs.Table.{reading_on, service_in}
 use Rattle.tds_relay.specs.declared.desk.coming.Heard.{Heard}
 use Rattle.tds_relay.specs.Cutting.{ends_in}
 use Rattle.tds_relay.specs.House.{House, Step, Hands, MayAll, after, after_all, new_house}
+use Rattle.tds_relay.specs.Desk.{Sharing}
 
 -- ---- What a packet moves
 
@@ -133,8 +134,8 @@ pub record Walks (from : services.Service) (old : House) (steps : List Step) (to
 -- ---- From a new relay
 
 -- Steps led to this house, and to this service, each packet among which is read from where the one before has left its connection's walker.
-pub record IsReadTo (max most : ℕ) (features : Features) (h : House) (s : services.Service) : Type 0 where
+pub record IsReadTo (sharing : Sharing) (most : ℕ) (features : Features) (h : House) (s : services.Service) : Type 0 where
   pub steps : List Step
-  pub are : after_all (new_house max) steps ≡ h
-  pub may : MayAll (new_house max) steps
-  pub each : (number : ℕ) → ReadAnew most features number (new_house max) steps s
+  pub are : after_all (new_house sharing) steps ≡ h
+  pub may : MayAll (new_house sharing) steps
+  pub each : (number : ℕ) → ReadAnew most features number (new_house sharing) steps s

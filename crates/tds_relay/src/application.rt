@@ -59,9 +59,10 @@ impl Application {
     ghost use Rattle.tds_relay.specs.Fronts.{end_of, puts, withdraws};
     ghost use Rattle.tds_front.specs.Bytes.{fed, new_front};
     ghost use Rattle.tds_relay.specs.Hall.{AsksFor, IfOpen, IsHere, Open, acknowledged, asks_by, closes_for, hears};
-    ghost use Rattle.tds_relay.specs.Hall.{lets_go, move_stage};
+    ghost use Rattle.tds_relay.specs.Hall.{is_at_end, lets_go, move_stage};
     ghost use Rattle.tds_relay.specs.House.{hears_of_reset, is_said};
     ghost use Rattle.tds_relay.specs.Posts.{tagged, nothing, post_of};
+    ghost use Rattle.tds_relay.specs.Parking.{has_no_request};
     ghost use Rattle.tds_relay.specs.Told.{own_room, room_to_keep};
     ghost use Rattle.tds_relay.specs.Coming.{IsDoneWith};
     ghost use Rattle.tds_relay.specs.declared.desk.coming.What.TheVariants.{Acknowledged, Goes};
@@ -312,6 +313,34 @@ impl Application {
             Stage::Underway { gone } => !gone,
             Stage::Stopping => false,
             Stage::Broken(_) => false,
+        }
+    }
+
+    /// Whether its end asks nothing, took nothing back that the server hasn't acknowledged, and has been told
+    /// of each reset that it asked for.
+    pub(crate) fn is_at_end(&self) -> bool
+        ensures { result ≡ is_at_end (Some (end_of self.now)) }
+    {
+        if self.is_over {
+            return false;
+        }
+        match self.front.stage() {
+            Stage::Quiet => !self.is_withdrawn && self.reset.is_none(),
+            Stage::Receiving { .. } => false,
+            Stage::Underway { .. } => false,
+            Stage::Stopping => false,
+            Stage::Broken(_) => false,
+        }
+    }
+
+    /// Whether no request of it waits, and none goes on.
+    pub(crate) fn has_no_request(&self) -> bool
+        ensures { result ≡ has_no_request (Some self.now) }
+    {
+        match self.asking {
+            Asking::Nothing => true,
+            Asking::Waits { .. } => false,
+            Asking::Goes => false,
         }
     }
 

@@ -8,6 +8,7 @@ ghost use Rattle.tds_relay.specs.Desk.{Serves, Unwaits, Waits, find_key, find_nu
 ghost use Rattle.tds_relay.specs.Desk.{fault_on, owes_reset};
 ghost use Rattle.tds_relay.specs.Few.{has_free};
 ghost use Rattle.tds_relay.specs.Hall.{is_in};
+ghost use Rattle.tds_relay.specs.Places.{is_clean_on};
 ghost use Rattle.tds_relay.specs.Sparing.{AllHold};
 ghost use Rattle.tds_relay.specs.Ties.{Serving, Turns, desk_in};
 ghost use Rattle.tds_relay.specs.Walkers.{AllStand, IsUnread};
@@ -53,6 +54,8 @@ pub struct Served {
 pub enum Mode {
     /// Until it leaves, or asks for a reset itself.
     Sessions,
+    /// Until it is parked at rest: whoever carries the bytes does that by `Relay::park`, where others wait.
+    Transactions,
 }
 
 /// The connections of a service, the applications that hold them, and those that wait. A connection that
@@ -69,15 +72,17 @@ pub struct Desk {
 }
 
 impl Desk {
-    /// At most so many connections, for packets of this size. `features` is what their logins
-    /// acknowledge.
+    /// At most so many connections, shared like this, for packets of this size. `features` is what their
+    /// logins acknowledge.
     pub fn new(
         alloc: Global,
+        mode: Mode,
         most: usize,
         size: PacketSize,
         features: Features,
     ) -> Result<Desk, NoMemory>
-        ensures desk { IfOk result (λ desk. desk_in desk ≡ new_desk most) }
+        ensures desk { IfOk result (λ desk. desk_in desk
+            ≡ new_desk (record { most = most; mode = mode })) }
         ensures unread { IfOk result (λ desk. (number : ℕ)
             → IsUnread COLUMNS features number desk.service) }
     {
@@ -85,7 +90,7 @@ impl Desk {
             return Err(AllocError);
         };
         Ok(Desk {
-            mode: Mode::Sessions,
+            mode,
             service,
             holds: Holds::new(alloc),
             line: Vec::new(alloc),
@@ -203,6 +208,17 @@ impl Desk {
     {
         match self.service.owes_reset_on(number) {
             Some(owes) => owes,
+            None => false,
+        }
+    }
+
+    /// Whether no transaction is open on the connection of this number, and no news of a reset is to come
+    /// there.
+    pub fn is_clean_on(&self, number: u64) -> bool
+        ensures { result ≡ is_clean_on number (desk_in self.now) }
+    {
+        match self.service.is_open_on(number) {
+            Some(is_open) => !is_open && !self.owes_reset(number),
             None => false,
         }
     }

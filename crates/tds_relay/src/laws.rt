@@ -5,7 +5,7 @@ ghost use Rattle.std.specs.Prelude.{Some, false, vec_len};
 ghost use Rattle.tds_wire.specs.declared.told.Token.{Token};
 ghost use Rattle.tds_service.specs.Line.{Idle};
 ghost use Rattle.tds_service.specs.Service.{Lease, Seat, seat_numbered, step};
-ghost use Rattle.tds_relay.specs.Desk.{Desk, Event, desk_after, new_desk, turn, whose};
+ghost use Rattle.tds_relay.specs.Desk.{Desk, Event, Sharing, desk_after, new_desk, turn, whose};
 ghost use Rattle.tds_relay.specs.Promises.{CaresFor, Each, IsAmong, IsHandedTo, LendsClean, LendsFirst};
 ghost use Rattle.tds_relay.specs.Promises.{NoneAstray, SaysOnce, TakesOne, comes_to_wait};
 ghost use Rattle.tds_front.specs.Exchanges.{place_after};
@@ -30,10 +30,8 @@ ghost use Rattle.tds_relay.specs.Giving.{ReadVisit, Visit, given_in, happens_in,
 ghost use Rattle.tds_relay.specs.Giving.{waits_in};
 ghost use Rattle.tds_relay.specs.House.{Admits, House, IsLedTo, MayAll, Step, Steps};
 ghost use Rattle.tds_relay.specs.House.{new_house};
-ghost use Rattle.tds_relay.specs.Hall.{Ends, Hall, MayMove, MayMoveAll, Move, moved_all, new_hall};
-ghost use Rattle.tds_relay.specs.declared.desk.Mode.TheVariants.{Sessions};
-ghost use Rattle.tds_relay.specs.Law.{FollowOn, KeepsOwn, KeepsSession, Wire, hall_behind, put_in};
-ghost use Rattle.tds_relay.specs.Law.{went_out};
+ghost use Rattle.tds_relay.specs.Hall.{Ends};
+ghost use Rattle.tds_relay.specs.Law.{FollowOn, Wire, put_in, went_out};
 ghost use Rattle.tds_relay.specs.Posts.{Posts};
 ghost use Rattle.tds_packet.specs.Reading.{Reading, joined};
 ghost use Rattle.tds_relay.specs.Reads.{AreReadIn, Call, Comes, Follow, FollowAt, Reads, bytes_in};
@@ -59,37 +57,38 @@ use tds_wire::Token;
 /// An attention goes out on a connection only where the application that holds it cancels or leaves, with
 /// something of a request out there; so none does during a cleaning.
 pub fn no_cancel_astray()
-    ensures { (max : ℕ) (events : List Event) (event : Event)
-        → NoneAstray (desk_after (new_desk max) events) event }
+    ensures { (sharing : Sharing) (events : List Event) (event : Event)
+        → NoneAstray (desk_after (new_desk sharing) events) event }
 {}
 
 /// An attention goes out only in a call that an application causes, by what it says or by its end: on the
 /// connection that this one holds, with something of a request out there.
 pub fn own_cancels()
-    ensures { (by : Cause) (max : ℕ) (events : List Event) (event : Event) → Causes by event
-        → Owns by (desk_after (new_desk max) events) event }
+    ensures { (by : Cause) (sharing : Sharing) (events : List Event) (event : Event)
+        → Causes by event → Owns by (desk_after (new_desk sharing) events) event }
 {}
 
 /// Each connection is held by an application; or is being cleaned, by a request that is out; or has its
 /// attention out; or is idle, with no reset owed and no transaction open.
 pub fn no_orphan()
-    ensures { (max : ℕ) (events : List Event)
-        → Each (CaresFor (desk_after (new_desk max) events).holds)
-        (desk_after (new_desk max) events).service.seats }
+    ensures { (sharing : Sharing) (events : List Event)
+        → Each (CaresFor (desk_after (new_desk sharing) events).holds)
+        (desk_after (new_desk sharing) events).service.seats }
 {}
 
 /// What comes on a connection is handed only to the application that it is lent to: during a cleaning,
 /// and behind an application's end, to nobody.
 pub fn handed_to_holder()
-    ensures { (max : ℕ) (events : List Event) (number key : ℕ)
-        → whose (desk_after (new_desk max) events) number ≡ Some key
-        → IsHandedTo (desk_after (new_desk max) events) number key }
+    ensures { (sharing : Sharing) (events : List Event) (number key : ℕ)
+        → whose (desk_after (new_desk sharing) events) number ≡ Some key
+        → IsHandedTo (desk_after (new_desk sharing) events) number key }
 {}
 
 /// A connection that somebody had before is lent only idle, with no reset owed and no transaction open.
 pub fn fresh()
-    ensures { (max : ℕ) (events : List Event) → LendsClean (desk_after (new_desk max) events)
-        (step {T = Token} (desk_after (new_desk max) events).service Lease).reply }
+    ensures { (sharing : Sharing) (events : List Event)
+        → LendsClean (desk_after (new_desk sharing) events)
+        (step {T = Token} (desk_after (new_desk sharing) events).service Lease).reply }
 {}
 
 /// Whoever is lent a connection is the first of those who wait, and nobody passes another in that line:
@@ -108,20 +107,21 @@ pub fn a_cut_takes_one()
 /// What an application asks goes on once: each call that says something of a request by its lease is the one
 /// of an event that says it for this application. No end, no loss and no cleaning says it again.
 pub fn never_asked_twice()
-    ensures { (max : ℕ) (events : List Event) (event : Event)
-        → SaysOnce (desk_after (new_desk max) events) event }
+    ensures { (sharing : Sharing) (events : List Event) (event : Event)
+        → SaysOnce (desk_after (new_desk sharing) events) event }
 {}
 
 /// On each connection, what goes out and what comes is a lawful server's end (`tds_front`), where its
 /// server ends each answer once at most, also behind an attention. So it is from where the connection is
 /// idle, as it is lent (`fresh`): its server is ready there.
 pub fn lawful_connections()
-    ensures lawful { (max number : ℕ) (events : List Event)
-        → AnswersOnce false (done_on max number events)
-        → IsLawful Ready (happened (done_on max number events)) }
-    ensures ready { (max number : ℕ) (events : List Event) (c : Seat)
-        → seat_numbered number (desk_after (new_desk max) events).service.seats ≡ Some c
-        → c.line.stage ≡ Idle → place_after Ready (happened (done_on max number events)) ≡ Ready }
+    ensures lawful { (sharing : Sharing) (number : ℕ) (events : List Event)
+        → AnswersOnce false (done_on sharing number events)
+        → IsLawful Ready (happened (done_on sharing number events)) }
+    ensures ready { (sharing : Sharing) (number : ℕ) (events : List Event) (c : Seat)
+        → seat_numbered number (desk_after (new_desk sharing) events).service.seats ≡ Some c
+        → c.line.stage ≡ Idle
+        → place_after Ready (happened (done_on sharing number events)) ≡ Ready }
 {
     each_alone::<Token>();
     line_by_history::<Token>();
@@ -243,8 +243,8 @@ pub fn own_bytes_over_calls()
 /// where steps lead that may be: its own contract says so. So where steps led to the house, they do again, and
 /// what is said here of steps, and of the moves that they are, holds behind any calls.
 pub fn any_calls()
-    ensures { (by : Cause) (max : ℕ) (old new : House) → Steps by old new → IsLedTo max old
-        → IsLedTo max new }
+    ensures { (by : Cause) (sharing : Sharing) (old new : House) → Steps by old new
+        → IsLedTo sharing old → IsLedTo sharing new }
 {}
 
 /// From a new relay and over any calls, each packet that comes on a connection is read from where the one before has
@@ -252,34 +252,35 @@ pub fn any_calls()
 /// (`IsReadTo`).
 pub fn read_from_new()
     /// So it is of a new relay,
-    ensures new { (max most : ℕ) (features : Features) (s : Service)
+    ensures new { (sharing : Sharing) (most : ℕ) (features : Features) (s : Service)
         → ((number : ℕ) → IsUnread most features number s)
-        → IsReadTo max most features (new_house max) s }
+        → IsReadTo sharing most features (new_house sharing) s }
     /// behind a call by which nothing comes on a connection,
-    ensures called { (by : Cause) (max most : ℕ) (features : Features) (old new : House)
-        (from to : Service) → IsNoConnection by → Steps by old new → AllStand from to
-        → IsReadTo max most features old from → IsReadTo max most features new to }
+    ensures called { (by : Cause) (sharing : Sharing) (most : ℕ) (features : Features)
+        (old new : House) (from to : Service)
+        → IsNoConnection by → Steps by old new → AllStand from to
+        → IsReadTo sharing most features old from → IsReadTo sharing most features new to }
     /// and behind one by which bytes come.
-    ensures came { (number max most : ℕ) (features : Features) (had now : Option Reading)
-        (bytes : List ℕ) (old new : House) (from to : Service)
+    ensures came { (number : ℕ) (sharing : Sharing) (most : ℕ) (features : Features)
+        (had now : Option Reading) (bytes : List ℕ) (old new : House) (from to : Service)
         → Comes number had old from bytes now new to
-        → IsReadTo max most features old from → IsReadTo max most features new to }
+        → IsReadTo sharing most features old from → IsReadTo sharing most features new to }
     /// An application that has come by these steps, and is there still, makes a visit of them.
-    ensures visit { (max most key : ℕ) (features : Features) (h : House) (s : Service)
-        (before since : List Step) (ends : Ends) (posts : Posts)
-        (led : IsReadTo max most features h s)
+    ensures visit { (sharing : Sharing) (most key : ℕ) (features : Features) (h : House)
+        (s : Service) (before since : List Step) (ends : Ends) (posts : Posts)
+        (led : IsReadTo sharing most features h s)
         → led.steps ≡ before ++ Admits key ends posts ∷ since → StaysAll key since
-        → (v : ReadVisit max key) × (v.visit.before ≡ before) × (v.visit.since ≡ since) }
+        → (v : ReadVisit sharing key) × (v.visit.before ≡ before) × (v.visit.since ≡ since) }
 {}
 
 /// Behind each application's end is a lawful server's end, from where the application enters and while it
 /// stays, over whichever connections it is lent: where the server of each connection ends each answer once at
 /// most, also behind an attention.
 pub fn lawful_behind()
-    ensures lawful { (max key : ℕ) (s : Stay max key) → AllAnswerOnce s
+    ensures lawful { (sharing : Sharing) (key : ℕ) (s : Stay sharing key) → AllAnswerOnce s
         → IsLawful Ready (behind stages.Quiet (passed_in s)) }
     /// The last of a request goes on there only where its end has come.
-    ensures whole { (max key : ℕ) (s : Stay max key) → AllAnswerOnce s
+    ensures whole { (sharing : Sharing) (key : ℕ) (s : Stay sharing key) → AllAnswerOnce s
         → EndsWhole stages.Quiet (passed_in s) }
 {
     each_alone::<Token>();
@@ -290,7 +291,7 @@ pub fn lawful_behind()
 /// Each application meets a lawful server's end, from where it enters and while it stays, whoever shares with
 /// it: where the server of each connection ends each answer once at most, also behind an attention.
 pub fn lawful_applications()
-    ensures { (max key : ℕ) (s : Stay max key) → AllAnswerOnce s
+    ensures { (sharing : Sharing) (key : ℕ) (s : Stay sharing key) → AllAnswerOnce s
         → IsLawful Ready (towards None stages.Quiet (passed_in s)) }
 {
     lawful_behind();
@@ -302,15 +303,16 @@ pub fn lawful_applications()
 pub fn given_by_server()
     /// What passes between it and its end is a lawful server's: where the server of each connection ends
     /// each answer once at most, also behind an attention.
-    ensures lawful { (max key : ℕ) (v : Visit max key) → ServersAnswerOnce v
+    ensures lawful { (sharing : Sharing) (key : ℕ) (v : Visit sharing key) → ServersAnswerOnce v
         → IsLawful Ready (happens_in v) }
     /// Each time that its end says something it is given that, and nothing else: a packet of the connection
     /// that it is lent, which ends its message where the end says so, as it came, without the news of a
     /// reset, or behind it; or the acknowledgement of its own attention.
-    ensures said { (max key : ℕ) (v : Visit max key) → AreSaid (happens_in v) (given_in v) }
+    ensures said { (sharing : Sharing) (key : ℕ) (v : Visit sharing key)
+        → AreSaid (happens_in v) (given_in v) }
     /// What it is sent, and then what waits for it, are these, in order, each whole; all of them, unless one
     /// didn't fit: then a front of them.
-    ensures sent { (max key : ℕ) (v : Visit max key)
+    ensures sent { (sharing : Sharing) (key : ℕ) (v : Visit sharing key)
         → IsFrontOf (joined (pieces_of (given_in v))) (sent_in v) (waits_in v) }
 {
     lawful_applications();
@@ -323,28 +325,8 @@ pub fn given_by_server()
 /// of the answer, unless that only acknowledges an attention, or the request was taken back before. The relay tells it
 /// before the packet, or the server in it; of no other reset is it told, whoever shares with it.
 pub fn told_once()
-    ensures { (max key : ℕ) (v : Visit max key) → IsToldOnce false (happens_to v) }
-{}
-
-/// An application keeps its session, which is the connection that it holds, by the lease by which it holds it: behind any
-/// moves. It may hold that no more only where its request asks for a full reset, or for one that keeps its transaction; it
-/// was to be closed before, or has left; or its connection is lost, or says what no server may. One that asks to keep its
-/// transaction keeps the connection where a transaction is open there. Whoever else does whatever parts it from nothing. So it
-/// is of a relay whose mode is by sessions.
-pub fn keeps_session()
-    ensures moves { (max key : ℕ) (moves : List Move) (move : Move)
-        → MayMoveAll (new_hall max) moves → MayMove (moved_all (new_hall max) moves) move
-        → (moved_all (new_hall max) moves).desk.mode ≡ Sessions
-        → KeepsSession key (moved_all (new_hall max) moves) move }
-    /// What its request asks for is what its own bytes have said, from where it enters: the last request that has begun asks
-    /// for that reset, and it has neither been told of it nor taken the request back.
-    ensures own { (max key : ℕ) (v : Visit max key) (move : Move) → MayMove (hall_behind v) move
-        → (hall_behind v).desk.mode ≡ Sessions → KeepsOwn v move }
-{}
-
-/// A relay's mode is what it was as it was made: no move changes it.
-pub fn keeps_mode()
-    ensures { (h : Hall) (moves : List Move) → (moved_all h moves).desk.mode ≡ h.desk.mode }
+    ensures { (sharing : Sharing) (key : ℕ) (v : Visit sharing key)
+        → IsToldOnce false (happens_to v) }
 {}
 
 /// What is told of why an application is to be closed, or a connection, was met in a step of these, or before them.
@@ -367,11 +349,11 @@ pub fn goes_out_over_calls()
 /// any steps, and while it stays.
 pub fn waits_once()
     /// Where it enters it has neither.
-    ensures enters { (max key : ℕ) (v : Visit max key)
-        → IsAway key (desk_after (new_desk max) (done_before v)) }
+    ensures enters { (sharing : Sharing) (key : ℕ) (v : Visit sharing key)
+        → IsAway key (desk_after (new_desk sharing) (done_before v)) }
     /// Since, each event by which it comes to wait is where it has neither.
-    ensures since { (max key : ℕ) (v : Visit max key)
-        → WaitsAway key (desk_after (new_desk max) (done_before v)) (done_since v) }
+    ensures since { (sharing : Sharing) (key : ℕ) (v : Visit sharing key)
+        → WaitsAway key (desk_after (new_desk sharing) (done_before v)) (done_since v) }
 {
     each_alone::<Token>();
     line_by_history::<Token>();

@@ -17,6 +17,7 @@ mod order;
 mod outgoing;
 mod reading;
 mod relay;
+pub mod sharing_laws;
 mod sorted;
 
 pub use desk::{Desk, Heard, Hold, Left, Mode, Renewed, Served, What};

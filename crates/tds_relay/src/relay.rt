@@ -8,10 +8,10 @@ ghost use Rattle.tds_relay.specs.Bounds.{waiting_for};
 ghost use Rattle.tds_relay.specs.Closings.{ClosesOnly, Nobody, register_in};
 ghost use Rattle.tds_relay.specs.Desk.{find_key, find_number, key_of, new_desk};
 ghost use Rattle.tds_relay.specs.Fronts.{Moved, ends_in, hall_in, house_in};
-ghost use Rattle.tds_relay.specs.Hall.{HasNoTransaction, IfOpen, IsAway, IsHere, MayPart, change_end, end_at};
+ghost use Rattle.tds_relay.specs.Hall.{IfOpen, IsAway, IsHere, MayPart, change_end, end_at};
 ghost use Rattle.tds_relay.specs.Hall.{lets_go};
 ghost use Rattle.tds_relay.specs.House.{Steps, new_house};
-ghost use Rattle.tds_relay.specs.Places.{begun_in, holder};
+ghost use Rattle.tds_relay.specs.Places.{HasNoTransaction, begun_in, holder};
 ghost use Rattle.tds_relay.specs.Posts.{Enters, posts_in};
 ghost use Rattle.tds_relay.specs.Reads.{link_at, waits_on};
 ghost use Rattle.tds_relay.specs.Sparing.{OthersRest};
@@ -29,6 +29,7 @@ mod coming;
 mod leaving;
 mod lending;
 mod limiting;
+mod parking;
 mod places;
 mod putting;
 mod resuming;
@@ -77,16 +78,19 @@ pub struct Relay {
 }
 
 impl Relay {
-    /// A relay of never more connections than so many, with packets of this size. `features` is what the
-    /// connections' logins acknowledge.
+    /// A relay of never more connections than so many, shared like this, with packets of this size. `features` is
+    /// what the connections' logins acknowledge.
     pub fn new(
         alloc: Global,
+        mode: Mode,
         most: usize,
         size: PacketSize,
         features: Features,
     ) -> Result<Relay, NoMemory>
-        ensures desk { IfOk result (λ relay. desk_in relay.desk ≡ new_desk most) }
-        ensures house { IfOk result (λ relay. house_in relay ≡ new_house most) }
+        ensures desk { IfOk result (λ relay. desk_in relay.desk
+            ≡ new_desk (record { most = most; mode = mode })) }
+        ensures house { IfOk result (λ relay. house_in relay
+            ≡ new_house (record { most = most; mode = mode })) }
         ensures unread { IfOk result (λ relay. (number : ℕ)
             → IsUnread COLUMNS features number relay.desk.service) }
         ensures nothing { IfOk result (λ relay. (relay.links.items ≡ [])
@@ -94,7 +98,7 @@ impl Relay {
         ensures sized { IfOk result (λ relay. (relay.size ≡ size) × (relay.features ≡ features)) }
         ensures most { IfOk result (λ relay. relay.most ≡ most) }
     {
-        let desk = Desk::new(alloc, most, size, features)?;
+        let desk = Desk::new(alloc, mode, most, size, features)?;
         Ok(Relay {
             alloc,
             size,

@@ -19,7 +19,7 @@ use Rattle.tds_service.specs.Parts.{Part}
 use Rattle.tds_service.specs.Service.{Seat, Service, has_number, seat_numbered}
 use Rattle.tds_service.specs.Table.{reading_on, service_in}
 use Rattle.tds_relay.specs.Cutting.{ends_in}
-use Rattle.tds_relay.specs.Desk.{Way}
+use Rattle.tds_relay.specs.Desk.{Sharing, Way}
 use Rattle.tds_relay.specs.Giving.{ReadVisit, StaysAll}
 use Rattle.tds_relay.specs.Hall.{Ends, Move}
 use Rattle.tds_relay.specs.House.{House, Step, Admits, CausesStep, Hands, Makes, Manner, MayAll, Removes, Steps, Takes, Writes, after, after_all, new_house}
@@ -218,46 +218,46 @@ module _ (number : ℕ) (header : Header) (content : List ℕ) (way : Way) (mann
 -- ---- From a new relay
 
 -- where a relay is new
-pub reads_new : (max most : ℕ) (features : Features) (s : services.Service) → ((number : ℕ) → IsUnread most features number s) → IsReadTo max most features (new_house max) s
-reads_new max most features s unread = record {
+pub reads_new : (sharing : Sharing) (most : ℕ) (features : Features) (s : services.Service) → ((number : ℕ) → IsUnread most features number s) → IsReadTo sharing most features (new_house sharing) s
+reads_new sharing most features s unread = record {
   steps = [];
   are = refl;
   may = tt;
-  each = λ n. anew_none most features n (new_house max) [] s (λ r. (tt, refl)) (unread n);
+  each = λ n. anew_none most features n (new_house sharing) [] s (λ r. (tt, refl)) (unread n);
 }
 
-reads_on : (max most : ℕ) (features : Features) (old new : House) (from to : services.Service) (steps : List Step) → after_all old steps ≡ new → MayAll old steps → Walks from old steps to
-    → IsReadTo max most features old from → IsReadTo max most features new to
-reads_on max most features old new from to steps are may walks s = record {
+reads_on : (sharing : Sharing) (most : ℕ) (features : Features) (old new : House) (from to : services.Service) (steps : List Step) → after_all old steps ≡ new → MayAll old steps → Walks from old steps to
+    → IsReadTo sharing most features old from → IsReadTo sharing most features new to
+reads_on sharing most features old new from to steps are may walks s = record {
   steps = s.steps ++ steps;
-  are = after_both (new_house max) s.steps steps ∙ ap (λ (h : House). after_all h steps) s.are ∙ are;
-  may = may_both (new_house max) s.steps steps s.may (subst (λ (h : House). MayAll h steps) (sym s.are) may);
-  each = λ n. anew_both most features n from to (new_house max) s.steps steps (s.each n) (subst (λ (h : House). Walks from h steps to) (sym s.are) walks);
+  are = after_both (new_house sharing) s.steps steps ∙ ap (λ (h : House). after_all h steps) s.are ∙ are;
+  may = may_both (new_house sharing) s.steps steps s.may (subst (λ (h : House). MayAll h steps) (sym s.are) may);
+  each = λ n. anew_both most features n from to (new_house sharing) s.steps steps (s.each n) (subst (λ (h : House). Walks from h steps to) (sym s.are) walks);
 }
 
 -- behind a call by which nothing comes on a connection
-pub reads_called : (by : Cause) (max most : ℕ) (features : Features) (old new : House) (from to : services.Service) → IsNoConnection by → Steps by old new → AllStand from to
-    → IsReadTo max most features old from → IsReadTo max most features new to
-reads_called by max most features old new from to never s later led =
-    reads_on max most features old new from to s.steps s.are s.may (walks_unread from to old s.steps (λ n. none_caused by n old s.steps never s.caused) later) led
+pub reads_called : (by : Cause) (sharing : Sharing) (most : ℕ) (features : Features) (old new : House) (from to : services.Service) → IsNoConnection by → Steps by old new → AllStand from to
+    → IsReadTo sharing most features old from → IsReadTo sharing most features new to
+reads_called by sharing most features old new from to never s later led =
+    reads_on sharing most features old new from to s.steps s.are s.may (walks_unread from to old s.steps (λ n. none_caused by n old s.steps never s.caused) later) led
 
 -- or one by which bytes come
-pub reads_came : (number max most : ℕ) (features : Features) (had now : Option packets.Reading) (bytes : List ℕ) (old new : House) (from to : services.Service) → Comes number had old from bytes now new to
-    → IsReadTo max most features old from → IsReadTo max most features new to
-reads_came number max most features had now bytes old new from to c led =
+pub reads_came : (number : ℕ) (sharing : Sharing) (most : ℕ) (features : Features) (had now : Option packets.Reading) (bytes : List ℕ) (old new : House) (from to : services.Service) → Comes number had old from bytes now new to
+    → IsReadTo sharing most features old from → IsReadTo sharing most features new to
+reads_came number sharing most features had now bytes old new from to c led =
     let s = c.streams.streams in
-    let mid : IsReadTo max most features c.mid c.at = reads_on max most features old c.mid from c.at s.steps s.are s.may s.walks led in
+    let mid : IsReadTo sharing most features c.mid c.at = reads_on sharing most features old c.mid from c.at s.steps s.are s.may s.walks led in
     let more : Steps Neither (record { hall = c.mid.hall; posts = c.mid.posts }) (record { hall = new.hall; posts = c.mid.posts }) = steps_of Neither c.mid.hall new.hall c.mid.posts (c.goes_on Neither) in
-    reads_called Neither max most features c.mid new c.at to tt (subst (λ (ps : Posts). Steps Neither c.mid (record { hall = new.hall; posts = ps })) (sym c.kept) more) c.stand mid
+    reads_called Neither sharing most features c.mid new c.at to tt (subst (λ (ps : Posts). Steps Neither c.mid (record { hall = new.hall; posts = ps })) (sym c.kept) more) c.stand mid
 
 -- who has come, and stays
-pub visits : (max most key : ℕ) (features : Features) (h : House) (s : services.Service) (before since : List Step) (ends : Ends) (posts : Posts) (led : IsReadTo max most features h s)
-    → led.steps ≡ before ++ Admits key ends posts ∷ since → StaysAll key since → (v : ReadVisit max key) × (v.visit.before ≡ before) × (v.visit.since ≡ since)
-visits max most key features h s before since ends posts led are stays =
-    let v : ReadVisit max key = record {
-      visit = record { before = before; ends = ends; posts = posts; since = since; may = subst (MayAll (new_house max)) are led.may; stays = stays };
+pub visits : (sharing : Sharing) (most key : ℕ) (features : Features) (h : House) (s : services.Service) (before since : List Step) (ends : Ends) (posts : Posts) (led : IsReadTo sharing most features h s)
+    → led.steps ≡ before ++ Admits key ends posts ∷ since → StaysAll key since → (v : ReadVisit sharing key) × (v.visit.before ≡ before) × (v.visit.since ≡ since)
+visits sharing most key features h s before since ends posts led are stays =
+    let v : ReadVisit sharing key = record {
+      visit = record { before = before; ends = ends; posts = posts; since = since; may = subst (MayAll (new_house sharing)) are led.may; stays = stays };
       most = most;
       features = features;
-      read = subst (AllReadAnew most features (new_house max)) are (λ n. let e = led.each n in (e.0, e.1, e.2));
+      read = subst (AllReadAnew most features (new_house sharing)) are (λ n. let e = led.each n in (e.0, e.1, e.2));
     } in
     (v, refl, refl)

@@ -19,7 +19,7 @@ use Rattle.tds_service.specs.Parts.{Part}
 use Rattle.tds_service.specs.Service as calls
 use Rattle.tds_service.specs.Service.{Service, Seat, Call, Step, lease_at, new_service, on, on_one, seat_numbered, service_after, step, steps}
 use Rattle.tds_relay.specs.Desk as desk
-use Rattle.tds_relay.specs.Desk.{Deed, Desk, Event, Hearing, Turn, Way, desk_after, new_desk, turn, whose}
+use Rattle.tds_relay.specs.Desk.{Deed, Desk, Event, Hearing, Sharing, Turn, Way, desk_after, new_desk, turn, whose}
 use Rattle.tds_relay.specs.Behind.{AllAnswerOnce, Stays, StaysIn, brought, events_along, gone_on, if_open, passed, passes, said_in, unless_withdrawn}
 use Rattle.tds_relay.specs.Fronting.{AnswersOnce, calls_along, done_on}
 use Rattle.tds_relay.specs.Hall.{End, Open, Over, Ends, Hall, IsPut, MayDo, MayMove, MayMoveAll, Move, done_by, end_at, event_if, events_of, holder, moved, moved_all, new_hall, sent_by, stops_of, told, what_in, what_of, goes_on, closes, lets_go, feeds}
@@ -80,8 +80,8 @@ done_both n d xs ys =
 
 -- ---- What is known of each connection
 
-abbrev pub outs_of : ℕ → List Event → ℕ → Bool
-outs_of max events n = out_after false (done_on max n events)
+abbrev pub outs_of : Sharing → List Event → ℕ → Bool
+outs_of sharing events n = out_after false (done_on sharing n events)
 
 -- Each history is that of a connection alone, and its line is what that leaves.
 abbrev pub Alone : Type 0
@@ -91,13 +91,13 @@ abbrev pub ByHistory : Type 0
 ByHistory = (max n : ℕ) (all : List (Call Token)) (c : Seat) → seat_numbered n (service_after (new_service max) all).seats ≡ Some c
     → c.line ≡ line_after new_line (acts_of (on n (steps (new_service max) all)))
 
-pub known_at : Alone → ByHistory → (max : ℕ) (events : List Event) (n : ℕ) (c : Seat) → seat_numbered n (desk_after (new_desk max) events).service.seats ≡ Some c → out_of c.line.stage (outs_of max events n) ≡ outs_of max events n
-known_at alone by max events n c there =
-    let all = calls_along (new_desk max) events in
-    let ds = done_on max n events in
-    let same : ds ≡ history new_line (acts_of ds) = alone max n all in
-    let at : seat_numbered n (service_after (new_service max) all).seats ≡ Some c = ap (λ (s : Service). seat_numbered n s.seats) (sym (service_along (new_desk max) events)) ∙ there in
-    let l : c.line ≡ line_after new_line (acts_of ds) = by max n all c at in
+pub known_at : Alone → ByHistory → (sharing : Sharing) (events : List Event) (n : ℕ) (c : Seat) → seat_numbered n (desk_after (new_desk sharing) events).service.seats ≡ Some c → out_of c.line.stage (outs_of sharing events n) ≡ outs_of sharing events n
+known_at alone by sharing events n c there =
+    let all = calls_along (new_desk sharing) events in
+    let ds = done_on sharing n events in
+    let same : ds ≡ history new_line (acts_of ds) = alone sharing.most n all in
+    let at : seat_numbered n (service_after (new_service sharing.most) all).seats ≡ Some c = ap (λ (s : Service). seat_numbered n s.seats) (sym (service_along (new_desk sharing) events)) ∙ there in
+    let l : c.line ≡ line_after new_line (acts_of ds) = by sharing.most n all c at in
     let P : Line → List (Done Token) → Type 0 = λ (x : Line) (xs : List (Done Token)). out_of x.stage (out_after false xs) ≡ out_after false xs in
     let one : P (line_after new_line (acts_of ds)) (history new_line (acts_of ds)) = tells_all new_line (acts_of ds) false refl in
     let two : P (line_after new_line (acts_of ds)) ds = subst (λ (xs : List (Done Token)). P (line_after new_line (acts_of ds)) xs) (sym same) one in
@@ -109,28 +109,28 @@ all_sit : (d : Desk) (events : List Event) → Sound d → AllSit d → ((e : De
 all_sit d [] sound sit next = sit
 all_sit d (event ∷ events) sound sit next = all_sit (turn d event).desk events (next d event sound) (turn_sits d sound sit event) next
 
-pub always_sits : (max : ℕ) (events : List Event) → AllSit (desk_after (new_desk max) events)
-always_sits max events = all_sit (new_desk max) events (always_sound max []) tt (λ e event sound. Rattle.tds_relay.proofs.promises.Bringing.turn_sound e event sound)
+pub always_sits : (sharing : Sharing) (events : List Event) → AllSit (desk_after (new_desk sharing) events)
+always_sits sharing events = all_sit (new_desk sharing) events (always_sound sharing []) tt (λ e event sound. Rattle.tds_relay.proofs.promises.Bringing.turn_sound e event sound)
 
-abbrev pub IsAt : ℕ → List Event → Hall → Type 0
-IsAt max events h = h.desk ≡ desk_after (new_desk max) events
+abbrev pub IsAt : Sharing → List Event → Hall → Type 0
+IsAt sharing events h = h.desk ≡ desk_after (new_desk sharing) events
 
-pub sound_at : (max : ℕ) (events : List Event) (h : Hall) → IsAt max events h → Sound h.desk
-sound_at max events h is = subst Sound (sym is) (always_sound max events)
+pub sound_at : (sharing : Sharing) (events : List Event) (h : Hall) → IsAt sharing events h → Sound h.desk
+sound_at sharing events h is = subst Sound (sym is) (always_sound sharing events)
 
-pub sits_at : (max : ℕ) (events : List Event) (h : Hall) → IsAt max events h → AllSit h.desk
-sits_at max events h is = subst AllSit (sym is) (always_sits max events)
+pub sits_at : (sharing : Sharing) (events : List Event) (h : Hall) → IsAt sharing events h → AllSit h.desk
+sits_at sharing events h is = subst AllSit (sym is) (always_sits sharing events)
 
-pub next_at : (max : ℕ) (events : List Event) (h : Hall) (move : Move) → IsAt max events h → IsAt max (events ++ events_of h move) (moved h move)
-next_at max events h move is = ap (λ (d : Desk). desk_after d (events_of h move)) is ∙ sym (desk_both (new_desk max) events (events_of h move))
+pub next_at : (sharing : Sharing) (events : List Event) (h : Hall) (move : Move) → IsAt sharing events h → IsAt sharing (events ++ events_of h move) (moved h move)
+next_at sharing events h move is = ap (λ (d : Desk). desk_after d (events_of h move)) is ∙ sym (desk_both (new_desk sharing) events (events_of h move))
 
-pub done_at : (max : ℕ) (events : List Event) (h : Hall) (n : ℕ) (more : List Event) → IsAt max events h → done_on max n (events ++ more) ≡ done_on max n events ++ done_from n h.desk more
-done_at max events h n more is = done_both n (new_desk max) events more ∙ ap (λ (d : Desk). done_on max n events ++ done_from n d more) (sym is)
+pub done_at : (sharing : Sharing) (events : List Event) (h : Hall) (n : ℕ) (more : List Event) → IsAt sharing events h → done_on sharing n (events ++ more) ≡ done_on sharing n events ++ done_from n h.desk more
+done_at sharing events h n more is = done_both n (new_desk sharing) events more ∙ ap (λ (d : Desk). done_on sharing n events ++ done_from n d more) (sym is)
 
-pub leaves_at : (max : ℕ) (events : List Event) (h : Hall) (move : Move) → IsAt max events h → (n : ℕ)
-    → outs_of max (events ++ events_of h move) n ≡ out_after (outs_of max events n) (on n (steps h.desk.service (calls_along h.desk (events_of h move))))
-leaves_at max events h move is n =
-    ap (out_after false) (done_at max events h n (events_of h move) is) ∙ out_both false (done_on max n events) (done_from n h.desk (events_of h move))
+pub leaves_at : (sharing : Sharing) (events : List Event) (h : Hall) (move : Move) → IsAt sharing events h → (n : ℕ)
+    → outs_of sharing (events ++ events_of h move) n ≡ out_after (outs_of sharing events n) (on n (steps h.desk.service (calls_along h.desk (events_of h move))))
+leaves_at sharing events h move is n =
+    ap (out_after false) (done_at sharing events h n (events_of h move) is) ∙ out_both false (done_on sharing n events) (done_from n h.desk (events_of h move))
 
 -- ---- Moves, one behind the other
 

@@ -26,6 +26,7 @@ use Rattle.tds_relay.proofs.ends.Stopping.{Known}
 use Rattle.tds_relay.proofs.ends.Feeding.{LeavesIf, fed_next}
 use Rattle.tds_relay.proofs.ends.Ending.{end_by, passes_by}
 use Rattle.tds_relay.proofs.ends.Turning.{StepOf, StoryOf, apart_step, comes_whose, deed_if, lets_if, loses_whose, never, quits_if, renews_if, replaces_whose, sends_if, waits_if}
+use Rattle.tds_relay.proofs.steps.Parked.{lets_here}
 
 -- ---- Nothing is done at the desk
 
@@ -168,7 +169,7 @@ module _ (h : Hall) (key : ℕ) (outs outs2 : ℕ → Bool) (sound : Sound h.des
       sends_if d key outs outs2 sound sit k deed (k == key) p o refl s may.0 (λ is. subst (λ (x : ℕ). MayDo deed (end_at h.ends x)) is may.1) known
       (left_of d key outs outs2 sound sit (desk.Does k deed) leaves)
   step (hall.LetsGo k gives way) p may s leaves =
-      lets_if d key outs outs2 sound sit k gives way (k == key) p o refl s (λ is. subst (λ (x : ℕ). IfOpen IsHere (end_at h.ends x)) is may.0)
+      lets_if d key outs outs2 sound sit k gives way (k == key) p o refl s (λ is. subst (λ (x : ℕ). IfOpen IsHere (end_at h.ends x)) is (lets_here h k may))
       (left_of d key outs outs2 sound sit (desk.Leaves k gives way) leaves)
   step (hall.Loses n) p may s leaves =
       loses_whose d key outs outs2 sound sit n (holder d n) p o refl s (left_of d key outs outs2 sound sit (desk.Loses n) leaves)

@@ -11,7 +11,7 @@ use Rattle.tds_service.specs.History.{line_after}
 use Rattle.tds_service.specs.Service as calls
 use Rattle.tds_service.specs.Service.{Service, Call, Reply, Place, Leased, Cleaning, Kept, Free, Draining, Seat, find_by, change_by, has_lease, has_number, is_lendable, is_idle, is_free, rests, step, service_after, does, nothing}
 use Rattle.tds_relay.specs.Desk as desk
-use Rattle.tds_relay.specs.Desk.{Desk, Event, Way, find_key, find_lease, moves, releasing, frees, lent_in, brings_by, turn, desk_after, new_desk}
+use Rattle.tds_relay.specs.Desk.{Desk, Event, Sharing, Way, find_key, find_lease, moves, releasing, frees, lent_in, brings_by, turn, desk_after, new_desk}
 use Rattle.tds_relay.specs.Promises.{Each, CaresFor}
 use Rattle.tds_relay.proofs.promises.Seats.{each_weaker, each_added, each_found, each_fails, found_meets}
 use Rattle.tds_relay.proofs.promises.Tidy.{Tidy, UpTo, step_rises, next_is_new}
@@ -145,6 +145,6 @@ all_sound : (d : Desk) (events : List Event) → Sound d → Sound (desk_after d
 all_sound d [] sound = sound
 all_sound d (event ∷ events) sound = all_sound (turn d event).desk events (turn_sound d event sound)
 
-pub always_sound : (max : ℕ) (events : List Event) → Sound (desk_after (new_desk max) events)
-always_sound max events =
-    all_sound (new_desk max) events (record { tidy = record { distinct = tt; upto = tt; within = tt }; rising = (let u : 0 ≤ 0 = omega arith in u); cared = tt })
+pub always_sound : (sharing : Sharing) (events : List Event) → Sound (desk_after (new_desk sharing) events)
+always_sound sharing events =
+    all_sound (new_desk sharing) events (record { tidy = record { distinct = tt; upto = tt; within = tt }; rising = (let u : 0 ≤ 0 = omega arith in u); cared = tt })

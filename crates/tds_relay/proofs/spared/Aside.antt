@@ -192,7 +192,7 @@ cared_apart hs lease number n h Free l held differs c is same = let u : false �
 cared_apart hs lease number n h Draining l held differs c is same = let u : false ≡ true = is in let v : ⊥ = cc in v
 
 led_at : (d : Desk) → IsReached d → IsLed d.service
-led_at d r = (r.0, calls_along (new_desk r.0) r.1, sym (service_along (new_desk r.0) r.1) ∙ ap (λ (e : Desk). e.service) r.2)
+led_at d r = (r.0.most, calls_along (new_desk r.0) r.1, sym (service_along (new_desk r.0) r.1) ∙ ap (λ (e : Desk). e.service) r.2)
 
 -- one that is given back leaves them
 pub left_others : (d e : desks.Desk) (key : ℕ) (g : Hold) → find_key key d.holds.items ≡ Some g → e.holds.items ≡ without_lease g.lease d.holds.items → AsideStay g.lease g.number d.service e.service → OthersHold key d e

@@ -1,5 +1,5 @@
 -- How the ends of applications move.
-use Rattle.std.proofs.Common.{◌≡◌, ◌∙◌, ◌++◌, ℕ, zero, suc, Bool, true, false, List, [], ◌∷◌, Option, Some, None, inl, refl, sym, ap, subst, slice_set, option_map, if◌then◌else◌}
+use Rattle.std.proofs.Common.{◌≡◌, ◌∙◌, ◌++◌, ℕ, zero, suc, Bool, true, false, List, [], ◌∷◌, Option, Some, None, inl, inr, refl, sym, ap, subst, slice_set, option_map, if◌then◌else◌}
 use Rattle.std.proofs.lemmas.List.{set-get_or}
 use Rattle.slab.specs.Slab.{Slab, Updates, get, with_value}
 use Rattle.std.specs.Prelude.{Result, Ok, Err, OnOk, OnSome, IfNone}
@@ -22,7 +22,7 @@ use Rattle.tds_relay.specs.declared.desk.Hold.{Hold}
 use Rattle.tds_relay.specs.Desk as desk
 use Rattle.tds_relay.specs.Desk.{Desk, Event, Way, find_key, turn}
 use Rattle.tds_relay.specs.Fronts.{IsWhat, LetsGoFirst, Moved, MovedOn, end_of, ends_in, hall_of_ends, told_by}
-use Rattle.tds_relay.specs.Hall.{CausesMove, Closes, Does, End, Ends, Hall, HasEntered, Over, AsksFor, IfAsked, IfOpen, IfWhose, IsHere, IsQuiet, IsReset, LetsGo, MayPart, Loses, MayDoAlone, MayMove, MayMoveAll, Move, Moves, Open, Replaces, change_end, change_whose, closes, closes_for, end_at, holder, lets_go, moved, moved_all, told, what_in, what_of}
+use Rattle.tds_relay.specs.Hall.{CausesMove, Closes, Does, End, Ends, Hall, HasEntered, Over, AsksFor, IfAsked, IfOpen, IfWhose, IsHere, IsQuiet, IsReset, LetsGo, MayPart, Loses, MayDoAlone, MayMove, MayMoveAll, Move, Moves, Open, Replaces, change_end, change_whose, closes, closes_for, end_at, holder, lets_go, may_park, moved, moved_all, told, what_in, what_of}
 use Rattle.tds_relay.specs.Promises.{Each}
 use Rattle.tds_relay.specs.Ties as causes
 use Rattle.tds_relay.specs.Ties.{Cause, Causes, Turns}
@@ -235,7 +235,12 @@ lets_go_first key d d1 es es1 new gives way before after t ends on = (
 pub moves_lets_go : (key : ℕ) (from : Hall) (d : Desk) (es : Ends) (new : Hall) → MayPart (hall_of_ends d es) key → LetsGoFirst key (hall_of_ends d es) new
     → Moves (causes.Application key) from (hall_of_ends d es) → Moves (causes.Application key) from new
 moves_lets_go key from d es new here l m =
-    l.2 (causes.Application key) from (moves_one (causes.Application key) from (hall_of_ends d es) (LetsGo key l.0 l.1) here refl tt m)
+    l.2 (causes.Application key) from (moves_one (causes.Application key) from (hall_of_ends d es) (LetsGo key l.0 l.1) (inl here) refl tt m)
+
+pub moves_parks : (key : ℕ) (from : Hall) (d : Desk) (es : Ends) (new : Hall) → may_park (hall_of_ends d es) key ≡ true → LetsGoFirst key (hall_of_ends d es) new
+    → Moves (causes.Application key) from (hall_of_ends d es) → Moves (causes.Application key) from new
+moves_parks key from d es new rests l m =
+    l.2 (causes.Application key) from (moves_one (causes.Application key) from (hall_of_ends d es) (LetsGo key l.0 l.1) (inr rests) refl tt m)
 
 pub moves_replaces : (number key : ℕ) (from : Hall) (d d1 : Desk) (es es1 : Ends) (before after : List ℕ)
     → Turns (desk.Loses number) d d1 before after → Some key ≡ holder d number → IfWhose (MayPart (hall_of_ends d es)) (holder d number) → es1 ≡ change_end key lets_go es

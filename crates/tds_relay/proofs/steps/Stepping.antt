@@ -2,7 +2,7 @@
 use Rattle.std.proofs.Common.{◌≡◌, ◌∙◌, ◌++◌, ℕ, List, [], ◌∷◌, None, refl, sym, ap, subst, slice_set}
 use Rattle.std.specs.Prelude.{Result, Ok, Err, OnOk}
 use Rattle.tds_relay.specs.Desk as desk
-use Rattle.tds_relay.specs.Desk.{Desk, turn}
+use Rattle.tds_relay.specs.Desk.{Desk, Sharing, turn}
 use Rattle.tds_relay.specs.Fronts.{LetsGoFirst, Moved, MovedOn, hall_of_ends, house_with}
 use Rattle.tds_relay.specs.Hall.{CausesMove, Ends, Hall, HasEntered, IsQuiet, MayMoveAll, Move, Moves, change_end, lets_go, moved_all}
 use Rattle.tds_relay.specs.House.{House, Step, Admits, CausesStep, IsLedTo, Makes, MayAll, MayStep, Removes, Steps, StepsOn, Writes, after, after_all, new_house}
@@ -123,9 +123,9 @@ steps_writes key count h d1 es1 ps1 same ends sent =
 
 -- ---- From a new one
 
-pub led_on : (max : ℕ) (by : Cause) (old new : House) → Steps by old new → IsLedTo max old → IsLedTo max new
-led_on max by old new s (steps, are, may) = (
+pub led_on : (sharing : Sharing) (by : Cause) (old new : House) → Steps by old new → IsLedTo sharing old → IsLedTo sharing new
+led_on sharing by old new s (steps, are, may) = (
   steps ++ s.steps,
-  after_both (new_house max) steps s.steps ∙ ap (λ (h : House). after_all h s.steps) are ∙ s.are,
-  may_both (new_house max) steps s.steps may (subst (λ (h : House). MayAll h s.steps) (sym are) s.may),
+  after_both (new_house sharing) steps s.steps ∙ ap (λ (h : House). after_all h s.steps) are ∙ s.are,
+  may_both (new_house sharing) steps s.steps may (subst (λ (h : House). MayAll h s.steps) (sym are) s.may),
 )

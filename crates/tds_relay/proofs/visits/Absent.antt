@@ -4,7 +4,7 @@ use Rattle.std.specs.Prelude.{None}
 use Rattle.tds_relay.specs.Away.{IsAway, WaitsAway, done_before, done_since}
 use Rattle.tds_relay.specs.Behind.{events_along}
 use Rattle.tds_relay.specs.Desk as desk
-use Rattle.tds_relay.specs.Desk.{Desk, Event, desk_after, new_desk, turn}
+use Rattle.tds_relay.specs.Desk.{Desk, Event, Sharing, desk_after, new_desk, turn}
 use Rattle.tds_relay.specs.Giving.{Visit, house_in, moves_in}
 use Rattle.tds_relay.specs.Hall as hall
 use Rattle.tds_relay.specs.Hall.{Hall, MayDoAlone, MayMove, MayMoveAll, Move, end_at, event_if, events_of, moved, moved_all, new_hall, stops_of}
@@ -70,22 +70,22 @@ desk_along h (move ∷ moves) = desk_along (moved h move) moves ∙ sym (desk_bo
 
 -- ---- A visit
 
-pub away_where_it_enters : (max key : ℕ) → Alone → ByHistory → Judging → (v : Visit max key) → IsAway key (desk_after (new_desk max) (done_before v))
-away_where_it_enters max key alone by judges v =
-    let c = came max key v in
-    let is : (after_all (new_house max) v.before).hall ≡ moved_all (new_hall max) (moves_in v.before) = hall_after (new_house max) v.before in
-    let free : end_at (moved_all (new_hall max) (moves_in v.before)).ends key ≡ None = ap (λ (h : Hall). end_at h.ends key) (sym is) ∙ c.may_come.0.was_free in
-    let at : Free max key alone by judges (done_before v) (moved_all (new_hall max) (moves_in v.before)) =
-    before max key alone by judges (moves_in v.before) (may_moves (new_house max) v.before c.may_before) free in
-    let away : IsAway key (moved_all (new_hall max) (moves_in v.before)).desk =
-    record { holds = theirs_none key (moved_all (new_hall max) (moves_in v.before)).desk.holds at.gone.holds; waits = at.gone.waits } in
+pub away_where_it_enters : (sharing : Sharing) (key : ℕ) → Alone → ByHistory → Judging → (v : Visit sharing key) → IsAway key (desk_after (new_desk sharing) (done_before v))
+away_where_it_enters sharing key alone by judges v =
+    let c = came sharing key v in
+    let is : (after_all (new_house sharing) v.before).hall ≡ moved_all (new_hall sharing) (moves_in v.before) = hall_after (new_house sharing) v.before in
+    let free : end_at (moved_all (new_hall sharing) (moves_in v.before)).ends key ≡ None = ap (λ (h : Hall). end_at h.ends key) (sym is) ∙ c.may_come.0.was_free in
+    let at : Free sharing key alone by judges (done_before v) (moved_all (new_hall sharing) (moves_in v.before)) =
+    before sharing key alone by judges (moves_in v.before) (may_moves (new_house sharing) v.before c.may_before) free in
+    let away : IsAway key (moved_all (new_hall sharing) (moves_in v.before)).desk =
+    record { holds = theirs_none key (moved_all (new_hall sharing) (moves_in v.before)).desk.holds at.gone.holds; waits = at.gone.waits } in
     subst (IsAway key) at.is away
 
 -- its coming does nothing at the desk
-pub desk_is : (max key : ℕ) (v : Visit max key) → (house_in v).hall.desk ≡ desk_after (new_desk max) (done_before v)
-desk_is max key v =
-    ap (λ (h : House). h.hall.desk) (came max key v).house_is ∙ ap (λ (h : Hall). h.desk) (hall_after (new_house max) v.before) ∙ desk_along (new_hall max) (moves_in v.before)
+pub desk_is : (sharing : Sharing) (key : ℕ) (v : Visit sharing key) → (house_in v).hall.desk ≡ desk_after (new_desk sharing) (done_before v)
+desk_is sharing key v =
+    ap (λ (h : House). h.hall.desk) (came sharing key v).house_is ∙ ap (λ (h : Hall). h.desk) (hall_after (new_house sharing) v.before) ∙ desk_along (new_hall sharing) (moves_in v.before)
 
-pub away_since : (max key : ℕ) (v : Visit max key) → WaitsAway key (desk_after (new_desk max) (done_before v)) (done_since v)
-away_since max key v =
-    subst (λ (d : Desk). WaitsAway key d (done_since v)) (desk_is max key v) (moves_away key (house_in v).hall (moves_in v.since) (may_moves (house_in v) v.since (came max key v).may_since))
+pub away_since : (sharing : Sharing) (key : ℕ) (v : Visit sharing key) → WaitsAway key (desk_after (new_desk sharing) (done_before v)) (done_since v)
+away_since sharing key v =
+    subst (λ (d : Desk). WaitsAway key d (done_since v)) (desk_is sharing key v) (moves_away key (house_in v).hall (moves_in v.since) (may_moves (house_in v) v.since (came sharing key v).may_since))

@@ -15,7 +15,7 @@ use Rattle.tds_service.specs.Line.{Answer, Turn, turn}
 use Rattle.tds_service.specs.Parts.{Part, is_end}
 use Rattle.tds_relay.specs.Behind.{if_open, if_whose, passes, said_by, said_in, unless_withdrawn}
 use Rattle.tds_relay.specs.Cutting.{ends_in}
-use Rattle.tds_relay.specs.Desk.{Desk, Event, Way, whose}
+use Rattle.tds_relay.specs.Desk.{Desk, Event, Sharing, Way, whose}
 use Rattle.tds_relay.specs.Giving.{AreSaid, Given, IsPacketOf, IsSaid, if_its}
 use Rattle.tds_relay.specs.Hall as hall
 use Rattle.tds_relay.specs.Hall.{End, Open, done_by, end_at, what_in, what_of}
@@ -102,7 +102,7 @@ module _ (header : Header) (content : List ℕ) (manner : Manner) (right : IsRig
 
 -- ---- By whose it is
 
-module _ (max key : ℕ) (events : List Event) (h : House) (front : Front) (w : Bool) (stands : Stands max key events h.hall front w)
+module _ (sharing : Sharing) (key : ℕ) (events : List Event) (h : House) (front : Front) (w : Bool) (stands : Stands sharing key events h.hall front w)
     (number : ℕ) (header : Header) (content : List ℕ) (part : Part Token) (manner : Manner) (may : MayHand h number header content part manner) where
   abbrev d : Desk
   d = h.hall.desk
@@ -113,23 +113,23 @@ module _ (max key : ℕ) (events : List Event) (h : House) (front : Front) (w : 
   abbrev SaidOf : List (Done Token) → Type 0
   SaidOf dones = IsHanded (not w && not (closes (what_in dones))) manner → Said front.stage (unless_withdrawn w (said_in dones)) Handed
 
-  came_said : (k : Holds (outs_of max events) d key front.stage w stands.place) → EndsAs (ends_in header) (is_end part.close) (turn k.seat.line (line.Come part)).answer → SaidOf (history k.seat.line (line.Come part ∷ []))
+  came_said : (k : Holds (outs_of sharing events) d key front.stage w stands.place) → EndsAs (ends_in header) (is_end part.close) (turn k.seat.line (line.Come part)).answer → SaidOf (history k.seat.line (line.Come part ∷ []))
   came_said k fits on =
-      heard_said header content manner may.right front.stage w stands.place k.seat.line.stage (outs_of max events k.hold.number) (is_end part.close) (turn k.seat.line (line.Come part)) k.tied
+      heard_said header content manner may.right front.stage w stands.place k.seat.line.stage (outs_of sharing events k.hold.number) (is_end part.close) (turn k.seat.line (line.Come part)) k.tied
       (heard_as k.seat.line part) fits on
 
   -- the application holds that connection
-  own_said : Holds (outs_of max events) d key front.stage w stands.place → whose d number ≡ Some key → SaidOf (done_by d number part)
+  own_said : Holds (outs_of sharing events) d key front.stage w stands.place → whose d number ≡ Some key → SaidOf (done_by d number part)
   own_said k mine =
-      let sound = sound_at max events h.hall stands.is in
+      let sound = sound_at sharing events h.hall stands.is in
       let number_is : k.hold.number ≡ number = whose_number d key number k.hold k.seat sound k.its mine in
       let fits = ends_heard k.seat.line may.walker content (ends_in header) part may.part_is (may.has_walker key mine) in
       let here : SaidOf (done_by d k.hold.number part) = subst SaidOf (sym (came_done d key k.hold k.seat part k.its)) (came_said k fits) in
       subst (λ (n : ℕ). SaidOf (done_by d n part)) number_is here
 
-  its_said : Standing (outs_of max events) d key front.stage w stands.place → whose d number ≡ Some key → SaidOf (done_by d number part)
+  its_said : Standing (outs_of sharing events) d key front.stage w stands.place → whose d number ≡ Some key → SaidOf (done_by d number part)
   its_said (inl k) mine = own_said k mine
-  its_said (inr k) mine = absurd (absent_whose d key number (sound_at max events h.hall stands.is) k.absent.none mine)
+  its_said (inr k) mine = absurd (absent_whose d key number (sound_at sharing events h.hall stands.is) k.absent.none mine)
 
   abbrev Heard : List Passed
   Heard = if_open (end_at h.hall.ends key) (λ front withdrawn. unless_withdrawn withdrawn (said_in (done_by d number part)))

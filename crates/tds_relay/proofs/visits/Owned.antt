@@ -5,15 +5,16 @@ use Rattle.tds_packet.specs.declared.status.Reset.{Reset}
 use Rattle.tds_packet.specs.declared.status.Reset.TheVariants.{Full, KeepTransaction}
 use Rattle.tds_relay.specs.declared.desk.Hold.{Hold}
 use Rattle.tds_relay.specs.Desk as desk
-use Rattle.tds_relay.specs.Desk.{find_key}
+use Rattle.tds_relay.specs.Desk.{Sharing, find_key}
 use Rattle.tds_relay.specs.Giving.{Visit, moves_in}
 use Rattle.tds_relay.specs.Hall as hall
-use Rattle.tds_relay.specs.Hall.{AsksFor, End, Open, Over, Hall, HasNoTransaction, MayMove, Move, end_at, moved, moved_all, new_hall}
+use Rattle.tds_relay.specs.Hall.{AsksFor, End, Open, Over, Hall, MayMove, Move, end_at, moved, moved_all, new_hall}
+use Rattle.tds_relay.specs.Places.{HasNoTransaction}
 use Rattle.tds_relay.specs.House.{House, Step, Admits, after_all, new_house}
-use Rattle.tds_relay.specs.Law.{HasAsked, KeepsOwn, KeepsSession, Parts, PartsFor, hall_behind}
+use Rattle.tds_relay.specs.Law.{HasAsked, IsParked, KeepsOwnOrRests, KeepsTransaction, Parts, PartsFor, hall_behind}
 use Rattle.tds_relay.specs.Taking.{IsDeaf}
 use Rattle.tds_relay.specs.Telling.{AsksJust, happens_to, wants}
-use Rattle.tds_relay.proofs.ends.Keeping.{Asks, keeps_session}
+use Rattle.tds_relay.proofs.ends.Keeping.{Asks, keeps_all}
 use Rattle.tds_relay.proofs.steps.Stepping.{after_both}
 use Rattle.tds_relay.proofs.visits.Stays.{hall_after, may_moves}
 use Rattle.tds_relay.proofs.visits.Tellings.{wants_in}
@@ -53,22 +54,24 @@ module _ (A B : Reset → Type 0) (leads : (reset : Reset) → A reset → B res
   parts_by (hall.Quits other gives way) p = p
 
 -- where a visit's steps have led, its moves lead
-behind_is : (max key : ℕ) (v : Visit max key) → hall_behind v ≡ moved_all (new_hall max) (moves_in (v.before ++ Admits key v.ends v.posts ∷ v.since))
-behind_is max key v =
+behind_is : (sharing : Sharing) (key : ℕ) (v : Visit sharing key) → hall_behind v ≡ moved_all (new_hall sharing) (moves_in (v.before ++ Admits key v.ends v.posts ∷ v.since))
+behind_is sharing key v =
     let come : List Step = Admits key v.ends v.posts ∷ [] in
-    ap (λ (h : House). h.hall) (sym (after_both (new_house max) (v.before ++ come) v.since) ∙ ap (after_all (new_house max)) (append_assoc v.before come v.since))
-    ∙ hall_after (new_house max) (v.before ++ Admits key v.ends v.posts ∷ v.since)
+    ap (λ (h : House). h.hall) (sym (after_both (new_house sharing) (v.before ++ come) v.since) ∙ ap (after_all (new_house sharing)) (append_assoc v.before come v.since))
+    ∙ hall_after (new_house sharing) (v.before ++ Admits key v.ends v.posts ∷ v.since)
 
-own_by : (max key : ℕ) (v : Visit max key) (move : Move) (hold : Hold) → (find_key key (moved (hall_behind v) move).desk.holds ≡ Some hold) ⊎ Parts (Asks (hall_behind v) key) key hold (hall_behind v) move
-    → (find_key key (moved (hall_behind v) move).desk.holds ≡ Some hold) ⊎ Parts (HasAsked v) key hold (hall_behind v) move
-own_by max key v move hold (inl keeps) = inl keeps
-own_by max key v move hold (inr parts) =
-    inr (parts_by (Asks (hall_behind v) key) (HasAsked v) (λ reset. asked (wants None (happens_to v)) reset (end_at (hall_behind v).ends key) (wants_in max key v)) key hold (hall_behind v) move parts)
+own_by : (sharing : Sharing) (key : ℕ) (v : Visit sharing key) (move : Move) (hold : Hold)
+    → (find_key key (moved (hall_behind v) move).desk.holds ≡ Some hold) ⊎ (Parts (Asks (hall_behind v) key) key hold (hall_behind v) move ⊎ IsParked key (hall_behind v) move)
+    → (find_key key (moved (hall_behind v) move).desk.holds ≡ Some hold) ⊎ (Parts (HasAsked v) key hold (hall_behind v) move ⊎ IsParked key (hall_behind v) move)
+own_by sharing key v move hold (inl keeps) = inl keeps
+own_by sharing key v move hold (inr (inl parts)) =
+    inr (inl (parts_by (Asks (hall_behind v) key) (HasAsked v) (λ reset. asked (wants None (happens_to v)) reset (end_at (hall_behind v).ends key) (wants_in sharing key v)) key hold (hall_behind v) move parts))
+own_by sharing key v move hold (inr (inr parked)) = inr (inr parked)
 
-pub keeps_own : (max key : ℕ) (v : Visit max key) (move : Move) → MayMove (hall_behind v) move → KeepsOwn v move
-keeps_own max key v move may hold e =
+pub keeps_own : (sharing : Sharing) (key : ℕ) (v : Visit sharing key) (move : Move) → MayMove (hall_behind v) move → KeepsOwnOrRests v move
+keeps_own sharing key v move may hold e =
     let all : List Step = v.before ++ Admits key v.ends v.posts ∷ v.since in
-    let is = behind_is max key v in
-    let keeps : KeepsSession key (hall_behind v) move =
-    subst (λ (h : Hall). KeepsSession key h move) (sym is) (keeps_session max key (moves_in all) move (may_moves (new_house max) all v.may) (subst (λ (h : Hall). MayMove h move) is may)) in
-    own_by max key v move hold (keeps hold e)
+    let is = behind_is sharing key v in
+    let its : KeepsTransaction key (hall_behind v) move =
+    subst (λ (h : Hall). KeepsTransaction key h move) (sym is) (keeps_all sharing key (moves_in all) move (may_moves (new_house sharing) all v.may) (subst (λ (h : Hall). MayMove h move) is may)) in
+    own_by sharing key v move hold (its hold e)

@@ -10,7 +10,7 @@ use Rattle.tds_front.specs.Serving.{Place}
 use Rattle.tds_packet.specs.declared.header.Header.{Header}
 use Rattle.tds_front.specs.declared.fault.FrontFault.{FrontFault}
 use Rattle.tds_relay.specs.Behind.{Stays, events_along, passed, passes}
-use Rattle.tds_relay.specs.Desk.{Event, whose}
+use Rattle.tds_relay.specs.Desk.{Event, Sharing, whose}
 use Rattle.tds_relay.specs.Giving.{AreSaid, Given, StaysAll, Visit, given, given_all, given_in, happens_in, house_in, if_its, moves_in}
 use Rattle.tds_relay.specs.Hall as hall
 use Rattle.tds_relay.specs.Hall.{End, Over, Enters, Hall, MayMoveAll, Move, done_by, end_at, events_of, moved, moved_all, new_hall, what_in}
@@ -66,11 +66,11 @@ over_all why key h (step ∷ steps) may stays e =
 
 -- ---- Along steps
 
-module _ (max key : ℕ) (alone : Alone) (by : ByHistory) (judges : Judging) where
+module _ (sharing : Sharing) (key : ℕ) (alone : Alone) (by : ByHistory) (judges : Judging) where
   -- behind one move
   said_next : (events : List Event) (h2 : House) (stage : Stage) (p : Place) (es : List Passed) (all : List Given) (steps : List Step) → MayAll h2 steps → StaysAll key steps → Said stage es all
-      → ((front : Front) (w : Bool) → Stands max key events h2.hall front w → Said front.stage (passed key h2.hall (moves_in steps)) (given_all key h2 steps))
-      → Then max key events h2.hall stage p es → Said stage (es ++ passed key h2.hall (moves_in steps)) (all ++ given_all key h2 steps)
+      → ((front : Front) (w : Bool) → Stands sharing key events h2.hall front w → Said front.stage (passed key h2.hall (moves_in steps)) (given_all key h2 steps))
+      → Then sharing key events h2.hall stage p es → Said stage (es ++ passed key h2.hall (moves_in steps)) (all ++ given_all key h2 steps)
   said_next events h2 stage p es all steps may stays first rest (Goes front w stands leads) =
       let more : List Passed = passed key h2.hall (moves_in steps) in
       said_both stage es more all (given_all key h2 steps) first
@@ -82,7 +82,7 @@ module _ (max key : ℕ) (alone : Alone) (by : ByHistory) (judges : Judging) whe
       said_both stage es more all (given_all key h2 steps) first
       (subst (λ (gs : List Given). Said (stage_along stage es) more gs) (sym nothing) (subst (λ (xs : List Passed). Said (stage_along stage es) xs []) (sym silent) (λ begun. refl)))
 
-  said_along : (events : List Event) (h : House) (steps : List Step) (front : Front) (w : Bool) → Stands max key events h.hall front w → MayAll h steps → StaysAll key steps
+  said_along : (events : List Event) (h : House) (steps : List Step) (front : Front) (w : Bool) → Stands sharing key events h.hall front w → MayAll h steps → StaysAll key steps
       → Said front.stage (passed key h.hall (moves_in steps)) (given_all key h steps)
   said_along events h [] front w s may stays = λ begun. refl
   said_along events h (Makes move ∷ steps) front w s may stays =
@@ -90,15 +90,15 @@ module _ (max key : ℕ) (alone : Alone) (by : ByHistory) (judges : Judging) whe
       let events2 = events ++ events_of h.hall move in
       said_next events2 h2 front.stage s.place (passes key h.hall move) [] steps may.1 stays.1 (made_said key h.hall move front.stage may.0.1)
       (λ next v stands. said_along events2 h2 steps next v stands may.1 stays.1)
-      (behind max key alone by judges events h.hall move front w s may.0.0 (stays_move key move may.0.1))
+      (behind sharing key alone by judges events h.hall move front w s may.0.0 (stays_move key move may.0.1))
   said_along events h (Hands number header content part way manner ∷ steps) front w s may stays =
       let move : Move = hall.Comes number part way in
       let h2 = after h (Hands number header content part way manner) in
       let events2 = events ++ events_of h.hall move in
       said_next events2 h2 front.stage s.place (passes key h.hall move) (if_its key (whose h.hall.desk number) (handed manner header content)) steps may.1 stays.1
-      (hands_said max key events h front w s number header content part manner may.0 way)
+      (hands_said sharing key events h front w s number header content part manner may.0 way)
       (λ next v stands. said_along events2 h2 steps next v stands may.1 stays.1)
-      (behind max key alone by judges events h.hall move front w s tt tt)
+      (behind sharing key alone by judges events h.hall move front w s tt tt)
   said_along events h (Takes other bytes ∷ steps) front w s may stays =
       let move : Move = hall.Feeds other bytes in
       let h2 = after h (Takes other bytes) in
@@ -106,7 +106,7 @@ module _ (max key : ℕ) (alone : Alone) (by : ByHistory) (judges : Judging) whe
       said_next events2 h2 front.stage s.place (passes key h.hall move) (if_its key (Some other) (owed bytes (end_at h.hall.ends other))) steps may.1 stays.1
       (taken_said key h.hall other bytes front w s.asks s.end_is (judges front bytes).1)
       (λ next v stands. said_along events2 h2 steps next v stands may.1 stays.1)
-      (behind max key alone by judges events h.hall move front w s tt tt)
+      (behind sharing key alone by judges events h.hall move front w s tt tt)
   said_along events h (Writes other count ∷ steps) front w s may stays = said_along events (after h (Writes other count)) steps front w s may.1 stays.1
   said_along events h (Admits other ends posts ∷ steps) front w s may stays =
       let move : Move = Enters other ends in
@@ -114,32 +114,32 @@ module _ (max key : ℕ) (alone : Alone) (by : ByHistory) (judges : Judging) whe
       let events2 = events ++ events_of h.hall move in
       said_next events2 h2 front.stage s.place (passes key h.hall move) [] steps may.1 stays.1 (λ begun. refl)
       (λ next v stands. said_along events2 h2 steps next v stands may.1 stays.1)
-      (behind max key alone by judges events h.hall move front w s may.0.0 stays.0)
+      (behind sharing key alone by judges events h.hall move front w s may.0.0 stays.0)
   said_along events h (Removes other gives way ∷ steps) front w s may stays =
       let move : Move = hall.Quits other gives way in
       let h2 = after h (Removes other gives way) in
       let events2 = events ++ events_of h.hall move in
       said_next events2 h2 front.stage s.place (passes key h.hall move) [] steps may.1 stays.1 (λ begun. refl)
       (λ next v stands. said_along events2 h2 steps next v stands may.1 stays.1)
-      (behind max key alone by judges events h.hall move front w s tt stays.0)
+      (behind sharing key alone by judges events h.hall move front w s tt stays.0)
 
   -- ---- Since it came
 
-  said_entered : (events : List Event) (h : House) (steps : List Step) → Entered max key events h.hall → MayAll h steps → StaysAll key steps
+  said_entered : (events : List Event) (h : House) (steps : List Step) → Entered sharing key events h.hall → MayAll h steps → StaysAll key steps
       → AreSaid (towards None stages.Quiet (passed key h.hall (moves_in steps))) (given_all key h steps)
   said_entered events h steps entered may stays =
       let all : Said entered.front.stage (passed key h.hall (moves_in steps)) (given_all key h steps) = said_along events h steps entered.front entered.w entered.stands may stays in
       subst (λ (stage : Stage). Said stage (passed key h.hall (moves_in steps)) (given_all key h steps)) entered.quiet all None
 
-  pub said_visit : (v : Visit max key) → AreSaid (happens_in v) (given_in v)
+  pub said_visit : (v : Visit sharing key) → AreSaid (happens_in v) (given_in v)
   said_visit v =
-      let c = came max key v in
+      let c = came sharing key v in
       let before = moves_in v.before in
-      let h : Hall = (after_all (new_house max) v.before).hall in
-      let is : h ≡ moved_all (new_hall max) before = hall_after (new_house max) v.before in
-      let events : List Event = events_along (new_hall max) before ++ [] in
-      let entered : Entered max key events (moved (moved_all (new_hall max) before) (Enters key v.ends)) =
-      enters max key alone by judges before v.ends (may_moves (new_house max) v.before c.may_before) (subst (λ (x : Hall). hall.HasEntered key x.ends v.ends) is c.may_come.0) in
-      let came_is : moved (moved_all (new_hall max) before) (Enters key v.ends) ≡ (house_in v).hall =
+      let h : Hall = (after_all (new_house sharing) v.before).hall in
+      let is : h ≡ moved_all (new_hall sharing) before = hall_after (new_house sharing) v.before in
+      let events : List Event = events_along (new_hall sharing) before ++ [] in
+      let entered : Entered sharing key events (moved (moved_all (new_hall sharing) before) (Enters key v.ends)) =
+      enters sharing key alone by judges before v.ends (may_moves (new_house sharing) v.before c.may_before) (subst (λ (x : Hall). hall.HasEntered key x.ends v.ends) is c.may_come.0) in
+      let came_is : moved (moved_all (new_hall sharing) before) (Enters key v.ends) ≡ (house_in v).hall =
       ap (λ (x : Hall). moved x (Enters key v.ends)) (sym is) ∙ ap (λ (x : House). x.hall) (sym c.house_is) in
-      said_entered events (house_in v) v.since (subst (Entered max key events) came_is entered) c.may_since v.stays
+      said_entered events (house_in v) v.since (subst (Entered sharing key events) came_is entered) c.may_since v.stays

@@ -3,7 +3,7 @@ use Rattle.std.proofs.Common.{◌≡◌, ◌∙◌, ◌==◌, ◌++◌, ℕ, Boo
 use Rattle.std.specs.Prelude.{Option, Some, None, take, option_map, if◌then◌else◌}
 use Rattle.std.proofs.lemmas.List.{append-nil}
 use Rattle.tds_packet.specs.Reading.{joined}
-use Rattle.tds_relay.specs.Desk.{whose}
+use Rattle.tds_relay.specs.Desk.{Sharing, whose}
 use Rattle.tds_relay.specs.Giving as giving
 use Rattle.tds_relay.specs.Giving.{Given, Gives, IsFrontOf, StaysAll, StaysBy, Visit, bytes_at, given, given_all, given_in, house_in, if_its, pieces_of, sent, sent_all, sent_in, waits_in}
 use Rattle.tds_relay.specs.Hall.{end_at}
@@ -99,8 +99,8 @@ gives_by by old new s = record { steps = s.steps; are = s.are; may = s.may; caus
 
 -- ---- Since it came
 
-pub sent_visit : (max key : ℕ) (v : Visit max key) → IsFrontOf (joined (pieces_of (given_in v))) (sent_in v) (waits_in v)
-sent_visit max key v =
-    let c = came max key v in
+pub sent_visit : (sharing : Sharing) (key : ℕ) (v : Visit sharing key) → IsFrontOf (joined (pieces_of (given_in v))) (sent_in v) (waits_in v)
+sent_visit sharing key v =
+    let c = came sharing key v in
     let is : post_at (house_in v).posts key ≡ Some (tagged c.may_come.2 (nothing c.may_come.1)) = ap (λ (h : House). post_at h.posts key) c.house_is ∙ c.may_come.3.nothing_waits in
     kept_along key (house_in v) v.since (tagged c.may_come.2 (nothing c.may_come.1)) c.may_since v.stays is

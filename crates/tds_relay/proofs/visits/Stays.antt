@@ -14,6 +14,7 @@ use Rattle.tds_relay.specs.Giving as visits
 use Rattle.tds_relay.specs.Giving.{StaysAll, StaysBy, Visit, happens_in, house_in, moves_in}
 use Rattle.tds_relay.proofs.ends.Folding.{may_both, moved_both}
 use Rattle.tds_relay.proofs.steps.Stepping.{after_both}
+use Rattle.tds_relay.specs.Desk.{Sharing}
 
 -- ---- One behind the other
 
@@ -79,15 +80,15 @@ stays_moves key h (step ∷ steps) may stays =
 -- ---- A visit
 
 -- as it comes, and since
-pub record Came (max key : ℕ) (v : Visit max key) : Type 0 where
-  pub may_before : MayAll (new_house max) v.before
-  pub may_come : MayStep (after_all (new_house max) v.before) (Admits key v.ends v.posts)
-  pub house_is : house_in v ≡ after (after_all (new_house max) v.before) (Admits key v.ends v.posts)
+pub record Came (sharing : Sharing) (key : ℕ) (v : Visit sharing key) : Type 0 where
+  pub may_before : MayAll (new_house sharing) v.before
+  pub may_come : MayStep (after_all (new_house sharing) v.before) (Admits key v.ends v.posts)
+  pub house_is : house_in v ≡ after (after_all (new_house sharing) v.before) (Admits key v.ends v.posts)
   pub may_since : MayAll (house_in v) v.since
 
-pub came : (max key : ℕ) (v : Visit max key) → Came max key v
-came max key v =
-    let h = new_house max in
+pub came : (sharing : Sharing) (key : ℕ) (v : Visit sharing key) → Came sharing key v
+came sharing key v =
+    let h = new_house sharing in
     let rest = may_behind h v.before (Admits key v.ends v.posts ∷ v.since) v.may in
     let is : house_in v ≡ after (after_all h v.before) (Admits key v.ends v.posts) = after_both h v.before (Admits key v.ends v.posts ∷ []) in
     record {
@@ -97,35 +98,35 @@ came max key v =
       may_since = subst (λ (x : House). MayAll x v.since) (sym is) rest.1;
     }
 
-pub stay_of : (max key : ℕ) → Visit max key → Stay max key
-stay_of max key v =
-    let all = may_moves (new_house max) (v.before ++ Admits key v.ends v.posts ∷ v.since) v.may in
-    let behind = came max key v in
+pub stay_of : (sharing : Sharing) (key : ℕ) → Visit sharing key → Stay sharing key
+stay_of sharing key v =
+    let all = may_moves (new_house sharing) (v.before ++ Admits key v.ends v.posts ∷ v.since) v.may in
+    let behind = came sharing key v in
     record {
       before = moves_in v.before;
       ends = v.ends;
       since = moves_in v.since;
-      may = subst (MayMoveAll (new_hall max)) (moves_both v.before (Admits key v.ends v.posts ∷ v.since)) all;
+      may = subst (MayMoveAll (new_hall sharing)) (moves_both v.before (Admits key v.ends v.posts ∷ v.since)) all;
       stays = stays_moves key (house_in v) v.since behind.may_since v.stays;
     }
 
 -- what passes in it, and what is done
-happens_so : (max key : ℕ) (v : Visit max key) → towards None stages.Quiet (passed_in (stay_of max key v)) ≡ happens_in v
+happens_so : (sharing : Sharing) (key : ℕ) (v : Visit sharing key) → towards None stages.Quiet (passed_in (stay_of sharing key v)) ≡ happens_in v
 unfolding stay_of
-happens_so max key v =
+happens_so sharing key v =
     let come : List Step = Admits key v.ends v.posts ∷ [] in
     let moves : moves_in (v.before ++ come) ≡ moves_in v.before ++ Enters key v.ends ∷ [] = moves_both v.before come in
-    let is : moved_all (new_hall max) (moves_in v.before ++ Enters key v.ends ∷ []) ≡ (house_in v).hall =
-    ap (moved_all (new_hall max)) (sym moves) ∙ sym (hall_after (new_house max) (v.before ++ come)) in
+    let is : moved_all (new_hall sharing) (moves_in v.before ++ Enters key v.ends ∷ []) ≡ (house_in v).hall =
+    ap (moved_all (new_hall sharing)) (sym moves) ∙ sym (hall_after (new_house sharing) (v.before ++ come)) in
     ap (λ (h : Hall). towards None stages.Quiet (passed key h (moves_in v.since))) is
 
-once_so : (max key : ℕ) (v : Visit max key) → visits.ServersAnswerOnce v → behind.AllAnswerOnce (stay_of max key v)
+once_so : (sharing : Sharing) (key : ℕ) (v : Visit sharing key) → visits.ServersAnswerOnce v → behind.AllAnswerOnce (stay_of sharing key v)
 unfolding stay_of
-once_so max key v once number =
+once_so sharing key v once number =
     let moves : moves_in (v.before ++ Admits key v.ends v.posts ∷ v.since) ≡ moves_in v.before ++ Enters key v.ends ∷ moves_in v.since =
     moves_both v.before (Admits key v.ends v.posts ∷ v.since) in
-    subst (λ (ms : List Move). AnswersOnce false (done_on max number (events_along (new_hall max) ms))) moves (once number)
+    subst (λ (ms : List Move). AnswersOnce false (done_on sharing number (events_along (new_hall sharing) ms))) moves (once number)
 
-pub lawful_visit : (max key : ℕ) (v : Visit max key) → ((s : Stay max key) → behind.AllAnswerOnce s → IsLawful Ready (towards None stages.Quiet (passed_in s)))
+pub lawful_visit : (sharing : Sharing) (key : ℕ) (v : Visit sharing key) → ((s : Stay sharing key) → behind.AllAnswerOnce s → IsLawful Ready (towards None stages.Quiet (passed_in s)))
     → visits.ServersAnswerOnce v → IsLawful Ready (happens_in v)
-lawful_visit max key v lawful once = subst (IsLawful Ready) (happens_so max key v) (lawful (stay_of max key v) (once_so max key v once))
+lawful_visit sharing key v lawful once = subst (IsLawful Ready) (happens_so sharing key v) (lawful (stay_of sharing key v) (once_so sharing key v once))

@@ -15,7 +15,7 @@ use Rattle.tds_service.specs.Parts.{Part}
 use Rattle.tds_relay.specs.declared.desk.coming.What.{What}
 use Rattle.tds_relay.specs.declared.desk.coming.What.TheVariants as whats
 use Rattle.tds_relay.specs.Desk as desk
-use Rattle.tds_relay.specs.Desk.{owes_reset, whose}
+use Rattle.tds_relay.specs.Desk.{Sharing, owes_reset, whose}
 use Rattle.tds_relay.specs.Giving.{StaysAll, StaysBy, Visit, house_in}
 use Rattle.tds_relay.specs.Hall as hall
 use Rattle.tds_relay.specs.Hall.{End, Open, Over, Hall, HasEntered, IsQuiet, Move, asks_by, closes, done_by, end_at, end_behind, ends_behind, feeds, goes_on, holder, lets_go, moved, sent_by, told, what_in}
@@ -218,16 +218,16 @@ told_along key h (step ∷ steps) asks may stays at =
     let one = step_leads key h step asks may.0 stays.0 at in
     one.once (happen key (after h step) steps) (told_along key (after h step) steps (wants asks (happens key h step)) may.1 stays.1 one.at)
 
-begun : (max key : ℕ) (v : Visit max key) → MayAll (house_in v) v.since × AsksJust None (end_at (house_in v).hall.ends key)
-begun max key v =
-    let c = came max key v in
-    let entered : HasEntered key (after_all (new_house max) v.before).hall.ends v.ends = c.may_come.0 in
+begun : (sharing : Sharing) (key : ℕ) (v : Visit sharing key) → MayAll (house_in v) v.since × AsksJust None (end_at (house_in v).hall.ends key)
+begun sharing key v =
+    let c = came sharing key v in
+    let entered : HasEntered key (after_all (new_house sharing) v.before).hall.ends v.ends = c.may_come.0 in
     let begins : end_at (house_in v).hall.ends key ≡ Some (Open (new_front entered.size) false None) = ap (λ (h : House). end_at h.hall.ends key) c.house_is ∙ entered.begins in
     (c.may_since, subst (AsksJust None) (sym begins) refl)
 
-pub told_visit : (max key : ℕ) (v : Visit max key) → IsToldOnce false (happens_to v)
-told_visit max key v = let at = begun max key v in told_along key (house_in v) v.since None at.0 v.stays at.1
+pub told_visit : (sharing : Sharing) (key : ℕ) (v : Visit sharing key) → IsToldOnce false (happens_to v)
+told_visit sharing key v = let at = begun sharing key v in told_along key (house_in v) v.since None at.0 v.stays at.1
 
 -- its end has it as its bytes have said
-pub wants_in : (max key : ℕ) (v : Visit max key) → AsksJust (wants None (happens_to v)) (end_at (after_all (house_in v) v.since).hall.ends key)
-wants_in max key v = let at = begun max key v in wants_along key (house_in v) v.since None at.0 v.stays at.1
+pub wants_in : (sharing : Sharing) (key : ℕ) (v : Visit sharing key) → AsksJust (wants None (happens_to v)) (end_at (after_all (house_in v) v.since).hall.ends key)
+wants_in sharing key v = let at = begun sharing key v in wants_along key (house_in v) v.since None at.0 v.stays at.1

@@ -9,6 +9,7 @@ ghost use Rattle.tds_relay.specs.Few.{Few, NobodyWaits};
 ghost use Rattle.tds_relay.specs.Fronts.{LetsGoFirst, Moved, MovedOn, ends_in, hall_in, hall_of_ends};
 ghost use Rattle.tds_relay.specs.Fronts.{house_in};
 ghost use Rattle.tds_relay.specs.Hall.{change_end, change_whose, closes, closes_for, end_at, holder};
+ghost use Rattle.tds_relay.specs.Hall.{lets_go};
 ghost use Rattle.tds_relay.specs.House.{Steps, StepsOn};
 ghost use Rattle.tds_relay.specs.Closings.{ClosesOnly, IsWaiting, IsWho, Itself, Nobody, WhoOrWaiting};
 ghost use Rattle.tds_relay.specs.Closings.{register_in, without_key};
@@ -183,6 +184,8 @@ impl Relay {
         ensures kept { OnOk result (posts_in self.new.applications
             ≡ posts_in self.old.applications) }
         ensures lets_go { OnOk result (LetsGoFirst key (hall_in self.old) (hall_in self.new)) }
+        ensures fronts { OnOk result (ends_in self.new.applications
+            ≡ change_end key lets_go (ends_in self.old.applications)) }
         ensures read { OnOk result (Stays self.old.links.items self.new.links.items) }
         ensures stand { OnOk result (AllStand self.old.desk.service
             self.new.desk.service) }

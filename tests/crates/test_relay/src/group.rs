@@ -11,7 +11,7 @@ use crate::random::Random;
 use crate::tally::{Tally, raise};
 use std::alloc::{AllocError, Global};
 use tds_packet::PacketSize;
-use tds_relay::{Place, Relay};
+use tds_relay::{Mode, Place, Relay};
 use tds_wire::Features;
 
 /// How many applications are there at once, and the most connections.
@@ -54,7 +54,7 @@ impl Group {
         }
         Ok(Group {
             alloc,
-            relay: Relay::new(alloc, CONNECTIONS, size, features)?,
+            relay: Relay::new(alloc, Mode::Sessions, CONNECTIONS, size, features)?,
             applications,
             connections: Vec::new(alloc),
             left: sessions,

@@ -4,7 +4,7 @@ use crate::packets::{ATTENTION, ENDS};
 use std::alloc::Global;
 use std::io;
 use tds_packet::PacketSize;
-use tds_relay::Relay;
+use tds_relay::{Mode, Relay};
 use tds_wire::Features;
 
 /// The most connections.
@@ -23,7 +23,7 @@ pub(crate) fn idle(alloc: Global, count: usize) -> io::Result<usize> {
         encryption: false,
         ranks: false,
     };
-    let mut relay = Relay::new(alloc, CONNECTIONS, size, features)?;
+    let mut relay = Relay::new(alloc, Mode::Sessions, CONNECTIONS, size, features)?;
     let mut waiting = 0usize;
     for tag in 0..count {
         let key = relay.enter(tag)?;

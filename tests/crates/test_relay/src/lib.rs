@@ -1,5 +1,5 @@
-//! Random applications before a relay's core, without sockets: `test_relay SESSIONS SEED`; or so many idle
-//! ones: `test_relay idle COUNT`.
+//! Random applications before a relay's core, without sockets: `test_relay SESSIONS SEED`, and two that share by
+//! transactions; or so many idle ones: `test_relay idle COUNT`.
 //!
 //! Two groups of applications ask, cancel, reset, and leave at any byte; their connections' servers answer
 //! in pieces, and are cut or break the protocol at any time. Each application compares what it gets with
@@ -12,12 +12,14 @@ mod connection;
 mod group;
 mod idle;
 mod packets;
+mod parking;
 mod random;
 mod request;
 mod tally;
 
 use group::Group;
 use idle::idle;
+use parking::park;
 use random::Random;
 use std::io;
 use std::process::ExitCode;
@@ -51,6 +53,11 @@ fn obey(rt: &HostRuntime, words: &[String]) -> io::Result<bool> {
         println!(rt; "{count} idle applications, {waiting} bytes wait for them")?;
         return Ok(waiting == 0);
     }
+    if let Some(wrong) = park(rt.alloc())? {
+        println!(rt; "parking: it isn't so that {wrong}")?;
+        return Ok(false);
+    }
+    println!(rt; "two share a connection by transactions")?;
     random_sessions(rt, first.as_str().parse::<u64>().unwrap_or(0), second)
 }
 

@@ -4,4 +4,4 @@ use Rattle.tds_relay.proofs.promises.Promised.{lends_clean}
 use Rattle.tds_relay.proofs.laws.fresh.Goals as goal
 
 pub returns : goal.returns
-returns c = λ max events. lends_clean (desk_after (new_desk max) events) (always_sound max events)
+returns c = λ sharing events. lends_clean (desk_after (new_desk sharing) events) (always_sound sharing events)

@@ -4,4 +4,4 @@ use Rattle.tds_relay.proofs.promises.Promised.{handed_to_holder}
 use Rattle.tds_relay.proofs.laws.handed_to_holder.Goals as goal
 
 pub returns : goal.returns
-returns c = λ max events number key e. handed_to_holder (desk_after (new_desk max) events) number key (always_sound max events) e
+returns c = λ sharing events number key e. handed_to_holder (desk_after (new_desk sharing) events) number key (always_sound sharing events) e

@@ -4,4 +4,4 @@ use Rattle.tds_relay.proofs.promises.Promised.{none_astray}
 use Rattle.tds_relay.proofs.laws.no_cancel_astray.Goals as goal
 
 pub returns : goal.returns
-returns c = λ max events event. none_astray (desk_after (new_desk max) events) event (always_sound max events)
+returns c = λ sharing events event. none_astray (desk_after (new_desk sharing) events) event (always_sound sharing events)

@@ -2,4 +2,4 @@ use Rattle.tds_relay.proofs.promises.Bringing.{always_sound}
 use Rattle.tds_relay.proofs.laws.no_orphan.Goals as goal
 
 pub returns : goal.returns
-returns c = λ max events. (always_sound max events).cared
+returns c = λ sharing events. (always_sound sharing events).cared

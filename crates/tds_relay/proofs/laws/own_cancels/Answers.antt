@@ -4,4 +4,4 @@ use Rattle.tds_relay.proofs.promises.Owning.{owns}
 use Rattle.tds_relay.proofs.laws.own_cancels.Goals as goal
 
 pub returns : goal.returns
-returns c = λ by max events event cause. owns by (desk_after (new_desk max) events) event (always_sound max events) cause
+returns c = λ by sharing events event cause. owns by (desk_after (new_desk sharing) events) event (always_sound sharing events) cause

@@ -1,6 +1,6 @@
 use Rattle.std.proofs.Common.{◌∙◌, ap, refl, rules, subst, sym, None}
 use Rattle.tds_relay.specs.Ties.{desk_in, Reaches}
-use Rattle.tds_relay.proofs.steps.Fronts.{lets_go_first, moved_same, moves_same}
+use Rattle.tds_relay.proofs.steps.Fronts.{ends_more, lets_go_first, moved_same, moves_same}
 use Rattle.tds_relay.proofs.steps.Reaching.{ok_more, ok_if, reaches_turned}
 use Rattle.tds_relay.proofs.steps.Staying.{stays_from, stays_refl, stays_then}
 use Rattle.tds_relay.proofs.bytes.Calls.{stand_at, stand_on}
@@ -95,3 +95,9 @@ pub returns-else-left-clause-ends : goal.returns-else-left-clause-ends
 returns-else-left-clause-ends c = λ reached.
     shut_by c.close.result c.args.key c.in-Some.left (find_key c.args.key c.args.self.now.desk.holds.items) c.args.self.now c.close.new.self refl (search rules)
     (ok_more c.close.result _ _ (λ g. waits_none c.in-Some.left.number c.close.new.self.links.items g) c.close.ensures.gone)
+
+pub returns-then-left-clause-fronts : goal.returns-then-left-clause-fronts
+returns-then-left-clause-fronts c = ends_more c.send_unheld.result _ _ _ c.send_unheld.ensures.ends c.let_go.ensures.ends
+
+pub returns-else-left-clause-fronts : goal.returns-else-left-clause-fronts
+returns-else-left-clause-fronts c = ends_more c.close.result _ _ _ c.close.ensures.ends c.let_go.ensures.ends

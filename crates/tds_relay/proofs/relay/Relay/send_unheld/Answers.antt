@@ -1,6 +1,6 @@
-use Rattle.std.proofs.Common.{ap, inl, rules, subst, sym, ◌∙◌, ◌≡◌, None, Some}
+use Rattle.std.proofs.Common.{ap, inl, rules, subst, sym, ◌∙◌, ◌≡◌, None, Option, Some, ℕ}
 use Rattle.tds_relay.specs.Ties.{desk_in, IsReached}
-use Rattle.tds_relay.proofs.steps.Fronts.{moves_same}
+use Rattle.tds_relay.proofs.steps.Fronts.{ends_more, moves_same}
 use Rattle.tds_relay.proofs.steps.Reaching.{ok_more}
 use Rattle.tds_relay.proofs.steps.Staying.{stays_on}
 use Rattle.tds_relay.proofs.bytes.Calls.{stand_from}
@@ -8,9 +8,10 @@ use Rattle.tds_relay.proofs.spared.Letting.{sent_all}
 use Rattle.tds_relay.specs.declared.desk.Desk as code
 use Rattle.tds_relay.proofs.spared.Ordered.{ordered_on}
 use Rattle.tds_relay.specs.Closings.{IsWho, Nobody}
-use Rattle.tds_relay.specs.Hall.{holder}
+use Rattle.tds_relay.specs.Hall.{change_whose, closes, holder}
 use Rattle.tds_relay.proofs.spared.Closings.{closes_with}
 use Rattle.tds_relay.specs.Desk.{find_number, key_of}
+use Rattle.tds_relay.specs.Fronts.{ends_in}
 use Rattle.tds_relay.proofs.spared.Cleaned.{not_both}
 use Rattle.tds_relay.proofs.steps.Staying.{filled_by, gone_filled}
 use Rattle.tds_relay.proofs.relay.Relay.send_unheld.Goals as goal
@@ -58,3 +59,7 @@ returns-in-Some-clause-puts c = λ none.
 
 pub returns-in-None-clause-puts : goal.returns-in-None-clause-puts
 returns-in-None-clause-puts c = λ none. ok_more c.lose.result _ _ (λ g. gone_filled c.args.self.now.outbox.items c.args.number _ c.lose.new.self.links.items g) c.lose.ensures.gone
+
+pub returns-in-None-clause-ends : goal.returns-in-None-clause-ends
+returns-in-None-clause-ends c = ends_more c.lose.result _ _ _ c.lose.ensures.ends
+    (ap (λ (o : Option ℕ). change_whose o closes (ends_in c.fits_on.new.self.applications)) (sym c.key_on.ensures ∙ c.in-None.is) ∙ c.in_ok-fits.ensures.ends)

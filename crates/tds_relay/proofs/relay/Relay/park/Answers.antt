@@ -1,0 +1,84 @@
+use Rattle.std.proofs.Common.{◌≡◌, ◌∙◌, rules, sym, true}
+use Rattle.tds_relay.specs.Closings.{IsWaiting}
+use Rattle.tds_relay.specs.Fronts.{ends_in, hall_in, house_in}
+use Rattle.tds_relay.specs.Parking.{may_park_in}
+use Rattle.tds_relay.specs.Posts.{posts_in}
+use Rattle.tds_relay.specs.Ties.{Application, desk_in}
+use Rattle.tds_relay.proofs.spared.Closings.{closes_both, closes_more, closes_nobody}
+use Rattle.tds_relay.proofs.spared.Few.{most_kept, none_stays}
+use Rattle.tds_relay.proofs.spared.Lines.{waited_left}
+use Rattle.tds_relay.proofs.spared.Ordered.{ordered_both}
+use Rattle.tds_relay.proofs.spared.Parks.{asks_none, parked_apart, parked_ends, parked_few, parked_go, parks}
+use Rattle.tds_relay.proofs.spared.Resting.{go_both}
+use Rattle.tds_relay.proofs.steps.Fronts.{moves_parks, no_moves}
+use Rattle.tds_relay.proofs.steps.Reaching.{reached_on, reaches_left}
+use Rattle.tds_relay.proofs.steps.Staying.{opens_both, stays_opens}
+use Rattle.tds_relay.proofs.steps.Stepping.{no_steps, steps_moved, steps_moves}
+use Rattle.tds_relay.proofs.visits.Parking.{parked_away}
+use Rattle.tds_relay.proofs.relay.Relay.park.Goals as goal
+
+pub returns-clause-left : goal.returns-clause-left
+returns-clause-left c =
+    let l = c.in_ok-release.ensures.leaving in
+    λ yes. (l.0, l.1, λ by from h. c.in_ok-serve_line.ensures.goes by from (l.2 by from h))
+
+pub returns-clause-away : goal.returns-clause-away
+returns-clause-away c = λ sharing led yes.
+    let rests : may_park_in c.args.self.now c.args.key ≡ true = sym c.may_park.ensures ∙ (search rules) in
+    parked_away sharing c.args.key (house_in c.args.self.now) (hall_in c.release.new.self) (hall_in c.serve_line.new.self) led (parks c.args.self.now c.args.key rests)
+    c.in_ok-release.ensures.fronts c.in_ok-release.ensures.leaving c.in_ok-serve_line.ensures.goes c.in_ok-serve_line.ensures.apart
+
+pub returns-clause-goes : goal.returns-clause-goes
+returns-clause-goes c = λ from h. c.in_ok-serve_line.ensures.goes (Application c.args.key) from (reaches_left c.args.key from _ _ c.in_ok-release.ensures.leaving h)
+
+pub returns-clause-steps : goal.returns-clause-steps
+returns-clause-steps c =
+    let old = c.args.self.now in
+    let mid = c.release.new.self in
+    let rests : may_park_in old c.args.key ≡ true = sym c.may_park.ensures ∙ (search rules) in
+    steps_moved (Application c.args.key) (house_in old) (hall_in mid) (hall_in c.serve_line.new.self) (posts_in mid.applications) (posts_in c.serve_line.new.self.applications)
+    (c.in_ok-serve_line.ensures.moves (Application c.args.key)) c.in_ok-serve_line.ensures.kept
+    (steps_moves (Application c.args.key) (house_in old) (hall_in old) (hall_in mid) (posts_in old.applications) (posts_in mid.applications)
+    (moves_parks c.args.key (hall_in old) (desk_in old.desk) (ends_in old.applications) (hall_in mid) (parks old c.args.key rests) c.in_ok-release.ensures.lets_go (no_moves (Application c.args.key) (hall_in old)))
+    c.in_ok-release.ensures.kept (no_steps (Application c.args.key) (house_in old)))
+
+pub returns-clause-kept : goal.returns-clause-kept
+returns-clause-kept c = c.in_ok-serve_line.ensures.kept ∙ c.in_ok-release.ensures.kept
+
+pub returns-clause-few : goal.returns-clause-few
+returns-clause-few c = parked_few _ _ _ _ _ (most_kept _ _ (c.in_ok-release.ensures.closes.told)) (none_stays _ _ c.in_ok-release.ensures.read) c.in_ok-serve_line.ensures.few
+
+pub returns-clause-opens : goal.returns-clause-opens
+returns-clause-opens c = opens_both _ _ _ (stays_opens _ _ c.in_ok-release.ensures.read) c.in_ok-serve_line.ensures.opens
+
+pub returns-clause-stand : goal.returns-clause-stand
+returns-clause-stand c = λ n r h. c.in_ok-serve_line.ensures.stand n r (c.in_ok-release.ensures.stand n r h)
+
+pub returns-clause-goes_on : goal.returns-clause-goes_on
+returns-clause-goes_on c =
+    let old = c.args.self.now in
+    let mid = c.release.new.self in
+    let rests : may_park_in old c.args.key ≡ true = sym c.may_park.ensures ∙ (search rules) in
+    go_both old mid c.serve_line.new.self
+    (λ r. reached_on (Application c.args.key) (desk_in old.desk) (desk_in mid.desk) (λ from h. reaches_left c.args.key from (desk_in old.desk) (desk_in mid.desk) c.in_ok-release.ensures.leaving h) r)
+    (parked_go c.args.key old mid (asks_none old c.args.key rests) c.in_ok-release.ensures.asks c.in_ok-release.ensures.others)
+    c.in_ok-serve_line.ensures.goes_on
+
+pub returns-clause-apart : goal.returns-clause-apart
+returns-clause-apart c =
+    let old = c.args.self.now in
+    let rests : may_park_in old c.args.key ≡ true = sym c.may_park.ensures ∙ (search rules) in
+    parked_apart (hall_in old) (hall_in c.release.new.self) (hall_in c.serve_line.new.self) c.args.key (parks old c.args.key rests) c.in_ok-release.ensures.fronts c.in_ok-release.ensures.leaving c.in_ok-serve_line.ensures.apart
+
+pub returns-clause-ordered : goal.returns-clause-ordered
+returns-clause-ordered c = ordered_both _ _ _ c.in_ok-release.ensures.ordered c.in_ok-serve_line.ensures.ordered
+
+pub returns-clause-closes : goal.returns-clause-closes
+returns-clause-closes c =
+    let old = c.args.self.now in
+    let mid = c.release.new.self in
+    closes_both (IsWaiting (desk_in old.desk).line) _ _ _ (closes_nobody (IsWaiting (desk_in old.desk).line) _ _ c.in_ok-release.ensures.closes)
+    (closes_more (IsWaiting (desk_in mid.desk).line) (IsWaiting (desk_in old.desk).line) _ _ (waited_left c.args.key (desk_in old.desk) (desk_in mid.desk) c.in_ok-release.ensures.leaving) c.in_ok-serve_line.ensures.closes)
+
+pub returns-clause-ends : goal.returns-clause-ends
+returns-clause-ends c = λ reached yes. parked_ends c.args.key c.args.self.now c.release.new.self c.serve_line.new.self (c.in_ok-release.ensures.ends reached) c.in_ok-serve_line.ensures.opens

@@ -1,0 +1,90 @@
+//! Applications that are parked: each is parted from its connection at rest, for those who wait.
+ghost use Rattle.std.specs.Prelude.{◌≡◌, OnOk, IfOk, false, true};
+ghost use Rattle.tds_relay.specs.Apart.{UnlessServed};
+ghost use Rattle.tds_relay.specs.Cleaning.{OfItsHold, WaitsBehindEnd};
+ghost use Rattle.tds_relay.specs.Closings.{ClosesOnly, IsWaiting, register_in};
+ghost use Rattle.tds_relay.specs.Desk.{Sharing};
+ghost use Rattle.tds_relay.specs.Few.{Few, NobodyWaits};
+ghost use Rattle.tds_relay.specs.Fronts.{hall_in, house_in};
+ghost use Rattle.tds_relay.specs.Hall.{IsAway};
+ghost use Rattle.tds_relay.specs.House.{IsLedTo, Steps};
+ghost use Rattle.tds_relay.specs.Ordering.{StayOrdered};
+ghost use Rattle.tds_relay.specs.Parking.{may_park_in};
+ghost use Rattle.tds_relay.specs.Posts.{posts_in};
+ghost use Rattle.tds_relay.specs.Reads.{Opens, open_waits};
+ghost use Rattle.tds_relay.specs.Sparing.{AllGo};
+ghost use Rattle.tds_relay.specs.Ties.{Application, Goes, IsReached, Leaving, desk_in};
+ghost use Rattle.tds_relay.specs.Walkers.{AllStand};
+
+use super::Relay;
+use crate::NoMemory;
+use crate::desk::Mode;
+
+impl Relay {
+    /// Parts an application from its connection at rest, so that who waits is lent that once it is clean. It is
+    /// at rest where connections are shared by transactions, it has no request and no cancel that isn't
+    /// acknowledged, it has been told of each reset that it asked for, and on its connection no transaction is
+    /// open and no news of a reset is to come. Answers whether it was; else nothing has changed.
+    ///
+    /// It stays, and its next request waits for a connection like that of who has come. What its session has of
+    /// its own beside is for the caller to know: a database, a table, a setting is gone with the connection.
+    #[tactic(auto, using(crate::proofs::steps::Staying::opens_refl, crate::proofs::steps::Stepping::no_steps, crate::proofs::spared::Closings::closes_refl, crate::proofs::spared::Few::none_refl, crate::proofs::spared::Resting::go_refl, crate::proofs::spared::Ordered::ordered_refl))]
+    pub fn park(&mut self, key: usize) -> Result<bool, NoMemory>
+        ensures is { IfOk result (λ is. is ≡ may_park_in self.old key) }
+        ensures nothing { IfOk result (λ is. is ≡ false → self.new ≡ self.old) }
+        ensures left { IfOk result (λ is. is ≡ true
+            → Leaving key (desk_in self.old.desk) (desk_in self.new.desk)) }
+        ensures away { (sharing : Sharing) → IsLedTo sharing (house_in self.old)
+            → IfOk result (λ is. is ≡ true → IsAway (hall_in self.new) key) }
+        ensures goes { OnOk result (Goes (Application key)
+            (desk_in self.old.desk) (desk_in self.new.desk)) }
+        ensures steps { OnOk result (Steps (Application key) (house_in self.old)
+            (house_in self.new)) }
+        ensures kept { OnOk result (posts_in self.new.applications
+            ≡ posts_in self.old.applications) }
+        ensures served { IfOk result (λ is. is ≡ true → NobodyWaits self.new) }
+        ensures few { OnOk result (Few self.old.most self.old.links.items
+            self.new.links.items) }
+        ensures opens { OnOk result (Opens self.old.links.items self.new.links.items) }
+        ensures stand { OnOk result (AllStand self.old.desk.service
+            self.new.desk.service) }
+        ensures goes_on { OnOk result (AllGo self.old self.new) }
+        ensures apart { OnOk result (UnlessServed (hall_in self.old) (hall_in self.new)) }
+        ensures ordered { OnOk result (StayOrdered self.old.orders.items self.new.orders.items) }
+        ensures closes { OnOk result (ClosesOnly (IsWaiting (desk_in self.old.desk).line)
+            (register_in self.old) (register_in self.new)) }
+        ensures ends { IsReached (desk_in self.old.desk) → IfOk result (λ is. is ≡ true
+            → OfItsHold WaitsBehindEnd key self.old
+            (λ number. open_waits number self.new.links.items)) }
+    {
+        if !self.may_park(key) {
+            return Ok(false);
+        }
+        self.release(key)?;
+        self.serve_line()?;
+        Ok(true)
+    }
+
+    /// Whether an application is at rest.
+    fn may_park(&self, key: usize) -> bool
+        ensures { result ≡ may_park_in self.now key }
+    {
+        match self.desk.mode() {
+            Mode::Sessions => return false,
+            Mode::Transactions => {}
+        }
+        let Some(application) = self.applications.get(key) else {
+            return false;
+        };
+        if !application.is_at_end() {
+            return false;
+        }
+        if !application.has_no_request() {
+            return false;
+        }
+        match self.desk.hold_of(key) {
+            Some(hold) => self.desk.is_clean_on(hold.number),
+            None => false,
+        }
+    }
+}
