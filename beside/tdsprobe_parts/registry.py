@@ -36,11 +36,11 @@ class Probe:
     def __init__(self, server, made):
         self.server, self.made, self.connections, self.open = server, made, [], []
 
-    def session(self):
-        """A new connection, logged in."""
+    def session(self, features=b""):
+        """A new connection, logged in, whose login asks for these features."""
         events = []
         self.connections.append(events)
-        self.open.append(Session(self.server, events))
+        self.open.append(Session(self.server, events, features))
         return self.open[-1]
 
     def close(self):

@@ -4,13 +4,13 @@ import secrets
 import ssl
 from dataclasses import dataclass
 
-from . import attentions, ends, recording, resets, tokens, transactions
+from . import attentions, ends, recording, resets, sharing, tokens, transactions
 from .link import Closed, Silent
 from .registry import PROBES, Probe, asks
 from .session import Refused
 
 # Each of these puts its probes into PROBES.
-MODULES = (attentions, resets, transactions, ends)
+MODULES = (attentions, resets, transactions, ends, sharing)
 
 
 @dataclass(frozen=True)

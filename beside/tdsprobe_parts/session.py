@@ -58,11 +58,11 @@ class Message:
 
 
 class Session:
-    def __init__(self, server, events):
+    def __init__(self, server, events, features=b""):
         self.server, self.descriptor, self.size, self.is_full_reset = server, 0, wire.SIZE, False
         self.link = Link(server.host, server.port, server.patience, events)
         self.encryption = self.agree()
-        self.login = self.log_in()
+        self.login = self.log_in(features)
 
     # Login.
 
@@ -80,10 +80,10 @@ class Session:
         self.link.start_tls(self.server.context, self.server.host)
         return "login" if answered == wire.OFF else "all"
 
-    def log_in(self):
+    def log_in(self, features):
         """LOGIN7 and its answer. The recording has it as of another password."""
         it = self.server
-        sent, shown = (b"".join(wire.packets(LOGIN7, wire.login7(it.user, password, it.database, it.host)))
+        sent, shown = (b"".join(wire.packets(LOGIN7, wire.login7(it.user, password, it.database, it.host, features)))
                        for password in (it.password, wire.HIDDEN))
         self.link.send(sent, "login, its password hidden", shown)
         if self.encryption == "login":

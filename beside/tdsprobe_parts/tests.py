@@ -9,7 +9,7 @@ import tempfile
 import unittest
 import unittest.mock
 
-from . import attentions, recording, running, session, tokens, wire
+from . import attentions, recording, running, session, sharing, tokens, wire
 from .peer import ACKNOWLEDGED, DONE, Peer
 from .registry import PROBES
 from .session import Refused, Server, Session
@@ -267,6 +267,54 @@ class Probes(unittest.TestCase):
         self.assertEqual(ended, {"error_of_an_unknown_message": "the server closed the connection: end of the stream"})
         self.assertEqual(len(kept["probes"]), len(PROBES) + 2)
         recording.check(kept, PASSWORD)
+
+
+class Sharing(unittest.TestCase):
+    """What answers mean for sharing by transactions, of tokens by hand: LOGINACK, FEATUREEXTACK with state 7 of four bytes
+    and 9 without any, SESSIONSTATE, ENVCHANGE 18 (MS-TDS 2.2.7.11, 2.2.7.21, 2.2.7.9)."""
+    ACK = "AD 0A00 01 74000004 00 00000000"
+    LOGIN = ACK + "AE 01 08000000 07 04 00000000 09 00 FF"
+    CHANGED, BACK = ("E4 0B000000 0{}000000 01 07 04 0{}000000".format(*it) for it in ((0, 5), (1, 0)))
+    LOST, HELD = ("E4 07000000 0{}000000 0{} 09 00".format(*it) for it in ((0, 0), (1, 1)))
+
+    def said(self, *answers, login=LOGIN, name="lock_timeout"):
+        """What is said of a probe whose login and requests were answered so."""
+        data = [bytes.fromhex("".join(it.split())) + DONE for it in (login, *answers)]
+        events = [{"way": "to client", "hex": wire.packet(wire.REPLY, it).hex()} for it in data]
+        return list(sharing.verdicts({"probes": [{"name": f"sharing_{name}", "connections": [events]}]}))
+
+    def test_told_and_told_back(self):
+        self.assertEqual(self.said(self.CHANGED, self.BACK), [
+            "lock_timeout: told as changed by state 7, and told back: its application keeps the connection until then",
+            "by these answers connections can be shared by transactions"])
+        self.assertIn("unrecoverable by state 9, and told back", self.said(self.LOST, self.HELD)[0])
+
+    def test_not_told(self):
+        self.assertEqual(self.said("", ""), [
+            "lock_timeout: NOT TOLD: who has it loses it with the connection",
+            "share by sessions, because of: lock_timeout"])
+
+    def test_not_told_back(self):
+        self.assertIn("state 9, and not told back", self.said(self.LOST, "")[0])
+
+    def test_not_acknowledged(self):
+        self.assertEqual(self.said("", "", login=self.ACK),
+                         ["the login doesn't acknowledge session recovery: share by sessions"])
+
+    def test_wrong_tokens(self):
+        self.assertIn("WRONG: a SESSIONSTATE has the number FFFFFFFF",
+                      self.said(self.CHANGED.replace("00000000 01", "FFFFFFFF 01"), self.BACK)[0])
+        self.assertIn("WRONG: a SESSIONSTATE can't be read", self.said("E4 07000000 00000000 01 07 04", "")[0])
+        self.assertIn("WRONG: SESSIONSTATE 0 stands behind 0", self.said(self.CHANGED, self.CHANGED)[0])
+
+    def test_cancel(self):
+        acknowledged = "FD 2000 0000 0000000000000000"
+        for answers, wanted in (((self.CHANGED + acknowledged, "", self.BACK), "told with the"),
+                                ((acknowledged, self.CHANGED, self.BACK), "told behind the"), ((acknowledged, "", ""), "NOT TOLD")):
+            self.assertIn(wanted, self.said(*answers, name="cancel")[0])
+
+    def test_nothing_to_say(self):
+        self.assertEqual(list(sharing.verdicts({"probes": []})), ["the recording has no probe of sharing"])
 
 
 class Recordings(unittest.TestCase):

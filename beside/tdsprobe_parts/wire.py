@@ -18,7 +18,7 @@ HEADER = 8
 # What a recording has in the place of the login's password, whatever that is.
 HIDDEN = "********"
 # Procedures that are known by a number (2.2.6.6).
-EXECUTE_SQL, PREPARE_AND_EXECUTE, EXECUTE, UNPREPARE = 10, 13, 12, 15
+EXECUTE_SQL, PREPARE, PREPARE_AND_EXECUTE, EXECUTE, UNPREPARE = 10, 11, 13, 12, 15
 # What stands between two calls of one RPC message (2.2.6.6, BatchFlag).
 NEXT_CALL = b"\xff"
 COLLATION = bytes.fromhex("0904d00034")
@@ -67,18 +67,21 @@ def obscured(password):
     return bytes(((it << 4 | it >> 4) & 0xFF) ^ 0xA5 for it in text(password))
 
 
-def login7(user, password, database, server):
-    """LOGIN7 (2.2.6.4) of TDS 7.4, with a login by name and password."""
+def login7(user, password, database, server, features=b""):
+    """LOGIN7 (2.2.6.4) of TDS 7.4, with a login by name and password, which asks for these features."""
     texts = [text("tdsprobe"), text(user), obscured(password), text("tdsprobe"), text(server), b"", text("tdsprobe"),
              b"", text(database)]
+    if features:
+        # the place of the features, which stand behind all
+        texts[5] = struct.pack("<I", 94 + 4 + sum(map(len, texts)))
     place, places, rest = 94, b"", b""
-    for it in texts:
-        places += struct.pack("<HH", place + len(rest), len(it) // 2)
+    for at, it in enumerate(texts):
+        places += struct.pack("<HH", place + len(rest), len(it) if at == 5 else len(it) // 2)
         rest += it
     end = struct.pack("<HH", place + len(rest), 0)
     # the options: database and language must be as asked, ANSI settings as of ODBC
-    fixed = struct.pack("<IIIIIBBBBiI", 0x74000004, SIZE, 0, 0, 0, 0xE0, 0x03, 0, 0, 0, 0x0409)
-    body = fixed + places + bytes(6) + end + end + end + bytes(4) + rest
+    fixed = struct.pack("<IIIIIBBBBiI", 0x74000004, SIZE, 0, 0, 0, 0xE0, 0x03, 0, 0x10 if features else 0, 0, 0x0409)
+    body = fixed + places + bytes(6) + end + end + end + bytes(4) + rest + features
     return struct.pack("<I", len(body) + 4) + body
 
 

@@ -19,6 +19,10 @@ pub enum Procedure {
     Unprepare,
     /// `sp_reset_connection`
     Reset,
+    /// `sp_getapplock`
+    Lock,
+    /// `sp_releaseapplock`
+    Unlock,
     Other,
 }
 
@@ -115,6 +119,10 @@ fn named(name: &[u16]) -> Procedure {
         Procedure::Unprepare
     } else if is_word(name, b"sp_reset_connection") {
         Procedure::Reset
+    } else if is_word(name, b"sp_getapplock") {
+        Procedure::Lock
+    } else if is_word(name, b"sp_releaseapplock") {
+        Procedure::Unlock
     } else {
         Procedure::Other
     }

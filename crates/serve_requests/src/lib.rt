@@ -6,6 +6,7 @@
 
 mod call;
 mod headers;
+mod making;
 mod message;
 mod plan;
 mod rows;

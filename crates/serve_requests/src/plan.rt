@@ -46,6 +46,8 @@ pub struct Plan {
     pub deeds: Vec<Deed>,
     /// How many transactions are begun within one another behind each statement, where that is known.
     pub levels: Vec<u32>,
+    /// How many milliseconds go by before its answer begins.
+    pub wait: u32,
     pub end: End,
 }
 
@@ -58,6 +60,7 @@ impl Plan {
             text: Vec::new(alloc),
             deeds: Vec::new(alloc),
             levels: Vec::new(alloc),
+            wait: 0,
             end,
         }
     }

@@ -2,6 +2,7 @@
 
 mod calls;
 mod levels;
+mod things;
 
 ghost use Rattle.std.specs.Prelude.{◌≤◌, length, vec_len, IfOk};
 ghost use Rattle.serve_requests.specs.declared.plan.TheConstants.{LONGEST};
@@ -11,11 +12,13 @@ use crate::statements::{Known, statements_of, what_is};
 use serve_answers::{
     Column, Done, put_collation_change, put_columns, put_done, put_info, put_row, put_text_change,
 };
+use serve_states::States;
 use serve_values::text::{front, is_word, own, trimmed, units_in};
 use serve_values::{Found, Moment, Own, Parameter, Query, columns_of};
 use std::alloc::{AllocError, Global};
+use things::Thing;
 
-/// The most savepoints and prepared texts of a session. Of more, the oldest are forgotten.
+/// The most savepoints, prepared texts and things of a session. Of more, the oldest are forgotten.
 const MOST: usize = 32;
 
 /// How many units the prepared texts of a session have before the oldest are forgotten.
@@ -55,16 +58,22 @@ pub struct Habits {
     /// How many transactions are begun within one another, and the descriptor of the outermost one, 0 for none.
     level: u32,
     transaction: u64,
+    /// What it has made, and what is told of it and of its settings.
+    things: Vec<Thing>,
+    states: States,
 }
 
 impl Habits {
     /// Those of the session of this number, in this database.
     pub fn new(alloc: Global, database: &[u16], spid: u16) -> Result<Habits, AllocError> {
+        let language = units_in(alloc, LANGUAGE)?;
         Ok(Habits {
             alloc,
             first_database: own(alloc, database)?,
             database: own(alloc, database)?,
-            language: units_in(alloc, LANGUAGE)?,
+            states: States::new(alloc, database, language.as_slice())?,
+            things: Vec::new(alloc),
+            language,
             saved: Vec::new(alloc),
             prepared: Vec::new(alloc),
             handles: 0,
@@ -81,7 +90,7 @@ impl Habits {
         self.language = units_in(self.alloc, LANGUAGE)?;
         self.saved.clear();
         self.prepared.clear();
-        Ok(())
+        self.reset_things()
     }
 
     /// What a SQL Server tells of the session that it lets in: its database, the collation, its language
@@ -236,6 +245,10 @@ impl Habits {
     ) -> Result<bool, AllocError> {
         match found {
             Some(Known::Silent) => self.add_done(plan)?,
+            Some(Known::Setting(rest)) => self.add_setting(plan, rest)?,
+            Some(Known::Making(making, name)) => self.add_making(plan, making, name)?,
+            Some(Known::Options) => self.add_options(plan)?,
+            Some(Known::Wait(milliseconds)) => self.add_wait(plan, milliseconds)?,
             Some(Known::Language(name)) => self.add_language(plan, name)?,
             Some(Known::Use(name)) => self.add_use(plan, name)?,
             Some(Known::Begin) => self.add_begin(plan, level)?,
@@ -269,6 +282,7 @@ impl Habits {
         put_language_info(alloc, &mut tokens, name)?;
         put_done(&mut tokens, Done::Statement, 1, 0)?;
         self.language = own(alloc, name)?;
+        self.set_state(b"language", name)?;
         plan.add_silent(alloc, Deed::Tokens(tokens))
     }
 
@@ -280,6 +294,7 @@ impl Habits {
         put_database_info(alloc, &mut tokens, name)?;
         put_done(&mut tokens, Done::Statement, 1, 0)?;
         self.database = own(alloc, name)?;
+        self.set_state(b"database", name)?;
         plan.add_silent(alloc, Deed::Tokens(tokens))
     }
 

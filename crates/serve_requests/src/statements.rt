@@ -1,5 +1,6 @@
 //! The statements of a batch, and those that drivers send first.
 
+use crate::making::{Making, own_thing};
 use serve_values::text::{Piece, is_among, is_word, next_piece, trimmed};
 use std::alloc::{AllocError, Global};
 
@@ -19,8 +20,10 @@ const BEGINNINGS: [&[u8]; 8] = [
 /// A statement that drivers send, as far as it matters here.
 #[derive(Clone, Copy, Debug)]
 pub enum Known<'a> {
-    /// A setting, or rows of a bulk load that are announced: nothing is to be told.
+    /// Rows of a bulk load that are announced: nothing is to be told.
     Silent,
+    /// A setting, of what stands behind its word.
+    Setting(&'a [u16]),
     /// The language of messages is chosen.
     Language(&'a [u16]),
     /// A database is chosen.
@@ -35,6 +38,12 @@ pub enum Known<'a> {
     Select(&'a [u16]),
     /// What is done if a transaction is open.
     IfOpen(&'a [u16]),
+    /// What is done with a thing of the session's own, of this name.
+    Making(Making, &'a [u16]),
+    /// All settings are asked for.
+    Options,
+    /// So many milliseconds are to go by.
+    Wait(u32),
 }
 
 /// The statements of a batch, none of them empty.
@@ -95,8 +104,17 @@ pub fn what_is(statement: &[u16]) -> Option<Known<'_>> {
     let Piece::Word(word) = first else {
         return None;
     };
+    if let Some((making, name)) = own_thing(word, rest) {
+        return Some(Known::Making(making, name));
+    }
     if is_word(word, b"set") {
         return setting(rest);
+    }
+    if is_word(word, b"dbcc") {
+        return options(rest);
+    }
+    if is_word(word, b"waitfor") {
+        return delay(rest);
     }
     if is_word(word, b"use") {
         return database(rest);
@@ -118,7 +136,7 @@ fn setting(rest: &[u16]) -> Option<Known<'_>> {
     match next_piece(rest) {
         (Piece::Word([_]), _) | (Piece::End, _) => None,
         (Piece::Word(word), behind) if is_word(word, b"language") => language(behind),
-        _ => Some(Known::Silent),
+        _ => Some(Known::Setting(rest)),
     }
 }
 
@@ -129,6 +147,45 @@ fn language(rest: &[u16]) -> Option<Known<'_>> {
             Some(Known::Language(name))
         }
         _ => Some(Known::Silent),
+    }
+}
+
+/// `waitfor delay 'HOURS:MINUTES:SECONDS'`
+fn delay(rest: &[u16]) -> Option<Known<'_>> {
+    let (first, behind) = next_piece(rest);
+    match (first, next_piece(behind)) {
+        (Piece::Word(word), (Piece::Quoted(time), _)) if is_word(word, b"delay") => {
+            Some(Known::Wait(milliseconds_in(time)))
+        }
+        _ => None,
+    }
+}
+
+/// The milliseconds of a time, a minute at most, without what stands behind the seconds.
+fn milliseconds_in(time: &[u16]) -> u32 {
+    let mut whole: u32 = 0;
+    let mut part: u32 = 0;
+    for unit in time {
+        match unit.checked_sub(48) {
+            Some(digit) if digit < 10 => {
+                part = part.saturating_mul(10).saturating_add(u32::from(digit));
+            }
+            // a colon
+            Some(10) => {
+                whole = whole.saturating_add(part).saturating_mul(60);
+                part = 0;
+            }
+            _ => break,
+        }
+    }
+    whole.saturating_add(part).saturating_mul(1000).min(60_000)
+}
+
+/// `dbcc useroptions`
+fn options(rest: &[u16]) -> Option<Known<'_>> {
+    match next_piece(rest) {
+        (Piece::Word(word), _) if is_word(word, b"useroptions") => Some(Known::Options),
+        _ => None,
     }
 }
 

@@ -9,6 +9,7 @@ mod tokens;
 pub use fault::ScriptFault;
 pub use reading::read_script;
 use serve_recordings::{Exchange, Recording};
+use serve_states::Vice;
 use serve_values::text::{begins_with, is_same};
 use std::alloc::Global;
 
@@ -67,6 +68,8 @@ pub enum Event {
     FailReset,
     /// The answer to this request breaks the protocol.
     Break { request: Which, breach: Breach },
+    /// The states of a session are told wrongly.
+    Tells(Vice),
 }
 
 /// What is done with one request.
@@ -289,6 +292,20 @@ impl Script {
             }
         }
         found
+    }
+
+    /// What is told wrongly of a session's states, by its place; none behind the last.
+    pub fn vice(&self, place: usize) -> Option<&Vice> {
+        let mut left = place;
+        for event in &self.events {
+            if let Event::Tells(vice) = event {
+                if left == 0 {
+                    return Some(vice);
+                }
+                left -= 1;
+            }
+        }
+        None
     }
 
     /// Whether each login is refused.

@@ -7,7 +7,7 @@ mod breaking;
 
 use crate::shaping::{are_rows, put_shaped};
 use serve_answers::{DONE_LENGTH, Done, put_done, put_error, put_return_status, put_return_value};
-use serve_requests::{Deed, End, Plan};
+use serve_requests::{Deed, End, Habits, Plan};
 use serve_scripts::Breach;
 use serve_values::text::units_in;
 use std::alloc::{AllocError, Global};
@@ -54,6 +54,8 @@ pub struct Answering {
     /// Whether rows have the shapes of a SQL Server's, and what is told before a reset that is done.
     is_real: bool,
     before_reset: Vec<u8>,
+    /// What is told behind it.
+    behind_reset: Vec<u8>,
 }
 
 impl Answering {
@@ -75,6 +77,7 @@ impl Answering {
             ends: Vec::new(alloc),
             is_real: false,
             before_reset: Vec::new(alloc),
+            behind_reset: Vec::new(alloc),
         }
     }
 
@@ -84,6 +87,11 @@ impl Answering {
         self.is_real = true;
         self.before_reset = before_reset;
         self.most = most;
+    }
+
+    /// These tokens are told behind a reset that is done.
+    pub fn tell_behind_reset(&mut self, tokens: &[u8]) -> Result<(), AllocError> {
+        self.behind_reset.extend_from_slice(tokens)
     }
 
     /// It goes out in packets whose data end there.
@@ -96,17 +104,23 @@ impl Answering {
     pub fn step(
         &mut self,
         server: &mut Server<ScriptEngine>,
+        habits: &mut Habits,
         out: &mut Vec<u8>,
     ) -> Result<Worked, AllocError>
         ensures { vec_len out.new ≤ vec_len out.old + 4096 }
     {
         if self.left() == 0 && !self.is_over {
-            self.work(server)?;
+            self.work(server, habits)?;
         }
         if self.is_whole() && self.left() <= self.most && !self.is_over {
-            self.work(server)?;
+            self.work(server, habits)?;
         }
         self.put(out)
+    }
+
+    /// How many milliseconds go by before it begins.
+    pub fn wait(&self) -> u32 {
+        self.plan.wait
     }
 
     /// How many transactions are begun within one another behind what was done, where the plan says it.
@@ -127,7 +141,11 @@ impl Answering {
     }
 
     /// Does a step of the server's.
-    fn work(&mut self, server: &mut Server<ScriptEngine>) -> Result<(), AllocError> {
+    fn work(
+        &mut self,
+        server: &mut Server<ScriptEngine>,
+        habits: &mut Habits,
+    ) -> Result<(), AllocError> {
         let mut packet = Vec::new(self.alloc);
         let worked = server.work(&mut packet)?;
         let data = packet.as_slice().get(8..).unwrap_or(&[]);
@@ -135,6 +153,10 @@ impl Answering {
             Worked::Step => self.tell(data),
             Worked::Finished => {
                 self.is_over = true;
+                if !self.is_whole() {
+                    let news = habits.news(&server.session().settings())?;
+                    self.tokens.extend_from_slice(news.as_slice())?;
+                }
                 self.end(data)?;
                 self.break_end();
                 Ok(())
@@ -151,7 +173,8 @@ impl Answering {
         // a reset that is done
         if matches!(data, [0xe3, _, _, 18, ..]) {
             self.tokens.extend_from_slice(self.before_reset.as_slice())?;
-            return self.tokens.extend_from_slice(data);
+            self.tokens.extend_from_slice(data)?;
+            return self.tokens.extend_from_slice(self.behind_reset.as_slice());
         }
         let place = self.place;
         self.place = place.saturating_add(1);

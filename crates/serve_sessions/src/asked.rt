@@ -17,7 +17,9 @@ const HAS_FEATURES: u8 = 0x10;
 /// Where it has the place of the place of its features.
 const FEATURES: usize = 56;
 
-/// The feature UTF8_SUPPORT.
+/// The features SESSIONRECOVERY and UTF8_SUPPORT.
+const RECOVERY: u8 = 0x01;
+
 const UTF8: u8 = 0x0a;
 
 /// The most units of a database's name.
@@ -42,16 +44,20 @@ pub fn database_in(alloc: Global, packets: &[u8]) -> Result<Vec<u16>, AllocError
 /// Whether a login's packets ask for the feature of texts in UTF-8.
 pub fn asks_for_utf8(alloc: Global, packets: &[u8]) -> Result<bool, AllocError> {
     let data = data_of(alloc, packets)?;
-    let login = data.as_slice();
-    let has_features = match login.get(OPTIONS) {
-        Some(options) => *options & HAS_FEATURES != 0,
-        None => false,
-    };
-    Ok(has_features && has_feature(features_in(login).unwrap_or(&[]), UTF8))
+    Ok(count_of(features_in(data.as_slice()).unwrap_or(&[]), UTF8).is_some())
+}
+
+/// Whether a login's packets ask for session recovery, and bring no session that is to be recovered.
+pub fn asks_for_recovery(alloc: Global, packets: &[u8]) -> Result<bool, AllocError> {
+    let data = data_of(alloc, packets)?;
+    Ok(count_of(features_in(data.as_slice()).unwrap_or(&[]), RECOVERY) == Some(0))
 }
 
 /// The features that a login asks for, and what stands behind them.
 fn features_in(login: &[u8]) -> Option<&[u8]> {
+    if *login.get(OPTIONS)? & HAS_FEATURES == 0 {
+        return None;
+    }
     let [low, high, ..] = login.get(FEATURES..)? else {
         return None;
     };
@@ -62,23 +68,23 @@ fn features_in(login: &[u8]) -> Option<&[u8]> {
     login.get(u32::from_le_bytes([*a, *b, *c, *d]) as usize..)
 }
 
-/// Whether one is among features: each has its number, and the count of its bytes in four.
-fn has_feature(features: &[u8], wanted: u8) -> bool {
+/// How many bytes of data a feature has, if it is among these: each has its number, and the count in four bytes.
+fn count_of(features: &[u8], wanted: u8) -> Option<usize> {
     let mut rest = features;
     for _ in 0..features.len() {
         let [number, a, b, c, d, behind @ ..] = rest else {
-            return false;
+            return None;
         };
+        let count = u32::from_le_bytes([*a, *b, *c, *d]) as usize;
         if *number == wanted {
-            return true;
+            return Some(count);
         }
         if *number == 0xff {
-            return false;
+            return None;
         }
-        let count = u32::from_le_bytes([*a, *b, *c, *d]) as usize;
         rest = behind.get(count..).unwrap_or(&[]);
     }
-    false
+    None
 }
 
 /// What stands behind the headers of packets.

@@ -5,10 +5,12 @@ ghost use Rattle.std.specs.Prelude.{◌+◌, ◌≤◌, length, vec_len, IfOk};
 mod packets;
 mod planning;
 mod recorded;
+mod recovering;
 mod transactions;
 
 use crate::answering::Answering;
 use packets::{attention, batch, message_of};
+use recovering::set_back;
 use serve_requests::{Habits, MessageKind, MessageReader, Plan, Stop, Whole};
 use serve_scripts::{Breach, Orders, Script};
 use serve_values::Moment;
@@ -74,6 +76,8 @@ pub struct Front {
     orders: Option<Orders>,
     /// Whether the newest request's answer has the acknowledgement of its attention in it.
     is_acknowledged: bool,
+    /// What is told of the session's states behind a reset that is done.
+    behind_reset: Vec<u8>,
 }
 
 /// A plan, and the request that it is of.
@@ -107,6 +111,7 @@ impl Front {
             place: 0,
             orders: None,
             is_acknowledged: false,
+            behind_reset: Vec::new(alloc),
         })
     }
 
@@ -201,7 +206,7 @@ impl Front {
             if script.fails_reset() {
                 return Ok(Took::FailedReset);
             }
-            self.habits.reset()?;
+            set_back(&mut self.habits, &mut self.behind_reset)?;
         }
         self.take_request(server, script, whole, out)
     }
@@ -220,6 +225,7 @@ impl Front {
             level = answering.level();
         }
         self.answering = None;
+        self.habits.told(false);
         let taken = if self.is_acknowledged {
             let mut forgotten = Vec::new(self.alloc);
             server.take(attention(), &mut forgotten)
@@ -290,6 +296,8 @@ impl Front {
         if self.is_real {
             answering.make_real(self.habits.tokens(self.alloc)?, self.most);
         }
+        answering.tell_behind_reset(self.behind_reset.as_slice())?;
+        self.behind_reset.clear();
         self.answering = Some(answering);
         Ok(())
     }
@@ -305,8 +313,9 @@ impl Front {
         let Some(answering) = &mut self.answering else {
             return Ok(Worked::Idle);
         };
-        let worked = answering.step(server, out)?;
+        let worked = answering.step(server, &mut self.habits, out)?;
         if worked == Worked::Finished {
+            self.habits.told(true);
             self.has_failed = answering.has_failed;
             let level = answering.level();
             self.habits.ended(level, server.session().descriptor());

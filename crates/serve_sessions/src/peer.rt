@@ -283,10 +283,11 @@ impl Peer {
         let Stage::Session { front, server } = &mut self.stage else {
             return Ok(());
         };
-        let orders = match front.orders() {
+        let mut orders = match front.orders() {
             Some(orders) => orders,
             None => script.orders(self.request, front.text()),
         };
+        orders.late = orders.late.max(front.wait());
         front.set_breach(orders.breach);
         self.orders = orders;
         let mut text = Vec::new(self.alloc);

@@ -4,10 +4,11 @@ ghost use Rattle.std.specs.Prelude.{◌≤◌, vec_len, IfOk};
 ghost use Rattle.serve_requests.specs.declared.plan.TheConstants.{LONGEST};
 
 use crate::call::{Call, Procedure, declared};
+use crate::making::Making;
 use crate::plan::{Deed, End, LONGEST, Plan};
 use crate::session::{Habits, MOST, Prepared, ROOM};
 use serve_values::Parameter;
-use serve_values::text::{own, units_in};
+use serve_values::text::{is_word, own, units_in};
 use std::alloc::AllocError;
 
 /// What is told with the name of a procedure that isn't known.
@@ -68,11 +69,35 @@ impl Habits {
             Procedure::Execute => self.plan_execute(&mut call, text),
             Procedure::Unprepare => {
                 self.unprepare(&call);
+                self.count_handles()?;
                 self.plan_silent(None)
             }
             Procedure::Reset => self.plan_silent(None),
+            Procedure::Lock => self.plan_lock(&call, Making::Lock),
+            Procedure::Unlock => self.plan_lock(&call, Making::Unlock),
             Procedure::Other => self.unknown(&call),
         }
+    }
+
+    /// The plan of a call that takes the application lock of its parameter `@Resource`, the first one without a
+    /// name, or releases it.
+    fn plan_lock(&mut self, call: &Call<'_>, making: Making) -> Result<Plan, AllocError>
+        ensures fits { IfOk result (λ plan. vec_len plan.text ≤ LONGEST) }
+    {
+        let mut place = 0;
+        for (at, parameter) in call.parameters.iter().enumerate() {
+            if is_word(parameter.name.as_slice(), b"@resource") {
+                place = at;
+            }
+        }
+        let name = self.text_at(call, place)?;
+        let end = End::Procedure { handle: None };
+        let mut plan = Plan::new(self.alloc, end);
+        self.add_making(&mut plan, making, name.as_slice())?;
+        if plan.text.len() > LONGEST {
+            return self.too_long_to_run(end);
+        }
+        Ok(plan)
     }
 
     /// The plan of a call of which nothing but its end is told.
@@ -145,6 +170,7 @@ impl Habits {
             text,
             declarations,
         })?;
+        self.count_handles()?;
         Ok(handle)
     }
 

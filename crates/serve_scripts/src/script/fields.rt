@@ -4,6 +4,7 @@ use crate::script::{Breach, Event, Pattern, Which};
 use serde_json::Value;
 use serve_recordings::bytes_of;
 use serve_requests::LONGEST;
+use serve_states::{Vice, is_state};
 use std::alloc::{AllocError, Global};
 
 /// The most that a number in a script may be.
@@ -20,6 +21,7 @@ pub(crate) enum Field {
     Text,
     Batch,
     Breach,
+    State,
     /// Tokens in hexadecimal digits, which are an answer.
     Tokens,
     /// The same, and they need not be one.
@@ -38,6 +40,7 @@ impl Field {
             Field::Text => "a text of a request",
             Field::Batch => "a text of 1 to 2000 units",
             Field::Breach => "one of no_done, no_end, unasked and more",
+            Field::State => "the name of a session's state",
             Field::Tokens | Field::AnyTokens => "a text of tokens in hexadecimal digits",
         }
     }
@@ -50,6 +53,7 @@ impl Field {
             Field::Piece => is_number(value, 1),
             Field::Text | Field::Tokens | Field::AnyTokens => value.as_str().is_some(),
             Field::Breach => breach_of(value.as_str().unwrap_or("")).is_some(),
+            Field::State => is_state(value.as_str().unwrap_or("")),
             Field::Batch => match value.as_str() {
                 Some(text) => (1..=LONGEST).contains(&text.encode_utf16().count()),
                 None => false,
@@ -78,7 +82,9 @@ pub(crate) fn fields_of(word: &str) -> Option<&'static [Field]> {
         "deaf" => Some(&[Field::Request]),
         "late" => Some(&[Field::Request, Field::Milliseconds]),
         "close" => Some(&[Field::Milliseconds]),
-        "refuse" | "fail_reset" => Some(&[]),
+        "refuse" | "fail_reset" | "last_number" | "unrecoverable" => Some(&[]),
+        "untold" | "left" => Some(&[Field::State]),
+        "long" => Some(&[Field::State, Field::Bytes]),
         "break" => Some(&[Field::Request, Field::Breach]),
         _ => None,
     }
@@ -106,6 +112,9 @@ pub(crate) fn event_of(
         "fail_reset" => Ok(Some(Event::FailReset)),
         "split" | "close" => Ok(lone_event(word, fields.first())),
         "answer" | "answer_hex" | "broken_hex" => text_event(alloc, word, fields),
+        "last_number" => Ok(Some(Event::Tells(Vice::LastNumber))),
+        "unrecoverable" => Ok(Some(Event::Tells(Vice::Unrecoverable))),
+        "untold" | "left" | "long" => state_event(alloc, word, fields),
         _ => request_event(alloc, word, fields),
     }
 }
@@ -120,6 +129,24 @@ fn lone_event(word: &str, value: Option<&Value>) -> Option<Event> {
             milliseconds: number,
         })
     }
+}
+
+/// The event of this word that is of one state.
+fn state_event(alloc: Global, word: &str, fields: &[Value]) -> Result<Option<Event>, AllocError> {
+    let [name, rest @ ..] = fields else {
+        return Ok(None);
+    };
+    let name = String::from_str(alloc, name.as_str().unwrap_or(""))?;
+    let vice = match (word, rest) {
+        ("untold", _) => Vice::Untold(name),
+        ("left", _) => Vice::Left(name),
+        (_, [number]) => {
+            let bytes = number_of(number).unwrap_or(0) as usize;
+            Vice::Long { name, bytes }
+        }
+        _ => return Ok(None),
+    };
+    Ok(Some(Event::Tells(vice)))
 }
 
 /// The event of this word that answers a text.

@@ -30,7 +30,7 @@ const KEYS: [Key; 2] = [
 
 /// The words of events.
 const WORDS: &str = "hold, cross, cut, split, answer, answer_hex, broken_hex, deaf, late, close, \
-     refuse, fail_reset, break";
+     refuse, fail_reset, break, untold, left, long, last_number, unrecoverable";
 
 /// The most events of a script.
 const MOST: usize = 1000;

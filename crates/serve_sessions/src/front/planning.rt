@@ -1,5 +1,6 @@
 //! The plans of requests, as the script says.
 
+use crate::front::recovering::set_back;
 use crate::front::{Front, Planned, Took, copy};
 use serve_requests::{Call, CallFault, End, Habits, Plan, Procedure, behind_headers, read_call};
 use serve_scripts::{Reply, Script};
@@ -44,7 +45,7 @@ impl Front {
         self.text = self.habits.text_of(&call)?;
         let is_reset = call.procedure == Procedure::Reset;
         if is_reset {
-            self.habits.reset()?;
+            set_back(&mut self.habits, &mut self.behind_reset)?;
         }
         let text = self.text.as_slice();
         let plan = reply_to_call(self.alloc, &mut self.habits, script, call, text)?;

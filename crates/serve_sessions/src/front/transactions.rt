@@ -43,6 +43,7 @@ impl Front {
         let Ok((descriptor, request)) = read else {
             return Ok(None);
         };
+        self.hear_isolation(&request)?;
         let plan = match script.reply_to(self.text.as_slice()) {
             Some(Reply::Tokens(tokens)) => Plan::whole(self.alloc, copy(self.alloc, tokens)?)?,
             Some(Reply::Batch(text)) => self.habits.plan_batch(text)?,

@@ -1,11 +1,12 @@
 //! What a peer is told that is let in.
 ghost use Rattle.std.specs.Prelude.{◌+◌, ◌≤◌, vec_len};
 
-use crate::asked::{asks_for_utf8, database_in};
+use crate::asked::{asks_for_recovery, asks_for_utf8, database_in};
 use crate::front::Front;
 use crate::peer::{Next, Peer, Stage};
-use serve_answers::{Done, put_done, put_login_ack, put_no_utf8, put_size_change};
+use serve_answers::{DONE_LENGTH, Done, put_done, put_login_ack, put_no_utf8, put_size_change};
 use serve_scripts::Script;
+use serve_states::put_features;
 use std::alloc::{AllocError, Global};
 use tds_login::{Terms, is_let_in, put_let_in};
 use tds_packet::{Kind, PacketSize, Status, put_sent};
@@ -28,6 +29,7 @@ impl Peer {
         let alloc = self.alloc;
         let database = database_in(alloc, self.login.as_slice())?;
         let has_utf8 = asks_for_utf8(alloc, self.login.as_slice())?;
+        let has_recovery = asks_for_recovery(alloc, self.login.as_slice())?;
         self.login.clear();
         self.orders = script.orders(0, &[]);
         self.begin_session(script, &terms, database.as_slice())?;
@@ -39,12 +41,32 @@ impl Peer {
                 Next::Close
             });
         }
+        let features = self.features(has_utf8, has_recovery)?;
         if self.is_real {
-            self.put_real_greeting(&terms, has_utf8, out)?;
-        } else {
+            self.put_real_greeting(&terms, features.as_slice(), out)?;
+        } else if features.is_empty() {
             put_let_in(alloc, out, terms, database.as_slice())?;
+        } else {
+            let tokens = plain_greeting(alloc, terms, database.as_slice(), features.as_slice())?;
+            put_greeting(out, tokens.as_slice())?;
         }
         Ok(Next::Stay)
+    }
+
+    /// What is told of the features that were asked for: those that aren't given, in the shapes of a SQL Server
+    /// alone.
+    fn features(&mut self, has_utf8: bool, has_recovery: bool) -> Result<Vec<u8>, AllocError> {
+        let mut tokens = Vec::new(self.alloc);
+        let has_utf8 = has_utf8 && self.is_real;
+        match &mut self.stage {
+            Stage::Session { front, .. } if has_recovery => {
+                let states = front.tell_states()?;
+                put_features(&mut tokens, states.as_slice(), has_utf8)?;
+            }
+            _ if has_utf8 => put_no_utf8(&mut tokens)?,
+            _ => {}
+        }
+        Ok(tokens)
     }
 
     /// Begins the session, in this database.
@@ -59,6 +81,7 @@ impl Peer {
         if let Some(recording) = script.recording() {
             front.go_by(recording, self.number);
         }
+        front.take_vices(script);
         let server = Server::with_attention(self.alloc, ScriptEngine, size, self.on_attention);
         self.stage = Stage::Session { front, server };
         Ok(())
@@ -68,7 +91,7 @@ impl Peer {
     fn put_real_greeting(
         &self,
         terms: &Terms,
-        has_utf8: bool,
+        features: &[u8],
         out: &mut Vec<u8>,
     ) -> Result<(), AllocError>
         ensures { vec_len out.new ≤ vec_len out.old + 4096 }
@@ -76,7 +99,7 @@ impl Peer {
         let Stage::Session { front, .. } = &self.stage else {
             return Ok(());
         };
-        let tokens = real_greeting(self.alloc, front, terms, has_utf8)?;
+        let tokens = real_greeting(self.alloc, front, terms, features)?;
         put_greeting(out, tokens.as_slice())
     }
 }
@@ -103,21 +126,36 @@ fn recorded_greeting(script: &Script, number: u64) -> Option<&[u8]> {
 }
 
 /// The tokens by which a SQL Server lets a client in: what is told of the session, ENVCHANGE 4 (MS-TDS
-/// 2.2.7.9), LOGINACK (2.2.7.14), FEATUREEXTACK (2.2.7.11) where the feature of UTF-8 was asked for, and DONE
-/// (2.2.7.6).
+/// 2.2.7.9), LOGINACK (2.2.7.14), FEATUREEXTACK (2.2.7.11) where a feature was asked for, and DONE (2.2.7.6).
 fn real_greeting(
     alloc: Global,
     front: &Front,
     terms: &Terms,
-    has_utf8: bool,
+    features: &[u8],
 ) -> Result<Vec<u8>, AllocError> {
     let mut tokens = front.session_tokens()?;
     put_size_change(alloc, &mut tokens, terms.size.get())?;
     put_login_ack(alloc, &mut tokens, terms.version)?;
-    if has_utf8 {
-        put_no_utf8(&mut tokens)?;
-    }
+    tokens.extend_from_slice(features)?;
     put_done(&mut tokens, Done::Statement, 0, 0)?;
+    Ok(tokens)
+}
+
+/// The tokens by which a client is let in that asked for these features: they stand before DONE.
+fn plain_greeting(
+    alloc: Global,
+    terms: Terms,
+    database: &[u16],
+    features: &[u8],
+) -> Result<Vec<u8>, AllocError> {
+    let mut packet = Vec::new(alloc);
+    put_let_in(alloc, &mut packet, terms, database)?;
+    let data = packet.as_slice().get(8..).unwrap_or(&[]);
+    let (front, done) = data.split_at(data.len().saturating_sub(DONE_LENGTH));
+    let mut tokens = Vec::new(alloc);
+    tokens.extend_from_slice(front)?;
+    tokens.extend_from_slice(features)?;
+    tokens.extend_from_slice(done)?;
     Ok(tokens)
 }
 

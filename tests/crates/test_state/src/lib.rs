@@ -11,7 +11,7 @@ use std::{fs, io};
 /// How many bytes a piece has.
 const SIZES: [usize; 4] = [1, 3, 7, 4096];
 
-/// Follows the cases of the file that the first word names, with each size: whether all came out as they are
+/// Follows the cases of the files that the words name, with each size: whether all came out as they are
 /// written.
 pub fn run(rt: &HostRuntime, words: &[String]) -> ExitCode {
     match obey(rt, words) {
@@ -25,15 +25,22 @@ pub fn run(rt: &HostRuntime, words: &[String]) -> ExitCode {
 }
 
 fn obey(rt: &HostRuntime, words: &[String]) -> io::Result<bool> {
-    let Some(file) = words.first() else {
-        return Err(io::Error::from(io::ErrorKind::InvalidInput));
-    };
-    let text = fs::read_to_string(rt, file.as_str())?;
     let mut is_well = true;
-    for size in SIZES.iter() {
-        is_well &= follow(rt, text.as_str(), *size)?;
+    for file in words {
+        let text = fs::read_to_string(rt, file.as_str())?;
+        for size in SIZES.iter() {
+            is_well &= follow(rt, text.as_str(), *size)?;
+        }
     }
     Ok(is_well)
+}
+
+/// The step of a line, if it has one: `greeted` stands for the newest greeting.
+fn step_of<'a>(line: &'a str, greeting: &'a str) -> Option<&'a str> {
+    if line.is_empty() || line.starts_with("#") || line.starts_with("greeting ") {
+        return None;
+    }
+    Some(if line == "greeted" { greeting } else { line })
 }
 
 /// Follows all cases in pieces of this size, and prints how many there are and how often they ask whether the
@@ -43,6 +50,7 @@ fn follow(rt: &HostRuntime, text: &str, size: usize) -> io::Result<bool> {
     let mut questions = 0u32;
     let mut is_well = true;
     let mut name = "";
+    let mut greeting = "";
     let mut follower = Follower::new(rt.alloc())?;
     for line in text.lines() {
         if let Some(new) = line.strip_prefix("case ") {
@@ -51,9 +59,10 @@ fn follow(rt: &HostRuntime, text: &str, size: usize) -> io::Result<bool> {
             name = new;
             continue;
         }
-        if line.is_empty() || line.starts_with("#") {
+        greeting = line.strip_prefix("greeting ").unwrap_or(greeting);
+        let Some(line) = step_of(line, greeting) else {
             continue;
-        }
+        };
         let wanted = match line {
             "rests" => true,
             "holds" => false,
