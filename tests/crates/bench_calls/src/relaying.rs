@@ -57,12 +57,7 @@ fn to_open(orders: &[Order]) -> Option<u64> {
 }
 
 /// So many requests of this application, and their answers.
-pub fn relay_all(
-    relay: &mut Relay,
-    key: usize,
-    number: u64,
-    times: u32,
-) -> Result<(), SpeedFault> {
+pub fn relay_all(relay: &mut Relay, key: usize, number: u64, times: u32) -> Result<(), SpeedFault> {
     for _ in 0..times {
         relay.said(key, &REQUEST)?;
         answer(relay, key, number)?;
