@@ -141,7 +141,9 @@ impl Two {
     /// The second one waits until the first one is parked, and its connection is clean; then the other way round.
     fn turns(&mut self) -> Result<Option<&'static str>, AllocError> {
         self.ask(self.second)?;
-        if self.relay.park(self.second)? || self.relay.place_of(self.second) != Some(Place::Waiting) {
+        if self.relay.park(self.second)?
+            || self.relay.place_of(self.second) != Some(Place::Waiting)
+        {
             return Ok(Some("the second one waits"));
         }
         if !self.relay.park(self.first)? || self.relay.place_of(self.first) != Some(Place::Quiet) {
