@@ -46,22 +46,9 @@ static void ask(uint64_t lease, struct wire *wire)
 /* The data of the answer's only packet. */
 static void hear(uint64_t number, struct wire *wire, const uint8_t *bytes, size_t length)
 {
+    size_t taken;
     struct tds_whose whose;
-    for (size_t count; length; bytes += count, length -= count) {
-        struct tds_wire_token *token = &told.tokens[told.count];
-        if (told.count == 64)
-            exit(1);
-        uint8_t walked = tds_wire_next(&wire->walk, &wire->memory, bytes, length, &count, token);
-        if (walked == TDS_WIRE_MORE)
-            continue;
-        expect("walk", walked, TDS_WIRE_ENDED);
-        uint8_t is = tds_service_came(&service, seats, MOST, number, token, &whose);
-        if (is != TDS_TELL && is != TDS_DROP)
-            expect("came", is, TDS_TELL);
-        told.count += is == TDS_TELL;
-    }
-    expect("ended", tds_service_message_ended(&service, seats, MOST, number, !tds_wire_is_between(&wire->walk, &wire->memory), &whose), TDS_FINISHED);
-    tds_wire_restart(&wire->walk, &wire->memory);
+    expect("hear", tds_service_hear(&service, seats, MOST, number, &wire->walk, &wire->memory, bytes, length, 1, &taken, told.tokens, 64, &told.count, &whose), TDS_FINISHED);
 }
 
 static const uint8_t answer[] = { 0xE3, 3, 0, 18, 0, 0, 0x79, 5, 0, 0, 0, 0xFD, 0x10, 0, 0xC1, 0, 1, 0, 0, 0, 0, 0, 0, 0 };

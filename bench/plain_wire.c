@@ -7,7 +7,7 @@
    usage: plain_wire FILE PIECE TIMES [PACKETS]      prints tokens, the sum of their lengths, the counts of the DONEs. Behind
    a fourth word the file has packets.
 
-   plain_service.c has the walk too, without its program. */
+   plain_service.c has the walk too, without its program; plain_walked.c has it with the places of a row's values. */
 #include <stdint.h>
 #include <stdio.h>
 #include <stdlib.h>
@@ -52,6 +52,20 @@ struct walker {
 
 struct token { uint8_t kind; uint64_t start, length, rows; };
 
+#ifdef WITH_PLACES
+/* Where each value stands of the row that the walk is in, or has passed last; and where the walk is in its piece. */
+static struct { uint64_t start, length; uint8_t null; } places[MOST_COLUMNS];
+static uint64_t here;
+#define HERE(place) (here = (place))
+#define STANDS(w, many, is_null) \
+    ((void)((w)->is_row && (places[(w)->column].start = here, places[(w)->column].length = (many), places[(w)->column].null = (is_null))))
+#define GOES_ON(w, many) ((void)((w)->is_row && (places[(w)->column].length += (many))))
+#else
+#define HERE(place) ((void)0)
+#define STANDS(w, many, is_null) ((void)0)
+#define GOES_ON(w, many) ((void)0)
+#endif
+
 static int behind_run(struct walker *w, uint8_t next);
 
 static void expect(struct walker *w, uint8_t due) { w->due = due; w->number = 0; w->got = 0; }
@@ -70,8 +84,10 @@ static int begin_value(struct walker *w, struct column column)
 {
     static const uint8_t due[] = { [BYTE_COUNT] = VALUE_BYTE, [SHORT_COUNT] = VALUE_SHORT, [LONG_COUNT] = VALUE_LONG,
                                    [POINTER] = VALUE_POINTER, [PARTS] = PARTS_LOW };
-    if (column.shape == FIXED)
+    if (column.shape == FIXED) {
+        STANDS(w, column.size, 0);
         return pass(w, column.size, VALUED);
+    }
     expect(w, due[column.shape]);
     return 0;
 }
@@ -81,10 +97,10 @@ static int go_in_row(struct walker *w)
 {
     for (; w->column < w->count; w->column++) {
         struct column column = w->columns[w->column];
-        if (w->with_nulls && w->nulls[w->column >> 3] >> (w->column & 7) & 1)
+        if ((w->with_nulls && w->nulls[w->column >> 3] >> (w->column & 7) & 1) || (column.shape == FIXED && column.size == 0)) {
+            STANDS(w, 0, 1);
             continue;
-        if (column.shape == FIXED && column.size == 0)
-            continue;
+        }
         return begin_value(w, column);
     }
     expect(w, TOKEN);
@@ -261,13 +277,19 @@ static int arrive(struct walker *w, uint8_t due, uint32_t n)
         }
         w->column = 0;
         return go_in_row(w);
-    case VALUE_BYTE: return pass(w, n, VALUED);
-    case VALUE_SHORT: return n == 0xFFFF ? end_value(w) : pass(w, n, VALUED);
-    case VALUE_LONG: return n == 0xFFFFFFFF ? end_value(w) : pass(w, n, VALUED);
-    case VALUE_POINTER: return n ? pass(w, n + 8, VALUE_LONG) : end_value(w);
+    case VALUE_BYTE: STANDS(w, n, n == 0); return pass(w, n, VALUED);
+    case VALUE_SHORT: STANDS(w, n == 0xFFFF ? 0 : n, n == 0xFFFF); return n == 0xFFFF ? end_value(w) : pass(w, n, VALUED);
+    case VALUE_LONG: STANDS(w, n == 0xFFFFFFFF ? 0 : n, n == 0xFFFFFFFF); return n == 0xFFFFFFFF ? end_value(w) : pass(w, n, VALUED);
+    case VALUE_POINTER: STANDS(w, 0, 1); return n ? pass(w, n + 8, VALUE_LONG) : end_value(w);
     case PARTS_LOW: w->parts = n == 0xFFFFFFFF; expect(w, PARTS_HIGH); return 0;
-    case PARTS_HIGH: return w->parts && n == 0xFFFFFFFF ? end_value(w) : (expect(w, PART), 0);
-    case PART: return n ? pass(w, n, PART) : end_value(w);
+    case PARTS_HIGH:
+        STANDS(w, 0, w->parts && n == 0xFFFFFFFF);
+        return w->parts && n == 0xFFFFFFFF ? end_value(w) : (expect(w, PART), 0);
+    case PART:
+        if (n == 0)
+            return end_value(w);
+        GOES_ON(w, n + 4);
+        return pass(w, n, PART);
     case LABELS: w->left = n; return n ? (expect(w, LABEL_NAME), 0) : end_labels(w);
     case LABEL_NAME: return pass(w, 2 * n, LABEL_ID);
     case LABEL_ID: return pass(w, 2 * n, LABELLED);
@@ -306,6 +328,7 @@ static long feed(struct walker *w, const uint8_t *bytes, size_t count, struct to
                 keep(w, bytes + done, step);
             w->run -= step;
             done += step;
+            HERE(w->at + done);
             ended = w->run ? 0 : behind_run(w, w->next);
             continue;
         }
@@ -313,9 +336,11 @@ static long feed(struct walker *w, const uint8_t *bytes, size_t count, struct to
         if (w->got == 0 && count - done >= width) {
             uint32_t number = number_of(bytes + done, width);
             done += width;
+            HERE(w->at + done);
             ended = arrive(w, w->due, number);
         } else {
             w->number |= (uint32_t)bytes[done++] << 8 * w->got++;
+            HERE(w->at + done);
             if (w->got == width)
                 ended = arrive(w, w->due, w->number);
         }

@@ -12,6 +12,12 @@ def processor(pid):
     return (int(words[11]) + int(words[12])) * TICK
 
 
+def ran(pid):
+    """The same in nanoseconds, of its first thread (proc(5), schedstat)."""
+    with open(f"/proc/{pid}/schedstat", encoding="ascii") as it:
+        return int(it.read().split()[0])
+
+
 def memory(pid, name="VmRSS"):
     with open(f"/proc/{pid}/status", encoding="ascii") as it:
         return next(int(line.split()[1]) for line in it if line.startswith(name))

@@ -7,7 +7,7 @@ import time
 from mouktelf import tds
 from mouktelf.tds import aio
 
-HOW = dict(user="a", password="b", login_timeout=5, timeout=10)
+HOW = dict(user="a", password="b", login_timeout=60, timeout=60)
 
 
 def connect(port, autocommit=True, **more):

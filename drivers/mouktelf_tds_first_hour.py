@@ -6,7 +6,7 @@ from mouktelf import tds
 
 
 def connect(**more):
-    words = dict(port=int(sys.argv[1]), user="a", password="b", autocommit=True, login_timeout=5, timeout=10)
+    words = dict(port=int(sys.argv[1]), user="a", password="b", autocommit=True, login_timeout=60, timeout=60)
     return tds.connect("127.0.0.1", **dict(words, **more))
 
 

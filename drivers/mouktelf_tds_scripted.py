@@ -5,7 +5,7 @@ import time
 from mouktelf import tds
 
 PORTS = dict(word.split("=") for word in sys.argv[1:])
-HOW = dict(user="a", password="b", login_timeout=5, timeout=5)
+HOW = dict(user="a", password="b", login_timeout=60, timeout=60)
 
 
 def connect(name, **more):
@@ -86,6 +86,19 @@ def hands_over(name):
         print(" ", pool.statistics().opened, "connection,", pool.statistics().lost, "lost")
 
 
+def hands_on(name):
+    """Who has a connection first leaves another database and a transaction; the cancel of the next one's first request comes before
+    the reset is done, so what it asks then asks for that again."""
+    print(name, "in a pool")
+    with tds.Pool("127.0.0.1", port=int(PORTS[name]), most=1, autocommit=True, **dict(HOW, timeout=1)) as pool:
+        with pool.connection() as connection:
+            ask(connection.cursor(), "use other;begin")
+        with pool.connection() as connection:
+            for text in ("say borrower", "select db_name()", "commit"):
+                ask(connection.cursor(), text)
+        print(" ", pool.statistics().opened, "connection,", pool.statistics().lost, "lost")
+
+
 def is_cut(name):
     """A session that is gone isn't opened anew by itself; a pool opens another one."""
     connection = connect(name)
@@ -112,5 +125,7 @@ hands_over("begin_crossed")
 request_times_out("begin_request_crossed")
 if "commit_crossed" in PORTS:
     commit_times_out("commit_crossed")
+if "reset_held" in PORTS:
+    hands_on("reset_held")
 is_cut("cut")
 in_pieces("split")

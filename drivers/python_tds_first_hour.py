@@ -9,8 +9,9 @@ logging.disable(logging.WARNING)
 
 
 def connect(**more):
+    # Its pool's first reset names the transaction that was left open, and is refused: so its retries stay here.
     words = dict(server="127.0.0.1", port=int(sys.argv[1]), user="a", password="b", autocommit=True,
-                 login_timeout=5, timeout=10)
+                 login_timeout=60, timeout=60)
     return pytds.connect(**dict(words, **more))
 
 

@@ -9,7 +9,7 @@ PORTS = dict(word.split("=") for word in sys.argv[1:])
 def connect(name, **more):
     print(name)
     words = dict(server="127.0.0.1", port=int(PORTS[name]), user="a", password="b", autocommit=True,
-                 login_timeout=5, timeout=5)
+                 login_timeout=60, timeout=60, disable_connect_retry=True)
     return pytds.connect(**dict(words, **more))
 
 
@@ -23,6 +23,9 @@ def ask(cursor, text):
             if not cursor.nextset():
                 break
         print(" ", text[:40], "->", sets)
+    except ConnectionResetError:
+        # Whether the end that came before is read, or the reset that answers what was sent since, is a matter of microseconds.
+        print(" ", text[:40], "-> ClosedConnectionError Server closed connection")
     except Exception as error:  # whatever it shows
         print(" ", text[:40], "->", type(error).__name__, error)
 

@@ -3,8 +3,8 @@
 
 A line `STREAM DIRECTION TIME HEX` for each piece, in the order in which they were seen; TIME is microseconds since
 the file's first packet. tshark reads the files (pcap, pcapng). Bytes that were sent again are left out, and those that came out of order wait for
-what they follow. A stream of which a mebibyte waits is given up, and so is one that ends while bytes wait:
-a line on standard error says which, and the exit status is 1. So it is where no packet of a file is of that port: the
+what they follow. A stream of which a mebibyte waits is given up, and so is one that ends while bytes wait, or whose client's end tells
+of more bytes than came: a line on standard error says which, nothing says that it was closed, and the exit status is 1. So it is where no packet of a file is of that port: the
 line says which ports were seen."""
 
 import argparse
@@ -14,7 +14,7 @@ import shutil
 import subprocess
 import sys
 
-FIELDS = ["tcp.stream", "tcp.dstport", "frame.time_relative", "tcp.seq", "tcp.flags.syn", "tcp.flags.fin",
+FIELDS = ["tcp.stream", "tcp.dstport", "frame.time_relative", "tcp.seq", "tcp.ack", "tcp.flags.syn", "tcp.flags.fin",
           "tcp.flags.reset", "tcp.payload"]
 # What tshark need not look into.
 UNREAD = ["tds", "tls", "data"]
@@ -75,14 +75,19 @@ class Capture:
         ran = subprocess.run(words, capture_output=True, text=True, check=False)
         return collections.Counter(ran.stdout.split()).most_common(MOST_PORTS)
 
-    def close(self, number, time):
+    def lacks(self, number, seq, ack):
+        """Whether the client's last packet, by its numbers, tells of bytes that didn't come: its own, or those that it had (an end counts as one)."""
+        ours, theirs = (self.sides.get((number, is_to_server)) for is_to_server in (True, False))
+        return bool(ours and ours.next is not None and ours.next < seq or theirs and theirs.next is not None and theirs.next < ack - 1)
+
+    def close(self, number, time, is_short):
         """A stream ends."""
         self.closed.add(number)
-        for is_to_server in (True, False):
-            side = self.sides.pop((number, is_to_server), None)
-            if side and side.waiting:
-                self.give_up(number)
-        print(number, "close", time)
+        sides = [self.sides.pop((number, is_to_server), None) for is_to_server in (True, False)]
+        if is_short or any(side and side.waiting for side in sides):
+            self.give_up(number)
+        else:
+            print(number, "close", time)
 
     def give_up(self, number):
         print(f"capture_lines: {self.path}: bytes of stream {number} are missing", file=sys.stderr)
@@ -101,7 +106,7 @@ class Capture:
     def write(self):
         """Writes the lines; streams are numbered from `first` on."""
         is_empty = True
-        for stream, target, time, seq, syn, fin, reset, payload in self.rows():
+        for stream, target, time, seq, ack, syn, fin, reset, payload in self.rows():
             is_empty = False
             number = self.first + int(stream)
             self.last = max(self.last, number + 1)
@@ -114,7 +119,8 @@ class Capture:
                 data = bytes.fromhex(payload.replace(":", ""))
                 self.take(number, microseconds(time), is_to_server, int(seq), data)
             if number not in self.closed and (is_set(reset) or is_set(fin) and is_to_server):
-                self.close(number, microseconds(time))
+                is_short = is_set(fin) and is_to_server and self.lacks(number, int(seq), int(ack or 0))
+                self.close(number, microseconds(time), is_short)
         for number in sorted({number for (number, _), side in self.sides.items() if side.waiting} - self.closed):
             self.give_up(number)
         if is_empty and self.is_whole:

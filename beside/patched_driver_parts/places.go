@@ -65,7 +65,7 @@ func answering(db *sql.DB) {
 	if err != nil {
 		panic(err)
 	}
-	rows, err := transaction.Query("rows 1 2;rows 3 2;rows 5 2;rows 7 2;rows 9 2;rows 11 2")
+	rows, err := transaction.Query("rows 1 40;rows 3 40;rows 5 2;rows 7 2;rows 9 2;rows 11 2")
 	fmt.Println("  first", rows.Next(), err)
 	// which of them come is another thing each time
 	all, err := answer(transaction, "rows 50 1")

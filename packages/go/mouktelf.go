@@ -9,6 +9,7 @@ package mouktelf
 import "C"
 
 import (
+	"sync"
 	"unicode/utf16"
 	"unsafe"
 )
@@ -34,10 +35,13 @@ const (
 	Asked        = Answer(C.TDS_ASKED)
 )
 
+// nothing is where no bytes lie: nobody reads or writes it.
+var nothing [1]byte
+
 // at is where some bytes lie; the library wants no null, also of none.
 func at(bytes []byte) *C.uint8_t {
 	if len(bytes) == 0 {
-		bytes = make([]byte, 1)
+		bytes = nothing[:]
 	}
 	return (*C.uint8_t)(unsafe.Pointer(&bytes[0]))
 }
@@ -50,6 +54,8 @@ type Client struct {
 	waiting C.size_t
 	packet  []byte // the room for a packet that goes out
 	walk    *Walk  // by which it hears
+
+	taken, count C.size_t // what a call says
 }
 
 // New makes a client for packets of 512 to 32,767 bytes.
@@ -118,13 +124,14 @@ func (client *Client) StartRollback(next uint8) error {
 
 // Send appends the request's next packet: More or Last.
 func (client *Client) Send(out *[]byte) (Answer, error) {
-	packet, count := client.room(), C.size_t(0)
-	answer := C.tds_client_send(&client.raw, at(client.message), C.size_t(len(client.message)), at(packet), C.size_t(len(packet)), &count)
-	return client.wrote(answer, out, packet[:count])
+	packet := client.room()
+	answer := C.tds_client_send(&client.raw, at(client.message), C.size_t(len(client.message)), at(packet), C.size_t(len(packet)), &client.count)
+	return client.wrote(answer, out)
 }
 
-// room is room for a packet.
+// room is room for a packet, of which nothing is written yet.
 func (client *Client) room() []byte {
+	client.count = 0
 	if size := int(client.raw.size); len(client.packet) < size {
 		client.packet = make([]byte, size)
 	}
@@ -133,13 +140,14 @@ func (client *Client) room() []byte {
 
 // Cancel cancels the request underway. After Asked, send what was appended.
 func (client *Client) Cancel(out *[]byte) (Answer, error) {
-	packets, count := make([]byte, 16), C.size_t(0)
-	answer := C.tds_client_cancel(&client.raw, at(packets), C.size_t(len(packets)), &count)
-	return client.wrote(answer, out, packets[:count])
+	packet := client.room()
+	answer := C.tds_client_cancel(&client.raw, at(packet), C.size_t(len(packet)), &client.count)
+	return client.wrote(answer, out)
 }
 
-func (client *Client) wrote(answer C.uint8_t, out *[]byte, bytes []byte) (Answer, error) {
-	*out = append(*out, bytes...)
+// wrote appends what a call wrote of a packet.
+func (client *Client) wrote(answer C.uint8_t, out *[]byte) (Answer, error) {
+	*out = append(*out, client.packet[:client.count]...)
 	if answer >= 20 {
 		return 0, Fault(answer)
 	}
@@ -149,13 +157,22 @@ func (client *Client) wrote(answer C.uint8_t, out *[]byte, bytes []byte) (Answer
 // Lost says that the connection is lost.
 func (client *Client) Lost() { C.tds_client_lost(&client.raw) }
 
+// cut is for the packets that a call finds.
+type cut struct {
+	packets [16]C.struct_tds_packet
+	count   C.size_t
+}
+
+var cuts = sync.Pool{New: func() any { return &cut{} }}
+
 // Packets cuts the packets off the front of bytes that come from a server, and gives the rest.
 func Packets(bytes []byte, size uint16) (packets [][]byte, rest []byte, err error) {
-	var found [16]C.struct_tds_packet
+	found := cuts.Get().(*cut)
+	defer cuts.Put(found)
 	for {
-		var count C.size_t
-		answer := C.tds_packets_read(at(bytes), C.size_t(len(bytes)), C.uint16_t(size), C.TDS_TO_CLIENT, &found[0], C.size_t(len(found)), &count)
-		for _, packet := range found[:count] {
+		answer := C.tds_packets_read(at(bytes), C.size_t(len(bytes)), C.uint16_t(size), C.TDS_TO_CLIENT, &found.packets[0],
+			C.size_t(len(found.packets)), &found.count)
+		for _, packet := range found.packets[:found.count] {
 			packets, bytes = append(packets, bytes[:packet.length]), bytes[packet.length:]
 		}
 		switch answer {

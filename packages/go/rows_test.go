@@ -57,6 +57,13 @@ func TestRows(t *testing.T) {
 	if _, _, err := columns.Come(4, nil, row, places); err != Fault(72) {
 		t.Error(err)
 	}
+	if allocated := testing.AllocsPerRun(100, func() {
+		_, err = columns.Places(row, places)
+		_, _, err = columns.PlacesOfRows(both, many)
+		_, _, err = columns.Come(0, nil, row[1:], places)
+	}); allocated != 0 || err != nil {
+		t.Error(allocated, err)
+	}
 	var parts, null Parts
 	own, at := []byte(nil), 10
 	for at < len(row) && !parts.IsOver {

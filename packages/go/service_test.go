@@ -349,12 +349,18 @@ func TestHears(t *testing.T) {
 	if answer != Finished || len(told) != 1 || told[0].Tells != TellsDone {
 		t.Error(answer, told)
 	}
+	// Where nobody wants the tokens.
 	_, err = service.AskBatch(first, "get a", &out)
 	is(t, len(out), err, 80)
+	answer, whose, err = service.Hear(1, bytesOf(endedBytes), nil)
+	is(t, whose, err, Whose{first, 2, true})
+	is(t, answer, nil, Finished)
+	_, err = service.AskBatch(first, "get a", &out)
+	is(t, len(out), err, 120)
 	ended, err := service.GiveBack(first)
 	is(t, ended.Rest, err, Draining)
 	answer, whose, err = service.Hear(1, bytesOf(acknowledgedBytes), &told)
-	is(t, whose, err, Whose{0, 2, false})
+	is(t, whose, err, Whose{0, 3, false})
 	is(t, answer, nil, Acknowledged)
 	is(t, lease(t, service).Had, nil, true)
 	_, _, err = service.Hear(2, bytesOf(endedBytes), &told)

@@ -19,10 +19,9 @@ func (client *Client) StartMessage(kind uint8) error {
 	if len(kept) != size {
 		kept = make([]byte, size)
 	}
-	var count C.size_t
-	err := done(C.tds_client_start_message(&client.raw, C.uint8_t(kind), at(kept), C.size_t(len(kept)), &count))
+	err := done(C.tds_client_start_message(&client.raw, C.uint8_t(kind), at(kept), C.size_t(len(kept)), &client.count))
 	if err == nil {
-		client.kept, client.waiting = kept, count
+		client.kept, client.waiting = kept, client.count
 	}
 	return err
 }
@@ -31,23 +30,22 @@ func (client *Client) StartMessage(kind uint8) error {
 func (client *Client) Put(bytes []byte, out *[]byte) error {
 	packet := client.room()
 	for {
-		var taken, count C.size_t
 		answer := C.tds_client_put(&client.raw, at(client.kept), C.size_t(len(client.kept)), &client.waiting,
-			at(bytes), C.size_t(len(bytes)), &taken, at(packet), C.size_t(len(packet)), &count)
+			at(bytes), C.size_t(len(bytes)), &client.taken, at(packet), C.size_t(len(packet)), &client.count)
 		if answer != C.TDS_MORE {
 			return done(answer)
 		}
-		*out = append(*out, packet[:count]...)
-		bytes = bytes[taken:]
+		*out = append(*out, packet[:client.count]...)
+		bytes = bytes[client.taken:]
 	}
 }
 
 // Finish ends the message, and appends its last packet.
 func (client *Client) Finish(out *[]byte) error {
-	packet, count := client.room(), C.size_t(0)
-	err := done(C.tds_client_finish(&client.raw, at(client.kept), client.waiting, at(packet), C.size_t(len(packet)), &count))
+	packet := client.room()
+	err := done(C.tds_client_finish(&client.raw, at(client.kept), client.waiting, at(packet), C.size_t(len(packet)), &client.count))
 	if err == nil {
-		*out = append(*out, packet[:count]...)
+		*out = append(*out, packet[:client.count]...)
 	}
 	return err
 }

@@ -189,6 +189,9 @@ function loggedIn() {
   assert.deepEqual(sizes, [2022 + 8 * 5, 2022 + 8]);
   const { answer, lease, request } = service.hear(2, ENDED);
   assert.deepEqual([answer, lease, request], [Answer.FINISHED, second.lease, 1n]);
+  const { request: next } = service.askBatch(second.lease, text);
+  assert.deepEqual(service.follow(2, ENDED), { answer: Answer.FINISHED, tokens: [], lease: second.lease, request: next });
+  assert.deepEqual([next, service.client(second.lease).stage], [2n, Stage.IDLE]);
   refuses(NOT_NOW, () => service.loggedIn(1, 4096));
   refuses(UNKNOWN, () => service.loggedIn(3, 4096));
   for (const size of [0, 511, 32768, 65536, -1]) {

@@ -91,6 +91,7 @@ class Peer:
 
     def request(self, kind, status, data):
         if kind == ATTENTION:
+            self.server.cancels += 1
             return self.link.sendall(packet(done(CANCELLED)))
         if kind == BULK:
             self.server.loaded.append(data)
@@ -112,7 +113,9 @@ class Peer:
             return [*self.server.before, {5: "begin", 7: "commit", 8: "rollback"}[body[0]]]
         if kind == CALL:
             return ["call"]
-        return [it.strip() for it in body.decode("utf-16-le").split(";")]
+        text = body.decode("utf-16-le")
+        given = self.server.answers.get(text)
+        return [it.strip() for it in (given if isinstance(given, str) else text).split(";")]
 
     def send(self, answer, texts=()):
         """Sends packets while no attention comes, and then its acknowledgement."""
@@ -136,7 +139,7 @@ class Peer:
         if "stray" in texts:
             self.link.sendall(packet(rows(99, 1)[:-13] + done()))
         if self.is_cancelled:
-            self.is_cancelled = False
+            self.is_cancelled, self.server.cancels = False, self.server.cancels + 1
             self.link.sendall(packet(done(CANCELLED)))
 
     def statement(self, text):
@@ -180,11 +183,12 @@ class Peer:
 
 
 class Server:
-    """Serves on a free port of this machine, a thread a connection. `heard` has of each request its kind, status and descriptor;
-    `before` is what stands before each transaction request."""
+    """Serves on a free port of this machine, a thread a connection. Of `answers` one for a text is the tokens that a statement gives, or
+    the batch that is run in its place. `heard` has of each request its kind, status and descriptor;
+    `before` is what stands before each transaction request, and `cancels` how many were acknowledged."""
 
     def __init__(self, answers=()):
-        self.answers, self.heard, self.peers, self.before, self.loaded = dict(answers), [], [], [], []
+        self.answers, self.heard, self.peers, self.before, self.loaded, self.cancels = dict(answers), [], [], [], [], 0
         self.socket = socket.create_server(("127.0.0.1", 0))
         self.port = self.socket.getsockname()[1]
         threading.Thread(target=self.accept, daemon=True).start()

@@ -174,6 +174,23 @@ def asks():
     assert service.client(lent.lease).stage == Stage.BROKEN
 
 
+def long_requests():
+    """Bodies of no byte to three packets, whole: headers of 22 bytes (MS-TDS 2.2.5.3.2) before them, 504 bytes a packet."""
+    headers = bytes.fromhex("16000000 12000000 0200 0000000000000000 01000000")
+    for length in (0, 1, 481, 482, 483, 986, 987, 1490, 1491):
+        service = Service(1, 512)
+        lease, data, wanted = service.lease().lease, headers + b"a" * length, b""
+        for number in range(-(-len(data) // 504)):
+            part = data[504 * number: 504 * number + 504]
+            last = 504 * number + 504 >= len(data)
+            wanted += bytes([3, last, *(8 + len(part)).to_bytes(2, "big"), 0, 0, number + 1, 0]) + part
+        assert service.ask_all(lease, MessageKind.PROCEDURE, b"a" * length) == (Asked(1, 1), wanted), length
+        assert service.hear(1, ENDED).answer == Answer.FINISHED and service.descriptor(1) == 0
+        assert service.give_back(lease) == (1, Rest.FREE, b"")
+        refuses(UNKNOWN, service.ask_all, lease, MessageKind.PROCEDURE, b"")
+    refuses(UNKNOWN, service.descriptor, 2)
+
+
 def logged_in():
     """The login agrees on other packets than were asked for: the connection's client is one of that size, and no other's is."""
     service, text = Service(2, 4096), "a" * 1000
@@ -206,7 +223,7 @@ def refused():
 
 
 if __name__ == "__main__":
-    parts = (one_lease_each, stale_leases, drains, kept, cleaned, lost, asks, logged_in, refused)
+    parts = (one_lease_each, stale_leases, drains, kept, cleaned, lost, asks, long_requests, logged_in, refused)
     for it in parts:
         it()
     print(f"{len(parts)} parts of the table, all right")

@@ -4,14 +4,18 @@ finds what another left.
     python3 test_tds_pool.py [PART..]     all parts where none is named. It wants python-tds, and says so where that isn't here."""
 
 import asyncio
+import contextlib
+import io
+import os
 import random
+import re
 import threading
 import time
 
 from test_tds import LAST, firsts, raises, run, run_all
 from mouktelf import tds
 from mouktelf.tds import aio
-from tds_server import BATCH, TRANSACTION, Server
+from tds_server import BATCH, CALL, TRANSACTION, Server
 
 FULL_RESET, KEEPING_RESET = 8, 16
 
@@ -151,6 +155,20 @@ def pool_parks():
         assert pool.statistics()[1:3] == (0, 0) and server.heard[-1] == (BATCH, LAST | FULL_RESET, 0)
 
 
+def page():
+    """The lines with which TDS.md begins, as they stand there but for the server."""
+    with open(f"{os.path.dirname(os.path.abspath(__file__))}/TDS.md", encoding="utf-8") as it:
+        lines = re.search(r"(?s)```python\n(.*?)```", it.read())[1]
+    with Server({"select * from large": "rows 0 50;wait", "select 1": "rows 1 1"}) as server:
+        here = lines.replace('"db.example"', f'"127.0.0.1", port={server.port}').replace(', cafile="ca.pem"', "")
+        told, names = io.StringIO(), {}
+        with contextlib.redirect_stdout(told):
+            exec(here, names)
+        assert len(lines.split("\n")) <= 11 and told.getvalue() == "[(1,)]\n", told.getvalue()
+        assert [it[0] for it in server.heard] == [TRANSACTION, CALL, BATCH, BATCH, TRANSACTION] and server.cancels == 1
+        assert names["pool"].statistics()[:3] == (1, 0, 0) and not names["pool"].close()
+
+
 async def of_asyncio(server):
     connection = await aio.connect(server="127.0.0.1", port=server.port, user="a", password="b", autocommit=False, timeout=20)
     async with connection, connection.cursor() as cursor:
@@ -231,4 +249,4 @@ def for_asyncio():
 
 
 if __name__ == "__main__":
-    run((pool_threads, pool_hands_over, pool_waits, pool_parks, for_asyncio), "the pool and of asyncio")
+    run((pool_threads, pool_hands_over, pool_waits, pool_parks, page, for_asyncio), "the pool and of asyncio")

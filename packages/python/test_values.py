@@ -1,11 +1,13 @@
 """10,000 random rows of all types, a ROW or an NBCROW each: each value as it was made is what its bytes are read as, by `mouktelf.rows`
 and, where it is installed, by python-tds; and a row cut anywhere gives the same values. The bytes are written here, by MS-TDS 2.2.5.5.
 
-usage: test_values.py [SEED]"""
+usage: test_values.py [SEED]                 with `--by PROGRAM` behind it that program, which prints values as
+                                              packages/rust/mouktelf/examples/values.rs does, reads the same rows"""
 
 import datetime
 import random
 import struct
+import subprocess
 import sys
 import uuid
 from decimal import Decimal
@@ -299,12 +301,48 @@ def together(columns, tokens):
             and columns.places_of_rows(whole[:-1]) == (moved[:-1], at - len(tokens[-1])) and columns.places_of_rows(b"") == ([], 0))
 
 
-def main(seed):
+# A code page that the program needn't have: it gives the bytes.
+PAGES = (RUSSIAN, JAPANESE, OLD)
+
+
+def told(value, data, column):
+    """A value as the program prints it."""
+    if value is None:
+        return "-"
+    if column.collation in PAGES or isinstance(value, bytes):
+        return data.hex() if column.collation in PAGES else value.hex()
+    if isinstance(value, float):
+        return struct.pack(">d", value).hex()
+    if isinstance(value, (bool, int)):
+        return str(int(value))
+    if isinstance(value, Decimal):
+        return format(value, "f")
+    if isinstance(value, datetime.datetime):
+        minutes = value.utcoffset() // datetime.timedelta(minutes=1) if value.tzinfo else None
+        utc = value.astimezone(datetime.timezone.utc).replace(tzinfo=None) if value.tzinfo else value
+        return utc.isoformat(timespec="microseconds") + ("" if minutes is None else f"Z{minutes}")
+    if isinstance(value, datetime.time):
+        return value.isoformat(timespec="microseconds")
+    return value.isoformat() if isinstance(value, datetime.date) else value.hex if isinstance(value, uuid.UUID) else value.encode().hex()
+
+
+def read_by(program, tokens, lines):
+    """How many of these rows the program reads as something else."""
+    sent = "".join(f"{it.hex()}\n" for it in [described(), *tokens])
+    printed = subprocess.run([program], input=sent, check=True, stdout=subprocess.PIPE, text=True).stdout.splitlines()
+    assert len(printed) == len(tokens)
+    wrong = [(own, wanted) for own, wanted in zip(printed, lines) if own != wanted]
+    for own, wanted in wrong[:3]:
+        print(f"{program}:", *(f"{one} for {other}" for one, other in zip(own.split(" "), wanted.split(" ")) if one != other))
+    return len(wrong)
+
+
+def main(seed, program=None):
     it, theirs, columns = Random(seed), python_tds(), Columns(described() + b"\xd1")
     assert [(own.name, own.user_type, own.flags, own.type.kind) for own in columns] == [
         (f"ä{index}", index, 9, column.kind) for index, (_, _, _, column) in enumerate(COLUMNS)]
     wrong = compared = nulls = 0
-    tokens = []
+    tokens, all_tokens, lines = [], [], []
     for row in range(ROWS):
         is_bits, places, found, plain_row, bits = it.random() < 0.3, [], [], b"", bytearray((len(COLUMNS) + 7) // 8)
         made = []
@@ -323,6 +361,9 @@ def main(seed):
         token = (b"\xd2" + bits if is_bits else b"\xd1") + plain_row
         places, found = columns.places(token + b"\xd1"), columns.values(token)
         tokens.append(token)
+        if program:
+            all_tokens.append(token)
+            lines.append(" ".join(told(expected, place, COLUMNS[it][3]) for it, (_, place, expected) in enumerate(made)))
         if len(tokens) == 500:
             wrong += not together(columns, tokens)
             tokens = []
@@ -341,9 +382,16 @@ def main(seed):
                 if other != expected:
                     wrong += 1
                     print(f"row {row}, {column}: {sent.hex()} is {other!r} to python-tds, and {expected!r} was sent")
+    if program:
+        other = read_by(program, all_tokens, lines)
+        print(f"values: {len(lines)} rows by {program}, {other} wrong")
+        wrong += other
     print(f"values: {ROWS} rows of {len(COLUMNS)} columns, {nulls} nulls, {compared} compared with python-tds, {wrong} wrong")
     return bool(wrong)
 
 
 if __name__ == "__main__":
-    sys.exit(main(int(sys.argv[1]) if sys.argv[1:] else 1))
+    words = sys.argv[1:]
+    by = words.pop(words.index("--by") + 1) if "--by" in words else None
+    numbers = [it for it in words if it != "--by"]
+    sys.exit(main(int(numbers[0]) if numbers else 1, by))

@@ -9,12 +9,11 @@ import re
 import sys
 
 from go_instructions import INSTRUCTIONS
-from go_text import FIRST, HELPERS
+from go_text import FIRST, HELPERS, SLACK
 from llvm_text import Reader, Refused, integer
 from one_file import Printer, width_of
 from tables import bytes_of
 
-STACK = 1 << 16
 # Nothing lies at address 0, or near to it.
 FIRST_PLACE = 64
 WORDS_OF_A_CONSTANT = ("private", "internal", "unnamed_addr", "local_unnamed_addr", "constant", "dso_local", "hidden")
@@ -26,7 +25,8 @@ class GoPrinter(Printer):
     def __init__(self, text, prefix="of", behind=None):
         super().__init__(text)
         self.places, self.image, self.prefix = {}, bytearray(FIRST_PLACE), prefix
-        self.has_rooms = False
+        # What a function's rooms take of the stack, and which functions it calls: of the one that is printed, and of all by name.
+        self.frame, self.called, self.frames = 0, set(), {}
         if behind:
             self.image, self.structs, self.struct_texts = behind.image, behind.structs, behind.struct_texts
             self.copiers, self.copier_order, self.own_helpers = behind.copiers, behind.copier_order, behind.own_helpers
@@ -241,7 +241,9 @@ class GoPrinter(Printer):
 
     def function(self, function):
         blocks = self.blocks_of(function)
-        self.lines, self.locals, self.has_rooms = [], [], any(" = alloca " in line for _, lines in blocks for line in lines)
+        self.lines, self.locals, self.frame, self.called = [], [], 0, set()
+        has_rooms = any(" = alloca " in line for _, lines in blocks for line in lines)
+        self.back = "m.sp = sp; " if has_rooms else ""
         self.labels = {name: f"b{number}" for number, (name, _) in enumerate(blocks)}
         self.joins = self.joins_of(blocks)
         for self.block, lines in blocks:
@@ -250,12 +252,20 @@ class GoPrinter(Printer):
                 self.instruction(line)
         goals = set(re.findall(r"goto (b\d+)\b", "\n".join(self.lines)))
         lines = [it for it in self.lines if not (re.fullmatch(r"b\d+:", it) and it[:-1] not in goals)]
-        front = ["sp := m.sp"] if self.has_rooms else []
+        self.frames[function.name] = self.frame, self.called
+        front = ["sp := m.sp", f"m.sp = sp + {self.frame}"] if has_rooms else []
         front += [f"var {text}" for _, text in self.locals]
         names = [name for name, _ in self.locals if name]
         if names:
             front.append(f"{', '.join('_' * len(names))} = {', '.join(names)}")
         return self.prototype(function) + " {\n\t" + "\n\t".join(front + lines) + "\n}\n"
+
+    def deepest(self, name, above=()):
+        """What this function takes of the stack, with all that it calls."""
+        if name in above:
+            raise Refused(f"{name} calls itself")
+        frame, called = self.frames[name]
+        return frame + max((self.deepest(it, (*above, name)) for it in called), default=0)
 
     def new(self, kind, name):
         self.locals.append((name, self.declared(kind, name)))
@@ -273,11 +283,13 @@ class GoPrinter(Printer):
 
     def whole(self, package, imports, others=()):
         """The file of this printer's module, and of those of others that are behind it."""
-        bodies = [printer.function(it) for printer in (self, *others) for it in printer.module.reached()[0]]
+        printers = (self, *others)
+        bodies = [printer.function(it) for printer in printers for it in printer.module.reached()[0]]
+        stack = max(printer.deepest(it) for printer in printers for it in printer.frames)
         copiers = [self.copiers[key] for key in self.copier_order]
         image = "".join(f"\\x{it:02x}" for it in self.image)
-        wanted = "\n".join(f'\t"{it}"' for it in sorted(["bytes", "encoding/binary", "math/bits", *imports]))
-        front = FIRST.format(package=package, imports=wanted, stack=STACK, size=len(self.image), image=image)
+        wanted = "\n".join(f'\t"{it}"' for it in sorted({"bytes", "encoding/binary", "math/bits", "runtime", "unsafe", *imports}))
+        front = FIRST.format(package=package, imports=wanted, stack=stack, slack=SLACK, size=len(self.image), image=image)
         return "\n".join([front, HELPERS, *self.struct_texts, *copiers, *self.own_helpers.values(), *bodies])
 
 

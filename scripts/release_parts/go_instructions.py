@@ -122,7 +122,8 @@ def with_field(printer, reader, result, word):
 def room(printer, reader, result, word):
     kind = reader.type()
     printer.new(POINTER, result)
-    printer.lines.append(f"{result} = m.lend({max(kind.size, 1)})")
+    printer.lines.append(f"{result} = sp + {printer.frame}")
+    printer.frame += (max(kind.size, 1) + 15) & ~15
 
 
 @named("load")
@@ -185,8 +186,7 @@ def switch(printer, reader, result, word):
 @named("ret")
 def answer(printer, reader, result, word):
     kind = reader.type()
-    back = "m.sp = sp; " if printer.has_rooms else ""
-    printer.lines.append(f"{back}return" + ("" if kind.kind == "void" else f" {printer.value(reader, kind)}"))
+    printer.lines.append(f"{printer.back}return" + ("" if kind.kind == "void" else f" {printer.value(reader, kind)}"))
 
 
 @named("unreachable")
@@ -213,6 +213,7 @@ def call(printer, reader, result, word):
         if text is None:
             return
     elif function in printer.module.functions:
+        printer.called.add(function)
         text = f"{printer.name_of(function)}({', '.join(['m', *values])})"
     elif name in ("memcmp", "bcmp"):
         text = f"m.compare({', '.join(values)})"

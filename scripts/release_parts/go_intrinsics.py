@@ -1,5 +1,8 @@
 """What LLVM calls by the name llvm.*, as Go expressions."""
 
+import re
+
+from go_text import SLACK
 from intrinsics import SILENT
 from llvm_text import Refused
 
@@ -10,10 +13,8 @@ def intrinsic(printer, name, gives, values, kinds):
     word = words[0]
     if word in SILENT:
         return None
-    if word in ("memcpy", "memmove"):
-        return f"m.move({values[0]}, {values[1]}, uint64({values[2]}))"
-    if word == "memset":
-        return f"m.fill({values[0]}, {values[1]}, uint64({values[2]}))"
+    if word in ("memcpy", "memmove", "memset"):
+        return in_memory(printer, word, *values[:3])
     if word == "trap":
         return 'panic("trap")'
     if not kinds or kinds[0].kind != "int":
@@ -46,6 +47,23 @@ def intrinsic(printer, name, gives, values, kinds):
         left, right = values if word == "ucmp" else [printer.signed(kind, it) for it in values]
         return printer.masked(gives, f"{printer.c_type(gives)}(bit({left} > {right}) - bit({left} < {right}))")
     raise Refused(f"intrinsic {name}")
+
+
+def in_memory(printer, word, to, source, size):
+    """Few bytes are copied and cleared by an array's assignment, which Go compiles in place. Of those that may overlap none is."""
+    found = re.fullmatch(r"uint\d+\((\d+)\)", size)
+    if found and 0 < int(found[1]) <= SLACK:
+        array = f"[{found[1]}]byte"
+        at = f"*(*{array})(unsafe.Pointer(&m.b[{{}}]))"
+        if word == "memset" and source == "uint8(0)":
+            name = f"clear{found[1]}"
+            printer.own_helpers[name] = f"func (m *machine) {name}(p uint64) {{ {at.format('p')} = {array}{{}} }}"
+            return f"m.{name}({to})"
+        if word == "memcpy":
+            name = f"copy{found[1]}"
+            printer.own_helpers[name] = f"func (m *machine) {name}(to, from uint64) {{ {at.format('to')} = {at.format('from')} }}"
+            return f"m.{name}({to}, {source})"
+    return f"m.{'fill' if word == 'memset' else 'move'}({to}, {source}, uint64({size}))"
 
 
 def with_overflow(printer, word, gives, values, go_type):

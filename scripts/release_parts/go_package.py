@@ -27,6 +27,8 @@ func (v *c_struct_{name}) used() uint64 {{
 }}
 """
 IMPORTS = ("sync", "unicode/utf16", "unsafe")
+# By the two arguments behind a room, the one that says how much of it counts.
+COUNTED = {("room", "count"): "count", ("kept_room", "waiting"): "waiting"}
 
 
 def go_type(kind):
@@ -71,28 +73,35 @@ def length_of(arguments, place):
     return None
 
 
-def crossing(argument, many, is_counted, known):
+def crossing(argument, many, counted, known):
     """How an argument that points crosses: its Go type, and what is done before the call and behind it. Of a room that is counted
-    those come back that the call says it wrote."""
+    those come back that the call says it wrote, and of bytes that wait those cross that do."""
     kind, word = parts(argument)
     item, is_const = kind.replace("const", "").replace("*", "").strip(), "const" in kind
     at, whole = f"of_{word}", f"unsafe.Slice({word}, {many})"
+    if item == "uint8_t" and counted:
+        first = f"{at} := m.space(int({many}))"
+        if counted == "waiting":
+            first += f"\n\tcopy(m.b[{at}:], {whole}[:least(*{counted}, {many})])"
+        return item, first, f"copy({whole}, m.wrote({at}, m.read64(of_{counted}), {many}))"
     if item == "uint8_t" and many:
         return item, f"{at} := m.hand({whole})", "" if is_const else f"copy({whole}, m.b[{at}:])"
     if item == "uint16_t" and many:
-        return item, f"{at} := m.room(int({many}) * 2)\n\tfor k, it := range {whole} {{ m.write16({at}+2*uint64(k), it) }}", ""
+        return item, f"{at} := m.space(int({many}) * 2)\n\tfor k, it := range {whole} {{ m.write16({at}+2*uint64(k), it) }}", ""
     if item.startswith("struct "):
         size = known[item[7:]].size
         if many:
-            turns = f"k := uint64(0); k < {many} && k < m.read64(of_count); k++" if is_counted else f"k := range {whole}"
-            first, back = f"{at} := m.room(int({many}) * {size})", f"for {turns} {{ {whole}[k].from(m, {at}+{size}*uint64(k)) }}"
+            turns = f"k := uint64(0); k < {many} && k < m.read64(of_{counted}); k++" if counted else f"k := range {whole}"
+            # What is counted is read as far as the call wrote it.
+            first, back = f"{at} := m.{'space' if counted else 'room'}(int({many}) * {size})", f"for {turns} {{ {whole}[k].from(m, {at}+{size}*uint64(k)) }}"
             # The others are written by their calls, and not read.
             if word == "seats" or is_const:
                 first += f"\n\tfor k := range {whole} {{ {whole}[k].to(m, {at}+{size}*uint64(k)) }}"
             return item, first, "" if is_const else back
-        return item, f"{at} := m.room({size}); {word}.to(m, {at})", "" if is_const else f"{word}.from(m, {at})"
+        return item, f"{at} := m.space({size}); {word}.to(m, {at})", "" if is_const else f"{word}.from(m, {at})"
     if item in ("size_t", "uint64_t"):
-        return item, f"{at} := m.room(8); m.write64({at}, *{word})", f"*{word} = m.read64({at})"
+        # A count is only written: it is 0 where the call wrote none.
+        return item, f"{at} := m.space(8); m.write64({at}, {'0' if word == 'count' else f'*{word}'})", f"*{word} = m.read64({at})"
     sys.exit(f"go_package: {argument}")
 
 
@@ -105,8 +114,8 @@ def call(prefix, answer, name, arguments, known):
             head.append(f"{word} {go_type(kind)}")
             words.append(word)
             continue
-        is_counted = [parts(it)[1] for it in arguments[place + 1: place + 3]] == ["room", "count"]
-        item, first, last = crossing(argument, length_of(arguments, place), is_counted, known)
+        counted = COUNTED.get(tuple(parts(it)[1] for it in arguments[place + 1: place + 3]))
+        item, first, last = crossing(argument, length_of(arguments, place), counted, known)
         head.append(f"{word} *{go_type(item)}")
         words.append(f"of_{word}")
         before.append(first)

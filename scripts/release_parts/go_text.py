@@ -1,5 +1,8 @@
 """What stands in the printed Go file before its functions: the machine, and its memory."""
 
+# So many bytes are read, copied or cleared at once by one instruction or few.
+SLACK = 128
+
 FIRST = """// Code that is printed; DO NOT EDIT. It is Go made from proved source, and no Go that is proved.
 
 package {package}
@@ -9,8 +12,12 @@ import (
 )
 
 const (
-	stackSize = {stack}
 	imageSize = {size}
+	stackAt   = (imageSize + 15) &^ 15
+	stackSize = {stack}
+	slack     = {slack}
+	// Whether a number lies in memory low byte first, wherever it begins.
+	isPlain = runtime.GOARCH == "amd64" || runtime.GOARCH == "arm64"
 )
 
 // The constants, as they lie in memory from address 0 on.
@@ -19,63 +26,105 @@ const image = "{image}"
 var _ = bits.OnesCount
 """
 
-HELPERS = """// A machine is the memory of one call: the constants, a stack, and what is lent to the call.
+HELPERS = """// A machine is the memory of one call: the constants, a stack, and what is lent to the call. Behind its end lie so many bytes as are
+// read or written at once, so that of an address its first byte alone is looked at.
 type machine struct {
 	b  []byte
 	sp uint64
 }
 
 func newMachine() *machine {
-	m := &machine{make([]byte, imageSize+stackSize, imageSize+stackSize+1<<15), imageSize}
+	m := &machine{make([]byte, stackAt+stackSize, stackAt+stackSize+1<<16), stackAt}
 	copy(m.b, image)
 	return m
 }
 
 // begin takes back all that was lent.
-func (m *machine) begin() {
-	m.b, m.sp = m.b[:imageSize+stackSize], (imageSize+15)&^15
-}
+func (m *machine) begin() { m.b, m.sp = m.b[:stackAt+stackSize], stackAt }
 
 // hand lends bytes to the call, and says where they lie.
 func (m *machine) hand(bytes []byte) uint64 {
-	at := m.room(len(bytes))
+	at := m.space(len(bytes))
 	copy(m.b[at:], bytes)
 	return at
 }
 
-// room lends so many bytes, all of them 0.
-func (m *machine) room(size int) uint64 {
+// space lends so many bytes, whatever they are.
+func (m *machine) space(size int) uint64 {
 	at := (len(m.b) + 15) &^ 15
 	wanted := at + size
-	if wanted > cap(m.b) {
-		m.b = append(make([]byte, 0, 2*wanted), m.b...)
-	}
-	lent := m.b[len(m.b):wanted]
-	for k := range lent {
-		lent[k] = 0
+	if wanted+slack > cap(m.b) {
+		m.b = append(make([]byte, 0, 2*wanted+slack), m.b...)
 	}
 	m.b = m.b[:wanted]
 	return uint64(at)
 }
 
-// lend is room on the stack, up to the end of the function.
-func (m *machine) lend(size uint64) uint64 {
-	at := (m.sp + 15) &^ 15
-	m.sp = at + size
-	if m.sp > imageSize+stackSize {
-		panic("the stack is full")
+// room lends so many bytes, all of them 0.
+func (m *machine) room(size int) uint64 {
+	at := m.space(size)
+	lent := m.b[at:]
+	for k := range lent {
+		lent[k] = 0
 	}
 	return at
 }
 
-func (m *machine) read8(p uint64) uint8       { return m.b[p] }
-func (m *machine) read16(p uint64) uint16     { return binary.LittleEndian.Uint16(m.b[p:]) }
-func (m *machine) read32(p uint64) uint32     { return binary.LittleEndian.Uint32(m.b[p:]) }
-func (m *machine) read64(p uint64) uint64     { return binary.LittleEndian.Uint64(m.b[p:]) }
-func (m *machine) write8(p uint64, v uint8)   { m.b[p] = v }
-func (m *machine) write16(p uint64, v uint16) { binary.LittleEndian.PutUint16(m.b[p:], v) }
-func (m *machine) write32(p uint64, v uint32) { binary.LittleEndian.PutUint32(m.b[p:], v) }
-func (m *machine) write64(p uint64, v uint64) { binary.LittleEndian.PutUint64(m.b[p:], v) }
+// wrote are bytes that a call wrote, as many as it says: none where it says that there is no room.
+func (m *machine) wrote(at, count, room uint64) []byte {
+	if count > room {
+		return nil
+	}
+	return m.b[at : at+count]
+}
+
+func (m *machine) read8(p uint64) uint8     { return m.b[p] }
+func (m *machine) write8(p uint64, v uint8) { m.b[p] = v }
+
+func (m *machine) read16(p uint64) uint16 {
+	if isPlain {
+		return *(*uint16)(unsafe.Pointer(&m.b[p]))
+	}
+	return binary.LittleEndian.Uint16(m.b[p:])
+}
+
+func (m *machine) write16(p uint64, v uint16) {
+	if isPlain {
+		*(*uint16)(unsafe.Pointer(&m.b[p])) = v
+		return
+	}
+	binary.LittleEndian.PutUint16(m.b[p:], v)
+}
+
+func (m *machine) read32(p uint64) uint32 {
+	if isPlain {
+		return *(*uint32)(unsafe.Pointer(&m.b[p]))
+	}
+	return binary.LittleEndian.Uint32(m.b[p:])
+}
+
+func (m *machine) write32(p uint64, v uint32) {
+	if isPlain {
+		*(*uint32)(unsafe.Pointer(&m.b[p])) = v
+		return
+	}
+	binary.LittleEndian.PutUint32(m.b[p:], v)
+}
+
+func (m *machine) read64(p uint64) uint64 {
+	if isPlain {
+		return *(*uint64)(unsafe.Pointer(&m.b[p]))
+	}
+	return binary.LittleEndian.Uint64(m.b[p:])
+}
+
+func (m *machine) write64(p uint64, v uint64) {
+	if isPlain {
+		*(*uint64)(unsafe.Pointer(&m.b[p])) = v
+		return
+	}
+	binary.LittleEndian.PutUint64(m.b[p:], v)
+}
 
 // A number of 3, 5, 6 or 7 bytes.
 func (m *machine) readOdd(p uint64, size int) (v uint64) {
@@ -98,8 +147,16 @@ func (m *machine) move(to, from, size uint64) {
 }
 
 func (m *machine) fill(to uint64, value uint8, size uint64) {
-	for k := uint64(0); k < size; k++ {
-		m.b[to+k] = value
+	filled := m.b[to : to+size]
+	if value == 0 {
+		// Go clears in one go.
+		for k := range filled {
+			filled[k] = 0
+		}
+		return
+	}
+	for k := range filled {
+		filled[k] = value
 	}
 }
 

@@ -5,6 +5,7 @@ What is wanted is written by hand.
 
 import contextlib
 import os
+import signal
 import socket
 import stat
 import struct
@@ -14,9 +15,9 @@ import time
 from peers import PATIENCE, batch, connect, login, message, packet
 from relay_operator import all_of, until
 from relay_servers import Before
-from relay_told import Relay, bare, error_in, error_packet, let_in, login_of, rows
+from relay_told import Relay, bare, error_in, error_of, error_packet, let_in, login_of, rows
 
-TOO_MANY = 50106
+TOO_MANY, LOST = 50106, 50109
 # What a browser says of a page that it has loaded from elsewhere, and what an order wants.
 ORIGIN, SITE, MEANT = "Origin: http://evil.example", "Sec-Fetch-Site: cross-site", "X-Tdsrelay: 1"
 
@@ -189,7 +190,7 @@ def server_vanished(program, cases, serve):
                 one.sendall(batch("rows 2 1"))
                 one.settimeout(PATIENCE)
                 # Which of the two the system says hangs on whether it still knows the host's hardware address.
-                wanted = [error_packet(50109, f"The server {FAR}:1433 fails with {it}.") for it in (
+                wanted = [error_packet(LOST, f"The server {FAR}:1433 fails with {it}.") for it in (
                     "ETIMEDOUT: Connection timed out (os error 110)", "EHOSTUNREACH: No route to host (os error 113)")]
                 told = all_of(one)
                 cases.check("who waits for a server that vanished is told", told in wanted, told)
@@ -283,6 +284,49 @@ def outage(program, cases, serve):
         cases.same("who asks in an outage waits", until(relay, lambda it: it["applications_waiting"] == 1)["applications_waiting"], 1)
         with served(serve, port):
             cases.check("and is served behind it", struct.pack("<Bi", 0xD1, 2) in message(two))
+
+
+def restarted(program, cases, serve):
+    """The server restarts under 200 applications: what was in flight is told so, and who holds a connection at its next
+    request. Everybody else is served, those too who ask while the server is away."""
+    with socket.create_server(("127.0.0.1", 0)) as it:
+        port = it.getsockname()[1]
+    with served(serve, port) as first, Relay(program, port, "--most", "16", "--wait", "300") as relay:
+        links = [let_in(relay) for _ in range(200)]
+        for it in links:
+            it.settimeout(300)
+        asking, holding, waiting, quiet = links[:6], links[6:16], links[16:100], links[100:]
+        cases.same("rows before a restart", [rows(it, number) for number, it in enumerate(links[:16])], [True] * 16)
+        first.send_signal(signal.SIGSTOP)
+        for number, it in enumerate(asking + waiting):
+            it.sendall(batch(f"rows {number} 1"))
+        found = until(relay, lambda it: (it["applications_asking"], it["applications_waiting"]) == (6, 84))
+        cases.same("some ask, and some wait", (found["applications_asking"], found["applications_waiting"]), (6, 84))
+        first.kill()
+        first.wait()
+        cases.same("who asks is told", [error_of(it) for it in asking], [LOST] * 6)
+        for number, it in enumerate(quiet[:50]):
+            it.sendall(batch(f"rows {number} 1"))
+        found = until(relay, lambda it: it["applications_waiting"] == 134)
+        cases.same("who asks meanwhile waits", (found["applications_waiting"], found["total_connections_ended"]), (134, 16))
+        with served(serve, port):
+            # Each of them leaves then, so that the next one is lent its connection.
+            told = [has_row(it, number) for number, it in (*enumerate(waiting, 6), *enumerate(quiet[:50]))]
+            cases.same("and is served", told, [True] * 134)
+            cases.same("so is who asks behind it", [rows(it, 1) for it in quiet[50:60]], [True] * 10)
+            for it in holding:
+                it.sendall(batch("rows 9 1"))
+            cases.same("who held a connection is told", [error_of(it) for it in holding], [LOST] * 10)
+            found = relay.json()
+            cases.same("nobody else was closed", [found[f"total_{it}"] for it in ("applications_not_served", "limits_wait")], [0, 0])
+            cases.same("and nobody has left", found["applications_quiet"] + found["applications_holding"], 50)
+
+
+def has_row(link, number):
+    """Whether the row of this number comes. Then the application leaves."""
+    came = struct.pack("<Bi", 0xD1, number) in message(link)
+    link.close()
+    return came
 
 
 def total(program, cases, server):

@@ -120,11 +120,12 @@ def orders(program, cases, server):
                 far = ask_from_afar(relay)
             relay.ask(path, "POST")
         closes(one)
-        lines = relay.lines()
+        lines = [it.partition(" ")[2] for it in relay.end()[1].decode().splitlines()]
         for line in ("group 0 is paused, by POST /pause", "group 0 goes on, by POST /resume",
                      "the settings are read again, by POST /reload", "group 0 is closed, by POST /kill",
                      "the relay is to end, by POST /drain"):
-            cases.check(f"a line: {line}", line in lines, lines)
+            cases.check(f"a line, with who ordered it: {line}", any(
+                re.fullmatch(rf"{line} \(from 127\.0\.0\.1:\d+\)", it) for it in lines), lines)
     cases.same("a group that isn't there", missing, (404, b"there is no such group; GET / shows those that are\n"))
     cases.check("a page that isn't there", unknown[0] == 404 and unknown[1].startswith(b"there is no such page; those that are: GET /"), unknown)
     cases.check("no HTTP", wrong[0] == 400 and wrong[1].startswith(b"no request of HTTP/1.1"), wrong)
@@ -151,7 +152,8 @@ def ask_from_afar(relay):
 def broken(program, cases, server):
     """Who breaks the rules is closed for a fault, which the log names: an application, a server, a server's packet."""
     with Before(server) as before, Relay(program, before.port, "--log", "--most", "1") as relay:
-        one = let_in(relay)
+        one = let_in(relay, user="anna", database="sales")
+        port = one.getsockname()[1]
         cases.check("a row before a fault", rows(one, 1))
         before.is_deaf = True
         one.sendall(batch("rows 1 1") + ATTENTION + ATTENTION)
@@ -161,9 +163,10 @@ def broken(program, cases, server):
         before.drop()
         cases.check("a row behind that", rows(let_in(relay), 2))
         three = let_in(relay)
-        lines = relay.lines()
-        cases.check("an application's fault is named",
-                    any(re.fullmatch(r"application \d+ breaks the rules: fault 10 of an application, SecondAttention", it)
+        lines = [it.partition(" ")[2] for it in relay.end()[1].decode().splitlines()]
+        cases.check("an application's fault is named, and whose it is",
+                    any(re.fullmatch(r"application \d+ breaks the rules: fault 10 of an application, SecondAttention"
+                                     rf" \(user anna, database sales, from 127\.0\.0\.1:{port}\)", it)
                         for it in lines), lines)
         del two, three
     # What begins as no token does, and a packet whose Length is 4.

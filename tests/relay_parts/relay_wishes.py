@@ -249,3 +249,24 @@ def proxied(program, cases, server):
         link = connect(relay.port)
         link.sendall(PROXY_HEADER + login_of("web-1"))
         cases.same("a header that isn't due is no login", all_of(link), b"")
+    judged_of_clients(program, cases)
+
+
+def judged_of_clients(program, cases):
+    """Behind a proxy what is judged is counted by the client's address, and not by the proxy's."""
+    with socket.create_server(("127.0.0.1", 0)) as silent, Relay(
+            program, silent.getsockname()[1], "--login", "60", "--proxy", "127.0.0.1") as relay:
+        links = [behind_proxy(relay, PROXY_HEADER, f"user{number}") for number in range(33)]
+        cases.same("what is judged of one client has a limit", all_of(links[-1]), error_packet(
+            50100, "The relay has as many logins of this address judged as it does at a time, 32."))
+        # 192.0.2.8 in the place of 192.0.2.7.
+        links.append(behind_proxy(relay, PROXY_HEADER.replace(bytes([192, 0, 2, 7]), bytes([192, 0, 2, 8])), "other"))
+        found = until(relay, lambda it: it["total_connections_dialed"] == 33)
+        cases.same("another one of the proxy isn't kept out", (found["total_connections_dialed"], found["total_applications_refused"]), (33, 1))
+
+
+def behind_proxy(relay, header, user):
+    """An application of this user that logs in behind this header."""
+    link = connect(relay.port)
+    link.sendall(header + login_of(user=user))
+    return link

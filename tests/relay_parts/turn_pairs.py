@@ -41,6 +41,8 @@ class Pair:
         self.relay, self.server = relay, server
         self.a, self.b = (Application(relay.port, server.vices, **who) for _ in range(2))
         self.clock = Application(relay.port, server.vices, asks=False, locale=1)
+        # A request of its own has begun, of which nothing has gone out.
+        self.is_only_kept = False
         self.found = self.task = None
 
     async def begin(self):
@@ -54,6 +56,10 @@ class Pair:
         """How often the first one's connection was cleaned."""
         return self.server.asked_on(self.a.process).count(CLEANING)
 
+    def rests(self):
+        """Whether the relay says so of the first one's connection."""
+        return any(it.get("rests") for it in self.relay.json()["sockets"] if it.get("spid") == self.a.process)
+
     async def rounds(self):
         for _ in range(ROUNDS):
             await self.clock.ask("get a")
@@ -62,6 +68,7 @@ class Pair:
         """The second one asks. Whether it is served (`shared`), or waits and the first one's connection stays its own
         while others are served (`kept`)."""
         before = self.cleanings()
+        self.is_told_to_rest = self.rests()
         self.task = asyncio.ensure_future(self.b.ask(EVERYTHING))
         await until(lambda: self.task.done() or self.relay.json()["applications_waiting"] or self.cleanings() > before,
                     "the second one's request")
@@ -136,6 +143,8 @@ def play(program, cases, deed, wanted, vices, words, who):
         asyncio.run(played(pair, deed))
         is_so = pair.found in ([wanted] if wanted else ["kept", "shared"])
         cases.check(f"{deed.__name__}: its connection is {wanted or 'kept or shared'}", is_so, pair.found)
+        rests = pair.found == "shared" or pair.is_only_kept
+        cases.same(f"{deed.__name__}: the relay says whether it rests", pair.is_told_to_rest, rests)
 
 
 def beside(cases, scenes):

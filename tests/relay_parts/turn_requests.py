@@ -205,11 +205,16 @@ async def answer_to_come(pair):
     await pair.served()
 
 
+def most_of(name):
+    """How many bytes the system keeps of one socket at most, in one direction."""
+    with open(f"/proc/sys/net/ipv4/{name}", encoding="ascii") as it:
+        return int(it.read().split()[2])
+
+
 @kept(room=4096)
 async def answer_that_is_not_read(pair):
-    """It is more than all sockets on its way hold."""
-    with open("/proc/sys/net/ipv4/tcp_wmem", encoding="ascii") as it:
-        count = 1000 + int(it.read().split()[2]) // 1000
+    """It is more than all sockets on its way hold: what the server and the relay send, and what comes to the relay."""
+    count = 1000 + (2 * most_of("tcp_wmem") + most_of("tcp_rmem")) // 1000
     pair.a.send(BATCH, text_of(f"fill {count}"))
     await pair.stuck()
     await pair.other()
@@ -222,6 +227,7 @@ async def answer_that_is_not_read(pair):
 async def half_of_a_request(pair):
     whole = packets(BATCH, headers(0) + text_of("get a" + " " * 200), most=100)
     pair.a.writer.write(whole[:108])
+    pair.is_only_kept = True
     await pair.other()
     pair.a.writer.write(whole[108:])
     pair.a.same("an answer", await pair.a.hear(), tokens(rows(0, 1) + ends_with("batch")))
@@ -233,6 +239,7 @@ async def part_of_a_packet(pair):
     """Nothing has gone on: it may be parted, or not."""
     whole = packets(BATCH, headers(0) + text_of("get a"))
     pair.a.writer.write(whole[:20])
+    pair.is_only_kept = True
     await pair.other()
     pair.a.writer.write(whole[20:])
     pair.a.same("an answer", await pair.a.hear(), tokens(rows(0, 1) + ends_with("batch")))

@@ -4,7 +4,11 @@ TDS. Each part takes the place and the cases of that script.
 """
 
 import contextlib
+import os
+import re
+import subprocess
 
+from cases import built
 from peers import Server, batch, connect, message, packet, prelogin
 from tls_peers import (NOT_SUP, OFF, ON, REQ, Inside, cancels, drive, encryption, hello, is_let_in, login, options, over,
                        refusal, rows, strict)
@@ -202,3 +206,25 @@ def connect_nobody(place, cases):
     told = refusal(in_clear(client.port, prelogin(NOT_SUP) + login())) or (0, "")
     cases.check("no server before it", told[0] == 17830 and "connection refused" in told[1], told)
     return is_told
+
+
+def own_addresses(place, cases):
+    """With -proxy who stands behind tdstls is told each client's own address: tdsserve, and tdsrelay where that is built."""
+    to = f"127.0.0.1:{place.clear.port}"
+    for name, words, line in (("tdsserve", [place.program, "127.0.0.1:0", "--proxy"], "connection 1 comes for 127.0.0.1:{}"),
+                              ("tdsrelay", [built("tdsrelay")[0], "127.0.0.1:0", to, "--proxy", "127.0.0.1"],
+                               "application 1 is let in, group 0 (from 127.0.0.1:{})")):
+        if not os.path.exists(words[0]):
+            print(f"encryption: {name} isn't built, so it wasn't told any address")
+            continue
+        with subprocess.Popen([*words, "--log", "--until-input-ends"], stdin=subprocess.PIPE, stderr=subprocess.PIPE, text=True) as clear:
+            at = re.search(r"127\.0\.0\.1:\d+", clear.stderr.readline())[0]
+            server = place.server("-proxy", to=at)
+            by, rest, _ = drive(server.port, ON, place.context())
+            by.sendall(login())
+            cases.check(f"a login before {name} that is told addresses", is_let_in(message(rest)) and rows(rest, 7), server.log())
+            own = by.link.getsockname()[1]
+            by.close()
+            clear.stdin.close()
+            said = clear.stderr.read().splitlines()
+            cases.check(f"{name} is told the client's own", any(it.endswith(line.format(own)) for it in said), said)

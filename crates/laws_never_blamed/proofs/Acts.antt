@@ -22,7 +22,7 @@ use Rattle.tds_judge.specs.Conversation.{IsLawful, MayAsk, MayName, MayStop, Nam
 use Rattle.tds_judge.specs.History.{Said, asks_of, is_cleared, last_told}
 use Rattle.tds_judge.specs.Talking.{ignores_early, is_both, reset_of}
 use Rattle.tds_judge.specs.Told.{is_broken}
-use Rattle.laws_never_blamed.specs.Seen.{named_by, sees_outs, AllBehindLogin, AreBehindLogin, ComesBehindLogin, Eye, Watch, conversation, seen, sees, sees_begin, sees_come, sees_done, sees_names, sees_packet, status, unless_lost, watch_by, sees_request}
+use Rattle.laws_never_blamed.specs.Seen.{named_by, sees_outs, AllBehindLogin, AreBehindLogin, ComesBehindLogin, EndsIf, Eye, Watch, acknowledge, conversation, seen, sees, sees_begin, sees_come, sees_done, sees_names, sees_packet, status, unless_lost, watch_by, sees_request}
 use Rattle.laws_conforming_server.specs.Answering.{IsNoFault, NoFault, UnlessLost}
 use Rattle.laws_never_blamed.proofs.Hears.{IsLast, NotAcknowledged, as_reset, is_acknowledged, or_true}
 use Rattle.laws_never_blamed.proofs.Steps.{Answers, Asked, At, Knows, Rests, Skips, Stands, Stops, packet_seen, part_reads, part_skips, reading_begins, reads_stand, skipping_begins, skips_stand}
@@ -208,7 +208,8 @@ stop_answer eye h past k a = (
 stop_reading : (eye : Eye) (n : ℕ) (h : Heard) (begun : Bool) (named : ℕ) (past : List Said) → Knows h past → At Reading begun named h past
     → Stands (line_at n Cancelling h) (record { named = named; begun = begun }) (attends eye past)
 stop_reading eye n h false named past k a = let both = stop_asked eye h past k a in record { knows = both.0; at = both.1 }
-stop_reading eye n h true named past k a = let both = stop_answer eye h past k a in record { knows = both.0; at = both.1 }
+stop_reading eye n h true named past k a =
+    let both = stop_answer eye h past k a in record { knows = both.0; at = (both.1, sym (not_acknowledged h.done a.done)) }
 
 cancel_moves : (eye : Eye) (n : ℕ) (stage : Stage) (h : Heard) (w : Watch) (past : List Said)
     → Knows h past → At stage w.begun w.named h past → Moves eye n stage h w past line.Cancel
@@ -231,7 +232,7 @@ reading_packet eye true named h past a = record { place = a.place; owes = a.owes
 cancelling_packet : (eye : Eye) (begun : Bool) (named : ℕ) (h : Heard) (past : List Said) → At Cancelling begun named h past → At Cancelling begun named h (sees_packet eye past)
 unfolding place_of asks_of is_cleared
 cancelling_packet eye false named h past a = record { place = a.place; owes = a.owes; done = a.done }
-cancelling_packet eye true named h past a = record { place = a.place; owes = a.owes }
+cancelling_packet eye true named h past a = (record { place = a.0.place; owes = a.0.owes }, a.1)
 
 -- nothing goes out where something comes, and nothing is asked
 pub quiet_reads : (l : Line) (part : Part Token) (ends : Bool) (until : Heard) (r : Result Heard ListenFault) (named : ℕ)
@@ -259,20 +260,20 @@ comes_so eye w past part t quiet stands =
     subst (λ (sent : List Packet). Stands t.line (watch_by (done_by (line.Come part) t) w) (sees_come eye w.begun (sees_outs eye w.named past sent) part)) (sym quiet.0)
     (subst (λ (named : ℕ). Stands t.line (record { named = named; begun = if is_end part.close then false else true }) (sees_come eye w.begun past part)) (sym quiet.1) stands)
 
-come_moves : (eye : Eye) (n : ℕ) (stage : Stage) (h : Heard) (w : Watch) (past : List Said) (part : Part Token) → AreBehindLogin part.items
-    → Knows h past → At stage w.begun w.named h past → Moves eye n stage h w past (line.Come part)
+come_moves : (eye : Eye) (n : ℕ) (stage : Stage) (h : Heard) (w : Watch) (past : List Said) (part : Part Token)
+    → AreBehindLogin part.items × EndsIf (acknowledge part.items) part.close → Knows h past → At stage w.begun w.named h past → Moves eye n stage h w past (line.Come part)
 come_moves eye n Reading h w past part plain k a well =
     let both = reading_begins eye w.begun w.named h (sees_packet eye past) (packet_seen eye h past k) (reading_packet eye w.begun w.named h past a) in
     comes_so eye w past part (line.reads (line_at n Reading h) part (is_end part.close) (heard_until false h part.items) (hear_part false h part))
     (quiet_reads (line_at n Reading h) part (is_end part.close) (heard_until false h part.items) (hear_part false h part) w.named)
     (reads_stand (line_at n Reading h) part w.named (sees_come eye w.begun past part) (is_end part.close) (heard_until false h part.items) (hear_part false h part)
-    (part_reads eye h (sees_begin eye w.begun (sees_packet eye past)) part plain both.0 both.1) well)
+    (part_reads eye h (sees_begin eye w.begun (sees_packet eye past)) part plain.0 both.0 both.1) well)
 come_moves eye n Cancelling h w past part plain k a well =
     let both = skipping_begins eye w.begun w.named h (sees_packet eye past) (packet_seen eye h past k) (cancelling_packet eye w.begun w.named h past a) in
     comes_so eye w past part (line.skips (line_at n Cancelling h) (is_end part.close) (heard_until true h part.items) (hear_part true h part))
     (quiet_skips (line_at n Cancelling h) (is_end part.close) (heard_until true h part.items) (hear_part true h part) w.named)
     (skips_stand (line_at n Cancelling h) w.named (sees_come eye w.begun past part) (is_end part.close) (heard_until true h part.items) (hear_part true h part)
-    (part_skips eye h (sees_begin eye w.begun (sees_packet eye past)) part plain both.0 both.1) well)
+    (part_skips eye h (sees_begin eye w.begun (sees_packet eye past)) part plain.0 plain.1 both.0 both.1 both.2) well)
 come_moves eye n Idle h w past part plain k a well = absurd well
 come_moves eye n (Sending begun) h w past part plain k a well = absurd well
 come_moves eye n (Broken fault) h w past part plain k a well = absurd well

@@ -15,3 +15,10 @@ pub mod Blameless
 pub mod Handed
 pub mod Plays
 pub mod Calls
+pub mod Heeding
+pub mod Sides
+pub mod Taken
+pub mod Fed
+pub mod Handing
+pub mod Coming
+pub mod Relaying

@@ -22,7 +22,8 @@ use Rattle.tds_judge.specs.declared.talk.Reset.{Reset as Asks}
 use Rattle.tds_judge.specs.Breaches.{agreed_last, final_by_token, size_by_token, size_told}
 use Rattle.tds_judge.specs.Conversation.{IsLawful, MayAnswer, MayEnd, MaySay, Place, Quiet, Asking, Answering, Stopping, Skipping, begun_at, ended_at, heard_at, left_by, place_of}
 use Rattle.tds_judge.specs.History.{Said, asks_of, is_cleared, last_told, owed_of}
-use Rattle.laws_never_blamed.specs.Seen.{AreBehindLogin, Eye, IsBehindLogin, Watch, sees, sees_begin, sees_close, sees_items, sees_packet}
+use Rattle.tds_judge.specs.Talking.{acknowledges}
+use Rattle.laws_never_blamed.specs.Seen.{AreBehindLogin, EndsIf, Eye, IsBehindLogin, NothingIf, Watch, acknowledge, sees, sees_begin, sees_close, sees_items, sees_packet}
 use Rattle.laws_conforming_server.specs.Answering.{IsNoFault}
 use Rattle.laws_never_blamed.proofs.Hears.{IsLast, NotAcknowledged, as_reset, follows, if_ok, is_acknowledged, is_final, no_size, owed_behind}
 
@@ -70,7 +71,7 @@ At (Sending true) begun named h past = (begun ≡ false) × Asked h past
 At Reading false named h past = Asked h past
 At Reading true named h past = Answers h past
 At Cancelling false named h past = Stops h past
-At Cancelling true named h past = Skips h past
+At Cancelling true named h past = Skips h past × (is_acknowledged h.done ≡ false)
 At (Broken fault) begun named h past = Unit {0}
 
 pub record Stands (l : Line) (w : Watch) (past : List Said) : Type 0 where
@@ -111,19 +112,20 @@ item_reads eye h past item plain k a =
     ))
     (follows false h item.token.kind item.token.told (owed_of past) (last_told past) plain.size plain.done a.owes k.last))
 
-item_skips : (eye : Eye) (h : Heard) (past : List Said) (item : Item Token) → IsBehindLogin item → Knows h past → Skips h past
-    → IfOk (any_sign true h item.sign) (λ next. Knows next (sees eye past (events.Says item.token)) × Skips next (sees eye past (events.Says item.token)))
+item_skips : (eye : Eye) (h : Heard) (past : List Said) (item : Item Token) → IsBehindLogin item → Knows h past → Skips h past → is_acknowledged h.done ≡ false
+    → IfOk (any_sign true h item.sign) (λ next. Knows next (sees eye past (events.Says item.token)) × Skips next (sees eye past (events.Says item.token)) × (acknowledges item.token ≡ is_acknowledged next.done))
 unfolding IsLawful agreed_last size_told last_told place_of asks_of is_cleared
-item_skips eye h past item plain k a =
-    subst (λ (s : Sign). IfOk (any_sign true h s) (λ next. Knows next (sees eye past (events.Says item.token)) × Skips next (sees eye past (events.Says item.token)))) (sym plain.sign)
+item_skips eye h past item plain k a none =
+    subst (λ (s : Sign). IfOk (any_sign true h s) (λ next. Knows next (sees eye past (events.Says item.token)) × Skips next (sees eye past (events.Says item.token)) × (acknowledges item.token ≡ is_acknowledged next.done))) (sym plain.sign)
     (if_ok (any_sign true h (sign_of item.token)) (λ next f. (
       record {
-        lawful = (k.lawful, (subst (λ (p : Place). MaySay p item.token) (sym a.place) tt, f.change));
+        lawful = (k.lawful, (subst (λ (p : Place). MaySay p item.token) (sym a.place) (subst (λ (b : Bool). MaySay (Skipping b) item.token) (sym none) plain.final), f.change));
         agreed = ap (size_by_token item.token.told) k.agreed ∙ no_size item.token.told plain.size;
         size = k.size;
         last = f.last;
       },
       record { place = ap (heard_at item.token) a.place ∙ ap Skipping f.acknowledged; owes = owed_behind item.token.told (is_cleared past) (asks_of past) ∙ (ap (left_by item.token.told) a.owes ∙ f.left) },
+      ap (λ (b : Bool). b || acknowledges item.token) (sym none) ∙ f.acknowledged,
     ))
     (follows true h item.token.kind item.token.told (owed_of past) (last_told past) plain.size plain.done a.owes k.last))
 
@@ -137,14 +139,31 @@ items_read : (eye : Eye) (h : Heard) (past : List Said) (items : List (Item Toke
 items_read eye h past [] plain k a = (k, a)
 items_read eye h past (item ∷ items) plain k a =
     if_next _ _ (hear_sign Any false h item.sign) (λ next. hear_items false next items) (item_reads eye h past item plain.0 k a)
-    (λ next both. items_read eye next (sees eye past (events.Says item.token)) items plain.1 both.0 both.1)
+    (λ next both. items_read eye next (sees eye past (events.Says item.token)) items plain.2 both.0 both.1)
 
-items_skip : (eye : Eye) (h : Heard) (past : List Said) (items : List (Item Token)) → AreBehindLogin items → Knows h past → Skips h past
-    → IfOk (hear_items true h items) (λ next. Knows next (sees_items eye past items) × Skips next (sees_items eye past items))
-items_skip eye h past [] plain k a = (k, a)
-items_skip eye h past (item ∷ items) plain k a =
-    if_next _ _ (hear_sign Any true h item.sign) (λ next. hear_items true next items) (item_skips eye h past item plain.0 k a)
-    (λ next both. items_skip eye next (sees eye past (events.Says item.token)) items plain.1 both.0 both.1)
+-- no acknowledgement was heard, unless one was told
+abbrev UnlessTold : Bool → Heard → Type 0
+UnlessTold true h = Unit {0}
+UnlessTold false h = is_acknowledged h.done ≡ false
+
+abbrev Skipped : Eye → List Said → List (Item Token) → Bool → Heard → Type 0
+Skipped eye past items told next = Knows next (sees_items eye past items) × Skips next (sees_items eye past items) × UnlessTold told next
+
+-- behind a token that acknowledges or not
+skip_on : (eye : Eye) (told : Bool) (h : Heard) (past : List Said) (items : List (Item Token)) → NothingIf told items → Knows h past → Skips h past → told ≡ is_acknowledged h.done
+    → (is_acknowledged h.done ≡ false → IfOk (hear_items true h items) (λ next. Skipped eye past items (acknowledge items) next))
+    → IfOk (hear_items true h items) (λ next. Skipped eye past items (told || acknowledge items) next)
+skip_on eye true h past items nothing k a same rest =
+    subst (λ (xs : List (Item Token)). IfOk (hear_items true h xs) (λ next. Skipped eye past xs true next)) (sym nothing) (k, a, tt)
+skip_on eye false h past items nothing k a same rest = rest (sym same)
+
+items_skip : (eye : Eye) (h : Heard) (past : List Said) (items : List (Item Token)) → AreBehindLogin items → Knows h past → Skips h past → is_acknowledged h.done ≡ false
+    → IfOk (hear_items true h items) (λ next. Skipped eye past items (acknowledge items) next)
+items_skip eye h past [] plain k a none = (k, a, none)
+items_skip eye h past (item ∷ items) plain k a none =
+    if_next _ _ (hear_sign Any true h item.sign) (λ next. hear_items true next items) (item_skips eye h past item plain.0 k a none)
+    (λ next both. skip_on eye (acknowledges item.token) next (sees eye past (events.Says item.token)) items plain.1 both.0 both.1 both.2
+    (λ none. items_skip eye next (sees eye past (events.Says item.token)) items plain.2 both.0 both.1 none))
 
 -- ---- A message begins
 
@@ -162,12 +181,13 @@ reading_begins eye false named h past k a = (
 )
 
 pub skipping_begins : (eye : Eye) (begun : Bool) (named : ℕ) (h : Heard) (past : List Said) → Knows h past → At Cancelling begun named h past
-    → Knows h (sees_begin eye begun past) × Skips h (sees_begin eye begun past)
+    → Knows h (sees_begin eye begun past) × Skips h (sees_begin eye begun past) × (is_acknowledged h.done ≡ false)
 unfolding IsLawful agreed_last size_told last_told place_of asks_of is_cleared
-skipping_begins eye true named h past k a = (k, a)
+skipping_begins eye true named h past k a = (k, a.0, a.1)
 skipping_begins eye false named h past k a = (
   record { lawful = (k.lawful, subst MayAnswer (sym a.place) tt); agreed = k.agreed; size = k.size; last = k.last },
   record { place = ap begun_at a.place ∙ ap (λ (d : FinalDone). Skipping (is_acknowledged d)) (sym a.done); owes = a.owes },
+  ap is_acknowledged a.done,
 )
 
 -- ---- An answer's part
@@ -194,7 +214,7 @@ read_closes eye h past Cut k a = tt
 read_closes eye h past (Fails refusal) k a = tt
 
 abbrev AfterSkip : Bool → Heard → List Said → Type 0
-AfterSkip false h past = Knows h past × Skips h past
+AfterSkip false h past = Knows h past × Skips h past × (is_acknowledged h.done ≡ false)
 AfterSkip true h past = Knows h past × (place_of past ≡ ended_at (Skipping (is_acknowledged h.done))) × (owed_of past ≡ as_reset h.mark)
 
 skip_ends : (eye : Eye) (whole : Bool) (h : Heard) (past : List Said) → Knows h past → Skips h past
@@ -209,12 +229,17 @@ skip_may eye whole Awaited h past k a = skip_ends eye whole h past k a
 skip_may eye whole Answered h past k a = skip_ends eye whole h past k a
 skip_may eye whole Acknowledged h past k a = skip_ends eye whole h past k a
 
-skip_closes : (eye : Eye) (h : Heard) (past : List Said) (close : Close) → Knows h past → Skips h past
+-- a message that goes on has acknowledged nothing
+goes_on : (told : Bool) (h : Heard) → UnlessTold told h → EndsIf told Goes → is_acknowledged h.done ≡ false
+goes_on true h none ends = let bad : false ≡ true = ends in absurd cc
+goes_on false h none ends = none
+
+skip_closes : (eye : Eye) (told : Bool) (h : Heard) (past : List Said) (close : Close) → Knows h past → Skips h past → UnlessTold told h → EndsIf told close
     → IfOk (close_part true close h) (λ next. AfterSkip (is_end close) next (sees_close eye past close))
-skip_closes eye h past Goes k a = (k, a)
-skip_closes eye h past Ends k a = skip_may eye true h.done h past k a
-skip_closes eye h past Cut k a = skip_may eye false h.done h past k a
-skip_closes eye h past (Fails refusal) k a = tt
+skip_closes eye told h past Goes k a none ends = (k, a, goes_on told h none ends)
+skip_closes eye told h past Ends k a none ends = skip_may eye true h.done h past k a
+skip_closes eye told h past Cut k a none ends = skip_may eye false h.done h past k a
+skip_closes eye told h past (Fails refusal) k a none ends = tt
 
 if_heard : (P Q : Heard → Type 0) (r : Result Heard ClientFault) (f : Heard → Result Heard ListenFault) → IfOk r P → ((x : Heard) → P x → IfOk (f x) Q) → IfOk (heard_by r f) Q
 if_heard P Q (Ok x) f is so = so x is
@@ -227,11 +252,12 @@ part_reads eye h past part plain k a =
     if_heard _ _ (hear_items false h part.items) (λ next. close_part false part.close next) (items_read eye h past part.items plain k a)
     (λ next both. read_closes eye next (sees_items eye past part.items) part.close both.0 both.1)
 
-pub part_skips : (eye : Eye) (h : Heard) (past : List Said) (part : Part Token) → AreBehindLogin part.items → Knows h past → Skips h past
+pub part_skips : (eye : Eye) (h : Heard) (past : List Said) (part : Part Token) → AreBehindLogin part.items → EndsIf (acknowledge part.items) part.close → Knows h past → Skips h past
+    → is_acknowledged h.done ≡ false
     → IfOk (hear_part true h part) (λ next. AfterSkip (is_end part.close) next (sees_close eye (sees_items eye past part.items) part.close))
-part_skips eye h past part plain k a =
-    if_heard _ _ (hear_items true h part.items) (λ next. close_part true part.close next) (items_skip eye h past part.items plain k a)
-    (λ next both. skip_closes eye next (sees_items eye past part.items) part.close both.0 both.1)
+part_skips eye h past part plain ends k a none =
+    if_heard _ _ (hear_items true h part.items) (λ next. close_part true part.close next) (items_skip eye h past part.items plain k a none)
+    (λ next both. skip_closes eye (acknowledge part.items) next (sees_items eye past part.items) part.close both.0 both.1 both.2 ends)
 
 -- ---- What the client makes of it
 
@@ -263,5 +289,5 @@ pub skips_stand : (l : Line) (named : ℕ) (past : List Said) (ends : Bool) (unt
     → IfOk r (λ next. AfterSkip ends next past) → IsNoFault (skips {T = Token} l ends until r).answer
     → Stands (skips {T = Token} l ends until r).line (watching named (if ends then false else true)) past
 skips_stand l named past ends until (Err fault) so well = absurd well
-skips_stand l named past false until (Ok h) so well = record { knows = so.0; at = so.1 }
+skips_stand l named past false until (Ok h) so well = record { knows = so.0; at = (so.1, so.2) }
 skips_stand l named past true until (Ok h) so well = skipped_stand l named h.descriptor h.mark h.done past so

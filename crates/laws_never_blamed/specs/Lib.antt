@@ -3,3 +3,4 @@ pub mod Seen
 pub mod Crossing
 pub mod Spelled
 pub mod Called
+pub mod Relayed

@@ -1,5 +1,5 @@
 -- What somebody at the client's end of a connection of a service sees, in the judge's words: what goes out and what comes there.
-use Rattle.std.specs.Prelude.{◌≡◌, ℕ, ◌+◌, Bool, true, false, List, [], ◌∷◌, Option, if◌then◌else◌}
+use Rattle.std.specs.Prelude.{◌≡◌, ℕ, ◌+◌, ◌&&◌, ◌||◌, Bool, true, false, List, [], ◌∷◌, Option, if◌then◌else◌}
 use Rattle.tds_packet.specs.declared.status.Reset.{Reset}
 use Rattle.tds_packet.specs.Resets.{reset_bit}
 use Rattle.tds_listen.specs.Signs.{sign_of}
@@ -12,6 +12,7 @@ use Rattle.tds_judge.specs.declared.finding.Spot.{Spot}
 use Rattle.tds_judge.specs.declared.talk.Event.{Event}
 use Rattle.tds_judge.specs.declared.talk.Event.TheVariants as events
 use Rattle.tds_judge.specs.History.{Said}
+use Rattle.tds_judge.specs.Talking.{acknowledges, says_more}
 use Rattle.laws_never_blamed.specs.Tokens.{AcknowledgesAsDone, TellsNoSize}
 
 -- What isn't said of a connection there, by what was seen so far: where and when the next thing is seen, how long the next packet is and
@@ -113,18 +114,32 @@ conversation eye ds = seen eye (record { named = 0; begun = false }) [] ds
 
 -- ---- Tokens behind a login
 
--- A token with its sign; no packet size is told, and bit 0020 stands in a DONE alone.
+-- A token with its sign; no packet size is told, and bit 0020 stands in a DONE alone, and not with 0001.
 pub record IsBehindLogin (item : Item Token) : Type 0 where
   pub sign : item.sign ≡ sign_of item.token
   pub size : TellsNoSize item.token.told
   pub done : AcknowledgesAsDone item.token
+  pub final : acknowledges item.token && says_more item.token ≡ false
 
+abbrev pub NothingIf : Bool → List (Item Token) → Type 0
+NothingIf true items = items ≡ []
+NothingIf false items = Unit {0}
+
+-- Behind an acknowledgement nothing comes in its message (MS-TDS 2.2.7.6).
 abbrev pub AreBehindLogin : List (Item Token) → Type 0
 AreBehindLogin [] = Unit {0}
-AreBehindLogin (item ∷ items) = IsBehindLogin item × AreBehindLogin items
+AreBehindLogin (item ∷ items) = IsBehindLogin item × NothingIf (acknowledges item.token) items × AreBehindLogin items
+
+abbrev pub acknowledge : List (Item Token) → Bool
+acknowledge [] = false
+acknowledge (item ∷ items) = acknowledges item.token || acknowledge items
+
+abbrev pub EndsIf : Bool → Close → Type 0
+EndsIf true close = is_end close ≡ true
+EndsIf false close = Unit {0}
 
 abbrev pub ComesBehindLogin : Act Token → Type 0
-ComesBehindLogin (line.Come part) = AreBehindLogin part.items
+ComesBehindLogin (line.Come part) = AreBehindLogin part.items × EndsIf (acknowledge part.items) part.close
 ComesBehindLogin _ = Unit {0}
 
 -- All that comes is of this kind.

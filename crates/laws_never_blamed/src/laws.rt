@@ -30,7 +30,7 @@ use tds_wire::{Token, cuts_do_not_matter};
 
 /// What is seen at a connection's end of a service, whatever is done there and whatever comes, is a
 /// lawful conversation until something that comes is a fault. So no event of it is a breach. It holds
-/// behind a login, and where bit 0020 acknowledges in a DONE alone.
+/// behind a login, and where bit 0020 stands in a DONE alone, the last token of its message.
 pub fn own_conversations_are_lawful()
     ensures lawful { (eye : Eye) (acts : List (Act Token))
         → AllBehindLogin acts → NoFault (history new_line acts)

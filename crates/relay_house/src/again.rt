@@ -74,6 +74,7 @@ impl House {
         if let Some(group) = self.groups.get_mut(group) {
             group.is_over = true;
         }
+        self.sockets.touch_all();
         self.ended(rt, key, Cause::Own)
     }
 }

@@ -67,7 +67,7 @@ impl House {
 
     /// How many connections of a group are free. Each is noted to be checked.
     fn free_in(&mut self, group: usize) -> io::Result<usize> {
-        let keys = self.sockets.keys()?;
+        let mut keys = Vec::new(self.alloc);
         let House {
             sockets,
             groups,
@@ -76,18 +76,18 @@ impl House {
         let Some(relay) = relay_of(groups, group) else {
             return Ok(0);
         };
-        let mut count: usize = 0;
-        for key in keys.iter() {
-            let Some(socket) = sockets.get_mut(*key) else {
-                continue;
-            };
-            if let Whose::Connection(of, number) = socket.whose() {
+        for (_, entry) in sockets.iter() {
+            if let Whose::Connection(of, number) = entry.value.whose() {
                 if of == group && relay.place_on(number) == Some(PlaceOn::Free) {
-                    socket.checked = Some(socket.seen.since);
-                    count = count.saturating_add(1);
+                    keys.push(entry.key)?;
                 }
             }
         }
-        Ok(count)
+        for key in keys.iter() {
+            if let Some(socket) = sockets.get_mut(*key) {
+                socket.checked = Some(socket.seen.since);
+            }
+        }
+        Ok(keys.len())
     }
 }

@@ -2,8 +2,9 @@
 
 use crate::group::Group;
 use crate::house::{House, relay_of};
-use relay_logins::{Groups, put_error};
-use relay_sockets::{Role, Socket, Whose};
+use relay_logins::{Groups, REFUSED, put_error};
+use relay_sockets::{News, Role, Socket, Whose};
+use relay_status::raise;
 use std::alloc::{AllocError, Global};
 use std::io;
 use std::net::Net;
@@ -122,6 +123,40 @@ impl House {
         }
         self.let_go(whose)?;
         self.dismiss(rt, key)
+    }
+
+    /// It is told why it isn't let in, and closed.
+    pub(crate) fn refuse<R: Net>(&mut self, rt: &R, key: usize, why: &str) -> io::Result<()> {
+        self.put_refusal(key, why)?;
+        self.send_or_close(rt, key)
+    }
+
+    /// It is told why it isn't let in, and is to be closed then.
+    pub fn put_refusal(&mut self, key: usize, why: &str) -> io::Result<()> {
+        self.put_refusal_of(key, REFUSED, why)
+    }
+
+    /// The same with this number.
+    pub(crate) fn put_refusal_of(&mut self, key: usize, number: u32, why: &str) -> io::Result<()> {
+        let alloc = self.alloc;
+        raise(&mut self.journal.counts.refused);
+        self.say_of("application", key, "is refused:", why);
+        let Some(socket) = self.sockets.get_mut(key) else {
+            return Ok(());
+        };
+        let whose = socket.whose();
+        put_error(alloc, &mut socket.out, number, why)?;
+        socket.role = Role::Closing;
+        self.let_go(whose)?;
+        Ok(self.sockets.report(key, News::Turn)?)
+    }
+
+    /// It is closed behind what waits for it.
+    pub fn dismiss<R: Net>(&mut self, rt: &R, key: usize) -> io::Result<()> {
+        if let Some(socket) = self.sockets.get_mut(key) {
+            socket.role = Role::Closing;
+        }
+        self.send_or_close(rt, key)
     }
 }
 

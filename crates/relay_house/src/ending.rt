@@ -129,7 +129,10 @@ impl House {
         let held = relay.sent(application, 0);
         relay.left(application)?;
         match held {
-            Some(connection) => Ok(self.sockets.read_on(connection)?),
+            Some(connection) => {
+                self.sockets.touch(connection);
+                Ok(self.sockets.read_on(connection)?)
+            }
             None => Ok(()),
         }
     }

@@ -206,6 +206,19 @@ impl Group {
         kept
     }
 
+    /// Whether behind what its relay says nothing else is to be done: nobody is to be parted for who waits, its
+    /// first connection has begun, and somebody is left.
+    pub fn is_settled(&self) -> bool {
+        match &self.stage {
+            Stage::Judged(_) => false,
+            Stage::Open(relay, _) => {
+                self.first.is_none()
+                    && relay.applications() > 0
+                    && (self.mode == Mode::Sessions || relay.waiting() == 0)
+            }
+        }
+    }
+
     /// Whether nobody is left of it.
     pub fn is_deserted(&self) -> bool {
         match &self.stage {

@@ -101,6 +101,11 @@ impl Holding {
     fn len(&self) -> usize {
         self.held.len()
     }
+
+    /// Whether there is none.
+    pub fn is_empty(&self) -> bool {
+        self.held.is_empty()
+    }
 }
 
 impl House {

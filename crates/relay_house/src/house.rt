@@ -58,6 +58,12 @@ impl House {
         self.journal.moment.millis
     }
 
+    /// Whether it does nothing by time but what sockets are looked at for: no connection is dialed later, and no name
+    /// is asked.
+    pub fn waits_for_sockets(&self) -> bool {
+        self.holding.is_empty() && self.names.path.is_empty()
+    }
+
     /// These settings are the ones from now on.
     pub fn set(&mut self, asked: Asked) {
         self.asked = asked;
@@ -65,6 +71,7 @@ impl House {
         self.sockets.keeping = asked.keeping;
         self.journal.is_logged = asked.is_logged;
         self.journal.lines.is_json = asked.is_json;
+        self.sockets.touch_all();
     }
 
     /// An application has come, from there.

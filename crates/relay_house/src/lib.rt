@@ -11,6 +11,7 @@ mod ending;
 mod group;
 mod holding;
 mod house;
+mod judging;
 mod limiting;
 mod logins;
 mod names;

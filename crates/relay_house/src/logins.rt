@@ -3,42 +3,28 @@
 use crate::group::{Group, Pair, Stage};
 use crate::house::{House, relay_of};
 use relay_logins::{
-    FULL, Keeping, Kind, NO_NOTICES, NOTIFIES, Passed, REFUSED, SharedLogin, TOO_MANY, kind_of,
-    leave_out_features, put_error, put_saved, who_of,
+    FULL, Keeping, Kind, NO_NOTICES, NOTIFIES, Passed, SharedLogin, TOO_MANY, kind_of,
+    leave_out_features, put_saved, who_of,
 };
 use relay_settings::Share;
-use relay_sockets::{Cause, News, Role, Whose};
+use relay_sockets::{Cause, Role, Whose};
 use relay_status::raise;
+use std::alloc::AllocError;
 use std::io;
 use std::net::{IpAddr, Net};
 use tds_packet::PacketSize;
 use tds_relay::Mode;
 
 impl House {
-    /// These bytes came on a socket, which isn't of somebody who asks what the relay does.
-    pub fn came<R: Net>(&mut self, rt: &R, key: usize, piece: &[u8]) -> io::Result<()> {
-        let House {
-            sockets,
-            groups,
-            journal,
-            ..
-        } = self;
-        let Some(socket) = sockets.get_mut(key) else {
-            return Ok(());
-        };
-        match socket.whose() {
-            Whose::Application(..) if socket.notices.take(piece) => {
-                self.say("application", key, "asks for a query notification");
-                self.dismiss_now(rt, key, NOTIFIES, NO_NOTICES)
-            }
-            Whose::Application(group, application) => {
-                if let Some(relay) = relay_of(groups, group) {
-                    relay.said(application, piece)?;
-                    socket.asks(relay.begun_by(application), journal.moment.micros);
-                }
-                self.obey(rt, group)
-            }
-            Whose::Connection(group, number) => self.heard(rt, key, group, number, piece),
+    /// These bytes came on a socket that is this, and isn't logged in.
+    pub fn came<R: Net>(
+        &mut self,
+        rt: &R,
+        key: usize,
+        whose: Whose,
+        piece: &[u8],
+    ) -> io::Result<()> {
+        match whose {
             Whose::Gate => self.passed(rt, key, piece),
             Whose::First(group) => self.first_dialed(rt, key, group, piece),
             Whose::Opening(group, number) => self.dialed(rt, key, group, number, piece),
@@ -50,12 +36,42 @@ impl House {
             Whose::Again(group) => self.judged_again(rt, key, group, piece),
             Whose::Owed => self.owed_came(rt, key, piece),
             Whose::Names => self.names_came(rt, piece),
+            Whose::Application(..) | Whose::Connection(..) => Ok(()),
             Whose::Asker | Whose::Closing => Ok(()),
         }
     }
 
+    /// These bytes came of an application that is logged in.
+    pub fn said<R: Net>(
+        &mut self,
+        rt: &R,
+        key: usize,
+        group: usize,
+        application: usize,
+        piece: &[u8],
+    ) -> io::Result<()> {
+        let House {
+            sockets,
+            groups,
+            journal,
+            ..
+        } = self;
+        let Some(socket) = sockets.get_mut(key) else {
+            return Ok(());
+        };
+        if socket.notices.take(piece) {
+            self.say("application", key, "asks for a query notification");
+            return self.dismiss_now(rt, key, NOTIFIES, NO_NOTICES);
+        }
+        if let Some(relay) = relay_of(groups, group) {
+            relay.said(application, piece)?;
+            socket.asks(relay.begun_by(application), journal.moment.micros);
+        }
+        self.obey(rt, group)
+    }
+
     /// These bytes came on a connection that is logged in.
-    pub(crate) fn heard<R: Net>(
+    pub fn heard<R: Net>(
         &mut self,
         rt: &R,
         key: usize,
@@ -63,13 +79,24 @@ impl House {
         number: u64,
         piece: &[u8],
     ) -> io::Result<()> {
-        if !piece.is_empty() {
-            if let Some(relay) = relay_of(&mut self.groups, group) {
-                relay.came(number, piece)?;
-            }
+        if !piece.is_empty() && self.hear(group, number, piece)? == Mode::Transactions {
             self.note_rest(key, group, number)?;
         }
         self.obey(rt, group)
+    }
+
+    /// A group's relay hears them. Answers for how long the group's applications keep what they are lent. It has
+    /// the loop over rows, and so stands alone.
+    #[inline(never)]
+    fn hear(&mut self, group: usize, number: u64, piece: &[u8]) -> Result<Mode, AllocError> {
+        let Some(found) = self.groups.get_mut(group) else {
+            return Ok(Mode::Sessions);
+        };
+        let mode = found.mode;
+        if let Some(relay) = found.relay() {
+            relay.came(number, piece)?;
+        }
+        Ok(mode)
     }
 
     // ---- An application's login
@@ -238,41 +265,5 @@ impl House {
             return Ok(());
         }
         self.missed(rt, Whose::First(group))
-    }
-
-    // ---- Refusals
-
-    /// It is told why it isn't let in, and closed.
-    fn refuse<R: Net>(&mut self, rt: &R, key: usize, why: &str) -> io::Result<()> {
-        self.put_refusal(key, why)?;
-        self.send_or_close(rt, key)
-    }
-
-    /// It is told why it isn't let in, and is to be closed then.
-    pub fn put_refusal(&mut self, key: usize, why: &str) -> io::Result<()> {
-        self.put_refusal_of(key, REFUSED, why)
-    }
-
-    /// The same with this number.
-    fn put_refusal_of(&mut self, key: usize, number: u32, why: &str) -> io::Result<()> {
-        let alloc = self.alloc;
-        raise(&mut self.journal.counts.refused);
-        self.say_of("application", key, "is refused:", why);
-        let Some(socket) = self.sockets.get_mut(key) else {
-            return Ok(());
-        };
-        let whose = socket.whose();
-        put_error(alloc, &mut socket.out, number, why)?;
-        socket.role = Role::Closing;
-        self.let_go(whose)?;
-        Ok(self.sockets.report(key, News::Turn)?)
-    }
-
-    /// It is closed behind what waits for it.
-    pub fn dismiss<R: Net>(&mut self, rt: &R, key: usize) -> io::Result<()> {
-        if let Some(socket) = self.sockets.get_mut(key) {
-            socket.role = Role::Closing;
-        }
-        self.send_or_close(rt, key)
     }
 }

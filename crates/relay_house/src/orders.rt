@@ -5,6 +5,7 @@ use crate::house::{House, relay_of};
 use relay_logins::Groups;
 use relay_sockets::{News, Whose};
 use relay_status::sum;
+use std::alloc::AllocError;
 use std::io;
 use std::net::Net;
 use tds_relay::{Order, Place};
@@ -12,11 +13,50 @@ use tds_relay::{Order, Place};
 impl House {
     /// Does what a group's relay says is to be done; and parts those at rest where others wait.
     pub fn obey<R: Net>(&mut self, rt: &R, group: usize) -> io::Result<()> {
-        self.follow_orders(rt, group)?;
+        if self.follow_first(rt, group)? {
+            self.follow_orders(rt, group)?;
+        }
+        match self.groups.get(group) {
+            Some(group) if !group.is_settled() => {}
+            _ => return Ok(()),
+        }
         self.part_those_at_rest(rt, group)?;
         self.end_beginning(group)?;
         self.forget_deserted(group);
         Ok(())
+    }
+
+    /// Does what a group's relay says is to be done first. Whether it may say more behind that: what is sent makes
+    /// it say nothing.
+    fn follow_first<R: Net>(&mut self, rt: &R, group: usize) -> io::Result<bool> {
+        let orders = match relay_of(&mut self.groups, group) {
+            Some(relay) => relay.orders(),
+            None => return Ok(false),
+        };
+        let (mut is_more, mut written) = (false, None);
+        for order in orders.iter() {
+            if let Order::Write(key) = *order {
+                // Each part of a request is ordered to be sent, and all of them are there by now.
+                if written != Some(key) {
+                    self.write(key)?;
+                }
+                written = Some(key);
+            } else {
+                (is_more, written) = (true, None);
+                self.follow_order(rt, group, *order)?;
+            }
+        }
+        Ok(is_more)
+    }
+
+    /// Sends what waits for a socket. One that fails has its end reported.
+    fn write(&mut self, key: usize) -> Result<(), AllocError> {
+        self.note_answer(key);
+        if self.send(key)? {
+            Ok(())
+        } else {
+            self.sockets.report(key, News::End)
+        }
     }
 
     /// Does what a group's relay says is to be done.
@@ -65,14 +105,7 @@ impl House {
     fn follow_order<R: Net>(&mut self, rt: &R, group: usize, order: Order) -> io::Result<()> {
         match order {
             Order::Open(number) => self.open(rt, group, number),
-            Order::Write(key) => {
-                self.note_answer(key);
-                if self.send(key)? {
-                    Ok(())
-                } else {
-                    Ok(self.sockets.report(key, News::End)?)
-                }
-            }
+            Order::Write(key) => Ok(self.write(key)?),
             Order::Close(key) => self.close(key),
         }
     }
@@ -88,8 +121,10 @@ impl House {
         let Some(socket) = sockets.get_mut(key) else {
             return;
         };
-        let (Some(asked), Whose::Application(group, application)) = (socket.asked, socket.whose())
-        else {
+        let Some(asked) = socket.asked else {
+            return;
+        };
+        let Whose::Application(group, application) = socket.whose() else {
             return;
         };
         let Some(relay) = relay_of(groups, group) else {

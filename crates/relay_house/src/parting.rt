@@ -151,11 +151,15 @@ impl House {
         let Some((key, number, application)) = longest_resting(sockets, groups, group) else {
             return Ok(false);
         };
-        let is_parted = match relay_of(groups, group) {
-            Some(relay) => relay.park(application)?,
-            None => false,
+        let Some(relay) = relay_of(groups, group) else {
+            return Ok(false);
         };
-        if is_parted {
+        // What is asked here says so, too, where nothing was sent.
+        let holder = relay.sent_on(number, 0);
+        if relay.park(application)? {
+            if let Some(holder) = holder {
+                sockets.touch(holder);
+            }
             self.is_parted(group, number)?;
             self.follow_orders(rt, group)?;
         } else {

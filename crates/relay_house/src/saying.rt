@@ -52,6 +52,18 @@ impl House {
         }
     }
 
+    /// A line about an order to the relay as a whole, and where who gave it is: the socket of this key.
+    pub fn note_order(&mut self, words: &str, by: usize) {
+        let House {
+            sockets,
+            journal,
+            ..
+        } = self;
+        if let Some(socket) = sockets.get(by) {
+            journal.note_of(words, &socket.whom());
+        }
+    }
+
     /// A line about a socket's end: where the other end is a server, its address, and what it did.
     pub(crate) fn say_end(&mut self, key: usize, cause: Cause) {
         let House {
@@ -192,7 +204,7 @@ fn put_fault(journal: &mut Journal, socket: &Socket, groups: &mut Groups<Group>)
     match socket.whose() {
         Whose::Application(group, application) => {
             if let Some(relay) = relay_of(groups, group) {
-                put_fault_of(journal, number, relay, application);
+                put_fault_of(journal, socket, relay, application);
             }
         }
         Whose::Connection(group, on) => {
@@ -205,13 +217,13 @@ fn put_fault(journal: &mut Journal, socket: &Socket, groups: &mut Groups<Group>)
 }
 
 /// What an application did that it may not.
-fn put_fault_of(journal: &mut Journal, number: u64, relay: &Relay, application: usize) {
+fn put_fault_of(journal: &mut Journal, socket: &Socket, relay: &Relay, application: usize) {
     if let Some(fault) = relay.fault_of(application) {
         if let Some(out) = journal.line() {
-            let which = fault.number();
+            let (number, which) = (socket.number, fault.number());
             let _ = write!(out, "application {number} breaks the rules: fault {which}");
             let _ = write!(out, " of an application, {fault:?}");
-            journal.lines.end(&NOBODY);
+            journal.lines.end(&socket.whom());
         }
     }
 }

@@ -3,8 +3,8 @@
 use crate::group::Group;
 use crate::house::{House, relay_of};
 use relay_logins::Groups;
-use relay_settings::SystemError;
-use relay_sockets::{Cause, Socket, Whose};
+use relay_sockets::{Cause, Failed, Socket, Whose};
+use std::alloc::AllocError;
 use std::io;
 use std::net::Net;
 use tds_judge::Finding;
@@ -24,7 +24,7 @@ enum Sent {
 impl House {
     /// Sends what the system takes of what waits for a socket. False where it failed, or is to be closed
     /// and has nothing to be sent any more: then it says why it ends.
-    pub fn send(&mut self, key: usize) -> io::Result<bool> {
+    pub fn send(&mut self, key: usize) -> Result<bool, AllocError> {
         let House {
             sockets,
             groups,
@@ -40,14 +40,13 @@ impl House {
                 socket.cause = Some(Cause::Own);
                 false
             }
-            Err(error) => {
-                socket.cause = Some(Cause::Failed(SystemError::new(error)));
-                false
-            }
+            Err(Failed) => false,
             Ok(_) => true,
         };
         sockets.tell_findings(key, journal);
+        sockets.touch(key);
         if let Ok(Sent::Room(partner)) = sent {
+            sockets.touch(partner);
             sockets.read_on(partner)?;
         }
         Ok(goes_on)
@@ -69,7 +68,7 @@ fn send_to(
     groups: &mut Groups<Group>,
     time: u64,
     findings: &mut Vec<Finding>,
-) -> io::Result<Sent> {
+) -> Result<Sent, Failed> {
     if !socket.send_out(time, findings)? {
         return Ok(Sent::Done);
     }
@@ -96,26 +95,21 @@ fn send_application(
     key: usize,
     time: u64,
     findings: &mut Vec<Finding>,
-) -> io::Result<Sent> {
-    let mut sent = Sent::Done;
-    for _ in 0..64 {
-        let bytes = relay.unsent(key);
-        let most = bytes.len();
-        if most == 0 {
-            break;
-        }
-        let count = socket.send(bytes, time, findings)?;
-        if count == 0 {
-            break;
-        }
-        socket.is_answered = true;
-        sent = room_of(relay.sent(key, count));
-        if count < most {
-            // The system has no room for more, and reports it once it has.
-            break;
-        }
+) -> Result<Sent, Failed> {
+    let bytes = relay.unsent(key);
+    let most = bytes.len();
+    if most == 0 {
+        socket.is_behind = false;
+        return Ok(Sent::Done);
     }
-    Ok(sent)
+    let count = socket.send(bytes, time, findings)?;
+    // The system reports it once it has room for more.
+    socket.is_behind = count < most;
+    if count == 0 {
+        return Ok(Sent::Done);
+    }
+    socket.is_answered = true;
+    Ok(room_of(relay.sent(key, count)))
 }
 
 /// Sends what waits on a connection.
@@ -125,25 +119,20 @@ fn send_on(
     number: u64,
     time: u64,
     findings: &mut Vec<Finding>,
-) -> io::Result<Sent> {
-    let mut sent = Sent::Done;
-    for _ in 0..64 {
-        let bytes = relay.unsent_on(number);
-        let most = bytes.len();
-        if most == 0 {
-            break;
-        }
-        let count = socket.send(bytes, time, findings)?;
-        if count == 0 {
-            break;
-        }
-        sent = room_of(relay.sent_on(number, count));
-        if count < most {
-            // The system has no room for more, and reports it once it has.
-            break;
-        }
+) -> Result<Sent, Failed> {
+    let bytes = relay.unsent_on(number);
+    let most = bytes.len();
+    if most == 0 {
+        socket.is_behind = false;
+        return Ok(Sent::Done);
     }
-    Ok(sent)
+    let count = socket.send(bytes, time, findings)?;
+    // The system reports it once it has room for more.
+    socket.is_behind = count < most;
+    if count == 0 {
+        return Ok(Sent::Done);
+    }
+    Ok(room_of(relay.sent_on(number, count)))
 }
 
 /// The socket at the other end has room again, where there is one.

@@ -23,4 +23,4 @@ pub use notice::{
     FULL, NO_NOTICES, NOT_OPENED, NOTIFIES, REFUSED, TOO_MANY, UNANSWERED, put_error, put_saved,
 };
 pub use notices::Notices;
-pub use table::{Entry, Table, number_of};
+pub use table::{Entry, Table, number_of, place_of};

@@ -50,6 +50,9 @@ impl Notices {
 
     /// Takes bytes of an application. Whether a notification is asked for in them.
     pub fn take(&mut self, piece: &[u8]) -> bool {
+        if self.place == 0 && self.is_last && is_plain(piece) {
+            return false;
+        }
         let mut rest = piece;
         for _ in 0..piece.len() {
             if self.place == 8 && !self.has_headers {
@@ -141,4 +144,16 @@ impl Notices {
         }
         is_one
     }
+}
+
+/// Whether these bytes are one packet that is its message's only one, and whose ALL_HEADERS has the header of
+/// the transaction alone (MS-TDS 2.2.5.3.2), as most requests have: nothing is known then that wasn't before.
+fn is_plain(piece: &[u8]) -> bool {
+    let [_, status, high, low, _, _, _, _, data @ ..] = piece else {
+        return false;
+    };
+    let length = usize::from(*high) * 256 + usize::from(*low);
+    // Of 22 bytes the header has 18, its type is 2.
+    let is_alone = matches!(data, [22, 0, 0, 0, 18, 0, 0, 0, 2, 0, ..]);
+    is_alone && status & 1 != 0 && piece.len() == length
 }

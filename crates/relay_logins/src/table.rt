@@ -20,6 +20,13 @@ pub fn number_of(key: usize) -> u64
     (key / PLACES) as u64
 }
 
+/// The place of what has a key: no two have one at a time.
+pub fn place_of(key: usize) -> usize
+    ensures { result < 16384 }
+{
+    key % PLACES
+}
+
 /// What has a key.
 #[derive(Drop)]
 pub struct Entry<T> {

@@ -1,9 +1,11 @@
 //! What comes and goes is judged, where that is asked for.
 
-use crate::socket::{Gone, Role, Socket};
+use crate::link::News;
+use crate::socket::{Gone, Role, Socket, whom_of};
 use crate::sockets::Sockets;
-use relay_logins::FEATURES;
+use relay_logins::{FEATURES, place_of};
 use relay_status::{Journal, Judged};
+use std::alloc::AllocError;
 use std::{io, mem};
 use tds_judge::Finding;
 
@@ -24,6 +26,19 @@ impl Sockets {
             };
         }
         Ok(())
+    }
+
+    /// Bytes came on a socket: where more may be there, it is to have a turn. Whether others than its relay read
+    /// them, too.
+    pub fn has_read(&mut self, key: usize) -> Result<bool, AllocError> {
+        let (has_more, is_read_along) = match self.table.get(key) {
+            Some(socket) => (socket.link.is_readable(), socket.is_read_along()),
+            None => return Ok(false),
+        };
+        if has_more {
+            self.report(key, News::Turn)?;
+        }
+        Ok(is_read_along)
     }
 
     /// These bytes came on a socket: they are read where it is watched, and judged where that is asked for.
@@ -47,9 +62,12 @@ impl Sockets {
 
     /// Tells and counts what was found of a socket.
     pub fn tell_findings(&mut self, key: usize, journal: &mut Journal) {
-        if self.findings.is_empty() {
-            return;
+        if !self.findings.is_empty() {
+            self.tell_found(key, journal);
         }
+    }
+
+    fn tell_found(&mut self, key: usize, journal: &mut Journal) {
         let findings = mem::replace(&mut self.findings, Vec::new(self.alloc));
         if let Some(socket) = self.table.get_mut(key) {
             socket.tell_all(&findings, journal);
@@ -64,6 +82,7 @@ impl Sockets {
         };
         let gone = socket.gone();
         let _ = self.table.try_remove(key).is_some();
+        self.dues.remove(place_of(key));
         Ok(Some(gone))
     }
 
@@ -87,6 +106,7 @@ impl Socket {
     /// Tells and counts what was found of it.
     fn tell_all(&mut self, findings: &[Finding], journal: &mut Journal) {
         let number = self.number;
+        let whom = whom_of(&self.who, self.peer);
         let Some(judged) = &mut self.judged else {
             return;
         };
@@ -94,7 +114,7 @@ impl Socket {
             if let Some(blamed) = judged.blamed(finding) {
                 journal.counts.found.add(blamed);
                 if judged.is_told() {
-                    journal.found(blamed, number, finding);
+                    journal.found(blamed, number, finding, &whom);
                 }
             }
         }

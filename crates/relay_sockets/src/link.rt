@@ -9,7 +9,13 @@ pub enum Came {
     Nothing,
     Bytes(usize),
     End,
+    /// The system refuses: the socket's cause says why.
+    Failed,
 }
+
+/// The system refuses to send, or there is no memory: the socket's cause says why.
+#[derive(Clone, Copy)]
+pub struct Failed;
 
 /// What is new of a socket.
 #[derive(Clone, Copy)]

@@ -4,9 +4,7 @@ use crate::ending::Cause;
 use crate::link::Link;
 use relay_logins::{Dial, Gate, Leg, Notices, Way, Who};
 use relay_status::{Asker, At, Judged, Names, Role as Told, Whom};
-use std::io;
 use std::net::SocketAddr;
-use tds_judge::Finding;
 use tds_state::Watch;
 
 /// What a socket is.
@@ -116,6 +114,8 @@ pub struct Socket {
     pub asked: Option<u64>,
     /// Whether something of that one's answer has been sent.
     pub is_answered: bool,
+    /// Whether what its relay has for it may not be sent yet.
+    pub is_behind: bool,
     /// Where judging is asked for.
     pub judged: Option<Judged>,
     /// Of a connection, where applications are parted from theirs; and the number of the last rest there.
@@ -154,6 +154,7 @@ impl Socket {
             begun: 0,
             asked: None,
             is_answered: false,
+            is_behind: true,
             judged: None,
             watch: None,
             rest: 0,
@@ -190,44 +191,6 @@ impl Socket {
             self.asked = Some(precise);
             self.is_answered = false;
         }
-    }
-
-    /// Sends what the system takes of these bytes, and answers how many.
-    pub fn send(
-        &mut self,
-        bytes: &[u8],
-        time: u64,
-        findings: &mut Vec<Finding>,
-    ) -> io::Result<usize> {
-        let count = self.link.send(bytes)?.min(bytes.len());
-        if let Some(watch) = &mut self.watch {
-            watch.sent(&bytes[..count]);
-        }
-        if let Some(judged) = &mut self.judged {
-            judged.take(false, time, &bytes[..count], findings)?;
-        }
-        Ok(count)
-    }
-
-    /// Sends what the system takes of what a login has to say. Whether that is all.
-    pub fn send_out(&mut self, time: u64, findings: &mut Vec<Finding>) -> io::Result<bool> {
-        let Socket {
-            link,
-            out,
-            judged,
-            ..
-        } = self;
-        if out.is_empty() {
-            return Ok(true);
-        }
-        let count = link.send(out.as_slice())?.min(out.len());
-        if let Some(judged) = judged {
-            judged.take(false, time, &out[..count], findings)?;
-        }
-        let left = out.len() - count;
-        out.copy_within(count.., 0);
-        out.truncate(left);
-        Ok(left == 0)
     }
 
     /// The login of a connection, while it goes on.
@@ -293,18 +256,12 @@ impl Socket {
 
     /// Who an application says that it is.
     pub fn names(&self) -> Option<Names<'_>> {
-        let Some(who) = &self.who else {
-            return None;
-        };
-        Some(names_of(who))
+        self.whom().names
     }
 
     /// Whose a line of the log about it is.
     pub fn whom(&self) -> Whom<'_> {
-        Whom {
-            names: self.names(),
-            peer: self.peer,
-        }
+        whom_of(&self.who, self.peer)
     }
 
     /// Whose it is.
@@ -324,6 +281,15 @@ impl Socket {
             Role::Closing => Whose::Closing,
         }
     }
+}
+
+/// Whose a line is of an application that says that it is this, and is there.
+pub(crate) fn whom_of(who: &Option<Who>, peer: Option<SocketAddr>) -> Whom<'_> {
+    let names = match who {
+        Some(who) => Some(names_of(who)),
+        None => None,
+    };
+    Whom { names, peer }
 }
 
 /// What a login says, as it is told.

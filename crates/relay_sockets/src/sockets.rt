@@ -1,11 +1,12 @@
 //! All sockets, by their keys.
 
+use crate::due::Dues;
 use crate::link::{Link, News};
 use crate::room::{Admission, Room};
 use crate::socket::{Role, Socket};
 use mio::unix::SourceFd;
 use mio::{Events, Interest, Poll, Token};
-use relay_logins::{Entry, Table};
+use relay_logins::{Entry, Table, place_of};
 use relay_status::raise;
 use socket_places::{Keeping, Link as Stream, Listener, Place};
 use std::alloc::{AllocError, Global};
@@ -18,14 +19,20 @@ use tds_judge::Finding;
 /// The most reports of the system that are taken in a round.
 pub const ROUND: usize = 256;
 
+/// For so many turns room is kept from one round to the next.
+const KEPT: usize = 1_024;
+
 /// All sockets, and which of them are to have a turn.
 #[derive(Drop)]
 pub struct Sockets {
     pub(crate) alloc: Global,
     poll: Poll,
     pub(crate) table: Table<Socket>,
-    /// The keys of those that are to have a turn.
+    /// The keys of those that are to have a turn, and of those that have theirs now.
     waiting: Vec<usize>,
+    turns: Vec<usize>,
+    /// When each is to be looked at.
+    pub(crate) dues: Dues,
     /// How many sockets there were.
     opened: u64,
     /// How many sockets were reported to have bytes while none of theirs waited.
@@ -53,6 +60,8 @@ impl Sockets {
             poll: Poll::new(rt)?,
             table: Table::new(alloc),
             waiting: Vec::new(alloc),
+            turns: Vec::new(alloc),
+            dues: Dues::new(alloc),
             opened: 0,
             reports: 0,
             is_judged,
@@ -100,14 +109,25 @@ impl Sockets {
         self.poll.poll(events, Some(Duration::from_millis(longest)))
     }
 
-    /// Whether a socket is to have a turn.
-    pub fn has_turns(&self) -> bool {
-        !self.waiting.is_empty()
+    /// Those that are to have a turn have theirs now, and none is to have one then. Answers how many they are.
+    pub fn begin_turns(&mut self) -> usize {
+        let Sockets {
+            alloc,
+            turns,
+            waiting,
+            ..
+        } = self;
+        if turns.capacity() > KEPT {
+            *turns = Vec::new(*alloc);
+        }
+        turns.clear();
+        mem::swap(turns, waiting);
+        turns.len()
     }
 
-    /// The keys of those that are to have a turn; none is then.
-    pub fn take_turns(&mut self) -> Vec<usize> {
-        mem::replace(&mut self.waiting, Vec::new(self.alloc))
+    /// The key of the one that has the turn of this place.
+    pub fn turn(&self, place: usize) -> Option<usize> {
+        self.turns.get(place).copied()
     }
 
     pub fn get(&self, key: usize) -> Option<&Socket> {
@@ -204,6 +224,7 @@ impl Sockets {
         if self.table.insert(socket).is_none() {
             return Ok(None);
         }
+        self.dues.add(place_of(key), key)?;
         self.begin_judging(key)?;
         Ok(Some(key))
     }

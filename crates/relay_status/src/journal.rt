@@ -68,14 +68,19 @@ impl Journal {
 
     /// A line about the relay as a whole, where lines are asked for.
     pub fn note(&mut self, words: &str) {
+        self.note_of(words, &NOBODY);
+    }
+
+    /// The same, and whose doing it is.
+    pub fn note_of(&mut self, words: &str, whom: &Whom<'_>) {
         if let Some(out) = self.line() {
             let _ = write!(out, "{words}");
-            self.lines.end(&NOBODY);
+            self.lines.end(whom);
         }
     }
 
     /// A line about a finding: its name and its weight, whose it is, the socket, and where it stands.
-    pub fn found(&mut self, blamed: Blamed, number: u64, finding: &Finding) {
+    pub fn found(&mut self, blamed: Blamed, number: u64, finding: &Finding, whom: &Whom<'_>) {
         if !self.begin_line() {
             return;
         }
@@ -84,7 +89,7 @@ impl Journal {
         let _ = write!(out, "found {name} ({weight}) of {}", blamed.words());
         let (offset, value) = (finding.spot.offset, finding.value);
         let _ = write!(out, ", socket {number}, byte {offset}, value {value}");
-        self.lines.end(&NOBODY);
+        self.lines.end(whom);
     }
 
     /// Begins a line, where lines are asked for: what it says is to be appended, and then it is to be ended.

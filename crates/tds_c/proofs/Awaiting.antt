@@ -1,5 +1,5 @@
 -- A client that awaits the answer: of its value only what says where the request is has changed.
-use Rattle.std.proofs.Common.{◌≡◌, ◌∙◌, ℕ, ◌==◌, nat_le, ◌&&◌, if◌then◌else◌, Bool, true, false, [], Option, Some, None, refl, sym, ap}
+use Rattle.std.proofs.Common.{◌≡◌, ◌∙◌, ℕ, ◌==◌, nat_le, ◌&&◌, if◌then◌else◌, Bool, true, false, [], Option, Some, None, refl, sym, ap, subst}
 use Rattle.std.proofs.lemmas.Bool.{eqb-true}
 use Rattle.tds_packet.specs.declared.kind.Kind.{Kind}
 use Rattle.tds_packet.specs.declared.status.Reset.{Reset}
@@ -9,6 +9,7 @@ use Rattle.tds_client.specs.declared.client.parts.StageParts.{StageParts}
 use Rattle.tds_client.specs.declared.client.parts.StageParts.TheVariants as stages
 use Rattle.tds_client.specs.declared.fault.ClientFault.{ClientFault}
 use Rattle.tds_client.specs.declared.heard.FinalDone.{FinalDone}
+use Rattle.tds_client.specs.declared.heard.Heard.{Heard}
 use Rattle.tds_client.specs.declared.heard.FinalDone.TheVariants.{Awaited, Answered, Acknowledged}
 use Rattle.tds_client.specs.Parts.{parts_of, session_from, stage_from}
 use Rattle.tds_client.specs.Session.{ClientSession, Reading, unless_idle, with_stage}
@@ -63,6 +64,8 @@ size_back n m h = size_by n m (nat_le 512 n && nat_le n 32767) h
 pub record IsOf (c : TdsClient) (p : ClientParts) : Type 0 where
   pub descriptor : c.descriptor ≡ p.heard.descriptor
   pub size : p.size ≡ c.size
+  pub size_is : size_from c.size ≡ Some p.size
+  pub columns_are : columns_from c.columns ≡ Some p.columns
   pub stage : stage_from_number c ≡ Some p.stage
   pub mark : mark_number p.heard.mark ≡ c.mark
   pub done : done_number p.heard.done ≡ c.done
@@ -89,6 +92,8 @@ is_of c p (Some size) (Some stage) (Some mark) (Some done) (Some columns) a b d 
     record {
       descriptor = ap (λ (q : ClientParts). q.heard.descriptor) same;
       size = sym (ap (λ (q : ClientParts). q.size) same) ∙ size_back c.size size a;
+      size_is = a ∙ ap (λ (q : ClientParts). Some q.size) same;
+      columns_are = f ∙ ap (λ (q : ClientParts). Some q.columns) same;
       stage = b ∙ ap (λ (q : ClientParts). Some q.stage) same;
       mark = sym (ap (λ (q : ClientParts). mark_number q.heard.mark) same) ∙ mark_back c.mark mark d;
       done = sym (ap (λ (q : ClientParts). done_number q.heard.done) same) ∙ done_back c.done done e;
@@ -150,3 +155,39 @@ unfolding plain_of
 awaits c s held =
     let value = value_is c s held in
     rw (value.descriptor, value.size, value.mark, value.done, value.columns) refl
+
+-- ---- Where it is read
+
+mark_there : (m : Option Reset) → mark_from (mark_number m) ≡ Some m
+unfolding mark_from
+mark_there None = refl
+mark_there (Some Full) = refl
+mark_there (Some KeepTransaction) = refl
+
+done_there : (m : FinalDone) → done_from (done_number m) ≡ Some m
+unfolding done_from
+done_there Awaited = refl
+done_there Answered = refl
+done_there Acknowledged = refl
+
+reads_at : (p : StageParts) → stage_from p [] ≡ Reading → p ≡ stages.Reading
+reads_at stages.Idle h = absurd cc
+reads_at (stages.Sending kind packets) h = absurd cc
+reads_at stages.Reading h = refl
+reads_at stages.Cancelling h = absurd cc
+reads_at (stages.Broken fault) h = absurd cc
+
+given : (size : ℕ) (heard : Heard) (columns : Option ℕ) → size_from size ≡ Some size → columns_from (columns_number columns) ≡ Some columns
+    → (let p : ClientParts = record { size = size; stage = stages.Reading; heard = heard; columns = columns } in client_of (plain_of p 0) [] ≡ Some (session_from p []))
+unfolding client_of parts_from plain_of stage_from_number have_room
+given size heard columns is are = rw (is, mark_there heard.mark, done_there heard.done, are) refl
+
+-- the value of a client that reads and has heard this is that client
+pub held_again : (c : TdsClient) (p : ClientParts) (heard : Heard) → client_of c [] ≡ Some (session_from p []) → stage_from p.stage [] ≡ Reading
+    → client_of (plain_of (record p { heard = heard }) 0) [] ≡ Some (session_from (record p { heard = heard }) [])
+held_again c p heard held reads =
+    let value = value_is c (session_from p []) held in
+    let size = subst (λ (n : ℕ). size_from n ≡ Some (parts_of (session_from p [])).size) (sym value.size) value.size_is in
+    let columns = subst (λ (n : ℕ). columns_from n ≡ Some (parts_of (session_from p [])).columns) (sym value.columns) value.columns_are in
+    subst (λ (x : StageParts). let q : ClientParts = record { size = p.size; stage = x; heard = heard; columns = p.columns } in client_of (plain_of q 0) [] ≡ Some (session_from q [])) (sym (reads_at p.stage reads))
+    (given p.size heard p.columns size columns)

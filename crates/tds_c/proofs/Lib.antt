@@ -14,3 +14,5 @@ pub mod WholeMessages
 pub mod Hearing
 pub mod Ready
 pub mod Whole
+pub mod Within
+pub mod AtOnce

@@ -1,12 +1,18 @@
 -- A walk's value between two tokens.
-use Rattle.std.proofs.Common.{◌≡◌, ◌∙◌, ◌≤◌, ℕ, List, [], length, drop, min, get_or, ◌+◌, Option, Some, None, Ok, Err, true, refl, sym, ap, subst}
+use Rattle.std.proofs.Common.{◌≡◌, ◌∙◌, ◌≤◌, ℕ, List, [], length, drop, min, get_or, ◌+◌, Option, Some, None, Ok, Err, true, false, refl, sym, ap, subst}
 use Rattle.std.proofs.lemmas.List.{drop-drop}
-use Rattle.std.specs.Prelude.{IsSome}
+use Rattle.std.specs.Prelude.{IsSome, Result}
 use Rattle.tds_client.specs.declared.fault.ClientFault.{ClientFault}
 use Rattle.tds_client.specs.declared.sign.Rules.TheVariants.{Any}
-use Rattle.tds_client.specs.Machine.{signed, tells}
-use Rattle.tds_client.specs.Session.{ClientSession}
-use Rattle.tds_listen.specs.declared.fault.ListenFault.TheVariants as faults
+use Rattle.tds_client.specs.declared.client.parts.ClientParts.{ClientParts}
+use Rattle.tds_client.specs.declared.client.parts.StageParts.{StageParts}
+use Rattle.tds_client.specs.declared.client.parts.StageParts.TheVariants.{Reading as Reads}
+use Rattle.tds_client.specs.declared.heard.Heard.{Heard}
+use Rattle.tds_client.specs.declared.sign.Sign.{Sign}
+use Rattle.tds_client.specs.Hearing.{◌>>=◌, hear_sign}
+use Rattle.tds_client.specs.Machine.{signed, tells, with_heard}
+use Rattle.tds_client.specs.Parts.{session_from}
+use Rattle.tds_client.specs.Session.{ClientSession, Stage, Idle, Sending, Reading as IsReading, Cancelling, Broken}
 use Rattle.tds_listen.specs.Hearing.{moved_by, next_heard, told_if}
 use Rattle.tds_listen.specs.Signs.{sign_of}
 use Rattle.tds_wire.specs.declared.due.Inside.{Inside}
@@ -73,9 +79,6 @@ module _ (w : TdsWire) (m : Memory) (ready : Ready w) (columns : length (shapes_
       ≡ Ok (record { told = told_if (tells s.stage) token; session = next; reading = at_ready (record w { kind = get_or bytes 0 0; start = added w.start n }) m (moved w (get_or bytes 0 0) (added w.start n) ready); rest = drop n bytes })
   whole_heard next heard = ap (moved_by s) sees ∙ rw heard refl
 
-  pub whole_fails : (fault : ClientFault) → signed Any s (sign_of token) ≡ Err fault → next_heard s (at_ready w m ready) bytes ≡ Err (faults.Client fault)
-  whole_fails fault heard = ap (moved_by s) sees ∙ rw heard refl
-
 same : (a b : Reading) → (let r : Option Reading = Some a in r) ≡ Some b → a ≡ b
 same a b e = cc
 
@@ -106,6 +109,32 @@ whole_on w m ready columns nulls s next token n done bytes piece first r before 
     let behind : so_far first next there (drop n piece) before new j =
     heard_on first _ _ before after new i j long (whole_heard w m ready columns nulls s token n piece is next heard) put here in
     (at_ready (record w { kind = kind; start = start }) m (moved w kind start ready), is_at_ready _ m (moved w kind start ready), rw (is_kind, is_start) (subst (λ (xs : List ℕ). so_far first next there xs before new j) (ap (drop n) is_piece ∙ drop-drop n done bytes) behind))
+
+-- ---- A client that reads
+
+pub stays_heard : (s : ClientSession) (h : Heard) → s.heard ≡ h → s ≡ with_heard s h
+stays_heard s h e = ap (with_heard s) e
+
+pub signs : (s : ClientSession) (h k : Heard) (sign : Sign) → s.stage ≡ IsReading → hear_sign Any false h sign ≡ Ok k → signed Any (with_heard s h) sign ≡ Ok (with_heard s k)
+signs s h k sign stage e = rw (stage, e) refl
+
+signed_by : (r : Result Heard ClientFault) (s next : ClientSession) → (r >>= λ heard. Ok (with_heard s heard)) ≡ Ok next → r ≡ Ok next.heard
+signed_by (Ok heard) s next e =
+    let same : with_heard s heard ≡ next = cc in
+    ap (λ (x : ClientSession). let r : Result Heard ClientFault = Ok x.heard in r) same
+signed_by (Err fault) s next e = absurd (let u : ⊥ = cc in u)
+
+pub reads_sign : (p : ClientParts) (sign : Sign) (next : ClientSession) → p.stage ≡ Reads → signed Any (session_from p []) sign ≡ Ok next → hear_sign Any false p.heard sign ≡ Ok next.heard
+reads_sign p sign next stage e =
+    signed_by (hear_sign Any false p.heard sign) (session_from (record p { stage = Reads }) []) next
+    (subst (λ (x : StageParts). signed Any (session_from (record p { stage = x }) []) sign ≡ Ok next) stage e)
+
+pub tells_reading : (s : Stage) → tells s ≡ true → s ≡ IsReading
+tells_reading Idle e = absurd (let u : ⊥ = cc in u)
+tells_reading (Sending kind left packets) e = absurd (let u : ⊥ = cc in u)
+tells_reading IsReading e = refl
+tells_reading Cancelling e = absurd (let u : ⊥ = cc in u)
+tells_reading (Broken fault) e = absurd (let u : ⊥ = cc in u)
 
 -- ---- The end of a message
 

@@ -1,18 +1,22 @@
 -- What the export does by which a client hears the data of a packet in one call: token by token, as `tds_listen` has it.
-use Rattle.std.specs.Prelude.{◌≡◌, ◌≢◌, ◌≤◌, ◌+◌, ℕ, List, [], ◌∷◌, Bool, true, false, length, drop, Option, Some, None, IsSome, Result, Ok, Err}
-use Rattle.tds_client.specs.declared.fault.ClientFault.{ClientFault}
+use Rattle.std.specs.Prelude.{◌≡◌, ◌≢◌, ◌≤◌, ◌+◌, ℕ, List, [], ◌∷◌, Bool, true, false, length, drop, get_or, Option, Some, None, IsSome, Result, Ok, Err}
+use Rattle.tds_client.specs.declared.heard.Heard.{Heard}
+use Rattle.tds_client.specs.declared.sign.Rules.TheVariants.{Any}
 use Rattle.tds_client.specs.Faults as client
+use Rattle.tds_client.specs.Hearing.{hear_sign}
 use Rattle.tds_client.specs.Machine.{tells}
 use Rattle.tds_client.specs.Session.{ClientSession}
-use Rattle.tds_client.specs.Taking.{broken_by}
 use Rattle.tds_listen.specs.declared.fault.ListenFault.{ListenFault}
 use Rattle.tds_listen.specs.declared.fault.ListenFault.TheVariants as faults
 use Rattle.tds_listen.specs.Faults.{broken_at, broken_at_end}
 use Rattle.tds_listen.specs.Hearing.{Both, Move, heard_end, next_heard}
+use Rattle.tds_listen.specs.Signs.{sign_of}
 use Rattle.tds_wire.specs.declared.memory.Memory.{Memory}
 use Rattle.tds_wire.specs.declared.told.Token.{Token}
 use Rattle.tds_wire.specs.Faults as wire
 use Rattle.tds_wire.specs.Reading.{Reading, restarted}
+use Rattle.tds_wire.specs.Told.{added}
+use Rattle.tds_wire.specs.Whole.{IsNext}
 use Rattle.tds_c.specs.declared.client.TdsClient.{TdsClient}
 use Rattle.tds_c.specs.declared.wire.hearing.Came.{Came}
 use Rattle.tds_c.specs.declared.wire.hearing.Came.TheVariants as came
@@ -26,7 +30,7 @@ use Rattle.tds_c.specs.Plain.{client_of}
 use Rattle.tds_walk.specs.Rooms.{HasRead, Room}
 use Rattle.tds_walk.specs.Wire.{inside_from, truth}
 use Rattle.tds_walk.specs.WireCalls.{reading_from}
-use Rattle.tds_walk.specs.WireTokens.{AllShow}
+use Rattle.tds_walk.specs.WireTokens.{AllShow, Puts}
 
 -- ---- The numbers
 
@@ -165,10 +169,15 @@ pub record Ready (walk : TdsWire) : Type 0 where
   pub head : walk.head_count ≡ 0
   pub passed : walk.passed ≡ 0
 
--- What was heard of tokens that stand whole: the client and the walk stand there now, or the client is broken by what comes next.
-abbrev pub HearsWhole : Place → List ℕ → ClientSession → Option Reading → Room TdsWireToken → Result (Unit {0}) ClientFault → Type 0
-HearsWhole first rest s r room (Ok done) =
-    (reading : Reading) × (r ≡ Some reading) × HasHeard first (record { session = s; reading = reading; rest = rest }) room
-HearsWhole first rest s r room (Err fault) =
-    (last : Place) × HasHeard first last room × (last.rest ≡ rest)
-    × (next_heard last.session last.reading last.rest ≡ Err (faults.Client fault)) × (s ≡ broken_by last.session fault)
+-- what a client that reads has heard, and the walk's value
+pub record Here : Type 0 where
+  pub heard : Heard
+  pub walk : TdsWire
+
+-- A token of so many bytes, with which these begin, was heard and written: the walk is behind it.
+pub record HeardHere (old new : Here) (n : ℕ) (bytes : List ℕ) (room : Room TdsWireToken) (count : ℕ) : Type 0 where
+  pub token : Token
+  pub next : IsNext old.walk.start n (Some token) bytes
+  pub heard : hear_sign Any false old.heard (sign_of token) ≡ Ok new.heard
+  pub put : Puts (Some token) room count
+  pub walk : new.walk ≡ record old.walk { kind = get_or bytes 0 0; start = added old.walk.start n }

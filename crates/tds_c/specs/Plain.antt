@@ -94,6 +94,10 @@ plain_of p sent = record {
   columns = columns_number p.columns;
 }
 
+-- The value of a client that reads, whatever stands in what it doesn't use.
+abbrev pub while_reading : TdsClient → TdsClient
+while_reading c = record c { sent = 0; packets = 0; kind = 0; fault = 0; token_fault = 0 }
+
 -- ---- And back
 
 unfoldable pub mark_from : ℕ → Option (Option Reset)

@@ -1,7 +1,7 @@
 //! A client as a value of C.
 
 ghost use Rattle.std.specs.Prelude.{◌≡◌, ◌≤◌, Some, None, IfSome, IfNone, if◌then◌else◌, length, true};
-ghost use Rattle.tds_c.specs.Plain.{client_of, have_room, parts_from, plain_of, stage_from_number};
+ghost use Rattle.tds_c.specs.Plain.{client_of, have_room, parts_from, plain_of, while_reading, stage_from_number};
 ghost use Rattle.tds_c.specs.Streams.{waits};
 ghost use Rattle.tds_client.specs.Filling.{room_of};
 ghost use Rattle.tds_client.specs.Parts.{AreParts, parts_of, session_from};
@@ -127,6 +127,37 @@ impl TdsClient {
             return None;
         }
         Some(parts)
+    }
+
+    /// Whether it is a client that reads an answer.
+    #[inline(always)]
+    pub(crate) fn is_reading(&self) -> bool
+        ensures stage { result ≡ true → self.now.stage ≡ 2 }
+        ensures least { result ≡ true → 512 ≤ self.now.size }
+        ensures most { result ≡ true → self.now.size ≤ 32767 }
+        ensures mark { result ≡ true → self.now.mark ≤ 2 }
+        ensures done { result ≡ true → self.now.done ≤ 2 }
+        ensures columns { result ≡ true → self.now.columns ≤ 16 }
+    {
+        if self.stage != 2 || self.size < 512 || self.size > 32_767 {
+            return false;
+        }
+        if self.mark > 2 || self.done > 2 || self.columns > 16 {
+            return false;
+        }
+        true
+    }
+
+    /// It reads on: what reading doesn't use is 0, as it is in each value that is written.
+    #[inline(always)]
+    pub(crate) fn read_on(&mut self)
+        ensures { self.new ≡ while_reading self.old }
+    {
+        self.sent = 0;
+        self.packets = 0;
+        self.kind = 0;
+        self.fault = 0;
+        self.token_fault = 0;
     }
 
     #[inline(always)]

@@ -1,5 +1,5 @@
 -- How an application's bytes are read: what one call does with a piece.
-use Rattle.std.specs.Prelude.{◌≤◌, ℕ, ◌+◌, ◌-◌, ◌*◌, ◌==◌, ◌&&◌, ◌||◌, not, nat_lt, min, List, [], ◌∷◌, length, Option, Some, None, Result, Ok, Err, if◌then◌else◌}
+use Rattle.std.specs.Prelude.{◌≡◌, ◌≤◌, ℕ, ◌+◌, ◌-◌, ◌*◌, ◌==◌, ◌&&◌, ◌||◌, not, nat_lt, min, Bool, true, List, [], ◌∷◌, length, Option, Some, None, Result, Ok, Err, if◌then◌else◌}
 use Rattle.tds_packet.specs.declared.kind.Kind.{Kind}
 use Rattle.tds_packet.specs.declared.kind.Kind.TheVariants as kinds
 use Rattle.tds_packet.specs.declared.kind.Direction.TheVariants.{ToServer}
@@ -207,3 +207,27 @@ fed_unless (stages.Broken fault) f byte there = record { front = f; brings = Err
 unfoldable pub fed : Front → List ℕ → Step
 fed f [] = says f 0 said.Nothing
 fed f (byte ∷ bytes) = fed_unless f.stage f byte (length (byte ∷ bytes))
+
+-- ---- That each call takes some
+
+-- a byte of it is due at least
+abbrev pub is_due_some : Due → Bool
+is_due_some due.Type = true
+is_due_some (due.Status kind) = true
+is_due_some (due.HighLength kind status) = true
+is_due_some (due.LowLength kind status high) = true
+is_due_some (due.Rest head left) = true
+is_due_some (due.Data left) = not (left == 0)
+
+abbrev pub is_part_some : Part → Bool
+is_part_some Low = true
+is_part_some (High low) = true
+is_part_some (Third count) = true
+is_part_some (Fourth count) = true
+is_part_some (Headers left) = not (left == 0)
+is_part_some Body = true
+is_part_some Dropped = true
+
+-- Of bytes, where there are any, one is taken at least.
+abbrev pub TakesSome : Front → Type 0
+TakesSome f = (is_due_some f.due && is_part_some f.part) ≡ true

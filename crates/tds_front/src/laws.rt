@@ -1,6 +1,6 @@
 //! What an application's end promises whoever connects, over any list of packets and of what is heard
 //! of the server. Each function does nothing when it runs: its contract is the law.
-ghost use Rattle.std.specs.Prelude.{◌≡◌, ◌≤◌, ◌+◌, ℕ, List, None, true, false, Ok, Err};
+ghost use Rattle.std.specs.Prelude.{◌≡◌, ◌≤◌, ◌+◌, ◌∷◌, [], ℕ, IfOk, List, None, true, false, Ok, Err};
 ghost use Rattle.tds_packet.specs.Layout.{bits_of, has_bit};
 ghost use Rattle.tds_front.specs.declared.fault.FrontFault.{FrontFault};
 ghost use Rattle.tds_front.specs.declared.stage.Head.{Head};
@@ -10,7 +10,8 @@ ghost use Rattle.tds_front.specs.declared.stage.Deed.TheVariants as deeds;
 ghost use Rattle.tds_front.specs.Promises.{Event, count, handed_in, here_in, is_gone, is_passed, is_whole};
 ghost use Rattle.tds_front.specs.Promises.{settled_in, taken_in};
 ghost use Rattle.tds_front.specs.declared.front.Front.{Front};
-ghost use Rattle.tds_front.specs.Bytes.{fed};
+ghost use Rattle.tds_front.specs.declared.front.Fed.{Fed};
+ghost use Rattle.tds_front.specs.Bytes.{TakesSome, fed, new_front};
 ghost use Rattle.tds_front.specs.Passing as passing;
 ghost use Rattle.tds_front.specs.Passing.{EndsWhere, EndsWhole, SaysOf, behind, judged, stage_fed, towards};
 ghost use Rattle.tds_front.specs.Rules.{taken};
@@ -35,6 +36,15 @@ pub fn bytes_are_packets()
         → SaysOf front.stage (judged front.due bytes) (fed front bytes).brings }
     ensures ends { (front : Front) (bytes : List ℕ)
         → EndsWhere (fed front bytes).front.stage (fed front bytes).brings }
+{}
+
+/// Each call with bytes takes one at least, from the first one on.
+pub fn takes_some()
+    ensures first { (most : ℕ) → TakesSome (new_front most) }
+    ensures each { (front : Front) (byte : ℕ) (bytes : List ℕ) → TakesSome front
+        → TakesSome (fed front (byte ∷ bytes)).front × IfOk (fed front (byte ∷ bytes)).brings
+        (λ (taken : Fed). 1 ≤ taken.count) }
+    ensures none { (front : Front) → TakesSome front → TakesSome (fed front []).front }
 {}
 
 /// What is lawful is exchanges, one behind the other, of which the last may go on: up to a fault, and no

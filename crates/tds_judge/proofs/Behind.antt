@@ -11,7 +11,7 @@ use Rattle.tds_wire.specs.declared.told.ChangeValue.{ChangeValue}
 use Rattle.tds_wire.specs.declared.told.ChangeValue.TheVariants as changes
 use Rattle.tds_wire.specs.declared.told.Told.{Told}
 use Rattle.tds_wire.specs.declared.told.Told.TheVariants as told
-use Rattle.tds_judge.specs.Breaches.{agreed_last, asked_last, gone_last, has_begun, has_worked, idle_since, is_asking, is_bulk, is_dated, is_entering, is_lent, is_other_shown, is_over, is_plain_answer, is_unheard, size_told}
+use Rattle.tds_judge.specs.Breaches.{agreed_last, asked_last, gone_last, has_begun, has_worked, idle_since, is_asking, is_awaited_answer, is_bulk, is_dated, is_entering, is_lent, is_other_shown, is_over, is_unheard, size_told}
 use Rattle.tds_judge.specs.History.{Said, asks_of, further, has_asked_since, has_ended, is_acknowledged, is_cleared, is_out, is_twice, is_underway, last_told, left_underway, talk_behind, course_of}
 use Rattle.tds_judge.specs.Talking.{begun_as, descriptor_of, has_begun as begun_at, has_ended as ended_at, keeps, kind_heard, owed, talk_by}
 
@@ -138,7 +138,7 @@ ends false cut t time =
 said_next : (past : List Said) (spot : Spot) (event : Event) → talk_by (talk_as past) spot.time event ≡ behind_of past spot event
 unfolding talk_by asked_last course_of is_out is_twice is_dated is_other_shown asks_of is_cleared last_told has_begun is_unheard gone_last is_over is_acknowledged is_lent idle_since agreed_last size_told is_entering has_worked is_asking is_bulk
 said_next past spot (events.Says token) = by_token past spot token.kind token.start token.length token.told
-said_next past spot (events.Answered whole) = ends (is_acknowledged past) (is_plain_answer past && (not whole && not (is_dated past))) (talk_as past) spot.time
+said_next past spot (events.Answered whole) = ends (is_acknowledged past) (is_awaited_answer past && (not whole && not (is_dated past))) (talk_as past) spot.time
 said_next past spot _ = refl
 
 pub talk_is : (past : List Said) → talk_behind past ≡ talk_as past

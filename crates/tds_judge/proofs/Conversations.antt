@@ -20,10 +20,10 @@ before : IsLawful (said_in (
     events.Request 1 false ∷ events.Answered true ∷ done 0x20 ∷ events.Answer ∷ events.Answered true ∷ done 0 ∷ events.Answer
     ∷ events.Attention 8 1 ∷ events.Names 0 ∷ events.Request 1 false ∷ []))
 unfolding IsLawful place_of last_told
-before = ((((((((((tt, (refl, refl)), tt), (tt, refl, refl)), tt), (tt, refl)), tt), tt), (tt, refl)), tt), (refl, refl))
+before = ((((((((((tt, (refl, refl)), tt), (tt, refl, refl)), tt), (refl, refl)), tt), tt), (refl, refl)), tt), (refl, refl))
 
 behind : IsLawful (said_in (
     events.Request 1 false ∷ events.Answered true ∷ done 0x20 ∷ events.Answer ∷ events.Attention 8 1 ∷ events.Answered true ∷ done 0 ∷ events.Answer
     ∷ events.Names 0 ∷ events.Request 1 false ∷ []))
 unfolding IsLawful place_of last_told
-behind = ((((((((((tt, (refl, refl)), tt), tt), (refl, refl)), tt), (tt, refl, refl)), tt), (tt, refl)), tt), (refl, refl))
+behind = ((((((((((tt, (refl, refl)), tt), tt), (refl, refl)), tt), (tt, refl, refl)), tt), (refl, refl)), tt), (refl, refl))

@@ -1,7 +1,7 @@
 -- A lawful conversation has no breach.
 use Rattle.std.specs.Prelude.{if◌then◌else◌}
 use Rattle.std.proofs.Common.{◌≡◌, ◌∙◌, ◌==◌, ◌&&◌, ◌||◌, not, nat_lt, Bool, true, false, ℕ, List, [], ◌∷◌, ◌++◌, refl, sym, ap}
-use Rattle.std.proofs.Math.Bool.{and-false, and-true}
+use Rattle.std.proofs.Math.Bool.{and-false, and-true, or-false}
 use Rattle.tds_judge.specs.declared.finding.Spot.{Spot}
 use Rattle.tds_judge.specs.declared.talk.Asked.{Asked}
 use Rattle.tds_judge.specs.declared.talk.Asked.TheVariants as asks
@@ -21,7 +21,7 @@ use Rattle.tds_wire.specs.declared.told.Token.{Token}
 use Rattle.tds_judge.specs.Breaches.{asked_last, final_by_token, gone_last, is_bulk, is_dated, is_entering, is_over, is_unheard, size_told}
 use Rattle.tds_judge.specs.Conversation.{IsLawful, MayAnswer, MayAsk, MayAt, MayEnd, MayGreet, MayHead, MayLend, MayName, MaySay, MayStay, MayStop, Names, Place, Quiet, Greeting, Entering, Asking, Answering, Stopping, Skipping, begun_at, ended_at, forgotten_at, heard_at, left_by, left_by_change, place_by, place_of, stopped_at}
 use Rattle.tds_judge.specs.History.{Said, cleared_by_change, cleared_by_token, asks_of, has_asked_since, has_ended, is_acknowledged, is_another, is_cleared, is_out, is_twice, is_underway, last_told, left_underway, course_of}
-use Rattle.tds_judge.specs.Talking.{acknowledges, admits, changes_wrongly, ignores_early, is_asked, is_both, is_full, is_known, is_request, reset_of}
+use Rattle.tds_judge.specs.Talking.{acknowledges, admits, changes_wrongly, ignores_early, is_asked, is_both, is_full, is_known, is_request, reset_of, says_more}
 use Rattle.tds_judge.specs.Told.{breaks_rules, is_breach, is_broken, is_judged}
 
 -- ---- What stands behind a lawful history
@@ -121,7 +121,8 @@ says_there (Answering reset final) past spot token so may = (
   left_token token.told (is_asked (asks_of past)) (is_cleared past) reset so.3,
   stays_in (admits token.kind) (is_entering past) so.4,
 )
-says_there (Skipping done) past spot token so may =
+says_there (Skipping true) past spot token so may = absurd may
+says_there (Skipping false) past spot token so may =
     (so.0, so.1, ap (λ (b : Bool). b || acknowledges token) so.2, stays_in (admits token.kind) (is_entering past) so.3)
 says_there _ past spot token so may = absurd may
 
@@ -246,6 +247,23 @@ no_saying (Skipping done) past token so may =
     ∙ (ap (λ (b : Bool). acknowledges token && b) (and-false (is_request (asked_last past))) ∙ and-false (acknowledges token))
 no_saying _ past token so may = absurd may
 
+-- nothing is said behind an acknowledgement
+abbrev goes_on_behind : List Said → Token → Bool
+goes_on_behind past token = is_request (asked_last past) && ((is_over past && is_acknowledged past) || (acknowledges token && says_more token))
+
+none_behind : (place : Place) (past : List Said) (token : Token) → Stands place past → MaySay place token → goes_on_behind past token ≡ false
+none_behind (Greeting enters) past token so may =
+    ap (λ (a : Asked). is_request a && ((is_over past && is_acknowledged past) || (acknowledges token && says_more token))) so.1
+none_behind (Answering reset final) past token so may =
+    ap (λ (b : Bool). is_request (asked_last past) && ((is_over past && b) || (acknowledges token && says_more token))) so.1
+    ∙ (ap (λ (b : Bool). is_request (asked_last past) && (b || (acknowledges token && says_more token))) (and-false (is_over past))
+    ∙ (ap (λ (b : Bool). is_request (asked_last past) && (b && says_more token)) may ∙ and-false (is_request (asked_last past))))
+none_behind (Skipping false) past token so may =
+    ap (λ (b : Bool). is_request (asked_last past) && ((is_over past && b) || (acknowledges token && says_more token))) so.2
+    ∙ (ap (λ (b : Bool). is_request (asked_last past) && (b || (acknowledges token && says_more token))) (and-false (is_over past))
+    ∙ (ap (λ (b : Bool). is_request (asked_last past) && b) may ∙ and-false (is_request (asked_last past))))
+none_behind _ past token so may = absurd may
+
 -- of an answer that isn't plain
 abbrev plain_by : Asked → Bool → Bool → Bool
 plain_by asked out acknowledged = is_request asked && (not out && not acknowledged)
@@ -302,6 +320,19 @@ no_answer Stopping past so may =
     ∙ ap (λ (b : Bool). b || false) (and-false (is_known (asked_last past))))
 no_answer _ past so may = absurd may
 
+none_awaited : (past : List Said) → is_out past ≡ false → is_underway past ≡ false → is_twice past ≡ false → breaks_rules past events.Answer ≡ is_known (asked_last past)
+none_awaited past out underway once =
+    ap (λ (b : Bool). (is_known (asked_last past) && (not b && (not (is_out past) && not (is_twice past)))) || false) underway
+    ∙ (ap (λ (b : Bool). (is_known (asked_last past) && (not b && not (is_twice past))) || false) out
+    ∙ (ap (λ (b : Bool). (is_known (asked_last past) && not b) || false) once
+    ∙ (or-false (is_known (asked_last past) && true) ∙ and-true (is_known (asked_last past)))))
+
+-- one that comes where nothing is awaited is a breach, wherever something was sent
+unawaited : (place : Place) (past : List Said) → Stands place past → is_twice past ≡ false → MayLend place → breaks_rules past events.Answer ≡ is_known (asked_last past)
+unawaited Quiet past so once may = none_awaited past so.0 so.1 once
+unawaited Entering past so once may = none_awaited past so.0 so.1 once
+unawaited _ past so once may = absurd may
+
 no_loan : (place : Place) (past : List Said) → Stands place past → MayLend place → breaks_rules past events.Borrowed ≡ false
 no_loan Quiet past so may =
     ap (λ (b : Bool). (b || (is_underway past && is_request (asked_last past))) || false) so.0
@@ -334,12 +365,17 @@ no_breach place past (events.Headers fault) so may = ap (λ (b : Bool). b || fal
 no_breach place past events.Ignored so may = refl
 no_breach place past events.Answer so may = no_answer place past so may
 no_breach place past (events.Says token) so may =
-    ap (λ (b : Bool). b || (changes_wrongly (last_told past) token || false)) (no_saying place past token so may.0) ∙ ap (λ (b : Bool). b || false) may.1
+    ap (λ (b : Bool). b || (changes_wrongly (last_told past) token || (goes_on_behind past token || false))) (no_saying place past token so may.0)
+    ∙ (ap (λ (b : Bool). b || (goes_on_behind past token || false)) may.1 ∙ ap (λ (b : Bool). b || false) (none_behind place past token so may.0))
 no_breach place past (events.Answered whole) so may = no_ending place past whole so may
 no_breach place past events.TakenUp so may = refl
 no_breach place past (events.Stops ending value) so may = no_stay past ending value may
 no_breach place past events.Borrowed so may = no_loan place past so may
 no_breach place past events.Closed so may = refl
+
+pub unasked_told : (past : List Said) → IsLawful past → MayLend (place_of past) → is_breach past events.Answer ≡ is_judged past && is_known (asked_last past)
+unasked_told past lawful may =
+    let (so, once) = lawful_stands past lawful in ap (λ (b : Bool). is_judged past && b) (unawaited (place_of past) past so once may)
 
 both_false : (p q : Bool) → p ≡ false → q ≡ false → p || q ≡ false
 both_false p q first second = ap (λ (b : Bool). b || q) first ∙ second

@@ -1,5 +1,6 @@
 -- A token that says nothing, before the final DONE, changes nothing.
 use Rattle.std.proofs.Common.{◌≡◌, ◌∙◌, ◌&&◌, ◌||◌, not, Bool, true, false, ℕ, List, refl, sym, ap, subst}
+use Rattle.std.proofs.Math.Bool.{and-false}
 use Rattle.std.specs.Prelude.{if◌then◌else◌}
 use Rattle.tds_judge.specs.declared.finding.Finding.{Finding}
 use Rattle.tds_judge.specs.declared.finding.Name.TheVariants as names
@@ -36,9 +37,10 @@ other_mute spot kind start length j xs final outside idle =
     ∙ ap (run_of (record j { talk = kind_heard j.talk kind }))
     (either_way j.talk.other xs
     (noted (noted xs spot (j.talk.is_final && (is_request j.talk.asked && (not j.talk.attention && true))) names.TokenAfterFinalDone kind)
-    spot ((j.talk.is_final && j.talk.acknowledges) || false) names.AcknowledgementNotLast kind)
-    (ap (λ (b : Bool). noted (noted xs spot (b && (is_request j.talk.asked && (not j.talk.attention && true))) names.TokenAfterFinalDone kind)
-    spot ((b && j.talk.acknowledges) || false) names.AcknowledgementNotLast kind) (sym final)))
+    spot (is_request j.talk.asked && ((j.talk.is_final && j.talk.acknowledges) || false)) names.AcknowledgementNotLast kind)
+    (sym (ap (λ (b : Bool). noted xs spot b names.AcknowledgementNotLast kind) (and-false (is_request j.talk.asked)))
+    ∙ ap (λ (b : Bool). noted (noted xs spot (b && (is_request j.talk.asked && (not j.talk.attention && true))) names.TokenAfterFinalDone kind)
+    spot (is_request j.talk.asked && ((b && j.talk.acknowledges) || false)) names.AcknowledgementNotLast kind) (sym final)))
 
 pub mute : (spot : Spot) (token : Token) (j : Judge) (xs : List Finding) → token.told ≡ told.Other → j.talk.is_final ≡ false
     → admits token.kind ≡ false → shows_work token.kind ≡ false

@@ -13,7 +13,7 @@ use Rattle.tds_judge.specs.declared.talk.Talk.{Talk}
 use Rattle.tds_judge.specs.Findings.{noted, number_of}
 use Rattle.tds_judge.specs.Headers.{header_fault_number}
 use Rattle.tds_judge.specs.History.{Said, is_found, talk_behind}
-use Rattle.tds_judge.specs.Talking.{changes_wrongly, descriptor_of, ended_descriptor, ignores_early, is_asked, is_both, is_full, is_plain, is_request, is_short, is_unclear, reset_of}
+use Rattle.tds_judge.specs.Talking.{changes_wrongly, descriptor_of, ended_descriptor, ignores_early, is_asked, is_awaited, is_both, is_full, is_plain, is_request, is_short, is_unclear, reset_of}
 use Rattle.tds_judge.specs.Noting.{ends_by_compute, ends_by_direction, ends_by_length, ends_by_protocol, ends_by_tls, ends_by_token, ends_by_version, is_behind, is_idle_long, ends_in_vain, goes_on_acknowledged, resets_late, resets_unasked, is_unasked, is_unawaited, names_wrongly, told_by, told_here}
 use Rattle.tds_judge.specs.Told.{has_breach, is_breach_number, is_judged}
 use Rattle.tds_judge.proofs.Behind.{talk_as, talk_is}
@@ -106,7 +106,7 @@ notes_of limits t spot (events.Says token) =
     ∷ []
 notes_of limits t spot (events.Answered whole) =
     note (is_plain t && (not whole && t.dated)) names.CutToken 0
-    ∷ note (is_plain t && (not whole && not t.dated)) names.OtherVersion 0
+    ∷ note (is_awaited t && (not whole && not t.dated)) names.OtherVersion 0
     ∷ note (is_plain t && (whole && not t.is_final)) names.NoFinalDone 0
     ∷ note (is_plain t && (t.is_final && ((is_asked t.reset && not t.reset_done) && not t.bulk))) names.ResetUnanswered 0
     ∷ note (t.attention && (not t.acknowledges && (t.late && t.ended_since))) names.AttentionIgnored 0

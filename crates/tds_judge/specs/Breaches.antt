@@ -11,7 +11,7 @@ use Rattle.tds_wire.specs.declared.told.ChangeValue.TheVariants as changes
 use Rattle.tds_wire.specs.declared.told.Told.{Told}
 use Rattle.tds_wire.specs.declared.told.Told.TheVariants as told
 use Rattle.tds_judge.specs.History.{Said, is_acknowledged, is_out, is_twice, is_underway, last_told, owed_of}
-use Rattle.tds_judge.specs.Talking.{admits, descriptor_of, is_asked, is_long, is_request, keeps, reset_of, shows_work}
+use Rattle.tds_judge.specs.Talking.{admits, descriptor_of, is_asked, is_known, is_long, is_request, keeps, reset_of, shows_work}
 
 -- ---- The answer that comes, and its request
 
@@ -88,6 +88,10 @@ is_lent (x ∷ past) = lent_by x.event (is_lent past)
 abbrev pub is_plain_answer : List Said → Bool
 is_plain_answer past = is_request (asked_last past) && (not (is_out past) && not (is_acknowledged past))
 
+-- the answer to a request or to a message of a login, where none was cancelled
+abbrev pub is_awaited_answer : List Said → Bool
+is_awaited_answer past = is_known (asked_last past) && (not (is_out past) && not (is_acknowledged past))
+
 -- a login has begun, and nothing has let the client in (2.2.7.14); a request before that is told once
 abbrev pub entering_by : Event → Bool → Bool
 entering_by events.Login before = true
@@ -151,19 +155,20 @@ unfoldable pub is_dated : List Said → Bool
 is_dated [] = false
 is_dated (x ∷ past) = dated_by x.event (is_dated past)
 
--- An earlier one, before that: a DONE isn't one of 13 bytes, or the answer to a request ends inside a token.
+-- An earlier one, before that: a DONE isn't one of 13 bytes, or an answer that wasn't cancelled ends inside a token. So it is with the DONE of
+-- the login's answer, behind a LOGINACK of an earlier version.
 abbrev pub other_by_token : Told → Bool → Bool → Bool
 other_by_token (told.Done done) dated before = before || (not dated && not (is_long done))
 other_by_token _ dated before = before
 
-abbrev pub other_by : Event → (dated plain acknowledged before : Bool) → Bool
-other_by (events.Says token) dated plain acknowledged before = other_by_token token.told dated before
-other_by (events.Answered whole) dated plain acknowledged before = if acknowledged then before else before || (plain && (not whole && not dated))
-other_by _ dated plain acknowledged before = before
+abbrev pub other_by : Event → (dated awaited acknowledged before : Bool) → Bool
+other_by (events.Says token) dated awaited acknowledged before = other_by_token token.told dated before
+other_by (events.Answered whole) dated awaited acknowledged before = if acknowledged then before else before || (awaited && (not whole && not dated))
+other_by _ dated awaited acknowledged before = before
 
 unfoldable pub is_other_shown : List Said → Bool
 is_other_shown [] = false
-is_other_shown (x ∷ past) = other_by x.event (is_dated past) (is_plain_answer past) (is_acknowledged past) (is_other_shown past)
+is_other_shown (x ∷ past) = other_by x.event (is_dated past) (is_awaited_answer past) (is_acknowledged past) (is_other_shown past)
 
 -- ---- Transactions (2.2.7.9)
 

@@ -18,7 +18,7 @@ use Rattle.tds_wire.specs.declared.told.Token.{Token}
 use Rattle.tds_judge.specs.Breaches.{final_by_token, is_dated, size_told}
 use Rattle.tds_judge.specs.Framing.{Run, closed, event_said, steps}
 use Rattle.tds_judge.specs.History.{Said, last_told}
-use Rattle.tds_judge.specs.Talking.{acknowledges, admits, changes_wrongly, ignores_early, is_both, is_full, reset_of}
+use Rattle.tds_judge.specs.Talking.{acknowledges, admits, changes_wrongly, ignores_early, is_both, is_full, reset_of, says_more}
 
 -- Where a conversation is.
 pub data Place : Type 0 where
@@ -126,11 +126,13 @@ MayAnswer (Asking reset) = Unit {0}
 MayAnswer Stopping = Unit {0}
 MayAnswer _ = ⊥
 
--- The answer to a request acknowledges no attention (2.2.7.6). None begins a transaction inside another one, or ends another one (2.2.7.9).
+-- The answer to a request acknowledges no attention. Behind an acknowledgement nothing comes in its message (2.2.7.6). None begins a transaction
+-- inside another one, or ends another one (2.2.7.9).
 abbrev pub MaySay : Place → Token → Type 0
 MaySay (Greeting enters) token = Unit {0}
 MaySay (Answering reset final) token = acknowledges token ≡ false
-MaySay (Skipping acknowledged) token = Unit {0}
+MaySay (Skipping true) token = ⊥
+MaySay (Skipping false) token = acknowledges token && says_more token ≡ false
 MaySay _ token = ⊥
 
 -- It ends between two tokens, behind a final DONE and the end of the reset that was asked for. What an attention stops ends anywhere.

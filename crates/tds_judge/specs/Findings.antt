@@ -55,7 +55,7 @@ number_of names.AnswerBeforeEnd = 44
 number_of names.ResetOnBulkLoad = 45
 
 abbrev pub is_risk : ℕ → Bool
-is_risk n = (n == 6) || (n == 10) || (n == 11) || (n == 12) || (n == 17) || (n == 18) || (n == 26) || (n == 36) || (n == 39) || (n == 41) || (n == 43) || (n == 44) || (n == 45)
+is_risk n = (n == 6) || (n == 10) || (n == 11) || (n == 12) || (n == 17) || (n == 18) || (n == 26) || (n == 36) || (n == 41) || (n == 43) || (n == 44) || (n == 45)
 
 abbrev pub is_note : ℕ → Bool
 is_note n = (n == 16) || (n == 27) || (n == 28) || (n == 29) || (n == 30) || (n == 31) || (n == 34)

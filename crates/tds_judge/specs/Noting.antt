@@ -13,7 +13,7 @@ use Rattle.tds_judge.specs.declared.headers.HeaderFault.{HeaderFault}
 use Rattle.tds_wire.specs.declared.told.Token.{Token}
 use Rattle.tds_judge.specs.Findings.{noted}
 use Rattle.tds_judge.specs.Headers.{header_fault_number}
-use Rattle.tds_judge.specs.Talking.{acknowledges, changes_wrongly, descriptor_of, ended_descriptor, ends_none, says_more, ignores_early, is_asked, is_both, is_full, is_known, is_plain, is_request, is_short, is_told, is_unclear, owed, reset_of, tells_reset}
+use Rattle.tds_judge.specs.Talking.{acknowledges, changes_wrongly, descriptor_of, ended_descriptor, ends_none, says_more, ignores_early, is_asked, is_awaited, is_both, is_full, is_known, is_plain, is_request, is_short, is_told, is_unclear, owed, reset_of, tells_reset}
 
 -- in a transaction, with nothing asked for since longer than the limit
 abbrev pub is_idle_long : Limits → Talk → ℕ → Bool
@@ -83,7 +83,7 @@ abbrev pub ends_in_vain : Talk → Token → Bool
 ends_in_vain t token = ends_none t.transaction token && not t.reset_done
 
 abbrev pub goes_on_acknowledged : Talk → Token → Bool
-goes_on_acknowledged t token = (t.is_final && t.acknowledges) || (acknowledges token && says_more token)
+goes_on_acknowledged t token = is_request t.asked && ((t.is_final && t.acknowledges) || (acknowledges token && says_more token))
 
 -- of what changes
 abbrev pub change_noted : List Finding → Talk → Spot → Token → List Finding
@@ -117,6 +117,10 @@ is_unawaited t = is_known t.asked && (not t.underway && (not t.attention && not 
 abbrev pub begin_noted : List Finding → Talk → Spot → List Finding
 begin_noted xs t spot = noted (noted xs spot (is_unawaited t) names.AnswerUnasked 0) spot t.asking names.AnswerBeforeEnd 0
 
+-- an answer ends inside a token, where TDS 7.2 or later wasn't shown
+abbrev pub is_of_another_version : Talk → Bool → Bool
+is_of_another_version t whole = is_awaited t && (not whole && not t.dated)
+
 abbrev pub answer_noted : List Finding → Talk → Spot → Bool → List Finding
 answer_noted xs t spot whole =
     noted
@@ -124,7 +128,7 @@ answer_noted xs t spot whole =
     (noted
     (noted
     (noted xs spot (is_plain t && (not whole && t.dated)) names.CutToken 0)
-    spot (is_plain t && (not whole && not t.dated)) names.OtherVersion 0)
+    spot (is_of_another_version t whole) names.OtherVersion 0)
     spot (is_plain t && (whole && not t.is_final)) names.NoFinalDone 0)
     spot (is_plain t && (t.is_final && ((is_asked t.reset && not t.reset_done) && not t.bulk))) names.ResetUnanswered 0)
     spot (t.attention && (not t.acknowledges && (t.late && t.ended_since))) names.AttentionIgnored 0

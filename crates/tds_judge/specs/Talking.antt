@@ -312,6 +312,10 @@ token_heard t time token = told_heard (kind_heard t token.kind) time token.kind 
 abbrev pub is_plain : Talk → Bool
 is_plain t = is_request t.asked && (not t.attention && not t.acknowledges)
 
+-- an answer to a request or a login, where none was cancelled
+abbrev pub is_awaited : Talk → Bool
+is_awaited t = is_known t.asked && (not t.attention && not t.acknowledges)
+
 -- An acknowledgement leaves underway what was asked since the attention; the second of two what is asked.
 abbrev pub ends_answer : Talk → ℕ → Bool → Talk
 ends_answer t time whole =
@@ -325,7 +329,7 @@ ends_answer t time whole =
       since = time;
       most = t.agreed;
     }
-    else record t { underway = false; late = t.late && not t.ended_since; ended_since = true; since = time; most = t.agreed; other = t.other || (is_plain t && (not whole && not t.dated)) }
+    else record t { underway = false; late = t.late && not t.ended_since; ended_since = true; since = time; most = t.agreed; other = t.other || (is_awaited t && (not whole && not t.dated)) }
 
 -- ---- What is said
 

@@ -7,7 +7,7 @@ use Rattle.tds_judge.specs.declared.talk.Event.{Event}
 use Rattle.tds_judge.specs.declared.talk.Event.TheVariants as events
 use Rattle.tds_judge.specs.declared.talk.Limits.{Limits}
 use Rattle.tds_wire.specs.declared.told.Token.{Token}
-use Rattle.tds_judge.specs.Breaches.{asked_last, gone_last, idle_since, has_worked, is_asking, is_bulk, is_dated, is_entering, is_lent, is_other_shown, is_over, is_plain_answer, is_unheard, size_told}
+use Rattle.tds_judge.specs.Breaches.{asked_last, gone_last, idle_since, has_worked, is_asking, is_awaited_answer, is_bulk, is_dated, is_entering, is_lent, is_other_shown, is_over, is_plain_answer, is_unheard, size_told}
 use Rattle.tds_judge.specs.Framing.{Run}
 use Rattle.tds_judge.specs.Findings.{is_note, is_risk, number_of}
 use Rattle.tds_judge.specs.History.{Said, Tells, asks_of, has_asked_since, has_ended, is_acknowledged, is_another, is_attention_unanswered, is_both_resets, is_cleared, is_found, is_out, is_request_while_answering, is_second_attention, is_twice, is_underway, is_wrong_descriptor, last_told, of_names, of_request, owed_of, talk_behind}
@@ -176,9 +176,10 @@ abbrev pub is_behind_end : List Said → Event → Bool
 is_behind_end past event =
     of_token event (λ token. is_over past && (is_request (asked_last past) && (not (is_out past) && not (acknowledges token))))
 
--- a token behind an acknowledgement in its message, or an acknowledgement that says that more come (2.2.7.6)
+-- a token behind an acknowledgement in its message, or an acknowledgement that says that more come (2.2.7.6), of the answer to a request
 abbrev pub is_not_last : List Said → Event → Bool
-is_not_last past event = of_token event (λ token. (is_over past && is_acknowledged past) || (acknowledges token && says_more token))
+is_not_last past event =
+    of_token event (λ token. is_request (asked_last past) && ((is_over past && is_acknowledged past) || (acknowledges token && says_more token)))
 
 abbrev pub is_unclear_change : Event → Bool
 is_unclear_change event = of_token event is_unclear
@@ -208,12 +209,12 @@ is_wrong_token past event = of_ending event (λ ending. ends_by_token ending (is
 
 -- ---- What isn't judged
 
--- A version before 7.2, or 8.0: LOGIN7's; or, where none of 7.2 to 7.4 was shown, a DONE isn't one of 13 bytes, the answer to a request ends inside
--- a token, or bytes of an answer are no token.
+-- A version before 7.2, or 8.0: LOGIN7's; or, where none of 7.2 to 7.4 was shown, a DONE isn't one of 13 bytes, an answer that wasn't cancelled
+-- ends inside a token, or bytes of an answer are no token.
 abbrev pub is_other_version : List Said → Event → Bool
 is_other_version past event =
     of_token event (λ token. is_short token && not (is_dated past))
-    || (of_answer event (λ whole. is_plain_answer past && (not whole && not (is_dated past)))
+    || (of_answer event (λ whole. is_awaited_answer past && (not whole && not (is_dated past)))
     || of_ending event (λ ending. ends_by_version ending (is_dated past)))
 
 abbrev pub is_compute : Event → Bool
@@ -256,7 +257,8 @@ breaks_rules past event =
     || (is_cut_token past event || (is_without_end past event || (is_reset_unanswered past event || (is_attention_ignored past event
     || (is_late_reset event || (is_wrong_token past event || (is_wrong_size past event
     || (is_wrong_length event || (is_wrong_direction event || (is_ignore_unended event || (is_before_login past event || (is_wrong_headers past event
-    || (is_answer_unasked past event || (is_wrong_change past event || (is_lent_early past event || is_unfinished_message event)))))))))))))))))))))))
+    || (is_answer_unasked past event || (is_wrong_change past event || (is_not_last past event
+    || (is_lent_early past event || is_unfinished_message event))))))))))))))))))))))))
 
 abbrev pub is_breach : List Said → Event → Bool
 is_breach past event = is_judged past && breaks_rules past event

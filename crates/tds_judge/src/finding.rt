@@ -100,8 +100,8 @@ pub enum Name {
     IgnoreUnended,
     /// 38: a packet of a type of the other direction. With it: the type. The judging ends.
     WrongDirection,
-    /// 39: a token behind an acknowledgement in its message, or an acknowledgement that says that more come.
-    /// With it: the token's first byte.
+    /// 39: of the answer to a request, a token behind an acknowledgement in its message, or an acknowledgement
+    /// that says that more come. With it: the token's first byte.
     AcknowledgementNotLast,
     /// 40: ALL_HEADERS of a request is missing or wrong. With it: why, 1 a length, 2 no transaction, 3 two,
     /// 4 a type.
@@ -207,7 +207,7 @@ impl Name {
         ensures { result ≡ level_of (number_of self) }
     {
         match self.number() {
-            6 | 10 | 11 | 12 | 17 | 18 | 26 | 36 | 39 | 41 | 43 | 44 | 45 => Level::Risk,
+            6 | 10 | 11 | 12 | 17 | 18 | 26 | 36 | 41 | 43 | 44 | 45 => Level::Risk,
             16 | 27 | 28 | 29 | 30 | 31 | 34 => Level::Note,
             _ => Level::Breach,
         }

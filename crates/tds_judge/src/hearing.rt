@@ -196,7 +196,7 @@ impl Talk {
             self.late = false;
             self.ended_since = false;
         } else {
-            self.other = self.other || (self.is_plain() && !whole && !self.dated);
+            self.other = self.other || (self.is_awaited() && !whole && !self.dated);
             self.underway = false;
             self.late = self.late && !self.ended_since;
             self.ended_since = true;

@@ -2,12 +2,14 @@
 //! the law.
 
 ghost use Rattle.std.specs.Prelude.{◌≡◌, ◌&&◌, ◌++◌, ℕ, List, [], false};
-ghost use Rattle.tds_judge.specs.Conversation.{IsLawful, Piece, seen};
+ghost use Rattle.tds_judge.specs.Breaches.{asked_last};
+ghost use Rattle.tds_judge.specs.Conversation.{IsLawful, MayLend, Piece, place_of, seen};
 ghost use Rattle.tds_judge.specs.Framing.{IsNew, Run, run_of, steps};
 ghost use Rattle.tds_judge.specs.History.{Said, Tells, is_attention_unanswered, is_both_resets};
 ghost use Rattle.tds_judge.specs.History.{is_found, is_request_while_answering};
 ghost use Rattle.tds_judge.specs.History.{is_second_attention, is_wrong_descriptor, talk_behind};
 ghost use Rattle.tds_judge.specs.Noting.{told_by};
+ghost use Rattle.tds_judge.specs.Talking.{is_known};
 ghost use Rattle.tds_judge.specs.Told as told;
 ghost use Rattle.tds_judge.specs.Told.{Breaks, IsFoundWhere, has_breach, is_breach};
 ghost use Rattle.tds_judge.specs.Told.{is_broken, is_judged};
@@ -16,6 +18,7 @@ ghost use Rattle.tds_judge.specs.declared.finding.Finding.{Finding};
 ghost use Rattle.tds_judge.specs.declared.finding.Spot.{Spot};
 ghost use Rattle.tds_judge.specs.declared.judge.Judge.{Judge};
 ghost use Rattle.tds_judge.specs.declared.talk.Event.{Event};
+ghost use Rattle.tds_judge.specs.declared.talk.Event.TheVariants as events;
 ghost use Rattle.tds_judge.specs.declared.talk.Limits.{Limits};
 ghost use Rattle.tds_judge.specs.declared.talk.Talk.{Talk};
 
@@ -121,7 +124,7 @@ pub fn packets_are_told()
     ensures login { IsFoundWhere 42 told.is_before_login }
 {}
 
-/// Behind any history, an event gives a finding of level breach exactly where it is one of the 25
+/// Behind any history, an event gives a finding of level breach exactly where it is one of the 26
 /// breaches by what was said before: no other alarm, and no silence.
 pub fn alarms_are_exact()
     ensures { (limits : Limits) (past : List Said) (spot : Spot) (event : Event)
@@ -141,6 +144,13 @@ pub fn runs_are_exact()
 /// is lent or closed: events were said, and what is found is found at them.
 pub fn pieces_are_events()
     ensures { (pieces : List Piece) (run : Run) → Tells run (seen pieces run) }
+{}
+
+/// Behind a lawful conversation an answer that comes where nothing is awaited, so that none may come, is a
+/// breach, wherever anything was sent to the server.
+pub fn unasked_answers_are_told()
+    ensures { (past : List Said) → IsLawful past → MayLend (place_of past)
+        → is_breach past events.Answer ≡ is_judged past && is_known (asked_last past) }
 {}
 
 /// A lawful conversation is never blamed: no event of it is a breach, behind a lawful history; and

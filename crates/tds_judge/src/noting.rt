@@ -131,6 +131,14 @@ impl Talk {
         tells_reset(token) && self.owed().is_asked() && self.worked
     }
 
+    /// Something stands behind an acknowledgement, or is to.
+    fn goes_on_acknowledged(&self, token: &Token) -> bool
+        ensures { result ≡ noting.goes_on_acknowledged self.now token.now }
+    {
+        let behind = self.is_final && self.acknowledges;
+        self.asked.is_request() && (behind || (acknowledges(token) && goes_on(token)))
+    }
+
     fn note_change(&self, out: &mut Vec<Finding>, spot: Spot, token: &Token)
         requires { vec_len out.old + 5 ≤ vec_capacity out.old }
         ensures items { out.new.items
@@ -141,7 +149,7 @@ impl Talk {
         let unasked = self.is_reset_unasked(token);
         let wrong = self.transaction.is_changed_wrongly(token);
         let none = self.transaction.is_ended_in_vain(token) && !self.reset_done;
-        let more = (self.is_final && self.acknowledges) || (acknowledges(token) && goes_on(token));
+        let more = self.goes_on_acknowledged(token);
         let open = self.transaction.descriptor();
         note(out, spot, unasked, Name::ResetUnasked, 0);
         note(out, spot, wrong, Name::WrongChange, open);
@@ -186,6 +194,20 @@ impl Talk {
         self.asked.is_request() && !self.attention && !self.acknowledges
     }
 
+    /// Whether an answer is that to a request or to a login, of which none was cancelled.
+    pub fn is_awaited(&self) -> bool
+        ensures { result ≡ talking.is_awaited self.now }
+    {
+        self.asked.is_known() && !self.attention && !self.acknowledges
+    }
+
+    /// Whether the end of an answer, between two tokens or not, shows a version that isn't judged.
+    fn is_of_another_version(&self, whole: bool) -> bool
+        ensures { result ≡ noting.is_of_another_version self.now whole }
+    {
+        self.is_awaited() && !whole && !self.dated
+    }
+
     fn note_answered(&self, out: &mut Vec<Finding>, spot: Spot, whole: bool)
         requires { vec_len out.old + 5 ≤ vec_capacity out.old }
         ensures items { out.new.items
@@ -195,12 +217,13 @@ impl Talk {
     {
         let plain = self.is_plain();
         let cut = plain && !whole;
+        let old = self.is_of_another_version(whole);
         let open = plain && whole && !self.is_final;
         let due = self.reset.is_asked() && !self.reset_done && !self.bulk;
         let unreset = plain && self.is_final && due;
         let ignored = self.attention && !self.acknowledges && self.late && self.ended_since;
         note(out, spot, cut && self.dated, Name::CutToken, 0);
-        note(out, spot, cut && !self.dated, Name::OtherVersion, 0);
+        note(out, spot, old, Name::OtherVersion, 0);
         note(out, spot, open, Name::NoFinalDone, 0);
         note(out, spot, unreset, Name::ResetUnanswered, 0);
         note(out, spot, ignored, Name::AttentionIgnored, 0);

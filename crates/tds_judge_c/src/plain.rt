@@ -41,7 +41,7 @@ pub struct TdsJudgeFinding {
     pub time: u64,
     /// What goes with it, or 0.
     pub value: u64,
-    /// 1 to 39.
+    /// 1 to 45.
     pub number: u8,
     /// 0 breach, 1 risk, 2 note.
     pub level: u8,

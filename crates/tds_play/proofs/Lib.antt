@@ -19,7 +19,7 @@ pub mod Unasked
 pub mod Accounts
 pub mod Marking
 pub mod Between
-pub mod ServerEvent
+pub mod deliveries
 pub mod Played
 pub mod AllPlayed
 pub mod Held
@@ -28,15 +28,11 @@ pub mod Promised
 pub mod Cleaning
 pub mod Found
 pub mod Listening
-pub mod ClientSizes
-pub mod ClientEvent
 pub mod Requested
 pub mod AllCut
-pub mod PlayerOpens
+pub mod plays
 pub mod LossWorld
 pub mod Turns
-pub mod PlayerActs
-pub mod PlayerFinds
 pub mod Resting
 pub mod any_bytes
 pub mod pooled

@@ -24,8 +24,8 @@ use Rattle.tds_play.specs.Plays.{RepresentsConnection}
 use Rattle.tds_play.specs.Requests.{IsNewest, MatchesRecord}
 use Rattle.tds_play.specs.Ties.{with_counted}
 use Rattle.tds_play.proofs.Between.{lane_came}
-use Rattle.tds_play.proofs.ClientEvent.{Heard, bare, reach_beside, stands_drained}
-use Rattle.tds_play.proofs.ClientSizes.{listened_size}
+use Rattle.tds_play.proofs.deliveries.ClientEvent.{Heard, bare, reach_beside, stands_drained}
+use Rattle.tds_play.proofs.deliveries.ClientSizes.{listened_size}
 
 pub if_ok : {A E : Type 0} (r : Result A E) (P Q : A → Type 0) → ((a : A) → P a → Q a) → IfOk r P → IfOk r Q
 if_ok (Ok a) P Q f h = f a h

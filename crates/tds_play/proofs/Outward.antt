@@ -21,7 +21,7 @@ use Rattle.tds_play.specs.Ties.{counted, saturated, with_counted}
 use Rattle.tds_play.specs.declared.link.Link.{Link}
 use Rattle.tds_play.specs.declared.request.Record.{Record}
 use Rattle.tds_play.proofs.Between.{lane_came, lane_sent}
-use Rattle.tds_play.proofs.ServerEvent.{sent_none, count_by}
+use Rattle.tds_play.proofs.deliveries.ServerEvent.{sent_none, count_by}
 
 -- ---- Handing over
 

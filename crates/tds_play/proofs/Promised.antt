@@ -5,7 +5,7 @@ use Rattle.tds_packet.specs.Reading.{Reading}
 use Rattle.tds_packet.specs.declared.kind.Direction.TheVariants.{ToServer, ToClient}
 use Rattle.tds_session.specs.Answer.{Answers}
 use Rattle.tds_world.specs.Connection.{Connection, phase, up_underway, down_underway}
-use Rattle.tds_world.specs.Counts.{AreFew}
+use Rattle.tds_world.specs.limits.Counts.{AreFew}
 use Rattle.tds_world.specs.Deliveries.{DeliversOn}
 use Rattle.tds_world.specs.Laws.{QuietIfIdle}
 use Rattle.tds_world.specs.Newest.{ActsOnNewest, WorksOnNewest}

@@ -24,7 +24,7 @@ use Rattle.tds_play.specs.Failures.{TellFailures}
 use Rattle.tds_play.specs.Pipe.{Begun, Pipe}
 use Rattle.tds_play.specs.Stopping.{AllStop}
 use Rattle.tds_play.specs.WholePlay.{CanAllStop}
-use Rattle.tds_play.proofs.PlayerActs.{all_at}
+use Rattle.tds_play.proofs.plays.PlayerActs.{all_at}
 
 -- ---- Without a cleaning
 

@@ -39,7 +39,7 @@ cancelled_as client.Asked link =
 
 -- ---- Working
 
--- The newest request behind a step from the one session to the other, if one was done.
+-- The newest request after a step from the one session to the other, if one was done.
 abbrev pub current_behind : Worked → SessionState → SessionState → Option Record → Option Record
 current_behind server.Idle before after r = r
 current_behind server.Step before after r = option_map (stepped before after) r

@@ -31,7 +31,7 @@ end_at ToServer = Server
 end_at ToClient = Client
 
 -- A fault that an end answers, where these bytes have come to it. One of its packet reader is that of a
--- header behind whole packets (MS-TDS 2.2.3.1). Of one of its core nothing is said here.
+-- header after whole packets (MS-TDS 2.2.3.1). Of one of its core nothing is said here.
 abbrev pub FaultsBy : Reading → List ℕ → End → Layer → ℕ → Type 0
 FaultsBy r bytes end Packet number =
     (end ≡ end_at r.direction) × (fault : PacketFault) × (number ≡ fault_number fault) × HasFault r bytes fault
@@ -48,7 +48,7 @@ AnswersWith r o before after =
     (more : List ℕ) × (after ≡ before ++ more) × (length more ≡ came_in o) × HasNoFault r after
 
 -- What deliveries came to, one after the other, where these bytes had come before them, and these have come
--- behind them.
+-- after them.
 abbrev pub AnswerInTurn : Reading → List ℕ → List Outcome → List ℕ → Type 0
 AnswerInTurn r before [] came = came ≡ before
 AnswerInTurn r before (o ∷ os) came =

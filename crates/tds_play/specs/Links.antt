@@ -78,7 +78,7 @@ cut_of link = record link {
 abbrev pub recounted : {E S : Type 0} → ℕ → ℕ → Link E S → Link E S
 recounted up down link = record link { to_server = up; to_client = down }
 
--- The requests before the newest one, with it behind them.
+-- The requests before the newest one, with it after them.
 abbrev pub behind : List Record → Option Record → List Record
 behind past None = past
 behind past (Some r) = past ++ r ∷ []

@@ -82,7 +82,7 @@ pub record MaySend (is_told : Bool) (before now : Option Pipe) : Type 0 where
   pub unfailed : (d : Direction) → (traffic now d).send_failures ≡ 0
 
 -- The same, and no call of `carry` ever failed there: what each call of `carry` needs. So it comes before the
--- event's bytes are handed over, and behind a failure there is none.
+-- event's bytes are handed over, and after a failure there is none.
 pub record MayCarry (is_told : Bool) (before now : Option Pipe) : Type 0 where
   pub sends : MaySend is_told before now
   pub unfailed : (d : Direction) → (traffic now d).carry_failures ≡ 0

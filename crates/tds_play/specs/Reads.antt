@@ -92,7 +92,7 @@ IsAbout e place = Unit {0}
 abbrev pub Answers : Type 0
 Answers = ℕ → Direction → List Outcome
 
--- And behind one event more.
+-- And after one event more.
 abbrev pub answers_then : Event → Outcome → Answers → Answers
 answers_then e o answers = λ n d. answers n d ++ (if is_delivery e n d then o ∷ [] else [])
 

@@ -58,7 +58,7 @@ is_of_caller (event.Send lease) = true
 is_of_caller (event.Cancel lease) = true
 is_of_caller e = false
 
--- Where it stands behind an event of its ends: a delivery to the client may end its draining.
+-- Where it stands after an event of its ends: a delivery to the client may end its draining.
 abbrev pub placed_behind : Event → ClientSession → Place → Place
 placed_behind (event.ToClient n count) s p = drained_at (is_none (unless_idle s.stage)) p
 placed_behind e s p = p

@@ -72,7 +72,7 @@ pub trait Carrier {
 /// What a play is carried by. Each [`Carrier`] is one, and isn't told of events. One that is told
 /// gives these itself: it is told of each event before the calls that the event makes, and what
 /// these require then is what it may rely on: an event opens a connection before all else, carries
-/// before it sends, and sends once; behind a call that failed nothing is asked of its connection but
+/// before it sends, and sends once; after a call that failed nothing is asked of its connection but
 /// to send the answer to what had come, and to be cut. The calls are the same for both, since nothing
 /// at run time says which one it is.
 pub trait EventCarrier {

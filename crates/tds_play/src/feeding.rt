@@ -113,7 +113,7 @@ pub(crate) fn feed_server<E: Engine + Drop>(
         → ServerHasRead (new_reader ToServer size) reader.old bytes
         → IfOk result (ServerIsFed size reader.new (bytes ++ piece.now)) }
     // Where packets come that the server takes, it takes them in order, and the reader keeps what
-    // is behind them.
+    // is after them.
     ensures served { (packets : List Coming) (rest : List ℕ) (then : Served E)
         → Comes reader.old (reader.old.taken ++ piece.now) packets rest
         → served (answer_of (E.statements_of server.old.engine) (E.step_of server.old.engine))
@@ -150,7 +150,7 @@ pub(crate) fn feed_client(
         (client_at number (connections pool.new)).columns (bytes ++ piece.now)
         (given ++ told.new.items) heard.fault) }
     // Where packets come that the client takes, it takes them in order, and the reader keeps what
-    // is behind them.
+    // is after them.
     ensures listened { (packets : List Coming) (rest : List ℕ) (then : Listened)
         → Comes reader.old (reader.old.taken ++ piece.now) packets rest
         → listened (client_at number (connections pool.old)) None told.old.items packets

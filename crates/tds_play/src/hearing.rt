@@ -33,7 +33,7 @@ fn reads_packets()
     fronts();
 }
 
-/// What became of a request behind this answer to a packet.
+/// What became of a request after this answer to a packet.
 fn settled_by(took: Taken, before: Option<RequestStatus>) -> Option<RequestStatus>
     ensures { result ≡ settled_by took before }
 {

@@ -173,7 +173,7 @@ impl<E: Engine + Drop> Link<E> {
     }
 }
 
-/// Requests in their order and the one behind them, turned round.
+/// Requests in their order and the one after them, turned round.
 fn turned(mut past: Vec<Record>, newest: Option<Record>) -> Result<Vec<Record>, NoMemory>
     ensures { IfOk result (λ records. records.items ≡ reverse (behind past.items newest)) }
 {

@@ -49,7 +49,7 @@ impl Queue {
         }
     }
 
-    /// Puts bytes behind the others.
+    /// Puts bytes after the others.
     fn put(&mut self, bytes: &[u8]) -> Result<(), AllocError>
         ensures { OnOk result (kept_in self.new ≡ kept_with (kept_in self.old) bytes.now) }
     {

@@ -14,9 +14,9 @@ ghost use Rattle.tds_play.specs.Stopping.{AllStop};
 ghost use Rattle.tds_play.specs.declared.refusal.PlayRefusal.TheVariants.{Memory, NotCleaned};
 ghost use Rattle.tds_play.specs.declared.refusal.PlayRefusal.{PlayRefusal};
 ghost use Rattle.tds_session.specs.Answer.{answer_of, script_answers};
-ghost use Rattle.tds_world.specs.Descriptors.{UseFewDescriptors};
-ghost use Rattle.tds_world.specs.LeftClean.{AnswersClean};
-ghost use Rattle.tds_world.specs.LeftCleanShown.{ShowsLeftClean};
+ghost use Rattle.tds_world.specs.limits.Descriptors.{UseFewDescriptors};
+ghost use Rattle.tds_world.specs.left_clean.LeftClean.{AnswersClean};
+ghost use Rattle.tds_world.specs.left_clean.LeftCleanShown.{ShowsLeftClean};
 ghost use Rattle.tds_world.specs.Losses.{marked, world_with};
 ghost use Rattle.tds_world.specs.alone.Alone.{AsIfAlone, BlindToNumbers};
 ghost use Rattle.tds_world.specs.alone.AloneShown.{ShowsAsIfAlone, far_in};
@@ -157,7 +157,7 @@ pub fn play<C: EventCarrier>(
     ensures all_stop { AreFaithful (C.pipes carrier.new) → AllByRecursion IsNoCleaning events.now
         → IfOk result (λ report. AllStop setup.now script_answers
         (world_of setup.now events.now report.events) report) }
-    // With the events behind it that bring a connection to rest, the report shows it at rest.
+    // With the events after it that bring a connection to rest, the report shows it at rest.
     ensures comes_to_rest { AreFaithful (C.pipes carrier.new)
         → IfOk result (ShowsNeverStuckWith setup.now script_answers events.now) }
 {

@@ -8,5 +8,6 @@ pub mod Reader
 pub mod Rereading
 pub mod Streaming
 pub mod Taking
+pub mod Turns
 pub mod Walking
 pub mod Wires

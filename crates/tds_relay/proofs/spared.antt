@@ -7,13 +7,16 @@ pub mod Coming
 pub mod Ended
 pub mod Few
 pub mod Held
+pub mod Lasting
 pub mod Letting
 pub mod Lines
 pub mod Lined
+pub mod Losing
 pub mod Ordered
 pub mod Parks
 pub mod Resting
 pub mod Sending
+pub mod Reasons
 pub mod Shutting
 pub mod Starting
 pub mod Waits

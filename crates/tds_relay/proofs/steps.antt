@@ -8,6 +8,7 @@ pub mod Fronts
 pub mod Going
 pub mod Halting
 pub mod Handed
+pub mod Lively
 pub mod Made
 pub mod Naming
 pub mod Parked

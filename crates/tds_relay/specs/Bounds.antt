@@ -8,14 +8,14 @@ use Rattle.tds_relay.specs.declared.link.News.{News}
 abbrev pub waiting_in : Outgoing → ℕ
 waiting_in o = vec_len o.bytes - o.sent
 
--- the bytes that wait for an application, and how many may: as many as a packet has, and 8 KB
+-- the bytes that wait for an application, and how many may: as many as a packet has, and 32 KB
 abbrev pub waiting_for : Option Application → ℕ
 waiting_for None = 0
 waiting_for (Some a) = waiting_in a.out
 
 abbrev pub most_for : Option Application → ℕ
 most_for None = 0
-most_for (Some a) = a.out.size + 8192
+most_for (Some a) = a.out.size + 32768
 
 -- the length of the news of a reset, where this is told
 abbrev pub news_length : Bool → ℕ
@@ -26,4 +26,4 @@ news_length false = 0
 pub record IsRoom (goes : News) (o : Outgoing) (count : ℕ) : Type 0 where
   pub whole : goes.is_cut ≡ false
   pub room : o.is_full ≡ false
-  pub fits : waiting_in o + (news_length goes.is_told + count) ≤ o.size + 8192
+  pub fits : waiting_in o + (news_length goes.is_told + count) ≤ o.size + 32768

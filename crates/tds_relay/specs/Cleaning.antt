@@ -1,5 +1,5 @@
 -- What the relay puts on a connection itself, where an application lets that go: what cancels its request, and a cleaning.
-use Rattle.std.specs.Prelude.{◌≡◌, ◌⊎◌, ◌==◌, ℕ, Bool, true, false, List, [], ◌∷◌, ◌++◌, Option, Some, None, length}
+use Rattle.std.specs.Prelude.{◌≡◌, ◌⊎◌, ◌==◌, ℕ, codes, Bool, true, false, List, [], ◌∷◌, ◌++◌, Option, Some, None, length}
 use Rattle.tds_client.specs.declared.message.MessageKind.TheVariants.{Batch}
 use Rattle.tds_client.specs.Session.{ClientSession}
 use Rattle.tds_client.specs.Streams.{opened}
@@ -13,7 +13,19 @@ use Rattle.tds_relay.specs.declared.relay.Relay as code
 use Rattle.tds_relay.specs.Bodies.{ArePut}
 use Rattle.tds_relay.specs.Desk.{Brings, Desk, Way, find_key, turn}
 use Rattle.tds_relay.specs.Reads.{bytes_on, waits_on}
-use Rattle.tds_relay.specs.Words.{text_of_cleaning}
+
+-- ---- What a cleaning says
+
+-- two bytes for each unit of a text, the lower one first
+unfoldable pub two_bytes_each : List ℕ → List ℕ
+two_bytes_each [] = []
+two_bytes_each (unit ∷ units) = unit ∷ 0 ∷ two_bytes_each units
+
+-- The reset that goes with a cleaning leaves the isolation level as it is.
+unfoldable pub text_of_cleaning : List ℕ
+text_of_cleaning = two_bytes_each (codes "set transaction isolation level read committed")
+
+-- ---- What is put
 
 -- These bytes are a whole batch of this text, by a client that begins it.
 pub record IsBatch (text out : List ℕ) : Type 0 where

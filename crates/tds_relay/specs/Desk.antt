@@ -1,8 +1,9 @@
 -- Who holds which connection of a service, who waits for one, and which calls of the service are made. One total function.
-use Rattle.std.specs.Prelude.{ℕ, suc, ◌==◌, not, Bool, true, false, List, [], ◌∷◌, ◌++◌, filter, Option, Some, None, is_some, if◌then◌else◌}
+use Rattle.std.specs.Prelude.{ℕ, suc, ◌+◌, ◌-◌, ◌^◌, min, ◌==◌, not, Bool, true, false, List, [], ◌∷◌, ◌++◌, filter, Option, Some, None, is_some, if◌then◌else◌}
 use Rattle.tds_wire.specs.declared.told.Token.{Token}
 use Rattle.tds_service.specs.Parts.{Part}
 use Rattle.tds_listen.specs.declared.fault.ListenFault.{ListenFault}
+use Rattle.tds_relay.specs.declared.desk.Figures.{Figures}
 use Rattle.tds_relay.specs.declared.desk.Hold.{Hold}
 use Rattle.tds_relay.specs.declared.desk.Mode.{Mode}
 use Rattle.tds_relay.specs.declared.fault.Broken.{Broken}
@@ -12,13 +13,14 @@ use Rattle.tds_service.specs.Service as calls
 use Rattle.tds_service.specs.Service.{Seat, Service, Call, Reply, Step, Unknown, AllInUse, NotNow, No, NoMemory, Lent, Ticket, Did, Back, Place, Leased, Cleaning, Kept, Free, Draining, step, service_after, new_service, lease_at, seat_numbered}
 
 -- For how long an application keeps what it is lent; which one holds which connection, by which lease; whose requests wait for one, the
--- first one first; and which connection was the last that broke the rules, and how.
+-- first one first; which connection was the last that broke the rules, and how; and how much was asked of the server for applications.
 pub record Desk : Type 0 where
   pub mode : Mode
   pub service : Service
   pub holds : List Hold
   pub line : List ℕ
   pub broken : Option Broken
+  pub figures : Figures
 
 -- How connections are shared: at most so many, and for how long each is lent.
 pub record Sharing : Type 0 where
@@ -26,7 +28,7 @@ pub record Sharing : Type 0 where
   pub mode : Mode
 
 abbrev pub new_desk : Sharing → Desk
-new_desk sharing = record { mode = sharing.mode; service = calls.new_service sharing.most; holds = []; line = []; broken = None }
+new_desk sharing = record { mode = sharing.mode; service = calls.new_service sharing.most; holds = []; line = []; broken = None; figures = record { requests = 0; cancels = 0 } }
 
 -- How far a cleaning came: it was sent, in so many packets; or memory was refused to its first, second, third or fourth call.
 pub data Way : Type 0 where
@@ -91,7 +93,7 @@ abbrev pub holding : ℕ → ℕ → ℕ → Hold
 holding key lease number = record { key = key; lease = lease; number = number }
 
 abbrev pub moves : Desk → List Hold → List ℕ → List (Call Token) → Turn
-moves d holds line calls = record { desk = record { mode = d.mode; service = service_after d.service calls; holds = holds; line = line; broken = d.broken }; calls = calls }
+moves d holds line calls = record { desk = record { mode = d.mode; service = service_after d.service calls; holds = holds; line = line; broken = d.broken; figures = d.figures }; calls = calls }
 
 abbrev pub rests : Desk → Turn
 rests d = moves d d.holds d.line []
@@ -275,9 +277,33 @@ call_of lease (Puts count) = calls.Put lease count
 call_of lease (Ends count) = calls.Finish lease count
 call_of lease Stops = calls.Cancel lease
 
+-- one more, as far as it is counted
+abbrev pub next : ℕ → ℕ
+next n = min (n + 1) (2 ^ 64 - 1)
+
+-- A request is counted that its connection was asked, and an attention that goes out for one.
+abbrev pub tallied : line.Answer → Figures → Figures
+tallied (line.Asked request descriptor) f = record { requests = next f.requests; cancels = f.cancels }
+tallied (line.Stopped request) f = record { requests = f.requests; cancels = next f.cancels }
+tallied answer f = f
+
+abbrev pub tallied_by : List (Done Token) → Figures → Figures
+tallied_by [] f = f
+tallied_by (done ∷ dones) f = tallied done.answer f
+
+abbrev pub figures_behind : Deed → List (Done Token) → Figures → Figures
+figures_behind Asks dones f = tallied_by dones f
+figures_behind (Puts count) dones f = f
+figures_behind (Ends count) dones f = f
+figures_behind Stops dones f = tallied_by dones f
+
+abbrev pub with_figures : Figures → Turn → Turn
+with_figures f t = record { desk = record t.desk { figures = f }; calls = t.calls }
+
 abbrev pub does : Desk → Deed → Option Hold → Turn
 does d deed None = rests d
-does d deed (Some h) = moves d d.holds d.line (call_of h.lease deed ∷ [])
+does d deed (Some h) =
+    with_figures (figures_behind deed (step {T = Token} d.service (call_of h.lease deed)).dones d.figures) (moves d d.holds d.line (call_of h.lease deed ∷ []))
 
 abbrev pub leaves : Desk → ℕ → Bool → Way → Option Hold → Turn
 leaves d key gives way None = moves d d.holds (without key d.line) []

@@ -29,6 +29,7 @@ pub mod Linking
 pub mod Posts
 pub mod Promises
 pub mod Reads
+pub mod Reasons
 pub mod Sending
 pub mod Sorted
 pub mod Sparing
@@ -39,4 +40,3 @@ pub mod Told
 pub mod Waiting
 pub mod Waking
 pub mod Walkers
-pub mod Words

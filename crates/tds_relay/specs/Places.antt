@@ -1,6 +1,8 @@
 -- Who holds which connection, as whoever asks is told; a connection's transaction, and an application's requests; and when it is at rest.
 use Rattle.std.specs.Prelude.{◌≢◌, ◌&&◌, ℕ, not, Bool, true, false, Option, Some, None, is_none, option_map}
 use Rattle.tds_packet.specs.declared.status.Reset.{Reset}
+use Rattle.tds_front.specs.declared.front.Said.{Said}
+use Rattle.tds_front.specs.declared.front.Said.TheVariants as said
 use Rattle.tds_front.specs.declared.stage.Stage.{Stage}
 use Rattle.tds_front.specs.declared.stage.Stage.TheVariants as stages
 use Rattle.tds_service.specs.Service as calls
@@ -9,7 +11,7 @@ use Rattle.tds_relay.specs.declared.application.Application.{Application}
 use Rattle.tds_relay.specs.declared.desk.Hold.{Hold}
 use Rattle.tds_relay.specs.declared.desk.Mode.{Mode}
 use Rattle.tds_relay.specs.declared.desk.Mode.TheVariants.{Sessions, Transactions}
-use Rattle.tds_relay.specs.Desk.{Desk, find_key, find_number, key_of}
+use Rattle.tds_relay.specs.Desk.{Desk, find_key, find_number, key_of, next}
 
 -- the connection that an application holds
 abbrev pub held_by : Desk → ℕ → Option ℕ
@@ -30,6 +32,16 @@ open_on d number = option_map (λ (c : Seat). is_open c.line.heard.mark c.line.h
 abbrev pub begun_in : Option Application → ℕ
 begun_in None = 0
 begun_in (Some application) = application.begun
+
+-- with each that its bytes begin there is one more, up to 2^64 - 1
+abbrev pub begun_more : Said → ℕ → ℕ
+begun_more said.Nothing count = count
+begun_more (said.Begin kind reset) count = next count
+begun_more (said.Body length) count = count
+begun_more (said.End length) count = count
+begun_more (said.Forget gone) count = count
+begun_more said.Acknowledge count = count
+begun_more said.HandOn count = count
 
 -- No transaction is open on the connection that it holds.
 abbrev pub IsClosedOn : Option Hold → Desk → Type 0

@@ -22,9 +22,9 @@ nothing size = record { tag = None; size = size; bytes = []; is_full = false }
 abbrev pub tagged : ℕ → Post → Post
 tagged tag p = record { tag = Some tag; size = p.size; bytes = p.bytes; is_full = p.is_full }
 
--- at most as many bytes wait as a packet has, and 8,192
+-- at most as many bytes wait as a packet has, and 32,768
 abbrev pub fits : Post → List ℕ → Bool
-fits p bytes = not p.is_full && nat_le (length p.bytes + length bytes) (p.size + 8192)
+fits p bytes = not p.is_full && nat_le (length p.bytes + length bytes) (p.size + 32768)
 
 -- these bytes are put behind those that wait, all of them or none
 unfoldable pub put : List ℕ → Post → Post

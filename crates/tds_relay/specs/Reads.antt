@@ -202,11 +202,16 @@ pub record Streams (number : ℕ) (had : Option Reading) (old : House) (from : s
   pub reads : ReadsBy had heard (packets_of steps) now
   pub walks : Walks from old steps to
 
--- All of them, or the connection is lost.
+-- Behind each call less than a packet is there, where the connection is open.
+abbrev pub IsLessAt : Option Reading → Type 0
+IsLessAt None = Unit {0}
+IsLessAt (Some r) = IsLess r r.taken
+
+-- All of them; also where the connection is lost among them, whose bytes are nothing from there on.
 pub record StreamsAll (number : ℕ) (had : Option Reading) (old : House) (from : services.Service) (bytes : List ℕ) (now : Option Reading) (new : House) (to : services.Service) : Type 0 where
   pub left : List ℕ
   pub streams : Streams number had old from bytes left now new to
-  pub all : (left ≡ []) ⊎ (now ≡ None)
+  pub all : left ≡ []
 
 -- A header that no packet has loses its connection.
 abbrev pub if_heard : Option Heard → Option Reading → Option Reading

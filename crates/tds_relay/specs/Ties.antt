@@ -18,7 +18,7 @@ use Rattle.tds_relay.specs.Desk.{Desk, Event, Deed, Sharing, Waits, Unwaits, Ser
 use Rattle.tds_relay.specs.Promises.{Cancels, Each, attentions_on}
 
 abbrev pub desk_in : code.Desk → Desk
-desk_in d = record { mode = d.mode; service = service_in d.service; holds = d.holds.items; line = d.line.items; broken = d.broken }
+desk_in d = record { mode = d.mode; service = service_in d.service; holds = d.holds.items; line = d.line.items; broken = d.broken; figures = d.figures }
 
 -- what goes out by calls, one behind the other
 abbrev pub sent_along : Service → List (Call Token) → List Packet

@@ -8,6 +8,7 @@ use Rattle.tds_relay.specs.declared.application.Application.{Application}
 use Rattle.tds_relay.specs.declared.application.Asking.{Asking}
 use Rattle.tds_relay.specs.declared.application.Asking.TheVariants as asking
 use Rattle.tds_relay.specs.declared.link.Link.{Link}
+use Rattle.tds_relay.specs.declared.relay.places.Counts.{Counts}
 use Rattle.tds_relay.specs.declared.relay.places.Place.{Place}
 use Rattle.tds_relay.specs.declared.relay.places.Place.TheVariants.{Quiet, Holding, Waiting, Opening, Asking as Asks, Cancelling, Over}
 use Rattle.tds_relay.specs.declared.relay.places.PlaceOn.{PlaceOn}
@@ -148,8 +149,12 @@ is_there number ls = is_some (link_at number ls)
 
 -- ---- What the relay has done, and why it has closed a connection
 
+-- Requests and cancels are the desk's.
+abbrev pub counts_in : code.Relay → Counts
+counts_in r = record { requests = r.desk.figures.requests; cancels = r.desk.figures.cancels; cleanings = r.cleanings; failed = r.failed }
+
 -- He is told the same.
 pub record TellsTheSame (old new : code.Relay) : Type 0 where
-  pub counts : new.counts ≡ old.counts
+  pub counts : counts_in new ≡ counts_in old
   pub why : new.refused ≡ old.refused
   pub most : new.most ≡ old.most

@@ -2,12 +2,14 @@
 use Rattle.std.specs.Prelude.{◌≡◌, ◌≢◌, ◌≤◌, ◌⊎◌, ◌++◌, ℕ, Bool, true, false, length, List, IsSome, Option, Some, None}
 use Rattle.tds_packet.specs.declared.status.Reset.TheVariants.{KeepTransaction}
 use Rattle.tds_client.specs.declared.message.MessageKind.{MessageKind}
+use Rattle.tds_front.specs.declared.front.Said.{Said}
+use Rattle.tds_front.specs.declared.front.Said.TheVariants as said
 use Rattle.tds_relay.specs.declared.application.Application.{Application}
 use Rattle.tds_relay.specs.declared.application.Asking.TheVariants as asking
 use Rattle.tds_relay.specs.declared.desk.coming.Heard.{Heard}
 use Rattle.tds_relay.specs.declared.desk.coming.What.TheVariants as whats
 use Rattle.tds_relay.specs.declared.relay.Relay as code
-use Rattle.tds_relay.specs.Bodies.{Body, Kept, body_of}
+use Rattle.tds_relay.specs.Bodies.{Body, Kept, body_of, last_of}
 use Rattle.tds_relay.specs.Desk.{find_key}
 use Rattle.tds_relay.specs.Fronts.{ends_in}
 use Rattle.tds_relay.specs.Hall.{AsksFor, end_at, is_in}
@@ -39,3 +41,13 @@ abbrev pub KeepsInLine : Bool → List ℕ → Option Application → Body → T
 KeepsInLine whole more None new = Unit {0}
 KeepsInLine whole more (Some a) new =
     a.is_over ≡ false → length more ≤ room_to_keep a → (kind : MessageKind) (was : Bool) → a.asking ≡ asking.Waits kind was → new ≡ Kept kind (a.held.items ++ more) whole
+
+-- So are those of one that goes on or ends, by what is said of them.
+abbrev pub KeepsSaid : Said → List ℕ → Option Application → Body → Type 0
+KeepsSaid said.Nothing taken old new = Unit {0}
+KeepsSaid (said.Begin kind reset) taken old new = Unit {0}
+KeepsSaid (said.Body count) taken old new = KeepsInLine false (last_of count taken) old new
+KeepsSaid (said.End count) taken old new = KeepsInLine true (last_of count taken) old new
+KeepsSaid (said.Forget gone) taken old new = Unit {0}
+KeepsSaid said.Acknowledge taken old new = Unit {0}
+KeepsSaid said.HandOn taken old new = Unit {0}

@@ -1,5 +1,6 @@
 //! An application, as the relay knows it.
 ghost use Rattle.std.specs.Prelude.{◌≡◌, ◌≤◌, ◌<◌, ◌-◌, ◌++◌, [], IfOk, None, Some, false, length, true, vec_len};
+ghost use Rattle.tds_front.specs.Bytes.{TakesSome};
 ghost use Rattle.tds_relay.specs.declared.application.TheConstants.{MOST_HELD};
 ghost use Rattle.tds_relay.specs.declared.outgoing.TheConstants.{PIECE};
 
@@ -8,6 +9,7 @@ use crate::desk::What;
 use crate::outgoing::{BESIDE, Outgoing, PIECE};
 use std::alloc::Global;
 use tds_client::MessageKind;
+use tds_front::laws::takes_some;
 use tds_front::{Fed, Front, FrontFault, Said, Stage};
 use tds_packet::{PacketSize, Reset};
 
@@ -48,6 +50,7 @@ pub(crate) struct Application {
     /// How many requests it has begun.
     pub(crate) begun: u64,
     ghost bounded: { vec_len held ≤ MOST_HELD },
+    ghost lively: { TakesSome front },
 }
 
 impl Application {
@@ -63,6 +66,8 @@ impl Application {
     ghost use Rattle.tds_relay.specs.House.{hears_of_reset, is_said};
     ghost use Rattle.tds_relay.specs.Posts.{tagged, nothing, post_of};
     ghost use Rattle.tds_relay.specs.Parking.{has_no_request};
+    ghost use Rattle.tds_relay.specs.Places.{begun_more};
+    ghost use Rattle.tds_relay.specs.Reasons.{HasGoneOut, IsUnbegun};
     ghost use Rattle.tds_relay.specs.Told.{own_room, room_to_keep};
     ghost use Rattle.tds_relay.specs.Coming.{IsDoneWith};
     ghost use Rattle.tds_relay.specs.declared.desk.coming.What.TheVariants.{Acknowledged, Goes};
@@ -74,6 +79,7 @@ impl Application {
         ensures nothing { ((goes : Body) → body_in (Some result) goes ≡ Nowhere)
             × (result.begun ≡ 0) }
     {
+        takes_some();
         Application {
             alloc,
             tag,
@@ -89,23 +95,31 @@ impl Application {
         }
     }
 
-    /// Takes some of these bytes. A request that begins asks for a reset itself or doesn't; of one that is
-    /// taken back no reset is told.
+    /// Takes some of these bytes. A request that begins is counted, and asks for a reset itself or doesn't; of
+    /// one that is taken back no reset is told.
     pub(crate) fn feed(&mut self, piece: &[u8]) -> Result<Fed, FrontFault>
         ensures post { post_of self.new ≡ post_of self.old }
         ensures front { self.new.front ≡ (fed self.old.front piece.now).front }
         ensures brings { result ≡ (fed self.old.front piece.now).brings }
         ensures within { IfOk result (λ taken. taken.count ≤ length piece.now) }
+        ensures some { IfOk result (λ taken. 1 ≤ length piece.now → 1 ≤ taken.count) }
         ensures asks { IfOk result (λ taken. self.new.reset
             ≡ asks_by taken.said self.old.reset) }
+        ensures counts { IfOk result (λ taken. self.new.begun
+            ≡ begun_more taken.said self.old.begun) }
+        ensures room { room_to_keep self.new ≡ room_to_keep self.old }
         ensures withdrawn { self.new.is_withdrawn ≡ self.old.is_withdrawn }
         ensures over { self.new.is_over ≡ self.old.is_over }
         ensures body { (goes : Body)
             → body_in (Some self.new) goes ≡ body_in (Some self.old) goes }
     {
+        takes_some();
         let fed = self.front.feed(piece)?;
         match fed.said {
-            Said::Begin { reset, .. } => self.reset = reset,
+            Said::Begin { reset, .. } => {
+                self.begun = self.begun.saturating_add(1);
+                self.reset = reset;
+            }
             Said::Forget { .. } | Said::Acknowledge => self.reset = None,
             _ => {}
         }
@@ -209,6 +223,7 @@ impl Application {
         ensures body { IsDoneWith (Some self.old) (Some self.new) }
         ensures silent { result ≡ true
             → is_said Acknowledged (Some (end_of self.old)) ≡ false }
+        ensures resumes { result ≡ true → self.old.is_withdrawn ≡ true }
     {
         if self.is_withdrawn {
             self.is_withdrawn = false;
@@ -278,7 +293,8 @@ impl Application {
 
     /// Whether bytes of its request may be put, and its end: one has begun, or is whole.
     pub(crate) fn may_put(&self, whole: bool) -> bool
-        ensures { result ≡ true → IfOpen (puts whole) (Some (end_of self.now)) }
+        ensures begun { result ≡ true → IfOpen (puts whole) (Some (end_of self.now)) }
+        ensures unbegun { result ≡ false → IfOpen (IsUnbegun whole) (Some (end_of self.now)) }
     {
         match self.front.stage() {
             Stage::Quiet => false,
@@ -305,7 +321,8 @@ impl Application {
 
     /// Whether nothing of its request has gone on, and no attention.
     pub(crate) fn has_nothing_out(&self) -> bool
-        ensures { result ≡ true → IfOpen IsHere (Some (end_of self.now)) }
+        ensures here { result ≡ true → IfOpen IsHere (Some (end_of self.now)) }
+        ensures out { result ≡ false → IfOpen HasGoneOut (Some (end_of self.now)) }
     {
         match self.front.stage() {
             Stage::Quiet => true,

@@ -48,6 +48,15 @@ pub struct Served {
     pub had: bool,
 }
 
+/// What was asked of the server for applications.
+#[derive(Clone, Copy, Debug, PartialEq, Eq)]
+pub struct Figures {
+    /// Requests.
+    pub requests: u64,
+    /// Attentions that went out for them.
+    pub cancels: u64,
+}
+
 /// For how long an application keeps the connection that it is lent.
 #[derive(Clone, Copy, Debug, PartialEq, Eq)]
 pub enum Mode {
@@ -68,6 +77,7 @@ pub struct Desk {
     line: Vec<usize>,
     /// The last connection that is closed for what its server said.
     broken: Option<Broken>,
+    figures: Figures,
 }
 
 impl Desk {
@@ -94,6 +104,10 @@ impl Desk {
             holds: Holds::new(alloc),
             line: Vec::new(alloc),
             broken: None,
+            figures: Figures {
+                requests: 0,
+                cancels: 0,
+            },
         })
     }
 
@@ -102,6 +116,13 @@ impl Desk {
         ensures { result ≡ (desk_in self.now).mode }
     {
         self.mode
+    }
+
+    /// How much was asked of the server for applications.
+    pub fn figures(&self) -> Figures
+        ensures { result ≡ (desk_in self.now).figures }
+    {
+        self.figures
     }
 
     /// An application's request waits for a connection.
@@ -118,6 +139,7 @@ impl Desk {
     pub fn unwait(&mut self, key: usize)
         ensures turns { Turns (Unwaits key) (desk_in self.old) (desk_in self.new) [] [] }
         ensures service { self.new.service ≡ self.old.service }
+        ensures holds { self.new.holds ≡ self.old.holds }
     {
         remove_key(&mut self.line, key);
     }

@@ -1,8 +1,9 @@
 //! What stands by rising ids, each found by halves.
-ghost use Rattle.std.specs.Prelude.{◌≡◌, ◌+◌, ◌++◌, ◌<◌, ◌≤◌, ◌^◌, ℕ, length, slice_index, true, vec_len, vec_capacity};
+ghost use Rattle.std.specs.Prelude.{◌≡◌, ◌≢◌, ◌+◌, ◌-◌, ◌++◌, ◌<◌, ◌≤◌, ◌^◌, ℕ, length, slice_index, true, vec_len, vec_capacity};
 ghost use Rattle.tds_relay.specs.Sorted.{Climbs, bound, first, ids_in, one_if, under};
 
 use crate::sorted::place_by;
+use std::cell::Cell;
 use std::cmp::Ordering;
 use std::marker::Brand;
 use std::sync::ledger::{Blank, Ledger};
@@ -24,11 +25,28 @@ impl<T> Numbered for Indexed<T> {
     }
 }
 
+/// Whether what stands under this id begins at this place.
+#[inline(always)]
+fn begins_at<T>(index: &[Indexed<T>], id: u64, place: usize) -> bool
+    ensures within { result ≡ true → place < length index.now }
+    ensures here { result ≡ true → slice_index (ids_in index.now) place ≡ id }
+    ensures before { result ≡ true → place ≢ 0 → slice_index (ids_in index.now) (place - 1) < id }
+{
+    if place >= index.len() {
+        return false;
+    }
+    if index[place].id != id {
+        return false;
+    }
+    place == 0 || index[place - 1].id < id
+}
+
 /// The first of what stands under this id: in at most as many steps as how many there are has
 /// binary digits, so 7 among 64 and 11 among 1,024.
 pub(crate) fn find_first<T: Copy, L: Ledger>(
     index: &[Indexed<T>],
     id: u64,
+    latest: &Cell<usize>,
     steps: &mut Steps<L>,
 ) -> Option<T>
     requires climbs { Climbs (ids_in index.now) }
@@ -36,6 +54,7 @@ pub(crate) fn find_first<T: Copy, L: Ledger>(
     ensures cost { (most : ℕ) → length index.now < 2 ^ most → steps.new ≤ steps.old + most }
 {
     let place = place_by(index, id, false, steps);
+    latest.set(place);
     if place >= index.len() {
         return None;
     }
@@ -47,7 +66,12 @@ pub(crate) fn find_first<T: Copy, L: Ledger>(
     }
 }
 
-fn find_counted<T: Copy, L: Ledger>(index: &[Indexed<T>], id: u64, blank: Blank) -> Option<T>
+fn find_counted<T: Copy, L: Ledger>(
+    index: &[Indexed<T>],
+    id: u64,
+    latest: &Cell<usize>,
+    blank: Blank,
+) -> Option<T>
     requires name { L.name ≡ blank.name }
     requires parts { L.parts ≡ blank.parts }
     requires some { 0 < blank.parts }
@@ -55,15 +79,19 @@ fn find_counted<T: Copy, L: Ledger>(index: &[Indexed<T>], id: u64, blank: Blank)
     ensures is { result ≡ first (under id index.now) }
 {
     let mut steps = Steps::<L>::from_blank(blank);
-    find_first(index, id, &mut steps)
+    find_first(index, id, latest, &mut steps)
 }
 
-/// The same, for a caller that counts nothing.
-pub(crate) fn find<T: Copy>(index: &[Indexed<T>], id: u64) -> Option<T>
+/// The same, for a caller that counts nothing: what was found last is looked at before.
+pub(crate) fn find<T: Copy>(index: &[Indexed<T>], id: u64, latest: &Cell<usize>) -> Option<T>
     requires climbs { Climbs (ids_in index.now) }
     ensures is { result ≡ first (under id index.now) }
 {
-    find_counted::<T, Brand>(index, id, Blank::new(1))
+    let guess = latest.get();
+    if begins_at(index, id, guess) {
+        return Some(index[guess].item);
+    }
+    find_counted::<T, Brand>(index, id, latest, Blank::new(1))
 }
 
 fn place_behind<T, L: Ledger>(index: &[Indexed<T>], id: u64, blank: Blank) -> usize

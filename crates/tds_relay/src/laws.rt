@@ -131,13 +131,13 @@ pub fn lawful_connections()
 pub fn bounds()
     /// Of a request that waits for a connection 16,384 bytes are kept at most.
     ensures kept { (a : Application) → vec_len a.held ≤ 16384 }
-    /// For an application at most as many bytes wait as a packet has, and 8,192.
-    ensures for_application { (a : Application) → waiting_in a.out ≤ a.out.size + 8192 }
-    /// On a connection at most as many bytes wait as a packet has, and 8,192.
-    ensures on_connection { (l : Link) → waiting_in l.out ≤ l.out.size + 8192 }
-    /// With those that were sent and aren't forgotten, fewer than a packet and 16,384 bytes are kept in the
+    /// For an application at most as many bytes wait as a packet has, and 32,768.
+    ensures for_application { (a : Application) → waiting_in a.out ≤ a.out.size + 32768 }
+    /// On a connection at most as many bytes wait as a packet has, and 32,768.
+    ensures on_connection { (l : Link) → waiting_in l.out ≤ l.out.size + 32768 }
+    /// With those that were sent and aren't forgotten, fewer than a packet and 65,536 bytes are kept in the
     /// place where they wait.
-    ensures in_memory { (o : Outgoing) → vec_len o.bytes < o.size + 16384 }
+    ensures in_memory { (o : Outgoing) → vec_len o.bytes < o.size + 65536 }
 {}
 
 /// Each call of a relay leaves the desk where events lead that it may cause: its own contract says so, for

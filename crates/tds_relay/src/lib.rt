@@ -21,7 +21,7 @@ mod relay;
 pub mod sharing_laws;
 mod sorted;
 
-pub use desk::{Desk, Heard, Hold, Left, Mode, Renewed, Served, What};
+pub use desk::{Desk, Figures, Heard, Hold, Left, Mode, Renewed, Served, What};
 pub use order::Order;
 pub use relay::{Counts, Place, PlaceOn, Relay};
 

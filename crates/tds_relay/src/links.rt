@@ -7,12 +7,14 @@ ghost use Rattle.tds_relay.specs.Linking.{ArePlaced};
 ghost use Rattle.tds_relay.specs.Reads.{answer_at, link_at};
 ghost use Rattle.tds_relay.specs.Reads.{Sees, Stays, named_seen, open_at, opened_at, opened_seen, place_of};
 ghost use Rattle.tds_relay.specs.Reads.{seen_at, waits_on, without_link};
+ghost use Rattle.tds_relay.specs.Reasons.{HasNoRoom};
 ghost use Rattle.tds_relay.specs.Told.{is_there};
 
 use crate::NoMemory;
 use crate::index::{Indexed, add, find};
 use crate::link::Link;
 use std::alloc::Global;
+use std::cell::Cell;
 use std::marker::Model;
 
 /// The connections, in the order in which they came; and the place of each by rising numbers, so that it is
@@ -22,6 +24,8 @@ pub(crate) struct Links {
     /// Whoever writes to one of these keeps its number.
     pub(crate) list: Vec<Link>,
     places: Vec<Indexed<usize>>,
+    /// Where among the places one was found last.
+    latest: Cell<usize>,
 }
 
 impl Model for Links {
@@ -42,6 +46,7 @@ impl Links {
         Links {
             list: Vec::new(alloc),
             places: Vec::new(alloc),
+            latest: Cell::new(0),
         }
     }
 
@@ -77,7 +82,7 @@ pub(crate) fn place_in(links: &Links, number: u64) -> Option<usize>
     ensures is { result ≡ place_of number links.now.items }
     ensures within { IfSome result (λ place. place < length links.now.items) }
 {
-    find(&links.places, number)
+    find(&links.places, number, &links.latest)
 }
 
 /// The connection of this number.
@@ -115,6 +120,8 @@ pub(crate) fn append_to(links: &mut Links, number: u64, bytes: &[u8]) -> Result<
         → waits_on other links.new.items ≡ waits_on other links.old.items }
     ensures unfit { IfOk result (λ fits. fits ≡ false
         → waits_on number links.new.items ≡ waits_on number links.old.items) }
+    ensures no_room { IfOk result (λ fits. fits ≡ false
+        → HasNoRoom number bytes.now links.old.items) }
     ensures appends { IfOk result (λ fits. fits ≡ true → waits_on number links.new.items
         ≡ option_map (λ (waits : List ℕ). waits ++ bytes.now) (waits_on number links.old.items)) }
     ensures answers { KeepsAnswers links.old.items links.new.items }

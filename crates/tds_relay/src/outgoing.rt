@@ -10,12 +10,12 @@ use tds_packet::{Header, PacketSize, put_packet};
 
 /// The most bytes of an application or of a connection that are read at once. So many may wait at the other
 /// end, with a packet that they complete.
-pub(crate) const PIECE: usize = 8_192;
+pub(crate) const PIECE: usize = 32_768;
 
 /// At most so many bytes more than were read go out: ALL_HEADERS (22 bytes), the headers of packets that are
-/// set anew (8 of each, of 18 at most), and behind a request an end of it that is ignored, an attention (8
+/// set anew (8 of each, of 66 at most), and behind a request an end of it that is ignored, an attention (8
 /// each) and a cleaning (122).
-pub(crate) const BESIDE: usize = 320;
+pub(crate) const BESIDE: usize = 704;
 
 /// The length of an attention, and of an acknowledgement by the relay (MS-TDS 2.2.1.7, 2.2.7.6).
 const ATTENTION: usize = 8;

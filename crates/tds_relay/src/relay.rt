@@ -14,6 +14,7 @@ ghost use Rattle.tds_relay.specs.House.{Steps, new_house};
 ghost use Rattle.tds_relay.specs.Places.{HasNoTransaction, begun_in, holder};
 ghost use Rattle.tds_relay.specs.Posts.{Enters, posts_in};
 ghost use Rattle.tds_relay.specs.Reads.{link_at, waits_on};
+ghost use Rattle.tds_relay.specs.Reasons.{HasGoneOut};
 ghost use Rattle.tds_relay.specs.Sparing.{OthersRest};
 ghost use Rattle.tds_relay.specs.Ties.{Cause, CausesRequest, Goes, Neither, desk_in};
 ghost use Rattle.tds_relay.specs.Told.{TellsTheSame, least_for, room_at, room_behind};
@@ -72,7 +73,9 @@ pub struct Relay {
     orders: Vec<Order>,
     /// Where the desk puts what is to be sent on a connection.
     outbox: Vec<u8>,
-    counts: Counts,
+    /// Connections that were let go and are cleaned, and those that nobody held which were closed instead.
+    cleanings: u64,
+    failed: u64,
     /// The last connection that is closed for the header of a packet.
     refused: Option<Refused>,
 }
@@ -109,7 +112,8 @@ impl Relay {
             links: Links::new(alloc),
             orders: Vec::new(alloc),
             outbox: Vec::new(alloc),
-            counts: Counts::none(),
+            cleanings: 0,
+            failed: 0,
             refused: None,
         })
     }
@@ -157,7 +161,7 @@ impl Relay {
         mem::replace(&mut self.orders, Vec::new(self.alloc))
     }
 
-    /// How many bytes of an application may be read now, at most 8,192: so many that what goes on of them
+    /// How many bytes of an application may be read now, at most 32,768: so many that what goes on of them
     /// fits on its connection, and what they are answered here fits with what waits for it.
     pub fn room(&self, key: usize) -> usize
         ensures most { result ≤ PIECE }
@@ -187,7 +191,7 @@ impl Relay {
         }
     }
 
-    /// How many bytes of a connection may be read now, at most 8,192: so many that they fit with what waits
+    /// How many bytes of a connection may be read now, at most 32,768: so many that they fit with what waits
     /// for who holds it.
     pub fn room_on(&self, number: u64) -> usize
         ensures most { result ≤ PIECE }
@@ -256,7 +260,10 @@ impl Relay {
 
     /// Whether an application has nothing out: nothing of its request has gone on, and no attention.
     fn has_nothing_out(&self, key: usize) -> bool
-        ensures { result ≡ true → IfOpen IsHere (end_at (ends_in self.now.applications) key) }
+        ensures here { result ≡ true
+            → IfOpen IsHere (end_at (ends_in self.now.applications) key) }
+        ensures out { result ≡ false
+            → IfOpen HasGoneOut (end_at (ends_in self.now.applications) key) }
     {
         match self.applications.get(key) {
             Some(application) => application.has_nothing_out(),

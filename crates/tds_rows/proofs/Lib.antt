@@ -11,3 +11,4 @@ mod Coming
 mod Ending
 mod Staying
 mod Many
+mod Own

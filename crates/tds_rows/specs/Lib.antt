@@ -8,3 +8,4 @@ pub mod Laws
 pub mod Many
 pub mod Pieces
 pub mod Come
+pub mod Short

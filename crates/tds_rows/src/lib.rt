@@ -12,6 +12,7 @@ mod parts;
 mod pieces;
 mod place;
 mod rows;
+mod short;
 mod types;
 mod values;
 
@@ -23,4 +24,4 @@ pub use laws::{
 };
 pub use pieces::{PartsReader, Piece};
 pub use place::{Described, Place, RowColumn, RowFault, RowsPlaced};
-pub use rows::{places_of_rows, row_places};
+pub use rows::{places_of_rows, row_places, short_row};

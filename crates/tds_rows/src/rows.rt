@@ -1,14 +1,16 @@
 //! The values of a row.
 
-ghost use Rattle.std.specs.Prelude.{◌≡◌, ◌≤◌, ◌<◌, ◌+◌, ◌*◌, ◌&&◌, Err, IfOk, IfSome, drop, false, length, take, true};
+ghost use Rattle.std.specs.Prelude.{◌≡◌, ◌≤◌, ◌<◌, ◌+◌, ◌*◌, ◌&&◌, Err, IfNone, IfOk, IfSome, Ok, drop, false, length, take, true};
 ghost use Rattle.tds_rows.specs.Finding.{EndsAfter, IsKind, PlacesFound, RowFound, column_shapes};
 ghost use Rattle.tds_rows.specs.Laws.{DividesBehind, DividesRow};
 ghost use Rattle.tds_rows.specs.Many.{RowsFound};
-ghost use Rattle.tds_rows.specs.Places.{values_placed as places_of};
+ghost use Rattle.tds_rows.specs.Places.{placed_row, values_placed as places_of};
+ghost use Rattle.tds_rows.specs.Short.{ColumnsAreShort};
 ghost use Rattle.tds_rows.specs.declared.place.RowFault.TheVariants as faults;
-ghost use Rattle.tds_wire.specs.Layout.{is_null};
+ghost use Rattle.tds_wire.specs.Layout.{Short, is_null};
 
 use crate::place::{Place, RowColumn, RowFault, RowsPlaced};
+use crate::short::short_places;
 use crate::values::column_value;
 
 const ROW: u8 = 0xD1;
@@ -36,7 +38,7 @@ pub(crate) fn is_skipped(with_nulls: bool, nulls: &[u8], column: usize) -> bool
 /// Field by field: a copy of the whole writes its padding too, by stores that overlap, for which what reads
 /// the place has to wait.
 #[inline(always)]
-fn write(to: &mut Place, place: Place)
+pub(crate) fn write(to: &mut Place, place: Place)
     ensures { to.new ≡ place }
 {
     to.start = place.start;
@@ -194,6 +196,31 @@ pub fn row_places(
         return Err(RowFault::Short);
     }
     row_at(columns, 0, bytes, places)
+}
+
+/// The same of a ROW whose columns are all of a fixed size, or behind a count in one byte or two, in few
+/// instructions. None where it is none, isn't whole, or has no room; then `row_places` says which.
+#[inline(always)]
+pub fn short_row(columns: &[RowColumn], bytes: &[u8], places: &mut [Place]) -> Option<usize>
+    ensures exact { IfSome result (λ n. PlacesFound (Ok n) (column_shapes columns.now) bytes.now
+        places.new) }
+    ensures divided { IfSome result (λ n. DividesRow 0 (column_shapes columns.now) bytes.now
+        (take (length columns.now) places.new) (drop n bytes.now)) }
+    ensures room { IfSome result (λ _. length columns.now ≤ length places.old) }
+    ensures none { IfNone result (ColumnsAreShort columns.now → 0 < length columns.now
+        → length columns.now ≤ length places.old → IsKind 0xD1 0 bytes.now
+        → placed_row (column_shapes columns.now) bytes.now ≡ Short) }
+    ensures length { length places.new ≡ length places.old }
+    ensures others { drop (length columns.now) places.new
+        ≡ drop (length columns.now) places.old }
+{
+    if places.len() < columns.len() || columns.is_empty() || bytes.is_empty() {
+        return None;
+    }
+    if bytes[0] != ROW {
+        return None;
+    }
+    short_places(1, columns, bytes, places)
 }
 
 /// Where each value stands in the rows that bytes begin with, ROWs and NBCROWs one behind the other, from

@@ -13,7 +13,7 @@ use tds_wire::Column;
 
 /// What is found of a value that begins so many bytes behind its row's first one: where it stands, and how
 /// many bytes it has in all. Nothing where the bytes end first.
-type Value = Option<(Place, usize)>;
+pub(crate) type Value = Option<(Place, usize)>;
 
 /// So many bytes.
 #[inline(always)]

@@ -365,7 +365,7 @@ module _ (cs : List code.Seat) (top : ℕ) (idx : List Indexed) (rising : RiseFr
   who_id (whose.Ticket ticket) c e = ticket_id ticket c.place e
 
   -- the index has the number of each that this one holds
-  its_number : (k : ℕ) → k < length cs → met (test_of who) cs k ≡ true → number_held idx (id_of who) ≡ Some (slice_index (numbers_in cs) k)
+  pub its_number : (k : ℕ) → k < length cs → met (test_of who) cs k ≡ true → number_held idx (id_of who) ≡ Some (slice_index (numbers_in cs) k)
   its_number k lt e =
       let c = some_at cs k lt in
       let here : test_of who (seat_in c.0) ≡ true = ap (λ (x : code.Seat). test_of who (seat_in x)) c.1 ∙ (sym (met_at (test_of who) c.0 cs k lt) ∙ e) in

@@ -35,3 +35,4 @@ pub mod Holders
 pub mod Paired
 pub mod Indexing
 pub mod Reindexing
+pub mod Latest

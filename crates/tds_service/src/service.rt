@@ -32,6 +32,8 @@ pub struct Service {
     given: u64,
     seats: Vec<Seat>,
     index: Vec<Indexed>,
+    /// Where a connection was found last: looked at first, and no more than a guess.
+    latest: usize,
     ghost columns: { most ≤ 4096 },
     ghost rising: { RiseFrom 0 (numbers_in
         seats.items) (suc last) } by { RiseFrom-prop 0 (numbers_in seats.items) (suc last) },

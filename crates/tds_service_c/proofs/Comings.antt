@@ -34,7 +34,7 @@ use Rattle.tds_service_c.specs.declared.plain.TdsSeat.{TdsSeat}
 use Rattle.tds_service_c.specs.declared.plain.TdsService.{TdsService}
 use Rattle.tds_service_c.specs.declared.plain.TdsWhose.{TdsWhose}
 use Rattle.tds_service_c.specs.ComesOn.{BreaksOn, HeardOn, IsSpot, KeptOn, MovesOn, Spot, is_reading, owner_on, table_with}
-use Rattle.tds_service_c.specs.Packet.{BreaksThere, HasPassed, OwnerHears, HearsPacketFrom, InTurn, Passage, PassesBy, Owner, OwnsSeat, Reached, PacketStopsBehind, found_at, passages_told}
+use Rattle.tds_service_c.specs.Packet.{BreaksThere, HasPassed, OwnerHears, InTurn, Passage, PassesBy, Owner, Reached, found_at, passages_told}
 use Rattle.tds_service_c.specs.Hearing.{end_part, lease_number, one_part}
 use Rattle.tds_service_c.specs.Plain.{line_of, place_of, seat_of, table_of}
 use Rattle.tds_service_c.specs.Table.{FirstMet, met}
@@ -323,50 +323,3 @@ module _ (s : Spot) (is : IsSpot s) (c : TdsSeat) (named : c.number ≡ s.number
 
   pub reads_on : is_reading (line_of c).stage ≡ true → ReadsAt (find_by (has_number s.number) (table_with s c).seats)
   reads_on reads = subst ReadsAt (sym found_on) (reading_is (line_of c).stage reads)
-
--- ---- A whole call
-
-whose_is : (w : TdsWhose) (l r : ℕ) → w.lease ≡ l → w.request ≡ r → w ≡ record { lease = l; request = r }
-whose_is w l r e f = rw (sym e, sym f) refl
-
-is_read : (w : TdsWire) (m : Memory) (a : LentWalk) → walk_from w ≡ Some a → reading_from w m ≡ Some (reading_of a m)
-is_read w m a e = rw e refl
-
-pub hears_at : (service : TdsService) (seats : List TdsSeat) (i number : ℕ) (d z : TdsSeat) (w v : TdsWire) (m n : Memory) (before after : TdsWhose) (a b : LentWalk) (bytes : List ℕ) (ends taken : ℕ) (room : Room TdsWireToken) (halt : Halt)
-    → service.count ≤ length seats → FirstMet (has_number number) (take service.count seats) i → walk_from w ≡ Some a → walk_from v ≡ Some b
-    → after.lease ≡ lease_number (lease_in (place_of (get_or seats i d))) → after.request ≡ (get_or seats i d).asked → KeptOn (get_or seats i d) z → taken ≤ length bytes
-    → ((s : Spot) → IsSpot s → (get_or seats i d).number ≡ s.number → PacketStopsBehind (owner_on s (get_or seats i d)) (record { table = table_with s (get_or seats i d); reading = reading_of a m; rest = bytes }) (drop taken bytes) (record { table = table_with s z; reading = reading_of b n }) (truth ends) room halt)
-    → HearsPacketFrom (owner_on (record { service = service; seats = seats; index = i; number = number }) (get_or seats i d)) (record {
-      before = record { held = record { service = service; seats = seats }; walk = w; memory = m; whose = before };
-      after = record { held = record { service = service; seats = set seats i z }; walk = v; memory = n; whose = after };
-      bytes = bytes;
-      ends = ends;
-      taken = taken;
-      room = room;
-    }) halt
-hears_at service seats i number d z w v m n before after a b bytes ends taken room halt fits met is_w is_v lease request kept within run =
-    let s : Spot = record { service = service; seats = seats; index = i; number = number } in
-    let is : IsSpot s = record { fits = fits; met = met } in
-    let c = get_or seats i d in
-    let here = here_in (has_number number) service.count seats i fits met in
-    let same : c ≡ here.seat = same_seat (has_number number) service.count seats i here d in
-    let named : c.number ≡ number = ap (λ (x : TdsSeat). x.number) same ∙ same_number here.seat.number number here.meets in
-    record {
-      first = reading_of a m;
-      last = reading_of b n;
-      began = is_read w m a is_w;
-      stands = is_read v n b is_v;
-      fits = fits;
-      owns = subst (OwnsSeat (owner_on s c)) (sym here.found) (ap (λ (x : TdsSeat). lease_in (place_of x)) same, ap (λ (x : TdsSeat). x.asked) same);
-      whose = whose_is after _ _ lease request;
-      others = record {
-        before = c;
-        after = z;
-        turned = record { index = i; met = met; was = same_get seats i d c here.within; is = refl; service = refl };
-        apart_is = kept.apart_is;
-      };
-      within = within;
-      stops =
-          subst (λ (xs : List TdsSeat). PacketStopsBehind (owner_on s c) (record { table = table_of service xs; reading = reading_of a m; rest = bytes }) (drop taken bytes) (record { table = table_with s z; reading = reading_of b n }) (truth ends) room halt)
-          (set-get_or seats i d) (run s is named);
-    }

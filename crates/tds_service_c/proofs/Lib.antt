@@ -1,5 +1,6 @@
 pub mod Tables
 pub mod Steps
+pub mod GivenBack
 pub mod Clients
 pub mod Cancels
 pub mod Acting
@@ -8,4 +9,5 @@ pub mod Arrivals
 pub mod Hearings
 pub mod Leaving
 pub mod Comings
+pub mod Here
 mod Passing

@@ -1,5 +1,5 @@
 -- What comes on one seat, before it is put back in the table: what its client hears of a walk's findings, one after the other.
-use Rattle.std.specs.Prelude.{◌≡◌, ℕ, ◌≤◌, Bool, true, false, List, [], length, slice_set, Result, Ok, Err}
+use Rattle.std.specs.Prelude.{◌≡◌, ℕ, ◌≤◌, Bool, true, false, List, [], length, slice_set}
 use Rattle.tds_listen.specs.declared.fault.ListenFault.{ListenFault}
 use Rattle.tds_wire.specs.declared.told.Token.{Token}
 use Rattle.tds_wire.specs.Reading.{Found, Inside, Reading, Refuses, Sees}
@@ -8,15 +8,10 @@ use Rattle.tds_service.specs.Line.{Answer, Stage}
 use Rattle.tds_service.specs.Parts.{Part}
 use Rattle.tds_service.specs.Service.{Service, drained, has_number, lease_in}
 use Rattle.tds_service.specs.Ties.{Hears, part_of}
-use Rattle.tds_walk.specs.declared.token.TdsWireToken.{TdsWireToken}
-use Rattle.tds_walk.specs.Rooms.{Room}
-use Rattle.tds_service_c.specs.declared.packet.Halt.TheVariants as halts
-use Rattle.tds_service_c.specs.declared.packet.walked.Pause.{Pause}
-use Rattle.tds_service_c.specs.declared.packet.walked.Pause.TheVariants as pauses
 use Rattle.tds_service_c.specs.declared.plain.TdsSeat.{TdsSeat}
 use Rattle.tds_service_c.specs.declared.plain.TdsService.{TdsService}
 use Rattle.tds_service_c.specs.Clients.{apart}
-use Rattle.tds_service_c.specs.Packet.{HasPassed, Now, Owner, Reached, PacketStops, now_at}
+use Rattle.tds_service_c.specs.Packet.{Owner}
 use Rattle.tds_service_c.specs.Plain.{line_of, place_of, table_of, used}
 use Rattle.tds_service_c.specs.Table.{FirstMet}
 
@@ -72,13 +67,3 @@ table_with s c = table_of s.service (slice_set s.seats s.index c)
 
 abbrev pub owner_on : Spot → TdsSeat → Owner
 owner_on s c = record { number = s.number; lease = lease_in (place_of c); request = c.asked }
-
--- Why no more tokens were heard: the machine and the walker stand there now, or are broken by what comes next.
-abbrev pub PausesAt : Owner → Reached → Now → Room TdsWireToken → Result Pause ListenFault → Type 0
-PausesAt o last now room (Ok pauses.Full) = PacketStops o last now false room halts.Full
-PausesAt o last now room (Ok pauses.Through) = (last.rest ≡ []) × (now ≡ now_at last)
-PausesAt o last now room (Err fault) = PacketStops o last now false room (halts.Broken fault)
-
-abbrev pub PausesBehind : Owner → Reached → List ℕ → Now → Room TdsWireToken → Result Pause ListenFault → Type 0
-PausesBehind o first rest now room result =
-    (last : Reached) × HasPassed o first last room × (last.rest ≡ rest) × PausesAt o last now room result

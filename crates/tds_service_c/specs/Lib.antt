@@ -9,3 +9,4 @@ pub mod OnSeat
 pub mod Hearing
 pub mod Packet
 pub mod ComesOn
+pub mod Here

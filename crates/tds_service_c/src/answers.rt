@@ -17,6 +17,7 @@ pub(crate) enum Stop {
     Refused(Refusal),
 }
 
+#[inline(always)]
 fn refusal_number(refusal: Refusal) -> u8
     ensures { result ≡ refusal_number refusal }
 {
@@ -32,6 +33,7 @@ fn refusal_number(refusal: Refusal) -> u8
 }
 
 impl Stop {
+    #[inline(always)]
     pub(crate) fn number(self) -> u8
         ensures { result ≡ stop_number self }
     {
@@ -45,6 +47,7 @@ impl Stop {
 }
 
 /// Where a connection is that nobody holds.
+#[inline(always)]
 pub(crate) fn rest_number(rest: Rest) -> u8
     ensures { result ≡ rest_number rest }
 {

@@ -16,6 +16,7 @@ use tds_client::{Cancelled, MessageKind};
 use tds_service::{Asked, Refusal};
 
 /// Begins a request of this kind. Its headers are written to `kept`, where they wait.
+#[inline(always)]
 pub(crate) fn ask(
     service: &TdsService,
     seats: &mut [TdsSeat],
@@ -39,20 +40,19 @@ pub(crate) fn ask(
     let Some(index) = find(&seats[..service.count], Wanted::Lease(lease)) else {
         return Err(Stop::Refused(Refusal::Unknown));
     };
-    let seat = seats[index];
+    let seat = &mut seats[index];
+    let number = seat.number;
     match sending::ask(seat, kind, kept, count) {
-        Ok(asked) => {
-            seats[index] = asked;
-            Ok(Asked {
-                number: seat.number,
-                request: asked.asked,
-            })
-        }
+        Ok(()) => Ok(Asked {
+            number,
+            request: seat.asked,
+        }),
         Err(stop) => Err(stop),
     }
 }
 
 /// Puts bytes of the request behind those that wait.
+#[inline(always)]
 pub(crate) fn put(
     service: &TdsService,
     seats: &mut [TdsSeat],
@@ -90,17 +90,15 @@ pub(crate) fn put(
     let Some(index) = find(&seats[..service.count], Wanted::Lease(lease)) else {
         return Err(Stop::Refused(Refusal::Unknown));
     };
-    let seat = seats[index];
+    let seat = &mut seats[index];
     match putting::put(seat, kept, waiting, bytes, taken, out, count) {
-        Ok((sent, putting)) => {
-            seats[index] = sent;
-            Ok(putting)
-        }
+        Ok(putting) => Ok(putting),
         Err(stop) => Err(stop),
     }
 }
 
 /// Ends the request: what waits goes out in its last packet.
+#[inline(always)]
 pub(crate) fn finish(
     service: &TdsService,
     seats: &mut [TdsSeat],
@@ -124,17 +122,15 @@ pub(crate) fn finish(
     let Some(index) = find(&seats[..service.count], Wanted::Lease(lease)) else {
         return Err(Stop::Refused(Refusal::Unknown));
     };
-    let seat = seats[index];
+    let seat = &mut seats[index];
     match sending::finish(seat, kept, out, count) {
-        Ok(finished) => {
-            seats[index] = finished;
-            Ok(())
-        }
+        Ok(()) => Ok(()),
         Err(stop) => Err(stop),
     }
 }
 
 /// Cancels what is underway. What is to be sent for that is written to `out`.
+#[inline(always)]
 pub(crate) fn cancel(
     service: &TdsService,
     seats: &mut [TdsSeat],

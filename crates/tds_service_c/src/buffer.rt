@@ -4,6 +4,7 @@ ghost use Rattle.std.specs.Prelude.{◌≡◌, ◌≤◌, ◌<◌, ◌+◌, ◌+
 ghost use Rattle.tds_service_c.specs.Asking.{with_front};
 
 /// Writes bytes behind those that stand at the buffer's front.
+#[inline(always)]
 pub(crate) fn put_at(out: &mut [u8], at: usize, bytes: &[u8])
     requires room { at + length bytes.now ≤ length out.old }
     ensures { (front : List ℕ) (buffer : List ℕ) → length front ≡ at
@@ -14,6 +15,7 @@ pub(crate) fn put_at(out: &mut [u8], at: usize, bytes: &[u8])
 }
 
 /// Writes bytes to the front of a buffer, where they fit. How many there are is told anyway.
+#[inline(always)]
 pub(crate) fn put(bytes: &[u8], out: &mut [u8], count: &mut usize) -> bool
     ensures count { count.new ≡ length bytes.now }
     ensures done { result ≡ true → out.new ≡ with_front bytes.now out.old }

@@ -30,6 +30,7 @@ pub(crate) enum Written {
 }
 
 impl Written {
+    #[inline(always)]
     pub(crate) fn as_slice(&self) -> &[u8]
         ensures { result.now ≡ written_bytes self.now }
     {
@@ -42,6 +43,7 @@ impl Written {
 }
 
 /// An attention (MS-TDS 2.2.1.7).
+#[inline(always)]
 fn attention_packet() -> [u8; 8]
     ensures { result ≡ attention }
 {
@@ -50,6 +52,7 @@ fn attention_packet() -> [u8; 8]
 
 /// A packet of this type that ends a request of which so many are out, to be ignored (MS-TDS
 /// 2.2.3.1.2), and an attention.
+#[inline(always)]
 fn both_packets(kind: Kind, before: usize) -> [u8; 16]
     requires { before < 2 ^ 63 }
     ensures { result ≡ ignore kind before ++ attention }
@@ -60,6 +63,7 @@ fn both_packets(kind: Kind, before: usize) -> [u8; 16]
 
 impl TdsSeat {
     /// The same seat, where what is underway is cancelled.
+    #[inline(always)]
     #[tactic(auto, unfolding(crate::specs::Plain::stage_at))]
     pub(crate) fn cancelled(self) -> TdsSeat
         ensures line { line_of result ≡ (turn {T = Token} (line_of self) line.Cancel).line }
@@ -80,6 +84,7 @@ impl TdsSeat {
     }
 
     /// What is to be sent for that.
+    #[inline(always)]
     pub(crate) fn written(&self) -> Written
         ensures sent { AreBytes (turn {T = Token} (line_of self.now) line.Cancel).sent
             (written_bytes result) }
@@ -99,6 +104,7 @@ impl TdsSeat {
     }
 
     /// What a cancel answers.
+    #[inline(always)]
     #[tactic(auto, unfolding(crate::specs::Plain::stage_at))]
     pub(crate) fn how_cancelled(&self) -> Result<Cancelled, Stop>
         ensures how { IfOk result (λ how. (turn {T = Token} (line_of self.now) line.Cancel).answer

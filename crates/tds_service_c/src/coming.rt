@@ -15,6 +15,7 @@ use tds_client::Sign;
 use tds_service::{Came, Refusal};
 
 /// A token came, of this sign. Whether it is told, and whose it is.
+#[inline(always)]
 pub(crate) fn hear(
     service: &TdsService,
     seats: &mut [TdsSeat],
@@ -48,6 +49,7 @@ pub(crate) fn hear(
 }
 
 /// A message has ended, inside a token or between two. Whose it was.
+#[inline(always)]
 pub(crate) fn end(
     service: &TdsService,
     seats: &mut [TdsSeat],

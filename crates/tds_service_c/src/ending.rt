@@ -1,16 +1,16 @@
 //! What a seat's client makes of a message's end, and where its connection is behind what came.
 
-ghost use Rattle.std.specs.Prelude.{◌≡◌, []};
+ghost use Rattle.std.specs.Prelude.{◌≡◌, [], None, true};
 ghost use Rattle.tds_client.specs.declared.heard.FinalDone.TheVariants.{Awaited};
 ghost use Rattle.tds_client.specs.Hearing.{with_done};
 ghost use Rattle.tds_service.specs.Line as line;
 ghost use Rattle.tds_service.specs.Line.{heard_at};
 ghost use Rattle.tds_service.specs.Packets.{outcome_answer};
-ghost use Rattle.tds_service.specs.Service.{drained, lease_in};
+ghost use Rattle.tds_service.specs.Service.{Draining, drained, lease_in};
 ghost use Rattle.tds_service.specs.Ties.{Hears};
 ghost use Rattle.tds_service_c.specs.Clients.{apart};
 ghost use Rattle.tds_service_c.specs.Hearing.{end_part};
-ghost use Rattle.tds_service_c.specs.Plain.{line_of, place_of, stage_of};
+ghost use Rattle.tds_service_c.specs.Plain.{done_of, line_of, mark_of, place_of, stage_of};
 
 use crate::hearing::Hearing;
 use crate::plain::TdsSeat;
@@ -19,6 +19,7 @@ use tds_listen::ListenFault;
 use tds_service::{Outcome, Place};
 
 /// This came of the end of a message.
+#[inline(always)]
 fn came(seat: TdsSeat, outcome: Outcome) -> Hearing
     ensures seat { result.seat ≡ seat }
     ensures outcome { result.outcome ≡ outcome }
@@ -32,6 +33,7 @@ fn came(seat: TdsSeat, outcome: Outcome) -> Hearing
 
 impl TdsSeat {
     /// Its client hears that a message has ended, inside a token or between two.
+    #[inline(always)]
     #[tactic(auto, unfolding(crate::specs::Plain::stage_at))]
     pub(crate) fn end(self, cut: bool) -> Hearing
         ensures hears { Hears (end_part cut) (line_of self) (line_of result.seat)
@@ -50,6 +52,7 @@ impl TdsSeat {
     }
 
     /// The same seat, where the message that came is over.
+    #[inline(always)]
     fn over(self) -> TdsSeat
         ensures line { line_of result ≡ heard_at (line_of self) (stage_of self.client)
             (with_done (line_of self).heard Awaited) }
@@ -63,6 +66,7 @@ impl TdsSeat {
     }
 
     /// The same seat, whose client is idle.
+    #[inline(always)]
     #[tactic(auto, unfolding(crate::specs::Plain::stage_at))]
     fn idle(self) -> TdsSeat
         ensures line { line_of result ≡ heard_at (line_of self) line.Idle (line_of self).heard }
@@ -76,6 +80,7 @@ impl TdsSeat {
     }
 
     /// The same of one that awaits an answer.
+    #[inline(always)]
     fn end_read(self, cut: bool) -> Hearing
         requires { stage_of self.client ≡ line.Reading }
         ensures hears { Hears (end_part cut) (line_of self) (line_of result.seat)
@@ -100,6 +105,7 @@ impl TdsSeat {
     }
 
     /// The same of one that awaits an acknowledgement: there it may end anywhere.
+    #[inline(always)]
     fn end_skipped(self, cut: bool) -> Hearing
         requires { stage_of self.client ≡ line.Cancelling }
         ensures hears { Hears (end_part cut) (line_of self) (line_of result.seat)
@@ -115,7 +121,46 @@ impl TdsSeat {
         came(self.over(), Outcome::More)
     }
 
+    /// Whether its client has an answer whole, owes no reset, and its connection doesn't drain.
+    #[inline(always)]
+    #[tactic(auto, unfolding(crate::specs::Plain::stage_at))]
+    pub(crate) fn has_answer(&self) -> bool
+        ensures stage { result ≡ true → stage_of self.now.client ≡ line.Reading }
+        ensures mark { result ≡ true → mark_of self.now.client.mark ≡ None }
+        ensures done { result ≡ true → ¬ (done_of self.now.client.done ≡ Awaited) }
+        ensures held { result ≡ true → ¬ (place_of self.now ≡ Draining) }
+    {
+        if self.client.stage != 2 || self.done() == FinalDone::Awaited {
+            return false;
+        }
+        if let Some(_) = self.mark() {
+            return false;
+        }
+        match self.place() {
+            Place::Draining => false,
+            Place::Leased(_) => true,
+            Place::Cleaning(_) => true,
+            Place::Kept(_) => true,
+            Place::Free => true,
+        }
+    }
+
+    /// The answer has ended: its client is idle.
+    #[inline(always)]
+    #[tactic(auto, unfolding(crate::specs::Plain::stage_at))]
+    pub(crate) fn end_answer(&mut self)
+        ensures line { line_of self.new
+            ≡ heard_at (line_of self.old) line.Idle (with_done (line_of self.old).heard Awaited) }
+        ensures place { place_of self.new ≡ place_of self.old }
+        ensures number { self.new.number ≡ self.old.number }
+        ensures apart { apart self.new.client ≡ apart self.old.client }
+    {
+        self.client.stage = 0;
+        self.client.done = 0;
+    }
+
     /// The same seat, where it is behind what came: one that drains is free once it is idle.
+    #[inline(always)]
     pub(crate) fn settled(self) -> TdsSeat
         ensures line { line_of result ≡ line_of self }
         ensures place { place_of result ≡ drained (place_of self) (stage_of self.client) }
@@ -138,6 +183,7 @@ impl TdsSeat {
     }
 
     /// The lease that holds it, where one does.
+    #[inline(always)]
     pub(crate) fn lease(&self) -> Option<u64>
         ensures { result ≡ lease_in (place_of self.now) }
     {

@@ -16,6 +16,7 @@ use crate::{giving, keeping, lending};
 use tds_service::{Lent, Refusal, Rest};
 
 /// Whether the array has room for the table.
+#[inline(always)]
 pub(crate) fn fits(service: &TdsService, seats: &[TdsSeat]) -> Result<(), Stop>
     ensures yes { OnOk result (service.now.count ≤ length seats.now) }
     ensures no { IfErr result (λ stop. (stop ≡ Stop.NoTable)
@@ -28,6 +29,7 @@ pub(crate) fn fits(service: &TdsService, seats: &[TdsSeat]) -> Result<(), Stop>
 }
 
 /// Writes a lease, where there is one. 0, or why not.
+#[inline(always)]
 fn write_lent(answer: Result<Lent, Stop>, lent: &mut TdsLent) -> u8
     ensures number { result ≡ done_number answer }
     ensures ok { IfOk answer (λ l. lent.new ≡ plain_lent l) }
@@ -47,6 +49,7 @@ fn write_lent(answer: Result<Lent, Stop>, lent: &mut TdsLent) -> u8
 }
 
 /// Writes a connection's number, where a lease has ended. Where the connection is, or why not.
+#[inline(always)]
 fn write_ended(answer: Result<(u64, Rest), Stop>, number: &mut u64) -> u8
     ensures number { result ≡ ended_number answer }
     ensures ok { IfOk answer (λ done. number.new ≡ done.0) }
@@ -254,6 +257,7 @@ pub extern "C" fn tds_service_drained(
 }
 
 /// The place in the array of the first connection that is wanted.
+#[inline(always)]
 fn find_in(service: &TdsService, seats: &[TdsSeat], wanted: Wanted) -> Result<usize, Stop>
     ensures { (before after : ℕ) → MatchResult result (λ index. after ≡ index) (λ _. after ≡ before)
         → Finding (wanted_test wanted) (record { service = service.now; seats = seats.now })

@@ -21,6 +21,7 @@ use tds_service::{Place, Refusal, Rest};
 
 /// Puts this seat in the place of the one at an index: where it is now that nobody holds it. One that
 /// is closed is taken out.
+#[inline(always)]
 pub(crate) fn settle(
     service: &mut TdsService,
     seats: &mut [TdsSeat],
@@ -52,6 +53,7 @@ pub(crate) fn settle(
 }
 
 /// Ends a lease: what is underway is cancelled, and what is to be sent for that is written to `out`.
+#[inline(always)]
 pub(crate) fn give_back(
     service: &mut TdsService,
     seats: &mut [TdsSeat],
@@ -77,6 +79,11 @@ pub(crate) fn give_back(
         return Err(Stop::Refused(Refusal::Unknown));
     };
     let seat = seats[index];
+    // Most are given back so: nothing is cancelled, and nothing is sent for it.
+    if seat.is_idle() {
+        settle(service, seats, index, seat, Rest::Free);
+        return Ok((seat.number, Rest::Free));
+    }
     let written = seat.written();
     let bytes = written.as_slice();
     *count = bytes.len();
@@ -91,6 +98,7 @@ pub(crate) fn give_back(
 }
 
 /// The connection of this number is lost, and in the table no longer.
+#[inline(always)]
 pub(crate) fn lost(
     service: &mut TdsService,
     seats: &mut [TdsSeat],
@@ -116,6 +124,7 @@ pub(crate) fn lost(
 }
 
 /// What came on the connection of this number was heard: one that drains is free once it is idle.
+#[inline(always)]
 pub(crate) fn drained(
     service: &mut TdsService,
     seats: &mut [TdsSeat],

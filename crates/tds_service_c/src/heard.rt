@@ -15,6 +15,7 @@ use tds_service::{Came, Outcome};
 use tds_walk::TdsWireToken;
 
 /// Why a connection is broken.
+#[inline(always)]
 fn broken_number(fault: &ListenFault) -> u8
     ensures { result ≡ broken_number fault.now }
 {
@@ -27,6 +28,7 @@ fn broken_number(fault: &ListenFault) -> u8
 }
 
 /// What came of a token that is told, or isn't.
+#[inline(always)]
 fn heard_number(told: bool, outcome: &Outcome) -> u8
     ensures { result ≡ heard_number told outcome.now }
 {
@@ -40,6 +42,7 @@ fn heard_number(told: bool, outcome: &Outcome) -> u8
 }
 
 /// What came of a message's end.
+#[inline(always)]
 fn ended_number(outcome: &Outcome) -> u8
     ensures { result ≡ ended_number outcome.now }
 {
@@ -51,6 +54,7 @@ fn ended_number(outcome: &Outcome) -> u8
     }
 }
 
+#[inline(always)]
 fn whose(came: &Came) -> TdsWhose
     ensures { result ≡ plain_whose came.now }
 {
@@ -64,6 +68,7 @@ fn whose(came: &Came) -> TdsWhose
 }
 
 /// A token of this sign came, where it has one.
+#[inline(always)]
 fn hear(
     service: &TdsService,
     seats: &mut [TdsSeat],
@@ -183,6 +188,7 @@ pub extern "C" fn tds_service_message_ended(
     end(service, seats, number, cut != 0, whose)
 }
 
+#[inline(always)]
 fn end(
     service: &TdsService,
     seats: &mut [TdsSeat],

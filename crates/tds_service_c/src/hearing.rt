@@ -1,6 +1,6 @@
 //! What a seat's client hears: a token's sign, the end of a message.
 
-ghost use Rattle.std.specs.Prelude.{◌≡◌, Bool, [], Ok, Err, IfErr, IfOk, if◌then◌else◌};
+ghost use Rattle.std.specs.Prelude.{◌≡◌, Bool, [], Ok, Err, IfErr, IfOk, IfSome, false, if◌then◌else◌};
 ghost use Rattle.tds_wire.specs.declared.told.Token.{Token};
 ghost use Rattle.tds_client.specs.declared.sign.Rules.TheVariants.{Any};
 ghost use Rattle.tds_client.specs.Faults.{fault_number};
@@ -29,6 +29,7 @@ pub(crate) struct Hearing {
     pub(crate) outcome: Outcome,
 }
 
+#[inline(always)]
 fn done_number(done: FinalDone) -> u8
     ensures { done_of result ≡ done }
 {
@@ -39,6 +40,7 @@ fn done_number(done: FinalDone) -> u8
     }
 }
 
+#[inline(always)]
 #[tactic(auto, unfolding(crate::specs::Plain::mark_of))]
 fn mark_number(mark: Option<Reset>) -> u8
     ensures { mark_of result ≡ mark }
@@ -51,6 +53,7 @@ fn mark_number(mark: Option<Reset>) -> u8
 }
 
 /// The stage of a client that awaits an answer, or behind an attention its acknowledgement.
+#[inline(always)]
 fn awaiting(cancelling: bool) -> StageParts
     ensures { result ≡ (if cancelling then StageParts.Cancelling else StageParts.Reading) }
 {
@@ -62,6 +65,7 @@ fn awaiting(cancelling: bool) -> StageParts
 }
 
 /// What a client that awaits an answer, or behind an attention an acknowledgement, makes of a sign.
+#[inline(always)]
 fn hear_awaited(heard: Heard, cancelling: bool, sign: Sign) -> Result<Heard, ClientFault>
     ensures ok { IfOk result (λ next. hear_sign Any cancelling heard sign ≡ Ok next) }
     ensures fault { IfErr result (λ fault. hear_sign Any cancelling heard sign ≡ Err fault) }
@@ -82,6 +86,7 @@ fn hear_awaited(heard: Heard, cancelling: bool, sign: Sign) -> Result<Heard, Cli
 }
 
 impl TdsSeat {
+    #[inline(always)]
     pub(crate) fn done(&self) -> FinalDone
         ensures { result ≡ done_of self.now.client.done }
     {
@@ -93,6 +98,7 @@ impl TdsSeat {
     }
 
     /// What its client has heard.
+    #[inline(always)]
     fn heard(&self) -> Heard
         ensures { result ≡ (line_of self.now).heard }
     {
@@ -104,6 +110,7 @@ impl TdsSeat {
     }
 
     /// The same seat, where its client has heard this.
+    #[inline(always)]
     fn with_heard(self, heard: Heard) -> TdsSeat
         ensures line { line_of result ≡ heard_at (line_of self) (stage_of self.client) heard }
         ensures place { place_of result ≡ place_of self }
@@ -111,13 +118,43 @@ impl TdsSeat {
         ensures apart { apart result.client ≡ apart self.client }
     {
         let mut seat = self;
-        seat.client.descriptor = heard.descriptor;
-        seat.client.mark = mark_number(heard.mark);
-        seat.client.done = done_number(heard.done);
+        seat.hold(heard);
         seat
     }
 
+    /// What its client has heard behind a sign, where it awaits an answer and the sign breaks nothing.
+    #[inline(always)]
+    #[tactic(auto, unfolding(crate::specs::Plain::stage_at))]
+    pub(crate) fn hears(&self, sign: Sign) -> Option<Heard>
+        ensures stage { IfSome result (λ _. stage_of self.now.client ≡ line.Reading) }
+        ensures heard { IfSome result (λ heard.
+            hear_sign Any false (line_of self.now).heard sign ≡ Ok heard) }
+    {
+        if self.client.stage != 2 {
+            return None;
+        }
+        match hear_awaited(self.heard(), false, sign) {
+            Ok(heard) => Some(heard),
+            Err(_) => None,
+        }
+    }
+
+    /// Its client has heard this.
+    #[inline(always)]
+    pub(crate) fn hold(&mut self, heard: Heard)
+        ensures line { line_of self.new
+            ≡ heard_at (line_of self.old) (stage_of self.old.client) heard }
+        ensures place { place_of self.new ≡ place_of self.old }
+        ensures number { self.new.number ≡ self.old.number }
+        ensures apart { apart self.new.client ≡ apart self.old.client }
+    {
+        self.client.descriptor = heard.descriptor;
+        self.client.mark = mark_number(heard.mark);
+        self.client.done = done_number(heard.done);
+    }
+
     /// What broke its client.
+    #[inline(always)]
     pub(crate) fn fault(&self) -> ClientFault
         ensures { result ≡ fault_of self.now.client.fault }
     {
@@ -134,6 +171,7 @@ impl TdsSeat {
     }
 
     /// The same seat, whose client is broken by the fault of this number.
+    #[inline(always)]
     #[tactic(auto, unfolding(crate::specs::Plain::stage_at))]
     pub(crate) fn broken(self, fault: u8) -> TdsSeat
         ensures line { line_of result
@@ -150,6 +188,7 @@ impl TdsSeat {
     }
 
     /// Its client hears the sign of a token.
+    #[inline(always)]
     #[tactic(auto, unfolding(crate::specs::Plain::stage_at))]
     pub(crate) fn hear(self, sign: Sign) -> Hearing
         ensures hears { (token : Token) → Hears (one_part sign token) (line_of self)
@@ -176,6 +215,7 @@ impl TdsSeat {
     }
 
     /// Its client is broken by this fault, which has this number.
+    #[inline(always)]
     pub(crate) fn breaks(self, number: u8, fault: ClientFault) -> Hearing
         requires { fault_of number ≡ fault }
         ensures line { line_of result.seat
@@ -196,7 +236,8 @@ impl TdsSeat {
 }
 
 /// Whether a token of this sign is told.
-fn is_told(sign: Sign) -> bool
+#[inline(always)]
+pub(crate) fn is_told(sign: Sign) -> bool
     ensures { (token : Token) → told_if result token ≡ told_by sign token [] }
 {
     match sign {
@@ -208,6 +249,7 @@ fn is_told(sign: Sign) -> bool
 
 impl TdsSeat {
     /// The same of one that awaits an answer.
+    #[inline(always)]
     fn reads(self, sign: Sign) -> Hearing
         requires { stage_of self.client ≡ line.Reading }
         ensures hears { (token : Token) → Hears (one_part sign token) (line_of self)
@@ -228,6 +270,7 @@ impl TdsSeat {
     }
 
     /// The same of one that awaits an acknowledgement.
+    #[inline(always)]
     fn skips(self, sign: Sign) -> Hearing
         requires { stage_of self.client ≡ line.Cancelling }
         ensures hears { (token : Token) → Hears (one_part sign token) (line_of self)

@@ -25,6 +25,7 @@ pub(crate) enum Chosen {
 }
 
 impl Chosen {
+    #[inline(always)]
     fn wanted(self) -> Wanted
         ensures { wanted_test result ≡ chosen_test self }
     {
@@ -35,6 +36,7 @@ impl Chosen {
     }
 
     /// Whether it can be lent now.
+    #[inline(always)]
     fn allows(self, seat: &TdsSeat) -> bool
         ensures { result ≡ chosen_allows self (seat_of seat.now) }
     {
@@ -45,6 +47,7 @@ impl Chosen {
     }
 
     /// Where it is, lent by this lease.
+    #[inline(always)]
     fn place(self, lease: u64) -> Place
         ensures { place_named result ≡ chosen_place self lease }
     {
@@ -55,6 +58,7 @@ impl Chosen {
     }
 
     /// The reset that its next request asks for.
+    #[inline(always)]
     fn reset(self) -> Reset
         ensures { result ≡ chosen_reset self }
     {
@@ -67,6 +71,7 @@ impl Chosen {
 
 /// Lends the connection that is chosen: one that was kept, to go on with its transaction, whose ticket
 /// is spent; or one that can be lent, to be cleaned.
+#[inline(always)]
 pub(crate) fn lend_chosen(
     service: &mut TdsService,
     seats: &mut [TdsSeat],
@@ -95,6 +100,7 @@ pub(crate) fn lend_chosen(
 }
 
 /// Keeps a connection with its transaction, and answers a ticket. The lease is spent.
+#[inline(always)]
 pub(crate) fn keep(
     service: &mut TdsService,
     seats: &mut [TdsSeat],
@@ -124,6 +130,7 @@ pub(crate) fn keep(
 }
 
 /// Gives a connection up that was kept. The ticket is spent.
+#[inline(always)]
 pub(crate) fn abandon(
     service: &mut TdsService,
     seats: &mut [TdsSeat],
@@ -149,6 +156,7 @@ pub(crate) fn abandon(
 }
 
 /// Ends a lease that `clean` gave, where nothing is underway any more.
+#[inline(always)]
 pub(crate) fn cleaned(
     service: &mut TdsService,
     seats: &mut [TdsSeat],

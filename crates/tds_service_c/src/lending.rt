@@ -19,6 +19,7 @@ use tds_packet::Reset;
 use tds_service::{Lent, Place, Refusal};
 
 /// The next number of a lease or a ticket.
+#[inline(always)]
 pub(crate) fn next_given(service: &TdsService) -> Result<u64, Refusal>
     ensures value { IfOk result (λ next. next ≡ service.now.given + 1) }
     ensures used { IfErr result (λ refusal. (refusal ≡ Refusal.Memory)
@@ -32,6 +33,7 @@ pub(crate) fn next_given(service: &TdsService) -> Result<u64, Refusal>
 
 /// Lends the connection at an index, which is idle, by the lease of this number; its next request asks
 /// for this reset.
+#[inline(always)]
 pub(crate) fn lend_at(
     service: &mut TdsService,
     seats: &mut [TdsSeat],
@@ -64,6 +66,7 @@ pub(crate) fn lend_at(
 }
 
 /// A seat of a new connection, lent by this lease.
+#[inline(always)]
 #[tactic(auto, unfolding(crate::specs::Plain::stage_at, crate::specs::Plain::place_at, crate::specs::Plain::mark_of))]
 fn new_seat(number: u64, lease: u64, size: u16) -> TdsSeat
     ensures seat { seat_of result
@@ -92,6 +95,7 @@ fn new_seat(number: u64, lease: u64, size: u16) -> TdsSeat
 }
 
 /// A new connection, lent by this lease.
+#[inline(always)]
 fn open(service: &mut TdsService, seats: &mut [TdsSeat], lease: u64) -> Result<Lent, Refusal>
     requires fits { service.old.count ≤ length seats.old }
     requires next { lease ≡ service.old.given + 1 }
@@ -126,6 +130,7 @@ fn open(service: &mut TdsService, seats: &mut [TdsSeat], lease: u64) -> Result<L
 }
 
 /// Lends a free connection that is idle, and marks it for a full reset; else a new one.
+#[inline(always)]
 pub(crate) fn lease(service: &mut TdsService, seats: &mut [TdsSeat]) -> Result<Lent, Refusal>
     requires fits { service.old.count ≤ length seats.old }
     ensures ok { IfOk result (λ lent. Steps calls.Lease (table_of service.old seats.old)

@@ -5,15 +5,16 @@ ghost use Rattle.std.specs.Prelude.{◌≡◌, Result};
 ghost use Rattle.tds_service.specs.Service.{lease_in};
 ghost use Rattle.tds_service_c.specs.declared.packet.Halt.{Halt as AnyHalt};
 ghost use Rattle.tds_service_c.specs.declared.packet.Without.{Without as AnyWithout};
-ghost use Rattle.tds_service_c.specs.Packet.{HearsPacket, packet_fault_number, halt_number, packet_number, end_taken_number};
+ghost use Rattle.tds_service_c.specs.Packet.{HearsPacket, end_taken_number, halt_number, packet_fault_number, packet_number, unheard_number};
 ghost use Rattle.tds_service_c.specs.Hearing.{lease_number};
 ghost use Rattle.tds_service_c.specs.Plain.{place_of};
 
 mod listening;
 mod walked;
+mod whole;
 
 use crate::exports::fits;
-use crate::packet::walked::hear_on;
+use crate::packet::whole::hear_packet;
 use crate::plain::{TdsSeat, TdsService, TdsWhose};
 use crate::seat::Wanted;
 use crate::table::find;
@@ -48,7 +49,19 @@ pub(crate) enum Without {
     Unknown,
 }
 
-fn packet_fault_number(fault: &ListenFault) -> u8
+#[inline(always)]
+pub(crate) fn unheard_number(why: Without) -> u8
+    ensures { result ≡ unheard_number why }
+{
+    match why {
+        Without::NoTable => 20,
+        Without::NoWalk => 20,
+        Without::Unknown => 34,
+    }
+}
+
+#[inline(always)]
+pub(crate) fn packet_fault_number(fault: &ListenFault) -> u8
     ensures { result ≡ packet_fault_number fault.now }
 {
     match fault {
@@ -59,7 +72,8 @@ fn packet_fault_number(fault: &ListenFault) -> u8
     }
 }
 
-fn end_taken_number(taken: &Taken) -> u8
+#[inline(always)]
+pub(crate) fn end_taken_number(taken: &Taken) -> u8
     ensures { result ≡ end_taken_number taken.now }
 {
     match taken {
@@ -70,7 +84,8 @@ fn end_taken_number(taken: &Taken) -> u8
     }
 }
 
-fn halt_number(halt: &Halt) -> u8
+#[inline(always)]
+pub(crate) fn halt_number(halt: &Halt) -> u8
     ensures { result ≡ halt_number halt.now }
 {
     match halt {
@@ -82,19 +97,9 @@ fn halt_number(halt: &Halt) -> u8
     }
 }
 
-fn packet_number(heard: &Result<Halt, Without>) -> u8
-    ensures { result ≡ packet_number heard.now }
-{
-    match heard {
-        Ok(halt) => halt_number(halt),
-        Err(Without::NoTable) => 20,
-        Err(Without::NoWalk) => 20,
-        Err(Without::Unknown) => 34,
-    }
-}
-
 /// Whose what comes on a connection is.
-fn whose(seat: &TdsSeat) -> TdsWhose
+#[inline(always)]
+pub(crate) fn whose(seat: &TdsSeat) -> TdsWhose
     ensures lease { result.lease ≡ lease_number (lease_in (place_of seat.now)) }
     ensures request { result.request ≡ seat.now.asked }
 {
@@ -107,6 +112,7 @@ fn whose(seat: &TdsSeat) -> TdsWhose
     }
 }
 
+#[inline(always)]
 fn hear(
     service: &TdsService,
     seats: &mut [TdsSeat],
@@ -119,45 +125,37 @@ fn hear(
     tokens: &mut [TdsWireToken],
     count: &mut usize,
     owner: &mut TdsWhose,
-) -> Result<Halt, Without>
-    ensures { HearsPacket number (record {
-      before = record {
-        held = record { service = service.now; seats = seats.old };
-        walk = walk.old;
-        memory = memory.old;
-        whose = owner.old;
-      };
-      after = record {
-        held = record { service = service.now; seats = seats.new };
-        walk = walk.new;
-        memory = memory.new;
-        whose = owner.new;
-      };
-      bytes = bytes.now;
-      ends = ends;
-      taken = taken.new;
-      room = record { before = tokens.old; after = tokens.new; count = count.new };
-    }) result }
+) -> u8
+    ensures { (heard : Result AnyHalt AnyWithout) × (result ≡ packet_number heard)
+        × HearsPacket number (record {
+          before = record {
+            held = record { service = service.now; seats = seats.old };
+            walk = walk.old;
+            memory = memory.old;
+            whose = owner.old;
+          };
+          after = record {
+            held = record { service = service.now; seats = seats.new };
+            walk = walk.new;
+            memory = memory.new;
+            whose = owner.new;
+          };
+          bytes = bytes.now;
+          ends = ends;
+          taken = taken.new;
+          room = record { before = tokens.old; after = tokens.new; count = count.new };
+        }) heard }
 {
     *taken = 0;
     *count = 0;
     if let Err(_) = fits(service, seats) {
-        return Err(Without::NoTable);
+        return unheard_number(Without::NoTable);
     }
     let Some(index) = find(&seats[..service.count], Wanted::Number(number)) else {
-        return Err(Without::Unknown);
+        return unheard_number(Without::Unknown);
     };
-    let Some(mut lent) = walk.walk() else {
-        return Err(Without::NoWalk);
-    };
-    let mut seat = seats[index];
-    *owner = whose(&seat);
-    let halt = hear_on(
-        &mut seat, &mut lent, memory, bytes, ends, taken, tokens, count,
-    );
-    seats[index] = seat;
-    *walk = TdsWire::of(&lent);
-    Ok(halt)
+    let seat = &mut seats[index];
+    hear_packet(seat, walk, memory, bytes, ends, taken, tokens, count, owner)
 }
 
 /// The data of a packet of any server's answer came on the connection of this number, or what is left of
@@ -199,7 +197,7 @@ pub extern "C" fn tds_service_hear(
           room = record { before = tokens.old; after = tokens.new; count = count.new };
         }) heard }
 {
-    packet_number(&hear(
+    hear(
         service, seats, number, walk, memory, bytes, ends, taken, tokens, count, whose,
-    ))
+    )
 }

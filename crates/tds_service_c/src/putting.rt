@@ -14,6 +14,7 @@ use crate::plain::TdsSeat;
 use crate::sending::{Putting, write_packet};
 
 /// Whether there is room for a packet of this size, and for its data.
+#[inline(always)]
 fn has_room(size: usize, kept: &[u8], out: &[u8]) -> bool
     ensures yes { result ≡ true → (size ≤ length out.now) × (size ≤ length kept.now + 8) }
     ensures no { result ≡ false → (length out.now < size) ⊎ (length kept.now + 8 < size) }
@@ -22,6 +23,7 @@ fn has_room(size: usize, kept: &[u8], out: &[u8]) -> bool
 }
 
 /// Puts bytes behind those that wait.
+#[inline(always)]
 fn keep(kept: &mut [u8], waiting: usize, bytes: &[u8])
     requires room { waiting + length bytes.now ≤ length kept.old }
     ensures { kept.new ≡ with_front (take waiting kept.old ++ bytes.now) kept.old }
@@ -30,6 +32,7 @@ fn keep(kept: &mut [u8], waiting: usize, bytes: &[u8])
 }
 
 /// Writes a full packet: what waits and these first bytes. The byte behind them waits now.
+#[inline(always)]
 fn fill(seat: &TdsSeat, kept: &mut [u8], waiting: usize, end: usize, bytes: &[u8], out: &mut [u8])
     requires packets { seat.now.client.packets < 9223372036854775807 }
     requires most { waiting + end ≤ 32759 }
@@ -45,8 +48,9 @@ fn fill(seat: &TdsSeat, kept: &mut [u8], waiting: usize, end: usize, bytes: &[u8
 }
 
 /// Puts these bytes, or as many as end a packet, of which so many are still to come.
+#[inline(always)]
 fn put_some(
-    seat: TdsSeat,
+    seat: &mut TdsSeat,
     kept: &mut [u8],
     waiting: &mut usize,
     end: usize,
@@ -54,55 +58,57 @@ fn put_some(
     taken: &mut usize,
     out: &mut [u8],
     count: &mut usize,
-) -> (TdsSeat, Putting)
-    requires sending { (begun : Bool) × ((line_of seat).stage ≡ line.Sending begun) }
-    requires packets { seat.client.packets < 9223372036854775807 }
-    requires range { IsPacketSize seat.client.size }
-    requires full { waiting.old + end + 8 ≡ seat.client.size }
-    requires room { seat.client.size ≤ length kept.old + 8 }
-    requires out { seat.client.size ≤ length out.old }
+) -> Putting
+    requires sending { (begun : Bool) × ((line_of seat.old).stage ≡ line.Sending begun) }
+    requires packets { seat.old.client.packets < 9223372036854775807 }
+    requires range { IsPacketSize seat.old.client.size }
+    requires full { waiting.old + end + 8 ≡ seat.old.client.size }
+    requires room { seat.old.client.size ≤ length kept.old + 8 }
+    requires out { seat.old.client.size ≤ length out.old }
     requires none { count.old ≡ 0 }
-    ensures { PutsOn seat result.0 (record {
+    ensures { PutsOn seat.old seat.new (record {
       before = kept.old;
       after = kept.new;
       waiting = waiting.old;
       waits = waiting.new;
     }) bytes.now taken.new
-        (record { before = out.old; after = out.new; count = count.new }) result.1 }
+        (record { before = out.old; after = out.new; count = count.new }) result }
 {
     let before = *waiting;
     if bytes.len() <= end {
         keep(kept, before, bytes);
         *waiting = before + bytes.len();
         *taken = bytes.len();
-        return (seat, Putting::All);
+        return Putting::All;
     }
-    fill(&seat, kept, before, end, bytes, out);
+    fill(seat, kept, before, end, bytes, out);
     *waiting = 1;
     *taken = end + 1;
     *count = before + end + 8;
-    (seat.sent(false), Putting::Packet)
+    seat.go_on(false);
+    Putting::Packet
 }
 
 /// Puts as many of these bytes as fill one packet at most, which is written to `out`.
+#[inline(always)]
 pub(crate) fn put(
-    seat: TdsSeat,
+    seat: &mut TdsSeat,
     kept: &mut [u8],
     waiting: &mut usize,
     bytes: &[u8],
     taken: &mut usize,
     out: &mut [u8],
     count: &mut usize,
-) -> Result<(TdsSeat, Putting), Stop>
+) -> Result<Putting, Stop>
     requires { (count.old ≡ 0) × (taken.old ≡ 0) }
-    ensures ok { IfOk result (λ done. PutsOn seat done.0 (record {
+    ensures ok { IfOk result (λ putting. PutsOn seat.old seat.new (record {
       before = kept.old;
       after = kept.new;
       waiting = waiting.old;
       waits = waiting.new;
     }) bytes.now taken.new
-        (record { before = out.old; after = out.new; count = count.new }) done.1) }
-    ensures stops { IfErr result (PutsNot seat (record {
+        (record { before = out.old; after = out.new; count = count.new }) putting) }
+    ensures stops { IfErr result (PutsNot seat.old (record {
       before = kept.old;
       after = kept.new;
       waiting = waiting.old;
@@ -110,6 +116,7 @@ pub(crate) fn put(
     }) (record { before = out.old; after = out.new; count = count.new })) }
     ensures kept { OnErr result ((kept.new ≡ kept.old) × (waiting.new ≡ waiting.old)) }
     ensures nothing { OnErr result ((out.new ≡ out.old) × (taken.new ≡ 0)) }
+    ensures same { OnErr result (seat.new ≡ seat.old) }
 {
     if let Err(refusal) = seat.may_send() {
         return Err(Stop::Refused(refusal));

@@ -14,6 +14,7 @@ use tds_client::Cancelled;
 use tds_service::Asked;
 
 /// Writes which request was asked. 0, or why none was.
+#[inline(always)]
 fn write_asked(answer: Result<Asked, Stop>, asked: &mut TdsAsked) -> u8
     ensures number { result ≡ done_number answer }
     ensures ok { IfOk answer (λ a. asked.new ≡ plain_asked a) }
@@ -31,6 +32,7 @@ fn write_asked(answer: Result<Asked, Stop>, asked: &mut TdsAsked) -> u8
     }
 }
 
+#[inline(always)]
 fn put_number(answer: Result<Putting, Stop>) -> u8
     ensures { result ≡ puts_number answer }
 {
@@ -41,6 +43,7 @@ fn put_number(answer: Result<Putting, Stop>) -> u8
     }
 }
 
+#[inline(always)]
 fn cancel_number(answer: Result<Cancelled, Stop>) -> u8
     ensures { result ≡ cancelled_number answer }
 {

@@ -37,6 +37,7 @@ pub(crate) enum Wanted {
 }
 
 /// Of a reset and of the one that a mark stands for the stronger one.
+#[inline(always)]
 #[tactic(auto, unfolding(crate::specs::Plain::mark_of))]
 fn stronger(reset: Reset, mark: u8) -> u8
     ensures { mark_of result ≡ strongest (Some reset) (mark_of mark) }
@@ -49,6 +50,7 @@ fn stronger(reset: Reset, mark: u8) -> u8
 
 impl TdsSeat {
     /// What its client is doing.
+    #[inline(always)]
     #[tactic(auto, unfolding(crate::specs::Plain::stage_at))]
     pub(crate) fn stage(&self) -> Stage
         ensures { result ≡ seen (stage_of self.now.client) }
@@ -69,6 +71,7 @@ impl TdsSeat {
     }
 
     /// Who holds it.
+    #[inline(always)]
     #[tactic(auto, unfolding(crate::specs::Plain::place_at))]
     pub(crate) fn place(&self) -> Place
         ensures { place_named result ≡ place_of self.now }
@@ -83,6 +86,7 @@ impl TdsSeat {
     }
 
     /// The same seat, where this place is.
+    #[inline(always)]
     #[tactic(auto, unfolding(crate::specs::Plain::place_at))]
     pub(crate) fn at(self, place: Place) -> TdsSeat
         ensures seat { seat_of result ≡ record {
@@ -107,6 +111,7 @@ impl TdsSeat {
     }
 
     /// The same seat, with this reset owed by its next request; of two the stronger one is.
+    #[inline(always)]
     pub(crate) fn marked(self, reset: Reset) -> TdsSeat
         ensures seat { seat_of result ≡ record {
           number = self.number;
@@ -120,6 +125,7 @@ impl TdsSeat {
         seat
     }
 
+    #[inline(always)]
     pub(crate) fn is_idle(&self) -> bool
         ensures { result ≡ is_idle (stage_of self.now.client) }
     {
@@ -134,6 +140,7 @@ impl TdsSeat {
     }
 
     /// Where it is once nobody holds it.
+    #[inline(always)]
     pub(crate) fn rest(&self) -> Rest
         ensures { rest_of result ≡ rests (stage_of self.now.client) }
     {
@@ -148,6 +155,7 @@ impl TdsSeat {
     }
 
     /// Whether it is the one that is wanted.
+    #[inline(always)]
     pub(crate) fn is_wanted(&self, wanted: Wanted) -> bool
         ensures { result ≡ wanted_test wanted (seat_of self.now) }
     {
@@ -172,6 +180,7 @@ impl TdsSeat {
     }
 
     /// Whether a transaction is open on it, and no full reset is about to end it.
+    #[inline(always)]
     #[tactic(auto, unfolding(crate::specs::Plain::mark_of))]
     fn is_open(&self) -> bool
         ensures { result ≡ is_open (mark_of self.now.client.mark) self.now.client.descriptor }
@@ -180,6 +189,7 @@ impl TdsSeat {
     }
 
     /// Whether it is idle, with a transaction that is open.
+    #[inline(always)]
     pub(crate) fn may_keep(&self) -> bool
         ensures { result ≡ may_keep (seat_of self.now) }
     {
@@ -187,6 +197,7 @@ impl TdsSeat {
     }
 
     /// Whether no reset is owed, and no transaction is open.
+    #[inline(always)]
     #[tactic(auto, unfolding(crate::specs::Plain::mark_of))]
     fn is_clean(&self) -> bool
         ensures { result ≡ is_clean (mark_of self.now.client.mark) self.now.client.descriptor }
@@ -195,6 +206,7 @@ impl TdsSeat {
     }
 
     /// Where it is once it is cleaned: none while that goes on, or where it isn't lent for this.
+    #[inline(always)]
     pub(crate) fn clean_rest(&self) -> Option<Rest>
         ensures { rests_of result ≡ clean_place (place_of self.now) (line_of self.now) }
     {
@@ -219,6 +231,7 @@ impl TdsSeat {
     }
 
     /// Where it is behind what came, if it drains.
+    #[inline(always)]
     pub(crate) fn drained_rest(&self) -> Option<Rest>
         ensures { rests_of result ≡ drained_rest (place_of self.now) (stage_of self.now.client) }
     {

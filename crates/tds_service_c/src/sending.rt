@@ -25,6 +25,7 @@ use tds_request::headers;
 use tds_service::Refusal;
 
 /// The message whose packets have this type (MS-TDS 2.2.3.1.1).
+#[inline(always)]
 #[tactic(auto, unfolding(crate::specs::Asking::message_from))]
 pub(crate) fn message(number: u8) -> Option<MessageKind>
     ensures { result ≡ message_from number }
@@ -39,6 +40,7 @@ pub(crate) fn message(number: u8) -> Option<MessageKind>
 }
 
 /// The type of a request's packets. A number that none has stands for a batch's.
+#[inline(always)]
 #[tactic(auto, unfolding(crate::specs::Plain::kind_at))]
 pub(crate) fn kind(number: u8) -> Kind
     ensures { result ≡ kind_at number }
@@ -53,6 +55,7 @@ pub(crate) fn kind(number: u8) -> Kind
 
 impl TdsSeat {
     /// The reset that its next request asks for.
+    #[inline(always)]
     #[tactic(auto, unfolding(crate::specs::Plain::mark_of))]
     pub(crate) fn mark(&self) -> Option<Reset>
         ensures { result ≡ mark_of self.now.client.mark }
@@ -65,6 +68,7 @@ impl TdsSeat {
     }
 
     /// The descriptor that its next request names: none under a full reset.
+    #[inline(always)]
     fn named(&self) -> u64
         ensures { result
             ≡ header_descriptor (mark_of self.now.client.mark) self.now.client.descriptor }
@@ -77,6 +81,7 @@ impl TdsSeat {
     }
 
     /// Whether a request can be asked on it.
+    #[inline(always)]
     #[tactic(auto, unfolding(crate::specs::Plain::stage_at))]
     fn may_ask(&self) -> Result<(), Refusal>
         ensures ok { OnOk result ((line_of self.now).stage ≡ line.Idle) }
@@ -98,27 +103,27 @@ impl TdsSeat {
         Ok(())
     }
 
-    /// The same seat, where a request of this kind was asked.
+    /// A request of this kind is asked on it.
+    #[inline(always)]
     #[tactic(auto, unfolding(crate::specs::Plain::stage_at, crate::specs::Plain::kind_at))]
-    fn asking(self, kind: MessageKind) -> TdsSeat
-        requires { self.asked < 18446744073709551615 }
-        ensures line { line_of result ≡ line.asked (line_of self) }
-        ensures place { place_of result ≡ place_of self }
-        ensures number { result.number ≡ self.number }
-        ensures asked { result.asked ≡ self.asked + 1 }
-        ensures kind { kind_at result.client.kind ≡ packets_are kind }
-        ensures is { result ≡ asked_seat kind self }
+    fn begin(&mut self, kind: MessageKind)
+        requires { self.old.asked < 18446744073709551615 }
+        ensures line { line_of self.new ≡ line.asked (line_of self.old) }
+        ensures place { place_of self.new ≡ place_of self.old }
+        ensures number { self.new.number ≡ self.old.number }
+        ensures asked { self.new.asked ≡ self.old.asked + 1 }
+        ensures kind { kind_at self.new.client.kind ≡ packets_are kind }
+        ensures is { self.new ≡ asked_seat kind self.old }
     {
-        let mut seat = self;
-        seat.asked += 1;
-        seat.client.stage = 1;
-        seat.client.kind = kind.packet_kind().byte();
-        seat.client.packets = 0;
-        seat.client.sent = 0;
-        seat
+        self.asked += 1;
+        self.client.stage = 1;
+        self.client.kind = kind.packet_kind().byte();
+        self.client.packets = 0;
+        self.client.sent = 0;
     }
 
     /// Whether a packet of its request can go out.
+    #[inline(always)]
     #[tactic(auto, unfolding(crate::specs::Plain::stage_at))]
     pub(crate) fn may_send(&self) -> Result<(), Refusal>
         ensures ok { OnOk result ((begun : Bool)
@@ -139,26 +144,27 @@ impl TdsSeat {
         Ok(())
     }
 
-    /// The same seat, where a packet of its request went out, the last one or not.
+    /// A packet of its request goes out, the last one or not.
+    #[inline(always)]
     #[tactic(auto, unfolding(crate::specs::Plain::stage_at))]
-    pub(crate) fn sent(self, last: bool) -> TdsSeat
-        requires sends { (begun : Bool) × ((line_of self).stage ≡ line.Sending begun) }
-        requires counted { self.client.packets < 9223372036854775807 }
-        ensures line { line_of result ≡ (turn {T = Token} (line_of self) (line.Send last)).line }
-        ensures place { place_of result ≡ place_of self }
-        ensures number { result.number ≡ self.number }
-        ensures is { result ≡ sent_seat last self }
+    pub(crate) fn go_on(&mut self, last: bool)
+        requires sends { (begun : Bool) × ((line_of self.old).stage ≡ line.Sending begun) }
+        requires counted { self.old.client.packets < 9223372036854775807 }
+        ensures line { line_of self.new
+            ≡ (turn {T = Token} (line_of self.old) (line.Send last)).line }
+        ensures place { place_of self.new ≡ place_of self.old }
+        ensures number { self.new.number ≡ self.old.number }
+        ensures is { self.new ≡ sent_seat last self.old }
     {
-        let mut seat = self;
         if last {
-            seat.client.stage = 2;
+            self.client.stage = 2;
         } else {
-            seat.client.packets += 1;
+            self.client.packets += 1;
         }
-        seat
     }
 
     /// The packet size, where one has it, and no more waits than a packet holds.
+    #[inline(always)]
     pub(crate) fn size(&self, waiting: usize, room: usize) -> Result<usize, Stop>
         ensures size { IfOk result (λ size. size ≡ self.now.client.size) }
         ensures range { OnOk result (IsPacketSize self.now.client.size) }
@@ -179,6 +185,7 @@ impl TdsSeat {
 }
 
 /// The status of a packet behind `before` others of its message (MS-TDS 2.2.3.1.2).
+#[inline(always)]
 fn status(last: bool, before: usize, mark: Option<Reset>) -> u8
     ensures value { result ≡ end_bit last + mark_bit before mark }
     ensures range { end_bit last + mark_bit before mark ≤ 17 }
@@ -195,6 +202,7 @@ fn status(last: bool, before: usize, mark: Option<Reset>) -> u8
 }
 
 /// The header of a seat's next packet, whose data are two runs of bytes, one behind the other.
+#[inline(always)]
 fn header(seat: &TdsSeat, last: bool, front: &[u8], rest: &[u8]) -> [u8; 8]
     requires length { length front.now + length rest.now ≤ 32759 }
     requires packets { seat.now.client.packets < 9223372036854775807 }
@@ -216,6 +224,7 @@ fn header(seat: &TdsSeat, last: bool, front: &[u8], rest: &[u8]) -> [u8; 8]
 }
 
 /// Writes a seat's next packet to the front of a buffer.
+#[inline(always)]
 pub(crate) fn write_packet(seat: &TdsSeat, last: bool, front: &[u8], rest: &[u8], out: &mut [u8])
     requires length { length front.now + length rest.now ≤ 32759 }
     requires packets { seat.now.client.packets < 9223372036854775807 }
@@ -229,25 +238,27 @@ pub(crate) fn write_packet(seat: &TdsSeat, last: bool, front: &[u8], rest: &[u8]
 }
 
 /// Begins a request of this kind. Its headers are written to `kept`, where they wait.
+#[inline(always)]
 pub(crate) fn ask(
-    seat: TdsSeat,
+    seat: &mut TdsSeat,
     kind: MessageKind,
     kept: &mut [u8],
     count: &mut usize,
-) -> Result<TdsSeat, Stop>
+) -> Result<(), Stop>
     requires { count.old ≡ 0 }
-    ensures acts { IfOk result (λ y. ActsOn line.Ask (line.Ask ∷ []) seat y []) }
-    ensures asked { IfOk result (λ y. y.asked ≡ seat.asked + 1) }
-    ensures kind { IfOk result (λ y. kind_at y.client.kind ≡ packets_are kind) }
-    ensures is { IfOk result (λ y. y ≡ asked_seat kind seat) }
+    ensures acts { OnOk result (ActsOn line.Ask (line.Ask ∷ []) seat.old seat.new []) }
+    ensures asked { OnOk result (seat.new.asked ≡ seat.old.asked + 1) }
+    ensures kind { OnOk result (kind_at seat.new.client.kind ≡ packets_are kind) }
+    ensures is { OnOk result (seat.new ≡ asked_seat kind seat.old) }
     ensures written { OnOk result (kept.new ≡ with_front (headers_by kind
-        (header_descriptor (mark_of seat.client.mark) seat.client.descriptor)) kept.old) }
+        (header_descriptor (mark_of seat.old.client.mark) seat.old.client.descriptor)) kept.old) }
     ensures counted { OnOk result (count.new ≡ length (headers_by kind
-        (header_descriptor (mark_of seat.client.mark) seat.client.descriptor))) }
-    ensures stops { IfErr result (AsksNot seat kind
-        (header_descriptor (mark_of seat.client.mark) seat.client.descriptor)
+        (header_descriptor (mark_of seat.old.client.mark) seat.old.client.descriptor))) }
+    ensures stops { IfErr result (AsksNot seat.old kind
+        (header_descriptor (mark_of seat.old.client.mark) seat.old.client.descriptor)
         (record { before = kept.old; after = kept.new; count = count.new })) }
     ensures nothing { OnErr result (kept.new ≡ kept.old) }
+    ensures same { OnErr result (seat.new ≡ seat.old) }
 {
     if let Err(refusal) = seat.may_ask() {
         return Err(Stop::Refused(refusal));
@@ -255,11 +266,13 @@ pub(crate) fn ask(
     if !put_headers(kind, seat.named(), kept, count) {
         return Err(Stop::NoRoom);
     }
-    Ok(seat.asking(kind))
+    seat.begin(kind);
+    Ok(())
 }
 
 /// Writes the headers of such a message to the front of a buffer, where they fit. How many bytes these
 /// are is told anyway.
+#[inline(always)]
 fn put_headers(kind: MessageKind, descriptor: u64, kept: &mut [u8], count: &mut usize) -> bool
     ensures count { count.new ≡ length (headers_by kind descriptor) }
     ensures done { result ≡ true → kept.new ≡ with_front (headers_by kind descriptor) kept.old }
@@ -272,26 +285,30 @@ fn put_headers(kind: MessageKind, descriptor: u64, kept: &mut [u8], count: &mut 
 }
 
 /// Ends the request: what waits goes out in its last packet.
+#[inline(always)]
 pub(crate) fn finish(
-    seat: TdsSeat,
+    seat: &mut TdsSeat,
     kept: &[u8],
     out: &mut [u8],
     count: &mut usize,
-) -> Result<TdsSeat, Stop>
+) -> Result<(), Stop>
     requires { count.old ≡ 0 }
-    ensures acts { IfOk result (λ y. ActsOn (line.Send true) (line.Send true ∷ []) seat y
-        (packet_of seat true kept.now)) }
-    ensures sending { OnOk result ((begun : Bool) × ((line_of seat).stage ≡ line.Sending begun)) }
-    ensures is { IfOk result (λ y. y ≡ sent_seat true seat) }
-    ensures moved { IfOk result (λ y. line_of y
-        ≡ (turn {T = Token} (line_of seat) (line.Send true)).line) }
-    ensures size { OnOk result (IsPacketSize seat.client.size) }
-    ensures holds { OnOk result (length kept.now + 8 ≤ seat.client.size) }
-    ensures written { OnOk result (out.new ≡ with_front (packet_of seat true kept.now) out.old) }
+    ensures acts { OnOk result (ActsOn (line.Send true) (line.Send true ∷ []) seat.old seat.new
+        (packet_of seat.old true kept.now)) }
+    ensures sending { OnOk result ((begun : Bool)
+        × ((line_of seat.old).stage ≡ line.Sending begun)) }
+    ensures is { OnOk result (seat.new ≡ sent_seat true seat.old) }
+    ensures moved { OnOk result (line_of seat.new
+        ≡ (turn {T = Token} (line_of seat.old) (line.Send true)).line) }
+    ensures size { OnOk result (IsPacketSize seat.old.client.size) }
+    ensures holds { OnOk result (length kept.now + 8 ≤ seat.old.client.size) }
+    ensures written { OnOk result (out.new
+        ≡ with_front (packet_of seat.old true kept.now) out.old) }
     ensures counted { OnOk result (count.new ≡ 8 + length kept.now) }
-    ensures stops { IfErr result (FinishesNot seat kept.now
+    ensures stops { IfErr result (FinishesNot seat.old kept.now
         (record { before = out.old; after = out.new; count = count.new })) }
     ensures nothing { OnErr result (out.new ≡ out.old) }
+    ensures same { OnErr result (seat.new ≡ seat.old) }
 {
     if let Err(refusal) = seat.may_send() {
         return Err(Stop::Refused(refusal));
@@ -303,8 +320,9 @@ pub(crate) fn finish(
     if *count > out.len() {
         return Err(Stop::NoRoom);
     }
-    write_packet(&seat, true, kept, &[], out);
-    Ok(seat.sent(true))
+    write_packet(seat, true, kept, &[], out);
+    seat.go_on(true);
+    Ok(())
 }
 
 /// What became of bytes that were put.

@@ -10,6 +10,7 @@ use tds_token::EnvChange;
 use tds_walk::TdsWireToken;
 
 /// The change of this number (MS-TDS 2.2.7.9).
+#[inline(always)]
 #[tactic(auto, unfolding(crate::specs::Hearing::change_from))]
 fn change(number: u8, descriptor: u64) -> Option<EnvChange>
     ensures { result ≡ change_from number descriptor }
@@ -23,6 +24,7 @@ fn change(number: u8, descriptor: u64) -> Option<EnvChange>
     }
 }
 
+#[inline(always)]
 pub(crate) fn change_sign(number: u8, descriptor: u64) -> Option<Sign>
     ensures { result ≡ change_sign (change_from number descriptor) }
 {
@@ -33,6 +35,7 @@ pub(crate) fn change_sign(number: u8, descriptor: u64) -> Option<Sign>
 }
 
 /// The DONE of this token byte.
+#[inline(always)]
 #[tactic(auto, unfolding(crate::specs::Hearing::done_from))]
 fn done(number: u8) -> Option<DoneKind>
     ensures { result ≡ done_from number }
@@ -45,6 +48,7 @@ fn done(number: u8) -> Option<DoneKind>
     }
 }
 
+#[inline(always)]
 pub(crate) fn done_sign(number: u8, status: u16) -> Option<Sign>
     ensures { result ≡ done_sign (done_from number) status }
 {
@@ -54,6 +58,7 @@ pub(crate) fn done_sign(number: u8, status: u16) -> Option<Sign>
     }
 }
 
+#[inline(always)]
 #[tactic(auto, unfolding(tds_listen::specs::Signs::done_kind))]
 fn done_kind(kind: u8) -> DoneKind
     ensures { result ≡ signs.done_kind kind }
@@ -65,6 +70,7 @@ fn done_kind(kind: u8) -> DoneKind
     }
 }
 
+#[inline(always)]
 #[tactic(auto, unfolding(tds_listen::specs::Signs::transaction_change))]
 fn transaction_change(kind: u8, new: u64, old: u64) -> EnvChange
     ensures { result ≡ signs.transaction_change kind new old }
@@ -76,6 +82,7 @@ fn transaction_change(kind: u8, new: u64, old: u64) -> EnvChange
     }
 }
 
+#[inline(always)]
 #[tactic(auto, unfolding(tds_listen::specs::Signs::unclear_sign))]
 fn unclear_sign(kind: u8) -> Sign
     ensures { result ≡ signs.unclear_sign kind }
@@ -88,6 +95,7 @@ fn unclear_sign(kind: u8) -> Sign
 }
 
 /// The sign of a token that a walk gave.
+#[inline(always)]
 #[tactic(auto, unfolding(crate::specs::Hearing::sign_at))]
 pub(crate) fn sign_of(token: &TdsWireToken) -> Sign
     ensures { result ≡ sign_at token.now }

@@ -9,6 +9,7 @@ use crate::plain::TdsSeat;
 use crate::seat::Wanted;
 
 /// The place in the table of the first connection that is wanted.
+#[inline(always)]
 pub(crate) fn find(seats: &[TdsSeat], wanted: Wanted) -> Option<usize>
     ensures first { IfSome result (FirstMet (wanted_test wanted) seats.now) }
     ensures none { IfNone result (find_by (wanted_test wanted) (seats_of seats.now) ≡ None) }
@@ -22,6 +23,7 @@ pub(crate) fn find(seats: &[TdsSeat], wanted: Wanted) -> Option<usize>
 }
 
 /// Takes the seat at an index out: those behind it move up by one.
+#[inline(always)]
 pub(crate) fn take_out(used: &mut [TdsSeat], index: usize)
     requires { index < length used.old }
     ensures len { length used.new ≡ length used.old }

@@ -83,7 +83,7 @@ pub const VECTORS: [Vector<'static>; 13] = [
     },
     Vector {
         name: "V13",
-        meaning: "the final DONE behind an error, second packet",
+        meaning: "the final DONE after an error, second packet",
         digits: "0401001500000200FD020000000000000000000000",
     },
 ];

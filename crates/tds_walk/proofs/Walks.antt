@@ -1,6 +1,6 @@
 -- Walks between two tokens, as plain values.
-use Rattle.std.proofs.Common.{◌≡◌, ◌∙◌, ◌≤◌, ℕ, ◌-◌, List, [], length, drop, get_or, true, Option, Some, None, Ok, refl, sym, ap, subst}
-use Rattle.std.specs.Prelude.{IsSome}
+use Rattle.std.proofs.Common.{◌≡◌, ◌∙◌, ◌≤◌, ◌<◌, ℕ, zero, suc, arith, ◌-◌, List, [], length, drop, get_or, true, Option, Some, None, Ok, refl, sym, ap, subst}
+use Rattle.std.specs.Prelude.{IsSome, IfSome}
 use Rattle.tds_wire.specs.declared.due.Due.TheVariants.{Token}
 use Rattle.tds_wire.specs.declared.due.Inside.{Inside}
 use Rattle.tds_wire.specs.declared.due.Inside.TheVariants as of
@@ -10,26 +10,19 @@ use Rattle.tds_wire.specs.declared.shape.Shape.{Shape}
 use Rattle.tds_wire.specs.declared.told.Token.{Token as AnyToken}
 use Rattle.tds_wire.specs.Lent.{head_of, reading_of}
 use Rattle.tds_wire.specs.Memory.{shape_of, shapes_of}
-use Rattle.tds_wire.specs.Reading.{IsReady, Reading, found_to, is_between, next_token, restarted}
+use Rattle.tds_wire.specs.Reading.{IsReady, Reading, Sees, found_to, is_between, next_token, restarted}
 use Rattle.tds_wire.specs.Rows.{IsPassed, past_row, row_token}
 use Rattle.tds_wire.specs.Told.{added}
 use Rattle.tds_wire.specs.Whole.{IsNext, behind_whole}
 use Rattle.tds_walk.specs.Wire.{due_from, inside_from, refusal_from, truth, walk_from}
-use Rattle.tds_walk.specs.WireCalls.{Call, Feeds, FeedsBy, Restarts, RestartsBy, Stands, StandsBy}
+use Rattle.tds_walk.specs.WireCalls.{Call, Feeds, FeedsBy, Restarts, RestartsBy, Stands, StandsBy, reading_from}
 use Rattle.tds_walk.specs.WireTokens.{Shows}
+use Rattle.tds_walk.specs.Taking.{IsReadyValue, TakesToken}
 use Rattle.tds_walk.specs.declared.token.TdsWireToken.{TdsWireToken}
 use Rattle.tds_walk.specs.declared.walk.TdsWire.{TdsWire}
 use Rattle.tds_walk.specs.declared.walk.TdsWireInside.{TdsWireInside}
 
--- between two tokens, as its fields say it
-pub record IsReadyValue (p : TdsWire) : Type 0 where
-  pub inside : IsSome (inside_from p.inside)
-  pub due : p.due.due ≡ 0
-  pub whole : p.refused.fault ≡ 0
-  pub head : p.head_count ≡ 0
-  pub passed : p.passed ≡ 0
-
-found_in : {A : Type 0} (o : Option A) → IsSome o → (x : A) × (o ≡ Some x)
+pub found_in : {A : Type 0} (o : Option A) → IsSome o → (x : A) × (o ≡ Some x)
 found_in (Some x) e = (x, refl)
 found_in None e = absurd cc
 
@@ -104,6 +97,36 @@ fed p q m piece n t old new w u is after found within shows =
     subst (λ (o : Option LentWalk). FeedsBy o (finding p q m piece n old new)) (sym is)
     (u, Ok (record { count = n; token = Some t }), after, found, within, (refl, (refl, shows)))
 
+read_by : (p : TdsWire) (m : Memory) (w : LentWalk) (r : Reading) → walk_from p ≡ Some w → reading_from p m ≡ Some r → r ≡ reading_of w m
+read_by p m w r is at =
+    let by : reading_from p m ≡ Some (reading_of w m) = rw is refl in
+    let same : Some r ≡ Some (reading_of w m) = sym at ∙ by in
+    cc
+
+module _ (p : TdsWire) (m : Memory) (piece : List ℕ) (start n kind : ℕ) (t : AnyToken) where
+  pub takes_whole : IsReadyValue p → length (shapes_of m) ≤ 4096 → length m.nulls ≡ 512 → IsNext p.start n (Some t) piece
+      → kind ≡ get_or piece 0 0 → start ≡ added p.start n → TakesToken m p (record p { kind = kind; start = start }) t n piece
+  takes_whole is few nulls next k s = λ r at.
+      let (i, inside) = found_in (inside_from p.inside) is.inside in
+      let q : TdsWire = record p { kind = kind; start = start } in
+      let o = reading_of (ready_walk p i) m in
+      let x = reading_of (ready_walk q i) m in
+      let from = ready_from p i is.due is.whole inside in
+      let behind : x ≡ behind_whole o piece n = behind_is o piece kind start n (no_head p is.head) is.passed refl k s in
+      let found : next_token o piece ≡ Sees t x (drop n piece) =
+      sym (ap (λ (y : Reading). found_to (Some t) y (drop n piece)) behind ∙ next o (ready_is p i m is few nulls) refl) in
+      let there : reading_from q m ≡ Some x = rw (ready_from q i is.due is.whole inside) refl in
+      (x, there, subst (λ (y : Reading). next_token y piece ≡ Sees t x (drop n piece)) (sym (read_by p m (ready_walk p i) r from at)) found)
+
+some_many : (o : Option AnyToken) (n : ℕ) (t : AnyToken) → (n ≡ 0 → o ≡ None) → o ≡ Some t → 0 < n
+some_many o zero t none is = let no : o ≡ None = none refl in absurd (let u : ⊥ = cc in u)
+some_many o (suc n) t none is = omega arith
+
+pub takes_some : (p q : TdsWire) (m : Memory) (piece : List ℕ) (n : ℕ) (o : Option AnyToken) → (n ≡ 0 → o ≡ None)
+    → ((t : AnyToken) → o ≡ Some t → 0 < n → TakesToken m p q t n piece) → IfSome o (λ t. TakesToken m p q t n piece)
+takes_some p q m piece n None none takes = tt
+takes_some p q m piece n (Some t) none takes = takes t refl (some_many (Some t) n t none refl)
+
 module _ (p : TdsWire) (m : Memory) (piece : List ℕ) (start n : ℕ) (t : AnyToken) (old new : TdsWireToken) where
   pub fed_whole : (kind : ℕ) → IsReadyValue p → length (shapes_of m) ≤ 4096 → length m.nulls ≡ 512 → IsNext p.start n (Some t) piece
       → kind ≡ get_or piece 0 0 → start ≡ added p.start n → n ≤ length piece → Shows new t t.told
@@ -161,3 +184,18 @@ restarts_ready p old is =
     let again : reading_of (ready_walk q i) new ≡ restarted r = restart_is r _ (no_columns old) (no_head p is.head) is.passed in
     subst (λ (o : Option LentWalk). RestartsBy o p q old new 0) (sym (ready_from p i is.due is.whole inside))
     (ready_walk q i, refl, ready_from q i is.due is.whole inside, again)
+
+pub ready_anew : (p : TdsWire) (old : Memory) → IsReadyValue p → (r : Reading) → reading_from p old ≡ Some r
+    → (is_between r ≡ true) × (reading_from (record p { start = 0 }) (record old { count = 0 }) ≡ Some (restarted r))
+ready_anew p old is r at =
+    let (i, inside) = found_in (inside_from p.inside) is.inside in
+    let q : TdsWire = record p { start = 0 } in
+    let new : Memory = record old { count = 0 } in
+    let o = reading_of (ready_walk p i) old in
+    let from = ready_from p i is.due is.whole inside in
+    let none : length o.head ≡ 0 = ap length (no_head p is.head) in
+    let between : is_between o ≡ true = rw none (rw is.passed refl) in
+    let again : reading_of (ready_walk q i) new ≡ restarted o = restart_is o _ (no_columns old) (no_head p is.head) is.passed in
+    let there : reading_from q new ≡ Some (reading_of (ready_walk q i) new) = rw (ready_from q i is.due is.whole inside) refl in
+    subst (λ (y : Reading). (is_between y ≡ true) × (reading_from q new ≡ Some (restarted y))) (sym (read_by p old (ready_walk p i) r from at))
+    (between, there ∙ ap (λ (y : Reading). let x : Option Reading = Some y in x) again)

@@ -73,6 +73,12 @@ fn feed(
       answer = result;
     }) }
 {
+    let left = walk.left_within(piece);
+    if left > 0 {
+        walk.go_within(left, piece);
+        *count = piece.len();
+        return 1;
+    }
     let Some(mut lent) = walk.walk() else {
         return 20;
     };

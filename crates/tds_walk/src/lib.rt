@@ -6,11 +6,14 @@
 mod calls;
 mod due;
 mod fields;
+mod taking;
 mod token;
 mod walk;
 mod whole;
+mod within;
 
 pub use calls::{begin, is_between, next, restart};
 pub use due::TdsWireDue;
+pub use taking::{begin_anew, take_token};
 pub use token::{TdsWirePlace, TdsWireToken, put_shown};
 pub use walk::{TdsWire, TdsWireInside, TdsWireRefusal};

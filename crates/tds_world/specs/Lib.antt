@@ -13,8 +13,7 @@ pub mod Events
 pub mod Observed
 pub mod Lawful
 pub mod Laws
-pub mod LeftClean
-pub mod LeftCleanShown
+pub mod left_clean
 pub mod Bounds
 pub mod Packets
 pub mod Deliveries
@@ -29,8 +28,7 @@ pub mod Dones
 pub mod Newest
 pub mod Order
 pub mod Lending
-pub mod Underway
-pub mod Counts
+pub mod limits
 pub mod Reports
 pub mod Losses
 pub mod WithLosses
@@ -38,4 +36,3 @@ pub mod PhaseTells
 pub mod rest
 pub mod Rollback
 pub mod alone
-pub mod Descriptors

@@ -30,8 +30,8 @@ impl ProgramFault {
         }
     }
 
-    /// The words can't be had.
-    pub fn of_words(error: io::Error) -> ProgramFault {
+    /// The arguments can't be had.
+    pub fn of_arguments(error: io::Error) -> ProgramFault {
         match error.kind() {
             ErrorKind::OutOfMemory => ProgramFault::Memory,
             _ => ProgramFault::Usage,

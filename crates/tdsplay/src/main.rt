@@ -9,9 +9,9 @@ use fault::ProgramFault;
 use std::fs::File;
 use std::process::ExitCode;
 use std::{env, fs};
-use tds_play::{Command, MemoryCarrier, read_words, run_play, run_show, run_vectors};
+use tds_play::{Command, MemoryCarrier, read_words, run_play};
+use tds_show::{run_show, run_tokens, run_vectors};
 use tds_tcp::{TcpCarrier, run_loopback};
-use tds_tokens::run_tokens;
 use tds_trace::run_trace;
 
 /// What `--version` alone prints.
@@ -27,24 +27,24 @@ fn main(rt: HostRuntime) -> ExitCode {
     }
 }
 
-/// Does what the words ask for.
+/// Does what the arguments ask for.
 fn run(rt: &HostRuntime) -> Result<u8, ProgramFault> {
-    let mut words = given_words(rt)?;
-    let first = words.first_mut();
+    let mut arguments = given_arguments(rt)?;
+    let first = arguments.first_mut();
     match first {
-        Some(word) if word.as_str() == "trace" => {
-            // Its words are those of `play`.
-            *word = String::from_str(rt.alloc(), "play")?;
-            run_traced(rt, read_words(rt.alloc(), words.as_slice())?)
+        Some(command) if command.as_str() == "trace" => {
+            // Its arguments are those of `play`.
+            *command = String::from_str(rt.alloc(), "play")?;
+            run_traced(rt, read_words(rt.alloc(), arguments.as_slice())?)
         }
-        _ => run_untraced(rt, words.as_slice()),
+        _ => run_untraced(rt, arguments.as_slice()),
     }
 }
 
-fn run_untraced(rt: &HostRuntime, words: &[String]) -> Result<u8, ProgramFault> {
-    match words {
-        [word] if word.as_str() == "--version" => print_version(rt),
-        words => run_command(rt, read_words(rt.alloc(), words)?),
+fn run_untraced(rt: &HostRuntime, arguments: &[String]) -> Result<u8, ProgramFault> {
+    match arguments {
+        [option] if option.as_str() == "--version" => print_version(rt),
+        arguments => run_command(rt, read_words(rt.alloc(), arguments)?),
     }
 }
 
@@ -91,13 +91,13 @@ fn run_command(rt: &HostRuntime, command: Command) -> Result<u8, ProgramFault> {
     }
 }
 
-/// The words behind the program's name.
-fn given_words(rt: &HostRuntime) -> Result<Vec<String>, ProgramFault> {
-    let mut words = Vec::new(rt.alloc());
-    for word in env::args(rt).map_err(ProgramFault::of_words)?.skip(1) {
-        words.push(word)?;
+/// The arguments after the program's name.
+fn given_arguments(rt: &HostRuntime) -> Result<Vec<String>, ProgramFault> {
+    let mut arguments = Vec::new(rt.alloc());
+    for argument in env::args(rt).map_err(ProgramFault::of_arguments)?.skip(1) {
+        arguments.push(argument)?;
     }
-    Ok(words)
+    Ok(arguments)
 }
 
 fn open(rt: &HostRuntime, name: &str) -> Result<File, ProgramFault> {

@@ -23,6 +23,7 @@ impl Program {
             }
             None => return false,
         }
+        self.house.sockets.touch_all();
         self.house
             .say_order(number, "is paused, by POST /pause", by);
         true
@@ -92,15 +93,15 @@ impl Program {
                 self.take_over(settings.asked);
                 self.house.follow_most(rt)?;
                 self.house
-                    .journal
-                    .note("the settings are read again, by POST /reload");
+                    .note_order("the settings are read again, by POST /reload", key);
                 self.answer_reload(rt, key, "200 OK", "read again\n")
             }
             Err(fault) => {
                 let told = format!(in self.house.alloc; "{fault}\n")?;
-                self.house
-                    .journal
-                    .note("the settings stay, since POST /reload finds them wrong");
+                self.house.note_order(
+                    "the settings stay, since POST /reload finds them wrong",
+                    key,
+                );
                 self.answer_reload(rt, key, "409 Conflict", told.as_str())
             }
         }

@@ -135,7 +135,7 @@ impl Program {
             };
             if let Some(socket) = self.house.sockets.get(key) {
                 telling.begin_one()?;
-                put_json_socket(&mut telling.body, &self.line_of(key, socket))?;
+                put_json_socket(&mut telling.body, &self.line_of(socket))?;
             }
         }
         Ok(())

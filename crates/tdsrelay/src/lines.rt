@@ -21,7 +21,7 @@ impl Program {
         put_group(body, &self.line_of_group(key, group))?;
         for (_, entry) in self.house.sockets.iter() {
             if entry.value.group() == Some(key) {
-                put_socket(body, &self.line_of(entry.key, &entry.value))?;
+                put_socket(body, &self.line_of(&entry.value))?;
             }
         }
         if group.line().is_empty() {
@@ -41,7 +41,7 @@ impl Program {
                     write!(body, "\nin no group\n")?;
                 }
                 is_first = false;
-                put_socket(body, &self.line_of(entry.key, &entry.value))?;
+                put_socket(body, &self.line_of(&entry.value))?;
             }
         }
         Ok(())
@@ -98,7 +98,7 @@ impl Program {
         }
     }
 
-    pub fn line_of<'a>(&self, key: usize, socket: &'a Socket) -> SocketLine<'a> {
+    pub fn line_of<'a>(&self, socket: &'a Socket) -> SocketLine<'a> {
         SocketLine {
             role: socket.told(),
             number: socket.number,
@@ -108,7 +108,7 @@ impl Program {
             },
             at: socket.seen.at,
             seconds: self.seconds_since(socket.seen.since),
-            limit: limit_of(socket.seen.at, &self.limits_of(key)),
+            limit: limit_of(socket.seen.at, &self.limits_of(socket.whose())),
             partner: socket.partner,
             names: socket.names(),
             peer: socket.peer,

@@ -2,13 +2,17 @@
 //! have. One thread.
 #![tactic(auto)]
 
+mod accepting;
 mod changing;
 mod json;
 mod lines;
+mod polling;
 mod program;
+mod sweeping;
 mod telling;
 mod turns;
 mod watching;
+mod why;
 mod writing;
 
 use program::Program;

@@ -1,13 +1,14 @@
 //! The loop over all sockets: who comes, what the system reports, and when it ends.
 
 use crate::json::Telling;
+use crate::polling::Polling;
 use crate::writing::Log;
 use mio::{Events, Token};
 use relay_house::House;
 use relay_settings::Asked;
-use relay_sockets::{News, ROUND, Role};
-use relay_status::{Asker, Door, Moment};
-use socket_places::{Link, Listener, Place};
+use relay_sockets::{News, ROUND};
+use relay_status::Moment;
+use socket_places::{Listener, Place};
 use std::alloc::Global;
 use std::fs::Files;
 use std::io::{self, Stderr};
@@ -34,11 +35,11 @@ const SWEEP: u64 = 250;
 
 const LONGEST_SWEEP: u64 = 500;
 
-/// The most who are accepted at once.
-const MOST: usize = 11_024;
+/// The most milliseconds that it sleeps where nothing happens and no limit runs out.
+const LONGEST_SLEEP: u64 = 1_000;
 
 /// The most bytes that are read at once.
-pub const PIECE: usize = 8_192;
+pub const PIECE: usize = 32_768;
 
 /// A relay that runs.
 #[derive(Drop)]
@@ -46,10 +47,12 @@ pub struct Program {
     pub house: House,
     /// The words that it was called with, by which its settings are read again.
     pub words: Vec<String>,
-    listener: Listener,
+    pub listener: Listener,
+    /// Whether some who came may not be accepted yet.
+    pub leaves_some: bool,
     /// Where it listens.
     at: SocketAddr,
-    stats: Option<Listener>,
+    pub stats: Option<Listener>,
     log: Log,
     /// The sockets of those who ask that the settings are read again.
     pub reloads: Vec<usize>,
@@ -64,8 +67,8 @@ pub struct Program {
     /// The millisecond of the last look at time limits, and for how many the next one is waited for.
     swept: u64,
     pause: u64,
-    /// The microsecond of the last report.
-    reported: u64,
+    /// For how long it asks the system again at once.
+    pub polling: Polling,
     /// The millisecond from which it ends in order.
     pub ending: Option<u64>,
 }
@@ -92,6 +95,7 @@ impl Program {
             house,
             words,
             listener,
+            leaves_some: true,
             at: listen,
             stats: None,
             log: Log::new(errors),
@@ -103,7 +107,7 @@ impl Program {
             began: milliseconds_since_1970(rt)?,
             swept: 0,
             pause: SWEEP,
-            reported: 0,
+            polling: Polling::new(),
             ending: None,
         })
     }
@@ -168,23 +172,35 @@ impl Program {
         self.look_at_clock(rt)?;
         self.hear(events)?;
         self.take_turns(rt, buffer)?;
-        self.go_on()?;
-        self.reload(rt)?;
-        self.tell_on(rt)?;
-        self.look_at_limits(rt)?;
-        self.log.write(&mut self.house.journal.lines);
+        if !self.resumed.is_empty() {
+            self.go_on()?;
+        }
+        if !self.reloads.is_empty() {
+            self.reload(rt)?;
+        }
+        if self.is_telling() {
+            self.tell_on(rt)?;
+        }
+        if self.house.now() >= self.next_look() {
+            self.look_at_limits(rt)?;
+        }
+        if !self.house.journal.lines.front().is_empty() {
+            self.log.write(&mut self.house.journal.lines);
+        }
         Ok(())
     }
 
     /// Looks at time limits, where that is due.
     pub fn look_at_limits<R: Net + Clock>(&mut self, rt: &R) -> io::Result<()> {
         let now = self.house.now();
-        if now < self.swept.saturating_add(self.pause) {
+        if now < self.next_look() {
             return Ok(());
         }
         self.swept = now;
         self.began = milliseconds_since_1970(rt)?.saturating_sub(now);
-        self.accept()?;
+        if self.leaves_some {
+            self.accept()?;
+        }
         self.sweep(rt)?;
         self.look_at_clock(rt)?;
         let took = self.house.now().saturating_sub(now);
@@ -192,11 +208,20 @@ impl Program {
         Ok(())
     }
 
-    /// The milliseconds to the next look at time limits.
+    /// The milliseconds to the next look at time limits; where nothing would be done then, to a later one.
     fn until_sweep(&self) -> u64 {
-        let next = self.swept.saturating_add(self.pause);
+        let mut next = self.next_look();
+        if self.ending.is_none() && self.house.waits_for_sockets() {
+            let latest = self.swept.saturating_add(LONGEST_SLEEP);
+            next = self.house.sockets.next_look().max(next).min(latest);
+        }
         next.saturating_sub(self.house.now())
-            .clamp(1, LONGEST_SWEEP)
+            .clamp(1, LONGEST_SLEEP)
+    }
+
+    /// The millisecond of the next look at time limits.
+    fn next_look(&self) -> u64 {
+        self.swept.saturating_add(self.pause)
     }
 
     pub fn look_at_clock<R: Clock>(&mut self, rt: &R) -> io::Result<()> {
@@ -212,8 +237,7 @@ impl Program {
 
     /// Whether it asks the system again at once: to be woken takes longer than a request's own work.
     fn spins(&self) -> bool {
-        let until = self.reported.saturating_add(self.house.asked.spin);
-        self.house.journal.moment.micros < until
+        self.house.journal.moment.micros < self.polling.until(self.house.asked.spin)
     }
 
     /// Does what the system reported asks for.
@@ -223,14 +247,17 @@ impl Program {
             if token == LOG {
                 continue;
             }
-            self.reported = self.house.journal.moment.micros;
+            self.polling.report(self.house.journal.moment.micros);
             if token == LISTENER {
                 self.accept()?;
             } else if token == ASKERS {
                 self.accept_askers()?;
             } else if token == INPUT {
                 if event.is_read_closed() {
-                    self.end_soon("the relay is to end, since its standard input has ended");
+                    self.end_soon(
+                        "the relay is to end, since its standard input has ended",
+                        None,
+                    );
                 }
             } else {
                 let news = if event.is_read_closed() || event.is_error() {
@@ -246,61 +273,16 @@ impl Program {
         Ok(())
     }
 
-    /// It is to end in order, and this is why.
-    pub fn end_soon(&mut self, why: &str) {
-        if self.ending.is_none() {
-            self.ending = Some(self.house.now());
-            self.house.journal.note(why);
+    /// It is to end in order, and this is why: an order, where the socket of this key gave one.
+    pub fn end_soon(&mut self, why: &str, by: Option<usize>) {
+        if self.ending.is_some() {
+            return;
         }
-    }
-
-    /// Accepts all who wait, and closes them at once where it is to end. Nobody is accepted before the names of servers
-    /// are known.
-    fn accept(&mut self) -> io::Result<()> {
-        if !self.house.is_ready() {
-            return Ok(());
+        self.ending = Some(self.house.now());
+        match by {
+            Some(key) => self.house.note_order(why, key),
+            None => self.house.journal.note(why),
         }
-        for _ in 0..MOST {
-            let Ok((stream, from)) = self.listener.accept() else {
-                return Ok(());
-            };
-            if self.ending.is_none() {
-                self.house.admit(stream, from)?;
-            }
-        }
-        Ok(())
-    }
-
-    /// Accepts all who ask what it does.
-    fn accept_askers(&mut self) -> io::Result<()> {
-        let (alloc, now) = (self.house.alloc, self.house.now());
-        for _ in 0..MOST {
-            let Some(listener) = &self.stats else {
-                return Ok(());
-            };
-            let Ok((stream, from)) = listener.accept() else {
-                return Ok(());
-            };
-            let role = Role::Asker(Asker::new(alloc, door_of(&stream, from)));
-            let sockets = &mut self.house.sockets;
-            if let Some(key) = sockets.take_in(stream, role, Vec::new(alloc), now)? {
-                if let Some(socket) = sockets.get_mut(key) {
-                    socket.peer = from;
-                }
-            }
-        }
-        Ok(())
-    }
-}
-
-/// Where somebody asks who comes from there.
-fn door_of(stream: &Link, from: Option<SocketAddr>) -> Door {
-    match (stream, from) {
-        (Link::Tcp(stream), Some(from)) => match stream.local_addr() {
-            Ok(at) => Door::Tcp(at, from.ip().to_canonical().is_loopback()),
-            Err(_) => Door::Tcp(from, false),
-        },
-        _ => Door::Unix,
     }
 }
 

@@ -60,7 +60,7 @@ impl Program {
                 put_done(body, is_there, b"closed\n")
             }
             Page::Drain => {
-                self.end_soon("the relay is to end, by POST /drain");
+                self.end_soon("the relay is to end, by POST /drain", Some(by));
                 put_done(body, true, b"ends\n")
             }
             Page::Pause(group) => put_done(body, self.pause(group, by), b"paused\n"),

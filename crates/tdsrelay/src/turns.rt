@@ -3,8 +3,7 @@
 use crate::program::{PIECE, Program};
 use relay_house::{Group, House, relay_of};
 use relay_logins::Groups;
-use relay_settings::SystemError;
-use relay_sockets::{Came, Cause, Whose};
+use relay_sockets::{Came, Whose};
 use std::io;
 use std::net::Net;
 use std::rt::Clock;
@@ -27,13 +26,15 @@ impl Program {
         buffer: &mut [u8; PIECE],
     ) -> io::Result<()> {
         for _ in 0..TURNS {
-            if !self.house.sockets.has_turns() {
+            let count = self.house.sockets.begin_turns();
+            if count == 0 {
                 break;
             }
-            let turns = self.house.sockets.take_turns();
-            for (count, key) in turns.iter().enumerate() {
-                self.turn(rt, *key, buffer)?;
-                if count % LOOK == LOOK - 1 {
+            for place in 0..count {
+                if let Some(key) = self.house.sockets.turn(place) {
+                    self.turn(rt, key, buffer)?;
+                }
+                if place % LOOK == LOOK - 1 {
                     self.look_at_clock(rt)?;
                     self.look_at_limits(rt)?;
                 }
@@ -44,68 +45,79 @@ impl Program {
 
     /// A socket's turn: it sends what the system takes, and reads once.
     fn turn<R: Net>(&mut self, rt: &R, key: usize, buffer: &mut [u8; PIECE]) -> io::Result<()> {
-        if let Some(socket) = self.house.sockets.get_mut(key) {
-            socket.link.listed = false;
-        }
-        if !self.house.send(key)? {
-            return self.house.closed(rt, key);
-        }
-        let room = self.room(key).min(PIECE);
-        if room == 0 {
-            return Ok(());
-        }
         let Some(socket) = self.house.sockets.get_mut(key) else {
             return Ok(());
         };
-        match socket.link.read(&mut buffer[..room]) {
-            Ok(Came::Nothing) => Ok(()),
-            Ok(Came::End) => self.house.has_shut(rt, key),
-            Err(error) => {
-                let cause = Cause::Failed(SystemError::new(error));
-                self.house.ended(rt, key, cause)
-            }
-            Ok(Came::Bytes(count)) => self.came(rt, key, &buffer[..count.min(PIECE)]),
+        socket.link.listed = false;
+        let has_to_send = socket.has_to_send();
+        self.house.sockets.touch(key);
+        if has_to_send && !self.house.send(key)? {
+            return self.house.closed(rt, key);
+        }
+        let (whose, came) = self.read(key, buffer);
+        match came {
+            Came::Nothing => Ok(()),
+            Came::End => self.house.has_shut(rt, key),
+            Came::Failed => self.house.closed(rt, key),
+            Came::Bytes(count) => self.came(rt, key, whose, &buffer[..count.min(PIECE)]),
         }
     }
 
-    /// These bytes came on a socket.
-    fn came<R: Net>(&mut self, rt: &R, key: usize, piece: &[u8]) -> io::Result<()> {
-        let House {
-            sockets,
-            journal,
-            ..
-        } = &mut self.house;
-        sockets.read_on(key)?;
-        sockets.judge(key, piece, journal)?;
-        match sockets.get(key) {
-            Some(socket) if matches!(socket.whose(), Whose::Asker) => self.asked_for(
-                rt, key, piece,
-            ),
-            _ => self.house.came(rt, key, piece),
-        }
-    }
-
-    /// How many bytes may be read of a socket.
-    fn room(&mut self, key: usize) -> usize {
+    /// Reads once of a socket, where more may be there and there is room for it. Answers whose it is, too.
+    fn read(&mut self, key: usize, buffer: &mut [u8; PIECE]) -> (Whose, Came) {
         let House {
             sockets,
             groups,
             ..
         } = &mut self.house;
-        let Some(socket) = sockets.get(key) else {
-            return 0;
+        let Some(socket) = sockets.get_mut(key) else {
+            return (Whose::Closing, Came::Nothing);
         };
-        match socket.whose() {
-            Whose::Gate | Whose::Judged(_) | Whose::First(_) | Whose::Opening(..) => PIECE,
-            Whose::Asker | Whose::Leg(_) | Whose::Again(_) => PIECE,
-            Whose::Owed | Whose::Names => PIECE,
-            Whose::Application(group, key) => room_of(groups, group, key),
-            Whose::Connection(group, number) => match relay_of(groups, group) {
-                Some(relay) => relay.room_on(number),
-                None => PIECE,
-            },
-            Whose::Closing => 0,
+        let whose = socket.whose();
+        if !socket.link.is_readable() {
+            return (whose, Came::Nothing);
         }
+        let room = room_for(groups, whose).min(PIECE);
+        if room == 0 {
+            return (whose, Came::Nothing);
+        }
+        (whose, socket.read(&mut buffer[..room]))
+    }
+
+    /// These bytes came on a socket that is this.
+    fn came<R: Net>(&mut self, rt: &R, key: usize, whose: Whose, piece: &[u8]) -> io::Result<()> {
+        let House {
+            sockets,
+            journal,
+            ..
+        } = &mut self.house;
+        if sockets.has_read(key)? {
+            sockets.judge(key, piece, journal)?;
+        }
+        match whose {
+            Whose::Application(group, application) => {
+                self.polling.ask();
+                self.house.said(rt, key, group, application, piece)
+            }
+            Whose::Connection(group, number) => self.house.heard(rt, key, group, number, piece),
+            Whose::Asker => self.asked_for(rt, key, piece),
+            _ => self.house.came(rt, key, whose, piece),
+        }
+    }
+}
+
+/// How many bytes may be read of a socket that is this.
+fn room_for(groups: &mut Groups<Group>, whose: Whose) -> usize {
+    match whose {
+        Whose::Gate | Whose::Judged(_) | Whose::First(_) | Whose::Opening(..) => PIECE,
+        Whose::Asker | Whose::Leg(_) | Whose::Again(_) => PIECE,
+        Whose::Owed | Whose::Names => PIECE,
+        Whose::Application(group, key) => room_of(groups, group, key),
+        Whose::Connection(group, number) => match relay_of(groups, group) {
+            Some(relay) => relay.room_on(number),
+            None => PIECE,
+        },
+        Whose::Closing => 0,
     }
 }
 

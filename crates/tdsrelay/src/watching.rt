@@ -1,6 +1,8 @@
 //! Time limits, and the end: what has lasted too long is closed.
 
 use crate::program::Program;
+use crate::sweeping::next_look;
+use crate::why::{Why, why_late};
 use relay_house::{Group, House, relay_of};
 use relay_logins::{Groups, UNANSWERED};
 use relay_settings::{Limits, is_beyond};
@@ -13,88 +15,7 @@ use tds_relay::{Place, PlaceOn, Relay};
 /// What an application is told whose login no server answers.
 const SILENT: &str = "The server gave no answer in time.";
 
-/// Why something is closed.
-#[derive(Clone, Copy)]
-enum Why {
-    Login,
-    Wait,
-    Cancel,
-    Hold,
-    Transaction,
-    Request,
-    Idle,
-    Old,
-    /// Its group is paused, or its login isn't let in any more.
-    Paused,
-    Over,
-    /// The relay ends.
-    End,
-}
-
-impl Why {
-    /// The log's words.
-    fn words(self) -> &'static str {
-        match self {
-            Why::Login => "has taken too long to log in (--login)",
-            Why::Wait => "has waited too long for a connection (--wait)",
-            Why::Cancel => "has no acknowledgement of a cancel, or of a cleaning (--cancel)",
-            Why::Hold => "has held a connection too long and asked nothing (--hold)",
-            Why::Transaction =>
-                "has left a transaction open too long and asked nothing (--transaction)",
-            Why::Request => "has a request that runs too long (--request)",
-            Why::Idle => "was idle too long (--idle)",
-            Why::Old => "is old enough (--life)",
-            Why::Paused => "is closed, since its group is paused",
-            Why::Over => "is closed, since its login isn't let in any more (--judge-again)",
-            Why::End => "is closed, since the relay ends",
-        }
-    }
-
-    /// What an application is told: an error's number (MS-TDS 2.2.7.10) and its sentence.
-    fn told(self) -> Option<(u32, &'static str)> {
-        match self {
-            Why::Wait => Some((50_101, "The relay had no connection free in time (--wait).")),
-            Why::Hold => Some((
-                50_102,
-                "The relay closes who holds a connection for long and asks nothing (--hold).",
-            )),
-            Why::End => Some((50_103, "The relay ends.")),
-            Why::Transaction => Some((
-                50_104,
-                "The relay closes who leaves a transaction open for long and asks nothing (--transaction).",
-            )),
-            Why::Request => Some((
-                50_108,
-                "The relay cancels a request that runs too long (--request).",
-            )),
-            Why::Login | Why::Cancel | Why::Idle | Why::Old => None,
-            Why::Paused | Why::Over => None,
-        }
-    }
-}
-
 impl Program {
-    /// Closes what has lasted longer than its limit.
-    pub fn sweep<R: Net>(&mut self, rt: &R) -> io::Result<()> {
-        let keys = self.house.sockets.keys()?;
-        for key in keys.iter() {
-            self.sweep_one(rt, *key)?;
-        }
-        self.house.part_all(rt)?;
-        self.house.dial_held(rt)?;
-        self.house.judge_all(rt)?;
-        self.house.look_after_names(rt)?;
-        self.house.check_all(rt)
-    }
-
-    fn sweep_one<R: Net>(&mut self, rt: &R, key: usize) -> io::Result<()> {
-        if let Some(why) = self.look_at(key) {
-            self.end(rt, key, why)?;
-        }
-        // What made room for it may have been said of another one alone.
-        Ok(self.house.sockets.read_on(key)?)
-    }
-
     /// Whether it is to end, and has no application left or has waited long enough for that.
     pub fn has_ended(&self) -> bool {
         match self.ending {
@@ -118,45 +39,50 @@ impl Program {
     }
 
     /// Notes what a socket is at, and answers why it is to be closed, if it is.
-    fn look_at(&mut self, key: usize) -> Option<Why> {
-        let (at, mark) = self.at(key);
-        let (now, limits, is_ending) = (
-            self.house.now(),
-            self.limits_of(key),
-            self.ending.is_some(),
-        );
-        let why_free = self.why_free(key);
+    pub fn look_at(&mut self, key: usize) -> Option<Why> {
+        let House {
+            sockets,
+            groups,
+            ..
+        } = &mut self.house;
+        let socket = sockets.get(key)?;
+        let whose = socket.whose();
+        let (at, mark) = at_as(groups, whose, socket.link.is_readable());
+        let why_free = match at {
+            At::Free => why_free(groups, whose),
+            _ => None,
+        };
+        let (now, limits) = (self.house.now(), self.limits_of(whose));
         let socket = self.house.sockets.get_mut(key)?;
         socket.see(at, mark, now);
         let lasted = now.saturating_sub(socket.seen.since);
         let age = now.saturating_sub(socket.born);
-        if is_ending && ends_at_once(at) {
+        let next = next_look(&socket.seen, socket.born, &limits, now);
+        self.house.sockets.look_again(key, next);
+        if self.ending.is_some() && ends_at_once(at) {
             return Some(Why::End);
         }
-        if let (At::Free, Some(why)) = (at, why_free) {
-            return Some(why);
+        if why_free.is_some() {
+            return why_free;
         }
         why_late(at, lasted, age, &limits)
     }
 
-    /// The limits of a socket. A server's share of a login's time is the smaller the more servers there are.
-    /// Who waits for their judgement is told what becomes of it, so has all their shares, and the times
+    /// The limits of a socket that is this. A server's share of a login's time is the smaller the more servers there
+    /// are. Who waits for their judgement is told what becomes of it, so has all their shares, and the times
     /// from one look at limits to the next. A connection that isn't shared may be idle as long as its
     /// application is there.
-    pub fn limits_of(&self, key: usize) -> Limits {
+    pub fn limits_of(&self, whose: Whose) -> Limits {
         let mut limits = self.house.asked.limits;
-        let count = self.house.asked.servers.count();
-        let whose = match self.house.sockets.get(key) {
-            Some(socket) => socket.whose(),
-            None => return limits,
-        };
         match whose {
             Whose::First(_) | Whose::Opening(..) | Whose::Again(_) => {
+                let count = self.house.asked.servers.count();
                 if limits.login > 0 && count > 1 {
                     limits.login = (limits.login / count).max(1);
                 }
             }
             Whose::Judged(_) if limits.login > 0 => {
+                let count = self.house.asked.servers.count();
                 limits.login = limits.login.saturating_add(count);
             }
             Whose::Connection(group, _) if self.house.pair_of(group).is_some() => {
@@ -177,21 +103,6 @@ impl Program {
         }
     }
 
-    /// Why a socket that is a connection is closed where nobody holds it, if it is.
-    fn why_free(&self, key: usize) -> Option<Why> {
-        let Whose::Connection(group, _) = self.house.sockets.get(key)?.whose() else {
-            return None;
-        };
-        let group = self.house.groups.get(group)?;
-        if group.is_paused() {
-            Some(Why::Paused)
-        } else if group.is_over {
-            Some(Why::Over)
-        } else {
-            None
-        }
-    }
-
     /// What a socket is at, and what tells two of that apart.
     pub fn at(&mut self, key: usize) -> (At, u64) {
         let House {
@@ -199,29 +110,15 @@ impl Program {
             groups,
             ..
         } = &mut self.house;
-        let Some(socket) = sockets.get(key) else {
-            return (At::Other, 0);
-        };
-        match socket.whose() {
-            Whose::Gate | Whose::Leg(_) => (At::Login, 0),
-            Whose::Judged(_) => (At::Login, 1),
-            Whose::First(_) | Whose::Opening(..) | Whose::Again(_) => (At::Login, 0),
-            Whose::Owed => (At::Owed, 0),
-            Whose::Names => (At::Quiet, 0),
-            Whose::Asker | Whose::Closing => (At::Other, 0),
-            Whose::Application(group, application) => {
-                at_of(groups, group, application, socket.link.is_readable())
-            }
-            Whose::Connection(group, number) => match relay_of(groups, group) {
-                Some(relay) => at_on(relay.place_on(number)),
-                None => (At::Other, 0),
-            },
+        match sockets.get(key) {
+            Some(socket) => at_as(groups, socket.whose(), socket.link.is_readable()),
+            None => (At::Other, 0),
         }
     }
 
     /// Closes it, or parts it from the connection that it has held for too long, where it loses nothing by that.
     /// An application is told why, where nothing else waits for it.
-    fn end<R: Net>(&mut self, rt: &R, key: usize, why: Why) -> io::Result<()> {
+    pub fn end<R: Net>(&mut self, rt: &R, key: usize, why: Why) -> io::Result<()> {
         if matches!(why, Why::Hold) && self.house.part_one(rt, key)? {
             return Ok(());
         }
@@ -304,6 +201,38 @@ impl Program {
     }
 }
 
+/// Why a connection that nobody holds is closed, whatever limits say, if it is.
+fn why_free(groups: &Groups<Group>, whose: Whose) -> Option<Why> {
+    let Whose::Connection(group, _) = whose else {
+        return None;
+    };
+    let group = groups.get(group)?;
+    if group.is_paused() {
+        Some(Why::Paused)
+    } else if group.is_over {
+        Some(Why::Over)
+    } else {
+        None
+    }
+}
+
+/// What a socket that is this is at, of which more may be there to read, and what tells two of that apart.
+fn at_as(groups: &mut Groups<Group>, whose: Whose, has_more: bool) -> (At, u64) {
+    match whose {
+        Whose::Gate | Whose::Leg(_) => (At::Login, 0),
+        Whose::Judged(_) => (At::Login, 1),
+        Whose::First(_) | Whose::Opening(..) | Whose::Again(_) => (At::Login, 0),
+        Whose::Owed => (At::Owed, 0),
+        Whose::Names => (At::Quiet, 0),
+        Whose::Asker | Whose::Closing => (At::Other, 0),
+        Whose::Application(group, application) => at_of(groups, group, application, has_more),
+        Whose::Connection(group, number) => match relay_of(groups, group) {
+            Some(relay) => at_on(relay.place_on(number)),
+            None => (At::Other, 0),
+        },
+    }
+}
+
 /// Whether an application or a login that is at this is closed once the relay is to end.
 fn ends_at_once(at: At) -> bool {
     matches!(
@@ -362,33 +291,5 @@ fn at_on(place: Option<PlaceOn>) -> (At, u64) {
         Some(PlaceOn::Draining) => (At::Draining, 0),
         Some(PlaceOn::Cleaning) => (At::Cleaning, 0),
         None => (At::Other, 0),
-    }
-}
-
-/// Why what has lasted so many milliseconds is to be closed, if it is.
-fn why_late(at: At, lasted: u64, age: u64, limits: &Limits) -> Option<Why> {
-    match at {
-        At::Login | At::Other => limited(limits.login, lasted, Why::Login),
-        At::Waiting | At::Opening | At::TakenBack => limited(limits.wait, lasted, Why::Wait),
-        At::Cancelling | At::Draining | At::Cleaning => limited(limits.cancel, lasted, Why::Cancel),
-        At::Holding => limited(limits.hold, lasted, Why::Hold),
-        At::InTransaction => match limited(limits.transaction, lasted, Why::Transaction) {
-            Some(why) => Some(why),
-            None => limited(limits.hold, lasted, Why::Hold),
-        },
-        At::Free => match limited(limits.idle, lasted, Why::Idle) {
-            Some(why) => Some(why),
-            None => limited(limits.life, age, Why::Old),
-        },
-        At::Asking => limited(limits.request, lasted, Why::Request),
-        At::Quiet | At::Kept | At::Owed | At::Held => None,
-    }
-}
-
-fn limited(limit: u64, lasted: u64, why: Why) -> Option<Why> {
-    if is_beyond(limit, lasted) {
-        Some(why)
-    } else {
-        None
     }
 }

@@ -47,7 +47,7 @@ const (
 	Note   = Level(C.TDS_JUDGE_NOTE)
 )
 
-// Finding is a finding by its number, 1 to 39: the byte of its direction at which it is told, counted from 0, the time of its
+// Finding is a finding by its number, 1 to 45: the byte of its direction at which it is told, counted from 0, the time of its
 // piece, and what goes with it, or 0.
 type Finding struct {
 	Number              uint8

@@ -1,28 +1,32 @@
 //! The data of a packet of any server's answer in one call: of each token that ends there the client
 //! hears what it says, and those that may be told are written.
 
-ghost use Rattle.std.specs.Prelude.{◌≡◌, ◌≤◌, [], Some, drop, length};
+ghost use Rattle.std.specs.Prelude.{◌≡◌, ◌≤◌, [], List, Some, drop, length};
 ghost use Rattle.tds_client.specs.Parts.{session_from};
+ghost use Rattle.tds_client.specs.Session.{ClientSession};
 ghost use Rattle.tds_wire.specs.Reading.{Reading};
 ghost use Rattle.tds_c.specs.declared.wire.hearing.Came.{Came as AnyCame};
 ghost use Rattle.tds_walk.specs.declared.token.TdsWireToken.{TdsWireToken as AnyShown};
-ghost use Rattle.tds_c.specs.Hearing.{HasHeard, HearsAll, HearsWhole, Place, Ready, StopsBehind, came_number, fault_number};
+ghost use Rattle.tds_c.specs.Hearing.{HasHeard, HearsAll, HearsFrom, Place, Ready, StopsBehind, came_number, fault_number};
+ghost use Rattle.tds_c.specs.Plain.{client_of};
 ghost use Rattle.tds_walk.specs.WireCalls.{reading_from};
 ghost use Rattle.tds_walk.specs.Rooms.{Room};
 ghost use Rattle.tds_walk.specs.Wire.{truth};
 
+mod at_once;
 mod listening;
 mod walked;
+mod whole;
 
 use crate::answers::taken_code;
-use crate::buffer::behind;
 use crate::client::TdsClient;
-use crate::wire::hearing::listening::{end_message, hear_token};
+use crate::wire::hearing::listening::end_message;
 use crate::wire::hearing::walked::hear_walked;
-use tds_client::{ClientFault, ClientParts, Taken};
+use crate::wire::hearing::whole::hear_whole;
+use tds_client::{ClientParts, Taken};
 use tds_listen::ListenFault;
 use tds_walk::{TdsWire, TdsWireToken};
-use tds_wire::{Memory, whole_token};
+use tds_wire::Memory;
 
 /// What came of a packet's data.
 #[derive(Drop)]
@@ -67,56 +71,6 @@ fn came_code(came: &Came) -> u8
     }
 }
 
-/// Hears the tokens that stand whole and say in their first bytes how long they are, from the first
-/// byte on and up to the room's end. Of the walk no more is needed than where it is in the message.
-#[inline(always)]
-fn hear_whole(
-    parts: &mut ClientParts,
-    walk: &mut TdsWire,
-    memory: &Memory,
-    bytes: &[u8],
-    taken: &mut usize,
-    tokens: &mut [TdsWireToken],
-    count: &mut usize,
-) -> Result<(), ClientFault>
-    requires ready { Ready walk.old }
-    ensures ready { Ready walk.new }
-    ensures within { taken.new ≤ length bytes.now }
-    ensures room { count.new ≤ length tokens.new }
-    ensures same { length tokens.new ≡ length tokens.old }
-    ensures run { (reading : Reading) → reading_from walk.old memory.now ≡ Some reading
-        → HearsWhole (record {
-          session = session_from parts.old [];
-          reading = reading;
-          rest = bytes.now;
-        }) (drop taken.new bytes.now) (session_from parts.new []) (reading_from walk.new memory.now)
-        (record { before = tokens.old; after = tokens.new; count = count.new }) result }
-{
-    memory.bounds();
-    let mut done = 0;
-    let mut read = 0;
-    'tokens: while read < tokens.len() {
-        let piece = behind(bytes, done);
-        let mut token = None;
-        let size = whole_token(&mut walk.start, &mut walk.kind, piece, &mut token);
-        if size == 0 {
-            break;
-        }
-        let Some(token) = &token else {
-            break;
-        };
-        if let Err(fault) = hear_token(parts, token, tokens, &mut read) {
-            *taken = done;
-            *count = read;
-            return Err(fault);
-        }
-        done += size;
-    }
-    *taken = done;
-    *count = read;
-    Ok(())
-}
-
 /// All bytes are done with, between two tokens: where the message ends with them, the client hears it,
 /// and the walk begins anew.
 #[inline(always)]
@@ -142,10 +96,10 @@ fn end_ready(parts: &mut ClientParts, walk: &mut TdsWire, memory: &mut Memory, e
     }
 }
 
-/// Hears the data: between two tokens in the walk's value, as far as they stand whole, and else by a
-/// walk.
-#[inline(always)]
-fn hear(
+/// Hears the data by a walk, or what is left of them, whatever the client does.
+#[cold]
+#[inline(never)]
+fn hear_other(
     client: &mut TdsClient,
     walk: &mut TdsWire,
     memory: &mut Memory,
@@ -154,45 +108,85 @@ fn hear(
     taken: &mut usize,
     tokens: &mut [TdsWireToken],
     count: &mut usize,
-) -> Came
-    ensures { HearsAll (record {
+) -> u8
+    requires within { taken.old ≤ length bytes.now }
+    requires room { count.old ≤ length tokens.old }
+    ensures all { taken.old ≡ 0 → count.old ≡ 0
+        → (came : AnyCame) × (result ≡ came_number came) × HearsAll (record {
+          before = record { client = client.old; walk = walk.old; memory = memory.old };
+          after = record { client = client.new; walk = walk.new; memory = memory.new };
+          bytes = bytes.now;
+          ends = ends;
+          taken = taken.new;
+          room = record { before = tokens.old; after = tokens.new; count = count.new };
+        }) came }
+    ensures behind { (s : ClientSession) (first : Place) (room : List AnyShown) (r : Reading)
+        → client_of client.old [] ≡ Some s → length room ≡ length tokens.old
+        → reading_from walk.old memory.old ≡ Some r
+        → HasHeard first (record { session = s; reading = r; rest = drop taken.old bytes.now })
+        (record { before = room; after = tokens.old; count = count.old })
+        → (came : AnyCame) × (result ≡ came_number came) × HearsFrom first (record {
+          before = record { client = client.old; walk = walk.old; memory = memory.old };
+          after = record { client = client.new; walk = walk.new; memory = memory.new };
+          bytes = bytes.now;
+          ends = ends;
+          taken = taken.new;
+          room = record { before = room; after = tokens.new; count = count.new };
+        }) came }
+{
+    let Some(parts) = client.held(&[]) else {
+        return came_code(&Came::NoClient);
+    };
+    came_code(&hear_walked(
+        client, parts, walk, memory, bytes, ends, taken, tokens, count,
+    ))
+}
+
+/// Hears the data, whatever stands in them: between two tokens in the walk's value, as far as they stand
+/// whole, and else by a walk. It isn't put into its caller, which passes a piece of a value without it.
+#[inline(never)]
+fn hear_any(
+    client: &mut TdsClient,
+    walk: &mut TdsWire,
+    memory: &mut Memory,
+    bytes: &[u8],
+    ends: u8,
+    taken: &mut usize,
+    tokens: &mut [TdsWireToken],
+    count: &mut usize,
+) -> u8
+    ensures { (came : AnyCame) × (result ≡ came_number came) × HearsAll (record {
       before = record { client = client.old; walk = walk.old; memory = memory.old };
       after = record { client = client.new; walk = walk.new; memory = memory.new };
       bytes = bytes.now;
       ends = ends;
       taken = taken.new;
       room = record { before = tokens.old; after = tokens.new; count = count.new };
-    }) result }
+    }) came }
 {
     *taken = 0;
     *count = 0;
+    // By itself, so that what follows needs no other stage's fields.
+    if client.stage != 2 {
+        return hear_other(client, walk, memory, bytes, ends, taken, tokens, count);
+    }
     let Some(mut parts) = client.held(&[]) else {
-        return Came::NoClient;
+        return came_code(&Came::NoClient);
     };
     if !parts.may_tell() || !walk.is_ready() {
-        return hear_walked(
-            client, parts, walk, memory, bytes, ends, taken, tokens, count,
-        );
+        return hear_other(client, walk, memory, bytes, ends, taken, tokens, count);
     }
-    match hear_whole(&mut parts, walk, memory, bytes, taken, tokens, count) {
-        Ok(()) => {}
-        Err(fault) => {
-            *client = TdsClient::of(&parts, 0);
-            return Came::Broken(ListenFault::Client(fault));
-        }
-    }
+    hear_whole(&mut parts.heard, walk, memory, bytes, taken, tokens, count);
     if *taken < bytes.len() {
-        if *count == tokens.len() && parts.may_tell() {
-            *client = TdsClient::of(&parts, 0);
-            return Came::Full;
+        *client = TdsClient::of(&parts, 0);
+        if *count == tokens.len() {
+            return came_code(&Came::Full);
         }
-        return hear_walked(
-            client, parts, walk, memory, bytes, ends, taken, tokens, count,
-        );
+        return hear_other(client, walk, memory, bytes, ends, taken, tokens, count);
     }
     let came = end_ready(&mut parts, walk, memory, ends);
     *client = TdsClient::of(&parts, 0);
-    came
+    came_code(&came)
 }
 
 /// Takes the data of a packet of any server's answer, or what is left of them, up to the room's end. Of
@@ -219,5 +213,15 @@ pub extern "C" fn tds_client_hear(
       room = record { before = tokens.old; after = tokens.new; count = count.new };
     }) came }
 {
-    came_code(&hear(client, walk, memory, bytes, ends, taken, tokens, count))
+    if ends == 0 && !tokens.is_empty() && client.is_reading() {
+        let left = walk.left_within(bytes);
+        if left > 0 {
+            walk.go_within(left, bytes);
+            client.read_on();
+            *taken = bytes.len();
+            *count = 0;
+            return 0;
+        }
+    }
+    hear_any(client, walk, memory, bytes, ends, taken, tokens, count)
 }

@@ -15,7 +15,7 @@ ghost use Rattle.tds_rows.specs.declared.place.RowFault.TheVariants as faults;
 
 use tds_rows::{
     Come, Described, PartsReader, Place, RowColumn, RowFault, RowsPlaced, columns_of,
-    places_of_rows, row_places, row_values,
+    places_of_rows, row_places, row_values, short_row,
 };
 use tds_wire::Features;
 
@@ -81,6 +81,18 @@ fn tell_row(found: Result<usize, RowFault>, taken: &mut usize) -> u8
     }
 }
 
+/// Of any row. It isn't put into its caller, which finds short values without it.
+#[inline(never)]
+fn any_row(columns: &[RowColumn], bytes: &[u8], places: &mut [Place], taken: &mut usize) -> u8
+    ensures { (found : Result ℕ AnyFault) × TellsRow found result taken.new
+        × PlacesFound found (column_shapes columns.now) bytes.now places.new
+        × (length places.old < length columns.now → found ≡ Err faults.NoRoom)
+        × (length places.new ≡ length places.old)
+        × (drop (length columns.now) places.new ≡ drop (length columns.now) places.old) }
+{
+    tell_row(row_places(columns, bytes, places), taken)
+}
+
 /// Where each value stands in the row that bytes begin with, a ROW or an NBCROW of these columns. 0; 1
 /// where it isn't whole, 71 where it is another token, 72 where there are no columns, 74 where there is
 /// less room than columns.
@@ -97,7 +109,13 @@ pub extern "C" fn tds_row_places(
         × (length places.new ≡ length places.old)
         × (drop (length columns.now) places.new ≡ drop (length columns.now) places.old) }
 {
-    tell_row(row_places(columns, bytes, places), taken)
+    match short_row(columns, bytes, places) {
+        Some(length) => {
+            *taken = length;
+            0
+        }
+        None => any_row(columns, bytes, places, taken),
+    }
 }
 
 /// The number of why rows end.

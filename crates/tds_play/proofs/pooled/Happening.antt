@@ -34,8 +34,8 @@ use Rattle.tds_play.proofs.Accounts.{none_lost, opens_lost, sound_push}
 use Rattle.tds_play.proofs.AllPlayed.{as_many}
 use Rattle.tds_play.proofs.Found.{IsAboutOne}
 use Rattle.tds_play.proofs.Listed.{opened}
-use Rattle.tds_play.proofs.PlayerFinds.{FoundHere, client_restarts, found_alike, found_here, missing_alike, server_restarts}
-use Rattle.tds_play.proofs.PlayerOpens.{opens_alike}
+use Rattle.tds_play.proofs.plays.PlayerFinds.{FoundHere, client_restarts, found_alike, found_here, missing_alike, server_restarts}
+use Rattle.tds_play.proofs.plays.PlayerOpens.{opens_alike}
 use Rattle.tds_play.proofs.any_bytes.Answered.{none_delivered, read_opened, refuses_all}
 use Rattle.tds_play.proofs.pooled.InPlace.{next_lease}
 use Rattle.tds_play.proofs.pooled.Leasing.{new_opens, new_played, new_reading}

@@ -30,7 +30,7 @@ use Rattle.tds_play.specs.Steps.{StepsAt}
 use Rattle.tds_play.specs.Ties.{AreTied}
 use Rattle.tds_play.proofs.Accounts.{acted_lost, acted_sound}
 use Rattle.tds_play.proofs.Listed.{changed}
-use Rattle.tds_play.proofs.PlayerActs.{RefinesActs, acts_alike, all_at, lost_there, noted_alike, refused_alike}
+use Rattle.tds_play.proofs.plays.PlayerActs.{RefinesActs, acts_alike, all_at, lost_there, noted_alike, refused_alike}
 use Rattle.tds_play.proofs.any_bytes.Answered.{acted_reads}
 use Rattle.tds_play.proofs.pooled.Seated.{seated_get, seated_length}
 use Rattle.tds_play.proofs.pooled.Slots.{length_set}

@@ -34,11 +34,7 @@ came_reads : (number : ℕ) (had now : Reading) (bytes : List ℕ) (old new : Ho
     → Reads had bytes (packets_of c.streams.streams.steps) (Some now)
 came_reads number had now bytes old new from to c few =
     let s = c.streams.streams in
-    let none_left : c.streams.left ≡ [] = elim c.streams.all [
-      | inl none ↦ none
-      | inr gone ↦ absurd (let no : None ≡ Some now = sym gone ∙ c.has in let u : ⊥ = cc in u)
-    ] in
-    let all : s.heard ≡ bytes = sym (s.bytes_are ∙ ap (λ (xs : List ℕ). s.heard ++ xs) none_left ∙ append-nil s.heard) in
+    let all : s.heard ≡ bytes = sym (s.bytes_are ∙ ap (λ (xs : List ℕ). s.heard ++ xs) c.streams.all ∙ append-nil s.heard) in
     subst (λ (o : Option Reading). Reads had bytes (packets_of s.steps) o) c.has
     (subst (λ (xs : List ℕ). Reads had xs (packets_of s.steps) c.left) all (s.reads few))
 

@@ -201,7 +201,7 @@ pub unheard : (number : ℕ) (piece : List ℕ) (count : ℕ) (ls : List Link) (
 unheard number piece count ls f at is =
     unheard_by number piece count (open_at number ls) (open_at number ls) f at (ap (λ (o : Option Link). open_of (option_map seen_of o)) (is_nowhere number ls is))
 
-heard_stays : (number : ℕ) (heard : Option Heard) (ls ms : List Link) → Stays ls ms → (IsNone heard → reader_at number ms ≡ None) → StaysAt (if_heard heard (open_at number ls)) (open_at number ms)
+pub heard_stays : (number : ℕ) (heard : Option Heard) (ls ms : List Link) → Stays ls ms → (IsNone heard → reader_at number ms ≡ None) → StaysAt (if_heard heard (open_at number ls)) (open_at number ms)
 heard_stays number None ls ms stays gone = subst (λ (o : Option packets.Reading). StaysAt None o) (sym (gone_open number ms (gone refl))) tt
 heard_stays number (Some heard) ls ms stays gone = (stays_opens ls ms stays).opens number
 
@@ -211,17 +211,6 @@ pub streams_on : (number : ℕ) (had : Option packets.Reading) (old f : House) (
     → Moved (Connection number) h h1 → ps1 ≡ ps → Stays ls ms → (IsNone heard → reader_at number ms ≡ None) → AllStand between to → Streams number had old from bytes rest (open_at number ms) (record { hall = h1; posts = ps1 }) to
 streams_on number had old f from at between to h h1 ps ps1 bytes left rest heard now ls ms s hears m kept stays gone stand =
     streams_moved number had (if_heard heard (open_at number ls)) (open_at number ms) old from between to h h1 ps ps1 bytes rest m kept (heard_stays number heard ls ms stays gone) stand (hears had old from bytes s)
-
--- the connection is lost, and what is left of them isn't heard
-pub streams_lost : {A E : Type 0} (r : Result A E) (number : ℕ) (had now next : Option packets.Reading) (old : House) (from at to : Service) (h h1 : Hall) (ps ps1 : Posts) (bytes left : List ℕ)
-    → Streams number had old from bytes left now (record { hall = h; posts = ps }) at → OnOk r (MovedOn h h1) → OnOk r (ps1 ≡ ps) → OnOk r (next ≡ None) → OnOk r (AllStand at to)
-    → OnOk r (StreamsAll number had old from bytes next (record { hall = h1; posts = ps1 }) to)
-streams_lost (Ok x) number had now next old from at to h h1 ps ps1 bytes left s m kept gone stand = record {
-  left = left;
-  streams = streams_moved number had now next old from at to h h1 ps ps1 bytes left (m (Connection number)) kept (subst (λ (o : Option packets.Reading). StaysAt now o) (sym gone) tt) stand s;
-  all = inr gone;
-}
-streams_lost (Err e) number had now next old from at to h h1 ps ps1 bytes left s m kept gone stand = tt
 
 -- and then those who wait are served
 pub comes : {A E : Type 0} (r : Result A E) (number : ℕ) (had : Option packets.Reading) (old : House) (from at to : Service) (h h1 : Hall) (ps ps1 : Posts) (bytes : List ℕ) (ls ms : List Link)

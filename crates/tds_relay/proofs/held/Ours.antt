@@ -141,7 +141,7 @@ deeds d key h c deed sound its =
     let o = deed_acted d key h c deed sound its in
     let acts = acts_done c.line deed in
     let c2 : Seat = with_line c (line_after c.line acts) in
-    let t2 : Turn = moves d d.holds d.line (desk.call_of h.lease deed ∷ []) in
+    let t2 : Turn = desk.with_figures (desk.figures_behind deed (step {T = Token} d.service (desk.call_of h.lease deed)).dones d.figures) (moves d d.holds d.line (desk.call_of h.lease deed ∷ [])) in
     let t : turn d (desk.Does key deed) ≡ t2 = ap (λ (x : Option Hold). desk.does d deed x) f in
     let its2 : Its t2.desk key h c2 = record { sole = its.sole; there = o.there; lent = its.lent; line = its.line } in
     let ours2 : Ours d key h c c2 acts t2 = record { its = its2; line = refl; out = o.out } in

@@ -1,5 +1,5 @@
 -- Numbers that don't fall, as one comes in and some go.
-use Rattle.std.proofs.Common.{◌≡◌, ℕ, zero, suc, Bool, true, false, ◌+◌, ◌<◌, ◌≤◌, List, [], ◌∷◌, ◌++◌, length, map, take, drop, get_or, refl, ap, arith}
+use Rattle.std.proofs.Common.{◌≡◌, ℕ, zero, suc, Bool, true, false, ◌<◌, ◌≤◌, List, [], ◌∷◌, ◌++◌, length, map, take, drop, get_or, refl, ap, arith}
 use Rattle.std.specs.Prelude.{slice_index, filter, if◌then◌else◌}
 use Rattle.tds_relay.specs.Sorted.{AreFrom, Climbs}
 

@@ -1,10 +1,10 @@
 -- What stands under an id, as one is put there, and some are taken out.
-use Rattle.std.proofs.Common.{◌≡◌, ◌∙◌, ℕ, zero, suc, Bool, true, false, ◌==◌, ◌<◌, ◌≤◌, List, [], ◌∷◌, ◌++◌, length, take, drop, get_or, refl, sym, ap, arith}
+use Rattle.std.proofs.Common.{◌≡◌, ◌∙◌, ℕ, zero, suc, Bool, true, false, ◌==◌, ◌<◌, ◌≤◌, List, [], ◌∷◌, ◌++◌, length, take, drop, get_or, refl, sym, ap, subst, eq-or-lt_of_le, ⊎_elim, arith}
 use Rattle.std.proofs.lemmas.Bool.Decides.{nat_tests}
-use Rattle.std.specs.Prelude.{◌≢◌, slice_index, filter, insert, is_ok, Some, None, Result, Ok, Err, IsOk, if◌then◌else◌}
+use Rattle.std.specs.Prelude.{◌-◌, ◌≢◌, slice_index, filter, insert, is_ok, Some, None, Result, Ok, Err, IsOk, if◌then◌else◌}
 use Rattle.tds_relay.specs.declared.index.Indexed.{Indexed}
 use Rattle.tds_relay.specs.Sorted.{Climbs, first, ids_in, one_if, under}
-use Rattle.tds_relay.proofs.indexed.Climbing.{from_at}
+use Rattle.tds_relay.proofs.indexed.Climbing.{at_place, climbs_at, from_at}
 
 is_same : (m n : ℕ) → m ≡ n → (m == n) ≡ true
 is_same m n e = grind (arith, nat_tests, e)
@@ -44,6 +44,21 @@ found_there id (e ∷ es) d (suc i) lt below is =
     let less : e.id < id = below zero (omega arith) in
     ap first (no (e.id == id) (e.item ∷ under id es) (under id es) (is_other e.id id (λ s. absurd (omega (arith, less, s)))))
     ∙ found_there id es d i (omega (arith, lt)) (λ j h. below (suc j) (omega (arith, h))) is
+
+-- it begins where one stands and none is before it
+pub found_here : {T : Type 0} (id : ℕ) (es : List (Indexed T)) (d : Indexed T) (i : ℕ) → Climbs (ids_in es) → i < length es → slice_index (ids_in es) i ≡ id
+    → (i ≢ 0 → slice_index (ids_in es) (i - 1) < id) → first (under id es) ≡ Some (get_or es i d).item
+found_here {T} id es d zero up lt is before = found_there id es d zero lt (λ j h. absurd (omega (arith, h))) (sym (at_place (λ (e : Indexed T). e.id) es zero d lt) ∙ is)
+found_here {T} id es d (suc i) up lt is before =
+    let same : suc i - 1 ≡ i = omega arith in
+    let last : slice_index (ids_in es) i < id = subst (λ (k : ℕ). slice_index (ids_in es) k < id) same (before (λ e. absurd (omega (arith, e)))) in
+    let inside : i < length (ids_in es) = let l : length (ids_in es) ≡ length es = ids_length es in omega (arith, l, lt) in
+    found_there id es d (suc i) lt
+    (λ j h. ⊎_elim
+    (λ (e : j ≡ i). subst (λ (k : ℕ). slice_index (ids_in es) k < id) (sym e) last)
+    (λ (below : j < i). let le : slice_index (ids_in es) j ≤ slice_index (ids_in es) i = climbs_at (ids_in es) up j i below inside in omega (arith, le, last))
+    (let less : j ≤ i = omega (arith, h) in eq-or-lt_of_le less))
+    (sym (at_place (λ (e : Indexed T). e.id) es (suc i) d lt) ∙ is)
 
 pub absent_there : {T : Type 0} (id : ℕ) (es : List (Indexed T)) (i : ℕ) → Climbs (ids_in es) → ((j : ℕ) → j < i → slice_index (ids_in es) j < id)
     → ((j : ℕ) → i ≤ j → j < length es → id ≤ slice_index (ids_in es) j) → (i < length es → slice_index (ids_in es) i ≢ id) → first (under id es) ≡ None

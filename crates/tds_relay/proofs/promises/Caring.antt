@@ -167,7 +167,8 @@ deed_cares d h desk.Stops sound held = acts_care d h line.Cancel (line.Cancel �
 pub does_sound : (d : Desk) (key : ℕ) (deed : Deed) (o : Option Hold) → find_key key d.holds ≡ o → Sound d → Sound (desk.does d deed o).desk
 does_sound d key deed None e sound = rests_sound d d.line sound
 does_sound d key deed (Some h) e sound =
-    sound_by d d.holds d.line (desk.call_of h.lease deed ∷ []) sound sound.rising (deed_cares d h deed sound (found_by_lease key 0 d.service.given h d.holds sound.rising e))
+    let behind = sound_by d d.holds d.line (desk.call_of h.lease deed ∷ []) sound sound.rising (deed_cares d h deed sound (found_by_lease key 0 d.service.given h d.holds sound.rising e)) in
+    record { tidy = behind.tidy; rising = behind.rising; cared = behind.cared }
 
 -- ---- One is let go
 

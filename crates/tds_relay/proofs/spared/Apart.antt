@@ -1,5 +1,5 @@
 -- The ends of others, and the line, behind what is done for one application.
-use Rattle.std.proofs.Common.{◌≡◌, ◌≢◌, ◌∙◌, ◌==◌, ◌||◌, ℕ, Bool, true, false, List, ◌∷◌, Option, Some, None, refl, sym, ap, subst, option_map}
+use Rattle.std.proofs.Common.{◌≡◌, ◌≢◌, ◌∙◌, ◌==◌, ◌||◌, ℕ, suc, Bool, true, false, List, ◌∷◌, length, Option, Some, None, refl, sym, ap, subst, option_map}
 use Rattle.std.specs.Prelude.{Result, Ok, Err, OnOk}
 use Rattle.std.proofs.lemmas.Bool.{eq-eqb}
 use Rattle.std.proofs.lemmas.List.{get_or-set_other}
@@ -75,6 +75,14 @@ differ k key e = λ same. (let u : true ≡ false = sym (eq-eqb k key (sym same)
 serves_line : (d : Desk) (k : ℕ) (others : List ℕ) (lease number : ℕ) (had : Bool) → d.line ≡ k ∷ others → (step {T = Token} d.service calls.Lease).reply ≡ Lent lease number had → (turn d desk.Serves).desk.line ≡ others
 serves_line d k others lease number had line lent =
     ap (λ (ks : List ℕ). (serves d ks).desk.line) line ∙ ap (λ (r : calls.Reply). (serves_by d k others (lent_in r)).desk.line) lent
+
+-- one fewer waits
+pub served_shorter : (d m : Desk) (o : Option Served) (served : Served) (before after : List ℕ) → Serving d o → o ≡ Some served → Turns desk.Serves d m before after → suc (length m.line) ≡ length d.line
+served_shorter d m o served before after s is t =
+    let lent = subst (Serving d) is s in
+    ap (λ (x : Desk). suc (length x.line)) t.desk_is
+    ∙ ap (λ (ks : List ℕ). suc (length ks)) (serves_line d served.hold.key lent.0 served.hold.lease served.hold.number served.had lent.1 lent.2)
+    ∙ sym (ap (λ (ks : List ℕ). length ks) lent.1)
 
 -- the first one is served, and the others wait
 record IsNotServed (key : ℕ) (served : Served) (d1 : Desk) : Type 0 where

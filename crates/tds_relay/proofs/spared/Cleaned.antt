@@ -1,6 +1,6 @@
 -- What a cleaning puts, and what goes out where a connection is let go.
-use Rattle.std.proofs.Common.{◌≡◌, ◌≢◌, ◌⊎◌, ◌∙◌, ◌==◌, ◌++◌, ℕ, Bool, true, false, not, List, [], ◌∷◌, Option, Some, None, inl, inr, refl, sym, ap, subst, append_assoc, append-nil, option_map, if◌then◌else◌}
-use Rattle.std.specs.Prelude.{filter, IfOk, IfSome, OnOk, Result, Ok, Err}
+use Rattle.std.proofs.Common.{◌≡◌, ◌∙◌, ◌==◌, ◌++◌, ℕ, Bool, true, false, not, List, [], ◌∷◌, Option, Some, None, inl, inr, refl, sym, ap, subst, append_assoc, option_map, if◌then◌else◌}
+use Rattle.std.specs.Prelude.{OnOk, Result, Ok, Err}
 use Rattle.std.proofs.lemmas.Bool.{eqb-true, eq-eqb}
 use Rattle.tds_client.specs.declared.message.MessageKind.TheVariants.{Batch}
 use Rattle.tds_client.specs.Session.{ClientSession}
@@ -21,10 +21,8 @@ use Rattle.tds_relay.specs.Desk.{Desk, find_key, find_lease, find_number, withou
 use Rattle.tds_relay.specs.Promises.{Each}
 use Rattle.tds_relay.specs.Reads.{FillsAt, FillsBy, Opens as OpensLinks, bytes_on, if_open, link_at, open_at, open_waits, reader_at, reader_of, waits_on}
 use Rattle.tds_relay.specs.Ties.{IsNumberOf, IsReached, Turns, desk_in}
-use Rattle.tds_relay.specs.Words.{text_of_cleaning}
-use Rattle.tds_relay.proofs.held.Seated.{AllSit}
+use Rattle.tds_relay.specs.Cleaning.{text_of_cleaning}
 use Rattle.tds_relay.proofs.held.Sitting.{Sits}
-use Rattle.tds_relay.proofs.promises.Caring.{Sound}
 use Rattle.tds_relay.proofs.spared.Held.{Seated, same_lease, seated, sits_at, sound_at}
 
 -- ---- At the desk

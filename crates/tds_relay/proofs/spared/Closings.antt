@@ -191,20 +191,20 @@ anybody_then r May a b h = closes_more_on r May Anybody a b (λ key may. tt) h
 
 -- ---- A packet that comes
 
-heard_by : (tag : ℕ) (a b c : Register) → ((key : ℕ) → open_name key (but_told c a) ≡ open_name key (but_told b a)) → ((key : ℕ) → open_name key c ≡ open_name key b)
-    → ((number : ℕ) → sending_at number c.links ≡ sending_at number b.links) → IsDue Anybody tag (but_told b a) b → IsDue Anybody tag (but_told c a) c
-heard_by tag a b c first same sends (OfApplication key may was gone) = OfApplication key tt (first key ∙ was) (same key ∙ gone)
-heard_by tag a b c first same sends (OfConnection number was gone) = OfConnection number was (ap name_in (sends number) ∙ gone)
+heard_by : (May : ℕ → Type 0) (tag : ℕ) (a b c : Register) → ((key : ℕ) → open_name key (but_told c a) ≡ open_name key (but_told b a)) → ((key : ℕ) → open_name key c ≡ open_name key b)
+    → ((number : ℕ) → sending_at number c.links ≡ sending_at number b.links) → IsDue May tag (but_told b a) b → IsDue May tag (but_told c a) c
+heard_by May tag a b c first same sends (OfApplication key may was gone) = OfApplication key may (first key ∙ was) (same key ∙ gone)
+heard_by May tag a b c first same sends (OfConnection number was gone) = OfConnection number was (ap name_in (sends number) ∙ gone)
 
-heard_due : (tag : ℕ) (a b c : Register) → ((key : ℕ) → open_name key (but_told c a) ≡ open_name key (but_told b a)) → ((key : ℕ) → open_name key c ≡ open_name key b)
-    → ((number : ℕ) → sending_at number c.links ≡ sending_at number b.links) → IsOrdered (orders.Close tag) a.orders ⊎ IsDue Anybody tag (but_told b a) b → IsOrdered (orders.Close tag) a.orders ⊎ IsDue Anybody tag (but_told c a) c
-heard_due tag a b c first same sends (inl o) = inl o
-heard_due tag a b c first same sends (inr d) = inr (heard_by tag a b c first same sends d)
+heard_due : (May : ℕ → Type 0) (tag : ℕ) (a b c : Register) → ((key : ℕ) → open_name key (but_told c a) ≡ open_name key (but_told b a)) → ((key : ℕ) → open_name key c ≡ open_name key b)
+    → ((number : ℕ) → sending_at number c.links ≡ sending_at number b.links) → IsOrdered (orders.Close tag) a.orders ⊎ IsDue May tag (but_told b a) b → IsOrdered (orders.Close tag) a.orders ⊎ IsDue May tag (but_told c a) c
+heard_due May tag a b c first same sends (inl o) = inl o
+heard_due May tag a b c first same sends (inr d) = inr (heard_by May tag a b c first same sends d)
 
 -- What waits for applications changes by it, and why a connection was closed.
-pub closes_heard : (a b c : Register) → ClosesOnly Anybody (but_told b a) b → c.ends ≡ b.ends → names_of c.posts ≡ names_of b.posts → ((number : ℕ) → sending_at number c.links ≡ sending_at number b.links)
-    → ((number : ℕ) → is_shut_at number c ≡ true → is_shut_at number b ≡ true) → c.orders ≡ b.orders → c.kept.most ≡ b.kept.most → ClosesOnly Anybody (but_told c a) c
-closes_heard a b c h ends names sends shut are most =
+pub closes_heard : (May : ℕ → Type 0) (a b c : Register) → ClosesOnly May (but_told b a) b → c.ends ≡ b.ends → names_of c.posts ≡ names_of b.posts → ((number : ℕ) → sending_at number c.links ≡ sending_at number b.links)
+    → ((number : ℕ) → is_shut_at number c ≡ true → is_shut_at number b ≡ true) → c.orders ≡ b.orders → c.kept.most ≡ b.kept.most → ClosesOnly May (but_told c a) c
+closes_heard May a b c h ends names sends shut are most =
     let same : (key : ℕ) → open_name key c ≡ open_name key b =
     λ key. ap (λ (es : Ends). name_with (end_at es key) (slice_index_or (names_of c.posts) key None)) ends
     ∙ ap (λ (ns : List (Option (Option ℕ))). name_with (end_at b.ends key) (slice_index_or ns key None)) names in
@@ -213,13 +213,13 @@ closes_heard a b c h ends names sends shut are most =
       ordered = subst (StayOrdered a.orders) (sym are) h.ordered;
       told = ap (λ (n : ℕ). let k : KeptBeside = record { refused = c.kept.refused; most = n } in k) (most ∙ ap (λ (k : KeptBeside). k.most) h.told);
       closes = λ key tag e.
-          subst (λ (o : Option ℕ). (o ≡ Some tag) ⊎ (Anybody key × IsOrdered (orders.Close tag) c.orders)) (sym (same key))
-          (subst (λ (xs : List Order). (open_name key b ≡ Some tag) ⊎ (Anybody key × IsOrdered (orders.Close tag) xs)) (sym are) (h.closes key tag (sym (first key) ∙ e)));
+          subst (λ (o : Option ℕ). (o ≡ Some tag) ⊎ (May key × IsOrdered (orders.Close tag) c.orders)) (sym (same key))
+          (subst (λ (xs : List Order). (open_name key b ≡ Some tag) ⊎ (May key × IsOrdered (orders.Close tag) xs)) (sym are) (h.closes key tag (sym (first key) ∙ e)));
       opens = λ number e. subst (λ (xs : List Order). (is_shut_at number a ≡ true) ⊎ IsOrdered (orders.Open number) xs) (sym are) (h.opens number (shut number e));
       cuts = λ number tag e.
           subst (λ (o : Option ℕ). (o ≡ Some tag) ⊎ IsOrdered (orders.Close tag) c.orders) (sym (ap name_in (sends number)))
           (subst (λ (xs : List Order). (called_at number b.links ≡ Some tag) ⊎ IsOrdered (orders.Close tag) xs) (sym are) (h.cuts number tag e));
-      due = λ tag o. heard_due tag a b c first same sends (h.due tag (subst (IsOrdered (orders.Close tag)) are o));
+      due = λ tag o. heard_due May tag a b c first same sends (h.due tag (subst (IsOrdered (orders.Close tag)) are o));
       writes = λ key. inl refl;
       writes_on = λ number.
           subst (λ (s : Option Sending). (s ≡ sending_at number a.links) ⊎ IsWritten s c.orders) (sym (sends number))
@@ -231,21 +231,22 @@ closes_heard a b c h ends names sends shut are most =
 abbrev told_with : Posts → Option Refused → Register → Register
 told_with posts refused r = record { ends = r.ends; posts = posts; links = r.links; orders = r.orders; kept = record { refused = refused; most = r.kept.most } }
 
-told_as : (a c d : Register) → ClosesOnly Anybody (but_told c a) d → d.posts ≡ c.posts → d.kept ≡ c.kept → ClosesOnly Anybody (but_told d a) d
-told_as a c d h posts told =
-    let first : ClosesOnly Anybody (told_with d.posts c.kept.refused a) d = subst (λ (ps : Posts). ClosesOnly Anybody (told_with ps c.kept.refused a) d) (sym posts) h in
-    subst (λ (o : Option Refused). ClosesOnly Anybody (told_with d.posts o a) d) (ap (λ (k : KeptBeside). k.refused) (sym told)) first
+told_as : (May : ℕ → Type 0) (a c d : Register) → ClosesOnly May (but_told c a) d → d.posts ≡ c.posts → d.kept ≡ c.kept → ClosesOnly May (but_told d a) d
+told_as May a c d h posts told =
+    let first : ClosesOnly May (told_with d.posts c.kept.refused a) d = subst (λ (ps : Posts). ClosesOnly May (told_with ps c.kept.refused a) d) (sym posts) h in
+    subst (λ (o : Option Refused). ClosesOnly May (told_with d.posts o a) d) (ap (λ (k : KeptBeside). k.refused) (sym told)) first
 
 -- what came of it is done
-pub closes_done : (a c d : Register) → ClosesOnly Anybody (but_told c a) c → ClosesOnly Anybody c d → d.posts ≡ c.posts → ClosesOnly Anybody (but_told d a) d
-closes_done a c d h k posts = told_as a c d (closes_both Anybody (but_told c a) c d h k) posts k.told
+pub closes_done : (May : ℕ → Type 0) (a c d : Register) → ClosesOnly May (but_told c a) c → ClosesOnly May c d → d.posts ≡ c.posts → ClosesOnly May (but_told d a) d
+closes_done May a c d h k posts = told_as May a c d (closes_both May (but_told c a) c d h k) posts k.told
 
-pub closes_done_on : {A E : Type 0} (r : Result A E) (May : ℕ → Type 0) (a c d : Register) → OnOk r (ClosesOnly May c d) → OnOk r (d.posts ≡ c.posts) → ClosesOnly Anybody (but_told c a) c → OnOk r (ClosesOnly Anybody (but_told d a) d)
-closes_done_on (Ok x) May a c d k posts h = closes_done a c d h (closes_more May Anybody c d (λ key may. tt) k) posts
-closes_done_on (Err e) May a c d k posts h = tt
+pub closes_done_on : {A E : Type 0} (r : Result A E) (May More : ℕ → Type 0) (a c d : Register) → ((key : ℕ) → May key → More key) → OnOk r (ClosesOnly May c d) → OnOk r (d.posts ≡ c.posts) → ClosesOnly More (but_told c a) c
+    → OnOk r (ClosesOnly More (but_told d a) d)
+closes_done_on (Ok x) May More a c d f k posts h = closes_done More a c d h (closes_more May More c d f k) posts
+closes_done_on (Err e) May More a c d f k posts h = tt
 
-pub one_closes : (a b c d : Register) → ClosesOnly Anybody (but_told b a) b → c.ends ≡ b.ends → names_of c.posts ≡ names_of b.posts
-    → ((number : ℕ) → (sending_at number c.links ≡ sending_at number b.links) × (is_shut (seen_at number c.links) ≡ is_shut (seen_at number b.links))) → c.orders ≡ b.orders → c.kept.most ≡ b.kept.most → ClosesOnly Anybody c d → d.posts ≡ c.posts
-    → ClosesOnly Anybody (but_told d a) d
-one_closes a b c d h ends names same are most k posts =
-    closes_done a c d (closes_heard a b c h ends names (λ number. (same number).0) (λ number e. sym (same number).1 ∙ e) are most) k posts
+pub one_closes : (May More : ℕ → Type 0) (a b c d : Register) → ((key : ℕ) → May key → More key) → ClosesOnly More (but_told b a) b → c.ends ≡ b.ends → names_of c.posts ≡ names_of b.posts
+    → ((number : ℕ) → (sending_at number c.links ≡ sending_at number b.links) × (is_shut (seen_at number c.links) ≡ is_shut (seen_at number b.links))) → c.orders ≡ b.orders → c.kept.most ≡ b.kept.most → ClosesOnly May c d → d.posts ≡ c.posts
+    → ClosesOnly More (but_told d a) d
+one_closes May More a b c d f h ends names same are most k posts =
+    closes_done More a c d (closes_heard More a b c h ends names (λ number. (same number).0) (λ number e. sym (same number).1 ∙ e) are most) (closes_more May More c d f k) posts

@@ -1,6 +1,6 @@
 -- How many connections there may be.
-use Rattle.std.proofs.Common.{◌≡◌, ◌∙◌, ◌≤◌, ◌<◌, ℕ, suc, Bool, true, false, List, [], ◌∷◌, ◌++◌, Option, Some, None, length, is_some, refl, sym, ap, subst, inl, inr, option_map}
-use Rattle.std.specs.Prelude.{◌⊎◌, Result, Ok, Err, OnOk}
+use Rattle.std.proofs.Common.{◌≡◌, ◌∙◌, ◌+◌, ◌≤◌, ℕ, arith, suc, Bool, true, false, List, [], ◌∷◌, ◌++◌, Option, Some, None, length, is_some, refl, sym, ap, subst, inl, inr, option_map}
+use Rattle.std.specs.Prelude.{Result, Ok, Err, OnOk}
 use Rattle.tds_wire.specs.declared.told.Token.{Token}
 use Rattle.tds_service.specs.Service as calls
 use Rattle.tds_service.specs.Service.{Seat, find_by, is_lendable, step}
@@ -8,10 +8,12 @@ use Rattle.tds_relay.specs.declared.desk.Served.{Served}
 use Rattle.tds_relay.specs.declared.link.Link.{Link}
 use Rattle.tds_relay.specs.Closings.{KeptBeside}
 use Rattle.tds_relay.specs.Desk.{Desk}
-use Rattle.tds_relay.specs.Few.{Few, FewBy, MayServe, NoneNew, has_free}
+use Rattle.tds_relay.specs.Few.{Few, FewBy, MayServe, NobodyWaits, NoneNew}
 use Rattle.tds_relay.specs.Reads.{FillsAt, Stays, bytes_on, link_at, waits_on}
 use Rattle.tds_relay.specs.Sending.{sending_at, sending_of}
-use Rattle.tds_relay.specs.Ties.{Serving}
+use Rattle.tds_relay.specs.Ties.{IsServed, Serving}
+use Rattle.tds_service.specs.Table.{service_in}
+use Rattle.tds_relay.specs.declared.relay.Relay as code
 
 -- ---- None is there that wasn't
 
@@ -101,6 +103,14 @@ longer l (x ∷ xs) = ap suc (longer l xs)
 
 pub few_pushed : (had : Bool) (l : Link) (a c : List Link) → had ≡ false → c ≡ a ++ l ∷ [] → FewBy had a c
 few_pushed had l a c e is = subst (λ (t : Bool). FewBy t a c) (sym e) (ap length is ∙ longer l a)
+
+-- as many have been served as waited
+none_waits : (line : List ℕ) (s : calls.Service) → length line ≡ 0 → IsServed line s
+none_waits [] s e = tt
+none_waits (key ∷ keys) s e = absurd (let u : ⊥ = cc in u)
+
+pub all_served : (r : code.Relay) (turn n : ℕ) → turn + length r.desk.line.items ≡ n → n ≤ turn → NobodyWaits r
+all_served r turn n shorter done = inl (none_waits r.desk.line.items (service_in r.desk.service) (omega (arith, shorter, done)))
 
 -- how many there may be, as it was
 pub most_kept : (k l : KeptBeside) → k ≡ l → k.most ≡ l.most

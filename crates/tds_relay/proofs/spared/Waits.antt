@@ -3,6 +3,7 @@ use Rattle.std.proofs.Common.{◌≡◌, ◌≢◌, ◌∙◌, ◌==◌, ◌++�
 use Rattle.std.proofs.lemmas.Bool.{eqb-true}
 use Rattle.tds_relay.specs.declared.link.Link.{Link}
 use Rattle.tds_relay.specs.Posts.{Post, fits, post_in, put}
+use Rattle.tds_relay.specs.Reasons.{HasNoRoom}
 use Rattle.tds_relay.specs.Reads.{FillsAt, link_at, place_of, waits_on, without_link}
 use Rattle.tds_relay.proofs.steps.Placed.{IsAt, is_at, is_nowhere}
 use Rattle.tds_relay.proofs.steps.Staying.{fills_refl}
@@ -80,6 +81,18 @@ full_by false bytes p e full = ap (λ (q : Post). q.bytes) (put_fills bytes p e)
 -- where it is, none of it does
 pub put_unfit : (bytes : List ℕ) (p q : Post) → q ≡ put bytes p → q.is_full ≡ true → q.bytes ≡ p.bytes
 put_unfit bytes p q is full = ap (λ (r : Post). r.bytes) is ∙ full_by (fits p bytes) bytes p refl (sym (ap (λ (r : Post). r.is_full) is) ∙ full)
+
+unfit_by : (b : Bool) (bytes : List ℕ) (p : Post) → fits p bytes ≡ b → (put bytes p).is_full ≡ true → fits p bytes ≡ false
+unfit_by true bytes p e full = absurd (let u : false ≡ true = sym (ap (λ (q : Post). q.is_full) (put_fits bytes p e)) ∙ full in let v : ⊥ = cc in v)
+unfit_by false bytes p e full = e
+
+-- then there was no room for it
+pub no_room : (bytes : List ℕ) (number : ℕ) (ls : List Link) (place : ℕ) (l : Link) (q : Post) → place_of number ls ≡ Some place → l ≡ slice_index_or ls place l → q ≡ put bytes (post_in l.out) → q.is_full ≡ true → HasNoRoom number bytes ls
+no_room bytes number ls place l q is there behind full =
+    let at : IsAt number ls place = is_at number ls place is in
+    let p = post_in l.out in
+    ap (option_map (λ (x : Link). fits (post_in x.out) bytes)) (at.found l) ∙ ap (λ (x : Link). Some (fits (post_in x.out) bytes)) (sym there)
+    ∙ ap Some (unfit_by (fits p bytes) bytes p refl (sym (ap (λ (r : Post). r.is_full) behind) ∙ full))
 
 either_put : (b : Bool) (bytes : List ℕ) (p : Post) → fits p bytes ≡ b → FillsAt (Some p.bytes) (Some (put bytes p).bytes)
 either_put true bytes p e = subst (λ (q : Post). FillsAt (Some p.bytes) (Some q.bytes)) (sym (put_fits bytes p e)) (bytes, refl)

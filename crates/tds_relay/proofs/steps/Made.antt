@@ -20,6 +20,7 @@ use Rattle.tds_service.specs.declared.refusal.Refusal.{Refusal}
 use Rattle.tds_service.specs.declared.refusal.Refusal.TheVariants as refusals
 use Rattle.tds_service.specs.Ties.{AreBytes, Appends, sent_in}
 use Rattle.tds_listen.specs.declared.fault.ListenFault.{ListenFault}
+use Rattle.tds_relay.specs.declared.desk.Figures.{Figures}
 use Rattle.tds_relay.specs.declared.desk.Hold.{Hold}
 use Rattle.tds_relay.specs.declared.fault.Broken.{Broken}
 use Rattle.tds_relay.specs.Desk as desk
@@ -146,25 +147,25 @@ released_free s s1 new lease number n way before between after one others =
 -- so it moves, and this connection is the last that broke the rules
 abbrev moves_broken : Desk → List Hold → List ℕ → List (Call Token) → Option Broken → Turn
 moves_broken d held waiting all broken = record {
-  desk = record { mode = d.mode; service = service_after d.service all; holds = held; line = waiting; broken = broken };
+  desk = record { mode = d.mode; service = service_after d.service all; holds = held; line = waiting; broken = broken; figures = d.figures };
   calls = all;
 }
 
 turns_broken : (d : Desk) (event : Event) (s : Service) (held : List Hold) (waiting : List ℕ) (all : List (Call Token)) (broken : Option Broken) (before after : List ℕ)
     → turn d event ≡ moves_broken d held waiting all broken → Makes all d.service s before after
-    → Turns event d (record { mode = d.mode; service = s; holds = held; line = waiting; broken = broken }) before after
+    → Turns event d (record { mode = d.mode; service = s; holds = held; line = waiting; broken = broken; figures = d.figures }) before after
 turns_broken d event s held waiting all broken before after is made = record {
-  desk_is = ap (λ (x : Service). let y : Desk = record { mode = d.mode; service = x; holds = held; line = waiting; broken = broken } in y) made.service_is ∙ ap (λ (t : Turn). t.desk) (sym is);
+  desk_is = ap (λ (x : Service). let y : Desk = record { mode = d.mode; service = x; holds = held; line = waiting; broken = broken; figures = d.figures } in y) made.service_is ∙ ap (λ (t : Turn). t.desk) (sym is);
   bytes = subst (λ (t : Turn). Appends (sent_along d.service t.calls) before after) (sym is) made.bytes;
 }
 
 pub turns_by : (d : Desk) (event : Event) (s : Service) (held : List Hold) (waiting : List ℕ) (all : List (Call Token)) (before after : List ℕ) → turn d event ≡ moves d held waiting all
-    → Makes all d.service s before after → Turns event d (record { mode = d.mode; service = s; holds = held; line = waiting; broken = d.broken }) before after
+    → Makes all d.service s before after → Turns event d (record { mode = d.mode; service = s; holds = held; line = waiting; broken = d.broken; figures = d.figures }) before after
 turns_by d event s held waiting all before after is made = turns_broken d event s held waiting all d.broken before after is made
 
 pub renewed : (d : Desk) (key : ℕ) (h : Hold) (s1 s2 : Service) (ticket lease number n1 n2 : ℕ) (had : Bool) (held : List Hold) → find_key key d.holds ≡ Some h
     → StepsIn (step {T = Token} d.service (calls.Keep h.lease)) s1 (calls.Ticket ticket) n1 [] [] → StepsIn (step {T = Token} s1 (calls.Resume ticket)) s2 (Lent lease number had) n2 [] []
-    → held ≡ without_lease h.lease d.holds ++ holding h.key lease number ∷ [] → Turns (desk.Renews key true) d (record { mode = d.mode; service = s2; holds = held; line = d.line; broken = d.broken }) [] []
+    → held ≡ without_lease h.lease d.holds ++ holding h.key lease number ∷ [] → Turns (desk.Renews key true) d (record { mode = d.mode; service = s2; holds = held; line = d.line; broken = d.broken; figures = d.figures }) [] []
 renewed d key h s1 s2 ticket lease number n1 n2 had held found one two is =
     let kept = step {T = Token} d.service (calls.Keep h.lease) in
     let lent : (step {T = Token} kept.service (calls.Resume ticket)).reply ≡ Lent lease number had = subst (λ (x : Service). (step {T = Token} x (calls.Resume ticket)).reply ≡ Lent lease number had) one.service_is two.reply_is in
@@ -174,7 +175,7 @@ renewed d key h s1 s2 ticket lease number n1 n2 had held found one two is =
     ap (λ (o : Option Hold). desk.renews d true o) found
     ∙ (ap (λ (r : Reply). desk.keeps_by d h true kept.service (desk.ticket_in r)) one.reply_is
     ∙ ap (λ (r : Reply). desk.renews_by d h ticket (desk.lent_in r) true) lent) in
-    subst (λ (hs : List Hold). Turns (desk.Renews key true) d (record { mode = d.mode; service = s2; holds = hs; line = d.line; broken = d.broken }) [] []) (sym is)
+    subst (λ (hs : List Hold). Turns (desk.Renews key true) d (record { mode = d.mode; service = s2; holds = hs; line = d.line; broken = d.broken; figures = d.figures }) [] []) (sym is)
     (turns_by d (desk.Renews key true) s2 more d.line all [] [] goes
     (makes_more (calls.Keep h.lease) (calls.Resume ticket ∷ []) d.service s1 s2 (calls.Ticket ticket) n1 [] [] [] one (makes_one (calls.Resume ticket) s1 s2 (Lent lease number had) n2 [] [] two)))
 
@@ -187,6 +188,39 @@ hearing_answers a (x ∷ xs) e = let same : x.answer ≡ a = cc in ap desk.heari
 broken_answers : (n : ℕ) (a : Answer) (dones : List (Done Token)) (had : Option Broken) → answers_in dones ≡ a ∷ [] → desk.last_broken n dones had ≡ desk.broken_of n a had
 broken_answers n a [] had e = absurd (let u : ⊥ = cc in u)
 broken_answers n a (x ∷ xs) had e = let same : x.answer ≡ a = cc in ap (λ (y : Answer). desk.broken_of n y had) same
+
+tallied_answers : (a : Answer) (dones : List (Done Token)) (f : Figures) → answers_in dones ≡ a ∷ [] → desk.tallied_by dones f ≡ desk.tallied a f
+tallied_answers a [] f e = absurd (let u : ⊥ = cc in u)
+tallied_answers a (x ∷ xs) f e = let same : x.answer ≡ a = cc in ap (λ (y : Answer). desk.tallied y f) same
+
+-- an application does something with its connection, by which this is counted
+turns_deed : (d : Desk) (key : ℕ) (deed : desk.Deed) (h : Hold) (s : Service) (f : Figures) (reply : Reply) (number : ℕ) (before after : List ℕ) → find_key key d.holds ≡ Some h
+    → StepsIn (step d.service (desk.call_of h.lease deed)) s reply number before after → f ≡ desk.figures_behind deed (step {T = Token} d.service (desk.call_of h.lease deed)).dones d.figures
+    → Turns (desk.Does key deed) d (record { mode = d.mode; service = s; holds = d.holds; line = d.line; broken = d.broken; figures = f }) before after
+turns_deed d key deed h s f reply number before after found one figures =
+    let call = desk.call_of h.lease deed in
+    record {
+      desk_is =
+          ap (λ (x : Service). let y : Desk = record { mode = d.mode; service = x; holds = d.holds; line = d.line; broken = d.broken; figures = f } in y) one.service_is
+          ∙ ap (λ (g : Figures). let y : Desk = record { mode = d.mode; service = (step {T = Token} d.service call).service; holds = d.holds; line = d.line; broken = d.broken; figures = g } in y) figures
+          ∙ sym (ap (λ (o : Option Hold). (desk.does d deed o).desk) found);
+      bytes =
+          subst (λ (o : Option Hold). Appends (sent_along d.service (desk.does d deed o).calls) before after) (sym found) (makes_one call d.service s reply number before after one).bytes;
+    }
+
+-- a request is asked
+pub turns_asked : (d : Desk) (key : ℕ) (h : Hold) (s : Service) (f : Figures) (reply : Reply) (number request descriptor : ℕ) → find_key key d.holds ≡ Some h
+    → StepsIn (step d.service (calls.Ask h.lease)) s reply number [] [] → Answers (calls.Ask h.lease) d.service (line.Asked request descriptor) → f ≡ desk.tallied (line.Asked request descriptor) d.figures
+    → Turns (desk.Does key desk.Asks) d (record { mode = d.mode; service = s; holds = d.holds; line = d.line; broken = d.broken; figures = f }) [] []
+turns_asked d key h s f reply number request descriptor found one answers figures =
+    turns_deed d key desk.Asks h s f reply number [] [] found one (figures ∙ sym (tallied_answers (line.Asked request descriptor) (step {T = Token} d.service (calls.Ask h.lease)).dones d.figures answers))
+
+-- one is cancelled
+pub turns_stopped : (d : Desk) (key : ℕ) (h : Hold) (s : Service) (f : Figures) (reply : Reply) (number : ℕ) (answer : Answer) (before after : List ℕ) → find_key key d.holds ≡ Some h
+    → StepsIn (step d.service (calls.Cancel h.lease)) s reply number before after → Answers (calls.Cancel h.lease) d.service answer → f ≡ desk.tallied answer d.figures
+    → Turns (desk.Does key desk.Stops) d (record { mode = d.mode; service = s; holds = d.holds; line = d.line; broken = d.broken; figures = f }) before after
+turns_stopped d key h s f reply number answer before after found one answers figures =
+    turns_deed d key desk.Stops h s f reply number before after found one (figures ∙ sym (tallied_answers answer (step {T = Token} d.service (calls.Cancel h.lease)).dones d.figures answers))
 
 not_broken : (n : ℕ) (a : Answer) (had : Option Broken) → desk.hearing_of a ≡ desk.Settled → desk.broken_of n a had ≡ had
 not_broken n (line.Finished request) had e = refl
@@ -205,7 +239,7 @@ not_broken n line.Lost had e = refl
 
 pub came_settled : (d new : Desk) (n : ℕ) (part : Part Token) (way : Way) (s1 : Service) (lease : Option ℕ) (a : Answer) (out after : List ℕ)
     → StepsIn (step d.service (calls.Came n part)) s1 calls.Did n [] [] → Answers (calls.Came n part) d.service a → desk.hearing_of a ≡ desk.Settled
-    → lease_at (seat_numbered n d.service.seats) ≡ lease → Settles (desk.settles d.holds s1 n way lease) (record { mode = d.mode; service = s1; holds = d.holds; line = d.line; broken = d.broken }) new out after
+    → lease_at (seat_numbered n d.service.seats) ≡ lease → Settles (desk.settles d.holds s1 n way lease) (record { mode = d.mode; service = s1; holds = d.holds; line = d.line; broken = d.broken; figures = d.figures }) new out after
     → Turns (desk.Comes n part way) d new out after
 came_settled d new n part way s1 lease a out after one answers is holder settled =
     let heard = step {T = Token} d.service (calls.Came n part) in
@@ -226,7 +260,7 @@ came_settled d new n part way s1 lease a out after one answers is holder settled
 -- it has a fault, and the connection is lost
 pub came_wrong : (d lost : Desk) (n : ℕ) (part : Part Token) (way : Way) (s1 : Service) (fault : ListenFault) (out : List ℕ)
     → StepsIn (step d.service (calls.Came n part)) s1 calls.Did n [] [] → Answers (calls.Came n part) d.service (line.Fault fault)
-    → Turns (desk.Loses n) (record { mode = d.mode; service = s1; holds = d.holds; line = d.line; broken = d.broken }) lost [] []
+    → Turns (desk.Loses n) (record { mode = d.mode; service = s1; holds = d.holds; line = d.line; broken = d.broken; figures = d.figures }) lost [] []
     → Turns (desk.Comes n part way) d (record lost { broken = Some (record { number = n; fault = fault }) }) out out
 came_wrong d lost n part way s1 fault out one answers turns =
     let heard = step {T = Token} d.service (calls.Came n part) in
@@ -285,9 +319,9 @@ pub unread : (s : services.Service) (n : ℕ) (bytes : List ℕ) (ends : Bool) (
 unread s n bytes ends refusal refused never = unread_by s.seats.items (service_in s) n bytes ends refusal refl (read_there (has_number n) s.seats.items) refused never
 
 pub settles_by : (d : Desk) (s : Service) (made all : List (Call Token)) (before after : List ℕ) → all ≡ made → Makes made d.service s before after
-    → Settles all d (record { mode = d.mode; service = s; holds = d.holds; line = d.line; broken = d.broken }) before after
+    → Settles all d (record { mode = d.mode; service = s; holds = d.holds; line = d.line; broken = d.broken; figures = d.figures }) before after
 settles_by d s made all before after is h = record {
-  desk_is = ap (λ (x : Service). let y : Desk = record { mode = d.mode; service = x; holds = d.holds; line = d.line; broken = d.broken } in y) (h.service_is ∙ ap (service_after d.service) (sym is));
+  desk_is = ap (λ (x : Service). let y : Desk = record { mode = d.mode; service = x; holds = d.holds; line = d.line; broken = d.broken; figures = d.figures } in y) (h.service_is ∙ ap (service_after d.service) (sym is));
   bytes = subst (λ (cs : List (Call Token)). Appends (sent_along d.service cs) before after) (sym is) h.bytes;
 }
 

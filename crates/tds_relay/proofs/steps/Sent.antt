@@ -102,6 +102,14 @@ behind d s = record d { service = s }
 sends_on : (d : Desk) (s : Service) (key : ℕ) (h : Hold) (whole : Bool) → find_key key d.holds ≡ Some h → IsSent whole (stage_by s h.lease) → SendsOn whole (behind d s) key
 sends_on d s key h whole its sent = record { hold = h; its = its; sent = sent }
 
+-- at a desk where the same is held, and the same is out
+pub sends_alike : (whole : Bool) (d e : Desk) (key : ℕ) → e.holds ≡ d.holds → e.service ≡ d.service → SendsOn whole d key → SendsOn whole e key
+sends_alike whole d e key holds service h = record {
+  hold = h.hold;
+  its = ap (find_key key) holds ∙ h.its;
+  sent = subst (λ (s : Service). IsSent whole (stage_by s h.hold.lease)) (sym service) h.sent;
+}
+
 pub asks_on : (d : Desk) (s : Service) (key : ℕ) (h : Hold) → find_key key d.holds ≡ Some h → s ≡ (step {T = Token} d.service (calls.Ask h.lease)).service
     → (step {T = Token} d.service (calls.Ask h.lease)).reply ≡ Did → SendsOn false (behind d s) key
 asks_on d s key h its is did = sends_on d s key h false its (subst (λ (x : Service). IsSent false (stage_by x h.lease)) (sym is) (asks_sent d.service h.lease did))

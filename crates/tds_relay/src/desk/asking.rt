@@ -1,17 +1,19 @@
 //! What applications do with the connections that they hold.
-ghost use Rattle.std.specs.Prelude.{◌≡◌, ℕ, [], Some, IfOk, OnErr, OnOk, false, true};
+ghost use Rattle.std.specs.Prelude.{◌≡◌, ℕ, [], Some, IfErr, IfOk, OnErr, OnOk, false, true};
 ghost use Rattle.tds_client.specs.Session.{ClientSession};
 ghost use Rattle.tds_client.specs.Streams.{finished, put};
-ghost use Rattle.tds_service.specs.Table.{DoesAt, KeepsClients, Opens};
+ghost use Rattle.tds_service.specs.Table.{Answers, DoesAt, KeepsClients, Opens, Refuses, service_in};
+ghost use Rattle.tds_service.specs.Service as calls;
+ghost use Rattle.tds_service.specs.Ties.{cancel_answer};
 ghost use Rattle.tds_relay.specs.Asking.{SendsOn};
 ghost use Rattle.tds_relay.specs.Bodies.{ClientStops};
-ghost use Rattle.tds_relay.specs.Desk.{Asks, Does, Ends, Puts, Stops, find_key};
+ghost use Rattle.tds_relay.specs.Desk.{Asks, Does, Ends, Puts, Stops, tallied, find_key};
 ghost use Rattle.tds_relay.specs.Sparing.{OthersHold};
 ghost use Rattle.tds_relay.specs.Ties.{Turns, desk_in};
 ghost use Rattle.tds_relay.specs.Walkers.{AllStand};
 
 use super::holds::find_key;
-use super::{Desk, Hold};
+use super::{Desk, Figures, Hold};
 use tds_client::{Cancelled, MessageKind};
 use tds_service::Refusal;
 
@@ -35,7 +37,10 @@ impl Desk {
             return Err(Refusal::Unknown);
         };
         match self.service.ask(hold.lease, kind) {
-            Ok(_) => Ok(hold),
+            Ok(_) => {
+                self.figures.requests = self.figures.requests.saturating_add(1);
+                Ok(hold)
+            }
             Err(refusal) => Err(refusal),
         }
     }
@@ -55,6 +60,9 @@ impl Desk {
         ensures stand { AllStand self.old.service self.new.service }
         ensures others { OthersHold key self.old self.new }
         ensures nothing { OnErr result (out.new.items ≡ out.old.items) }
+        ensures refused { IfErr result (λ refusal. (hold : Hold)
+            → find_key key (desk_in self.old).holds ≡ Some hold → (count : ℕ)
+            → Refuses (calls.Put hold.lease count) (service_in self.old.service) refusal) }
     {
         let Some(hold) = find_key(&self.holds, key) else {
             return Err(Refusal::Unknown);
@@ -80,6 +88,9 @@ impl Desk {
         ensures stand { AllStand self.old.service self.new.service }
         ensures others { OthersHold key self.old self.new }
         ensures nothing { OnErr result (out.new.items ≡ out.old.items) }
+        ensures refused { IfErr result (λ refusal. (hold : Hold)
+            → find_key key (desk_in self.old).holds ≡ Some hold → (count : ℕ)
+            → Refuses (calls.Finish hold.lease count) (service_in self.old.service) refusal) }
     {
         let Some(hold) = find_key(&self.holds, key) else {
             return Err(Refusal::Unknown);
@@ -98,17 +109,40 @@ impl Desk {
         ensures whose { IfOk result (λ done. find_key key (desk_in self.old).holds ≡ Some done.0) }
         ensures stops { OnOk result (ClientStops key self.old self.new out.old.items
             out.new.items) }
+        ensures how { IfOk result (λ done. (request : ℕ) × Answers (calls.Cancel done.0.lease)
+            (service_in self.old.service) (cancel_answer request done.1)) }
         ensures err { OnErr result (desk_in self.new ≡ desk_in self.old) }
         ensures stand { AllStand self.old.service self.new.service }
         ensures others { OthersHold key self.old self.new }
         ensures nothing { OnErr result (out.new.items ≡ out.old.items) }
+        ensures refused { IfErr result (λ refusal. (hold : Hold)
+            → find_key key (desk_in self.old).holds ≡ Some hold
+            → Refuses (calls.Cancel hold.lease) (service_in self.old.service) refusal) }
     {
         let Some(hold) = find_key(&self.holds, key) else {
             return Err(Refusal::Unknown);
         };
         match self.service.cancel(hold.lease, out) {
-            Ok((_, how)) => Ok((hold, how)),
+            Ok((_, how)) => {
+                self.figures = with_cancel(self.figures, how);
+                Ok((hold, how))
+            }
             Err(refusal) => Err(refusal),
         }
+    }
+}
+
+/// With a cancel, where an attention went out for it.
+fn with_cancel(figures: Figures, how: Cancelled) -> Figures
+    ensures { (request : ℕ) → result ≡ tallied (cancel_answer request how) figures }
+{
+    match how {
+        Cancelled::Asked => Figures {
+            requests: figures.requests,
+            cancels: figures.cancels.saturating_add(1),
+        },
+        Cancelled::Unsent => figures,
+        Cancelled::Nothing => figures,
+        Cancelled::Already => figures,
     }
 }

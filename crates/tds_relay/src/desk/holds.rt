@@ -8,6 +8,7 @@ use super::Hold;
 use crate::NoMemory;
 use crate::index::{Indexed, add, find};
 use std::alloc::Global;
+use std::cell::Cell;
 use std::marker::Model;
 
 /// What is held, in the order of lending; and by rising keys, leases and numbers, so that each is found by
@@ -18,6 +19,15 @@ pub(crate) struct Holds {
     keys: Vec<Indexed<Hold>>,
     leases: Vec<Indexed<Hold>>,
     numbers: Vec<Indexed<Hold>>,
+    latest: Latest,
+}
+
+/// Where among each of these something was found last.
+#[derive(Drop)]
+struct Latest {
+    key: Cell<usize>,
+    lease: Cell<usize>,
+    number: Cell<usize>,
 }
 
 impl Model for Holds {
@@ -47,6 +57,11 @@ impl Holds {
             keys: Vec::new(alloc),
             leases: Vec::new(alloc),
             numbers: Vec::new(alloc),
+            latest: Latest {
+                key: Cell::new(0),
+                lease: Cell::new(0),
+                number: Cell::new(0),
+            },
         }
     }
 
@@ -107,21 +122,21 @@ pub(super) fn remove_number(holds: &mut Holds, number: u64)
 pub(super) fn find_key(holds: &Holds, key: usize) -> Option<Hold>
     ensures { result ≡ find_key key holds.now.items }
 {
-    find(&holds.keys, key as u64)
+    find(&holds.keys, key as u64, &holds.latest.key)
 }
 
 /// What is held by a lease.
 pub(super) fn find_lease(holds: &Holds, lease: u64) -> Option<Hold>
     ensures { result ≡ find_lease lease holds.now.items }
 {
-    find(&holds.leases, lease)
+    find(&holds.leases, lease, &holds.latest.lease)
 }
 
 /// Who holds a connection.
 pub(super) fn find_number(holds: &Holds, number: u64) -> Option<Hold>
     ensures { result ≡ find_number number holds.now.items }
 {
-    find(&holds.numbers, number)
+    find(&holds.numbers, number, &holds.latest.number)
 }
 
 /// Takes out what is held by a lease.

@@ -7,7 +7,7 @@ ghost use Rattle.tds_relay.specs.Desk.{key_of, releasing};
 ghost use Rattle.tds_relay.specs.Sparing.{AsideStay, OffHold, OthersHold};
 ghost use Rattle.tds_relay.specs.Ties.{IsNumberOf, Makes, Turns, desk_in, is_sent, lost_by};
 ghost use Rattle.tds_relay.specs.Walkers.{AllStand, IsLed};
-ghost use Rattle.tds_relay.specs.Words.{text_of_cleaning};
+ghost use Rattle.tds_relay.specs.Cleaning.{text_of_cleaning};
 
 use super::holds::{find_key, find_number, remove_lease, remove_number};
 use super::lists::remove_key;

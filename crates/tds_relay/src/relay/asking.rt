@@ -1,13 +1,13 @@
 //! What applications say: requests, and cancels.
-ghost use Rattle.std.specs.Prelude.{◌≡◌, [], Bool, IfNone, None, IfOk, IfSome, OnOk, Some, drop, false, true};
+ghost use Rattle.std.specs.Prelude.{◌≡◌, ◌≤◌, [], Bool, IfNone, None, IfOk, IfSome, IsSome, OnOk, Some};
+ghost use Rattle.std.specs.Prelude.{drop, false, length, true};
 ghost use Rattle.slab.specs.Slab.{get};
 ghost use Rattle.tds_relay.specs.Asking.{Asks, AsksOn, IfAsks, IsUnderway, waits_of};
 ghost use Rattle.tds_client.specs.Streams.{packets_are};
 ghost use Rattle.tds_packet.specs.declared.status.Reset.TheVariants.{KeepTransaction};
 ghost use Rattle.tds_relay.specs.Bodies.{Begins, Body, Carries, CarriesOn, Grows, Obeys, Starts};
 ghost use Rattle.tds_relay.specs.Bodies.{body_of, last_of};
-ghost use Rattle.tds_relay.specs.Closings.{ClosesOnly, IsNoRequest, Itself, ItselfOrWaiting};
-ghost use Rattle.tds_relay.specs.Closings.{register_in};
+ghost use Rattle.tds_relay.specs.Closings.{ClosesOnly, IsNoRequest, Itself, register_in};
 ghost use Rattle.tds_relay.specs.Desk.{find_key};
 ghost use Rattle.tds_relay.specs.Few.{Few, NobodyWaits};
 ghost use Rattle.tds_relay.specs.Fronts.{FedOn, Moved, ends_in, given_by, hall_in, house_in};
@@ -15,9 +15,11 @@ ghost use Rattle.tds_relay.specs.Hall.{AsksFor, AsksToPart, IfAsked, end_at};
 ghost use Rattle.tds_relay.specs.House.{Steps};
 ghost use Rattle.tds_relay.specs.Posts.{names_in, posts_in};
 ghost use Rattle.tds_relay.specs.Reads.{Opens, Stays};
+ghost use Rattle.tds_relay.specs.Reasons.{CannotBegin, CannotGoOnAt, CannotPart, ForReasonOrWaiting};
+ghost use Rattle.tds_relay.specs.Reasons.{GivesReason, HasReason, ItselfFor, MayCloseAt};
 ghost use Rattle.tds_relay.specs.Taking.{Tells, TellsOn};
 ghost use Rattle.tds_relay.specs.Ties.{Application, Goes, IsReached, desk_in};
-ghost use Rattle.tds_relay.specs.Waiting.{KeepsInLine};
+ghost use Rattle.tds_relay.specs.Waiting.{KeepsInLine, KeepsSaid};
 ghost use Rattle.tds_relay.specs.Walkers.{AllStand};
 
 use super::Relay;
@@ -51,16 +53,14 @@ impl Relay {
         ensures carries { IsReached (desk_in self.old.desk) → OnOk result (Carries key
             (house_in self.old) piece.now [] (body_of key self.old) (body_of key self.new)
             (house_in self.new)) }
-        ensures closes { OnOk result (ClosesOnly
-            (ItselfOrWaiting key (desk_in self.old.desk).line)
+        ensures closes { OnOk result (ClosesOnly (ForReasonOrWaiting key piece.now self.old)
             (register_in self.old) (register_in self.new)) }
     {
         self.take_all(key, piece)?;
         self.serve_line()
     }
 
-    /// Takes them, one packet's header or data behind another. An application of which some aren't taken
-    /// is closed.
+    /// Takes them, one packet's header or data behind another: a byte at least in each turn.
     fn take_all(&mut self, key: usize, piece: &[u8]) -> Result<(), NoMemory>
         ensures goes { OnOk result (Goes (Application key)
             (desk_in self.old.desk) (desk_in self.new.desk)) }
@@ -75,18 +75,18 @@ impl Relay {
             self.new.desk.service) }
         ensures carries { OnOk result (Carries key (house_in self.old) piece.now []
             (body_of key self.old) (body_of key self.new) (house_in self.new)) }
-        ensures closes { OnOk result (ClosesOnly (Itself key)
+        ensures closes { OnOk result (ClosesOnly (ItselfFor key (HasReason key piece.now self.old))
             (register_in self.old) (register_in self.new)) }
     {
         let mut rest = piece;
-        'taking: for _ in 0..=piece.len() {
+        'taking: for _ in 0..piece.len() {
             if rest.is_empty() {
                 return Ok(());
             }
             let count = self.take(key, rest)?;
             rest = behind(rest, count);
         }
-        self.expel(key)
+        Ok(())
     }
 
     /// Takes some of them, and answers how many.
@@ -105,8 +105,9 @@ impl Relay {
             self.new.desk.service) }
         ensures carries { IfOk result (λ count. CarriesOn key piece.now (drop count piece.now)
             (body_of key self.old) (body_of key self.new) (house_in self.old) (house_in self.new)) }
-        ensures closes { OnOk result (ClosesOnly (Itself key)
-            (register_in self.old) (register_in self.new)) }
+        ensures closes { OnOk result (ClosesOnly (ItselfFor key
+            (GivesReason piece.now key self.old)) (register_in self.old) (register_in self.new)) }
+        ensures some { IfOk result (λ count. 1 ≤ length piece.now → 1 ≤ count) }
     {
         let Some(application) = self.applications.get_mut(key) else {
             return Ok(piece.len());
@@ -141,8 +142,12 @@ impl Relay {
             self.new.desk.service) }
         ensures body { OnOk result (Obeys said bytes.now (body_of key self.old)
             (body_of key self.new)) }
-        ensures closes { OnOk result (ClosesOnly (Itself key)
+        ensures closes { OnOk result (ClosesOnly (ItselfFor key (MayCloseAt said bytes.now key
+            (end_at (ends_in self.old.applications) key) self.old))
             (register_in self.old) (register_in self.new)) }
+        ensures keeps { find_key key (desk_in self.old.desk).holds ≡ None
+            → OnOk result (KeepsSaid said bytes.now (get self.old.applications key)
+            (body_of key self.new)) }
     {
         bytes_are_packets();
         match said {
@@ -178,7 +183,8 @@ impl Relay {
             self.new.desk.service) }
         ensures body { OnOk result ((mid : Body) × Begins kind mid
             × Starts mid (body_of key self.new)) }
-        ensures closes { OnOk result (ClosesOnly (Itself key)
+        ensures closes { OnOk result (ClosesOnly (ItselfFor key (CannotBegin kind reset key
+            (end_at (ends_in self.old.applications) key) self.old.desk))
             (register_in self.old) (register_in self.new)) }
     {
         let Some(application) = self.applications.get_mut(key) else {
@@ -188,7 +194,6 @@ impl Relay {
             return self.expel(key);
         };
         application.asking = Asking::Waits { kind, whole: false };
-        application.begun = application.begun.saturating_add(1);
         application.forget();
         let holds = self.desk.hold_of(key).is_some();
         match (holds, reset) {
@@ -222,7 +227,8 @@ impl Relay {
         ensures body { OnOk result (Starts (body_of key self.old) (body_of key self.new)) }
         ensures stays { find_key key (desk_in self.old.desk).holds ≡ None
             → OnOk result (body_of key self.new ≡ body_of key self.old) }
-        ensures closes { OnOk result (ClosesOnly (Itself key)
+        ensures closes { OnOk result (ClosesOnly (ItselfFor key
+            (IsSome (find_key key (desk_in self.old.desk).holds)))
             (register_in self.old) (register_in self.new)) }
     {
         match self.desk.hold_of(key) {
@@ -266,7 +272,8 @@ impl Relay {
             self.new.desk.service) }
         ensures body { (whole : Bool) → waits_of (get self.old.applications key) ≡ Some whole
             → OnOk result (Starts (body_of key self.old) (body_of key self.new)) }
-        ensures closes { OnOk result (ClosesOnly (Itself key)
+        ensures closes { OnOk result (ClosesOnly (ItselfFor key (CannotPart key
+            (end_at (ends_in self.old.applications) key) self.old.desk))
             (register_in self.old) (register_in self.new)) }
     {
         if !self.has_nothing_out(key) {
@@ -335,8 +342,9 @@ impl Relay {
         ensures keeps { find_key key (desk_in self.old.desk).holds ≡ None
             → OnOk result (KeepsInLine whole bytes.now (get self.old.applications key)
             (body_of key self.new)) }
-        ensures closes { OnOk result (ClosesOnly (Itself key)
-            (register_in self.old) (register_in self.new)) }
+        ensures closes { OnOk result (ClosesOnly (ItselfFor key
+            (CannotGoOnAt whole bytes.now key self.old)) (register_in self.old)
+            (register_in self.new)) }
     {
         let Some(application) = self.applications.get_mut(key) else {
             return Ok(());

@@ -1,9 +1,9 @@
 //! What comes on connections.
-ghost use Rattle.std.specs.Prelude.{◌≡◌, ◌≢◌, ◌+◌, ◌&&◌, ℕ, not, None, Some, drop, false, length, true};
-ghost use Rattle.std.specs.Prelude.{IfOk, IsNone, OnOk};
+ghost use Rattle.std.specs.Prelude.{◌≡◌, ◌≢◌, ◌⊎◌, ◌≤◌, ◌+◌, ◌&&◌, [], ℕ, not, None, Some, drop, false};
+ghost use Rattle.std.specs.Prelude.{IfOk, IsNone, OnOk, length, true};
 ghost use Rattle.tds_service.specs.Table.{reading_on};
 ghost use Rattle.tds_relay.specs.Bodies.{AskAsBefore, Body, body_in};
-ghost use Rattle.tds_relay.specs.Closings.{Anybody, ClosesOnly, but_told, is_shut};
+ghost use Rattle.tds_relay.specs.Closings.{ClosesOnly, but_told, is_shut};
 ghost use Rattle.tds_relay.specs.Closings.{register_in};
 ghost use Rattle.tds_relay.specs.Coming.{AllAlong};
 ghost use Rattle.tds_relay.specs.Faults.{IsHeaderOf};
@@ -13,8 +13,11 @@ ghost use Rattle.tds_relay.specs.Fronts.{house_with};
 ghost use Rattle.tds_relay.specs.Hall.{told};
 ghost use Rattle.tds_relay.specs.Handing.{Brings, HearsBy, Passes, news_for, fed};
 ghost use Rattle.tds_relay.specs.House.{Steps};
+ghost use Rattle.tds_relay.specs.Reasons.{Cleans, HeardFor, IsHeardAs, HearsNothing, LosesAt, post_on};
 ghost use Rattle.tds_relay.specs.Posts.{names_in, post_of, posts_in};
-ghost use Rattle.tds_relay.specs.Reads.{Comes, Continues, OpensOthers, Stays, StreamsAll, if_heard, open_at};
+ghost use Rattle.tds_packet.specs.Stream.{IsLess};
+ghost use Rattle.tds_relay.specs.Reads.{Comes, Continues, IsLessAt, OpensOthers, Stays, StreamsAll};
+ghost use Rattle.tds_relay.specs.Reads.{if_heard, open_at};
 ghost use Rattle.tds_relay.specs.Reads.{reader_at, seen_at, waits_on};
 ghost use Rattle.tds_relay.specs.Bounds.{IsRoom};
 ghost use Rattle.tds_relay.specs.Ordering.{StayOrdered};
@@ -58,14 +61,14 @@ impl Relay {
         ensures ordered { OnOk result (StayOrdered self.old.orders.items self.new.orders.items) }
         ensures wakes { OnOk result (Wakes (posts_in self.old.applications)
             self.new.applications self.new.orders.items) }
-        ensures closes { OnOk result (ClosesOnly Anybody
+        ensures closes { OnOk result (ClosesOnly (HeardFor number piece.now self.old)
             (but_told (register_in self.new) (register_in self.old)) (register_in self.new)) }
     {
         self.hear_all(number, piece)?;
         self.serve_line()
     }
 
-    /// Hears them, packet by packet. A connection of which some aren't heard is lost.
+    /// Hears them, packet by packet, each of them. But in the first turn, a byte is heard in each at least.
     fn hear_all(&mut self, number: u64, piece: &[u8]) -> Result<(), NoMemory>
         ensures none { OnOk result (NoneNew self.old.links.items self.new.links.items) }
         ensures goes { OnOk result (Goes (Connection number)
@@ -82,11 +85,11 @@ impl Relay {
         ensures ordered { OnOk result (StayOrdered self.old.orders.items self.new.orders.items) }
         ensures wakes { OnOk result (Wakes (posts_in self.old.applications)
             self.new.applications self.new.orders.items) }
-        ensures closes { OnOk result (ClosesOnly Anybody
+        ensures closes { OnOk result (ClosesOnly (HeardFor number piece.now self.old)
             (but_told (register_in self.new) (register_in self.old)) (register_in self.new)) }
     {
         let mut rest = piece;
-        'taking: for _ in 0..=piece.len() {
+        'taking: for _ in 0..piece.len() + 1 {
             if rest.is_empty() {
                 return Ok(());
             }
@@ -94,7 +97,7 @@ impl Relay {
             rest = behind(rest, count);
             self.heard(number, heard)?;
         }
-        self.lose(number)
+        Ok(())
     }
 
     /// Takes bytes up to the end of a packet, and hands on what is an application's. None where they
@@ -115,6 +118,10 @@ impl Relay {
             self.new.desk.service) }
         ensures others { OnOk result (OpensOthers number
             self.old.links.items self.new.links.items) }
+        ensures takes { IfOk result (λ heard. IsLessAt (open_at number self.old.links.items)
+            → 1 ≤ length piece.now → 1 ≤ heard.0) }
+        ensures less { IfOk result (λ heard.
+            IsLessAt (if_heard heard.1 (open_at number self.new.links.items))) }
         ensures asks { OnOk result (AskAsBefore self.old.applications self.new.applications) }
         ensures orders { self.new.orders.items ≡ self.old.orders.items }
         ensures puts { IfOk result (λ heard. PutsFor heard.1 (ends_in self.old.applications)
@@ -123,6 +130,12 @@ impl Relay {
             ≡ sending_at other self.old.links.items)
             × (is_shut (seen_at other self.new.links.items)
             ≡ is_shut (seen_at other self.old.links.items))) }
+        ensures posts { OnOk result (post_on number self.new.links.items
+            ≡ post_on number self.old.links.items) }
+        ensures cleans { IfOk result (λ heard. Cleans heard.1 [] self.new.outbox.items) }
+        ensures hears { IfOk result (λ heard. HearsNothing heard.1
+            ⊎ IsHeardAs number piece.now heard.1 self.old (house_with (desk_in self.new.desk)
+            (told_by heard.1 (ends_in self.old.applications)) (posts_in self.new.applications))) }
     {
         let Relay {
             desk,
@@ -163,7 +176,7 @@ impl Relay {
             → IsWoken key self.new.applications self.new.orders.items) }
         ensures others { IsNotAcknowledged heard → OnOk result ((other : ℕ) → other ≢ number
             → waits_on other self.new.links.items ≡ waits_on other self.old.links.items) }
-        ensures closes { OnOk result (ClosesOnly Anybody
+        ensures closes { OnOk result (ClosesOnly (LosesAt number heard self.old)
             (register_in self.old) (register_in self.new)) }
     {
         let Some(heard) = heard else {
@@ -186,7 +199,7 @@ impl Relay {
             (What::Acknowledged, None) => Ok(()),
             (What::Closed, Some(_)) => self.close_link(number),
             (What::Closed, None) => {
-                self.counts.failed = self.counts.failed.saturating_add(1);
+                self.failed = self.failed.saturating_add(1);
                 self.close_link(number)
             }
         }
@@ -218,6 +231,8 @@ fn hear_on(
         (posts_in applications.new))) }
     ensures read { IfOk result (λ heard. ReadsBy number (fed link.old.reader piece.now) heard.1
         desk.old.service desk.new.service) }
+    ensures takes { IfOk result (λ heard. IsLess link.old.reader link.old.reader.taken
+        → 1 ≤ length piece.now → 1 ≤ heard.0) }
     ensures number { link.new.number ≡ link.old.number }
     ensures is_open { link.new.is_open ≡ link.old.is_open }
     ensures out { link.new.out ≡ link.old.out }
@@ -228,6 +243,7 @@ fn hear_on(
         (posts_in applications.old) (posts_in applications.new)) }
     ensures refused { IfOk result (λ heard. IsHeaderOf number
         (fed link.old.reader piece.now) heard.1 refused.old refused.new) }
+    ensures cleans { IfOk result (λ heard. Cleans heard.1 outbox.old.items outbox.new.items) }
 {
     let count = match link.reader.feed(piece) {
         Ok(count) => count,
@@ -266,6 +282,8 @@ fn hear_packet(
     ensures tag { link.new.tag ≡ link.old.tag }
     ensures ends { OnOk result (ends_in applications.new ≡ ends_in applications.old) }
     ensures asks { OnOk result (AskAsBefore applications.old applications.new) }
+    ensures cleans { IfOk result (λ heard. Cleans (Some heard) outbox.old.items
+        outbox.new.items) }
 {
     let Some(packet) = link.reader.packet() else {
         return Ok(NOTHING);

@@ -205,10 +205,10 @@ impl Relay {
             return Ok(());
         };
         if left.is_there {
-            self.counts.cleanings = self.counts.cleanings.saturating_add(1);
+            self.cleanings = self.cleanings.saturating_add(1);
             self.send_unheld(left.number)
         } else {
-            self.counts.failed = self.counts.failed.saturating_add(1);
+            self.failed = self.failed.saturating_add(1);
             self.close(left.number, None)
         }
     }

@@ -13,12 +13,13 @@ ghost use Rattle.tds_relay.specs.Few.{Few, FewBy, NobodyWaits};
 ghost use Rattle.tds_relay.specs.Fronts.{MovedOn, ends_in, hall_in, house_in};
 ghost use Rattle.tds_relay.specs.Hall.{AsksFor, IsReset, end_at, holder};
 ghost use Rattle.tds_relay.specs.House.{StepsOn};
-ghost use Rattle.tds_relay.specs.Lent.{BeginsOn, IsSizedOn, KeepsAnswers};
+ghost use Rattle.tds_relay.specs.Lent.{AllLast, BeginsOn, IsSizedOn, KeepsAnswers, LastBut, LastOrDeaf};
 ghost use Rattle.tds_relay.specs.Posts.{names_in, posts_in};
 ghost use Rattle.tds_relay.specs.Reads.{Opens, OpensOne, Stays, named_seen, open_at};
 ghost use Rattle.tds_relay.specs.Cutting.{at_its_beginning};
 ghost use Rattle.tds_relay.specs.Reads.{answer_at, bytes_on, link_at, opened_at, opened_seen, seen_at, waits_on};
 ghost use Rattle.tds_relay.specs.Ordering.{StayOrdered};
+ghost use Rattle.tds_relay.specs.Reasons.{HasNoRoom};
 ghost use Rattle.tds_relay.specs.Sparing.{AllGo, AllRest, IsHeldBack, IsUnkept, OthersRest};
 ghost use Rattle.tds_relay.specs.Sparing.{StartsOn};
 ghost use Rattle.tds_relay.specs.Taking.{IsDeaf};
@@ -34,7 +35,6 @@ use crate::desk::Served;
 use crate::link::Link;
 use crate::links::{append_to, link_in, restart, set_open, set_tag};
 use crate::order::Order;
-use std::alloc::AllocError;
 
 impl Relay {
     pub(super) fn new_link(&self, number: u64) -> Result<Link, NoMemory>
@@ -133,7 +133,7 @@ impl Relay {
     }
 
     /// Lends connections to those who wait, in order, while there are any.
-    #[tactic(auto, using(crate::proofs::steps::Staying::opens_refl, crate::proofs::steps::Reaching::reaches_turn, crate::proofs::steps::Reaching::reaches_turned, crate::proofs::spared::Resting::go_refl, crate::proofs::spared::Ordered::ordered_refl, crate::proofs::spared::Apart::unserved_refl))]
+    #[tactic(auto, using(crate::proofs::steps::Staying::opens_refl, crate::proofs::steps::Reaching::reaches_turn, crate::proofs::steps::Reaching::reaches_turned, crate::proofs::spared::Resting::go_refl, crate::proofs::spared::Ordered::ordered_refl, crate::proofs::spared::Apart::unserved_refl, crate::proofs::spared::Lasting::last_start))]
     pub(super) fn serve_line(&mut self) -> Result<(), NoMemory>
         ensures goes { OnOk result (GoesOn (desk_in self.old.desk) (desk_in self.new.desk)) }
         ensures kept { OnOk result (posts_in self.new.applications
@@ -150,8 +150,11 @@ impl Relay {
         ensures ordered { OnOk result (StayOrdered self.old.orders.items self.new.orders.items) }
         ensures closes { OnOk result (ClosesOnly (IsWaiting (desk_in self.old.desk).line)
             (register_in self.old) (register_in self.new)) }
+        ensures lasts { OnOk result (LastBut (IsWaiting (desk_in self.old.desk).line)
+            (register_in self.old) (register_in self.new)) }
     {
-        'line: for _ in 0..u64::MAX {
+        let waiting = self.desk.waiting();
+        'line: for turn in 0..waiting {
             if self.is_full() {
                 return Ok(());
             }
@@ -160,7 +163,7 @@ impl Relay {
                 None => return Ok(()),
             }
         }
-        Err(AllocError)
+        Ok(())
     }
 
     /// A connection is lent to an application. One that nobody had is opened.
@@ -189,6 +192,8 @@ impl Relay {
             → OnOk result (IsSizedOn self.old.size served.hold.number self.new.links.items) }
         ensures closes { OnOk result (ClosesOnly (Itself served.hold.key)
             (register_in self.old) (register_in self.new)) }
+        ensures lasts { OnOk result (LastBut (Itself served.hold.key)
+            (register_in self.old) (register_in self.new)) }
     {
         let number = served.hold.number;
         if served.had {
@@ -214,6 +219,7 @@ impl Relay {
         ensures rests { AllRest self.old self.new }
         ensures orders { self.new.orders.items ≡ self.old.orders.items }
         ensures closes { ClosesOnly Nobody (register_in self.old) (register_in self.new) }
+        ensures lasts { AllLast self.old.links.items self.new.links.items }
     {
         restart(&mut self.links, number);
     }
@@ -255,6 +261,8 @@ impl Relay {
         ensures answers { OnOk result (KeepsAnswers self.old.links.items self.new.links.items) }
         ensures closes { OnOk result (ClosesOnly (Itself key)
             (register_in self.old) (register_in self.new)) }
+        ensures lasts { OnOk result (LastBut (Itself key)
+            (register_in self.old) (register_in self.new)) }
     {
         let Some(application) = self.applications.get(key) else {
             return Ok(());
@@ -275,10 +283,7 @@ impl Relay {
             return Ok(());
         }
         match self.desk.ask(key, kind) {
-            Ok(_) => {
-                self.counts.requests = self.counts.requests.saturating_add(1);
-                self.put_held(key, whole)
-            }
+            Ok(_) => self.put_held(key, whole),
             Err(_) => self.fail(key, hold.number),
         }
     }
@@ -327,6 +332,7 @@ impl Relay {
         ensures answers { OnOk result (KeepsAnswers self.old.links.items self.new.links.items) }
         ensures closes { OnOk result (ClosesOnly (Itself key)
             (register_in self.old) (register_in self.new)) }
+        ensures lasts { OnOk result (LastOrDeaf key self.old.links.items self.new) }
     {
         let Some(application) = self.applications.get_mut(key) else {
             return Ok(());
@@ -338,7 +344,7 @@ impl Relay {
     }
 
     /// What the desk has to send on a connection waits there. False where more would wait than may.
-    #[tactic(auto, using(crate::proofs::spared::Ordered::ordered_refl))]
+    #[tactic(auto, using(crate::proofs::steps::Staying::stays_refl, crate::proofs::spared::Ordered::ordered_refl, crate::proofs::spared::Closings::closes_refl, crate::proofs::spared::Begun::answers_refl, crate::proofs::spared::Lasting::last_refl))]
     pub(super) fn fits_on(&mut self, number: u64) -> Result<bool, NoMemory>
         ensures desk { self.new.desk ≡ self.old.desk }
         ensures kept { OnOk result (posts_in self.new.applications
@@ -351,13 +357,20 @@ impl Relay {
             → waits_on number self.new.links.items ≡ option_map
             (λ (waits : List ℕ). waits ++ self.old.outbox.items)
             (waits_on number self.old.links.items)) }
+        ensures no_room { IfOk result (λ fits. fits ≡ false
+            → HasNoRoom number self.old.outbox.items self.old.links.items) }
         ensures others { OnOk result ((other : ℕ) → other ≢ number
             → waits_on other self.new.links.items ≡ waits_on other self.old.links.items) }
         ensures ordered { OnOk result (StayOrdered self.old.orders.items self.new.orders.items) }
         ensures answers { OnOk result (KeepsAnswers self.old.links.items self.new.links.items) }
         ensures closes { OnOk result (ClosesOnly Nobody
             (register_in self.old) (register_in self.new)) }
+        ensures lasts { OnOk result (AllLast self.old.links.items self.new.links.items) }
     {
+        // Of most packets of an answer nothing is: then no write is ordered, each of which costs a look.
+        if self.outbox.is_empty() {
+            return Ok(true);
+        }
         let fits = append_to(&mut self.links, number, &self.outbox)?;
         self.outbox.clear();
         if !fits {

@@ -5,6 +5,7 @@ ghost use Rattle.tds_relay.specs.Closings.{ClosesOnly, IsWaiting};
 ghost use Rattle.tds_relay.specs.Closings.{register_in, with_most};
 ghost use Rattle.tds_relay.specs.Few.{Few, IsCrowded, MayServe, NobodyWaits};
 ghost use Rattle.tds_relay.specs.Fronts.{MovedOn, hall_in};
+ghost use Rattle.tds_relay.specs.Lent.{LastBut};
 ghost use Rattle.tds_relay.specs.Ordering.{StayOrdered};
 ghost use Rattle.tds_relay.specs.Posts.{posts_in};
 ghost use Rattle.tds_relay.specs.Reads.{Opens};
@@ -33,6 +34,8 @@ impl Relay {
         ensures apart { OnOk result (UnlessServed (hall_in self.old) (hall_in self.new)) }
         ensures ordered { OnOk result (StayOrdered self.old.orders.items self.new.orders.items) }
         ensures closes { OnOk result (ClosesOnly (IsWaiting (desk_in self.old.desk).line)
+            (with_most most (register_in self.old)) (register_in self.new)) }
+        ensures lasts { OnOk result (LastBut (IsWaiting (desk_in self.old.desk).line)
             (with_most most (register_in self.old)) (register_in self.new)) }
     {
         self.most = most;

@@ -6,7 +6,7 @@ ghost use Rattle.tds_relay.specs.Faults.{header_fault_in, why_at};
 ghost use Rattle.tds_relay.specs.Fronts.{house_in};
 ghost use Rattle.tds_relay.specs.Places.{begun_in, held_by, open_on};
 ghost use Rattle.tds_relay.specs.Ties.{desk_in};
-ghost use Rattle.tds_relay.specs.Told.{has_cancelled, held_place, place_on, place_with, told_place, unheld_place};
+ghost use Rattle.tds_relay.specs.Told.{counts_in, has_cancelled, held_place, place_on, place_with, told_place, unheld_place};
 
 use super::Relay;
 use crate::application::{Application, Asking};
@@ -54,24 +54,11 @@ pub enum PlaceOn {
 pub struct Counts {
     /// Requests that were asked of the server for applications.
     pub requests: u64,
-    /// Cancels that were handed on to the server: of applications, and of what those that left had underway.
+    /// Attentions that went out for applications' requests: their own, and for what they took back.
     pub cancels: u64,
     /// Connections that were let go and are cleaned, and those that nobody held which were closed instead.
     pub cleanings: u64,
     pub failed: u64,
-}
-
-impl Counts {
-    pub(crate) const fn none() -> Counts
-        ensures { result ≡ record { requests = 0; cancels = 0; cleanings = 0; failed = 0 } }
-    {
-        Counts {
-            requests: 0,
-            cancels: 0,
-            cleanings: 0,
-            failed: 0,
-        }
-    }
 }
 
 impl Relay {
@@ -169,9 +156,15 @@ impl Relay {
 
     /// What the relay has done.
     pub fn counts(&self) -> Counts
-        ensures { result ≡ self.now.counts }
+        ensures { result ≡ counts_in self.now }
     {
-        self.counts
+        let figures = self.desk.figures();
+        Counts {
+            requests: figures.requests,
+            cancels: figures.cancels,
+            cleanings: self.cleanings,
+            failed: self.failed,
+        }
     }
 }
 

@@ -1,15 +1,16 @@
 //! What goes on of requests, to the connections that their applications hold.
-ghost use Rattle.std.specs.Prelude.{◌≡◌, OnOk, true};
+ghost use Rattle.std.specs.Prelude.{◌≡◌, IfOk, OnOk, false, true};
 ghost use Rattle.tds_relay.specs.Apart.{Alone};
 ghost use Rattle.tds_relay.specs.Asking.{IsUnderway, SendsOn};
 ghost use Rattle.tds_relay.specs.Bodies.{AskAsBefore, ClientPuts, PutsOn};
-ghost use Rattle.tds_relay.specs.Closings.{ClosesOnly, Itself, Nobody, register_in};
+ghost use Rattle.tds_relay.specs.Closings.{ClosesOnly, Nobody, register_in};
 ghost use Rattle.tds_relay.specs.Fronts.{MayPut, MovedOn, ends_in, goes_by, hall_in, puts};
 ghost use Rattle.tds_relay.specs.Hall.{IfOpen, change_end, end_at};
-ghost use Rattle.tds_relay.specs.Lent.{KeepsAnswers};
+ghost use Rattle.tds_relay.specs.Lent.{KeepsAnswers, LastOrDeaf};
 ghost use Rattle.tds_relay.specs.Ordering.{StayOrdered};
 ghost use Rattle.tds_relay.specs.Posts.{posts_in};
 ghost use Rattle.tds_relay.specs.Reads.{Stays};
+ghost use Rattle.tds_relay.specs.Reasons.{CannotPut, IsReason, IsUnbegun, IsUntaken, ItselfFor};
 ghost use Rattle.tds_relay.specs.Sparing.{OthersHold, OthersRest};
 ghost use Rattle.tds_relay.specs.Ties.{GoesOn, IsReached, desk_in};
 ghost use Rattle.tds_relay.specs.Walkers.{AllStand};
@@ -17,6 +18,8 @@ ghost use Rattle.tds_relay.specs.Walkers.{AllStand};
 use super::Relay;
 use crate::NoMemory;
 use crate::desk::Desk;
+use std::alloc::AllocError;
+use tds_service::Refusal;
 
 impl Relay {
     /// Puts bytes of a request on its connection, and its end.
@@ -37,8 +40,10 @@ impl Relay {
         ensures alone { OnOk result (Alone key (hall_in self.old) (hall_in self.new)) }
         ensures ordered { OnOk result (StayOrdered self.old.orders.items self.new.orders.items) }
         ensures answers { OnOk result (KeepsAnswers self.old.links.items self.new.links.items) }
-        ensures closes { OnOk result (ClosesOnly (Itself key)
+        ensures closes { OnOk result (ClosesOnly (ItselfFor key (CannotPut whole bytes.now key
+            (end_at (ends_in self.old.applications) key) self.old.desk self.old.links.items))
             (register_in self.old) (register_in self.new)) }
+        ensures lasts { OnOk result (LastOrDeaf key self.old.links.items self.new) }
     {
         let Some(hold) = self.desk.hold_of(key) else {
             return self.end(key);
@@ -47,7 +52,7 @@ impl Relay {
             return self.fail(key, hold.number);
         }
         self.outbox.clear();
-        let is_put = put_on(&mut self.desk, key, bytes, whole, &mut self.outbox);
+        let is_put = put_on(&mut self.desk, key, bytes, whole, &mut self.outbox)?;
         self.note_went_on(key);
         if !is_put {
             return self.fail(key, hold.number);
@@ -62,7 +67,10 @@ impl Relay {
 
     /// Whether an application has begun a request, or all of one has come.
     fn may_put(&self, key: usize, whole: bool) -> bool
-        ensures { result ≡ true → IfOpen (puts whole) (end_at (ends_in self.now.applications) key) }
+        ensures begun { result ≡ true
+            → IfOpen (puts whole) (end_at (ends_in self.now.applications) key) }
+        ensures unbegun { result ≡ false
+            → IfOpen (IsUnbegun whole) (end_at (ends_in self.now.applications) key) }
     {
         match self.applications.get(key) {
             Some(application) => application.may_put(whole),
@@ -93,25 +101,54 @@ impl Relay {
 }
 
 /// Puts bytes of a request, and its end. False where one was refused.
-fn put_on(desk: &mut Desk, key: usize, bytes: &[u8], whole: bool, out: &mut Vec<u8>) -> bool
-    ensures goes { GoesOn (desk_in desk.old) (desk_in desk.new) }
-    ensures puts { MayPut key whole (desk_in desk.old) (desk_in desk.new) out.old.items
-        out.new.items }
-    ensures sends { result ≡ true → SendsOn whole (desk_in desk.new) key }
-    ensures stand { AllStand desk.old.service desk.new.service }
-    ensures body { result ≡ true → ClientPuts whole bytes.now key desk.old desk.new
-        out.old.items out.new.items }
-    ensures others { OthersHold key desk.old desk.new }
-    ensures line { (desk_in desk.new).line ≡ (desk_in desk.old).line }
+fn put_on(
+    desk: &mut Desk,
+    key: usize,
+    bytes: &[u8],
+    whole: bool,
+    out: &mut Vec<u8>,
+) -> Result<bool, NoMemory>
+    ensures goes { OnOk result (GoesOn (desk_in desk.old) (desk_in desk.new)) }
+    ensures puts { OnOk result (MayPut key whole (desk_in desk.old) (desk_in desk.new)
+        out.old.items out.new.items) }
+    ensures sends { IfOk result (λ is. is ≡ true → SendsOn whole (desk_in desk.new) key) }
+    ensures stand { OnOk result (AllStand desk.old.service desk.new.service) }
+    ensures body { IfOk result (λ is. is ≡ true → ClientPuts whole bytes.now key desk.old desk.new
+        out.old.items out.new.items) }
+    ensures others { OnOk result (OthersHold key desk.old desk.new) }
+    ensures line { OnOk result ((desk_in desk.new).line ≡ (desk_in desk.old).line) }
+    ensures untaken { IfOk result (λ is. is ≡ false → IsUntaken whole bytes.now key desk.old) }
 {
-    let Ok(_) = desk.put(key, bytes, out) else {
-        return false;
-    };
+    match desk.put(key, bytes, out) {
+        Ok(_) => {}
+        Err(refusal) => {
+            unless_memory(refusal)?;
+            return Ok(false);
+        }
+    }
     if !whole {
-        return true;
+        return Ok(true);
     }
     match desk.finish(key, out) {
-        Ok(_) => true,
-        Err(_) => false,
+        Ok(_) => Ok(true),
+        Err(refusal) => {
+            unless_memory(refusal)?;
+            Ok(false)
+        }
+    }
+}
+
+/// Want of memory is handed up: it's no reason to close an application.
+pub(super) fn unless_memory(refusal: Refusal) -> Result<(), NoMemory>
+    ensures { OnOk result (IsReason refusal) }
+{
+    match refusal {
+        Refusal::Unknown => Ok(()),
+        Refusal::AllInUse => Ok(()),
+        Refusal::NotNow => Ok(()),
+        Refusal::NotIdle => Ok(()),
+        Refusal::NotSending => Ok(()),
+        Refusal::Broken => Ok(()),
+        Refusal::Memory => Err(AllocError),
     }
 }

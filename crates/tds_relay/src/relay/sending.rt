@@ -3,13 +3,14 @@ ghost use Rattle.std.specs.Prelude.{◌≡◌, ◌≢◌, ◌+◌, ◌≤◌, �
 ghost use Rattle.slab.specs.Slab.{get};
 ghost use Rattle.tds_relay.specs.Bodies.{AskAsBefore, AskOn};
 ghost use Rattle.tds_relay.specs.Bounds.{most_for};
-ghost use Rattle.tds_relay.specs.Closings.{ClosesOnly, IsWho, Itself, Nobody, register_in};
+ghost use Rattle.tds_relay.specs.Closings.{ClosesOnly, IsWho, Nobody, register_in};
 ghost use Rattle.tds_relay.specs.Desk.{find_number};
 ghost use Rattle.tds_relay.specs.Fronts.{MovedOn, ends_in, hall_in, house_in};
 ghost use Rattle.tds_relay.specs.Hall.{holder};
 ghost use Rattle.tds_relay.specs.House.{Steps};
 ghost use Rattle.tds_relay.specs.Ordering.{StayOrdered};
-ghost use Rattle.tds_relay.specs.Posts.{change, posts_in, unsent_of, without_first};
+ghost use Rattle.tds_relay.specs.Posts.{change, post_at, posts_in, unsent_of, without_first};
+ghost use Rattle.tds_relay.specs.Reasons.{HasNoRoom, IsOverfull, ItselfFor};
 ghost use Rattle.tds_relay.specs.Law.{waiting_on};
 ghost use Rattle.tds_relay.specs.Reads.{FillsBy, Sees, Stays, waits_on};
 ghost use Rattle.tds_relay.specs.Sending.{IsToWrite, called_at};
@@ -127,7 +128,9 @@ impl Relay {
         ensures ordered { OnOk result (StayOrdered self.old.orders.items self.new.orders.items) }
         ensures others { OnOk result ((other : ℕ) → other ≢ number
             → waits_on other self.new.links.items ≡ waits_on other self.old.links.items) }
-        ensures closes { OnOk result (ClosesOnly (IsWho (holder (desk_in self.old.desk) number))
+        ensures closes { OnOk result (ClosesOnly (λ other.
+            IsWho (holder (desk_in self.old.desk) number) other
+            × HasNoRoom number self.old.outbox.items self.old.links.items)
             (register_in self.old) (register_in self.new)) }
     {
         let fits = self.fits_on(number)?;
@@ -144,7 +147,8 @@ impl Relay {
         ensures stand { OnOk result (AllStand self.old.desk.service
             self.new.desk.service) }
         ensures asks { OnOk result (AskOn self.old.applications self.new.applications) }
-        ensures closes { OnOk result (ClosesOnly (Itself key)
+        ensures closes { OnOk result (ClosesOnly (ItselfFor key
+            (HasNoRoom number self.old.outbox.items self.old.links.items))
             (register_in self.old) (register_in self.new)) }
     {
         let fits = self.fits_on(number)?;
@@ -196,7 +200,8 @@ impl Relay {
         ensures asks { OnOk result (AskOn self.old.applications self.new.applications) }
         ensures ordered { OnOk result (StayOrdered self.old.orders.items self.new.orders.items) }
         ensures wakes { OnOk result (IsWoken key self.new.applications self.new.orders.items) }
-        ensures closes { OnOk result (ClosesOnly (Itself key)
+        ensures closes { OnOk result (ClosesOnly (ItselfFor key
+            (IsOverfull (post_at (posts_in self.old.applications) key)))
             (register_in self.old) (register_in self.new)) }
     {
         let Some(application) = self.applications.get(key) else {

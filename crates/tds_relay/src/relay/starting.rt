@@ -1,14 +1,14 @@
 //! Requests that have waited: a reset that one asks for is done with it.
-ghost use Rattle.std.specs.Prelude.{◌≡◌, ◌⊎◌, Bool, OnOk, Some, true};
+ghost use Rattle.std.specs.Prelude.{◌≡◌, ◌⊎◌, ℕ, Bool, OnOk, Some, false, true};
 ghost use Rattle.slab.specs.Slab.{get};
 ghost use Rattle.tds_relay.specs.Apart.{Alone};
 ghost use Rattle.tds_relay.specs.Asking.{IsUnderway, waits_of};
 ghost use Rattle.tds_relay.specs.Bodies.{Starts, body_of};
-ghost use Rattle.tds_relay.specs.Closings.{ClosesOnly, Itself, register_in};
+ghost use Rattle.tds_relay.specs.Closings.{ClosesOnly, Itself, open_name, register_in};
 ghost use Rattle.tds_relay.specs.Desk.{find_key};
 ghost use Rattle.tds_relay.specs.Fronts.{MovedOn, ends_in, hall_in};
 ghost use Rattle.tds_relay.specs.Hall.{IsReset, end_at};
-ghost use Rattle.tds_relay.specs.Lent.{KeepsAnswers};
+ghost use Rattle.tds_relay.specs.Lent.{KeepsAnswers, LastBut};
 ghost use Rattle.tds_relay.specs.Ordering.{StayOrdered};
 ghost use Rattle.tds_relay.specs.Posts.{posts_in};
 ghost use Rattle.tds_relay.specs.Reads.{Stays};
@@ -46,6 +46,8 @@ impl Relay {
         ensures answers { OnOk result (KeepsAnswers self.old.links.items self.new.links.items) }
         ensures closes { OnOk result (ClosesOnly (Itself key)
             (register_in self.old) (register_in self.new)) }
+        ensures lasts { OnOk result (LastBut (Itself key)
+            (register_in self.old) (register_in self.new)) }
     {
         let Some(hold) = self.desk.hold_of(key) else {
             return self.start(key);
@@ -69,6 +71,8 @@ impl Relay {
             → result ≡ true → (whole : Bool)
             → waits_of (get self.now.applications key) ≡ Some whole
             → IsUnderway whole self.now.links.items key (hall_in self.now) }
+        ensures named { result ≡ false
+            → (tag : ℕ) × (open_name key (register_in self.now) ≡ Some tag) }
     {
         let Some(application) = self.applications.get(key) else {
             return true;

@@ -1,20 +1,23 @@
 //! What applications take back: requests that are forgotten, and attentions.
 ghost use Rattle.slab.specs.Slab.{get};
-ghost use Rattle.std.specs.Prelude.{◌≡◌, [], ℕ, IfSome, List, OnOk, true};
+ghost use Rattle.std.specs.Prelude.{◌≡◌, [], ℕ, IfNone, IfOk, IfSome, List, OnOk, false, true};
 ghost use Rattle.tds_front.specs.declared.front.Said.TheVariants.{Forget, HandOn};
 ghost use Rattle.tds_relay.specs.Anew.{AsksNothing};
 ghost use Rattle.tds_relay.specs.Bodies.{AskAsBefore, AskOn, Body, Halts, IsHalting, Nowhere, Starts};
 ghost use Rattle.tds_relay.specs.Bodies.{StopsOn, body_in, body_of};
-ghost use Rattle.tds_relay.specs.Closings.{ClosesOnly, Itself, Nobody, register_in};
+ghost use Rattle.tds_relay.specs.Closings.{ClosesOnly, Nobody, register_in};
 ghost use Rattle.tds_relay.specs.Desk.{Does, Stops, Unwaits};
 ghost use Rattle.tds_relay.specs.Fronts.{FedOn, Moved, MovedOn, ends_in, hall_in, hall_of_ends, withdraws};
 ghost use Rattle.tds_relay.specs.Hall.{Ends, IfOpen, IsHere, change_end, end_at};
-ghost use Rattle.tds_relay.specs.Posts.{acknowledgement, give, posts_in};
+ghost use Rattle.tds_relay.specs.Posts.{acknowledgement, give, post_at, posts_in};
 ghost use Rattle.tds_relay.specs.Reads.{Stays};
+ghost use Rattle.tds_relay.specs.Reasons.{CannotForget, CannotStop, CannotUnask, HasNoRoom};
+ghost use Rattle.tds_relay.specs.Reasons.{IsOverfull, IsUnstopped, ItselfFor};
 ghost use Rattle.tds_relay.specs.Ties.{Application, Goes, GoesOn, Turns, desk_in};
 ghost use Rattle.tds_relay.specs.Walkers.{AllStand};
 
 use super::Relay;
+use super::putting::unless_memory;
 use crate::NoMemory;
 use crate::application::Asking;
 use tds_client::Cancelled;
@@ -38,7 +41,8 @@ impl Relay {
             self.new.desk.service) }
         ensures body { OnOk result ((goes : Body)
             → Starts Nowhere (body_in (get self.new.applications key) goes)) }
-        ensures closes { OnOk result (ClosesOnly (Itself key)
+        ensures closes { OnOk result (ClosesOnly (ItselfFor key (CannotForget false key
+            (end_at (ends_in self.old.applications) key) self.old.desk self.old.links.items))
             (register_in self.old) (register_in self.new)) }
     {
         let was_asked = self.forget_request(key);
@@ -51,6 +55,8 @@ impl Relay {
         ensures kept { posts_in self.new.applications ≡ posts_in self.old.applications }
         ensures ends { ends_in self.new.applications ≡ ends_in self.old.applications }
         ensures turns { Turns (Unwaits key) (desk_in self.old.desk) (desk_in self.new.desk) [] [] }
+        ensures holds { self.new.desk.holds ≡ self.old.desk.holds }
+        ensures service { self.new.desk.service ≡ self.old.desk.service }
         ensures links { self.new.links.items ≡ self.old.links.items }
         ensures stand { AllStand self.old.desk.service self.new.desk.service }
         ensures body { (goes : Body) → Starts Nowhere (body_in (get self.new.applications key) goes) }
@@ -78,7 +84,8 @@ impl Relay {
         ensures stand { OnOk result (AllStand self.old.desk.service
             self.new.desk.service) }
         ensures asks { OnOk result (AskOn self.old.applications self.new.applications) }
-        ensures closes { OnOk result (ClosesOnly (Itself key)
+        ensures closes { OnOk result (ClosesOnly (ItselfFor key (CannotUnask key
+            (end_at (ends_in self.old.applications) key) self.old.desk self.old.links.items))
             (register_in self.old) (register_in self.new)) }
     {
         if !self.has_nothing_out(key) {
@@ -87,7 +94,10 @@ impl Relay {
         self.outbox.clear();
         match self.desk.cancel(key, &mut self.outbox) {
             Ok((hold, _)) => self.send_for(key, hold.number),
-            Err(_) => self.expel(key),
+            Err(refusal) => {
+                unless_memory(refusal)?;
+                self.expel(key)
+            }
         }
     }
 
@@ -106,11 +116,12 @@ impl Relay {
             self.new.desk.service) }
         ensures body { OnOk result ((goes : Body)
             → Starts Nowhere (body_in (get self.new.applications key) goes)) }
-        ensures closes { OnOk result (ClosesOnly (Itself key)
+        ensures closes { OnOk result (ClosesOnly (ItselfFor key (CannotForget true key
+            (end_at (ends_in self.old.applications) key) self.old.desk self.old.links.items))
             (register_in self.old) (register_in self.new)) }
     {
         let _ = self.forget_request(key);
-        match self.stop(key) {
+        match self.stop(key)? {
             Some(number) => {
                 self.withdraw(key);
                 self.send_for(key, number)
@@ -120,31 +131,38 @@ impl Relay {
     }
 
     /// An attention goes out for what an application has asked. Answers on which connection, if it does.
-    fn stop(&mut self, key: usize) -> Option<u64>
+    fn stop(&mut self, key: usize) -> Result<Option<u64>, NoMemory>
         ensures goes { Goes (Application key) (desk_in self.old.desk) (desk_in self.new.desk) }
         ensures kept { posts_in self.new.applications ≡ posts_in self.old.applications }
         ensures ends { ends_in self.new.applications ≡ ends_in self.old.applications }
-        ensures some { IfSome result (λ number. (before after : List ℕ) × Turns (Does key Stops)
-            (desk_in self.old.desk) (desk_in self.new.desk) before after) }
+        ensures some { IfOk result (λ stopped. IfSome stopped (λ number. (before after : List ℕ)
+            × Turns (Does key Stops) (desk_in self.old.desk) (desk_in self.new.desk) before
+            after)) }
         ensures moves { (ends : Ends) → IfOpen IsHere (end_at ends key) → Moved (Application key)
             (hall_of_ends (desk_in self.old.desk) ends)
             (hall_of_ends (desk_in self.new.desk) ends) }
         ensures links { self.new.links.items ≡ self.old.links.items }
         ensures stand { AllStand self.old.desk.service self.new.desk.service }
         ensures asks { AskAsBefore self.old.applications self.new.applications }
-        ensures stops { IfSome result (λ number. IsHalting number key self.old self.new) }
+        ensures stops { IfOk result (λ stopped. IfSome stopped (λ number.
+            IsHalting number key self.old self.new)) }
+        ensures none { IfOk result (λ stopped. IfNone stopped
+            (IsUnstopped key self.old.desk)) }
         ensures closes { ClosesOnly Nobody (register_in self.old) (register_in self.new) }
     {
         self.outbox.clear();
         match self.desk.cancel(key, &mut self.outbox) {
             Ok((hold, how)) => {
                 if matches!(how, Cancelled::Asked) {
-                    Some(hold.number)
+                    Ok(Some(hold.number))
                 } else {
-                    None
+                    Ok(None)
                 }
             }
-            Err(_) => None,
+            Err(refusal) => {
+                unless_memory(refusal)?;
+                Ok(None)
+            }
         }
     }
 
@@ -155,6 +173,7 @@ impl Relay {
         ensures ends { ends_in self.new.applications
             ≡ change_end key withdraws (ends_in self.old.applications) }
         ensures links { self.new.links.items ≡ self.old.links.items }
+        ensures outbox { self.new.outbox.items ≡ self.old.outbox.items }
         ensures asks { AskAsBefore self.old.applications self.new.applications }
         ensures closes { ClosesOnly Nobody (register_in self.old) (register_in self.new) }
     {
@@ -172,7 +191,8 @@ impl Relay {
         ensures moves { OnOk result (MovedOn (hall_in self.old) (hall_in self.new)) }
         ensures links { OnOk result (self.new.links.items ≡ self.old.links.items) }
         ensures asks { OnOk result (AskOn self.old.applications self.new.applications) }
-        ensures closes { OnOk result (ClosesOnly (Itself key)
+        ensures closes { OnOk result (ClosesOnly (ItselfFor key (IsOverfull
+            (post_at (give key acknowledgement (posts_in self.old.applications)) key)))
             (register_in self.old) (register_in self.new)) }
     {
         match self.applications.get_mut(key) {
@@ -196,14 +216,12 @@ impl Relay {
         ensures stand { OnOk result (AllStand self.old.desk.service
             self.new.desk.service) }
         ensures body { OnOk result (Halts (body_of key self.old) (body_of key self.new)) }
-        ensures closes { OnOk result (ClosesOnly (Itself key)
+        ensures closes { OnOk result (ClosesOnly (ItselfFor key
+            (CannotStop key self.old.desk self.old.links.items))
             (register_in self.old) (register_in self.new)) }
     {
-        match self.stop(key) {
-            Some(number) => {
-                self.counts.cancels = self.counts.cancels.saturating_add(1);
-                self.send_stop(key, number)
-            }
+        match self.stop(key)? {
+            Some(number) => self.send_stop(key, number),
             None => self.expel(key),
         }
     }
@@ -219,7 +237,8 @@ impl Relay {
         ensures stand { OnOk result (AllStand self.old.desk.service
             self.new.desk.service) }
         ensures sends { OnOk result (StopsOn number key self.old self.new) }
-        ensures closes { OnOk result (ClosesOnly (Itself key)
+        ensures closes { OnOk result (ClosesOnly (ItselfFor key
+            (HasNoRoom number self.old.outbox.items self.old.links.items))
             (register_in self.old) (register_in self.new)) }
     {
         let fits = self.fits_on(number)?;

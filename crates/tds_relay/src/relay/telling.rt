@@ -1,13 +1,13 @@
 //! What is told to applications' ends of what comes.
-ghost use Rattle.std.specs.Prelude.{◌≡◌, ℕ, None, Some, false, true};
+ghost use Rattle.std.specs.Prelude.{◌≡◌, ◌≢◌, ℕ, None, Some, false, true};
 ghost use Rattle.std.specs.Prelude.{IfOk, OnOk};
 ghost use Rattle.tds_relay.specs.Bodies.{AskAsBefore};
-ghost use Rattle.tds_relay.specs.Closings.{Anybody, ClosesOnly, Nobody};
-ghost use Rattle.tds_relay.specs.Closings.{register_in};
+ghost use Rattle.tds_relay.specs.Closings.{ClosesOnly, Nobody, register_in};
 ghost use Rattle.tds_relay.specs.Coming.{MayBeDone};
 ghost use Rattle.tds_relay.specs.Fronts.{ends_in};
 ghost use Rattle.tds_relay.specs.Hall.{change_end, change_whose, end_at, told};
 ghost use Rattle.tds_relay.specs.House.{is_said};
+ghost use Rattle.tds_relay.specs.Reasons.{HasTakenBack};
 ghost use Rattle.tds_relay.specs.Posts.{posts_in};
 ghost use Rattle.tds_relay.specs.Reads.{Stays};
 ghost use Rattle.tds_relay.specs.Ordering.{StayOrdered};
@@ -33,7 +33,11 @@ impl Relay {
         ensures silent { IfOk result (λ resumes. resumes ≡ true → (key : ℕ)
             → ¬ HandsTo (Some heard) key (ends_in self.old.applications)) }
         ensures links { OnOk result (self.new.links.items ≡ self.old.links.items) }
-        ensures closes { OnOk result (ClosesOnly Anybody
+        ensures outbox { heard.what ≢ whats.Closed
+            → self.new.outbox.items ≡ self.old.outbox.items }
+        ensures resumes { IfOk result (λ resumes. resumes ≡ true
+            → HasTakenBack heard.key (ends_in self.old.applications)) }
+        ensures closes { OnOk result (ClosesOnly (λ other. heard.what ≡ whats.Closed)
             (register_in self.old) (register_in self.new)) }
     {
         let Some(key) = heard.key else {
@@ -64,6 +68,7 @@ impl Relay {
             ≡ change_end key (told whats.Goes) (ends_in self.old.applications) }
         ensures links { self.new.links.items ≡ self.old.links.items }
         ensures orders { self.new.orders.items ≡ self.old.orders.items }
+        ensures outbox { self.new.outbox.items ≡ self.old.outbox.items }
         ensures asks { AskAsBefore self.old.applications self.new.applications }
         ensures closes { ClosesOnly Nobody (register_in self.old) (register_in self.new) }
     {
@@ -81,6 +86,7 @@ impl Relay {
             ≡ change_end key (told whats.Finished) (ends_in self.old.applications) }
         ensures links { self.new.links.items ≡ self.old.links.items }
         ensures orders { self.new.orders.items ≡ self.old.orders.items }
+        ensures outbox { self.new.outbox.items ≡ self.old.outbox.items }
         ensures asks { MayBeDone self.old.applications self.new.applications }
         ensures closes { ClosesOnly Nobody (register_in self.old) (register_in self.new) }
     {
@@ -98,9 +104,12 @@ impl Relay {
             ≡ change_end key (told whats.Acknowledged) (ends_in self.old.applications) }
         ensures links { self.new.links.items ≡ self.old.links.items }
         ensures orders { self.new.orders.items ≡ self.old.orders.items }
+        ensures outbox { self.new.outbox.items ≡ self.old.outbox.items }
         ensures asks { MayBeDone self.old.applications self.new.applications }
         ensures silent { result ≡ true
             → is_said whats.Acknowledged (end_at (ends_in self.old.applications) key) ≡ false }
+        ensures resumes { result ≡ true
+            → HasTakenBack (Some key) (ends_in self.old.applications) }
         ensures closes { ClosesOnly Nobody (register_in self.old) (register_in self.new) }
     {
         match self.applications.get_mut(key) {

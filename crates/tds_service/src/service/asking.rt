@@ -30,7 +30,13 @@ pub struct Asked {
     pub request: u64,
 }
 
-fn ask_at(seats: &mut [Seat], index: usize, kind: MessageKind) -> Result<Asked, Refusal>
+/// The connection at this index begins a request, and is the one that was found last.
+fn ask_at(
+    seats: &mut [Seat],
+    index: usize,
+    kind: MessageKind,
+    latest: &mut usize,
+) -> Result<Asked, Refusal>
     requires { index < length seats.old }
     ensures ok { IfOk result (λ done. (c : CodeSeat) → c ≡ slice_index_or seats.old index c
         → (d : CodeSeat) × (seats.new ≡ slice_set seats.old index d)
@@ -41,6 +47,8 @@ fn ask_at(seats: &mut [Seat], index: usize, kind: MessageKind) -> Result<Asked, 
     ensures refused { IfErr result (λ refusal. (c : CodeSeat) → c ≡ slice_index_or seats.old index c
         → RefusedBy (refusal_in (answer_to (line_in c.connection) line.Ask)) refusal) }
     ensures err { OnErr result (seats.new ≡ seats.old) }
+    ensures found { OnOk result (latest.new ≡ index) }
+    ensures unfound { OnErr result (latest.new ≡ latest.old) }
     ensures keeps { (n : ℕ) → reading_by (has_number n) seats.new
         ≡ reading_by (has_number n) seats.old }
     ensures sizes { sizes_in seats.new ≡ sizes_in seats.old }
@@ -49,10 +57,13 @@ fn ask_at(seats: &mut [Seat], index: usize, kind: MessageKind) -> Result<Asked, 
 {
     let seat = &mut seats[index];
     match seat.connection.ask(kind) {
-        Ok(request) => Ok(Asked {
-            number: seat.number,
-            request,
-        }),
+        Ok(request) => {
+            *latest = index;
+            Ok(Asked {
+                number: seat.number,
+                request,
+            })
+        }
         Err(refusal) => Err(refused(refusal)),
     }
 }
@@ -157,7 +168,7 @@ impl Service {
         ensures makes { MakesAlike self.old self.new }
     {
         match self.find_lease(lease) {
-            Some(index) => ask_at(&mut self.seats, index, kind),
+            Some(index) => ask_at(&mut self.seats, index, kind, &mut self.latest),
             None => Err(Refusal::Unknown),
         }
     }

@@ -48,7 +48,7 @@ fn make_room(seat: &Seat, count: usize, tells: bool, told: &mut Vec<Token>) -> R
     }
 }
 
-/// The connection at this index hears a packet's data.
+/// The connection at this index hears a packet's data, and is the one that was found last.
 #[inline(always)]
 fn came_at(
     seats: &mut [Seat],
@@ -57,6 +57,7 @@ fn came_at(
     ends: bool,
     tells: bool,
     told: &mut Vec<Token>,
+    latest: &mut usize,
 ) -> Result<Came, Refusal>
     requires { index < length seats.old }
     ensures ok { IfOk result (λ came. (c : CodeSeat) → c ≡ slice_index_or seats.old index c
@@ -80,6 +81,8 @@ fn came_at(
         → (line_in c.connection).stage ≡ line.Reading)) }
     ensures err { OnErr result (seats.new ≡ seats.old) }
     ensures untold { OnErr result (told.new.items ≡ told.old.items) }
+    ensures found { OnOk result (latest.new ≡ index) }
+    ensures unfound { OnErr result (latest.new ≡ latest.old) }
     ensures sizes { sizes_in seats.new ≡ sizes_in seats.old }
     ensures numbers { numbers_in seats.new ≡ numbers_in seats.old }
     ensures holders { holders_in seats.new ≡ holders_in seats.old }
@@ -92,6 +95,7 @@ fn came_at(
     let request = seat.connection.asked();
     let outcome = hear_packet(&mut seat.connection, bytes, ends, tells, told);
     seat.settle();
+    *latest = index;
     Ok(Came {
         lease,
         request,
@@ -132,7 +136,10 @@ impl Service {
         ensures makes { MakesAlike self.old self.new }
     {
         match self.find_number(number) {
-            Some(index) => came_at(&mut self.seats, index, bytes, ends, tells, told),
+            Some(index) => {
+                let latest = &mut self.latest;
+                came_at(&mut self.seats, index, bytes, ends, tells, told, latest)
+            }
             None => Err(Refusal::Unknown),
         }
     }

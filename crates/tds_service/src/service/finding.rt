@@ -1,7 +1,7 @@
 //! Which connection is wanted.
-ghost use Rattle.std.specs.Prelude.{◌≡◌, ◌<◌, ◌≤◌, ◌+◌, ℕ, length, None, IfSome, IfNone};
+ghost use Rattle.std.specs.Prelude.{◌≡◌, ◌<◌, ◌≤◌, ◌+◌, ℕ, length, true, None, IfSome, IfNone};
 ghost use Rattle.tds_numbers.specs.Rising.{Rises};
-ghost use Rattle.tds_service.specs.Index.{FindEachOther, holders_in, ids_in};
+ghost use Rattle.tds_service.specs.Index.{FindEachOther, held_among, holders_in, ids_in};
 ghost use Rattle.tds_service.specs.Rising.{RiseFrom, numbers_in};
 ghost use Rattle.tds_service.specs.Service.{find_by, has_lease, has_number, has_ticket};
 ghost use Rattle.tds_service.specs.Service.{is_lendable, seat_numbered};
@@ -15,12 +15,16 @@ use std::marker::Brand;
 use std::sync::ledger::{Blank, Ledger};
 use tds_numbers::{Steps, find_in};
 
-/// The place in the table of the first connection that can be lent.
+/// The place in the table of the first connection that can be lent. Where all are held none is looked at.
 #[inline(always)]
-pub(crate) fn find_lendable(seats: &[Seat]) -> Option<usize>
+pub(crate) fn find_lendable(seats: &[Seat], held: usize) -> Option<usize>
+    requires held { held ≡ held_among (holders_in seats.now) }
     ensures first { IfSome result (FirstMet is_lendable seats.now) }
     ensures none { IfNone result (find_by is_lendable (seats_in seats.now) ≡ None) }
 {
+    if held >= seats.len() {
+        return None;
+    }
     for (index, seat) in seats.iter().enumerate() {
         if seat.is_lendable() {
             return Some(index);
@@ -30,12 +34,39 @@ pub(crate) fn find_lendable(seats: &[Seat]) -> Option<usize>
 }
 
 impl Service {
-    /// The place in the table of the connection of this number, found by halves.
+    /// Whether the connection that was found last has this number.
+    #[inline(always)]
+    fn has_latest(&self, number: u64) -> bool
+        ensures { result ≡ true
+            → FirstMet (has_number number) self.now.seats.items self.now.latest }
+    {
+        if self.latest >= self.seats.len() {
+            return false;
+        }
+        self.seats[self.latest].number == number
+    }
+
+    /// Whether the connection that was found last is held by this one.
+    #[inline(always)]
+    fn is_latest_of(&self, holder: Holder) -> bool
+        ensures { result ≡ true
+            → FirstMet (test_of holder) self.now.seats.items self.now.latest }
+    {
+        if self.latest >= self.seats.len() {
+            return false;
+        }
+        self.seats[self.latest].is_held_by(holder)
+    }
+
+    /// The place in the table of the connection of this number: the latest one, or found by halves.
     pub(crate) fn find_number(&self, number: u64) -> Option<usize>
         ensures first { IfSome result (FirstMet (has_number number) self.now.seats.items) }
         ensures none { IfNone result
             (seat_numbered number (seats_in self.now.seats.items) ≡ None) }
     {
+        if self.has_latest(number) {
+            return Some(self.latest);
+        }
         find_counted::<Brand>(&self.seats, number, Blank::new(1))
     }
 
@@ -45,6 +76,9 @@ impl Service {
         ensures none { IfNone result
             (find_by (has_lease lease) (seats_in self.now.seats.items) ≡ None) }
     {
+        if self.is_latest_of(Holder::Lease(lease)) {
+            return Some(self.latest);
+        }
         held_counted::<Brand>(
             &self.seats,
             &self.index,
@@ -59,6 +93,9 @@ impl Service {
         ensures none { IfNone result
             (find_by (has_ticket ticket) (seats_in self.now.seats.items) ≡ None) }
     {
+        if self.is_latest_of(Holder::Ticket(ticket)) {
+            return Some(self.latest);
+        }
         held_counted::<Brand>(
             &self.seats,
             &self.index,

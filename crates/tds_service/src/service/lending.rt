@@ -139,6 +139,7 @@ impl Service {
             place: Place::Leased(lease),
             connection,
         };
+        self.latest = self.seats.len();
         self.seats.push_reserved(seat);
         add(&mut self.index, lease, number);
         self.last = number;
@@ -166,7 +167,7 @@ impl Service {
         ensures makes { MakesAlike self.old self.new }
     {
         let lease = self.next_given()?;
-        match find_lendable(&self.seats) {
+        match find_lendable(&self.seats, self.index.len()) {
             Some(index) => match lend_at(
                 &mut self.seats,
                 index,
@@ -176,6 +177,7 @@ impl Service {
                 Ok(number) => {
                     add(&mut self.index, lease, number);
                     self.given = lease;
+                    self.latest = index;
                     Ok(lent_again(lease, number))
                 }
                 Err(refusal) => Err(refusal),
@@ -203,6 +205,7 @@ impl Service {
                     Ok(number) => {
                         go_on(&mut self.index, ticket, lease, number);
                         self.given = lease;
+                        self.latest = index;
                         Ok(lent_again(lease, number))
                     }
                     Err(refusal) => Err(refusal),
@@ -230,6 +233,7 @@ impl Service {
                 Ok(number) => {
                     add(&mut self.index, lease, number);
                     self.given = lease;
+                    self.latest = index;
                     Ok(lent_again(lease, number))
                 }
                 Err(refusal) => Err(refusal),

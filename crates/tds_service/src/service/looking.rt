@@ -53,7 +53,7 @@ impl Service {
     pub fn has_free(&self) -> bool
         ensures { result ≡ is_some (find_by is_lendable (service_in self.now).seats) }
     {
-        match find_lendable(&self.seats) {
+        match find_lendable(&self.seats, self.index.len()) {
             Some(_) => true,
             None => false,
         }

@@ -39,6 +39,7 @@ impl Service {
             given: 0,
             seats: Vec::new(alloc),
             index: Vec::new(alloc),
+            latest: 0,
         })
     }
 }

@@ -13,6 +13,7 @@ ghost use Rattle.tds_service_c.specs.ComesOn.{HeardOn, is_reading};
 ghost use Rattle.tds_service_c.specs.Hearing.{end_part, one_part, told_if};
 ghost use Rattle.tds_service_c.specs.Plain.{line_of, place_of, stage_of};
 
+use crate::hearing::is_told;
 use crate::plain::TdsSeat;
 use crate::seat::Stage;
 use tds_client::{ClientFault, Sign, Taken};
@@ -23,6 +24,7 @@ use tds_wire::{Refusal, Token};
 
 impl TdsSeat {
     /// Whether its client reads the answer of a request, so that tokens may be told.
+    #[inline(always)]
     pub(super) fn may_tell(&self) -> bool
         ensures { result ≡ is_reading (stage_of self.now.client) }
     {
@@ -37,6 +39,7 @@ impl TdsSeat {
     }
 
     /// Its client hears that bytes came which no answer has: it is broken, and by what.
+    #[inline(always)]
     #[tactic(auto, unfolding(crate::specs::Plain::stage_at))]
     fn fails(self, refusal: Refusal) -> (TdsSeat, ListenFault)
         ensures hears { Hears (part_of (Refuses refusal)) (line_of self) (line_of result.0)
@@ -87,34 +90,39 @@ fn passes_on(seat: &TdsSeat, sign: Sign) -> bool
     }
 }
 
-/// The seat's client hears the sign of a token. Whether the token is told.
+/// The seat's client hears a token. Whether it is told.
 #[inline(always)]
-fn hear_sign(seat: &mut TdsSeat, sign: Sign) -> Result<bool, ListenFault>
-    ensures ok { IfOk result (λ told. (token : AnyToken)
-        → HeardOn (one_part sign token) seat.old seat.new line.More (told_if told token)) }
-    ensures tells { IfOk result (λ told. (token : AnyToken) → told ≡ true
+fn hear_said(seat: &mut TdsSeat, token: &Token) -> Result<bool, ListenFault>
+    ensures ok { IfOk result (λ told. HeardOn (one_part (sign_of token.now) token.now)
+        seat.old seat.new line.More (told_if told token.now)) }
+    ensures tells { IfOk result (λ told. told ≡ true
         → is_reading (stage_of seat.old.client) ≡ true) }
-    ensures fault { IfErr result (λ fault. (token : AnyToken)
-        → HeardOn (one_part sign token) seat.old seat.new (line.Fault fault) []) }
+    ensures fault { IfErr result (λ fault. HeardOn (one_part (sign_of token.now) token.now)
+        seat.old seat.new (line.Fault fault) []) }
 {
-    // Most tokens do: a seat is not read out and written back for each of them.
+    let sign = sign_of(token);
+    // Most tokens do so, and of the others most change little: no seat is read out and written back.
     if passes_on(seat, sign) {
         return Ok(true);
     }
-    hear_other(seat, sign)
+    if let Some(heard) = seat.hears(sign) {
+        seat.hold(heard);
+        return Ok(is_told(sign));
+    }
+    hear_other(seat, token)
 }
 
 /// The same, whatever the token says.
 #[inline(never)]
-fn hear_other(seat: &mut TdsSeat, sign: Sign) -> Result<bool, ListenFault>
-    ensures ok { IfOk result (λ told. (token : AnyToken)
-        → HeardOn (one_part sign token) seat.old seat.new line.More (told_if told token)) }
-    ensures tells { IfOk result (λ told. (token : AnyToken) → told ≡ true
+fn hear_other(seat: &mut TdsSeat, token: &Token) -> Result<bool, ListenFault>
+    ensures ok { IfOk result (λ told. HeardOn (one_part (sign_of token.now) token.now)
+        seat.old seat.new line.More (told_if told token.now)) }
+    ensures tells { IfOk result (λ told. told ≡ true
         → is_reading (stage_of seat.old.client) ≡ true) }
-    ensures fault { IfErr result (λ fault. (token : AnyToken)
-        → HeardOn (one_part sign token) seat.old seat.new (line.Fault fault) []) }
+    ensures fault { IfErr result (λ fault. HeardOn (one_part (sign_of token.now) token.now)
+        seat.old seat.new (line.Fault fault) []) }
 {
-    let heard = seat.hear(sign);
+    let heard = seat.hear(sign_of(token));
     *seat = heard.seat.settled();
     match heard.outcome {
         Outcome::More => Ok(heard.told),
@@ -144,7 +152,7 @@ pub(super) fn hear_token(
     ensures same { IfErr result (λ _. count.new ≡ count.old) }
     ensures room { length tokens.new ≡ length tokens.old }
 {
-    let told = match hear_sign(seat, sign_of(token)) {
+    let told = match hear_said(seat, token) {
         Ok(told) => told,
         Err(fault) => return Err(fault),
     };
@@ -156,7 +164,24 @@ pub(super) fn hear_token(
 }
 
 /// The seat's client hears that a message has ended, inside a token or between two.
+#[inline(always)]
 pub(super) fn end_message(seat: &mut TdsSeat, cut: bool) -> Result<Taken, ListenFault>
+    ensures ok { IfOk result (λ taken. HeardOn (end_part cut) seat.old seat.new
+        (taken_answer seat.old.asked taken) []) }
+    ensures fault { IfErr result (λ fault. HeardOn (end_part cut) seat.old seat.new
+        (line.Fault fault) []) }
+{
+    // Most do so: what changes is written in its place.
+    if !cut && seat.has_answer() {
+        seat.end_answer();
+        return Ok(Taken::Finished);
+    }
+    end_other(seat, cut)
+}
+
+/// The same, whatever is known.
+#[inline(never)]
+fn end_other(seat: &mut TdsSeat, cut: bool) -> Result<Taken, ListenFault>
     ensures ok { IfOk result (λ taken. HeardOn (end_part cut) seat.old seat.new
         (taken_answer seat.old.asked taken) []) }
     ensures fault { IfErr result (λ fault. HeardOn (end_part cut) seat.old seat.new

@@ -1,22 +1,23 @@
 //! What a seat's client hears of the bytes of a packet, by a walk over them.
 
-ghost use Rattle.std.specs.Prelude.{◌≡◌, ◌≤◌, ◌<◌, IfErr, IfOk, MatchResult, List, Option, drop, length, true};
+ghost use Rattle.std.specs.Prelude.{◌≡◌, ◌≤◌, ◌<◌, IfErr, IfOk, MatchResult, List, None, Option, Some, drop, length, true};
 ghost use Rattle.tds_wire.specs.Lent.{reading_of};
-ghost use Rattle.tds_wire.specs.Reading.{next_token};
+ghost use Rattle.tds_wire.specs.Reading.{Reading, next_token};
 ghost use Rattle.tds_wire.specs.declared.told.Token.{Token as AnyToken};
 ghost use Rattle.tds_walk.specs.Wire.{truth};
+ghost use Rattle.tds_walk.specs.WireCalls.{reading_from};
 ghost use Rattle.tds_walk.specs.WireTokens.{Puts};
 ghost use Rattle.tds_service.specs.Ties.{listed};
-ghost use Rattle.tds_service_c.specs.ComesOn.{BreaksOn, IsSpot, KeptOn, MovesOn, PausesBehind, Spot};
-ghost use Rattle.tds_service_c.specs.ComesOn.{is_reading, owner_on, table_with};
-ghost use Rattle.tds_service_c.specs.Packet.{PacketStopsBehind, SaysFault};
+ghost use Rattle.tds_service_c.specs.ComesOn.{BreaksOn, MovesOn, is_reading};
+ghost use Rattle.tds_service_c.specs.Here.{HasCome, HearsHere, IsNothing, PausesHere, Start, StopsHere};
+ghost use Rattle.tds_service_c.specs.Packet.{SaysFault};
 ghost use Rattle.tds_service_c.specs.Plain.{stage_of};
 
-use crate::packet::Halt;
 use crate::packet::listening::{end_message, fail, hear_token};
-use crate::plain::TdsSeat;
+use crate::packet::{Halt, Without, halt_number, unheard_number, whose};
+use crate::plain::{TdsSeat, TdsWhose};
 use tds_listen::ListenFault;
-use tds_walk::TdsWireToken;
+use tds_walk::{TdsWire, TdsWireToken};
 use tds_wire::{LentWalk, Memory};
 
 /// Why no more tokens were heard, where none is at fault.
@@ -30,7 +31,7 @@ pub(crate) enum Pause {
 
 /// What stands behind so many bytes.
 #[inline(always)]
-fn behind(bytes: &[u8], before: usize) -> &[u8]
+pub(super) fn behind(bytes: &[u8], before: usize) -> &[u8]
     requires { before ≤ length bytes.now }
     ensures { result.now ≡ drop before bytes.now }
 {
@@ -78,7 +79,7 @@ fn hear_next(
     }
 }
 
-/// Hears what ends in the bytes, up to the room's end.
+/// Hears what ends in the bytes behind the first ones, up to the room's end.
 fn hear_tokens(
     seat: &mut TdsSeat,
     walk: &mut LentWalk,
@@ -88,18 +89,19 @@ fn hear_tokens(
     tokens: &mut [TdsWireToken],
     count: &mut usize,
 ) -> Result<Pause, ListenFault>
-    requires none { taken.old ≡ 0 }
-    requires empty { count.old ≡ 0 }
-    ensures run { (s : Spot) → IsSpot s → seat.old.number ≡ s.number
-        → PausesBehind (owner_on s seat.old) (record {
-          table = table_with s seat.old;
+    requires within { taken.old ≤ length bytes.now }
+    requires room { count.old ≤ length tokens.old }
+    ensures run { (first : Start) (room : List TdsWireToken) → length room ≡ length tokens.old
+        → HasCome first (record {
+          seat = seat.old;
           reading = reading_of walk.old memory.old;
-          rest = bytes.now;
-        }) (drop taken.new bytes.now) (record {
-          table = table_with s seat.new;
+          rest = drop taken.old bytes.now;
+        }) (record { before = room; after = tokens.old; count = count.old })
+        → PausesHere first (record {
+          seat = seat.new;
           reading = reading_of walk.new memory.new;
-        }) (record { before = tokens.old; after = tokens.new; count = count.new }) result }
-    ensures kept { KeptOn seat.old seat.new }
+          rest = drop taken.new bytes.now;
+        }) (record { before = room; after = tokens.new; count = count.new }) result }
     ensures within { taken.new ≤ length bytes.now }
 {
     'tokens: while *taken < bytes.len() {
@@ -114,8 +116,8 @@ fn hear_tokens(
     Ok(Pause::Through)
 }
 
-/// Hears what ends in the bytes, and the message's end.
-pub(super) fn hear_on(
+/// Hears what ends in the bytes behind the first ones, and the message's end, by a walk.
+fn hear_on(
     seat: &mut TdsSeat,
     walk: &mut LentWalk,
     memory: &mut Memory,
@@ -125,19 +127,19 @@ pub(super) fn hear_on(
     tokens: &mut [TdsWireToken],
     count: &mut usize,
 ) -> Halt
-    requires none { taken.old ≡ 0 }
-    requires empty { count.old ≡ 0 }
-    ensures run { (s : Spot) → IsSpot s → seat.old.number ≡ s.number
-        → PacketStopsBehind (owner_on s seat.old) (record {
-          table = table_with s seat.old;
+    requires within { taken.old ≤ length bytes.now }
+    requires room { count.old ≤ length tokens.old }
+    ensures run { (first : Start) (room : List TdsWireToken) → length room ≡ length tokens.old
+        → HasCome first (record {
+          seat = seat.old;
           reading = reading_of walk.old memory.old;
-          rest = bytes.now;
-        }) (drop taken.new bytes.now) (record {
-          table = table_with s seat.new;
+          rest = drop taken.old bytes.now;
+        }) (record { before = room; after = tokens.old; count = count.old })
+        → StopsHere first (record {
+          seat = seat.new;
           reading = reading_of walk.new memory.new;
-        }) (truth ends) (record { before = tokens.old; after = tokens.new; count = count.new })
-        result }
-    ensures kept { KeptOn seat.old seat.new }
+          rest = drop taken.new bytes.now;
+        }) (truth ends) (record { before = room; after = tokens.new; count = count.new }) result }
     ensures within { taken.new ≤ length bytes.now }
 {
     match hear_tokens(seat, walk, memory, bytes, taken, tokens, count) {
@@ -154,4 +156,60 @@ pub(super) fn hear_on(
         Ok(answer) => Halt::Ended(answer),
         Err(fault) => Halt::BrokenAtEnd(fault),
     }
+}
+
+/// The same, with the walk read out of its value and written back.
+#[cold]
+#[inline(never)]
+pub(super) fn hear_walked(
+    seat: &mut TdsSeat,
+    walk: &mut TdsWire,
+    memory: &mut Memory,
+    bytes: &[u8],
+    ends: u8,
+    taken: &mut usize,
+    tokens: &mut [TdsWireToken],
+    count: &mut usize,
+    owner: &mut TdsWhose,
+) -> u8
+    requires within { taken.old ≤ length bytes.now }
+    requires room { count.old ≤ length tokens.old }
+    ensures none { reading_from walk.old memory.old ≡ None → IsNothing (record {
+      before = record { seat = seat.old; walk = walk.old; memory = memory.old; whose = owner.old };
+      after = record { seat = seat.new; walk = walk.new; memory = memory.new; whose = owner.new };
+      bytes = bytes.now;
+      ends = ends;
+      taken = 0;
+      room = record { before = tokens.old; after = tokens.new; count = 0 };
+    }) result × (taken.new ≡ taken.old) × (count.new ≡ count.old) }
+    ensures some { (first : Start) (room : List TdsWireToken) (r : Reading)
+        → length room ≡ length tokens.old → reading_from walk.old memory.old ≡ Some r
+        → HasCome first (record { seat = seat.old; reading = r; rest = drop taken.old bytes.now })
+        (record { before = room; after = tokens.old; count = count.old })
+        → HearsHere first (record {
+          before = record {
+            seat = seat.old;
+            walk = walk.old;
+            memory = memory.old;
+            whose = owner.old;
+          };
+          after = record {
+            seat = seat.new;
+            walk = walk.new;
+            memory = memory.new;
+            whose = owner.new;
+          };
+          bytes = bytes.now;
+          ends = ends;
+          taken = taken.new;
+          room = record { before = room; after = tokens.new; count = count.new };
+        }) result }
+{
+    let Some(mut lent) = walk.walk() else {
+        return unheard_number(Without::NoWalk);
+    };
+    *owner = whose(seat);
+    let halt = hear_on(seat, &mut lent, memory, bytes, ends, taken, tokens, count);
+    *walk = TdsWire::of(&lent);
+    halt_number(&halt)
 }

@@ -5,7 +5,7 @@ use tds_text::put_token_line;
 use tds_token::{Columns, EnvChange, Token, Tokens};
 
 /// Appends a line for each token of an answer's data, and answers the columns that are known
-/// behind them.
+/// after them.
 pub(crate) fn put_tokens(
     alloc: Global,
     text: &mut String,

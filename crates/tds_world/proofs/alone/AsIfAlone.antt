@@ -16,7 +16,7 @@ use Rattle.tds_world.specs.declared.event.Setup.{Setup}
 use Rattle.tds_world.specs.alone.Alone.{AreAlike, Exchange, exchange_of, exchanges_of, progress_of, own_steps, session_after, left_by, left_alone, MayRollBack, own_session, session_from, HasRoom, IsToldAlone, TellsAlone, RunsAlone, AsIfAlone, AllAlike, BlindToNumbers}
 use Rattle.tds_world.specs.Bounds.{RanInOwn, IsEvent}
 use Rattle.tds_world.specs.Connection.{Connection, records}
-use Rattle.tds_world.specs.Descriptors.{UseFewDescriptors, AreFewEvents, most_events}
+use Rattle.tds_world.specs.limits.Descriptors.{UseFewDescriptors, AreFewEvents, most_events}
 use Rattle.tds_world.specs.Events.{world_after}
 use Rattle.tds_world.specs.Lawful.{Lawful}
 use Rattle.tds_world.specs.Laws.{IsAnswer, whole_answer, IsOwnAnswer, HasKept, StartsFrom, StartsUnder, StartsFresh}

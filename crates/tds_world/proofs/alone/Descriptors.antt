@@ -16,7 +16,7 @@ use Rattle.tds_world.specs.Arrivals.{server_acts, client_acts}
 use Rattle.tds_world.specs.Bounds.{IsEvent}
 use Rattle.tds_world.specs.Caller.{cancels_by, sends_by}
 use Rattle.tds_world.specs.Connection.{Connection, records}
-use Rattle.tds_world.specs.Descriptors.{UseOneEach, UseFewDescriptors, most_steps, most_events}
+use Rattle.tds_world.specs.limits.Descriptors.{UseOneEach, UseFewDescriptors, most_steps, most_events}
 use Rattle.tds_world.specs.Events.{world_after}
 use Rattle.tds_world.specs.Lane.{passed}
 use Rattle.tds_world.specs.Laws.{OfEachConnection}

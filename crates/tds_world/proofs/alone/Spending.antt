@@ -17,7 +17,7 @@ use Rattle.tds_session.specs.declared.transaction.Ending.{Ending}
 use Rattle.tds_session.specs.declared.transaction.Ending.TheVariants as ending
 use Rattle.tds_token.specs.declared.env_change.EnvChange.{EnvChange}
 use Rattle.tds_token.specs.declared.env_change.EnvChange.TheVariants as change
-use Rattle.tds_world.specs.Descriptors.{UseOneEach, UseFewDescriptors, most_steps}
+use Rattle.tds_world.specs.limits.Descriptors.{UseOneEach, UseFewDescriptors, most_steps}
 use Rattle.tds_world.proofs.alone.Blind.{own_is}
 
 -- ---- One descriptor a step, at most

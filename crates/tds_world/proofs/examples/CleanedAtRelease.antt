@@ -16,7 +16,7 @@ use Rattle.tds_world.specs.declared.report.ClientView.TheVariants.{Idle}
 use Rattle.tds_world.specs.declared.report.Place.TheVariants.{Free, Leased}
 use Rattle.tds_world.specs.declared.report.Report.{Report}
 use Rattle.tds_world.specs.declared.report.RequestStatus.TheVariants as status
-use Rattle.tds_world.specs.LeftCleanShown.{ShowsLeftClean}
+use Rattle.tds_world.specs.left_clean.LeftCleanShown.{ShowsLeftClean}
 use Rattle.tds_world.specs.Observed.{observed}
 use Rattle.tds_world.proofs.examples.Shown.{with_max, Shows, connections_after, asked, seen, session, info, done}
 

@@ -25,7 +25,7 @@ use Rattle.tds_world.specs.Pool.{is_free, gives_back_at, abandons_at, keeps_by, 
 use Rattle.tds_world.specs.Record.{Record}
 use Rattle.tds_world.specs.Sessions.{FitsStep, FitsAcknowledgement, IsInRange, StayInRange}
 use Rattle.tds_world.specs.Steps.{OfSteps, OfAcknowledgements}
-use Rattle.tds_world.specs.Underway.{FewToClients}
+use Rattle.tds_world.specs.limits.Underway.{FewToClients}
 use Rattle.tds_world.specs.World.{World, Found, Missing, Here, Opens, new_world, numbered, next_number, uncut_in}
 use Rattle.tds_world.proofs.events.Happens.{happens_cases}
 use Rattle.tds_world.proofs.events.Words.{OfSome, OfFound, OfActed, either}

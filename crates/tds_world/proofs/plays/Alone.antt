@@ -11,7 +11,7 @@ use Rattle.tds_world.specs.declared.report.RequestReport.{RequestReport}
 use Rattle.tds_world.specs.alone.Alone.{BlindToNumbers, RunsAlone, AsIfAlone}
 use Rattle.tds_world.specs.alone.AloneShown.{LeaseShown, lease_in, own_by, far_in, ShowsAsIfAlone}
 use Rattle.tds_world.specs.Bounds.{IsEvent}
-use Rattle.tds_world.specs.Descriptors.{UseFewDescriptors, AreFewEvents, most_events}
+use Rattle.tds_world.specs.limits.Descriptors.{UseFewDescriptors, AreFewEvents, most_events}
 use Rattle.tds_world.specs.Events.{world_after}
 use Rattle.tds_world.specs.Lawful.{Lawful}
 use Rattle.tds_world.specs.Losses.{Played, event_reports_with, observed_with, with_cuts, world_with}

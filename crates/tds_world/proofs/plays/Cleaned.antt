@@ -15,7 +15,7 @@ use Rattle.tds_world.specs.Entries.{Up, Down, Step, Acknowledgement, up_bytes, d
 use Rattle.tds_world.specs.Events.{acts, cleans_by}
 use Rattle.tds_world.specs.Lane.{passed, with_waiting}
 use Rattle.tds_world.specs.Lawful.{Lawful}
-use Rattle.tds_world.specs.LeftCleanShown.{lent_here}
+use Rattle.tds_world.specs.left_clean.LeftCleanShown.{lent_here}
 use Rattle.tds_world.specs.Phase.{phase_by, phase_in}
 use Rattle.tds_world.specs.Pool.{Acted, Refuses, Does, is_free, gives_back_at, abandons_at}
 use Rattle.tds_world.specs.Record.{Record, Fate, Open, Finished, Cancelled, Acknowledged, Out, NotBegun, Begun, Whole, is_cancelled, gives, runs, when, if_numbered}

@@ -4,12 +4,12 @@ use Rattle.tds_session.specs.Answer.{Answers}
 use Rattle.tds_world.specs.declared.event.Event.{Event}
 use Rattle.tds_world.specs.declared.event.Event.TheVariants as event
 use Rattle.tds_world.specs.declared.event.Setup.{Setup}
-use Rattle.tds_world.specs.Counts.{AreFew}
+use Rattle.tds_world.specs.limits.Counts.{AreFew}
 use Rattle.tds_world.specs.Events.{happens, world_after}
 use Rattle.tds_world.specs.Lawful.{Lawful}
 use Rattle.tds_world.specs.Losses.{Loss, Nothing, Failed, Played, met, link_of, cuts_after, world_then, world_with, with_cuts}
 use Rattle.tds_world.specs.Sessions.{StayInRange}
-use Rattle.tds_world.specs.Underway.{FewToClients}
+use Rattle.tds_world.specs.limits.Underway.{FewToClients}
 use Rattle.tds_world.specs.World.{World, new_world}
 use Rattle.tds_world.proofs.packets.Underway.{Few, new_few_waits, happens_few_waits, cut_few_waits, few_wait}
 use Rattle.tds_world.proofs.plays.Worlds.{plain_worlds}

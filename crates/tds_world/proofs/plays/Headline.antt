@@ -8,11 +8,11 @@ use Rattle.tds_world.specs.declared.report.Report.{Report}
 use Rattle.tds_world.specs.alone.Alone.{BlindToNumbers}
 use Rattle.tds_world.specs.alone.AloneShown.{ShowsAsIfAlone, far_in}
 use Rattle.tds_world.specs.Bounds.{IsEvent, IsSetup}
-use Rattle.tds_world.specs.Descriptors.{AreFewEvents, UseFewDescriptors}
+use Rattle.tds_world.specs.limits.Descriptors.{AreFewEvents, UseFewDescriptors}
 use Rattle.tds_world.specs.Events.{world_after}
 use Rattle.tds_world.specs.Lawful.{Lawful}
-use Rattle.tds_world.specs.LeftClean.{AnswersClean}
-use Rattle.tds_world.specs.LeftCleanShown.{ShowsLeftClean}
+use Rattle.tds_world.specs.left_clean.LeftClean.{AnswersClean}
+use Rattle.tds_world.specs.left_clean.LeftCleanShown.{ShowsLeftClean}
 use Rattle.tds_world.specs.Losses.{Played, marked, world_with, observed_with}
 use Rattle.tds_world.specs.Observed.{observed}
 use Rattle.tds_world.specs.Reports.{GivesNoMore, ShowsFewUnderway, ShowsFreshStart, ShowsIdleQuiet, ShowsKeptTransaction, ShowsLendsIdle, ShowsOwnAnswers, ShowsOwnTransaction}

@@ -15,8 +15,8 @@ use Rattle.tds_world.specs.Cleaning.{can_clean, cleans}
 use Rattle.tds_world.specs.Connection.{Connection, phase, is_cut, cut}
 use Rattle.tds_world.specs.Events.{about, acts, cleans_by, settles, happens_at, happens, world_after}
 use Rattle.tds_world.specs.Lawful.{Lawful}
-use Rattle.tds_world.specs.LeftClean.{AnswersClean, IsLeftClean}
-use Rattle.tds_world.specs.LeftCleanShown.{IsFreshIfIdle, lent_here, FreshUntilLent, FreshIfCleaned, EachLeftClean, ShowsLeftClean}
+use Rattle.tds_world.specs.left_clean.LeftClean.{AnswersClean, IsLeftClean}
+use Rattle.tds_world.specs.left_clean.LeftCleanShown.{IsFreshIfIdle, lent_here, FreshUntilLent, FreshIfCleaned, EachLeftClean, ShowsLeftClean}
 use Rattle.tds_world.specs.Losses.{Loss, Nothing, Failed, Played, met, link_of, cuts_after, world_then, report_then, event_reports_with}
 use Rattle.tds_world.specs.Observed.{snapshots}
 use Rattle.tds_world.specs.Phase.{Settled, phase_by, phase_in}

@@ -17,7 +17,7 @@ use Rattle.tds_world.specs.declared.report.RequestReport.{RequestReport}
 use Rattle.tds_world.specs.alone.Alone.{BlindToNumbers, Exchange, exchange_of, exchanges_of, progress_of, RunsAlone, AsIfAlone, own_session, session_from}
 use Rattle.tds_world.specs.alone.AloneShown.{far_on, far_in, is_shown_finished, exchange_shown, exchanges_shown, LeaseShown, lease_in, own_by, ShowsAsIfAlone}
 use Rattle.tds_world.specs.Connection.{Connection, records, is_cut}
-use Rattle.tds_world.specs.Descriptors.{UseFewDescriptors, AreFewEvents}
+use Rattle.tds_world.specs.limits.Descriptors.{UseFewDescriptors, AreFewEvents}
 use Rattle.tds_world.specs.Events.{happens, world_after}
 use Rattle.tds_world.specs.Lawful.{Lawful}
 use Rattle.tds_world.specs.Observed.{event_reports, observed, request_report, request_reports}

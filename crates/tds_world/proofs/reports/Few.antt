@@ -8,7 +8,7 @@ use Rattle.tds_world.specs.declared.event.Event.TheVariants as event
 use Rattle.tds_world.specs.declared.event.Setup.{Setup}
 use Rattle.tds_world.specs.declared.outcome.Refusal.TheVariants as refusal
 use Rattle.tds_world.specs.Connection.{Connection, is_cut, cut}
-use Rattle.tds_world.specs.Counts.{AreFew}
+use Rattle.tds_world.specs.limits.Counts.{AreFew}
 use Rattle.tds_world.specs.Events.{about, acts, notes, settles, happens_at, happens, world_after}
 use Rattle.tds_world.specs.Pool.{Acted, Refuses, Does, opens}
 use Rattle.tds_world.specs.World.{World, Holding, Found, Missing, Here, Opens, new_world, numbered, next_number, put, put_numbered, uncut_in, ended, ended_at, ended_numbered}

@@ -17,7 +17,7 @@ use Rattle.tds_world.specs.Events.{world_after}
 use Rattle.tds_world.specs.Lane.{passed}
 use Rattle.tds_world.specs.Lawful.{Lawful}
 use Rattle.tds_world.specs.Laws.{Always, IsOwnAnswer}
-use Rattle.tds_world.specs.LeftClean.{AnswersClean, IsLeftClean, LeftClean}
+use Rattle.tds_world.specs.left_clean.LeftClean.{AnswersClean, IsLeftClean, LeftClean}
 use Rattle.tds_world.specs.Phase.{Phase, Settled, Asked, Sending, Reading, Cancelling, phase_of}
 use Rattle.tds_world.specs.Record.{Record, is_finished, gives, acknowledges, runs, when, if_numbered}
 use Rattle.tds_world.specs.World.{World, new_world}

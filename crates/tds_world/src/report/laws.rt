@@ -6,7 +6,7 @@ ghost use Rattle.tds_session.specs.declared.attention.OnAttention.{OnAttention};
 ghost use Rattle.tds_world.specs.alone.Alone.{BlindToNumbers};
 ghost use Rattle.tds_world.specs.alone.AloneShown.{ShowsAsIfAlone, HowFar, far_in};
 ghost use Rattle.tds_world.specs.Bounds.{IsEvent, IsSetup};
-ghost use Rattle.tds_world.specs.Descriptors.{AreFewEvents, UseFewDescriptors};
+ghost use Rattle.tds_world.specs.limits.Descriptors.{AreFewEvents, UseFewDescriptors};
 ghost use Rattle.tds_world.specs.Events.{world_after};
 ghost use Rattle.tds_world.specs.Lawful.{Lawful};
 ghost use Rattle.tds_world.specs.Observed.{observed};

@@ -4,29 +4,80 @@ import (
 	"context"
 	"errors"
 	"fmt"
+	"io"
 	"time"
 
 	tds "mouktelf"
 )
 
+// ahead is how many rows are read before they are asked for: so neither side waits for each of them.
+const ahead = 24
+
+// answer is that of the request that is out, for whoever asked.
+type answer struct {
+	ctx  context.Context
+	sess *tdsSession
+	ch   chan tokenStruct
+}
+
+// beginAnswer gives the caller the answer of the request that is out, beside whatever else it does.
+func beginAnswer(ctx context.Context, sess *tdsSession, ch chan tokenStruct) {
+	s := sess.buf.session
+	if s == nil {
+		go processResponse(ctx, sess, ch)
+		return
+	}
+	s.lock.Lock()
+	defer s.lock.Unlock()
+	if !s.isOver {
+		select {
+		case s.asked <- answer{ctx, sess, ch}:
+			return
+		default:
+		}
+	}
+	go s.answers(ctx, sess, ch)
+}
+
+// answersAll hears one answer after another, up to the connection's end: what hears goes deep, and so one stack grows once.
+func (s *session) answersAll() {
+	for it := range s.asked {
+		s.answers(it.ctx, it.sess, it.ch)
+	}
+}
+
+// end says that the connection is closed: nobody asks any more.
+func (s *session) end() {
+	s.lock.Lock()
+	defer s.lock.Unlock()
+	if !s.isOver {
+		s.isOver = true
+		close(s.asked)
+	}
+}
+
 // answers hears the answer of the request that is out, and gives the caller what the client tells. Behind the end of the channel the
 // client is idle, or broken.
 func (s *session) answers(ctx context.Context, sess *tdsSession, ch chan tokenStruct) {
 	defer close(ch)
-	if s.isHalfSent || s.isIdle() {
+	if !s.beginsAnswering() {
 		ch <- errors.New("mssql: no request is out")
 		return
 	}
-	s.looks(func(*tds.Client) { s.isAnswering = true })
-	defer s.looks(func(*tds.Client) { s.isAnswering = false })
+	defer s.hasAnswered()
 	over := s.cancelBehind(ctx)
 	to := &teller{sess: sess, ch: ch}
-	answer, err := s.hearAnswer(to)
-	close(over)
-	if err == nil && answer == tds.Acknowledged {
+	did, err := s.hearAnswer(to)
+	if over != nil {
+		close(over)
+	}
+	if err == nil && did == tds.Acknowledged {
 		err = s.rollBackUntold()
 		if err == nil {
 			err = ctx.Err()
+		}
+		if err == nil {
+			err = context.Canceled // its rows were closed
 		}
 	} else if err == nil {
 		err = to.failed
@@ -34,6 +85,23 @@ func (s *session) answers(ctx context.Context, sess *tdsSession, ch chan tokenSt
 	if err != nil {
 		ch <- err
 	}
+}
+
+// beginsAnswering says whether a request is out, whose answer is given on from now on.
+func (s *session) beginsAnswering() bool {
+	s.lock.Lock()
+	defer s.lock.Unlock()
+	if s.isHalfSent || s.client.Idle() && !s.isAnswering {
+		return false
+	}
+	s.isAnswering = true
+	return true
+}
+
+func (s *session) hasAnswered() {
+	s.lock.Lock()
+	s.isAnswering = false
+	s.lock.Unlock()
 }
 
 // drain waits for the end of an answer of which the caller wants no more.
@@ -69,8 +137,9 @@ func (s *session) hearAnswer(to *teller) (tds.Answer, error) {
 
 // read waits for more bytes. A cancel has a limit of its own, whatever comes meanwhile.
 func (s *session) read() error {
-	since := time.Time{}
-	s.looks(func(*tds.Client) { since = s.cancelAt })
+	s.lock.Lock()
+	since := s.cancelAt
+	s.lock.Unlock()
 	if !since.IsZero() && s.patience > 0 && time.Since(since) > s.patience {
 		return fmt.Errorf("no cancel was acknowledged within %v", s.patience)
 	}
@@ -110,6 +179,21 @@ func (s *session) hear(packet []byte, to *teller) (answer tds.Answer, err error)
 		s.kept = append(s.kept, data...)
 	}
 	return answer, err
+}
+
+// readAll reads so many bytes of a token, or of what comes where nobody is logged in yet. It is io.ReadFull without an interface: so
+// Go's compiler sees that the few bytes of a number needn't be on the heap.
+func (r *tdsBuffer) readAll(buf []byte) error {
+	for read := 0; read < len(buf); {
+		count, err := r.Read(buf[read:])
+		if read += count; err == io.EOF && read > 0 {
+			err = io.ErrUnexpectedEOF
+		}
+		if err != nil && read < len(buf) {
+			return err
+		}
+	}
+	return nil
 }
 
 // teller gives one answer's tokens to whoever asked, read by the driver's own readers.

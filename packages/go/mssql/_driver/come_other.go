@@ -2,7 +2,7 @@
 
 package mssql
 
-import "net"
+import "syscall"
 
 // hasCome isn't known here: the next request finds it out.
-func hasCome(net.Conn, bool) bool { return false }
+func hasCome(syscall.RawConn, bool) bool { return false }

@@ -7,8 +7,8 @@ import (
 	"errors"
 	"fmt"
 	"io"
-	"net"
 	"sync"
+	"syscall"
 	"time"
 
 	tds "mouktelf"
@@ -26,13 +26,17 @@ type session struct {
 	open        uint64 // the transaction that its caller knows of: at a begin, and at the cancel of any other request
 	cancelAt    time.Time
 
+	asked  chan answer // to what hears the answers: one at a time is asked
+	isOver bool        // the connection is closed
+
 	outgoing *tds.Outgoing
-	conn     net.Conn      // the socket
-	from     io.ReadWriter // the socket, or TLS over it
+	raw      syscall.RawConn // the socket, where the system lets one look
+	from     io.ReadWriter   // the socket, or TLS over it
 	size     uint16
 	patience time.Duration // of each read and write, and of a cancel's acknowledgement
 
 	kind       packetType // of the newest request
+	next       packetType // of the message that the driver writes, where nothing of it is put yet; else none
 	refused    error      // why the message that is being written wasn't begun
 	isHalfSent bool       // a message was begun, and isn't finished
 
@@ -55,9 +59,16 @@ const (
 
 func newSession(buf *tdsBuffer, conn *timeoutConn) (*session, error) {
 	client, err := tds.New(uint16(buf.PackageSize()))
-	s := &session{client: client, conn: conn.c, from: buf.transport, size: uint16(buf.PackageSize()), patience: conn.timeout}
+	s := &session{client: client, from: buf.transport, size: uint16(buf.PackageSize()), patience: conn.timeout}
+	if it, is := conn.c.(syscall.Conn); is {
+		s.raw, _ = it.SyscallConn()
+	}
 	s.outgoing = tds.NewOutgoing(buf.transport, &s.lock)
 	s.came = make([]byte, 0, atOnce)
+	s.asked = make(chan answer, 1)
+	if err == nil {
+		go s.answersAll()
+	}
 	return s, err
 }
 
@@ -81,30 +92,23 @@ func (s *session) looks(what func(client *tds.Client)) {
 	what(s.client)
 }
 
-// start begins a message, whose headers the client writes.
+// start begins a message, whose headers the client writes: with its first part.
 func (s *session) start(kind packetType) {
-	s.refused = s.begun(kind, func(client *tds.Client, _ *[]byte) error {
-		if s.isAnswering {
-			return notIdle
-		}
-		return client.StartMessage(uint8(kind))
-	})
-	s.isHalfSent = s.isHalfSent || s.refused == nil
+	s.next, s.refused = kind, nil
 }
 
-func (s *session) begun(kind packetType, start func(client *tds.Client, out *[]byte) error) error {
-	return s.asks(func(client *tds.Client, out *[]byte) error {
-		if err := start(client, out); err != nil {
-			return err
-		}
-		if len(s.came) > 0 {
-			client.Lost()
-			return errors.New("mssql: a part of a packet has come where nothing was asked")
-		}
-		s.kind, s.isTold, s.open, s.cancelAt = kind, true, client.Descriptor(), time.Time{}
-		s.requests++
-		return nil
-	})
+// begun begins a request in a call of the client, which `start` makes.
+func (s *session) begun(kind packetType, client *tds.Client, start func() error) error {
+	if err := start(); err != nil {
+		return err
+	}
+	if len(s.came) > 0 {
+		client.Lost()
+		return errors.New("mssql: a part of a packet has come where nothing was asked")
+	}
+	s.kind, s.isTold, s.open, s.cancelAt = kind, true, client.Descriptor(), time.Time{}
+	s.requests++
+	return nil
 }
 
 // put sends a part of the message.
@@ -113,6 +117,19 @@ func (s *session) put(part []byte, isLast bool) error {
 		return s.refused
 	}
 	err := s.asks(func(client *tds.Client, out *[]byte) error {
+		if kind := s.next; kind != 0 {
+			s.next = 0
+			s.refused = s.begun(kind, client, func() error {
+				if s.isAnswering {
+					return notIdle
+				}
+				return client.StartMessage(uint8(kind))
+			})
+			if s.refused != nil {
+				return s.refused
+			}
+			s.isHalfSent = true
+		}
 		err := client.Put(part, out)
 		if err == nil && isLast {
 			err = client.Finish(out)
@@ -144,7 +161,7 @@ func (s *session) lost(why error) error {
 // cancel sends an attention where this request is underway still, and one only: never one for a later request.
 func (s *session) cancel(request uint64) error {
 	return s.asks(func(client *tds.Client, out *[]byte) error {
-		if request != s.requests {
+		if request != s.requests || client.Idle() {
 			return nil
 		}
 		answer, err := client.Cancel(out)
@@ -158,28 +175,35 @@ func (s *session) cancel(request uint64) error {
 	})
 }
 
-// cancelBehind cancels the newest request where the context ends before what it gives is closed.
+// cancelBehind cancels the newest request where the context ends before what it gives is closed. That is nil where no context ends.
 func (s *session) cancelBehind(ctx context.Context) (over chan struct{}) {
-	over = make(chan struct{})
 	if ctx.Done() == nil {
-		return over
+		return nil
 	}
-	request := uint64(0)
-	s.looks(func(*tds.Client) { request = s.requests })
+	over = make(chan struct{})
+	cancel := s.canceller()
 	go func() {
 		select {
 		case <-ctx.Done():
-			s.cancel(request)
+			cancel()
 		case <-over:
 		}
 	}()
 	return over
 }
 
+// canceller cancels the request that is the newest now, where it is underway still when that is called.
+func (s *session) canceller() (cancel func()) {
+	s.lock.Lock()
+	defer s.lock.Unlock()
+	request := s.requests
+	return func() { s.cancel(request) }
+}
+
 // rollBack ends the open transaction, and waits for the answer.
 func (s *session) rollBack() error {
-	err := s.begun(packTransMgrReq, func(client *tds.Client, out *[]byte) error {
-		err := client.StartRollback(tds.NoNext)
+	err := s.asks(func(client *tds.Client, out *[]byte) error {
+		err := s.begun(packTransMgrReq, client, func() error { return client.StartRollback(tds.NoNext) })
 		for answer := tds.More; err == nil && answer == tds.More; {
 			answer, err = client.Send(out)
 		}
@@ -204,6 +228,7 @@ func (s *session) rollBackUntold() error {
 
 // giveUp ends a message that nobody finishes, as that of a bulk load.
 func (s *session) giveUp() {
+	s.next = 0
 	if !s.isHalfSent {
 		return
 	}
@@ -228,7 +253,7 @@ func (s *session) isIdle() (is bool) {
 // has closed meanwhile, or that said something unasked, is bad.
 func (c *MssqlConn) ResetSession(context.Context) error {
 	s := c.sess.buf.session
-	if _, isPlain := s.from.(*timeoutConn); hasCome(s.conn, isPlain) {
+	if _, isPlain := s.from.(*timeoutConn); s.raw == nil || hasCome(s.raw, isPlain) {
 		s.lost(io.EOF)
 		return driver.ErrBadConn
 	}

@@ -233,7 +233,7 @@ func TestAskedWhileItAnswers(t *testing.T) {
 			return
 		}
 		if came.text() == "many" {
-			it.sends(rows(0, make([]int32, 20)...))
+			it.sends(rows(0, make([]int32, 2*ahead)...))
 			return
 		}
 		answersRows(it, came)

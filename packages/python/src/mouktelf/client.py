@@ -152,7 +152,8 @@ class Client:
             # It is more than a packet has room for.
             self.start_message(kind)
             return self.put(body) + self.finish()
-        _done(answer)
+        if answer >= _FIRST_FAULT:
+            raise Fault(answer)
         return room.written()
 
     def start_message(self, kind: MessageKind) -> None:
@@ -230,7 +231,7 @@ class Client:
     def hear_plain(self, data: bytes, ends: int, at: int = 0) -> Tuple[Answer, List[Tuple[int, ...]]]:
         """The same from a place on, where tokens are told as plain tuples, each of a `Walked`'s values."""
         # It is `walk.tokens`, `heard` and `message_ended`, for 256 tokens in one call.
-        answer, told = hears(self._hears, self.walk, data, at, ends)
+        answer, told = hears(self._hears, self._walk or self.walk, data, at, ends)
         return ANSWERS[answer], told
 
     def message_ended(self) -> Answer:
@@ -252,8 +253,10 @@ class _Found(threading.local):
     """Room for packets that are found, of each thread."""
 
     def __init__(self) -> None:
-        self.packets, self.count = (Packet * _AT_ONCE)(), c_size_t()
-        self.at, self.count_at = addressof(self.packets), addressof(self.count)
+        packets, self.count = (Packet * _AT_ONCE)(), c_size_t()
+        # Each lies among them.
+        self.packets = [*packets]
+        self.at, self.count_at = addressof(packets), addressof(self.count)
 
 
 _FOUND = _Found()
@@ -265,11 +268,12 @@ def packets_of(data: bytes, size: int) -> Tuple[List[bytes], bytes]:
         raise Fault(_OUT_OF_RANGE)
     data, packets, at, room = bytes(data), [], 0, _FOUND
     while True:
-        number = LIBRARY.tds_packets_read(from_place(data, at), len(data) - at, size, _TO_CLIENT, room.at, _AT_ONCE, room.count_at)
-        for place in range(room.count.value):
-            length = room.packets[place].length
-            packets.append(data[at: at + length])
-            at += length
+        front = from_place(data, at) if at else data
+        number = LIBRARY.tds_packets_read(front, len(data) - at, size, _TO_CLIENT, room.at, _AT_ONCE, room.count_at)
+        for packet in room.packets[: room.count.value]:
+            end = at + packet.length
+            packets.append(data[at: end])
+            at = end
         if number == _WANTS_BYTES:
             return packets, data[at:]
         _done(number)

@@ -29,7 +29,7 @@ class Level(IntEnum):
 
 @dataclass(frozen=True)
 class Finding:
-    """A finding by its number, 1 to 39; the byte of its direction at which it is told, counted from 0; the time of its
+    """A finding by its number, 1 to 45; the byte of its direction at which it is told, counted from 0; the time of its
     piece; and what goes with it, or 0."""
 
     number: int

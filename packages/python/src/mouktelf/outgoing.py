@@ -36,30 +36,27 @@ class Outgoing:
             self._waiting.append(data)
 
     def __exit__(self, kind: Optional[type], *_: object) -> None:
-        self._holder, data = 0, b""
-        if self._waiting and not (self._is_writing or self._failed):
-            # Whoever writes is chosen before somebody else can put anything.
-            data, self._is_writing = self._taken(), True
+        self._holder, waiting = 0, self._waiting
+        # Whoever writes is chosen before somebody else can put anything.
+        writes = bool(waiting) and not (self._is_writing or self._failed)
+        if writes:
+            self._waiting, self._is_writing = [], True
         self.lock.release()
-        if data:
-            self._drain(data)
+        if writes:
+            self._drain(waiting)
         elif self._failed and kind is None:
             raise self._failed
 
-    def _taken(self) -> bytes:
-        waiting, self._waiting = self._waiting, []
-        return waiting[0] if len(waiting) == 1 else b"".join(waiting)
-
-    def _drain(self, data: bytes) -> None:
-        while data:
+    def _drain(self, waiting: List[bytes]) -> None:
+        while waiting:
             try:
-                self._write(data)
+                self._write(waiting[0] if len(waiting) == 1 else b"".join(waiting))
             except BaseException as why:
                 with self.lock:
                     self._failed, self._waiting, self._is_writing = why, [], False
                 raise
             with self.lock:
-                data = b"" if self._failed else self._taken()
-                self._is_writing = bool(data)
+                waiting, self._waiting = [] if self._failed else self._waiting, []
+                self._is_writing = bool(waiting)
         if self._failed:
             raise self._failed

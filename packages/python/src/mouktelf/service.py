@@ -1,7 +1,6 @@
 """A table of connections that callers share, in front of any server: who holds each one, and what becomes of it."""
 
 from ctypes import addressof, byref, c_size_t, c_uint8, c_uint64
-from dataclasses import dataclass
 from enum import IntEnum
 from functools import partial
 from typing import Any, Dict, List, NamedTuple, Optional, Tuple
@@ -13,6 +12,9 @@ from .fault import Fault
 from .wire import Walk, Walked, from_place, hears, walked
 
 _FULL, _TELL, _FIRST_FAULT, _OUT_OF_RANGE, _WANTS_BYTES, _NOT_NOW, _ATTENTION_MOST, _HEADER = 1, 10, 20, 23, 24, 36, 16, 8
+# The calls of each lease.
+_lease, _ask, _put = LIBRARY.tds_service_lease, LIBRARY.tds_service_ask, LIBRARY.tds_service_put
+_finish, _give_back = LIBRARY.tds_service_finish, LIBRARY.tds_service_give_back
 # Where a seat is: lent, being cleaned, kept for a ticket.
 _LENT, _CLEANING, _KEPT = 1, 2, 3
 
@@ -26,8 +28,10 @@ class Rest(IntEnum):
     CLOSED = 3
 
 
-@dataclass(frozen=True)
-class Lent:
+_RESTS = (None, *Rest)
+
+
+class Lent(NamedTuple):
     """A lease, and the number of its connection. Where nobody `had` that before it is to be opened and logged in."""
 
     lease: int
@@ -35,16 +39,14 @@ class Lent:
     had: bool
 
 
-@dataclass(frozen=True)
-class Asked:
+class Asked(NamedTuple):
     """A request that was asked: its connection's number, and its own there: 1, 2, .."""
 
     number: int
     request: int
 
 
-@dataclass(frozen=True)
-class Whose:
+class Whose(NamedTuple):
     """Whose it is what came: the lease that holds the connection, 0 where none does, and its newest request. `is_told`
     says whether he is told of it: of a cancelled request's answer nobody is."""
 
@@ -82,14 +84,18 @@ class Service:
             raise Fault(_OUT_OF_RANGE)
         # That of a size that no client can have is refused.
         Client(size)
-        self._value, self._seats, self._whose = ServiceValue(0, 0, 0, size), (SeatValue * most)(), WhoseValue()
-        self._index = c_size_t()
-        self._index_at = addressof(self._index)
+        self._value, self._seats = ServiceValue(0, 0, 0, size), (SeatValue * most)()
         self._at = addressof(self._value), addressof(self._seats), most
-        # By a lease; and by a connection's number its walk, and the room for its packets.
+        # What calls write.
+        self._whose, self._lent, self._asked, self._ended = WhoseValue(), LentValue(), AskedValue(), c_uint64()
+        self._out, self._count, self._index = (c_uint8 * _ATTENTION_MOST)(), c_size_t(), c_size_t()
+        self._whose_at, self._asked_at, self._index_at = map(addressof, (self._whose, self._asked, self._index))
+        self._lent_ref, self._ended_ref, self._count_ref = map(byref, (self._lent, self._ended, self._count))
+        # By a lease; and by a connection's number its walk, the call that hears by it, and the room for its packets.
         self._clients: Dict[int, "_Held"] = {}
         self._rooms: Dict[int, Sending] = {}
         self._walks: Dict[int, Walk] = {}
+        self._hears: Dict[int, Any] = {}
         self._sending: Dict[int, Sending] = {}
 
     def __len__(self) -> int:
@@ -103,23 +109,29 @@ class Service:
         return answer
 
     def _lend(self, call, *words) -> Lent:
-        lent = LentValue()
-        self._call(call, *words, byref(lent))
-        return Lent(lent.lease, lent.number, bool(lent.had))
+        answer, it = call(*self._at, *words, self._lent_ref), self._lent
+        if answer >= _FIRST_FAULT:
+            raise Fault(answer)
+        lent = Lent(it.lease, it.number, it.had == 1)
+        room = self._sending.get(lent.number)
+        if room is not None:
+            self._rooms[lent.lease] = room
+        return lent
 
     def _end(self, call, holder: int) -> Ended:
-        number = c_uint64()
-        return self._ended(holder, Rest(self._call(call, _number(holder), byref(number))), number.value)
+        return self._has_ended(holder, self._call(call, _number(holder), self._ended_ref))
 
-    def _ended(self, holder: int, rest: Rest, number: int, sends: bytes = b"") -> Ended:
-        self._forget(holder)
-        if rest == Rest.CLOSED:
+    def _has_ended(self, holder: int, answer: int, sends: bytes = b"") -> Ended:
+        rest, number = _RESTS[answer], self._ended.value
+        self._clients.pop(holder, None)
+        self._rooms.pop(holder, None)
+        if rest is Rest.CLOSED:
             self._gone(number)
         return Ended(number, rest, sends)
 
     def _gone(self, number: int) -> None:
-        self._walks.pop(number, None)
-        self._sending.pop(number, None)
+        for it in (self._walks, self._hears, self._sending):
+            it.pop(number, None)
 
     def _forget(self, lease: int) -> None:
         self._clients.pop(lease, None)
@@ -128,55 +140,68 @@ class Service:
     def lease(self) -> Lent:
         """Lends a free connection that is idle, and marks it for a full reset; else a new one, which is to be opened and
         logged in. Fault 35: all are in use; wait until one is free."""
-        return self._lend(LIBRARY.tds_service_lease)
+        return self._lend(_lease)
 
     def ask(self, lease: int, kind: MessageKind) -> Asked:
         """Begins a request of a lease. Its body comes by `put`, and `finish` ends it."""
-        room, asked = self._room(lease), AskedValue()
+        room, asked = self._rooms.get(lease) or self._room(lease), self._asked
         # A call that is refused writes nothing.
-        self._call(LIBRARY.tds_service_ask, _number(lease), kind, room.kept_at, room.most, room.waiting_at, addressof(asked))
+        answer = _ask(*self._at, lease, kind, room.kept_at, room.most, room.waiting_at, self._asked_at)
+        if answer >= _FIRST_FAULT:
+            raise Fault(answer)
         return Asked(asked.number, asked.request)
 
+    def ask_all(self, lease: int, kind: MessageKind, body: bytes) -> Tuple[Asked, bytes]:
+        """Asks a request, whole: which one it is, and its packets."""
+        asked, packets = self.ask(lease, kind), self.put(lease, body)
+        return asked, packets + self.finish(lease)
+
     def _room(self, lease: int) -> Sending:
-        """Room for the packets of a lease's connection."""
-        room = self._rooms.get(lease)
-        if room is None:
-            seat = self._seat(LIBRARY.tds_service_find, lease)
-            room = self._sending.get(seat.number)
-            if room is None or room.size != seat.client.size:
-                room = self._sending[seat.number] = Sending(seat.client.size)
-            self._rooms[lease] = room
+        """Room for the packets of a lease's connection, which hasn't been asked by this lease."""
+        seat = self._seat(LIBRARY.tds_service_find, lease)
+        room = self._sending.get(seat.number) or Sending(seat.client.size)
+        self._rooms[lease] = self._sending[seat.number] = room
         return room
 
     def put(self, lease: int, data: bytes) -> bytes:
         """Puts bytes of the request's body, and gives the packets that are full."""
-        room, size, packets, answer, at = self._room(lease), len(data), [], _FULL, 0
-        while answer == _FULL:
-            answer = self._call(
-                LIBRARY.tds_service_put, _number(lease), room.kept_at, room.most, room.waiting_at, from_place(data, at), size - at,
-                room.taken_at, room.packet_at, room.size, room.count_at)
+        room, size, packets, at = self._rooms.get(lease) or self._room(lease), len(data), [], 0  # type: Sending, int, List[bytes], int
+        while True:
+            front = from_place(data, at) if at else data
+            answer = _put(*self._at, lease, room.kept_at, room.most, room.waiting_at, front, size - at, room.taken_at, room.packet_at,
+                          room.size, room.count_at)
+            if answer >= _FIRST_FAULT:
+                raise Fault(answer)
             packets.append(room.written())
             at += room.taken.value
-        return b"".join(packets)
+            if answer != _FULL:
+                return b"".join(packets) if packets[1:] else packets[0]
 
     def finish(self, lease: int) -> bytes:
         """Ends the request, and gives its last packet."""
-        room = self._room(lease)
-        self._call(
-            LIBRARY.tds_service_finish, _number(lease), room.kept_at, room.waiting, room.packet_at, room.size, room.count_at)
+        room = self._rooms.get(lease) or self._room(lease)
+        answer = _finish(*self._at, lease, room.kept_at, room.waiting, room.packet_at, room.size, room.count_at)
+        if answer >= _FIRST_FAULT:
+            raise Fault(answer)
         return room.written()
 
     def ask_batch(self, lease: int, text: str) -> Tuple[Asked, bytes]:
         """Asks a batch, whole: which request it is, and its packets."""
-        asked = self.ask(lease, MessageKind.BATCH)
-        packets = self.put(lease, text.encode("utf-16-le", "surrogatepass"))
-        return asked, packets + self.finish(lease)
+        return self.ask_all(lease, MessageKind.BATCH, text.encode("utf-16-le", "surrogatepass"))
 
     def cancel(self, lease: int) -> Tuple[Answer, bytes]:
         """Cancels what is underway. Behind ASKED send the bytes; its acknowledgement is heard by `message_ended`."""
-        out, count = (c_uint8 * _ATTENTION_MOST)(), c_size_t()
-        answer = self._call(LIBRARY.tds_service_cancel, _number(lease), out, _ATTENTION_MOST, byref(count))
-        return Answer(answer), bytes(out[: count.value])
+        answer, sends = self._cancels(LIBRARY.tds_service_cancel, lease)
+        return ANSWERS[answer], sends
+
+    def _cancels(self, call, lease: int, *words) -> Tuple[int, bytes]:
+        # A call may write nothing.
+        self._count.value = 0
+        answer = call(*self._at, _number(lease), self._out, _ATTENTION_MOST, self._count_ref, *words)
+        if answer >= _FIRST_FAULT:
+            raise Fault(answer)
+        count = self._count.value
+        return answer, bytes(self._out[:count]) if count else b""
 
     def hear(self, number: int, packet: bytes) -> Came:
         """Hears one packet on the connection of this number, whoever holds it, as `Client.hear`; a connection that drained is free
@@ -194,10 +219,16 @@ class Service:
 
     def hear_plain(self, number: int, data: bytes, ends: int, at: int = 0, tells: bool = True) -> Came:
         """The same of a packet's data from a place on, as `Client.hear_plain`."""
-        call = partial(LIBRARY.tds_service_hear, *self._at, _number(number))
-        walk, whose = self._walks.get(number) or self.walk(number), self._whose
-        answer, told = hears(call, walk, data, at, ends, addressof(whose), tells=tells)
+        call, walk = self._hears.get(number) or self._hearing(number)
+        answer, told = hears(call, walk, data, at, ends, self._whose_at, tells=tells)
+        whose = self._whose
         return Came(whose.lease, whose.request, ANSWERS[answer], told)
+
+    def _hearing(self, number: int) -> Tuple[Any, Walk]:
+        """The call by which a connection hears, and its walk."""
+        walk = self.walk(number)
+        found = self._hears[number] = partial(LIBRARY.tds_service_hear, *self._at, number), walk
+        return found
 
     def logged_in(self, number: int, size: int, walk: Optional[Walk] = None) -> None:
         """The connection of this number, which is new, is logged in, and the login agreed on packets of this size; `walk` is the one
@@ -211,8 +242,10 @@ class Service:
             raise Fault(answer)
         seat.client = value
         self._rooms.pop(seat.holder, None)
+        self._sending.pop(number, None)
         if walk is not None:
             self._walks[number] = walk
+            self._hears.pop(number, None)
 
     def walk(self, number: int) -> Walk:
         """The walk by which the connection of this number hears."""
@@ -254,15 +287,19 @@ class Service:
         seat = self._seat(LIBRARY.tds_service_at, number)
         return seat.holder if seat.place in (_LENT, _CLEANING, _KEPT) else 0
 
+    def descriptor(self, number: int) -> int:
+        """That of the transaction that is open on the connection of this number, whoever holds it; 0 for none."""
+        return self._seat(LIBRARY.tds_service_at, number).client.descriptor
+
     def _seat(self, call, key: int) -> SeatValue:
-        self._call(call, _number(key), self._index_at)
+        answer = call(*self._at, _number(key), self._index_at)
+        if answer >= _FIRST_FAULT:
+            raise Fault(answer)
         return self._seats[self._index.value]
 
     def give_back(self, lease: int) -> Ended:
         """Ends a lease. What is underway is cancelled, and what `sends` has is to be sent for that."""
-        out, count, number = (c_uint8 * _ATTENTION_MOST)(), c_size_t(), c_uint64()
-        rest = self._call(LIBRARY.tds_service_give_back, _number(lease), out, _ATTENTION_MOST, byref(count), byref(number))
-        return self._ended(lease, Rest(rest), number.value, bytes(out[: count.value]))
+        return self._has_ended(lease, *self._cancels(_give_back, lease, self._ended_ref))
 
     def drained(self, number: int) -> Rest:
         """For a connection that drains, each time that its client has taken something: FREE once the client is idle,

@@ -180,6 +180,9 @@ def value_of(column: Type, data: Optional[bytes]) -> Any:
 def reader_of(column: Type) -> Callable[[Optional[bytes]], Any]:
     """`value_of` for one column, made once for many rows."""
     read = _READERS.get(column.kind)
+    if read is _integer:
+        # It reads any bytes, and most columns want it.
+        return lambda data: None if data is None else int.from_bytes(data, "little", signed=len(data) > 1)
 
     def reader(data: Optional[bytes]) -> Any:
         if data is None or read is None:

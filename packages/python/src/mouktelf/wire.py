@@ -142,7 +142,8 @@ def hears(call, walk: Walk, data: bytes, at: int, ends: int, *whose, tells: bool
     what it answers, and the tokens that are told, unless nobody wants them, as plain tuples. A Fault has those told before it."""
     room, told, answer, length, (value, memory) = OWN.room, [], _TELL, len(data), walk.places
     while answer == _TELL:
-        answer = call(value, memory, from_place(data, at), length - at, ends, room.taken_at, room.tokens_at, AT_ONCE, room.count_at, *whose)
+        front = from_place(data, at) if at else data
+        answer = call(value, memory, front, length - at, ends, room.taken_at, room.tokens_at, AT_ONCE, room.count_at, *whose)
         if tells:
             told += _told(room, room.count.value)
         at += room.taken.value

@@ -44,7 +44,7 @@ pub enum Level {
     Note,
 }
 
-/// A finding by its number, 1 to 39.
+/// A finding by its number, 1 to 45.
 #[derive(Clone, Copy, PartialEq, Eq, Debug)]
 pub struct Finding {
     pub number: u8,

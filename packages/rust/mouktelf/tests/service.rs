@@ -219,8 +219,10 @@ fn hears() {
     assert_eq!(service.hear(1, &bytes(ENDED), &mut told), Ok((Taken::Finished, first)));
     assert_eq!(told, tokens(&mut Walk::default(), ENDED));
     service.ask_batch(lease, "get b", &mut out).unwrap();
+    assert_eq!(service.follow(1, &bytes(ENDED)), Ok((Taken::Finished, Whose { request: 2, ..first })));
+    service.ask_batch(lease, "get c", &mut out).unwrap();
     assert_eq!(gives_back(&mut service, lease), Ok((1, Rest::Draining, ATTENTION.to_vec())));
-    let nobody = Whose { lease: None, request: 2, is_told: false };
+    let nobody = Whose { lease: None, request: 3, is_told: false };
     assert_eq!(service.hear(1, &bytes(ACKNOWLEDGED), &mut told), Ok((Taken::Acknowledged, nobody)));
     assert_eq!((told.len(), service.lease().map(|it| it.had)), (1, Ok(true)));
     assert_eq!(service.hear(2, &bytes(ENDED), &mut told), Err(Fault::NoSuch));

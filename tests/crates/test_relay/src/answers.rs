@@ -69,6 +69,13 @@ impl State {
             Deed::Commit => self.commit(out),
             Deed::Rows(count) => put_rows(request, u16::from(count), out),
             Deed::Many(count) => put_rows(request, 64 * u16::from(count), out),
+            Deed::Renew => {
+                if self.transaction != 0 {
+                    return put_error(out);
+                }
+                self.reset(Reset::Full, out)?;
+                out.extend_from_slice(&DONE)
+            }
             Deed::Use(name) => {
                 let old = self.database;
                 self.database = name;

@@ -1,22 +1,21 @@
 //! An application, and what it would hear of a server of its own.
 
+mod looking;
+
 use crate::answers::{ACKNOWLEDGED, State, is_cut, is_part};
-use crate::packets::{
-    ANSWER, ATTENTION, BATCH, BULK_LOAD, ENDS, IGNORED, MOST, PROCEDURE, Stream, TRANSACTION,
-    packet_in, put_packet,
-};
+use crate::packets::{ANSWER, ATTENTION, ENDS, IGNORED, Stream, packet_in, put_packet};
 use crate::random::Random;
-use crate::request::{Deed, Request, message_data, put_data};
+use crate::request::{
+    Deed, LONG, Request, any_deed, any_kind, any_padding, any_reset, any_size, message_data,
+    put_data,
+};
 use crate::tally::{Tally, Wrong, raise};
 use std::alloc::{AllocError, Global};
 use tds_packet::Reset;
-use tds_relay::{Place, Relay};
-
-/// More than a relay keeps of a request that waits: 16,384 bytes.
-const LONG: u16 = 20_000;
+use tds_relay::Relay;
 
 /// Their acknowledgements are more than may wait for it.
-const MOST_STOPS: usize = 1_500;
+const MOST_STOPS: usize = 2_500;
 
 #[derive(Clone, Copy, Debug, PartialEq, Eq)]
 enum Phase {
@@ -40,6 +39,8 @@ pub(crate) struct Application {
     /// The request that it waits with, and the connection that it holds, as they were seen last.
     pub(crate) begun: u64,
     pub(crate) on: Option<u64>,
+    /// How many bytes waited for it then.
+    pub(crate) waited: usize,
     /// Whether there is something for it to be read.
     pub(crate) is_told: bool,
     /// Whether there is a reason to close it.
@@ -50,9 +51,8 @@ pub(crate) struct Application {
     may_cancel: bool,
     /// How many acknowledgements it waits for, where it waits for nothing else.
     stops: usize,
-    /// Whether it has taken a request back, and nothing was answered since: the server may not have
-    /// acknowledged that.
-    took_back: bool,
+    /// Whether it took anything back, and no whole answer has come since.
+    is_unsure: bool,
     /// How much of a body comes that it has begun to send.
     pub(crate) is_long: bool,
     expected: Vec<u8>,
@@ -61,6 +61,9 @@ pub(crate) struct Application {
     message: Vec<u8>,
     asked: u8,
     most: u8,
+    /// How many messages it has begun to send, and how many of them have no data and are to be forgotten.
+    pub(crate) messages: u64,
+    empties: u64,
 }
 
 impl Application {
@@ -72,19 +75,22 @@ impl Application {
             ticket: 0,
             begun: 0,
             on: None,
+            waited: 0,
             is_told: false,
             is_doomed: false,
             phase: Phase::Quiet,
             state: State::fresh(),
             may_cancel: false,
             stops: 0,
-            took_back: false,
+            is_unsure: false,
             is_long: false,
             expected: Vec::new(alloc),
             packet: Stream::new(alloc),
             message: Vec::new(alloc),
             asked: 0,
             most,
+            messages: 0,
+            empties: 0,
         }
     }
 
@@ -127,6 +133,7 @@ impl Application {
     /// An attention for what is underway.
     fn cancel(&mut self) -> Result<(), AllocError> {
         self.phase = Phase::Cancelled;
+        self.is_unsure = true;
         put_packet(self.input.bytes(), ATTENTION, ENDS, &[])
     }
 
@@ -152,6 +159,7 @@ impl Application {
     /// The next request.
     fn next(&mut self, random: &mut Random, deed: Deed) -> Request {
         self.asked = self.asked.saturating_add(1);
+        raise(&mut self.messages);
         Request {
             session: self.session,
             number: self.asked,
@@ -169,6 +177,7 @@ impl Application {
             // Of some packets the server has something then.
             request.padding = random.below(3_000) as u16;
         }
+        self.is_unsure = true;
         let kind = request.kind;
         let bytes = message_data(alloc, kind, self.state.transaction, &request)?;
         let size = any_size(random, &request);
@@ -190,10 +199,12 @@ impl Application {
     fn begin_and_forget(&mut self, alloc: Global, random: &mut Random) -> Result<(), AllocError> {
         if random.once_in(4) {
             let kind = any_kind(random);
+            raise(&mut self.messages);
+            raise(&mut self.empties);
+            self.is_unsure = true;
             return put_packet(self.input.bytes(), kind, ENDS | IGNORED, &[]);
         }
         let kind = self.begin(alloc, random)?;
-        self.took_back = true;
         put_packet(self.input.bytes(), kind, ENDS | IGNORED, &[])
     }
 
@@ -205,7 +216,11 @@ impl Application {
     ) -> Result<(), AllocError> {
         let deed = any_deed(random);
         let request = self.next(random, deed);
-        let reset = any_reset(self.took_back, random);
+        let reset = match any_reset(self.is_unsure, random) {
+            // By how the answer is cut the relay tells it in front of all else, or where the server does.
+            Some(_) if request.tells_late() => None,
+            reset => reset,
+        };
         let kind = request.kind;
         let bytes = message_data(alloc, kind, self.state.transaction, &request)?;
         let size = any_size(random, &request);
@@ -239,7 +254,7 @@ impl Application {
 
     /// Whether that is more attentions than acknowledgements may wait for it.
     pub(crate) fn floods(&self) -> bool {
-        self.stops > 500 && self.unsaid() > 8 * 500
+        self.stops > 1_700 && self.unsaid() > 8 * 1_700
     }
 
     /// Hands so many of its bytes to the relay, if there are so many. False where there are none.
@@ -254,11 +269,9 @@ impl Application {
         Ok(true)
     }
 
-    /// Whether the relay, where it is at this and has nothing to send to it, is done with a request whose
-    /// answer it still waits for.
-    pub(crate) fn is_unanswered(&self, place: Option<Place>) -> bool {
-        let is_done_with = matches!(place, Some(Place::Quiet | Place::Holding(_)));
-        is_done_with && self.phase != Phase::Quiet && self.input.is_empty()
+    /// It was parted from its connection: its next request finds a session as it was at first.
+    pub(crate) fn be_parted(&mut self) {
+        self.state = State::fresh();
     }
 
     // ---- What it hears
@@ -291,7 +304,7 @@ impl Application {
             Phase::Quiet => tally.note(Wrong::Unasked),
             Phase::Asked => {
                 self.phase = Phase::Quiet;
-                self.took_back = false;
+                self.is_unsure = false;
                 if message == self.expected.as_slice() {
                     raise(&mut tally.answers);
                 } else {
@@ -302,6 +315,7 @@ impl Application {
                 if message == self.expected.as_slice() {
                     self.phase = Phase::Stopped;
                     self.stops = 1;
+                    self.is_unsure = false;
                     raise(&mut tally.answers);
                     return;
                 }
@@ -336,53 +350,5 @@ impl Application {
         if !is_right {
             tally.note(Wrong::Answer);
         }
-    }
-}
-
-fn any_deed(random: &mut Random) -> Deed {
-    match random.below(12) {
-        0 | 1 => Deed::Get,
-        2 | 3 => Deed::Set((random.below(255) as u8).saturating_add(1)),
-        4 | 5 => Deed::Begin,
-        6 => Deed::Commit,
-        7 => Deed::Use((random.below(26) as u8).saturating_add(b'a')),
-        // Of packets of 512 bytes more than may wait for it.
-        8 if random.once_in(4) => Deed::Many(random.up_to(100) as u8),
-        _ => Deed::Rows(random.below(120) as u8),
-    }
-}
-
-/// Which reset a request asks for: often one behind a request that was taken back.
-fn any_reset(took_back: bool, random: &mut Random) -> Option<Reset> {
-    match random.below(if took_back { 4 } else { 20 }) {
-        0 => Some(Reset::Full),
-        1 => Some(Reset::KeepTransaction),
-        _ => None,
-    }
-}
-
-fn any_kind(random: &mut Random) -> u8 {
-    match random.below(8) {
-        0 => PROCEDURE,
-        1 => BULK_LOAD,
-        2 => TRANSACTION,
-        _ => BATCH,
-    }
-}
-
-/// The most data of a packet of this request.
-fn any_size(random: &mut Random, request: &Request) -> usize {
-    if request.padding == LONG {
-        MOST
-    } else {
-        random.up_to(600)
-    }
-}
-
-fn any_padding(random: &mut Random) -> u16 {
-    match random.below(40) {
-        0 => LONG,
-        1..=4 => random.below(1500) as u16,
-        _ => random.below(30) as u16,
     }
 }

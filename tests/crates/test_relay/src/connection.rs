@@ -1,23 +1,18 @@
 //! A connection's server, and what a relay does on it.
 
-use crate::answers::{ACKNOWLEDGED, DONE, State, token_end};
-use crate::packets::{
-    ANSWER, ATTENTION, BULK_LOAD, ENDS, IGNORED, MOST, Packet, RESETS, RESETS_BUT_TRANSACTION,
-    Stream, packet_in, put_packet,
-};
+use crate::answers::ACKNOWLEDGED;
+use crate::packets::{ATTENTION, Packet, RESETS, Stream, packet_in};
 use crate::random::Random;
-use crate::request::Request;
+use crate::server::{CLEANING, Server, is_cleaning};
 use crate::tally::{Tally, Wrong, raise};
 use std::alloc::{AllocError, Global};
-use tds_packet::Reset;
 use tds_relay::Relay;
-
-/// What the text of a cleaning begins with.
-const CLEANING: [u8; 8] = *b"s\0e\0t\0 \0";
 
 #[derive(Drop)]
 pub(crate) struct Connection {
     pub(crate) number: u64,
+    /// What the relay calls it.
+    pub(crate) tag: usize,
     pub(crate) is_open: bool,
     /// The application that holds it, as it was seen last.
     pub(crate) holder: Option<usize>,
@@ -34,6 +29,8 @@ pub(crate) struct Connection {
     is_cancelled: bool,
     /// How many bytes were looked at that wait in the relay.
     looked: usize,
+    /// How many requests were asked on it that aren't cleanings.
+    pub(crate) asked: u64,
     /// What is on its way to the server, and back.
     there: Stream,
     pub(crate) back: Stream,
@@ -43,25 +40,11 @@ pub(crate) struct Connection {
     server: Server,
 }
 
-/// The server's end.
-#[derive(Drop)]
-struct Server {
-    state: State,
-    /// The data of the message that comes, what its first packet says, and whether one has come.
-    message: Vec<u8>,
-    kind: u8,
-    status: u8,
-    has_begun: bool,
-    /// The answer, of which the first bytes were sent.
-    answer: Vec<u8>,
-    sent: usize,
-    is_answering: bool,
-}
-
 impl Connection {
-    pub(crate) fn new(alloc: Global, number: u64) -> Connection {
+    pub(crate) fn new(alloc: Global, number: u64, tag: usize, most: usize) -> Connection {
         Connection {
             number,
+            tag,
             is_open: false,
             holder: None,
             is_owed: false,
@@ -71,26 +54,23 @@ impl Connection {
             is_underway: false,
             is_cancelled: false,
             looked: 0,
+            asked: 0,
             there: Stream::new(alloc),
             back: Stream::new(alloc),
             heard: Stream::new(alloc),
             message: Vec::new(alloc),
-            server: Server {
-                state: State::fresh(),
-                message: Vec::new(alloc),
-                kind: 0,
-                status: 0,
-                has_begun: false,
-                answer: Vec::new(alloc),
-                sent: 0,
-                is_answering: false,
-            },
+            server: Server::new(alloc, most),
         }
     }
 
     /// Whether nothing is underway on it, nor on its way.
     pub(crate) fn is_idle(&self) -> bool {
         !self.is_underway && self.back.is_empty() && self.heard.is_empty()
+    }
+
+    /// Whether a request was sent on it whose end the relay hasn't heard.
+    pub(crate) fn is_underway(&self) -> bool {
+        self.is_underway
     }
 
     /// It is held by this application now, or by none.
@@ -112,7 +92,10 @@ impl Connection {
     pub(crate) fn look(&mut self, unsent: &[u8], is_cause: bool, tally: &mut Tally) {
         let mut rest = match unsent.get(self.looked..) {
             Some(new) => new,
-            None => &[],
+            None => {
+                tally.note(Wrong::Dropped);
+                &[]
+            }
         };
         self.looked = unsent.len();
         for _ in 0..unsent.len() {
@@ -127,15 +110,40 @@ impl Connection {
         }
     }
 
-    /// So many bytes come to the server of those that wait in the relay, if there are so many.
-    pub(crate) fn get(&mut self, relay: &mut Relay, count: usize) -> Result<(), AllocError> {
+    /// So many bytes come to the server of those that wait in the relay, if there are so many. Answers how
+    /// many, and what the relay answers.
+    pub(crate) fn get(
+        &mut self,
+        relay: &mut Relay,
+        count: usize,
+        tally: &mut Tally,
+    ) -> Result<(usize, Option<usize>), AllocError> {
         let unsent = relay.unsent_on(self.number);
-        let count = count.min(self.looked).min(unsent.len());
+        let waited = unsent.len();
+        let count = count.min(self.looked).min(waited);
         let (first, _) = unsent.split_at(count);
         self.there.bytes().extend_from_slice(first)?;
         self.looked -= count;
-        let _ = relay.sent_on(self.number, count);
-        Ok(())
+        let told = relay.sent_on(self.number, count);
+        if relay.unsent_on(self.number).len() != waited.saturating_sub(count) {
+            tally.note(Wrong::Dropped);
+        }
+        Ok((count, told))
+    }
+
+    /// How many bytes are on their way there, and back.
+    pub(crate) fn on_its_way(&self) -> (usize, usize) {
+        (self.there.rest().len(), self.back.rest().len())
+    }
+
+    /// Whether its server has more of an answer to send.
+    pub(crate) fn is_answering(&self) -> bool {
+        self.server.is_answering()
+    }
+
+    /// Whether nothing is on its way there or back, and its server has nothing to say.
+    pub(crate) fn is_at_rest(&self) -> bool {
+        self.there.is_empty() && self.back.is_empty() && !self.server.is_answering()
     }
 
     /// Looks at a packet that a relay sends.
@@ -151,17 +159,19 @@ impl Connection {
             return;
         }
         self.is_underway = true;
-        let is_cleaning = match packet.data.get(22..30) {
-            Some(text) => text == CLEANING.as_slice(),
-            None => false,
+        let text = match packet.data.get(22..) {
+            Some(text) => text,
+            None => &[],
         };
-        if !is_cleaning {
+        if !is_cleaning(text) {
+            raise(&mut self.asked);
             if self.holder.is_none() || self.is_owed {
                 tally.note(Wrong::Unclean);
             }
             return;
         }
-        if self.holder.is_some() || !self.is_owed || packet.status & RESETS == 0 {
+        let is_whole = text == CLEANING && packet.status & RESETS != 0;
+        if self.holder.is_some() || !self.is_owed || !is_whole {
             tally.note(Wrong::Cleaning);
         }
         self.is_owed = false;
@@ -212,7 +222,7 @@ impl Connection {
         random: &mut Random,
         tally: &mut Tally,
     ) -> Result<(), AllocError> {
-        if self.server.is_answering && random.below(4) > 0 {
+        if self.server.is_answering() && random.below(4) > 0 {
             return self.server.send(random, self.back.bytes());
         }
         let Some(packet) = packet_in(self.there.rest()) else {
@@ -221,7 +231,7 @@ impl Connection {
         let count = packet.count();
         if packet.kind == ATTENTION {
             self.server.stop(self.back.bytes())?;
-        } else if !self.server.is_answering {
+        } else if !self.server.is_answering() {
             if !self.server.take(packet, random, tally)? {
                 self.is_doomed = true;
             }
@@ -230,163 +240,6 @@ impl Connection {
         }
         self.there.take(count);
         Ok(())
-    }
-}
-
-impl Server {
-    /// A packet of a request has come. False where a cleaning fails.
-    fn take(
-        &mut self,
-        packet: Packet<'_>,
-        random: &mut Random,
-        tally: &mut Tally,
-    ) -> Result<bool, AllocError> {
-        if !self.has_begun {
-            self.has_begun = true;
-            self.kind = packet.kind;
-            self.status = packet.status;
-        }
-        self.message.extend_from_slice(packet.data)?;
-        if !packet.ends() {
-            return Ok(true);
-        }
-        let mut is_done = true;
-        if packet.status & IGNORED == 0 {
-            is_done = self.run(random, tally)?;
-        }
-        self.has_begun = false;
-        self.message.clear();
-        Ok(is_done)
-    }
-
-    /// A request has come whole. False where a cleaning fails.
-    fn run(&mut self, random: &mut Random, tally: &mut Tally) -> Result<bool, AllocError> {
-        self.answer.clear();
-        self.sent = 0;
-        self.is_answering = true;
-        let (descriptor, body) = parts_of(self.kind, self.message.as_slice());
-        if body.starts_with(&CLEANING) {
-            if random.once_in(50) {
-                self.answer.extend_from_slice(&DONE)?;
-                return Ok(false);
-            }
-            reset(&mut self.state, self.status, &mut self.answer)?;
-            self.answer.extend_from_slice(&DONE)?;
-            return Ok(true);
-        }
-        if descriptor != Some(self.state.transaction) && self.kind != BULK_LOAD {
-            tally.note(Wrong::Transaction);
-        }
-        reset(&mut self.state, self.status, &mut self.answer)?;
-        match Request::read(self.kind, body) {
-            Some(request) => self.state.answer(&request, &mut self.answer)?,
-            None => {
-                tally.note(Wrong::Body);
-                self.answer.extend_from_slice(&DONE)?;
-            }
-        }
-        Ok(true)
-    }
-
-    /// Sends a part of the answer, cut anywhere, or much of a long one.
-    fn send(&mut self, random: &mut Random, back: &mut Vec<u8>) -> Result<(), AllocError> {
-        let most = if random.once_in(3) { 20 } else { MOST };
-        let packets = if random.once_in(4) {
-            random.up_to(40)
-        } else {
-            1
-        };
-        for _ in 0..packets {
-            let count = if packets > 1 {
-                MOST
-            } else {
-                random.up_to(most)
-            };
-            self.send_packet(count, back)?;
-            if !self.is_answering {
-                break;
-            }
-        }
-        Ok(())
-    }
-
-    fn send_packet(&mut self, count: usize, back: &mut Vec<u8>) -> Result<(), AllocError> {
-        let rest = match self.answer.as_slice().get(self.sent..) {
-            Some(rest) => rest,
-            None => &[],
-        };
-        let count = count.min(rest.len());
-        let (part, others) = rest.split_at(count);
-        let status = if others.is_empty() { ENDS } else { 0 };
-        put_packet(back, ANSWER, status, part)?;
-        self.sent = self.sent.saturating_add(count);
-        self.is_answering = !others.is_empty();
-        Ok(())
-    }
-
-    /// An attention has come: the rest of the answer isn't sent, but for the token that was begun.
-    fn stop(&mut self, back: &mut Vec<u8>) -> Result<(), AllocError> {
-        if self.is_answering {
-            let end = token_end(self.answer.as_slice(), self.sent);
-            if let Some(rest) = self.answer.as_slice().get(self.sent..end) {
-                if !rest.is_empty() {
-                    put_packet(back, ANSWER, 0, rest)?;
-                }
-            }
-        }
-        self.is_answering = false;
-        self.has_begun = false;
-        self.message.clear();
-        put_packet(back, ANSWER, ENDS, &ACKNOWLEDGED)
-    }
-}
-
-/// What a request's first packet asks for is done first.
-fn reset(state: &mut State, status: u8, answer: &mut Vec<u8>) -> Result<(), AllocError> {
-    if status & RESETS != 0 {
-        return state.reset(Reset::Full, answer);
-    }
-    if status & RESETS_BUT_TRANSACTION != 0 {
-        return state.reset(Reset::KeepTransaction, answer);
-    }
-    Ok(())
-}
-
-/// The descriptor in a message's headers, and the body behind them.
-fn parts_of(kind: u8, message: &[u8]) -> (Option<u64>, &[u8]) {
-    if kind == BULK_LOAD {
-        return (None, message);
-    }
-    match message {
-        [
-            _,
-            _,
-            _,
-            _,
-            _,
-            _,
-            _,
-            _,
-            _,
-            _,
-            a,
-            b,
-            c,
-            d,
-            e,
-            f,
-            g,
-            h,
-            _,
-            _,
-            _,
-            _,
-            body @ ..,
-        ] => (
-            Some(u64::from_le_bytes([*a, *b, *c, *d, *e, *f, *g, *h])),
-            body,
-        ),
-        _ => (None, message),
     }
 }
 

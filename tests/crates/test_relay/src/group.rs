@@ -1,23 +1,61 @@
 //! Applications whose logins are equal, their relay, and its connections: one thing happens at a time,
 //! and whatever the relay orders is done.
 
+mod ending;
 mod failing;
 mod looking;
 mod obeying;
+mod turning;
 
+use self::looking::number_of;
 use crate::application::Application;
 use crate::connection::Connection;
 use crate::random::Random;
-use crate::tally::{Tally, raise};
+use crate::tally::{Tally, Wrong, raise};
 use std::alloc::{AllocError, Global};
 use tds_packet::PacketSize;
-use tds_relay::{Mode, Place, Relay};
+use tds_relay::{Mode, Place, PlaceOn, Relay};
 use tds_wire::Features;
 
-/// How many applications are there at once, and the most connections.
-const APPLICATIONS: usize = 8;
+/// What a group is.
+#[derive(Clone, Copy)]
+pub(crate) struct Kind {
+    mode: Mode,
+    /// How many applications are there at once, and the most connections.
+    applications: usize,
+    connections: usize,
+    size: PacketSize,
+}
 
-const CONNECTIONS: usize = 3;
+impl Kind {
+    pub(crate) fn by_sessions(size: PacketSize) -> Kind {
+        Kind {
+            mode: Mode::Sessions,
+            applications: 8,
+            connections: 3,
+            size,
+        }
+    }
+
+    pub(crate) fn by_transactions(size: PacketSize) -> Kind {
+        Kind {
+            mode: Mode::Transactions,
+            applications: 8,
+            connections: 3,
+            size,
+        }
+    }
+
+    /// Applications that take turns on one connection.
+    pub(crate) fn of_one(size: PacketSize) -> Kind {
+        Kind {
+            mode: Mode::Transactions,
+            applications: 4,
+            connections: 1,
+            size,
+        }
+    }
+}
 
 /// The most bytes that a relay is handed at once.
 const PIECE: usize = 8_192;
@@ -25,22 +63,32 @@ const PIECE: usize = 8_192;
 #[derive(Drop)]
 pub(crate) struct Group {
     alloc: Global,
+    kind: Kind,
     relay: Relay,
     /// Their tags are their places here.
     applications: Vec<Option<Application>>,
-    /// Their tags are their numbers, and so many more.
     connections: Vec<Connection>,
+    /// How many connections there may be now, and how many there were when that was looked at last.
+    most: usize,
+    count: usize,
     /// How many sessions are to come, and the next one's number.
     left: u64,
     next: u32,
     /// How many times somebody began to wait.
     tickets: u64,
+    /// How many connections have come before anybody asked.
+    brought: usize,
+    /// How many requests were seen on connections, and how many messages those who have left had begun.
+    asked: u64,
+    messages: u64,
+    /// The connection that was closed last for a packet's header.
+    refused: Option<u64>,
 }
 
 impl Group {
     pub(crate) fn new(
         alloc: Global,
-        size: PacketSize,
+        kind: Kind,
         sessions: u64,
         next: u32,
     ) -> Result<Group, AllocError> {
@@ -49,17 +97,24 @@ impl Group {
             ranks: false,
         };
         let mut applications = Vec::new(alloc);
-        for _ in 0..APPLICATIONS {
+        for _ in 0..kind.applications {
             applications.push(None)?;
         }
         Ok(Group {
             alloc,
-            relay: Relay::new(alloc, Mode::Sessions, CONNECTIONS, size, features)?,
+            kind,
+            relay: Relay::new(alloc, kind.mode, kind.connections, kind.size, features)?,
             applications,
             connections: Vec::new(alloc),
+            most: kind.connections,
+            count: 0,
             left: sessions,
             next,
             tickets: 0,
+            brought: 0,
+            asked: 0,
+            messages: 0,
+            refused: None,
         })
     }
 
@@ -82,22 +137,19 @@ impl Group {
         random: &mut Random,
         tally: &mut Tally,
     ) -> Result<(), AllocError> {
-        let place = random.below(APPLICATIONS);
+        let place = random.below(self.kind.applications);
         let index = random.below(self.connections.len());
-        match random.below(20) {
+        match random.below(24) {
             0..=2 => self.act(place, random, tally),
             3..=6 => self.say(place, random, tally),
-            7..=9 => self.hear(place, random, tally),
-            10..=13 => self.work(index, random, tally),
-            14..=17 => self.deliver(index, random, tally),
+            7..=9 => self.hear(place, piece(random), tally),
+            10..=13 => self.work(index, piece(random), random, tally),
+            14..=17 => self.deliver(index, piece(random), tally),
             18 => self.open(index, random, tally),
-            _ => {
-                if random.once_in(20) {
-                    self.trouble(place, index, random, tally)
-                } else {
-                    Ok(())
-                }
-            }
+            19 if random.once_in(20) => self.trouble(place, index, random, tally),
+            20..=22 => self.part(place, tally),
+            23 if random.once_in(16) => self.manage(random, tally),
+            _ => Ok(()),
         }
     }
 
@@ -167,6 +219,7 @@ impl Group {
 
     fn take_out(&mut self, place: usize) -> Option<usize> {
         let gone = self.applications.get_mut(place)?.take()?;
+        self.messages = self.messages.saturating_add(gone.messages);
         Some(gone.key)
     }
 
@@ -188,7 +241,7 @@ impl Group {
             _ => false,
         };
         let all = application.unsaid();
-        let is_too_long = is_unheld && application.is_long && all > 20_000;
+        let is_too_long = is_unheld && application.is_long && all > 40_000;
         let count = if is_too_long || (application.floods() && random.once_in(2)) {
             application.is_doomed = true;
             all
@@ -203,24 +256,26 @@ impl Group {
     }
 
     /// It reads some of what waits for it, once it was told that there is something.
-    fn hear(
-        &mut self,
-        place: usize,
-        random: &mut Random,
-        tally: &mut Tally,
-    ) -> Result<(), AllocError> {
+    fn hear(&mut self, place: usize, most: usize, tally: &mut Tally) -> Result<(), AllocError> {
         let Some((relay, application)) = self.relay_and(place) else {
             return Ok(());
         };
         if !application.is_told {
             return Ok(());
         }
-        let unsent = relay.unsent(application.key);
-        let (part, others) = unsent.split_at(piece(random).min(unsent.len()));
+        let key = application.key;
+        let unsent = relay.unsent(key);
+        let (part, others) = unsent.split_at(most.min(unsent.len()));
         application.is_told = !others.is_empty();
+        application.waited = others.len();
         let count = part.len();
         application.hear(part, tally)?;
-        let _ = relay.sent(application.key, count);
+        let told = relay.sent(key, count);
+        if relay.unsent(key).len() != application.waited {
+            tally.note(Wrong::Dropped);
+        }
+        let number = number_of(relay.place_of(key));
+        self.look_at_reader(number, told, tally);
         Ok(())
     }
 
@@ -230,6 +285,7 @@ impl Group {
     fn work(
         &mut self,
         index: usize,
+        most: usize,
         random: &mut Random,
         tally: &mut Tally,
     ) -> Result<(), AllocError> {
@@ -241,17 +297,15 @@ impl Group {
         let Some(connection) = connections.get_mut(index) else {
             return Ok(());
         };
-        connection.get(relay, piece(random))?;
-        connection.work(random, tally)
+        let (count, told) = connection.get(relay, most, tally)?;
+        let number = connection.number;
+        connection.work(random, tally)?;
+        self.look_at_asker(number, count, told, tally);
+        Ok(())
     }
 
     /// Some of what its server has sent comes to the relay.
-    fn deliver(
-        &mut self,
-        index: usize,
-        random: &mut Random,
-        tally: &mut Tally,
-    ) -> Result<(), AllocError> {
+    fn deliver(&mut self, index: usize, most: usize, tally: &mut Tally) -> Result<(), AllocError> {
         let Group {
             relay,
             connections,
@@ -261,7 +315,7 @@ impl Group {
             return Ok(());
         };
         let number = connection.number;
-        let count = piece(random).min(relay.room_on(number));
+        let count = most.min(relay.room_on(number));
         let count = connection.back.first(count).len();
         if count == 0 {
             return Ok(());
@@ -279,6 +333,16 @@ impl Group {
         random: &mut Random,
         tally: &mut Tally,
     ) -> Result<(), AllocError> {
+        if let Some(connection) = self.connections.get(index) {
+            if !connection.is_open && random.once_in(20) {
+                return self.lose(index, tally);
+            }
+        }
+        self.open_well(index, tally)
+    }
+
+    /// One that is being opened is open now.
+    fn open_well(&mut self, index: usize, tally: &mut Tally) -> Result<(), AllocError> {
         let Group {
             relay,
             connections,
@@ -290,15 +354,12 @@ impl Group {
         if connection.is_open {
             return Ok(());
         }
-        if random.once_in(20) {
-            return self.lose(index, tally);
-        }
         let number = connection.number;
         connection.is_open = true;
         relay.opened(number)?;
         // Nobody may have waited for it: then it was let go.
-        connection.is_owed = relay.place_on(number) != Some(tds_relay::PlaceOn::Opening)
-            && !matches!(relay.place_on(number), Some(tds_relay::PlaceOn::Held(_)));
+        connection.is_owed = relay.place_on(number) != Some(PlaceOn::Opening)
+            && !matches!(relay.place_on(number), Some(PlaceOn::Held(_)));
         raise(&mut tally.opened);
         self.settle(None, tally)
     }

@@ -1,23 +1,27 @@
 //! Random applications before a relay's core, without sockets: `test_relay SESSIONS SEED`, and two that share by
 //! transactions; or so many idle ones: `test_relay idle COUNT`.
 //!
-//! Two groups of applications ask, cancel, reset, and leave at any byte; their connections' servers answer
-//! in pieces, and are cut or break the protocol at any time. Each application compares what it gets with
-//! what a server of its own would send.
+//! Four groups of applications ask, cancel, reset, and leave at any byte, two by sessions and two by transactions;
+//! their connections' servers answer in pieces, and are cut or break the protocol at any time. Each application
+//! compares what it gets with what a server of its own would send. At times nothing new begins until nothing is
+//! in flight: then each request is answered or in the line, and once all others have left it is answered too.
 #![tactic(auto)]
 
 mod answers;
 mod application;
 mod connection;
+mod crowd;
 mod group;
 mod idle;
 mod packets;
 mod parking;
 mod random;
 mod request;
+mod server;
 mod tally;
 
-use group::Group;
+use crowd::{CROWDS, crowd};
+use group::{Group, Kind};
 use idle::idle;
 use parking::park;
 use random::Random;
@@ -53,12 +57,27 @@ fn obey(rt: &HostRuntime, words: &[String]) -> io::Result<bool> {
         println!(rt; "{count} idle applications, {waiting} bytes wait for them")?;
         return Ok(waiting == 0);
     }
-    if let Some(wrong) = park(rt.alloc())? {
-        println!(rt; "parking: it isn't so that {wrong}")?;
-        return Ok(false);
+    let wrong = park(rt.alloc())?;
+    match wrong {
+        Some(wrong) => println!(rt; "parking: it isn't so that {wrong}")?,
+        None => println!(rt; "two share a connection by transactions")?,
     }
-    println!(rt; "two share a connection by transactions")?;
-    random_sessions(rt, first.as_str().parse::<u64>().unwrap_or(0), second)
+    let is_served = crowds(rt)?;
+    let sessions = first.as_str().parse::<u64>().unwrap_or(0);
+    let is_well = random_sessions(rt, sessions, second)?;
+    Ok(is_well && is_served && wrong.is_none())
+}
+
+/// Many that wait are served in one call. Whether nothing was wrong.
+fn crowds(rt: &HostRuntime) -> io::Result<bool> {
+    for count in CROWDS {
+        if let Some(wrong) = crowd(rt.alloc(), count)? {
+            println!(rt; "{count} that wait: it isn't so that {wrong}")?;
+            return Ok(false);
+        }
+    }
+    println!(rt; "17, 33 and 100 that wait are served in one call each")?;
+    Ok(true)
 }
 
 /// Plays so many sessions, by random numbers that begin with this one. Whether nothing was wrong.
@@ -68,29 +87,36 @@ fn random_sessions(rt: &HostRuntime, sessions: u64, seed: u64) -> io::Result<boo
     if tally.least() >= 5 {
         println!(rt; "each kind of thing has happened")?;
     }
-    if let Some((wrong, session)) = tally.first {
-        println!(rt; "first: {wrong:?}, session {session}")?;
+    for first in tally.first.iter() {
+        if let Some((wrong, session)) = *first {
+            println!(rt; "{wrong:?}, session {session}")?;
+        }
     }
     Ok(tally.wrong == 0)
 }
 
 fn play(rt: &HostRuntime, sessions: u64, seed: u64) -> io::Result<Tally> {
-    let Some(size) = PacketSize::new(512) else {
+    let (Some(small), Some(large)) = (PacketSize::new(512), PacketSize::new(1_024)) else {
         return Err(io::Error::from(io::ErrorKind::InvalidInput));
     };
     let mut random = Random::new(seed);
     let mut tally = Tally::none();
-    let half = sessions / 2;
-    let mut first = Group::new(rt.alloc(), size, half, 1)?;
-    let mut second = Group::new(rt.alloc(), size, sessions - half, 1_000_000)?;
+    let quarter = sessions / 4;
+    let last = sessions.saturating_sub(quarter.saturating_mul(3));
+    let alloc = rt.alloc();
+    let mut groups = Vec::new(alloc);
+    groups.push(Group::new(alloc, Kind::by_sessions(small), quarter, 1)?)?;
+    groups.push(Group::new(alloc, Kind::by_sessions(large), quarter, 1_000_000)?)?;
+    groups.push(Group::new(alloc, Kind::by_transactions(small), quarter, 2_000_000)?)?;
+    groups.push(Group::new(alloc, Kind::of_one(large), last, 3_000_000)?)?;
     for _ in 0..sessions.saturating_add(10).saturating_mul(MOST_STEPS) {
-        if first.is_over() && second.is_over() {
+        let place = random.below(groups.len());
+        let Some(group) = groups.get_mut(place) else {
             return Ok(tally);
-        }
-        if random.once_in(2) {
-            first.step(&mut random, &mut tally)?;
-        } else {
-            second.step(&mut random, &mut tally)?;
+        };
+        group.step(&mut random, &mut tally)?;
+        if group.is_over() && place < groups.len() {
+            groups.remove(place);
         }
     }
     tally.note(Wrong::Stuck);

@@ -9,7 +9,7 @@ use tds_relay::{Mode, Order, Place, Relay};
 use tds_wire::Features;
 
 /// ALL_HEADERS with no transaction (MS-TDS 2.2.5.3), and a text.
-const REQUEST: [u8; 24] = [
+pub(crate) const REQUEST: [u8; 24] = [
     22, 0, 0, 0, 18, 0, 0, 0, 2, 0, 0, 0, 0, 0, 0, 0, 0, 0, 1, 0, 0, 0, b'a', 0,
 ];
 

@@ -1,8 +1,14 @@
 //! What applications ask, in a language of the bench's own: a relay doesn't look into a request's body.
 
-use crate::packets::{BULK_LOAD, MOST, RESETS, RESETS_BUT_TRANSACTION, put_packet};
+use crate::packets::{
+    BATCH, BULK_LOAD, MOST, PROCEDURE, RESETS, RESETS_BUT_TRANSACTION, TRANSACTION, put_packet,
+};
+use crate::random::Random;
 use std::alloc::{AllocError, Global};
 use tds_packet::Reset;
+
+/// More than a relay keeps of a request that waits (16,384 bytes), and than may wait on a connection (a packet and 32,768).
+pub(crate) const LONG: u16 = 40_000;
 
 #[derive(Clone, Copy, Debug, PartialEq, Eq)]
 pub(crate) enum Deed {
@@ -16,6 +22,8 @@ pub(crate) enum Deed {
     Many(u8),
     /// Another database, which the server tells.
     Use(u8),
+    /// `sp_reset_connection`: the request's own reset, where no transaction is open.
+    Renew,
 }
 
 impl Deed {
@@ -33,6 +41,7 @@ impl Deed {
             Deed::Rows(count) => (5, count),
             Deed::Use(name) => (6, name),
             Deed::Many(count) => (7, count),
+            Deed::Renew => (8, 0),
         }
     }
 
@@ -45,6 +54,7 @@ impl Deed {
             5 => Some(Deed::Rows(value)),
             6 => Some(Deed::Use(value)),
             7 => Some(Deed::Many(value)),
+            8 => Some(Deed::Renew),
             _ => None,
         }
     }
@@ -63,6 +73,12 @@ pub(crate) struct Request {
 }
 
 impl Request {
+    /// Whether a server tells the news of a reset that is done with it behind the news of the database: MS-TDS
+    /// says of no order.
+    pub(crate) fn tells_late(&self) -> bool {
+        matches!(self.deed, Deed::Use(_)) && self.number % 2 == 1
+    }
+
     fn byte_at(&self, place: u16) -> u8 {
         let number = self
             .session
@@ -183,4 +199,55 @@ pub(crate) fn put_data(
         }
     }
     Ok(())
+}
+
+// ---- What an application asks next
+
+pub(crate) fn any_deed(random: &mut Random) -> Deed {
+    match random.below(12) {
+        0 | 1 => Deed::Get,
+        2 | 3 => Deed::Set((random.below(255) as u8).saturating_add(1)),
+        4 | 5 => Deed::Begin,
+        6 => Deed::Commit,
+        7 => Deed::Use((random.below(26) as u8).saturating_add(b'a')),
+        // Of packets of 512 bytes more than may wait for it.
+        8 if random.once_in(4) => Deed::Many(random.up_to(100) as u8),
+        9 if random.once_in(3) => Deed::Renew,
+        _ => Deed::Rows(random.below(120) as u8),
+    }
+}
+
+/// Which reset a request asks for: often one behind a request that was taken back.
+pub(crate) fn any_reset(took_back: bool, random: &mut Random) -> Option<Reset> {
+    match random.below(if took_back { 4 } else { 20 }) {
+        0 => Some(Reset::Full),
+        1 => Some(Reset::KeepTransaction),
+        _ => None,
+    }
+}
+
+pub(crate) fn any_kind(random: &mut Random) -> u8 {
+    match random.below(8) {
+        0 => PROCEDURE,
+        1 => BULK_LOAD,
+        2 => TRANSACTION,
+        _ => BATCH,
+    }
+}
+
+/// The most data of a packet of this request.
+pub(crate) fn any_size(random: &mut Random, request: &Request) -> usize {
+    if request.padding == LONG {
+        MOST
+    } else {
+        random.up_to(600)
+    }
+}
+
+pub(crate) fn any_padding(random: &mut Random) -> u16 {
+    match random.below(40) {
+        0 => LONG,
+        1..=4 => random.below(1500) as u16,
+        _ => random.below(30) as u16,
+    }
 }

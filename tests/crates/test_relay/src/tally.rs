@@ -36,6 +36,28 @@ pub(crate) enum Wrong {
     Body,
     /// An application or a server broke the protocol, and the relay doesn't say how.
     Untold,
+    /// Bytes that waited for an application or on a connection are gone, and weren't sent.
+    Dropped,
+    /// Who may be read again, since something was sent, isn't told.
+    Unread,
+    /// There are more connections than may be.
+    TooMany,
+    /// One that has come first wasn't taken, or was though there were others.
+    Brought,
+    /// An application was parted from its connection though it doesn't rest, or wasn't though it does.
+    Parted,
+    /// More or fewer requests were begun or asked than its count says.
+    Counted,
+    /// A request waits for a connection, all of it, and isn't in the line.
+    OutsideLine,
+    /// Nothing is in flight any more, and something isn't read, or waits and nobody is told.
+    Untaken,
+    /// Nothing is in flight any more, and a request is neither answered nor in the line.
+    Forgotten,
+    /// Nothing is in flight any more, and a connection that nobody holds can't be lent.
+    NeverFree,
+    /// All others have left or rest, and an application waits still.
+    WaitsForever,
     /// Nothing goes on.
     Stuck,
 }
@@ -55,11 +77,18 @@ pub(crate) struct Tally {
     pub(crate) closed: u64,
     pub(crate) opened: u64,
     pub(crate) cleaned: u64,
+    /// Applications that were parted from their connections at rest.
+    pub(crate) parted: u64,
+    /// How many times nothing was in flight any more, and somebody waited then.
+    pub(crate) rested: u64,
+    /// Connections that came before anybody asked.
+    pub(crate) brought: u64,
     /// Connections that were cut, and those whose server broke the protocol.
     pub(crate) lost: u64,
     pub(crate) broken: u64,
     pub(crate) wrong: u64,
-    pub(crate) first: Option<(Wrong, u64)>,
+    /// The first one of each kind that was wrong, of the first kinds, and the session that began last then.
+    pub(crate) first: [Option<(Wrong, u64)>; 4],
 }
 
 impl Tally {
@@ -74,17 +103,27 @@ impl Tally {
             closed: 0,
             opened: 0,
             cleaned: 0,
+            parted: 0,
+            rested: 0,
+            brought: 0,
             lost: 0,
             broken: 0,
             wrong: 0,
-            first: None,
+            first: [None; 4],
         }
     }
 
     pub(crate) fn note(&mut self, wrong: Wrong) {
         self.wrong = self.wrong.saturating_add(1);
-        if self.first.is_none() {
-            self.first = Some((wrong, self.sessions));
+        for first in self.first.iter_mut() {
+            match *first {
+                Some((kind, _)) if kind == wrong => return,
+                Some(_) => {}
+                None => {
+                    *first = Some((wrong, self.sessions));
+                    return;
+                }
+            }
         }
     }
 
@@ -106,6 +145,9 @@ impl Tally {
             self.closed,
             self.opened,
             self.cleaned,
+            self.parted,
+            self.rested,
+            self.brought,
             self.lost,
             self.broken,
         ] {

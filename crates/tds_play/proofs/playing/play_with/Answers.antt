@@ -16,8 +16,8 @@ use Rattle.tds_session.specs.Answer.{answer_of}
 use Rattle.tds_world.specs.alone.Alone.{AsIfAlone}
 use Rattle.tds_world.specs.alone.AloneShown.{ShowsAsIfAlone, far_in}
 use Rattle.tds_world.specs.Bounds.{IsEvent}
-use Rattle.tds_world.specs.Descriptors.{AreFewEvents}
-use Rattle.tds_world.specs.LeftCleanShown.{ShowsLeftClean}
+use Rattle.tds_world.specs.limits.Descriptors.{AreFewEvents}
+use Rattle.tds_world.specs.left_clean.LeftCleanShown.{ShowsLeftClean}
 use Rattle.tds_world.specs.Losses.{marked, world_with}
 use Rattle.tds_world.specs.World.{new_world}
 use Rattle.tds_world.specs.declared.event.Event.{Event}

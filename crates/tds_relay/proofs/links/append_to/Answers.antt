@@ -3,7 +3,7 @@ use Rattle.tds_relay.specs.declared.link.Link.{Link}
 use Rattle.tds_relay.specs.Linking.{Linked}
 use Rattle.tds_relay.specs.Reads.{bytes_on, place_of, seen_of}
 use Rattle.tds_relay.specs.Posts.{Post, post_in}
-use Rattle.tds_relay.proofs.spared.Waits.{fills_put, none_waits, one_waits, others_wait, put_unfit, put_waits, waits_same}
+use Rattle.tds_relay.proofs.spared.Waits.{fills_put, no_room, none_waits, one_waits, others_wait, put_unfit, put_waits, waits_same}
 use Rattle.tds_relay.proofs.steps.Staying.{fills_same, stays_written}
 use Rattle.tds_relay.proofs.spared.Begun.{answers_refl, answers_written}
 use Rattle.tds_relay.proofs.indexed.Placing.{placed_written}
@@ -52,6 +52,13 @@ returns-clause-unfit c = rw (← c.links.view_is) (
     waits_same c.links.inside.list.items c.in-Some.place c.index_mut-link.result.now _
     (ap (λ (l : Link). l.number) c.index_mut-link.ensures.value)
     (put_unfit c.args.bytes.now _ _ c.in_ok-append.ensures.post (search rules) ∙ ap bytes_on c.index_mut-link.ensures.value) c.args.number)
+
+pub returns-clause-no_room : goal.returns-clause-no_room
+returns-clause-no_room c = rw (← c.links.view_is) (
+    λ unfit.
+    no_room c.args.bytes.now c.args.number c.links.inside.list.items c.in-Some.place c.index_mut-link.result.now _
+    (ap (λ (v : Linked). place_of c.args.number v.items) c.links.view_is ∙ sym c.place_in.ensures.is ∙ c.in-Some.is)
+    c.index_mut-link.ensures.value c.in_ok-append.ensures.post (search rules))
 
 pub returns-clause-answers : goal.returns-clause-answers
 returns-clause-answers c = rw (← c.links.view_is) (

@@ -7,5 +7,5 @@ returns-in-Err-clause-stops c =
 
 pub returns-in-Ok-clause-ok : goal.returns-in-Ok-clause-ok
 returns-in-Ok-clause-ok c =
-    has_asked c.args.service.now c.args.seats.now c.in-Some.index c.args.lease _ c.requires.fits c.in-Some.ensures.first c.args.kind c.in-Ok.asked (record { before = c.args.kept.now; after = c.ask.new.kept; count = c.ask.new.count })
+    has_asked c.args.service.now c.args.seats.now c.in-Some.index c.args.lease _ c.requires.fits c.in-Some.ensures.first c.args.kind c.ask.new.seat (record { before = c.args.kept.now; after = c.ask.new.kept; count = c.ask.new.count })
     c.in-Ok.ensures.acts c.in-Ok.ensures.asked c.in-Ok.ensures.kind c.in-Ok.ensures.is c.in-Ok.ensures.written c.in-Ok.ensures.counted

@@ -7,5 +7,5 @@ returns-in-Err-clause-stops c =
 
 pub returns-in-Ok-clause-ok : goal.returns-in-Ok-clause-ok
 returns-in-Ok-clause-ok c =
-    has_finished c.args.service.now c.args.seats.now c.in-Some.index c.args.lease _ c.requires.fits c.in-Some.ensures.first c.in-Ok.finished c.args.kept.now (record { before = c.args.out.now; after = c.finish.new.out; count = c.finish.new.count })
+    has_finished c.args.service.now c.args.seats.now c.in-Some.index c.args.lease _ c.requires.fits c.in-Some.ensures.first c.finish.new.seat c.args.kept.now (record { before = c.args.out.now; after = c.finish.new.out; count = c.finish.new.count })
     c.in-Ok.ensures.acts c.in-Ok.ensures.sending c.in-Ok.ensures.is c.in-Ok.ensures.moved c.in-Ok.ensures.size c.in-Ok.ensures.holds c.in-Ok.ensures.written c.in-Ok.ensures.counted

@@ -9,7 +9,7 @@ returns-in-Err-clause-stops c =
 
 pub returns-in-Ok-clause-ok : goal.returns-in-Ok-clause-ok
 returns-in-Ok-clause-ok c =
-    has_put c.args.service.now c.args.seats.now c.in-Some.index c.args.lease _ c.requires.fits c.in-Some.ensures.first c.in-Ok.sent
+    has_put c.args.service.now c.args.seats.now c.in-Some.index c.args.lease _ c.requires.fits c.in-Some.ensures.first c.put.new.seat
     (record { before = c.args.kept.now; after = c.put.new.kept; waiting = c.args.waiting.now; waits = c.put.new.waiting })
     c.args.bytes.now c.put.new.taken
     (record { before = c.args.out.now; after = c.put.new.out; count = c.put.new.count }) c.in-Ok.putting c.in-Ok.ensures.ok

@@ -1,15 +1,38 @@
 use Rattle.std.proofs.Common.{◌∙◌, ℕ, ◌∷◌, [], ◌++◌, length, take, drop, refl, sym, ap}
 use Rattle.std.proofs.Math.Seq.{take-append_seam}
+use Rattle.std.specs.Prelude.{Some}
 use Rattle.tds_wire.specs.declared.told.Token.{Token}
 use Rattle.tds_service.specs.Line.{Cancel, turn}
-use Rattle.tds_service.specs.Service.{Back, has_lease}
+use Rattle.tds_service.specs.Service.{Back, Free, has_lease}
 use Rattle.tds_service.specs.Table.{rest_of}
 use Rattle.tds_service_c.specs.declared.plain.TdsSeat.{TdsSeat}
 use Rattle.tds_service_c.specs.Plain.{line_of, table_of}
 use Rattle.tds_service_c.specs.Table.{written_bytes}
+use Rattle.tds_service_c.proofs.GivenBack.{gives_idle, idle_after}
 use Rattle.tds_service_c.proofs.Steps.{gives_back, here_in, same_seat}
 use Rattle.tds_service_c.specs.Clients.{apart}
 use Rattle.tds_service_c.proofs.giving.give_back.Goals as goal
+
+pub returns-then-is_idle-clause-ok : goal.returns-then-is_idle-clause-ok
+returns-then-is_idle-clause-ok c =
+    let s = c.args.service.now in
+    let seats = c.args.seats.now in
+    let i = c.in-Some.index in
+    let test = has_lease c.args.lease in
+    let here = here_in test s.count seats i c.requires.fits c.in-Some.ensures.first in
+    let idle = sym c.is_idle.ensures ∙ c.if-is_idle.true in
+    gives_idle (table_of s seats) _ test s.count seats i here _ refl (same_seat test s.count seats i here _) idle
+    (c.settle.ensures.table test (Cancel ∷ []) (Back (Some Free)) here.seat here.at here.first
+    (ap (λ (z : TdsSeat). z.number) (same_seat test s.count seats i here _)) (idle_after _ here.seat (same_seat test s.count seats i here _) idle))
+
+pub returns-then-is_idle-clause-leaves : goal.returns-then-is_idle-clause-leaves
+returns-then-is_idle-clause-leaves c =
+    let s = c.args.service.now in
+    let seats = c.args.seats.now in
+    let i = c.in-Some.index in
+    let here = here_in (has_lease c.args.lease) s.count seats i c.requires.fits c.in-Some.ensures.first in
+    c.settle.ensures.leaves here.seat here.at (ap (λ (z : TdsSeat). z.number) (same_seat (has_lease c.args.lease) s.count seats i here _))
+    (ap (λ (z : TdsSeat). apart z.client) (same_seat (has_lease c.args.lease) s.count seats i here _))
 
 pub returns-clause-ok : goal.returns-clause-ok
 returns-clause-ok c =
@@ -26,7 +49,7 @@ returns-clause-ok c =
     ∙ (take-append_seam copied behind ∙ (c.copy_from_slice.ensures.after ∙ c.as_slice-bytes.ensures)) in
     gives_back (table_of s seats) _ test s.count seats i here _ m rest _ (written_bytes c.written-written.result) refl (same_seat test s.count seats i here _)
     c.cancelled-cancelled.ensures.line c.rest-rest.ensures c.written-written.ensures.sent is
-    (c.settle.ensures.table test (Cancel ∷ []) (Back (rest_of rest)) here.seat here.at here.first
+    (c.settle-2.ensures.table test (Cancel ∷ []) (Back (rest_of rest)) here.seat here.at here.first
     (c.cancelled-cancelled.ensures.number ∙ ap (λ (z : TdsSeat). z.number) (same_seat test s.count seats i here _))
     (c.cancelled-cancelled.ensures.line ∙ ap (λ (z : TdsSeat). (turn {T = Token} (line_of z) Cancel).line) (same_seat test s.count seats i here _)))
 
@@ -37,5 +60,5 @@ returns-clause-leaves c =
     let i = c.in-Some.index in
     let here = here_in (has_lease c.args.lease) s.count seats i c.requires.fits c.in-Some.ensures.first in
     let same = same_seat (has_lease c.args.lease) s.count seats i here _ in
-    c.settle.ensures.leaves here.seat here.at (c.cancelled-cancelled.ensures.number ∙ ap (λ (z : TdsSeat). z.number) same)
+    c.settle-2.ensures.leaves here.seat here.at (c.cancelled-cancelled.ensures.number ∙ ap (λ (z : TdsSeat). z.number) same)
     (ap (λ (z : TdsSeat). apart z.client) c.cancelled-cancelled.ensures.is ∙ ap (λ (z : TdsSeat). apart z.client) same)

@@ -6,10 +6,10 @@ pub returns : goal.returns
 returns c =
     let within : c.args.waiting.now ≤ length c.args.kept.now = omega (arith, c.requires.full, c.requires.room) in
     let over : c.args.end < length c.args.bytes.now = search rules in
-    one_goes c.args.seat c.sent.result c.args.kept.now c.fill.new.kept c.args.out.now c.fill.new.out c.args.bytes.now c.args.waiting.now c.args.end (c.args.waiting.now + c.args.end + 8)
-    c.requires.sending c.requires.range within c.requires.full over c.sent.ensures.line c.sent.ensures.place c.sent.ensures.number c.sent.ensures.is c.fill.ensures.kept c.fill.ensures.written c.requires.full
+    one_goes c.args.seat.now c.go_on.new.self c.args.kept.now c.fill.new.kept c.args.out.now c.fill.new.out c.args.bytes.now c.args.waiting.now c.args.end (c.args.waiting.now + c.args.end + 8)
+    c.requires.sending c.requires.range within c.requires.full over c.go_on.ensures.line c.go_on.ensures.place c.go_on.ensures.number c.go_on.ensures.is c.fill.ensures.kept c.fill.ensures.written c.requires.full
 
 pub returns-then-bytes-end : goal.returns-then-bytes-end
 returns-then-bytes-end c =
-    all_wait c.args.seat c.args.kept.now c.keep.new.kept c.args.out.now c.args.bytes.now c.args.waiting.now c.args.count.now c.requires.sending c.requires.range
+    all_wait c.args.seat.now c.args.kept.now c.keep.new.kept c.args.out.now c.args.bytes.now c.args.waiting.now c.args.count.now c.requires.sending c.requires.range
     (omega (arith, c.requires.full, c.requires.room)) (omega (arith, c.requires.full, c.if-bytes-end.true)) c.keep.ensures c.requires.none

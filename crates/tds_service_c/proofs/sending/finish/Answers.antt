@@ -5,4 +5,4 @@ use Rattle.tds_service_c.proofs.sending.finish.Goals as goal
 
 pub returns-clause-acts : goal.returns-clause-acts
 returns-clause-acts c =
-    sends_one c.args.seat c.sent.result true c.args.kept.now c.in_default.ensures.ok c.sent.ensures.line c.sent.ensures.place c.sent.ensures.number
+    sends_one c.args.seat.now c.go_on.new.self true c.args.kept.now c.in_default.ensures.ok c.go_on.ensures.line c.go_on.ensures.place c.go_on.ensures.number

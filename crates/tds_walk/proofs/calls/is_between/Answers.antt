@@ -1,5 +1,6 @@
 use Rattle.std.proofs.Common.{rules}
-use Rattle.tds_walk.proofs.Walks.{IsReadyValue, stands_ready}
+use Rattle.tds_walk.specs.Taking.{IsReadyValue}
+use Rattle.tds_walk.proofs.Walks.{stands_ready}
 use Rattle.tds_walk.proofs.calls.is_between.Goals as goal
 
 pub returns-then-is_ready : goal.returns-then-is_ready

@@ -1,5 +1,6 @@
 use Rattle.std.proofs.Common.{rules}
-use Rattle.tds_walk.proofs.Walks.{IsReadyValue, restarts_ready}
+use Rattle.tds_walk.specs.Taking.{IsReadyValue}
+use Rattle.tds_walk.proofs.Walks.{restarts_ready}
 use Rattle.tds_walk.proofs.calls.restart.Goals as goal
 
 pub returns-then-is_ready : goal.returns-then-is_ready

@@ -1,4 +1,4 @@
-use Rattle.tds_world.specs.LeftClean.{LeftClean}
+use Rattle.tds_world.specs.left_clean.LeftClean.{LeftClean}
 use Rattle.tds_world.proofs.plays.Worlds as worlds
 use Rattle.tds_world.proofs.requests.LeftClean as left
 use Rattle.tds_world.proofs.losses.left_clean.Goals as goal

@@ -1,7 +1,7 @@
 """What one request is told, in the order in which it came. Nothing here waits: bytes go in, sets of rows come out."""
 
 import collections
-from typing import Callable, Deque, List, Optional, Tuple
+from typing import Any, Callable, Deque, List, Optional, Tuple
 
 from ..wire import Tells, Walked
 from . import errors
@@ -10,10 +10,20 @@ from .errors import Message, error_of
 # A token that is told: the values of a Walked.
 Told = Tuple[int, ...]
 _COLUMNS, _ROW, _NULLS_ROW, _RETURNED, _ERROR = 0x81, 0xD1, 0xD2, 0xAC, 0xAA
-_STARTS, _LENGTH, _KIND, _TELLS = 0, 1, 2, 3
+# Where a Walked has them; the last two of a DONE.
+_STARTS, _LENGTH, _KIND, _TELLS, _DONE_COUNT, _DONE_STATUS = 0, 1, 2, 3, 4, 12
 _DONE, _MESSAGE, _STATUS = int(Tells.DONE), int(Tells.MESSAGE), int(Tells.RETURN_STATUS)
 _FAILED, _COUNTED = 0x02, 0x10
 _NO_COLUMNS = b"\x81\xff\xff"
+# What most answers have of messages and the like: nothing is put into it.
+_NONE: List[Any] = []
+
+
+def _with(found: List[Any], one: Any) -> List[Any]:
+    """These with one more: a list of the answer's own."""
+    found = found or []
+    found.append(one)
+    return found
 
 
 class ResultSet:
@@ -42,16 +52,16 @@ class Answer:
 
     def __init__(self) -> None:
         self.sets: Deque[ResultSet] = collections.deque()
-        self.messages: List[Message] = []
-        self.outputs: List[bytes] = []
+        self.messages: List[Message] = _NONE
+        self.outputs: List[bytes] = _NONE
         self.return_status: Optional[int] = None
         # It begins where it is asked.
         self.is_ended, self.is_dropped, self.is_cancelled = True, False, False
         self.failure: Optional[Callable[[], errors.Error]] = None
         self._open: Optional[ResultSet] = None
-        self._errors: List[Message] = []
+        self._errors: List[Message] = _NONE
         # The message's bytes behind the token that was told last, and how many lie before them.
-        self._pieces: List[bytes] = []
+        self._pieces: List[bytes] = _NONE
         self._before = 0
 
     def hear(self, data: bytes, tokens: List[Told], ends: int) -> None:
@@ -63,44 +73,44 @@ class Answer:
                 data = b"".join((*self._pieces, data))
             self._take(data, tokens)
         if ends:
-            self._pieces, self._before = [], 0
+            self._pieces, self._before = _NONE, 0
         elif tokens:
             behind = tokens[-1][_STARTS] + tokens[-1][_LENGTH]
             rest = data[behind - self._before:]
-            self._pieces, self._before = [rest] if rest else [], behind
+            self._pieces, self._before = [rest] if rest else _NONE, behind
         else:
-            self._pieces.append(data)
+            self._pieces = _with(self._pieces, data)
 
     def _take(self, data: bytes, tokens: List[Told]) -> None:
         before = self._before
         for token in tokens:
             start, kind = token[_STARTS] - before, token[_KIND]
-            own = data[start: start + token[_LENGTH]]
             if kind == _ROW or kind == _NULLS_ROW:
                 if self._open and not self._open.is_dropped:
-                    self._open.rows.append(own)
+                    self._open.rows.append(data[start: start + token[_LENGTH]])
+            elif token[_TELLS] == _DONE:
+                self._statement_ended(token[_DONE_STATUS], token[_DONE_COUNT])
             elif kind == _COLUMNS:
+                own = data[start: start + token[_LENGTH]]
                 if not own.startswith(_NO_COLUMNS):
                     self._open = ResultSet(own, self.is_dropped)
                     self.sets.append(self._open)
             else:
-                self._other(token, own, data)
+                self._other(token, data[start: start + token[_LENGTH]], data)
 
     def _other(self, token: Told, own: bytes, data: bytes) -> None:
         tells, named = token[_TELLS], Walked(token)
-        if tells == _DONE:
-            self._statement_ended(named.status, named.value)
-        elif tells == _MESSAGE:
+        if tells == _MESSAGE:
             self._told(_message_of(named, data, self._before))
         elif tells == _STATUS:
             self.return_status = named.number
         elif named.kind == _RETURNED:
-            self.outputs.append(own)
+            self.outputs = _with(self.outputs, own)
 
     def _told(self, message: Message) -> None:
-        self.messages.append(message)
+        self.messages = _with(self.messages, message)
         if message.is_error:
-            self._errors.append(message)
+            self._errors = _with(self._errors, message)
 
     def _statement_ended(self, status: int, count: int) -> None:
         has_failed = bool(self._errors) or status & _FAILED
@@ -111,7 +121,7 @@ class Answer:
         ended, self._open = self._open or self.sets[-1], None
         ended.count, ended.is_whole = count if status & _COUNTED else -1, True
         if has_failed:
-            ended.error, self._errors = error_of(self._errors), []
+            ended.error, self._errors = error_of(self._errors), _NONE
 
     def drop(self) -> None:
         """Nobody reads it any more: what still comes of rows is thrown away."""
@@ -128,7 +138,7 @@ class Answer:
         """It never becomes whole, and why: the first reason stays."""
         self.failure = self.failure or failure
         self.sets.clear()
-        self._open, self._pieces = None, []
+        self._open, self._pieces = None, _NONE
 
 
 def _text(data: bytes, at: int, count: int) -> Tuple[str, int]:

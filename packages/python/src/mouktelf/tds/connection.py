@@ -90,8 +90,8 @@ class Connection:
 
     def begin_if_due(self, until: Optional[float]) -> None:
         """Begins a transaction, where none is open and statements are to stand in one."""
-        session = self.session
         if not self._autocommit:
+            session = self.session
             session.settle(until)
             if session.descriptor == 0:
                 session.run(MessageKind.TRANSACTION, begin(self.isolation_level), until)
@@ -176,12 +176,13 @@ class Cursor(Place):
         return self._answer.return_status
 
     def _ask(self, kind: MessageKind, body: bytes) -> "Cursor":
-        session, until = self.connection.session, self.connection.until()
+        connection = self.connection
+        session, until = connection.session, connection.until()
         with session.turn:
             answer = self._restart()
-            self.connection.begin_if_due(until)
+            connection.begin_if_due(until)
             session.ask(answer, kind, body, until)
-            session.wait(answer, lambda: answer.sets, until)
+            session.wait(answer, answer.sets.__len__, until)
         self._enter()
         return self
 
@@ -201,8 +202,7 @@ class Cursor(Place):
             left.drop()
             self._wait(lambda: left.is_whole)
         self._raise_error()
-        answer = self._answer
-        self._wait(lambda: answer.sets)
+        self._wait(self._answer.sets.__len__)
         return self._enter()
 
     def fetchone(self) -> Optional[Row]:
@@ -222,8 +222,8 @@ class Cursor(Place):
 
     def fetchall(self) -> List[Row]:
         """All rows that are left."""
-        rows, found = self._rows().rows, []  # type: Any, List[Row]
-        while rows or self._more():
+        own, found = self._rows(), []  # type: Any, List[Row]
+        while own.rows or (own.error or not own.is_whole) and self._more():
             found += self._taken()
         return found
 

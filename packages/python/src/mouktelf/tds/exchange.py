@@ -53,9 +53,9 @@ class Leased:
 
     def ask(self, kind: MessageKind, body: bytes) -> bytes:
         """The packets of a request."""
-        service, lease = self._service, self.lease
-        self._request = service.ask(lease, kind).request
-        return service.put(lease, body) + service.finish(lease)
+        asked, packets = self._service.ask_all(self.lease, kind, body)
+        self._request = asked.request
+        return packets
 
     def cancel(self) -> Tuple[Did, bytes]:
         """Cancels what is underway: the bytes to send."""
@@ -113,51 +113,23 @@ class Draining:
     @property
     def descriptor(self) -> int:
         """That of the open transaction, 0 for none."""
-        return self._service.connection(self._number).descriptor
-
-
-class _Calling:
-    """A block of calls, and of what they give to be written. Where writing fails, or is cut off, the connection is lost."""
-
-    __slots__ = ("_exchange",)
-
-    def __init__(self, exchange: "Exchange") -> None:
-        self._exchange = exchange
-
-    def __enter__(self) -> None:
-        self._exchange.outgoing.__enter__()
-
-    def __exit__(self, kind: Optional[type], *rest: object) -> None:
-        exchange = self._exchange
-        is_whole = kind is None or issubclass(kind, Exception)
-        try:
-            exchange.outgoing.__exit__(kind, *rest)
-        except OSError as why:
-            raise exchange.lost(f"nothing can be sent: {why}") from why
-        except Exception:
-            raise
-        except BaseException:
-            is_whole = False
-            raise
-        finally:
-            if not is_whole:
-                exchange.lost("it was interrupted in the middle of what was to be sent")
+        return self._service.descriptor(self._number)
 
 
 class Exchange:
     """What is asked on one connection, one request at a time. `current` is the answer that is awaited; `failure` makes the error of
     a connection that is lost. Whoever asks, and whoever takes what comes, is one at a time; `cancel` may be called meanwhile."""
 
+    current: Optional[Answer] = None
+    failure: Optional[Callable[[], errors.Error]] = None
+    # By when the acknowledgement must have come; and whether the cancelled request began what nobody was told of.
+    cancel_until: Optional[float] = None
+    owes_rollback = False
+    _came, _descriptor = b"", 0
+
     def __init__(self, link: Link, outgoing: Outgoing, size: int, cancel_timeout: float) -> None:
         """`cancel_timeout`: so many seconds a cancel's acknowledgement is awaited, before the connection is given up."""
-        self.link, self.outgoing, self.cancel_timeout = link, outgoing, cancel_timeout
-        self.current: Optional[Answer] = None
-        self.failure: Optional[Callable[[], errors.Error]] = None
-        # By when the acknowledgement must have come; and whether the cancelled request began what nobody was told of.
-        self.cancel_until: Optional[float] = None
-        self.owes_rollback = False
-        self._size, self._came, self._descriptor = size, b"", 0
-        self._calling = _Calling(self)
+        self.link, self.outgoing, self.cancel_timeout, self._size = link, outgoing, cancel_timeout, size
 
     def start(self, answer: Answer, kind: MessageKind, body: bytes) -> None:
         """Asks, where nothing is underway: from here on what comes is this answer's."""
@@ -165,24 +137,42 @@ class Exchange:
             raise self.failure()
         if self._came:
             raise self.lost("a part of a packet has come where nothing was asked")
+        outgoing = self.outgoing
         try:
-            with self._calling:
+            with outgoing:
                 packets = self.link.ask(kind, body)
                 self.current, answer.is_ended = answer, False
-                self.outgoing.put(packets)
-        except Fault as why:
-            raise errors.InterfaceError(f"it can't be asked now: {why}") from why
+                outgoing.put(packets)
+        except BaseException as why:
+            raise self._unsent(why)
 
     def cancel(self, answer: Answer) -> bool:
         """Cancels the request of this answer, where it is underway still: never another one's. From any thread."""
-        with self._calling:
-            if self.current is not answer or answer.is_cancelled:
-                return False
-            attention = self.link.cancel()[1]
-            self._descriptor, self.cancel_until = self.link.descriptor, time.monotonic() + self.cancel_timeout
-            answer.cancelled()
-            self.outgoing.put(attention)
+        outgoing = self.outgoing
+        try:
+            with outgoing:
+                if self.current is not answer or answer.is_cancelled:
+                    return False
+                attention = self.link.cancel()[1]
+                self._descriptor, self.cancel_until = self.link.descriptor, time.monotonic() + self.cancel_timeout
+                answer.cancelled()
+                outgoing.put(attention)
+        except BaseException as why:
+            raise self._unsent(why)
         return True
+
+    def _unsent(self, why: BaseException) -> BaseException:
+        """What is raised where a call, or writing what it gave, ended so. Where writing failed or was cut off, the connection is lost."""
+        found = why
+        if isinstance(why, Fault):
+            found = errors.InterfaceError(f"it can't be done now: {why}")
+        elif isinstance(why, OSError):
+            found = self.lost(f"nothing can be sent: {why}")
+        elif not isinstance(why, Exception):
+            self.lost("it was interrupted in the middle of what was to be sent")
+        if found is not why:
+            found.__cause__ = why
+        return found
 
     def seconds(self, until: Optional[float], most: float) -> float:
         """How long may be waited now for what comes: up to a deadline (time.monotonic()), or that of a cancel that isn't acknowledged

@@ -8,6 +8,10 @@ from .rows import Columns, Row, columns_of, readable, returned
 from .spelling import Spelling, output
 
 
+# Where there is none: it has no rows, no count and no error, and nothing is put into it. Nor into the answer that nobody asked.
+_NO_SET, _NO_ANSWER = ResultSet(), Answer()
+
+
 class Place:
     """What PEP 249 has of a cursor besides its calls that wait."""
 
@@ -15,7 +19,7 @@ class Place:
 
     def __init__(self, spelling: Spelling) -> None:
         self._spelling = spelling
-        self._answer, self._set, self._columns = Answer(), ResultSet(), None  # type: Answer, ResultSet, Optional[Columns]
+        self._answer, self._set, self._columns = _NO_ANSWER, _NO_SET, None  # type: Answer, ResultSet, Optional[Columns]
         self._count: Optional[int] = None
         self._is_closed = False
 
@@ -45,20 +49,23 @@ class Place:
         """A new answer in the place of the one before, which nobody reads any more."""
         if self._is_closed:
             raise errors.InterfaceError("the cursor is closed")
-        self._answer.drop()
-        self._answer, self._set, self._columns, self._count = Answer(), ResultSet(), None, None
-        return self._answer
+        before = self._answer
+        if before.sets or not before.is_ended:
+            before.drop()
+        answer = self._answer = Answer()
+        self._set, self._columns, self._count = _NO_SET, None, None
+        return answer
 
     def _enter(self) -> Optional[bool]:
         """Goes on to the next set that the answer has. Raises its error, where it is nothing else."""
         answer = self._answer
         self._columns = None
         if not answer.sets:
-            self._set = ResultSet()
+            self._set = _NO_SET
             return None
-        self._set = answer.sets.popleft()
-        if self._set.columns:
-            self._columns = columns_of(self._set.columns)
+        found = self._set = answer.sets.popleft()
+        if found.columns:
+            self._columns = columns_of(found.columns)
         else:
             self._raise_error()
         return True
@@ -79,8 +86,13 @@ class Place:
     def _taken(self, most: Optional[int] = None) -> List[Row]:
         """The rows that are here, at most so many."""
         rows = self._set.rows
-        count = len(rows) if most is None else min(most, len(rows))
-        return self._columns.read_all([rows.popleft() for _ in range(count)])  # type: ignore[union-attr]
+        count = len(rows)
+        if most is None or most >= count:
+            taken = [*rows]
+            rows.clear()
+        else:
+            taken = [rows.popleft() for _ in range(most)]
+        return self._columns.read_all(taken)  # type: ignore[union-attr]
 
     def _with_outputs(self, parameters: Any) -> Any:
         """A copy of a call's parameters, with what came of those that are outputs."""

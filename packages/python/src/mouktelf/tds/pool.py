@@ -45,7 +45,7 @@ class Pooled(Connection):
     def __exit__(self, kind: Optional[type], *rest: object) -> None:
         """Commits and gives it back; where the block failed, what is open is rolled back as it is given back."""
         try:
-            if kind is None:
+            if kind is None and not self._autocommit:
                 super().__exit__(kind, *rest)
         finally:
             self.close()
@@ -89,23 +89,30 @@ class Pool:
             return self._lent(lent, line)
 
     def _lent(self, lent: Lent, line: Line) -> Pooled:
-        return Pooled(self, self._session(Leased(self._table.service, lent.lease, lent.number), line), line, lent.lease)
+        lease, number, _ = lent
+        return Pooled(self, self._session(Leased(self._table.service, lease, number), line), line, lease)
 
     def _session(self, link: Leased, line: Line) -> Session:
         return Session(link, line.outgoing, line.size, line.transport, self._cancel_timeout)
 
     def _lease(self, until: float) -> Lent:
-        at_once = self._table.lease()
+        table = self._table
+        # Where somebody waits already, who comes now waits too.
+        at_once = None if table.waiting else table.lease()
         if at_once:
             return at_once
-        mine, is_woken = threading.Event(), False
+        # Who waits waits for its own lock, which whoever wakes it lets go: that takes less than an Event.
+        mine, is_woken = threading.Lock(), False
+        mine.acquire()
         while True:
-            mine.clear()
-            lent = self._table.lease(mine.set, is_woken)
+            lent = table.lease(mine.release, is_woken)
             if lent:
                 return lent
-            if not mine.wait(max(until - time.monotonic(), 0)) and self._table.give_up(mine.set):
-                raise errors.TimeoutError("all connections of the pool are in use")
+            if not mine.acquire(timeout=min(max(until - time.monotonic(), 0), threading.TIMEOUT_MAX)):
+                if table.give_up(mine.release):
+                    raise errors.TimeoutError("all connections of the pool are in use")
+                # It was woken just now.
+                mine.acquire()
             is_woken = True
 
     def _open(self, lent: Lent) -> Line:
@@ -122,14 +129,14 @@ class Pool:
     def _take_back(self, session: Session, line: Line, lease: int) -> None:
         """A lease is over. Whoever reads for it in another thread is told that it is cancelled, and reads no more."""
         underway = session.current
-        with contextlib.suppress(errors.ConnectionLost):
-            if underway:
+        if underway:
+            with contextlib.suppress(errors.ConnectionLost):
                 session.cancel(underway)
         with session.turn:
             rest, left = self._table.give_back(session, lease, line, self._cleans)
-            if rest == Rest.DRAINING:
+            if rest is Rest.DRAINING:
                 rest = self._drained(session)
-            if rest == Rest.FREE and not session.is_clear:
+            if rest is Rest.FREE and not session.is_clear:
                 rest = Rest.CLOSED
         self._rests(line, rest, left)
 
@@ -142,9 +149,9 @@ class Pool:
 
     def _rests(self, line: Line, rest: Rest, left: Draining) -> None:
         """What becomes of a connection that nobody holds any more."""
-        if left.cleaning and rest == Rest.FREE:
+        if left.cleaning and rest is Rest.FREE:
             rest = self._cleaned(line, left.cleaning)
-        if rest == Rest.FREE and not self._table.is_closed:
+        if rest is Rest.FREE and not self._table.is_closed:
             self._table.wake()
         else:
             self._table.gone(line.number, False)

@@ -60,16 +60,21 @@ class Columns:
 
     def read(self, row: bytes) -> Row:
         """The values of a ROW or NBCROW. DataError where they can't be read."""
-        return readable(self._values, row)
+        try:
+            return self._values(row)
+        except Exception as why:
+            raise unreadable(why)
 
     def read_all(self, rows: List[bytes]) -> List[Row]:
         """The same of some rows."""
-        return readable(lambda it: [*map(self._values, it)], rows)
+        try:
+            return [*map(self._values, rows)]
+        except Exception as why:
+            raise unreadable(why)
 
     def _values(self, row: bytes) -> Row:
-        return self._with_nulls(row) if row[0] == _NULLS else self._whole(row)
-
-    def _whole(self, row: bytes) -> Row:
+        if row[0] == _NULLS:
+            return self._with_nulls(row)
         found, at = [], 1
         for take in self._takes:
             value, at = take(row, at)
@@ -102,13 +107,20 @@ def returned(token: bytes) -> Tuple[int, Any]:
 
 
 def readable(read: Callable[[Any], Any], token: Any) -> Any:
-    """What is read of a token, or of some. DataError where it can't be: the session is none the worse for it."""
+    """What is read of a token. DataError where it can't be: the session is none the worse for it."""
     try:
         return read(token)
-    except (errors.Error, MemoryError):
-        raise
     except Exception as why:
-        raise errors.DataError(f"a value or a type that can't be read: {why!r}") from why
+        raise unreadable(why)
+
+
+def unreadable(why: Exception) -> Exception:
+    """What is raised where a token couldn't be read: an error of this package as it is."""
+    if isinstance(why, (errors.Error, MemoryError)):
+        return why
+    found = errors.DataError(f"a value or a type that can't be read: {why!r}")
+    found.__cause__ = why
+    return found
 
 
 def _described(it: Column) -> Row:

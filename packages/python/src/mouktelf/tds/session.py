@@ -91,5 +91,6 @@ class Session(Exchange):
         """Takes what comes next. A cancel has a limit of its own."""
         piece = None
         while piece is None:
-            piece = self.transport.read(self.seconds(until, LOOK))
+            has_limit = until is not None or self.cancel_until is not None
+            piece = self.transport.read(self.seconds(until, LOOK) if has_limit else LOOK)
         self.take(piece)

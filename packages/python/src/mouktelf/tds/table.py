@@ -76,23 +76,22 @@ class Table:
         with self.lock:
             if self.is_closed:
                 raise errors.InterfaceError("the pool is closed")
-            lent = self._lease() if is_woken or not self.waiting else None
+            lent = None
+            if is_woken or not self.waiting:
+                try:
+                    lent = self.service.lease()
+                    self.leases, self.lent = self.leases + 1, self.lent + 1
+                except Fault as why:
+                    if why.number != _ALL_IN_USE:
+                        raise
             if lent:
-                self.leases, self.lent = self.leases + 1, self.lent + 1
+                pass
             elif is_woken and wakes:
                 self.waiting.appendleft(wakes)
             elif wakes:
                 self.waits += 1
                 self.waiting.append(wakes)
             return lent
-
-    def _lease(self) -> Optional[Lent]:
-        try:
-            return self.service.lease()
-        except Fault as why:
-            if why.number != _ALL_IN_USE:
-                raise
-            return None
 
     def give_up(self, wakes: Callable[[], object]) -> bool:
         """Waits no longer; False where it was woken just now."""
@@ -105,8 +104,10 @@ class Table:
 
     def waited(self, since: float) -> None:
         """Somebody was lent a connection, who waits since then (time.monotonic())."""
-        with self.lock:
-            self.longest_wait = max(self.longest_wait, time.monotonic() - since)
+        waited = time.monotonic() - since
+        if waited > self.longest_wait:
+            with self.lock:
+                self.longest_wait = max(self.longest_wait, waited)
 
     def wake(self) -> None:
         """A connection has become free, or may be opened: the first who waits looks."""
@@ -138,16 +139,20 @@ class Table:
 
     def give_back(self, session: Exchange, lease: int, line: Line, cleans: bool) -> Tuple[Rest, Draining]:
         """Ends a lease: what is underway is cancelled, and read by the same session, whose lease is over."""
-        rest, left = Rest.CLOSED, Draining(self.service, line.number, cleans)
-        with contextlib.suppress(Fault, OSError), line.outgoing as out:
-            self.lent -= 1
-            ended = self.service.give_back(lease)
-            session.link, session.cancel_until = left, time.monotonic() + session.cancel_timeout
-            out.put(ended.sends)
-            if ended.rest == Rest.FREE:
-                left.is_free()
-            rest = ended.rest
-        return rest, left
+        left = Draining(self.service, line.number, cleans)
+        try:
+            with line.outgoing as out:
+                self.lent -= 1
+                ended = self.service.give_back(lease)
+                session.link = left
+                if ended.rest is Rest.FREE:
+                    left.is_free()
+                else:
+                    session.cancel_until = time.monotonic() + session.cancel_timeout
+                    out.put(ended.sends)
+        except (Fault, OSError):
+            return Rest.CLOSED, left
+        return ended.rest, left
 
     def is_clean(self, link: Leased) -> bool:
         """Whether a cleaning has done what it is for."""

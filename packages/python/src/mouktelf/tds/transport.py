@@ -1,6 +1,8 @@
 """A socket that a login has left, for one thread that reads beside one that writes; with TLS or without."""
 
 import contextlib
+import ctypes
+import errno
 import select
 import socket
 import struct
@@ -15,6 +17,18 @@ STALLS = 60.0
 LOOK = 1.0
 
 
+# What waits for nothing: no other thread is let run meanwhile, as Python's own calls of the system let one. Where many threads share
+# connections, to be let run again takes longer than such a call.
+_SYSTEM = ctypes.PyDLL(None, use_errno=True)
+_recv, _send = _SYSTEM.recv, _SYSTEM.send
+for _it in (_recv, _send):
+    _it.restype, _it.argtypes = ctypes.c_ssize_t, (ctypes.c_int, ctypes.c_char_p, ctypes.c_size_t, ctypes.c_int)
+_NOW, _LOOKS = socket.MSG_DONTWAIT | socket.MSG_NOSIGNAL, socket.MSG_DONTWAIT | socket.MSG_PEEK
+_BYTE, _NOTHING = ctypes.create_string_buffer(1), (errno.EAGAIN, errno.EWOULDBLOCK, errno.EINTR)
+# So much is written by such a call.
+_SHORT = 8192
+
+
 class Transport:
     """The bytes of one connection."""
 
@@ -22,17 +36,24 @@ class Transport:
         sock.setblocking(True)
         # A struct timeval. So a read is one call of the system, without a poll before it.
         sock.setsockopt(socket.SOL_SOCKET, socket.SO_RCVTIMEO, struct.pack("ll", int(LOOK), 0))
-        self._socket = sock
+        self._socket, self._closing = sock, threading.Lock()
         self._readable, self._writable = select.poll(), select.poll()
         self._readable.register(sock, select.POLLIN)
         self._writable.register(sock, select.POLLOUT)
 
     def write(self, data: bytes) -> None:
         """Writes all of it. OSError where the peer takes nothing for `STALLS` seconds, or is gone."""
-        left = memoryview(data)
+        sent = 0
+        if len(data) <= _SHORT:
+            # Nobody closes it meanwhile: another socket might have its number then.
+            with self._closing:
+                sent = _send(self._socket.fileno(), data, len(data), _NOW)
+            if sent == len(data):
+                return
+        left = memoryview(data)[max(sent, 0):]
         while left:
             try:
-                left = left[self._socket.send(left, socket.MSG_DONTWAIT):]
+                left = left[self._socket.send(left, _NOW):]
             except BlockingIOError:
                 if not self._writable.poll(STALLS * 1000):
                     raise OSError(f"the server has taken nothing for {STALLS:.0f} s") from None
@@ -50,13 +71,14 @@ class Transport:
 
     def is_quiet(self) -> bool:
         """Whether nothing has come: what comes where nothing is awaited is an end, or a breach."""
-        return not self._readable.poll(0)
+        return _recv(self._socket.fileno(), _BYTE, 1, _LOOKS) < 0 and ctypes.get_errno() in _NOTHING
 
     def close(self) -> None:
         """Ends it, also for a thread that waits for it."""
         with contextlib.suppress(OSError):
             self._socket.shutdown(socket.SHUT_RDWR)
-        self._socket.close()
+        with self._closing:
+            self._socket.close()
 
 
 class Encrypted(Transport):

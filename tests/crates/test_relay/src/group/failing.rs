@@ -7,6 +7,7 @@ use crate::packets::{ANSWER, ENDS, put_packet};
 use crate::random::Random;
 use crate::tally::{Tally, Wrong, raise};
 use std::alloc::AllocError;
+use tds_relay::Place;
 
 impl Group {
     /// An application leaves in the middle, a connection is cut, or its server breaks the protocol.
@@ -48,7 +49,8 @@ impl Group {
         application.is_doomed = true;
         let key = application.key;
         self.relay.said(key, &[0x55; 8])?;
-        if self.relay.fault_of(key).is_none() {
+        let is_over = self.relay.place_of(key) == Some(Place::Over);
+        if self.relay.fault_of(key).is_none() || !is_over {
             tally.note(Wrong::Untold);
         }
         self.settle(Some(key), tally)
@@ -87,6 +89,7 @@ impl Group {
         let mut bytes = Vec::new(self.alloc);
         if random.once_in(2) {
             put_packet(&mut bytes, 9, ENDS, &ACKNOWLEDGED)?;
+            self.refused = Some(number);
         } else {
             put_packet(&mut bytes, ANSWER, ENDS, &ACKNOWLEDGED)?;
         }

@@ -1,6 +1,6 @@
 //! What a relay has come to, behind each call.
 
-use super::{CONNECTIONS, Group};
+use super::Group;
 use crate::tally::{Tally, Wrong};
 use tds_relay::{Place, PlaceOn};
 
@@ -20,6 +20,7 @@ impl Group {
         let Group {
             relay,
             connections,
+            asked,
             ..
         } = self;
         for connection in connections.iter_mut() {
@@ -36,6 +37,8 @@ impl Group {
                 connection.is_told = false;
                 let is_cause = cause.is_some() && before == cause;
                 connection.look(relay.unsent_on(number), is_cause, tally);
+                *asked = asked.saturating_add(connection.asked);
+                connection.asked = 0;
             }
             connection.look_behind(tally);
         }
@@ -58,9 +61,7 @@ impl Group {
                 last_lent = last_lent.max(if ticket == 0 { u64::MAX } else { ticket });
             }
             application.on = on;
-            if self.relay.unsent(application.key).is_empty() && application.is_unanswered(place) {
-                tally.note(Wrong::Unanswered);
-            }
+            tally.note_any(application.look(&self.relay, place));
             if place != Some(Place::Waiting) {
                 application.ticket = 0;
             } else if application.ticket == 0 || application.begun != begun {
@@ -87,7 +88,55 @@ impl Group {
                 return true;
             }
         }
-        self.relay.connections() < CONNECTIONS
+        self.relay.connections() < self.most
+    }
+
+    /// Something was sent to who holds the connection of this number, or none: that may be read again.
+    pub(super) fn look_at_reader(
+        &self,
+        number: Option<u64>,
+        told: Option<usize>,
+        tally: &mut Tally,
+    ) {
+        for connection in self.connections.iter() {
+            if number == Some(connection.number) && told != Some(connection.tag) {
+                tally.note(Wrong::Unread);
+            }
+        }
+    }
+
+    /// So many bytes were sent on the connection of this number: who holds it may be read again.
+    pub(super) fn look_at_asker(
+        &self,
+        number: u64,
+        count: usize,
+        told: Option<usize>,
+        tally: &mut Tally,
+    ) {
+        let Some(PlaceOn::Held(key)) = self.relay.place_on(number) else {
+            return;
+        };
+        for place in 0..self.applications.len() {
+            if let Some(Some(application)) = self.applications.get(place) {
+                if application.key == key && count > 0 && told != Some(place) {
+                    tally.note(Wrong::Unread);
+                }
+            }
+        }
+    }
+
+    /// No more connections came than may be. Why one was closed is told still.
+    pub(super) fn look_at_count(&mut self, tally: &mut Tally) {
+        let count = self.relay.connections();
+        if count > self.count && count > self.most {
+            tally.note(Wrong::TooMany);
+        }
+        self.count = count;
+        if let Some(number) = self.refused {
+            if self.relay.header_fault_on(number).is_none() {
+                tally.note(Wrong::Untold);
+            }
+        }
     }
 
     /// What had to be closed is closed.

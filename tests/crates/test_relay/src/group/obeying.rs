@@ -20,7 +20,7 @@ impl Group {
         let mut orders = Vec::new(self.alloc);
         self.read_orders(cause, &mut orders, tally)?;
         let mut place = 0usize;
-        for _ in 0..1_000 {
+        for _ in 0..10_000 {
             let Some(order) = orders.get(place).copied() else {
                 break;
             };
@@ -36,6 +36,7 @@ impl Group {
         }
         self.look_at_line(tally);
         self.look_at_doomed(tally);
+        self.look_at_count(tally);
         Ok(())
     }
 
@@ -64,18 +65,18 @@ impl Group {
             return;
         }
         for connection in self.connections.iter_mut() {
-            if tag_of(connection) == Some(tag) {
+            if connection.tag == tag {
                 connection.is_told = true;
             }
         }
     }
 
     fn opening(&mut self, number: u64) -> Result<(), AllocError> {
-        let connection = Connection::new(self.alloc, number);
-        if let Some(tag) = tag_of(&connection) {
-            self.relay.opening(number, tag);
-        }
-        self.connections.push(connection)?;
+        let tag = TAGS.saturating_add(number as usize);
+        self.relay.opening(number, tag);
+        let most = self.most_data();
+        self.connections
+            .push(Connection::new(self.alloc, number, tag, most))?;
         Ok(())
     }
 
@@ -87,7 +88,7 @@ impl Group {
         let mut found = None;
         for index in 0..self.connections.len() {
             if let Some(connection) = self.connections.get(index) {
-                if tag_of(connection) == Some(tag) {
+                if connection.tag == tag {
                     found = Some(index);
                     if !connection.is_doomed {
                         tally.note(Wrong::ConnectionClosed);
@@ -120,7 +121,11 @@ impl Group {
         if !application.is_doomed {
             tally.note(Wrong::Closed);
         }
-        application.hear(relay.unsent(application.key), tally)?;
+        let unsent = relay.unsent(application.key);
+        if unsent.len() < application.waited {
+            tally.note(Wrong::Dropped);
+        }
+        application.hear(unsent, tally)?;
         application.hear_close(tally);
         raise(&mut tally.closed);
         let Some(key) = self.take_out(place) else {
@@ -129,8 +134,4 @@ impl Group {
         self.relay.left(key)?;
         Ok(Some(key))
     }
-}
-
-fn tag_of(connection: &Connection) -> Option<usize> {
-    Some(TAGS.saturating_add(connection.number as usize))
 }

@@ -3,7 +3,7 @@ use Rattle.tds_packet.specs.declared.kind.Direction.TheVariants.{ToClient}
 use Rattle.tds_world.specs.Arrivals.{to_client}
 use Rattle.tds_play.specs.Pipe.{Pipe, traffic, next_of}
 use Rattle.tds_play.specs.Plays.{RepresentsConnection}
-use Rattle.tds_play.proofs.ClientEvent.{come_heard, heard_alike}
+use Rattle.tds_play.proofs.deliveries.ClientEvent.{come_heard, heard_alike}
 use Rattle.tds_play.proofs.Doing.{ended}
 use Rattle.tds_play.proofs.Listening.{listened_by, listened_on}
 use Rattle.tds_play.proofs.Losing.{delivered_down}

@@ -12,7 +12,7 @@ use Rattle.tds_play.specs.Plays.{RepresentsConnection}
 use Rattle.tds_play.proofs.Doing.{ended}
 use Rattle.tds_play.proofs.Losing.{delivered_up}
 use Rattle.tds_play.proofs.Played.{Ends, served_on, stays_by}
-use Rattle.tds_play.proofs.ServerEvent.{come_served, delivered_alike, none_told, both_false, delivered_by}
+use Rattle.tds_play.proofs.deliveries.ServerEvent.{come_served, delivered_alike, none_told, both_false, delivered_by}
 use Rattle.tds_play.specs.Failures.{Carry, Fails, Send}
 use Rattle.tds_play.proofs.Failing.{brought_as, fails_numbered, fails_of_more}
 use Rattle.tds_ends.specs.AllBytes.{ServerHasRead, new_reader}

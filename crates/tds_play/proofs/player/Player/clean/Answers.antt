@@ -10,7 +10,7 @@ use Rattle.tds_play.specs.Reads.{ReadsOn}
 use Rattle.tds_play.specs.declared.player.Player.{Player}
 use Rattle.tds_play.specs.declared.seat.Held.{Held}
 use Rattle.tds_play.proofs.pooled.InPlace.{next_lease}
-use Rattle.tds_play.proofs.pooled.Skipping.{cleans_few, cleans_held, met_clean}
+use Rattle.tds_play.proofs.pooled.cleanings.Skipping.{cleans_few, cleans_held, met_clean}
 use Rattle.tds_play.proofs.pooled.There.{stands_there, unasked_there}
 use Rattle.tds_play.proofs.pooled.Unseen.{touched_steps}
 use Rattle.tds_play.proofs.player.Player.clean.Goals as goal

@@ -1,7 +1,7 @@
 use Rattle.std.proofs.Common.{arith, refl}
 use Rattle.tds_session.specs.Answer.{answer_of}
 use Rattle.tds_world.specs.declared.event.Event.TheVariants as event
-use Rattle.tds_play.proofs.PlayerFinds.{about_one}
+use Rattle.tds_play.proofs.plays.PlayerFinds.{about_one}
 use Rattle.tds_play.proofs.any_bytes.Places.{about_there}
 use Rattle.tds_play.proofs.pooled.Happening.{all_steps_happen, client_happens, happens_for, refuses_happen, server_happens}
 use Rattle.tds_play.proofs.pooled.Restarting.{one_of}

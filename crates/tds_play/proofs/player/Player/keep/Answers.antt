@@ -1,7 +1,7 @@
 use Rattle.std.proofs.Common.{◌≡◌, ◌∙◌, List, Option, ap, refl, sym}
 use Rattle.tds_pool.specs.declared.lease.Lease.{Lease}
 use Rattle.tds_session.specs.Answer.{answer_of}
-use Rattle.tds_play.proofs.pooled.Keeping.{keeps_steps, unkept_steps}
+use Rattle.tds_play.proofs.pooled.tickets.Keeping.{keeps_steps, unkept_steps}
 use Rattle.tds_play.proofs.pooled.Ended.{put_back_in}
 use Rattle.tds_play.specs.Holdings.{ended_of, put_in}
 use Rattle.tds_play.proofs.pooled.Unseen.{read_at, slot_of}

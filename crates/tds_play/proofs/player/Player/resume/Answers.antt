@@ -6,7 +6,7 @@ use Rattle.tds_play.specs.Holdings.{ended_of, put_in}
 use Rattle.tds_play.specs.declared.player.Player.{Player}
 use Rattle.tds_play.proofs.pooled.Ended.{put_back_in}
 use Rattle.tds_play.proofs.pooled.Unseen.{read_at, slot_of}
-use Rattle.tds_play.proofs.pooled.Resuming.{resumes_steps, unresumed_steps}
+use Rattle.tds_play.proofs.pooled.tickets.Resuming.{resumes_steps, unresumed_steps}
 use Rattle.tds_play.proofs.player.Player.resume.Goals as goal
 
 pub returns-in_ok-begin_lease-in-Ok : goal.returns-in_ok-begin_lease-in-Ok

@@ -25,7 +25,7 @@ use Rattle.tds_play.proofs.Doing.{does_so}
 use Rattle.tds_play.proofs.any_bytes.Brought.{gone_on, still_on}
 use Rattle.tds_play.proofs.any_bytes.Stays.{stays}
 use Rattle.tds_play.proofs.pooled.Back.{does_whole}
-use Rattle.tds_play.proofs.pooled.Cleaned.{CleansOne, WasFree, alike_changes, alike_there, begun, begun_here, cleans_one, cleans_there, idle_there, sent_here, was_free}
+use Rattle.tds_play.proofs.pooled.cleanings.Cleaned.{CleansOne, WasFree, alike_changes, alike_there, begun, begun_here, cleans_one, cleans_there, idle_there, sent_here, was_free}
 use Rattle.tds_play.proofs.pooled.Clients.{client_at_is}
 use Rattle.tds_play.proofs.pooled.Numbers.{IsIn}
 use Rattle.tds_play.proofs.pooled.Settled.{in_of, none_changes, reseats, settled_reads}

@@ -3,7 +3,7 @@ use Rattle.tds_pool.specs.Calls as calls
 use Rattle.tds_pool.specs.Connections.{connections, numbered}
 use Rattle.tds_play.specs.Pooled.{seat_by}
 use Rattle.tds_play.specs.Seats.{drained}
-use Rattle.tds_play.proofs.pooled.Cleaned.{Looks, cleaned_there, looked}
+use Rattle.tds_play.proofs.pooled.cleanings.Cleaned.{Looks, cleaned_there, looked}
 use Rattle.tds_play.proofs.pooled.Leaves.{is_closed}
 use Rattle.tds_play.proofs.pooled.Numbers.{IsIn}
 use Rattle.tds_play.proofs.pooled.Settled.{in_of, moved_changes, not_closed, stays_there}

@@ -1,6 +1,6 @@
 use Rattle.tds_pool.specs.Calls.{free_one}
 use Rattle.tds_pool.specs.Connections.{connections}
-use Rattle.tds_play.proofs.pooled.Cleaned.{still_free}
+use Rattle.tds_play.proofs.pooled.cleanings.Cleaned.{still_free}
 use Rattle.tds_play.proofs.seat.cleaning.begin_cleaning.Goals as goal
 
 pub returns-clause-still : goal.returns-clause-still

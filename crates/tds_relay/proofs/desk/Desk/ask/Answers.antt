@@ -1,15 +1,18 @@
-use Rattle.std.proofs.Common.{refl, rules}
+use Rattle.std.proofs.Common.{ap, false, refl, rules, ℕ}
 use Rattle.tds_service.specs.Table.{service_in}
 use Rattle.tds_relay.specs.Ties.{desk_in}
-use Rattle.tds_relay.proofs.steps.Sent.{asks_on}
+use Rattle.tds_relay.proofs.steps.Sent.{asks_on, behind, sends_alike}
 use Rattle.tds_service.specs.Service as calls
 use Rattle.tds_relay.proofs.bytes.Walking.{keeps_stand}
 use Rattle.tds_relay.proofs.spared.Held.{deed_others, deed_same}
+use Rattle.tds_relay.specs.declared.desk.Figures.{Figures}
+use Rattle.tds_relay.proofs.steps.Made.{turns_asked}
 use Rattle.tds_relay.proofs.desk.Desk.ask.Goals as goal
 
 pub returns-in-Ok-clause-sends : goal.returns-in-Ok-clause-sends
 returns-in-Ok-clause-sends c =
-    asks_on (desk_in c.args.self.now) (service_in c.ask.new.self) c.args.key c.in-Some.hold (search rules) c.in-Ok.ensures.ok.service_is c.in-Ok.ensures.ok.reply_is
+    sends_alike false (behind (desk_in c.args.self.now) (service_in c.ask.new.self)) _ c.args.key refl refl
+    (asks_on (desk_in c.args.self.now) (service_in c.ask.new.self) c.args.key c.in-Some.hold (search rules) c.in-Ok.ensures.ok.service_is c.in-Ok.ensures.ok.reply_is)
 
 pub returns-in-Ok-clause-stand : goal.returns-in-Ok-clause-stand
 returns-in-Ok-clause-stand c = keeps_stand _ _ (calls.Ask c.in-Some.hold.lease) c.in-Ok.ensures.ok.service_is (λ opens. opens) c.in-Ok.ensures.makes c.in-Ok.ensures.keeps
@@ -19,3 +22,9 @@ returns-in-Ok-clause-others c = deed_others c.args.self.now _ c.args.key c.in-So
 
 pub returns-in-Err-clause-others : goal.returns-in-Err-clause-others
 returns-in-Err-clause-others c = deed_same c.args.self.now _ c.args.key (search rules)
+
+pub returns-in-Ok-clause-ok : goal.returns-in-Ok-clause-ok
+returns-in-Ok-clause-ok c =
+    let d = desk_in c.args.self.now in
+    turns_asked d c.args.key c.in-Some.hold (service_in c.ask.new.self) _ calls.Did _ _ c.in-Ok.ensures.names.0 (search rules) c.in-Ok.ensures.ok c.in-Ok.ensures.names.1
+    (ap (λ (n : ℕ). let f : Figures = record { requests = n; cancels = d.figures.cancels } in f) c.saturating_add-self.ensures)

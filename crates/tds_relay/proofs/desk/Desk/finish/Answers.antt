@@ -1,5 +1,7 @@
-use Rattle.std.proofs.Common.{refl, rules, []}
-use Rattle.tds_service.specs.Table.{puts_on, service_in}
+use Rattle.std.proofs.Common.{refl, rules, [], ◌≡◌, ◌∙◌, Some, subst, sym}
+use Rattle.tds_service.specs.Table.{Refuses, puts_on, service_in}
+use Rattle.tds_relay.specs.declared.desk.Hold.{Hold}
+use Rattle.tds_relay.specs.Desk.{find_key}
 use Rattle.tds_relay.specs.Ties.{desk_in}
 use Rattle.tds_relay.proofs.steps.Sent as sent
 use Rattle.tds_service.specs.Service as calls
@@ -22,3 +24,9 @@ returns-in-Ok-clause-others c = deed_others c.args.self.now _ c.args.key c.in-So
 
 pub returns-in-Err-clause-others : goal.returns-in-Err-clause-others
 returns-in-Err-clause-others c = deed_same c.args.self.now _ c.args.key (search rules)
+
+pub returns-in-Err-clause-refused : goal.returns-in-Err-clause-refused
+returns-in-Err-clause-refused c = λ hold its count.
+    let mine : find_key c.args.key (desk_in c.args.self.now).holds ≡ Some c.in-Some.hold = search rules in
+    let same : c.in-Some.hold ≡ hold = (let u : Some c.in-Some.hold ≡ Some hold = sym mine ∙ its in cc) in
+    subst (λ (h : Hold). Refuses (calls.Finish h.lease count) (service_in c.args.self.now.service) c.in-Err.refusal) same (c.in-Err.ensures.refused count)

@@ -1,5 +1,5 @@
 use Rattle.std.proofs.Common.{refl}
-use Rattle.tds_relay.specs.Words.{text_of_cleaning, two_bytes_each}
+use Rattle.tds_relay.specs.Cleaning.{text_of_cleaning, two_bytes_each}
 use Rattle.tds_relay.proofs.desk.leaving.cleaning_text.Goals as goal
 
 pub returns : goal.returns

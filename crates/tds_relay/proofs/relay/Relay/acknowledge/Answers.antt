@@ -1,11 +1,12 @@
-use Rattle.std.proofs.Common.{◌∙◌, None, ap, option_map, refl, sym}
-use Rattle.tds_relay.specs.Posts.{Posts, acknowledgement, tagged, post_at, post_in, put, names_of, posts_in}
+use Rattle.std.proofs.Common.{◌∙◌, None, ap, option_map, refl, subst, sym}
+use Rattle.tds_relay.specs.Posts.{Posts, acknowledgement, give, tagged, post_at, post_in, put, names_of, posts_in}
 use Rattle.tds_relay.proofs.steps.Fronts.{ends_kept, moves_same}
 use Rattle.tds_relay.proofs.steps.Posting.{kept_more, posts_changed}
 use Rattle.tds_relay.proofs.steps.Reaching.{ok_more}
 use Rattle.tds_relay.proofs.steps.Renaming.{put_called, names_given}
 use Rattle.tds_relay.proofs.steps.Bodied.{asks_kept_on}
-use Rattle.tds_relay.specs.Closings.{Itself}
+use Rattle.tds_relay.specs.Reasons.{IsOverfull, ItselfFor}
+use Rattle.tds_relay.proofs.spared.Reasons.{for_that}
 use Rattle.tds_front.specs.declared.front.Said.TheVariants as said
 use Rattle.tds_relay.proofs.spared.Ended.{closes_given_on, woken_writes}
 use Rattle.std.proofs.lemmas.List.{get_or-set_other}
@@ -31,7 +32,8 @@ pub returns-in_ok-append-in-Some-clause-closes : goal.returns-in_ok-append-in-So
 returns-in_ok-append-in-Some-clause-closes c =
     let s = c.args.self.now.applications in
     let a = c.in-Some.application.now in
-    closes_given_on c.order_write.result (Itself c.args.key) c.args.key _ _ _ (ends_kept s c.args.key a _ c.in-Some.ensures.value refl) (ap names_of (posts_changed s c.args.key a _ (put acknowledgement) c.in-Some.ensures.value (ap (tagged a.tag) c.in_ok-append-in-Some.ensures.post ∙ sym (put_called a.tag acknowledgement (post_in a.out)))) ∙ names_given c.args.key said.Acknowledge (posts_in s))
-    (λ k differs. ap (λ (ps : Posts). post_at ps k)
-    (posts_changed s c.args.key a _ (put acknowledgement) c.in-Some.ensures.value (ap (tagged a.tag) c.in_ok-append-in-Some.ensures.post ∙ sym (put_called a.tag acknowledgement (post_in a.out)))) ∙ get_or-set_other (posts_in s) c.args.key k (option_map (put acknowledgement) (post_at (posts_in s) c.args.key)) None differs) refl refl refl
-    c.order_write.ensures.closes (ok_more c.order_write.result _ _ (λ w. woken_writes c.args.key c.order_write.new.self.applications c.order_write.new.self.orders.items w) c.order_write.ensures.wakes)
+    let same = posts_changed s c.args.key a _ (put acknowledgement) c.in-Some.ensures.value (ap (tagged a.tag) c.in_ok-append-in-Some.ensures.post ∙ sym (put_called a.tag acknowledgement (post_in a.out))) in
+    closes_given_on c.order_write.result (ItselfFor c.args.key (IsOverfull (post_at (give c.args.key acknowledgement (posts_in s)) c.args.key))) c.args.key _ _ _ (ends_kept s c.args.key a _ c.in-Some.ensures.value refl) (ap names_of same ∙ names_given c.args.key said.Acknowledge (posts_in s))
+    (λ k differs. ap (λ (ps : Posts). post_at ps k) same ∙ get_or-set_other (posts_in s) c.args.key k (option_map (put acknowledgement) (post_at (posts_in s) c.args.key)) None differs) refl refl refl
+    (for_that c.order_write.result c.args.key _ _ _ _ (λ full. subst (λ (ps : Posts). IsOverfull (post_at ps c.args.key)) same full) c.order_write.ensures.closes)
+    (ok_more c.order_write.result _ _ (λ w. woken_writes c.args.key c.order_write.new.self.applications c.order_write.new.self.orders.items w) c.order_write.ensures.wakes)

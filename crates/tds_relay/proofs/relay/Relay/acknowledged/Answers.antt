@@ -6,6 +6,7 @@ use Rattle.std.proofs.Common.{refl}
 use Rattle.tds_relay.specs.Closings.{Nobody}
 use Rattle.tds_relay.proofs.spared.Sending.{kept_refl}
 use Rattle.tds_relay.proofs.spared.Shutting.{closes_moved, keeps_acknowledged, unclosed}
+use Rattle.tds_relay.proofs.spared.Losing.{taken_or_deaf}
 use Rattle.tds_relay.proofs.relay.Relay.acknowledged.Goals as goal
 
 pub returns-in-Some-clause-kept : goal.returns-in-Some-clause-kept
@@ -20,3 +21,6 @@ returns-in-Some-clause-closes c =
     let a = c.in-Some.application.now in
     closes_moved Nobody c.args.key (told whats.Acknowledged) _ _ keeps_acknowledged (ends_moved s c.args.key a c.acknowledged.new.self (told whats.Acknowledged) c.in-Some.ensures.value c.acknowledged.ensures.end)
     (posts_kept s c.args.key a c.acknowledged.new.self c.in-Some.ensures.value c.acknowledged.ensures.post) refl (kept_refl c.args.self.now.links.items) (unclosed _ _ refl)
+
+pub returns-in-Some-clause-resumes : goal.returns-in-Some-clause-resumes
+returns-in-Some-clause-resumes c = λ resumes. (c.args.key, refl, taken_or_deaf c.args.self.now.applications c.args.key c.in-Some.application.now c.in-Some.ensures.value (c.acknowledged.ensures.resumes resumes))

@@ -13,7 +13,12 @@ use Rattle.tds_relay.proofs.steps.Bodied.{none_closed, same_starts, shut_starts}
 use Rattle.tds_relay.proofs.steps.Going.{begun}
 use Rattle.tds_relay.proofs.steps.Underway.{waits_written, written_there}
 use Rattle.tds_relay.proofs.steps.Posting.{posts_kept}
-use Rattle.tds_relay.specs.Closings.{Itself}
+use Rattle.std.proofs.Common.{inr}
+use Rattle.std.specs.Prelude.{IsSome}
+use Rattle.tds_relay.specs.Closings.{IsNoRequest}
+use Rattle.tds_relay.specs.Desk.{find_key}
+use Rattle.tds_relay.specs.Reasons.{CannotBegin, CannotPart, ItselfFor}
+use Rattle.tds_relay.proofs.spared.Reasons.{for_reason, for_that, no_request}
 use Rattle.tds_relay.proofs.spared.Closings.{closes_both, closes_nobody, closes_on}
 use Rattle.tds_relay.proofs.spared.Sending.{kept_refl}
 use Rattle.tds_relay.proofs.spared.Shutting.{closes_kept, unclosed}
@@ -93,24 +98,36 @@ pub returns-in-false-default-clause-body : goal.returns-in-false-default-clause-
 returns-in-false-default-clause-body c = ok_if c.wait.result _ (_, begun (get (with_value c.args.self.now.applications c.args.key c.forget.new.self) c.args.key) _ c.forget.new.self c.args.kind c.in-Some-message_kind.kind (written_there c.args.self.now.applications c.args.key c.in-Some.application.now c.forget.new.self c.in-Some.ensures.value) c.forget.ensures.asking c.forget.ensures.body.1 (search rules), same_starts _ (body_of c.args.key c.wait.new.self) (c.wait.ensures.body c.args.key))
 
 pub returns-in_default-message_kind-clause-closes : goal.returns-in_default-message_kind-clause-closes
-returns-in_default-message_kind-clause-closes c = closes_on c.expel.result (Itself c.args.key) _ _ _ c.expel.ensures.closes
-    (closes_kept (Itself c.args.key) _ _ (ends_kept c.args.self.now.applications c.args.key c.in-Some.application.now c.in-Some.application.now c.in-Some.ensures.value refl) (posts_kept c.args.self.now.applications c.args.key c.in-Some.application.now c.in-Some.application.now c.in-Some.ensures.value refl) refl (kept_refl c.args.self.now.links.items) (unclosed _ _ refl))
+returns-in_default-message_kind-clause-closes c =
+    let none : IsNoRequest c.args.kind = search rules in
+    closes_on c.expel.result (ItselfFor c.args.key (CannotBegin c.args.kind c.args.reset c.args.key (end_at (ends_in c.args.self.now.applications) c.args.key) c.args.self.now.desk)) _ _ _ (for_reason c.expel.result c.args.key _ _ _ (no_request c.args.kind c.args.reset c.args.key _ c.args.self.now.desk none) c.expel.ensures.closes)
+    (closes_kept _ _ _ (ends_kept c.args.self.now.applications c.args.key c.in-Some.application.now c.in-Some.application.now c.in-Some.ensures.value refl) (posts_kept c.args.self.now.applications c.args.key c.in-Some.application.now c.in-Some.application.now c.in-Some.ensures.value refl) refl (kept_refl c.args.self.now.links.items) (unclosed _ _ refl))
 
 pub returns-in-false-default-clause-closes : goal.returns-in-false-default-clause-closes
-returns-in-false-default-clause-closes c = ok_if c.wait.result _ (closes_both (Itself c.args.key) _ _ _
-    (closes_kept (Itself c.args.key) _ _ (ends_kept c.args.self.now.applications c.args.key c.in-Some.application.now c.forget.new.self c.in-Some.ensures.value c.forget.ensures.end) (posts_kept c.args.self.now.applications c.args.key c.in-Some.application.now c.forget.new.self c.in-Some.ensures.value c.forget.ensures.post) refl (kept_refl c.args.self.now.links.items) (unclosed _ _ refl)) (closes_nobody (Itself c.args.key) _ _ c.wait.ensures.closes))
+returns-in-false-default-clause-closes c = ok_if c.wait.result _ (closes_both (ItselfFor c.args.key (CannotBegin c.args.kind c.args.reset c.args.key (end_at (ends_in c.args.self.now.applications) c.args.key) c.args.self.now.desk)) _ _ _
+    (closes_kept _ _ _ (ends_kept c.args.self.now.applications c.args.key c.in-Some.application.now c.forget.new.self c.in-Some.ensures.value c.forget.ensures.end) (posts_kept c.args.self.now.applications c.args.key c.in-Some.application.now c.forget.new.self c.in-Some.ensures.value c.forget.ensures.post) refl (kept_refl c.args.self.now.links.items) (unclosed _ _ refl)) (closes_nobody _ _ _ c.wait.ensures.closes))
 
 pub returns-in-true-None-clause-closes : goal.returns-in-true-None-clause-closes
-returns-in-true-None-clause-closes c = closes_on c.start.result (Itself c.args.key) _ _ _ c.start.ensures.closes
-    (closes_kept (Itself c.args.key) _ _ (ends_kept c.args.self.now.applications c.args.key c.in-Some.application.now c.forget.new.self c.in-Some.ensures.value c.forget.ensures.end) (posts_kept c.args.self.now.applications c.args.key c.in-Some.application.now c.forget.new.self c.in-Some.ensures.value c.forget.ensures.post) refl (kept_refl c.args.self.now.links.items) (unclosed _ _ refl))
+returns-in-true-None-clause-closes c =
+    let none : c.args.reset ≡ None = search rules in
+    let held : IsSome (find_key c.args.key (desk_in c.args.self.now.desk).holds) = search rules in
+    closes_on c.start.result (ItselfFor c.args.key (CannotBegin c.args.kind c.args.reset c.args.key (end_at (ends_in c.args.self.now.applications) c.args.key) c.args.self.now.desk)) _ _ _ (for_reason c.start.result c.args.key _ _ _ (subst (λ (r : Option Reset). CannotBegin c.args.kind r c.args.key (end_at (ends_in c.args.self.now.applications) c.args.key) c.args.self.now.desk) (sym none) (inr held)) c.start.ensures.closes)
+    (closes_kept _ _ _ (ends_kept c.args.self.now.applications c.args.key c.in-Some.application.now c.forget.new.self c.in-Some.ensures.value c.forget.ensures.end) (posts_kept c.args.self.now.applications c.args.key c.in-Some.application.now c.forget.new.self c.in-Some.ensures.value c.forget.ensures.post) refl (kept_refl c.args.self.now.links.items) (unclosed _ _ refl))
 
 pub returns-then-may_keep_later-clause-closes : goal.returns-then-may_keep_later-clause-closes
-returns-then-may_keep_later-clause-closes c = closes_kept (Itself c.args.key) _ _ (ends_kept c.args.self.now.applications c.args.key c.in-Some.application.now c.forget.new.self c.in-Some.ensures.value c.forget.ensures.end) (posts_kept c.args.self.now.applications c.args.key c.in-Some.application.now c.forget.new.self c.in-Some.ensures.value c.forget.ensures.post) refl (kept_refl c.args.self.now.links.items) (unclosed _ _ refl)
+returns-then-may_keep_later-clause-closes c = (closes_kept _ _ _ (ends_kept c.args.self.now.applications c.args.key c.in-Some.application.now c.forget.new.self c.in-Some.ensures.value c.forget.ensures.end) (posts_kept c.args.self.now.applications c.args.key c.in-Some.application.now c.forget.new.self c.in-Some.ensures.value c.forget.ensures.post) refl (kept_refl c.args.self.now.links.items) (unclosed _ _ refl))
 
 pub returns-else-may_keep_later-clause-closes : goal.returns-else-may_keep_later-clause-closes
-returns-else-may_keep_later-clause-closes c = closes_on c.renew.result (Itself c.args.key) _ _ _ c.renew.ensures.closes
-    (closes_kept (Itself c.args.key) _ _ (ends_kept c.args.self.now.applications c.args.key c.in-Some.application.now c.forget.new.self c.in-Some.ensures.value c.forget.ensures.end) (posts_kept c.args.self.now.applications c.args.key c.in-Some.application.now c.forget.new.self c.in-Some.ensures.value c.forget.ensures.post) refl (kept_refl c.args.self.now.links.items) (unclosed _ _ refl))
+returns-else-may_keep_later-clause-closes c =
+    let keeps : c.args.reset ≡ Some KeepTransaction = search rules in
+    let held : IsSome (find_key c.args.key (desk_in c.args.self.now.desk).holds) = search rules in
+    closes_on c.renew.result (ItselfFor c.args.key (CannotBegin c.args.kind c.args.reset c.args.key (end_at (ends_in c.args.self.now.applications) c.args.key) c.args.self.now.desk)) _ _ _ (for_reason c.renew.result c.args.key _ _ _ (subst (λ (r : Option Reset). CannotBegin c.args.kind r c.args.key (end_at (ends_in c.args.self.now.applications) c.args.key) c.args.self.now.desk) (sym keeps) (inr held)) c.renew.ensures.closes)
+    (closes_kept _ _ _ (ends_kept c.args.self.now.applications c.args.key c.in-Some.application.now c.forget.new.self c.in-Some.ensures.value c.forget.ensures.end) (posts_kept c.args.self.now.applications c.args.key c.in-Some.application.now c.forget.new.self c.in-Some.ensures.value c.forget.ensures.post) refl (kept_refl c.args.self.now.links.items) (unclosed _ _ refl))
 
 pub returns-in-true-Some-Full-clause-closes : goal.returns-in-true-Some-Full-clause-closes
-returns-in-true-Some-Full-clause-closes c = closes_on c.change.result (Itself c.args.key) _ _ _ c.change.ensures.closes
-    (closes_kept (Itself c.args.key) _ _ (ends_kept c.args.self.now.applications c.args.key c.in-Some.application.now c.forget.new.self c.in-Some.ensures.value c.forget.ensures.end) (posts_kept c.args.self.now.applications c.args.key c.in-Some.application.now c.forget.new.self c.in-Some.ensures.value c.forget.ensures.post) refl (kept_refl c.args.self.now.links.items) (unclosed _ _ refl))
+returns-in-true-Some-Full-clause-closes c =
+    let full : c.args.reset ≡ Some Full = search rules in
+    let same = ends_kept c.args.self.now.applications c.args.key c.in-Some.application.now c.forget.new.self c.in-Some.ensures.value c.forget.ensures.end in
+    closes_on c.change.result (ItselfFor c.args.key (CannotBegin c.args.kind c.args.reset c.args.key (end_at (ends_in c.args.self.now.applications) c.args.key) c.args.self.now.desk)) _ _ _
+    (for_that c.change.result c.args.key _ _ _ _ (λ why. subst (λ (r : Option Reset). CannotBegin c.args.kind r c.args.key (end_at (ends_in c.args.self.now.applications) c.args.key) c.args.self.now.desk) (sym full) (inr (subst (λ (es : Ends). CannotPart c.args.key (end_at es c.args.key) c.args.self.now.desk) same why))) c.change.ensures.closes)
+    (closes_kept _ _ _ (ends_kept c.args.self.now.applications c.args.key c.in-Some.application.now c.forget.new.self c.in-Some.ensures.value c.forget.ensures.end) (posts_kept c.args.self.now.applications c.args.key c.in-Some.application.now c.forget.new.self c.in-Some.ensures.value c.forget.ensures.post) refl (kept_refl c.args.self.now.links.items) (unclosed _ _ refl))

@@ -1,5 +1,5 @@
 use Rattle.tds_relay.specs.Fronts.{house_in}
-use Rattle.tds_relay.specs.Ties.{Connection}
+use Rattle.tds_relay.specs.Ties.{Connection, desk_in}
 use Rattle.tds_relay.proofs.steps.Stepping.{steps_on_ok}
 use Rattle.tds_relay.proofs.bytes.Streaming.{comes, streams_steps}
 use Rattle.tds_relay.proofs.steps.Staying.{others_served}
@@ -13,7 +13,8 @@ use Rattle.tds_relay.proofs.spared.Ordered.{ordered_on}
 use Rattle.tds_relay.proofs.spared.Waking.{wakes_on}
 use Rattle.tds_relay.proofs.steps.Reaching.{ok_more, reached_on}
 use Rattle.tds_relay.proofs.steps.Told.{deaf_led_on}
-use Rattle.tds_relay.specs.Closings.{register_in}
+use Rattle.tds_relay.specs.Closings.{IsWaiting, register_in}
+use Rattle.tds_relay.specs.Reasons.{HeardFor, InLine}
 use Rattle.tds_relay.proofs.spared.Closings.{closes_done_on}
 use Rattle.tds_relay.proofs.spared.Few.{few_behind, most_kept}
 use Rattle.tds_relay.proofs.relay.Relay.came.Goals as goal
@@ -48,7 +49,9 @@ returns-clause-wakes c =
     (λ key d. deaf_led_on c.serve_line.result Neither key (hall_in c.hear_all.new.self) (hall_in c.serve_line.new.self) (ok_more c.serve_line.result _ _ (λ m. m Neither) c.serve_line.ensures.moves) d)
 
 pub returns-clause-closes : goal.returns-clause-closes
-returns-clause-closes c = closes_done_on c.serve_line.result _ (register_in c.args.self.now) (register_in c.hear_all.new.self) (register_in c.serve_line.new.self) c.serve_line.ensures.closes c.serve_line.ensures.kept c.in_ok-hear_all.ensures.closes
+returns-clause-closes c =
+    closes_done_on c.serve_line.result (IsWaiting (desk_in c.hear_all.new.self.desk).line) (HeardFor c.args.number c.args.piece.now c.args.self.now) (register_in c.args.self.now) (register_in c.hear_all.new.self) (register_in c.serve_line.new.self)
+    (λ key waits. InLine c.hear_all.new.self c.in_ok-hear_all.ensures.streams waits) c.serve_line.ensures.closes c.serve_line.ensures.kept c.in_ok-hear_all.ensures.closes
 
 pub returns-clause-few : goal.returns-clause-few
 returns-clause-few c = few_behind c.serve_line.result _ _ _ _ _ (most_kept _ _ (c.in_ok-hear_all.ensures.closes.told)) (c.in_ok-hear_all.ensures.none) c.serve_line.ensures.few

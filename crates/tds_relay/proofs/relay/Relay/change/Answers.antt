@@ -10,6 +10,8 @@ use Rattle.slab.specs.Slab.{get}
 use Rattle.tds_relay.proofs.steps.Bodied.{shut_starts}
 use Rattle.tds_relay.proofs.steps.Going.{waits_starts}
 use Rattle.tds_relay.specs.Closings.{Itself, Nobody}
+use Rattle.tds_relay.specs.Reasons.{Held, Out}
+use Rattle.tds_relay.proofs.spared.Reasons.{for_reason}
 use Rattle.tds_relay.proofs.spared.Closings.{closes_both, closes_first, closes_nobody}
 use Rattle.tds_relay.proofs.relay.Relay.change.Goals as goal
 
@@ -22,7 +24,7 @@ returns-clause-goes c = ok_more c.wait.result _ _ (λ g from h. g (Application c
 pub returns-clause-moves : goal.returns-clause-moves
 returns-clause-moves c =
     ok_more c.wait.result _ _
-    (λ m asks from h. m (Application c.args.key) refl from (moves_lets_go c.args.key from _ _ _ (c.has_nothing_out.ensures (search rules), asks) c.in_ok-release.ensures.lets_go h))
+    (λ m asks from h. m (Application c.args.key) refl from (moves_lets_go c.args.key from _ _ _ (c.has_nothing_out.ensures.here (search rules), asks) c.in_ok-release.ensures.lets_go h))
     c.wait.ensures.moves
 
 pub returns-clause-read : goal.returns-clause-read
@@ -37,7 +39,7 @@ returns-then-is_some-clause-goes c = ok_more c.expel-then-is_some.result _ _ (λ
 pub returns-then-is_some-clause-moves : goal.returns-then-is_some-clause-moves
 returns-then-is_some-clause-moves c =
     ok_more c.expel-then-is_some.result _ _
-    (λ m asks from h. m from (moves_closes (Application c.args.key) from _ _ _ _ c.args.key refl refl (moves_lets_go c.args.key from _ _ _ (c.has_nothing_out.ensures (search rules), asks) c.in_ok-release.ensures.lets_go h)))
+    (λ m asks from h. m from (moves_closes (Application c.args.key) from _ _ _ _ c.args.key refl refl (moves_lets_go c.args.key from _ _ _ (c.has_nothing_out.ensures.here (search rules), asks) c.in_ok-release.ensures.lets_go h)))
     c.expel-then-is_some.ensures.moves
 
 pub returns-then-is_some-clause-underway : goal.returns-then-is_some-clause-underway
@@ -66,8 +68,12 @@ returns-clause-body c = λ whole waits.
     ok_if c.wait.result _ (waits_starts (get c.args.self.now.applications c.args.key) (get c.release.new.self.applications c.args.key) whole (going_of c.args.key c.args.self.now) (going_of c.args.key c.release.new.self) (body_of c.args.key c.wait.new.self) waits
     (c.in_ok-release.ensures.asks c.args.key (going_of c.args.key c.release.new.self)) (c.wait.ensures.body c.args.key))
 
+pub returns-then-not-has_nothing_out-clause-closes : goal.returns-then-not-has_nothing_out-clause-closes
+returns-then-not-has_nothing_out-clause-closes c = for_reason c.expel.result c.args.key _ _ _ (Out (c.has_nothing_out.ensures.out (search rules))) c.expel.ensures.closes
+
 pub returns-then-is_some-clause-closes : goal.returns-then-is_some-clause-closes
-returns-then-is_some-clause-closes c = closes_first c.expel-then-is_some.result (Itself c.args.key) _ _ _ c.expel-then-is_some.ensures.closes c.in_ok-release.ensures.closes
+returns-then-is_some-clause-closes c = for_reason c.expel-then-is_some.result c.args.key _ _ _ (Held c.release.new.self.desk c.in_ok-release.ensures.leaving (search rules))
+    (closes_first c.expel-then-is_some.result (Itself c.args.key) _ _ _ c.expel-then-is_some.ensures.closes c.in_ok-release.ensures.closes)
 
 pub returns-clause-closes : goal.returns-clause-closes
-returns-clause-closes c = ok_if c.wait.result _ (closes_nobody (Itself c.args.key) _ _ (closes_both Nobody _ _ _ c.in_ok-release.ensures.closes c.wait.ensures.closes))
+returns-clause-closes c = ok_if c.wait.result _ (closes_nobody _ _ _ (closes_both Nobody _ _ _ c.in_ok-release.ensures.closes c.wait.ensures.closes))

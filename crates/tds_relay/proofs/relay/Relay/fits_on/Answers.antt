@@ -3,6 +3,7 @@ use Rattle.tds_relay.specs.Closings.{Nobody, register_in}
 use Rattle.tds_relay.proofs.steps.Staying.{stays_then}
 use Rattle.tds_relay.proofs.spared.Shutting.{closes_filled_on, closes_kept, unclosed, unfit_kept}
 use Rattle.tds_relay.proofs.spared.Begun.{answers_same, answers_both}
+use Rattle.tds_relay.proofs.spared.Lasting.{last_put, last_unfit}
 use Rattle.tds_relay.proofs.relay.Relay.fits_on.Goals as goal
 
 pub returns-clause-read : goal.returns-clause-read
@@ -18,3 +19,9 @@ returns-clause-closes c =
 
 pub returns-clause-answers : goal.returns-clause-answers
 returns-clause-answers c = answers_both _ _ _ c.append_to.ensures.answers (answers_same _ _ c.in_ok-order_write_on.ensures.links)
+
+pub returns-then-not-fits-clause-lasts : goal.returns-then-not-fits-clause-lasts
+returns-then-not-fits-clause-lasts c = last_unfit c.args.number _ _ c.append_to.ensures.others (c.in_ok-fits.ensures.unfit (search rules))
+
+pub returns-clause-lasts : goal.returns-clause-lasts
+returns-clause-lasts c = last_put c.args.number c.deref.result.now _ _ _ c.append_to.ensures.others (c.in_ok-fits.ensures.appends (search rules)) c.in_ok-order_write_on.ensures.links

@@ -1,11 +1,15 @@
-use Rattle.std.proofs.Common.{refl}
+use Rattle.std.proofs.Common.{List, refl, subst}
 use Rattle.tds_relay.specs.Ties.{Application}
 use Rattle.tds_relay.proofs.steps.Fronts.{moves_does}
 use Rattle.tds_relay.proofs.steps.Reaching.{ok_more}
 use Rattle.tds_relay.proofs.steps.Staying.{stays_from, stays_refl, stays_then}
 use Rattle.tds_relay.proofs.bytes.Calls.{stand_on}
 use Rattle.tds_relay.proofs.steps.Bodied.{forgot_on}
-use Rattle.tds_relay.specs.Closings.{Itself}
+use Rattle.tds_relay.specs.declared.link.Link.{Link}
+use Rattle.tds_relay.specs.Fronts.{ends_in}
+use Rattle.tds_relay.specs.Hall.{Ends, end_at}
+use Rattle.tds_relay.specs.Reasons.{CannotUnask}
+use Rattle.tds_relay.proofs.spared.Reasons.{for_that}
 use Rattle.tds_relay.proofs.spared.Closings.{closes_first, closes_nobody}
 use Rattle.tds_relay.proofs.relay.Relay.forget.Goals as goal
 
@@ -35,7 +39,20 @@ pub returns-then-was_asked-clause-body : goal.returns-then-was_asked-clause-body
 returns-then-was_asked-clause-body c = forgot_on c.unask.result c.forget_request-was_asked.new.self.applications c.unask.new.self.applications c.args.key c.forget_request-was_asked.ensures.body c.unask.ensures.asks
 
 pub returns-then-was_asked-clause-closes : goal.returns-then-was_asked-clause-closes
-returns-then-was_asked-clause-closes c = closes_first c.unask.result (Itself c.args.key) _ _ _ c.unask.ensures.closes c.forget_request-was_asked.ensures.closes
+returns-then-was_asked-clause-closes c =
+    let mid = c.forget_request-was_asked.new.self in
+    closes_first c.unask.result _ _ _ _
+    (for_that c.unask.result c.args.key _ _ _ _
+    (λ why. record {
+      mid = mid.desk;
+      holds = c.forget_request-was_asked.ensures.holds;
+      service = c.forget_request-was_asked.ensures.service;
+      cannot =
+          subst (λ (ls : List Link). CannotUnask c.args.key (end_at (ends_in c.args.self.now.applications) c.args.key) mid.desk ls) c.forget_request-was_asked.ensures.links
+          (subst (λ (es : Ends). CannotUnask c.args.key (end_at es c.args.key) mid.desk mid.links.items) c.forget_request-was_asked.ensures.ends why);
+    })
+    c.unask.ensures.closes)
+    c.forget_request-was_asked.ensures.closes
 
 pub returns-else-was_asked-clause-closes : goal.returns-else-was_asked-clause-closes
-returns-else-was_asked-clause-closes c = closes_nobody (Itself c.args.key) _ _ c.forget_request-was_asked.ensures.closes
+returns-else-was_asked-clause-closes c = closes_nobody _ _ _ c.forget_request-was_asked.ensures.closes

@@ -1,6 +1,9 @@
 use Rattle.std.proofs.Common.{ap, refl, ◌≡◌, ◌∙◌, Option, rules, subst}
 use Rattle.tds_relay.specs.declared.application.Asking.TheVariants as asking
-use Rattle.tds_relay.specs.Hall.{change_end, closes}
+use Rattle.tds_relay.specs.Fronts.{ends_in}
+use Rattle.tds_relay.specs.Hall.{Ends, change_end, closes, end_at}
+use Rattle.tds_relay.specs.Reasons.{CannotGoOn, CannotPut, ItselfFor, room_left}
+use Rattle.tds_relay.proofs.spared.Reasons.{for_reason, for_that, held_goes, nothing_goes, put_goes, too_long}
 use Rattle.tds_relay.specs.Ties.{Application}
 use Rattle.tds_relay.proofs.steps.Fronts.{ends_kept, moves_closes}
 use Rattle.tds_relay.proofs.steps.Reaching.{ok_if, ok_more}
@@ -67,22 +70,6 @@ returns-in-Goes-clause-body c =
     ))
     c.put.ensures.body
 
-pub returns-in-Nothing-clause-closes : goal.returns-in-Nothing-clause-closes
-returns-in-Nothing-clause-closes c = closes_on c.expel.result (Itself c.args.key) _ _ _ c.expel.ensures.closes
-    (closes_kept (Itself c.args.key) _ _ (ends_kept c.args.self.now.applications c.args.key c.in-Some.application.now c.in-Some.application.now c.in-Some.ensures.value refl) (posts_kept c.args.self.now.applications c.args.key c.in-Some.application.now c.in-Some.application.now c.in-Some.ensures.value refl) refl (kept_refl c.args.self.now.links.items) (unclosed _ _ refl))
-
-pub returns-then-not-branch-clause-closes : goal.returns-then-not-branch-clause-closes
-returns-then-not-branch-clause-closes c = closes_on c.expel-then-not-branch.result (Itself c.args.key) _ _ _ c.expel-then-not-branch.ensures.closes
-    (closes_kept (Itself c.args.key) _ _ (ends_kept c.args.self.now.applications c.args.key c.in-Some.application.now c.keep.new.self c.in-Some.ensures.value c.keep.ensures.end) (posts_kept c.args.self.now.applications c.args.key c.in-Some.application.now c.keep.new.self c.in-Some.ensures.value c.keep.ensures.post) refl (kept_refl c.args.self.now.links.items) (unclosed _ _ refl))
-
-pub returns-else-not-branch-clause-closes : goal.returns-else-not-branch-clause-closes
-returns-else-not-branch-clause-closes c = closes_on c.seek.result (Itself c.args.key) _ _ _ c.seek.ensures.closes
-    (closes_kept (Itself c.args.key) _ _ (ends_kept c.args.self.now.applications c.args.key c.in-Some.application.now _ c.in-Some.ensures.value c.keep.ensures.end) (posts_kept c.args.self.now.applications c.args.key c.in-Some.application.now _ c.in-Some.ensures.value c.keep.ensures.post) refl (kept_refl c.args.self.now.links.items) (unclosed _ _ refl))
-
-pub returns-in-Goes-clause-closes : goal.returns-in-Goes-clause-closes
-returns-in-Goes-clause-closes c = closes_on c.put.result (Itself c.args.key) _ _ _ c.put.ensures.closes
-    (closes_kept (Itself c.args.key) _ _ (ends_kept c.args.self.now.applications c.args.key c.in-Some.application.now c.in-Some.application.now c.in-Some.ensures.value refl) (posts_kept c.args.self.now.applications c.args.key c.in-Some.application.now c.in-Some.application.now c.in-Some.ensures.value refl) refl (kept_refl c.args.self.now.links.items) (unclosed _ _ refl))
-
 pub returns-in_default-clause-keeps : goal.returns-in_default-clause-keeps
 returns-in_default-clause-keeps c = λ none. no_application c.args.whole c.args.bytes.now _ _ (search rules)
 
@@ -114,3 +101,36 @@ returns-else-not-branch-clause-keeps c = λ none.
     (λ same. subst (λ (o : Option AnApplication). KeepsInLine c.args.whole c.args.bytes.now o (body_of c.args.key c.seek.new.self)) there
     (λ here fits kind was asks. same ∙ kept_more _ a _ _ c.in-Waits.kind kind _ was c.args.whole c.args.bytes.now (written_there s c.args.key a _ there) here c.in-Waits.is asks refl kept.0 kept.1))
     (c.seek.ensures.stays none)
+
+pub returns-in-Nothing-clause-closes : goal.returns-in-Nothing-clause-closes
+returns-in-Nothing-clause-closes c = for_reason c.expel.result c.args.key _ _ _
+    (nothing_goes c.args.whole c.args.bytes.now c.args.key _ _ c.args.self.now.desk c.args.self.now.links.items (get c.args.self.now.applications c.args.key) c.in-Some.application.now (going_of c.args.key c.args.self.now) c.in-Some.ensures.value (search rules))
+    (closes_on c.expel.result (Itself c.args.key) _ _ _ c.expel.ensures.closes
+    (closes_kept (Itself c.args.key) _ _ (ends_kept c.args.self.now.applications c.args.key c.in-Some.application.now c.in-Some.application.now c.in-Some.ensures.value refl) (posts_kept c.args.self.now.applications c.args.key c.in-Some.application.now c.in-Some.application.now c.in-Some.ensures.value refl) refl (kept_refl c.args.self.now.links.items) (unclosed _ _ refl)))
+
+pub returns-then-not-branch-clause-closes : goal.returns-then-not-branch-clause-closes
+returns-then-not-branch-clause-closes c = for_reason c.expel-then-not-branch.result c.args.key _ _ _
+    (too_long c.args.whole c.args.bytes.now c.args.key _ c.args.self.now.desk c.args.self.now.links.items (get c.args.self.now.applications c.args.key) c.in-Some.application.now (going_of c.args.key c.args.self.now) c.in-Waits.kind _ c.in-Some.ensures.value c.in-Waits.is (c.in_ok-keep-in-Waits.ensures.long (search rules)))
+    (closes_on c.expel-then-not-branch.result (Itself c.args.key) _ _ _ c.expel-then-not-branch.ensures.closes
+    (closes_kept (Itself c.args.key) _ _ (ends_kept c.args.self.now.applications c.args.key c.in-Some.application.now c.keep.new.self c.in-Some.ensures.value c.keep.ensures.end) (posts_kept c.args.self.now.applications c.args.key c.in-Some.application.now c.keep.new.self c.in-Some.ensures.value c.keep.ensures.post) refl (kept_refl c.args.self.now.links.items) (unclosed _ _ refl)))
+
+pub returns-else-not-branch-clause-closes : goal.returns-else-not-branch-clause-closes
+returns-else-not-branch-clause-closes c =
+    let whole = c.args.whole in
+    let a = c.in-Some.application.now in
+    let s = c.args.self.now.applications in
+    closes_on c.seek.result (ItselfFor c.args.key (CannotGoOn whole c.args.bytes.now c.args.key (end_at (ends_in s) c.args.key) (room_left (get s c.args.key)) c.args.self.now.desk c.args.self.now.links.items (body_of c.args.key c.args.self.now))) _ _ _
+    (for_that c.seek.result c.args.key _ _ _ _ (held_goes whole c.args.bytes.now c.args.key _ _ c.args.self.now.desk c.args.self.now.links.items (get s c.args.key) a (going_of c.args.key c.args.self.now) c.in-Waits.kind _ c.in-Some.ensures.value c.in-Waits.is) c.seek.ensures.closes)
+    (closes_kept _ _ _ (ends_kept c.args.self.now.applications c.args.key c.in-Some.application.now _ c.in-Some.ensures.value c.keep.ensures.end) (posts_kept c.args.self.now.applications c.args.key c.in-Some.application.now _ c.in-Some.ensures.value c.keep.ensures.post) refl (kept_refl c.args.self.now.links.items) (unclosed _ _ refl))
+
+pub returns-in-Goes-clause-closes : goal.returns-in-Goes-clause-closes
+returns-in-Goes-clause-closes c =
+    let whole = c.args.whole in
+    let a = c.in-Some.application.now in
+    let s = c.args.self.now.applications in
+    let same = ends_kept s c.args.key a a c.in-Some.ensures.value refl in
+    closes_on c.put.result (ItselfFor c.args.key (CannotGoOn whole c.args.bytes.now c.args.key (end_at (ends_in s) c.args.key) (room_left (get s c.args.key)) c.args.self.now.desk c.args.self.now.links.items (body_of c.args.key c.args.self.now))) _ _ _
+    (for_that c.put.result c.args.key _ _ _ _
+    (λ why. put_goes whole c.args.bytes.now c.args.key _ _ c.args.self.now.desk c.args.self.now.links.items (get s c.args.key) a c.in-Some.ensures.value (search rules)
+    (subst (λ (es : Ends). CannotPut whole c.args.bytes.now c.args.key (end_at es c.args.key) c.args.self.now.desk c.args.self.now.links.items) same why)) c.put.ensures.closes)
+    (closes_kept _ _ _ (ends_kept c.args.self.now.applications c.args.key c.in-Some.application.now c.in-Some.application.now c.in-Some.ensures.value refl) (posts_kept c.args.self.now.applications c.args.key c.in-Some.application.now c.in-Some.application.now c.in-Some.ensures.value refl) refl (kept_refl c.args.self.now.links.items) (unclosed _ _ refl))

@@ -1,4 +1,5 @@
-use Rattle.std.proofs.Common.{◌∙◌, ap, inl, inr, refl, subst, sym}
+use Rattle.std.proofs.Common.{◌∙◌, List, ap, inl, inr, refl, subst, sym}
+use Rattle.tds_relay.specs.declared.link.Link.{Link}
 use Rattle.tds_relay.specs.Fronts.{ends_in, hall_in, hall_of_ends}
 use Rattle.tds_relay.specs.Hall.{Hall, IsHere, Moves, change_end, closes}
 use Rattle.tds_relay.specs.Ties.{Application, desk_in}
@@ -13,6 +14,8 @@ use Rattle.tds_relay.proofs.steps.Bodied.{shut}
 use Rattle.tds_relay.proofs.steps.Halting.{halted}
 use Rattle.tds_relay.specs.Closings.{Itself}
 use Rattle.tds_relay.proofs.spared.Closings.{closes_first}
+use Rattle.tds_relay.specs.Reasons.{HasNoRoom}
+use Rattle.tds_relay.proofs.spared.Reasons.{for_reason, for_that, halts_unfit, none_of, some_of}
 use Rattle.tds_relay.proofs.relay.Relay.hand_on.Goals as goal
 
 pub returns-in-Some-clause-moves : goal.returns-in-Some-clause-moves
@@ -26,7 +29,7 @@ returns-in-Some-clause-moves c =
       first = no_moves by (hall_of_ends d before);
       same = refl;
       next = subst (λ (h : Hall). Moves by h (hall_in c.send_stop.new.self))
-          (sym (handed_on_is c.args.key d (desk_in c.stop.new.self.desk) before now bytes _ _ f c.in-Some.ensures.some.2))
+          (sym (handed_on_is c.args.key d (desk_in c.stop.new.self.desk) before now bytes _ _ f (some_of _ c.in-Some.number _ c.in-Some.is c.in_ok-number.ensures.some).2))
           (m by _ (moves_same by _ _ _ _ _ refl c.stop.ensures.ends (no_moves by (hall_of_ends (desk_in c.stop.new.self.desk) now))));
     }))
     c.send_stop.ensures.moves
@@ -64,14 +67,20 @@ returns-in-None-clause-stand c = stand_on c.expel.result _ _ _ c.stop.ensures.st
 
 pub returns-in-Some-clause-body : goal.returns-in-Some-clause-body
 returns-in-Some-clause-body c =
-    ok_more c.send_stop.result _ _ (λ s. halted c.args.key c.in-Some.number c.args.self.now c.stop.new.self c.send_stop.new.self c.in-Some.ensures.stops c.stop.ensures.links c.stop.ensures.asks s) c.send_stop.ensures.sends
+    ok_more c.send_stop.result _ _ (λ s. halted c.args.key c.in-Some.number c.args.self.now c.stop.new.self c.send_stop.new.self (some_of _ c.in-Some.number _ c.in-Some.is c.in_ok-number.ensures.stops) c.stop.ensures.links c.stop.ensures.asks s) c.send_stop.ensures.sends
 
 pub returns-in-None-clause-body : goal.returns-in-None-clause-body
 returns-in-None-clause-body c =
     ok_more c.expel.result _ _ (λ d. subst (Halts (body_of c.args.key c.args.self.now)) (sym (shut c.expel.new.self.applications c.args.key (going_of c.args.key c.expel.new.self) d)) ByClosing) c.expel.ensures.over
 
 pub returns-in-Some-clause-closes : goal.returns-in-Some-clause-closes
-returns-in-Some-clause-closes c = closes_first c.send_stop.result (Itself c.args.key) _ _ _ c.send_stop.ensures.closes c.stop.ensures.closes
+returns-in-Some-clause-closes c =
+    closes_first c.send_stop.result _ _ _ _
+    (for_that c.send_stop.result c.args.key _ _ _ _
+    (λ none. inr (halts_unfit c.args.key c.in-Some.number c.args.self.now c.stop.new.self c.args.self.now.links.items (some_of _ c.in-Some.number _ c.in-Some.is c.in_ok-number.ensures.stops)
+    (subst (λ (ls : List Link). HasNoRoom c.in-Some.number c.stop.new.self.outbox.items ls) c.stop.ensures.links none)))
+    c.send_stop.ensures.closes)
+    c.stop.ensures.closes
 
 pub returns-in-None-clause-closes : goal.returns-in-None-clause-closes
-returns-in-None-clause-closes c = closes_first c.expel.result (Itself c.args.key) _ _ _ c.expel.ensures.closes c.stop.ensures.closes
+returns-in-None-clause-closes c = for_reason c.expel.result c.args.key _ _ _ (inl (none_of _ _ c.in-None.is c.in_ok-number.ensures.none)) (closes_first c.expel.result (Itself c.args.key) _ _ _ c.expel.ensures.closes c.stop.ensures.closes)

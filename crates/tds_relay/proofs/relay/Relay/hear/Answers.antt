@@ -8,6 +8,8 @@ use Rattle.tds_relay.specs.Posts.{post_in, posts_in}
 use Rattle.tds_relay.specs.Ties.{desk_in}
 use Rattle.tds_relay.specs.Reads.{bytes_on, place_of}
 use Rattle.tds_relay.proofs.bytes.Streaming.{hear_at, unheard, unopened}
+use Rattle.tds_relay.proofs.bytes.Turns.{less_at, less_nowhere, less_shut, takes_at}
+use Rattle.tds_service.specs.Table.{reading_on}
 use Rattle.tds_relay.proofs.steps.Placed.{others_written}
 use Rattle.tds_relay.proofs.steps.Staying.{others_open, opens_refl}
 use Rattle.tds_relay.proofs.steps.Reaching.{ok_if}
@@ -15,6 +17,10 @@ use Rattle.std.proofs.Common.{inl}
 use Rattle.tds_relay.specs.Sending.{sending_of}
 use Rattle.tds_relay.proofs.spared.Sending.{same_written, sending_same}
 use Rattle.tds_relay.proofs.indexed.Placing.{placed_written}
+use Rattle.std.proofs.Common.{◌≡◌, List, [], slice_index_or, subst, ℕ}
+use Rattle.std.specs.Prelude.{IfOk}
+use Rattle.tds_relay.specs.Reasons.{Cleans}
+use Rattle.tds_relay.proofs.spared.Losing.{heard_as, posts_written}
 use Rattle.tds_relay.proofs.relay.Relay.hear.Goals as goal
 
 pub returns-in_default-clause-continues : goal.returns-in_default-clause-continues
@@ -90,3 +96,64 @@ pub invariant_of-links-2 : goal.invariant_of-links-2
 invariant_of-links-2 c =
     placed_written c.links.inside.list.items c.links.inside.places.items c.in-Some.place c.index_mut-link.result.now _ c.links.invariant
     (c.hear_on.ensures.number ∙ ap (λ (l : Link). l.number) c.index_mut-link.ensures.value)
+
+pub returns-in_default-clause-less : goal.returns-in_default-clause-less
+returns-in_default-clause-less c = less_nowhere c.args.number c.args.self.now.links.items (sym c.place_in.ensures.is ∙ c.in_default.is)
+
+pub returns-then-not-link-clause-less : goal.returns-then-not-link-clause-less
+returns-then-not-link-clause-less c =
+    less_shut c.args.number c.links.inside.list.items c.in-Some.place c.index_mut-link.result.now
+    (ap (λ (v : Linked). place_of c.args.number v.items) c.links.view_is ∙ sym c.place_in.ensures.is ∙ c.in-Some.is)
+    c.index_mut-link.ensures.value (search rules)
+
+pub returns-clause-less : goal.returns-clause-less
+returns-clause-less c =
+    less_at c.hear_on.result c.args.number (reading_on c.args.number c.args.self.now.desk.service) c.links.inside.list.items c.in-Some.place c.index_mut-link.result.now c.hear_on.new.link c.args.piece.now (house_in c.args.self.now)
+    (λ (heard : Option Heard). house_with (desk_in c.hear_on.new.desk) (told_by heard (ends_in c.args.self.now.applications)) (posts_in c.hear_on.new.applications))
+    (ap (λ (v : Linked). place_of c.args.number v.items) c.links.view_is ∙ sym c.place_in.ensures.is ∙ c.in-Some.is)
+    c.index_mut-link.ensures.value c.hear_on.ensures.number (c.hear_on.ensures.is_open ∙ (search rules)) c.hear_on.ensures.hears
+
+pub returns-clause-takes : goal.returns-clause-takes
+returns-clause-takes c = rw (← c.links.view_is) (
+    takes_at c.hear_on.result c.args.number c.links.inside.list.items c.in-Some.place c.index_mut-link.result.now c.args.piece.now
+    (ap (λ (v : Linked). place_of c.args.number v.items) c.links.view_is ∙ sym c.place_in.ensures.is ∙ c.in-Some.is)
+    c.index_mut-link.ensures.value (search rules) c.hear_on.ensures.takes)
+
+pub returns-in_default-clause-hears : goal.returns-in_default-clause-hears
+returns-in_default-clause-hears c = inl (refl, refl)
+
+pub returns-then-not-link-clause-hears : goal.returns-then-not-link-clause-hears
+returns-then-not-link-clause-hears c = inl (refl, refl)
+
+pub returns-in_default-clause-cleans : goal.returns-in_default-clause-cleans
+returns-in_default-clause-cleans c = λ not. inl (search rules)
+
+pub returns-then-not-link-clause-cleans : goal.returns-then-not-link-clause-cleans
+returns-then-not-link-clause-cleans c = λ not. inl (search rules)
+
+pub returns-clause-cleans : goal.returns-clause-cleans
+returns-clause-cleans c =
+    subst (λ (xs : List ℕ). IfOk c.hear_on.result (λ heard. Cleans heard.1 xs c.hear_on.new.outbox.items)) (search rules) c.hear_on.ensures.cleans
+
+pub returns-in_default-clause-posts : goal.returns-in_default-clause-posts
+returns-in_default-clause-posts c = refl
+
+pub returns-then-not-link-clause-posts : goal.returns-then-not-link-clause-posts
+returns-then-not-link-clause-posts c = rw (← c.links.view_is) (
+    posts_written c.args.number c.links.inside.list.items c.in-Some.place c.index_mut-link.result.now _
+    (ap (λ (v : Linked). place_of c.args.number v.items) c.links.view_is ∙ sym c.place_in.ensures.is ∙ c.in-Some.is)
+    (ap (λ (l : Link). l.number) c.index_mut-link.ensures.value) (ap (λ (l : Link). l.out) c.index_mut-link.ensures.value))
+
+pub returns-clause-posts : goal.returns-clause-posts
+returns-clause-posts c = rw (← c.links.view_is) (
+    ok_if c.hear_on.result _ (posts_written c.args.number c.links.inside.list.items c.in-Some.place c.index_mut-link.result.now _
+    (ap (λ (v : Linked). place_of c.args.number v.items) c.links.view_is ∙ sym c.place_in.ensures.is ∙ c.in-Some.is)
+    (c.hear_on.ensures.number ∙ ap (λ (l : Link). l.number) c.index_mut-link.ensures.value)
+    (c.hear_on.ensures.out ∙ ap (λ (l : Link). l.out) c.index_mut-link.ensures.value)))
+
+pub returns-clause-hears : goal.returns-clause-hears
+returns-clause-hears c =
+    heard_as c.hear_on.result c.args.number c.args.piece.now c.in-Some.place c.index_mut-link.result.now c.hear_on.new.link c.args.self.now
+    (λ (heard : Option Heard). house_with (desk_in c.hear_on.new.desk) (told_by heard (ends_in c.args.self.now.applications)) (posts_in c.hear_on.new.applications))
+    (sym c.place_in.ensures.is ∙ c.in-Some.is)
+    (subst (λ (v : Linked). c.index_mut-link.result.now ≡ slice_index_or v.items c.in-Some.place c.index_mut-link.result.now) c.links.view_is c.index_mut-link.ensures.value) c.hear_on.ensures.hears

@@ -1,5 +1,6 @@
-use Rattle.std.proofs.Common.{◌≡◌}
-use Rattle.tds_relay.specs.Closings.{Anybody, ClosesOnly, but_told, register_in}
+use Rattle.std.proofs.Common.{◌≡◌, length}
+use Rattle.tds_relay.specs.Closings.{ClosesOnly, but_told, register_in}
+use Rattle.tds_relay.specs.Reasons.{HeardFor}
 use Rattle.tds_relay.specs.Coming.{AllAlong}
 use Rattle.tds_relay.specs.Few.{NoneNew}
 use Rattle.tds_relay.specs.Fronts.{house_in}
@@ -8,16 +9,18 @@ use Rattle.tds_relay.specs.Posts.{names_in, posts_in}
 use Rattle.tds_relay.specs.Reads.{OpensOthers, Streams, open_at}
 use Rattle.tds_relay.specs.Ties.{Connection, Goes, IsReached, desk_in}
 use Rattle.tds_relay.specs.Waking.{Wakes}
+use Rattle.tds_relay.proofs.bytes.Turns.{InTurns}
 use Rattle.tds_relay.proofs.relay.Relay.hear_all.Given as goal
 
 abbrev pub invariant-taking : goal.invariant-taking
 invariant-taking l = record {
+  turns : InTurns (open_at l.fn.number l.self.links.items) l.rest l.counter (length l.fn.piece);
   goes : Goes (Connection l.fn.number) (desk_in l.fn.self.desk) (desk_in l.self.desk);
   names : names_in l.self.applications ≡ names_in l.fn.self.applications;
   streams : Streams l.fn.number (open_at l.fn.number l.fn.self.links.items) (house_in l.fn.self) l.fn.self.desk.service l.fn.piece l.rest (open_at l.fn.number l.self.links.items) (house_in l.self) l.self.desk.service;
   others : OpensOthers l.fn.number l.fn.self.links.items l.self.links.items;
   bodies : IsReached (desk_in l.fn.self.desk) → AllAlong l.fn.self l.self;
-  closes : ClosesOnly Anybody (but_told (register_in l.self) (register_in l.fn.self)) (register_in l.self);
+  closes : ClosesOnly (HeardFor l.fn.number l.fn.piece l.fn.self) (but_told (register_in l.self) (register_in l.fn.self)) (register_in l.self);
   ordered : StayOrdered l.fn.self.orders.items l.self.orders.items;
   none : NoneNew l.fn.self.links.items l.self.links.items;
   wakes : Wakes (posts_in l.fn.self.applications) l.self.applications l.self.orders.items;

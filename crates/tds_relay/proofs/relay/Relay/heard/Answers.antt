@@ -11,7 +11,10 @@ use Rattle.tds_relay.specs.declared.desk.Desk as desks
 use Rattle.tds_relay.proofs.spared.Resting.{put_reached}
 use Rattle.tds_relay.proofs.spared.Waking.{hands_as, hands_nobody, not_closed, not_nobody, woken_mine}
 use Rattle.tds_relay.specs.Closings.{Anybody}
-use Rattle.tds_relay.proofs.spared.Closings.{anybody, anybody_on, anybody_then, closes_both}
+use Rattle.tds_relay.specs.Reasons.{LosesAt}
+use Rattle.tds_relay.specs.Posts.{posts_in}
+use Rattle.tds_relay.proofs.spared.Closings.{closes_behind, closes_more_on, closes_with}
+use Rattle.tds_relay.proofs.spared.Losing.{nothing_loses, resumes_loses, sent_closes, write_loses}
 use Rattle.tds_relay.specs.Reads.{waits_on}
 use Rattle.tds_relay.proofs.spared.Lined.{acknowledges}
 use Rattle.tds_relay.proofs.relay.Relay.heard.Goals as goal
@@ -243,34 +246,49 @@ pub returns-in-Closed-None-clause-wakes : goal.returns-in-Closed-None-clause-wak
 returns-in-Closed-None-clause-wakes c = ok_if c.close_link-in-Closed-None.result _ (λ key h. absurd (not_closed c.in-Some.heard key _ (search rules) (hands_as c.args.heard c.in-Some.heard key _ c.in-Some.is h)))
 
 pub returns-in_default-clause-closes : goal.returns-in_default-clause-closes
-returns-in_default-clause-closes c = anybody_then c.lose.result _ _ _ c.lose.ensures.closes
+returns-in_default-clause-closes c = closes_more_on c.lose.result _ (LosesAt c.args.number c.args.heard c.args.self.now) _ _ (λ other who. nothing_loses c.args.number c.args.heard c.args.self.now c.in_default.is other) c.lose.ensures.closes
 
 pub returns-in-Goes-Some-clause-closes : goal.returns-in-Goes-Some-clause-closes
-returns-in-Goes-Some-clause-closes c = anybody_on c.order_write.result _ _ _ _ c.order_write.ensures.closes (closes_both Anybody _ _ _ c.in_ok-resumes.ensures.closes (anybody _ _ _ c.in_ok-send_on.ensures.closes))
+returns-in-Goes-Some-clause-closes c =
+    closes_with c.order_write.result _ (LosesAt c.args.number c.args.heard c.args.self.now) _ _ _ (write_loses c.args.number c.args.heard c.in-Some.heard c.in-Goes-Some.key c.args.self.now (posts_in c.send_on.new.self.applications) c.in-Some.is (search rules) (c.in_ok-send_on.ensures.kept ∙ c.in_ok-resumes.ensures.kept)) c.order_write.ensures.closes
+    (sent_closes c.args.number c.args.heard c.in-Some.heard c.args.self.now c.tell.new.self c.send_on.new.self c.in-Some.is c.tell.ensures.outbox c.in_ok-resumes.ensures.links c.in_ok-resumes.ensures.closes c.in_ok-send_on.ensures.closes)
 
 pub returns-in-Finished-Some-clause-closes : goal.returns-in-Finished-Some-clause-closes
-returns-in-Finished-Some-clause-closes c = anybody_on c.order_write-in-Finished-Some.result _ _ _ _ c.order_write-in-Finished-Some.ensures.closes (closes_both Anybody _ _ _ c.in_ok-resumes.ensures.closes (anybody _ _ _ c.in_ok-send_on.ensures.closes))
+returns-in-Finished-Some-clause-closes c =
+    closes_with c.order_write-in-Finished-Some.result _ (LosesAt c.args.number c.args.heard c.args.self.now) _ _ _ (write_loses c.args.number c.args.heard c.in-Some.heard c.in-Finished-Some.key c.args.self.now (posts_in c.send_on.new.self.applications) c.in-Some.is (search rules) (c.in_ok-send_on.ensures.kept ∙ c.in_ok-resumes.ensures.kept)) c.order_write-in-Finished-Some.ensures.closes
+    (sent_closes c.args.number c.args.heard c.in-Some.heard c.args.self.now c.tell.new.self c.send_on.new.self c.in-Some.is c.tell.ensures.outbox c.in_ok-resumes.ensures.links c.in_ok-resumes.ensures.closes c.in_ok-send_on.ensures.closes)
 
 pub returns-else-resumes-clause-closes : goal.returns-else-resumes-clause-closes
-returns-else-resumes-clause-closes c = anybody_on c.order_write-else-resumes.result _ _ _ _ c.order_write-else-resumes.ensures.closes (closes_both Anybody _ _ _ c.in_ok-resumes.ensures.closes (anybody _ _ _ c.in_ok-send_on.ensures.closes))
+returns-else-resumes-clause-closes c =
+    closes_with c.order_write-else-resumes.result _ (LosesAt c.args.number c.args.heard c.args.self.now) _ _ _ (write_loses c.args.number c.args.heard c.in-Some.heard c.in-Acknowledged-Some.key c.args.self.now (posts_in c.send_on.new.self.applications) c.in-Some.is (search rules) (c.in_ok-send_on.ensures.kept ∙ c.in_ok-resumes.ensures.kept)) c.order_write-else-resumes.ensures.closes
+    (sent_closes c.args.number c.args.heard c.in-Some.heard c.args.self.now c.tell.new.self c.send_on.new.self c.in-Some.is c.tell.ensures.outbox c.in_ok-resumes.ensures.links c.in_ok-resumes.ensures.closes c.in_ok-send_on.ensures.closes)
 
 pub returns-then-resumes-clause-closes : goal.returns-then-resumes-clause-closes
-returns-then-resumes-clause-closes c = anybody_on c.resume.result _ _ _ _ c.resume.ensures.closes (closes_both Anybody _ _ _ c.in_ok-resumes.ensures.closes (anybody _ _ _ c.in_ok-send_on.ensures.closes))
+returns-then-resumes-clause-closes c =
+    closes_with c.resume.result Anybody (LosesAt c.args.number c.args.heard c.args.self.now) _ _ _ (λ other any. resumes_loses c.args.number c.args.heard c.in-Some.heard c.args.self.now c.in-Some.is (search rules) (c.in_ok-resumes.ensures.resumes (search rules)) other) c.resume.ensures.closes
+    (sent_closes c.args.number c.args.heard c.in-Some.heard c.args.self.now c.tell.new.self c.send_on.new.self c.in-Some.is c.tell.ensures.outbox c.in_ok-resumes.ensures.links c.in_ok-resumes.ensures.closes c.in_ok-send_on.ensures.closes)
 
 pub returns-in-Closed-Some-clause-closes : goal.returns-in-Closed-Some-clause-closes
-returns-in-Closed-Some-clause-closes c = anybody_on c.close_link.result _ _ _ _ c.close_link.ensures.closes (closes_both Anybody _ _ _ c.in_ok-resumes.ensures.closes (anybody _ _ _ c.in_ok-send_on.ensures.closes))
+returns-in-Closed-Some-clause-closes c =
+    closes_behind c.close_link.result (LosesAt c.args.number c.args.heard c.args.self.now) _ _ _ c.close_link.ensures.closes
+    (sent_closes c.args.number c.args.heard c.in-Some.heard c.args.self.now c.tell.new.self c.send_on.new.self c.in-Some.is c.tell.ensures.outbox c.in_ok-resumes.ensures.links c.in_ok-resumes.ensures.closes c.in_ok-send_on.ensures.closes)
 
 pub returns-in-Closed-None-clause-closes : goal.returns-in-Closed-None-clause-closes
-returns-in-Closed-None-clause-closes c = anybody_on c.close_link-in-Closed-None.result _ _ _ _ c.close_link-in-Closed-None.ensures.closes (closes_both Anybody _ _ _ c.in_ok-resumes.ensures.closes (anybody _ _ _ c.in_ok-send_on.ensures.closes))
+returns-in-Closed-None-clause-closes c =
+    closes_behind c.close_link-in-Closed-None.result (LosesAt c.args.number c.args.heard c.args.self.now) _ _ _ c.close_link-in-Closed-None.ensures.closes
+    (sent_closes c.args.number c.args.heard c.in-Some.heard c.args.self.now c.tell.new.self c.send_on.new.self c.in-Some.is c.tell.ensures.outbox c.in_ok-resumes.ensures.links c.in_ok-resumes.ensures.closes c.in_ok-send_on.ensures.closes)
 
 pub returns-in-Goes-None-clause-closes : goal.returns-in-Goes-None-clause-closes
-returns-in-Goes-None-clause-closes c = closes_both Anybody _ _ _ c.in_ok-resumes.ensures.closes (anybody _ _ _ c.in_ok-send_on.ensures.closes)
+returns-in-Goes-None-clause-closes c =
+    sent_closes c.args.number c.args.heard c.in-Some.heard c.args.self.now c.tell.new.self c.send_on.new.self c.in-Some.is c.tell.ensures.outbox c.in_ok-resumes.ensures.links c.in_ok-resumes.ensures.closes c.in_ok-send_on.ensures.closes
 
 pub returns-in-Finished-None-clause-closes : goal.returns-in-Finished-None-clause-closes
-returns-in-Finished-None-clause-closes c = closes_both Anybody _ _ _ c.in_ok-resumes.ensures.closes (anybody _ _ _ c.in_ok-send_on.ensures.closes)
+returns-in-Finished-None-clause-closes c =
+    sent_closes c.args.number c.args.heard c.in-Some.heard c.args.self.now c.tell.new.self c.send_on.new.self c.in-Some.is c.tell.ensures.outbox c.in_ok-resumes.ensures.links c.in_ok-resumes.ensures.closes c.in_ok-send_on.ensures.closes
 
 pub returns-in-Acknowledged-None-clause-closes : goal.returns-in-Acknowledged-None-clause-closes
-returns-in-Acknowledged-None-clause-closes c = closes_both Anybody _ _ _ c.in_ok-resumes.ensures.closes (anybody _ _ _ c.in_ok-send_on.ensures.closes)
+returns-in-Acknowledged-None-clause-closes c =
+    sent_closes c.args.number c.args.heard c.in-Some.heard c.args.self.now c.tell.new.self c.send_on.new.self c.in-Some.is c.tell.ensures.outbox c.in_ok-resumes.ensures.links c.in_ok-resumes.ensures.closes c.in_ok-send_on.ensures.closes
 
 pub returns-in-Goes-Some-clause-others : goal.returns-in-Goes-Some-clause-others
 returns-in-Goes-Some-clause-others c = λ not. ok_more c.order_write.result _ _ (λ same other differs. ap (waits_on other) same ∙ c.in_ok-send_on.ensures.others other differs ∙ ap (waits_on other) c.in_ok-resumes.ensures.links) c.order_write.ensures.links

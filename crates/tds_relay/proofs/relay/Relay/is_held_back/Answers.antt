@@ -5,6 +5,7 @@ use Rattle.tds_relay.specs.Sparing as sparing
 use Rattle.tds_relay.specs.Ties.{desk_in}
 use Rattle.tds_relay.proofs.steps.Underway.{drains}
 use Rattle.tds_relay.proofs.spared.Starting.{taken_back, unkept_none, unkept_over, unkept_there}
+use Rattle.tds_relay.proofs.spared.Ended.{its_name}
 use Rattle.tds_relay.proofs.relay.Relay.is_held_back.Goals as goal
 
 pub returns-in_default-clause-held : goal.returns-in_default-clause-held
@@ -33,3 +34,18 @@ returns-clause-held c = λ its e. inr (sparing.Opens c.args.hold its (c.is_open.
 
 pub returns-clause-underway : goal.returns-clause-underway
 returns-clause-underway c = λ its e whole waits. Opens c.args.hold its (c.is_open.ensures.shut (search rules))
+
+pub returns-in_default-clause-named : goal.returns-in_default-clause-named
+returns-in_default-clause-named c = λ e. absurd (let u : ⊥ = cc in u)
+
+pub returns-then-application-clause-named : goal.returns-then-application-clause-named
+returns-then-application-clause-named c = λ e. absurd (let u : ⊥ = cc in u)
+
+pub returns-then-not-waits-clause-named : goal.returns-then-not-waits-clause-named
+returns-then-not-waits-clause-named c = λ e. absurd (let u : ⊥ = cc in u)
+
+pub returns-then-application-2-clause-named : goal.returns-then-application-2-clause-named
+returns-then-application-2-clause-named c = λ e. absurd (let u : ⊥ = cc in u)
+
+pub returns-clause-named : goal.returns-clause-named
+returns-clause-named c = λ e. (c.in-Some.application.now.tag, its_name c.args.self.now c.args.key c.in-Some.application.now c.in-Some.ensures c.if-application.false)

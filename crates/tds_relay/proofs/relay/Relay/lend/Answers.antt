@@ -1,4 +1,4 @@
-use Rattle.std.proofs.Common.{List, refl, ap, subst, sym, rules}
+use Rattle.std.proofs.Common.{List, inl, refl, ap, subst, sym, rules}
 use Rattle.tds_relay.specs.declared.link.Link.{Link}
 use Rattle.tds_relay.specs.Lent.{IsSizedOn}
 use Rattle.tds_relay.specs.Ties.{desk_in, IsReached}
@@ -11,11 +11,12 @@ use Rattle.tds_relay.proofs.spared.Resting.{go_on, go_on_one, pushed_rest, rest_
 use Rattle.tds_relay.specs.Fronts.{hall_in}
 use Rattle.tds_relay.proofs.spared.Apart.{alone_on, alone_refl, alone_same}
 use Rattle.tds_relay.proofs.spared.Ordered.{ordered_on, ordered_same}
-use Rattle.tds_relay.specs.Closings.{Itself}
-use Rattle.tds_relay.proofs.spared.Closings.{closes_first}
+use Rattle.tds_relay.specs.Closings.{Itself, register_in}
+use Rattle.tds_relay.proofs.spared.Closings.{closes_first, closes_nobody}
 use Rattle.tds_relay.proofs.spared.Shutting.{closes_pushed}
 use Rattle.tds_relay.proofs.spared.Begun.{begins_on, pushed_sized}
 use Rattle.tds_relay.proofs.spared.Few.{few_again, few_pushed, none_stays}
+use Rattle.tds_relay.proofs.spared.Lasting.{last_first_on, last_pushed}
 use Rattle.tds_relay.proofs.relay.Relay.lend.Goals as goal
 
 pub returns-then-served-clause-opens : goal.returns-then-served-clause-opens
@@ -70,3 +71,11 @@ returns-then-served-clause-few c = few_again c.start_kept.result c.args.served.h
 
 pub returns-clause-few : goal.returns-clause-few
 returns-clause-few c = few_pushed c.args.served.had c.in_ok-link.link _ _ (search rules) c.in_ok-push.ensures.items
+
+pub returns-then-served-clause-lasts : goal.returns-then-served-clause-lasts
+returns-then-served-clause-lasts c =
+    last_first_on c.start_kept.result (Itself c.args.served.hold.key) (register_in c.args.self.now) (register_in c.restart.new.self) (register_in c.start_kept.new.self)
+    (closes_nobody (Itself c.args.served.hold.key) _ _ c.restart.ensures.closes) c.restart.ensures.lasts c.start_kept.ensures.lasts
+
+pub returns-clause-lasts : goal.returns-clause-lasts
+returns-clause-lasts c = inl (last_pushed c.in_ok-link.link _ _ c.in_ok-push.ensures.items)

@@ -1,10 +1,10 @@
-use Rattle.std.proofs.Common.{true, Bool, ◌≡◌, ◌⊎◌, ◌∙◌, ap, false, rules, sym, subst, List, ℕ, Some, refl, slice_set}
+use Rattle.std.proofs.Common.{true, Bool, ◌≡◌, ◌⊎◌, ◌∙◌, ap, false, inl, inr, rules, sym, subst, List, ℕ, Some, refl, slice_set}
 use Rattle.tds_front.specs.Bytes.{fed}
 use Rattle.tds_front.specs.declared.front.Said.{Said}
 use Rattle.tds_front.specs.declared.front.Said.TheVariants as said
 use Rattle.tds_relay.specs.Fronts.{ClosesInstead, IsFed, TakesBetween, ends_in, given_by, hall_in, hall_of_ends}
 use Rattle.tds_relay.specs.Hall.{IfAsked, Ends, Open, asks_by, end_at, hands_on, takes_back}
-use Rattle.tds_relay.specs.Posts.{acknowledgement, give, posts_in, Posts}
+use Rattle.tds_relay.specs.Posts.{acknowledgement, give, post_at, posts_in, Posts}
 use Rattle.tds_relay.specs.Ties.{Application, desk_in}
 use Rattle.tds_relay.proofs.steps.Fronts.{asks_begun}
 use Rattle.tds_relay.proofs.steps.Told.{fed_then}
@@ -15,8 +15,12 @@ use Rattle.tds_relay.proofs.bytes.Calls.{stand_at}
 use Rattle.tds_relay.specs.Bodies.{Grows, Nowhere, Obeys, Stays, body_of, going_of}
 use Rattle.tds_relay.proofs.steps.Bodied.{forgot_on}
 use Rattle.tds_relay.proofs.steps.Quieting.{Drops, quiet_fed}
-use Rattle.tds_relay.specs.Closings.{Itself}
-use Rattle.tds_relay.proofs.spared.Closings.{closes_on}
+use Rattle.tds_relay.proofs.spared.Closings.{closes_more, closes_on, closes_refl}
+use Rattle.tds_relay.proofs.spared.Reasons.{for_that}
+use Rattle.tds_relay.specs.Reasons.{CannotGoOn, IsOverfull, MayCloseAt, room_left}
+use Rattle.tds_relay.specs.Hall.{End}
+use Rattle.slab.specs.Slab.{get}
+use Rattle.tds_relay.specs.Waiting.{KeepsInLine, KeepsSaid}
 use Rattle.tds_relay.proofs.relay.Relay.obey.Goals as goal
 
 pub returns-in-Begin-clause-given : goal.returns-in-Begin-clause-given
@@ -147,5 +151,73 @@ returns-in_ok-forget-in-Acknowledge-clause-body c = ok_more c.acknowledge.result
 pub returns-in-HandOn-clause-body : goal.returns-in-HandOn-clause-body
 returns-in-HandOn-clause-body c = ok_more c.hand_on.result _ _ (λ h. subst (λ (s : Said). Obeys s c.args.bytes.now (body_of c.args.key c.args.self.now) (body_of c.args.key c.hand_on.new.self)) (sym c.in-HandOn.is) (record { mid = body_of c.args.key c.hand_on.new.self; does = h; starts = Stays })) c.hand_on.ensures.body
 
+pub returns-in-Begin-clause-closes : goal.returns-in-Begin-clause-closes
+returns-in-Begin-clause-closes c = for_that c.begin.result c.args.key _ _ _ _
+    (λ why. subst (λ (s : Said). MayCloseAt s c.args.bytes.now c.args.key (end_at (ends_in c.args.self.now.applications) c.args.key) c.args.self.now) (sym c.in-Begin.is) why) c.begin.ensures.closes
+
+pub returns-in-Forget-false-clause-closes : goal.returns-in-Forget-false-clause-closes
+returns-in-Forget-false-clause-closes c =
+    let none : c.in-Forget-false.gone ≡ false = search rules in
+    for_that c.forget.result c.args.key _ _ _ _ (λ why. subst (λ (s : Said). MayCloseAt s c.args.bytes.now c.args.key (end_at (ends_in c.args.self.now.applications) c.args.key) c.args.self.now) (sym (c.in-Forget-false.is ∙ ap (λ (b : Bool). said.Forget b) none)) why) c.forget.ensures.closes
+
+pub returns-in-Forget-true-clause-closes : goal.returns-in-Forget-true-clause-closes
+returns-in-Forget-true-clause-closes c =
+    let some : c.in-Forget-true.gone ≡ true = search rules in
+    for_that c.take_back.result c.args.key _ _ _ _ (λ why. subst (λ (s : Said). MayCloseAt s c.args.bytes.now c.args.key (end_at (ends_in c.args.self.now.applications) c.args.key) c.args.self.now) (sym (c.in-Forget-true.is ∙ ap (λ (b : Bool). said.Forget b) some)) why) c.take_back.ensures.closes
+
+pub returns-in-HandOn-clause-closes : goal.returns-in-HandOn-clause-closes
+returns-in-HandOn-clause-closes c = for_that c.hand_on.result c.args.key _ _ _ _ (λ why. subst (λ (s : Said). MayCloseAt s c.args.bytes.now c.args.key (end_at (ends_in c.args.self.now.applications) c.args.key) c.args.self.now) (sym c.in-HandOn.is) why) c.hand_on.ensures.closes
+
+pub returns-in-Body-clause-closes : goal.returns-in-Body-clause-closes
+returns-in-Body-clause-closes c = for_that c.go_on.result c.args.key _ _ _ _
+    (λ why. subst (λ (s : Said). MayCloseAt s c.args.bytes.now c.args.key (end_at (ends_in c.args.self.now.applications) c.args.key) c.args.self.now) (sym c.in-Body.is)
+    (subst (λ (xs : List ℕ). CannotGoOn false xs c.args.key (end_at (ends_in c.args.self.now.applications) c.args.key) (room_left (get c.args.self.now.applications c.args.key)) c.args.self.now.desk c.args.self.now.links.items (body_of c.args.key c.args.self.now)) c.last.ensures why))
+    c.go_on.ensures.closes
+
+pub returns-in-End-clause-closes : goal.returns-in-End-clause-closes
+returns-in-End-clause-closes c = for_that c.go_on-in-End.result c.args.key _ _ _ _
+    (λ why. subst (λ (s : Said). MayCloseAt s c.args.bytes.now c.args.key (end_at (ends_in c.args.self.now.applications) c.args.key) c.args.self.now) (sym c.in-End.is)
+    (subst (λ (xs : List ℕ). CannotGoOn true xs c.args.key (end_at (ends_in c.args.self.now.applications) c.args.key) (room_left (get c.args.self.now.applications c.args.key)) c.args.self.now.desk c.args.self.now.links.items (body_of c.args.key c.args.self.now)) c.last-in-End.ensures why))
+    c.go_on-in-End.ensures.closes
+
 pub returns-in_ok-forget-in-Acknowledge-clause-closes : goal.returns-in_ok-forget-in-Acknowledge-clause-closes
-returns-in_ok-forget-in-Acknowledge-clause-closes c = closes_on c.acknowledge.result (Itself c.args.key) _ _ _ c.acknowledge.ensures.closes c.in_ok-forget-in-Acknowledge.ensures.closes
+returns-in_ok-forget-in-Acknowledge-clause-closes c =
+    let may : Said → Type 0 = λ s. MayCloseAt s c.args.bytes.now c.args.key (end_at (ends_in c.args.self.now.applications) c.args.key) c.args.self.now in
+    let is : may said.Acknowledge → may c.args.said = λ why. subst may (sym c.in-Acknowledge.is) why in
+    closes_on c.acknowledge.result _ _ _ _
+    (for_that c.acknowledge.result c.args.key _ _ _ _
+    (λ full. is (inr (subst (λ (ps : Posts). IsOverfull (post_at (give c.args.key acknowledgement ps) c.args.key)) c.in_ok-forget-in-Acknowledge.ensures.kept full))) c.acknowledge.ensures.closes)
+    (closes_more _ _ _ _ (λ other x. (x.0, is (inl x.1))) c.in_ok-forget-in-Acknowledge.ensures.closes)
+
+pub returns-in-Nothing-clause-closes : goal.returns-in-Nothing-clause-closes
+returns-in-Nothing-clause-closes c = closes_refl _ _
+
+pub returns-in-Nothing-clause-keeps : goal.returns-in-Nothing-clause-keeps
+returns-in-Nothing-clause-keeps c = λ none. subst (λ (s : Said). KeepsSaid s c.args.bytes.now (get c.args.self.now.applications c.args.key) (body_of c.args.key c.args.self.now)) (sym c.in-Nothing.is) tt
+
+pub returns-in-Begin-clause-keeps : goal.returns-in-Begin-clause-keeps
+returns-in-Begin-clause-keeps c = λ none. ok_if c.begin.result _ (subst (λ (s : Said). KeepsSaid s c.args.bytes.now (get c.args.self.now.applications c.args.key) (body_of c.args.key c.begin.new.self)) (sym c.in-Begin.is) tt)
+
+pub returns-in-Forget-false-clause-keeps : goal.returns-in-Forget-false-clause-keeps
+returns-in-Forget-false-clause-keeps c = λ none. ok_if c.forget.result _ (subst (λ (s : Said). KeepsSaid s c.args.bytes.now (get c.args.self.now.applications c.args.key) (body_of c.args.key c.forget.new.self)) (sym c.in-Forget-false.is) tt)
+
+pub returns-in-Forget-true-clause-keeps : goal.returns-in-Forget-true-clause-keeps
+returns-in-Forget-true-clause-keeps c = λ none. ok_if c.take_back.result _ (subst (λ (s : Said). KeepsSaid s c.args.bytes.now (get c.args.self.now.applications c.args.key) (body_of c.args.key c.take_back.new.self)) (sym c.in-Forget-true.is) tt)
+
+pub returns-in-HandOn-clause-keeps : goal.returns-in-HandOn-clause-keeps
+returns-in-HandOn-clause-keeps c = λ none. ok_if c.hand_on.result _ (subst (λ (s : Said). KeepsSaid s c.args.bytes.now (get c.args.self.now.applications c.args.key) (body_of c.args.key c.hand_on.new.self)) (sym c.in-HandOn.is) tt)
+
+pub returns-in_ok-forget-in-Acknowledge-clause-keeps : goal.returns-in_ok-forget-in-Acknowledge-clause-keeps
+returns-in_ok-forget-in-Acknowledge-clause-keeps c = λ none. ok_if c.acknowledge.result _ (subst (λ (s : Said). KeepsSaid s c.args.bytes.now (get c.args.self.now.applications c.args.key) (body_of c.args.key c.acknowledge.new.self)) (sym c.in-Acknowledge.is) tt)
+
+pub returns-in-Body-clause-keeps : goal.returns-in-Body-clause-keeps
+returns-in-Body-clause-keeps c = λ none.
+    ok_more c.go_on.result _ _
+    (λ k. subst (λ (s : Said). KeepsSaid s c.args.bytes.now (get c.args.self.now.applications c.args.key) (body_of c.args.key c.go_on.new.self)) (sym c.in-Body.is)
+    (subst (λ (xs : List ℕ). KeepsInLine false xs (get c.args.self.now.applications c.args.key) (body_of c.args.key c.go_on.new.self)) c.last.ensures k)) (c.go_on.ensures.keeps none)
+
+pub returns-in-End-clause-keeps : goal.returns-in-End-clause-keeps
+returns-in-End-clause-keeps c = λ none.
+    ok_more c.go_on-in-End.result _ _
+    (λ k. subst (λ (s : Said). KeepsSaid s c.args.bytes.now (get c.args.self.now.applications c.args.key) (body_of c.args.key c.go_on-in-End.new.self)) (sym c.in-End.is)
+    (subst (λ (xs : List ℕ). KeepsInLine true xs (get c.args.self.now.applications c.args.key) (body_of c.args.key c.go_on-in-End.new.self)) c.last-in-End.ensures k)) (c.go_on-in-End.ensures.keeps none)

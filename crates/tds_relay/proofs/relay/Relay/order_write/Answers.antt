@@ -9,7 +9,7 @@ use Rattle.tds_relay.proofs.steps.Fronts.{moves_closes}
 use Rattle.tds_relay.proofs.steps.Reaching.{ok_more}
 use Rattle.tds_relay.proofs.steps.Told.{deaf_closed}
 use Rattle.tds_relay.proofs.steps.Underway.{none_deaf}
-use Rattle.tds_relay.specs.Closings.{Itself}
+use Rattle.tds_relay.proofs.spared.Reasons.{for_reason, full_there}
 use Rattle.tds_relay.proofs.spared.Sending.{kept_refl}
 use Rattle.tds_relay.proofs.spared.Shutting.{closes_kept, write_closes}
 use Rattle.tds_relay.proofs.relay.Relay.order_write.Goals as goal
@@ -31,4 +31,7 @@ returns-clause-wakes c =
     inr (c.in-Some.application.now.tag, name_there c.args.self.now.applications c.args.key c.in-Some.application.now c.in-Some.ensures, to_do_last (orders.Write c.in-Some.application.now.tag) c.args.self.now.orders.items c.push.new.self.items (search rules))
 
 pub returns-clause-closes : goal.returns-clause-closes
-returns-clause-closes c = closes_kept (Itself c.args.key) _ _ refl refl refl (kept_refl c.args.self.now.links.items) (write_closes _ _ _ c.in_ok-push.ensures.items)
+returns-clause-closes c = closes_kept _ _ _ refl refl refl (kept_refl c.args.self.now.links.items) (write_closes _ _ _ c.in_ok-push.ensures.items)
+
+pub returns-then-is_full-clause-closes : goal.returns-then-is_full-clause-closes
+returns-then-is_full-clause-closes c = for_reason c.end.result c.args.key _ _ _ (full_there c.args.self.now.applications c.args.key c.in-Some.application.now c.in-Some.ensures (search rules)) c.end.ensures.closes

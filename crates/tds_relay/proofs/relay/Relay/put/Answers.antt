@@ -21,7 +21,10 @@ use Rattle.tds_relay.proofs.spared.Apart.{alone_both, alone_changed, alone_on, a
 use Rattle.tds_relay.proofs.spared.Ordered.{ordered_both, ordered_closing, ordered_on, ordered_refl, ordered_same}
 use Rattle.tds_relay.specs.Closings.{Itself, Nobody}
 use Rattle.tds_relay.proofs.spared.Closings.{closes_both, closes_first, closes_nobody}
+use Rattle.tds_relay.specs.Reasons.{HasNoRoom, Unbegun, Unfit, Unheld, Untaken}
+use Rattle.tds_relay.proofs.spared.Reasons.{for_reason, no_room_there}
 use Rattle.tds_relay.proofs.spared.Begun.{answers_both, answers_from, answers_on, answers_same, answers_unchanged}
+use Rattle.tds_relay.proofs.spared.Lasting.{deaf_last, last_all, last_links, same_last}
 use Rattle.tds_relay.proofs.relay.Relay.put.Goals as goal
 
 pub returns-in_default-clause-moves : goal.returns-in_default-clause-moves
@@ -41,7 +44,7 @@ returns-else-fits-clause-underway c = ok_more c.fail-else-fits.result _ _ (λ d.
 
 pub returns-then-fits-clause-underway : goal.returns-then-fits-clause-underway
 returns-then-fits-clause-underway c =
-    Sends (subst (λ (d : code.Desk). SendsOn c.args.whole (desk_in d) c.args.key) (sym (c.fits_on.ensures.desk ∙ c.note_went_on.ensures.desk)) (c.put_on-is_put.ensures.sends (search rules)))
+    Sends (subst (λ (d : code.Desk). SendsOn c.args.whole (desk_in d) c.args.key) (sym (c.fits_on.ensures.desk ∙ c.note_went_on.ensures.desk)) (c.in_ok-is_put.ensures.sends (search rules)))
 
 pub returns-then-not-is_put-clause-read : goal.returns-then-not-is_put-clause-read
 returns-then-not-is_put-clause-read c =
@@ -56,29 +59,29 @@ returns-else-fits-clause-read c = stays_on c.fail-else-fits.result _ _ _ (stays_
 pub returns-then-not-is_put-clause-moves : goal.returns-then-not-is_put-clause-moves
 returns-then-not-is_put-clause-moves c =
     ok_more c.fail-then-not-is_put.result _ _ (λ m by from h. m by from (moves_same by from _ _ _ _ (ap desk_in c.note_went_on.ensures.desk) refl
-    (moves_puts by from _ _ _ _ c.args.key c.args.whole c.put_on-is_put.new.out.items (subst (λ (xs : List ℕ). MayPut c.args.key c.args.whole (desk_in c.args.self.now.desk) (desk_in c.put_on-is_put.new.desk) xs c.put_on-is_put.new.out.items) (search rules) c.put_on-is_put.ensures.puts)
-    (c.may_put.ensures (search rules)) c.note_went_on.ensures.ends h))) c.fail-then-not-is_put.ensures.moves
+    (moves_puts by from _ _ _ _ c.args.key c.args.whole c.put_on.new.out.items (subst (λ (xs : List ℕ). MayPut c.args.key c.args.whole (desk_in c.args.self.now.desk) (desk_in c.put_on.new.desk) xs c.put_on.new.out.items) (search rules) c.in_ok-is_put.ensures.puts)
+    (c.may_put.ensures.begun (search rules)) c.note_went_on.ensures.ends h))) c.fail-then-not-is_put.ensures.moves
 
 pub returns-then-fits-clause-moves : goal.returns-then-fits-clause-moves
 returns-then-fits-clause-moves c = λ by from h.
     moves_same by from _ _ _ _ (ap desk_in c.fits_on.ensures.desk) c.in_ok-fits.ensures.ends (moves_same by from _ _ _ _ (ap desk_in c.note_went_on.ensures.desk) refl
-    (moves_puts by from _ _ _ _ c.args.key c.args.whole c.put_on-is_put.new.out.items (subst (λ (xs : List ℕ). MayPut c.args.key c.args.whole (desk_in c.args.self.now.desk) (desk_in c.put_on-is_put.new.desk) xs c.put_on-is_put.new.out.items) (search rules) c.put_on-is_put.ensures.puts)
-    (c.may_put.ensures (search rules)) c.note_went_on.ensures.ends h))
+    (moves_puts by from _ _ _ _ c.args.key c.args.whole c.put_on.new.out.items (subst (λ (xs : List ℕ). MayPut c.args.key c.args.whole (desk_in c.args.self.now.desk) (desk_in c.put_on.new.desk) xs c.put_on.new.out.items) (search rules) c.in_ok-is_put.ensures.puts)
+    (c.may_put.ensures.begun (search rules)) c.note_went_on.ensures.ends h))
 
 pub returns-else-fits-clause-moves : goal.returns-else-fits-clause-moves
 returns-else-fits-clause-moves c =
     ok_more c.fail-else-fits.result _ _ (λ m by from h. m by from (moves_same by from _ _ _ _ (ap desk_in c.fits_on.ensures.desk) c.in_ok-fits.ensures.ends (moves_same by from _ _ _ _ (ap desk_in c.note_went_on.ensures.desk) refl
-    (moves_puts by from _ _ _ _ c.args.key c.args.whole c.put_on-is_put.new.out.items (subst (λ (xs : List ℕ). MayPut c.args.key c.args.whole (desk_in c.args.self.now.desk) (desk_in c.put_on-is_put.new.desk) xs c.put_on-is_put.new.out.items) (search rules) c.put_on-is_put.ensures.puts)
-    (c.may_put.ensures (search rules)) c.note_went_on.ensures.ends h)))) c.fail-else-fits.ensures.moves
+    (moves_puts by from _ _ _ _ c.args.key c.args.whole c.put_on.new.out.items (subst (λ (xs : List ℕ). MayPut c.args.key c.args.whole (desk_in c.args.self.now.desk) (desk_in c.put_on.new.desk) xs c.put_on.new.out.items) (search rules) c.in_ok-is_put.ensures.puts)
+    (c.may_put.ensures.begun (search rules)) c.note_went_on.ensures.ends h)))) c.fail-else-fits.ensures.moves
 
 pub returns-then-fits-clause-stand : goal.returns-then-fits-clause-stand
-returns-then-fits-clause-stand c = stand_at _ _ _ (stand_at _ _ _ c.put_on-is_put.ensures.stand c.note_went_on.ensures.desk) c.fits_on.ensures.desk
+returns-then-fits-clause-stand c = stand_at _ _ _ (stand_at _ _ _ c.in_ok-is_put.ensures.stand c.note_went_on.ensures.desk) c.fits_on.ensures.desk
 
 pub returns-else-fits-clause-stand : goal.returns-else-fits-clause-stand
-returns-else-fits-clause-stand c = stand_on c.fail-else-fits.result _ _ _ (stand_at _ _ _ (stand_at _ _ _ c.put_on-is_put.ensures.stand c.note_went_on.ensures.desk) c.fits_on.ensures.desk) c.fail-else-fits.ensures.stand
+returns-else-fits-clause-stand c = stand_on c.fail-else-fits.result _ _ _ (stand_at _ _ _ (stand_at _ _ _ c.in_ok-is_put.ensures.stand c.note_went_on.ensures.desk) c.fits_on.ensures.desk) c.fail-else-fits.ensures.stand
 
 pub returns-then-not-is_put-clause-stand : goal.returns-then-not-is_put-clause-stand
-returns-then-not-is_put-clause-stand c = stand_on c.fail-then-not-is_put.result _ _ _ (stand_at _ _ _ c.put_on-is_put.ensures.stand c.note_went_on.ensures.desk) c.fail-then-not-is_put.ensures.stand
+returns-then-not-is_put-clause-stand c = stand_on c.fail-then-not-is_put.result _ _ _ (stand_at _ _ _ c.in_ok-is_put.ensures.stand c.note_went_on.ensures.desk) c.fail-then-not-is_put.ensures.stand
 
 pub returns-in_default-clause-others : goal.returns-in_default-clause-others
 returns-in_default-clause-others c = λ reached.
@@ -91,33 +94,33 @@ returns-then-not-may_put-clause-others c = λ reached.
 
 pub returns-then-fits-clause-others : goal.returns-then-fits-clause-others
 returns-then-fits-clause-others c = λ reached.
-    sent_rest c.args.key c.in-Some.hold c.args.self.now c.note_went_on.new.self c.fits_on.new.self c.put_on-is_put.new.desk reached (sym c.hold_of.ensures ∙ c.in-Some.is) c.put_on-is_put.ensures.others c.note_went_on.ensures.desk c.note_went_on.ensures.links c.note_went_on.ensures.asks c.fits_on.ensures.desk
+    sent_rest c.args.key c.in-Some.hold c.args.self.now c.note_went_on.new.self c.fits_on.new.self c.put_on.new.desk reached (sym c.hold_of.ensures ∙ c.in-Some.is) c.in_ok-is_put.ensures.others c.note_went_on.ensures.desk c.note_went_on.ensures.links c.note_went_on.ensures.asks c.fits_on.ensures.desk
     c.in_ok-fits.ensures.others c.in_ok-fits.ensures.asks
 
 pub returns-then-not-is_put-clause-others : goal.returns-then-not-is_put-clause-others
 returns-then-not-is_put-clause-others c = λ reached.
-    others_all c.fail-then-not-is_put.result c.args.key c.args.self.now c.note_went_on.new.self c.fail-then-not-is_put.new.self (c.fail-then-not-is_put.ensures.rests (put_reached c.args.self.now.desk c.put_on-is_put.new.desk c.note_went_on.new.self.desk c.put_on-is_put.ensures.goes c.note_went_on.ensures.desk reached))
-    (put_rest c.args.key c.in-Some.hold c.args.self.now c.note_went_on.new.self c.put_on-is_put.new.desk reached (sym c.hold_of.ensures ∙ c.in-Some.is) c.put_on-is_put.ensures.others c.note_went_on.ensures.desk c.note_went_on.ensures.links c.note_went_on.ensures.asks)
+    others_all c.fail-then-not-is_put.result c.args.key c.args.self.now c.note_went_on.new.self c.fail-then-not-is_put.new.self (c.fail-then-not-is_put.ensures.rests (put_reached c.args.self.now.desk c.put_on.new.desk c.note_went_on.new.self.desk c.in_ok-is_put.ensures.goes c.note_went_on.ensures.desk reached))
+    (put_rest c.args.key c.in-Some.hold c.args.self.now c.note_went_on.new.self c.put_on.new.desk reached (sym c.hold_of.ensures ∙ c.in-Some.is) c.in_ok-is_put.ensures.others c.note_went_on.ensures.desk c.note_went_on.ensures.links c.note_went_on.ensures.asks)
 
 pub returns-else-fits-clause-others : goal.returns-else-fits-clause-others
 returns-else-fits-clause-others c = λ reached.
-    others_all c.fail-else-fits.result c.args.key c.args.self.now c.fits_on.new.self c.fail-else-fits.new.self (c.fail-else-fits.ensures.rests (put_reached c.args.self.now.desk c.put_on-is_put.new.desk c.fits_on.new.self.desk c.put_on-is_put.ensures.goes (c.fits_on.ensures.desk ∙ c.note_went_on.ensures.desk) reached))
-    (sent_rest c.args.key c.in-Some.hold c.args.self.now c.note_went_on.new.self c.fits_on.new.self c.put_on-is_put.new.desk reached (sym c.hold_of.ensures ∙ c.in-Some.is) c.put_on-is_put.ensures.others c.note_went_on.ensures.desk c.note_went_on.ensures.links c.note_went_on.ensures.asks c.fits_on.ensures.desk
+    others_all c.fail-else-fits.result c.args.key c.args.self.now c.fits_on.new.self c.fail-else-fits.new.self (c.fail-else-fits.ensures.rests (put_reached c.args.self.now.desk c.put_on.new.desk c.fits_on.new.self.desk c.in_ok-is_put.ensures.goes (c.fits_on.ensures.desk ∙ c.note_went_on.ensures.desk) reached))
+    (sent_rest c.args.key c.in-Some.hold c.args.self.now c.note_went_on.new.self c.fits_on.new.self c.put_on.new.desk reached (sym c.hold_of.ensures ∙ c.in-Some.is) c.in_ok-is_put.ensures.others c.note_went_on.ensures.desk c.note_went_on.ensures.links c.note_went_on.ensures.asks c.fits_on.ensures.desk
     c.in_ok-fits.ensures.others c.in_ok-fits.ensures.asks)
 
 pub returns-then-not-is_put-clause-goes : goal.returns-then-not-is_put-clause-goes
 returns-then-not-is_put-clause-goes c = ok_more c.fail-then-not-is_put.result _ _
-    (λ g by from h. g by from (subst (λ (d : code.Desk). Reaches by from (desk_in d)) (sym c.note_went_on.ensures.desk) (c.put_on-is_put.ensures.goes by from h)))
+    (λ g by from h. g by from (subst (λ (d : code.Desk). Reaches by from (desk_in d)) (sym c.note_went_on.ensures.desk) (c.in_ok-is_put.ensures.goes by from h)))
     c.fail-then-not-is_put.ensures.goes
 
 pub returns-else-fits-clause-goes : goal.returns-else-fits-clause-goes
 returns-else-fits-clause-goes c = ok_more c.fail-else-fits.result _ _
-    (λ g by from h. g by from (subst (λ (d : code.Desk). Reaches by from (desk_in d)) (sym (c.fits_on.ensures.desk ∙ c.note_went_on.ensures.desk)) (c.put_on-is_put.ensures.goes by from h)))
+    (λ g by from h. g by from (subst (λ (d : code.Desk). Reaches by from (desk_in d)) (sym (c.fits_on.ensures.desk ∙ c.note_went_on.ensures.desk)) (c.in_ok-is_put.ensures.goes by from h)))
     c.fail-else-fits.ensures.goes
 
 pub returns-then-fits-clause-goes : goal.returns-then-fits-clause-goes
 returns-then-fits-clause-goes c = λ by from h.
-    subst (λ (d : code.Desk). Reaches by from (desk_in d)) (sym (c.fits_on.ensures.desk ∙ c.note_went_on.ensures.desk)) (c.put_on-is_put.ensures.goes by from h)
+    subst (λ (d : code.Desk). Reaches by from (desk_in d)) (sym (c.fits_on.ensures.desk ∙ c.note_went_on.ensures.desk)) (c.in_ok-is_put.ensures.goes by from h)
 
 pub returns-in_default-clause-body : goal.returns-in_default-clause-body
 returns-in_default-clause-body c = ok_more c.end.result _ _ (λ e. inl (closed_body c.args.key c.end.new.self.applications _ (going_of c.args.key c.end.new.self) e)) c.end.ensures.ends
@@ -133,14 +136,14 @@ returns-else-fits-clause-body c = ok_more c.fail-else-fits.result _ _ (λ d. inl
 
 pub returns-then-fits-clause-body : goal.returns-then-fits-clause-body
 returns-then-fits-clause-body c =
-    let after : List ℕ = c.put_on-is_put.new.out.items in
+    let after : List ℕ = c.put_on.new.out.items in
     let ls : List Link = c.args.self.now.links.items in
-    let p : ClientPuts c.args.whole c.args.bytes.now c.args.key c.args.self.now.desk c.put_on-is_put.new.desk [] after =
-    subst (λ (xs : List ℕ). ClientPuts c.args.whole c.args.bytes.now c.args.key c.args.self.now.desk c.put_on-is_put.new.desk xs after) (search rules) (c.put_on-is_put.ensures.body (search rules)) in
+    let p : ClientPuts c.args.whole c.args.bytes.now c.args.key c.args.self.now.desk c.put_on.new.desk [] after =
+    subst (λ (xs : List ℕ). ClientPuts c.args.whole c.args.bytes.now c.args.key c.args.self.now.desk c.put_on.new.desk xs after) (search rules) (c.in_ok-is_put.ensures.body (search rules)) in
     inr (
       λ goes. c.in_ok-fits.ensures.asks c.args.key goes ∙ c.note_went_on.ensures.asks c.args.key goes,
       subst (λ (d : code.Desk). Grows c.args.whole c.args.bytes.now (going_of c.args.key c.args.self.now) (going d.service c.fits_on.new.self.links.items (find_key c.args.key d.holds.items))) (sym (c.fits_on.ensures.desk ∙ c.note_went_on.ensures.desk))
-          (grows_on c.args.whole c.args.bytes.now c.args.key c.args.self.now.desk c.put_on-is_put.new.desk after ls c.fits_on.new.self.links.items c.in-Some.hold (sym c.hold_of.ensures ∙ c.in-Some.is) p
+          (grows_on c.args.whole c.args.bytes.now c.args.key c.args.self.now.desk c.put_on.new.desk after ls c.fits_on.new.self.links.items c.in-Some.hold (sym c.hold_of.ensures ∙ c.in-Some.is) p
           (waits_behind c.in-Some.hold.number c.fits_on.new.self.links.items _ ls _ after (c.in_ok-fits.ensures.waits (search rules)) c.note_went_on.ensures.links c.note_went_on.ensures.outbox)),
     )
 
@@ -150,19 +153,19 @@ returns-in_default-clause-alone c = ok_more c.end.result _ _ (λ e. alone_change
 pub returns-then-not-is_put-clause-alone : goal.returns-then-not-is_put-clause-alone
 returns-then-not-is_put-clause-alone c =
     alone_on c.fail-then-not-is_put.result c.args.key (hall_in c.args.self.now) (hall_in c.note_went_on.new.self) _ c.fail-then-not-is_put.ensures.alone
-    (alone_changed c.args.key _ (hall_in c.args.self.now) (hall_in c.note_went_on.new.self) c.note_went_on.ensures.ends (ap (λ (d : code.Desk). (desk_in d).line) c.note_went_on.ensures.desk ∙ c.put_on-is_put.ensures.line))
+    (alone_changed c.args.key _ (hall_in c.args.self.now) (hall_in c.note_went_on.new.self) c.note_went_on.ensures.ends (ap (λ (d : code.Desk). (desk_in d).line) c.note_went_on.ensures.desk ∙ c.in_ok-is_put.ensures.line))
 
 pub returns-then-fits-clause-alone : goal.returns-then-fits-clause-alone
 returns-then-fits-clause-alone c =
     alone_both c.args.key (hall_in c.args.self.now) (hall_in c.note_went_on.new.self) (hall_in c.fits_on.new.self)
-    (alone_changed c.args.key _ (hall_in c.args.self.now) (hall_in c.note_went_on.new.self) c.note_went_on.ensures.ends (ap (λ (d : code.Desk). (desk_in d).line) c.note_went_on.ensures.desk ∙ c.put_on-is_put.ensures.line))
+    (alone_changed c.args.key _ (hall_in c.args.self.now) (hall_in c.note_went_on.new.self) c.note_went_on.ensures.ends (ap (λ (d : code.Desk). (desk_in d).line) c.note_went_on.ensures.desk ∙ c.in_ok-is_put.ensures.line))
     (alone_same c.args.key (hall_in c.note_went_on.new.self) (hall_in c.fits_on.new.self) c.in_ok-fits.ensures.ends (ap (λ (d : code.Desk). (desk_in d).line) c.fits_on.ensures.desk))
 
 pub returns-else-fits-clause-alone : goal.returns-else-fits-clause-alone
 returns-else-fits-clause-alone c =
     alone_on c.fail-else-fits.result c.args.key (hall_in c.args.self.now) (hall_in c.fits_on.new.self) _ c.fail-else-fits.ensures.alone
     (alone_both c.args.key (hall_in c.args.self.now) (hall_in c.note_went_on.new.self) (hall_in c.fits_on.new.self)
-    (alone_changed c.args.key _ (hall_in c.args.self.now) (hall_in c.note_went_on.new.self) c.note_went_on.ensures.ends (ap (λ (d : code.Desk). (desk_in d).line) c.note_went_on.ensures.desk ∙ c.put_on-is_put.ensures.line))
+    (alone_changed c.args.key _ (hall_in c.args.self.now) (hall_in c.note_went_on.new.self) c.note_went_on.ensures.ends (ap (λ (d : code.Desk). (desk_in d).line) c.note_went_on.ensures.desk ∙ c.in_ok-is_put.ensures.line))
     (alone_same c.args.key (hall_in c.note_went_on.new.self) (hall_in c.fits_on.new.self) c.in_ok-fits.ensures.ends (ap (λ (d : code.Desk). (desk_in d).line) c.fits_on.ensures.desk)))
 
 pub returns-in_default-clause-ordered : goal.returns-in_default-clause-ordered
@@ -177,15 +180,6 @@ returns-then-fits-clause-ordered c = ordered_both _ _ _ (ordered_same _ _ c.note
 pub returns-else-fits-clause-ordered : goal.returns-else-fits-clause-ordered
 returns-else-fits-clause-ordered c = ordered_on c.fail-else-fits.result _ _ _ c.fail-else-fits.ensures.ordered (ordered_both _ _ _ (ordered_same _ _ c.note_went_on.ensures.orders) c.in_ok-fits.ensures.ordered)
 
-pub returns-then-not-is_put-clause-closes : goal.returns-then-not-is_put-clause-closes
-returns-then-not-is_put-clause-closes c = closes_first c.fail-then-not-is_put.result (Itself c.args.key) _ _ _ c.fail-then-not-is_put.ensures.closes c.note_went_on.ensures.closes
-
-pub returns-then-fits-clause-closes : goal.returns-then-fits-clause-closes
-returns-then-fits-clause-closes c = closes_nobody (Itself c.args.key) _ _ (closes_both Nobody _ _ _ c.note_went_on.ensures.closes c.in_ok-fits.ensures.closes)
-
-pub returns-else-fits-clause-closes : goal.returns-else-fits-clause-closes
-returns-else-fits-clause-closes c = closes_first c.fail-else-fits.result (Itself c.args.key) _ _ _ c.fail-else-fits.ensures.closes (closes_both Nobody _ _ _ c.note_went_on.ensures.closes c.in_ok-fits.ensures.closes)
-
 pub returns-in_default-clause-answers : goal.returns-in_default-clause-answers
 returns-in_default-clause-answers c = answers_unchanged c.end.result _ _ c.end.ensures.links
 
@@ -197,3 +191,43 @@ returns-then-fits-clause-answers c = answers_both _ _ _ (answers_same _ _ c.note
 
 pub returns-else-fits-clause-answers : goal.returns-else-fits-clause-answers
 returns-else-fits-clause-answers c = answers_on c.fail-else-fits.result _ _ _ (answers_both _ _ _ (answers_same _ _ c.note_went_on.ensures.links) c.in_ok-fits.ensures.answers) c.fail-else-fits.ensures.answers
+
+pub returns-in_default-clause-lasts : goal.returns-in_default-clause-lasts
+returns-in_default-clause-lasts c = same_last c.end.result c.args.key _ c.end.new.self c.end.ensures.links
+
+pub returns-then-not-may_put-clause-lasts : goal.returns-then-not-may_put-clause-lasts
+returns-then-not-may_put-clause-lasts c = deaf_last c.fail.result c.args.key _ c.fail.new.self c.fail.ensures.over
+
+pub returns-then-not-is_put-clause-lasts : goal.returns-then-not-is_put-clause-lasts
+returns-then-not-is_put-clause-lasts c = deaf_last c.fail-then-not-is_put.result c.args.key _ c.fail-then-not-is_put.new.self c.fail-then-not-is_put.ensures.over
+
+pub returns-then-fits-clause-lasts : goal.returns-then-fits-clause-lasts
+returns-then-fits-clause-lasts c = inl (last_all _ _ _ (last_links _ _ c.note_went_on.ensures.links) c.in_ok-fits.ensures.lasts)
+
+pub returns-else-fits-clause-lasts : goal.returns-else-fits-clause-lasts
+returns-else-fits-clause-lasts c = deaf_last c.fail-else-fits.result c.args.key _ c.fail-else-fits.new.self c.fail-else-fits.ensures.over
+
+pub returns-in_default-clause-closes : goal.returns-in_default-clause-closes
+returns-in_default-clause-closes c = for_reason c.end.result c.args.key _ _ _ (Unheld (sym c.hold_of.ensures ∙ c.in_default.is)) c.end.ensures.closes
+
+pub returns-then-not-may_put-clause-closes : goal.returns-then-not-may_put-clause-closes
+returns-then-not-may_put-clause-closes c = for_reason c.fail.result c.args.key _ _ _ (Unbegun (c.may_put.ensures.unbegun (search rules))) c.fail.ensures.closes
+
+pub returns-then-not-is_put-clause-closes : goal.returns-then-not-is_put-clause-closes
+returns-then-not-is_put-clause-closes c = for_reason c.fail-then-not-is_put.result c.args.key _ _ _ (Untaken (c.in_ok-is_put.ensures.untaken (search rules)))
+    (closes_first c.fail-then-not-is_put.result (Itself c.args.key) _ _ _ c.fail-then-not-is_put.ensures.closes c.note_went_on.ensures.closes)
+
+pub returns-then-fits-clause-closes : goal.returns-then-fits-clause-closes
+returns-then-fits-clause-closes c = closes_nobody _ _ _ (closes_both Nobody _ _ _ c.note_went_on.ensures.closes c.in_ok-fits.ensures.closes)
+
+pub returns-else-fits-clause-closes : goal.returns-else-fits-clause-closes
+returns-else-fits-clause-closes c =
+    let after : List ℕ = c.put_on.new.out.items in
+    let p : ClientPuts c.args.whole c.args.bytes.now c.args.key c.args.self.now.desk c.put_on.new.desk [] after =
+    subst (λ (xs : List ℕ). ClientPuts c.args.whole c.args.bytes.now c.args.key c.args.self.now.desk c.put_on.new.desk xs after) (search rules) (c.in_ok-is_put.ensures.body (search rules)) in
+    let none : HasNoRoom c.in-Some.hold.number after c.args.self.now.links.items =
+    subst (λ (xs : List ℕ). HasNoRoom c.in-Some.hold.number xs c.args.self.now.links.items) c.note_went_on.ensures.outbox
+    (subst (λ (ls : List Link). HasNoRoom c.in-Some.hold.number c.note_went_on.new.self.outbox.items ls) c.note_went_on.ensures.links (c.in_ok-fits.ensures.no_room (search rules))) in
+    for_reason c.fail-else-fits.result c.args.key _ _ _
+    (Unfit c.put_on.new.desk after p (no_room_there c.args.whole c.args.bytes.now c.args.key c.args.self.now.desk c.put_on.new.desk after c.args.self.now.links.items c.in-Some.hold p (sym c.hold_of.ensures ∙ c.in-Some.is) none))
+    (closes_first c.fail-else-fits.result (Itself c.args.key) _ _ _ c.fail-else-fits.ensures.closes (closes_both Nobody _ _ _ c.note_went_on.ensures.closes c.in_ok-fits.ensures.closes))

@@ -1,4 +1,4 @@
-use Rattle.std.proofs.Common.{◌≡◌, ◌∙◌, List, ap, refl, rules, subst, ℕ}
+use Rattle.std.proofs.Common.{◌≡◌, ◌∙◌, List, ap, inl, refl, rules, subst, ℕ}
 use Rattle.tds_relay.specs.Bodies.{Grows, body_of, going_of, held_of}
 use Rattle.slab.specs.Slab.{get, with_value}
 use Rattle.tds_relay.proofs.steps.Bodied.{none_grows}
@@ -14,9 +14,11 @@ use Rattle.tds_relay.proofs.spared.Apart.{alone_on, alone_same}
 use Rattle.tds_relay.proofs.steps.Posting.{posts_kept}
 use Rattle.tds_relay.specs.Closings.{Itself}
 use Rattle.tds_relay.proofs.spared.Closings.{closes_on}
+use Rattle.tds_relay.proofs.spared.Reasons.{for_any}
 use Rattle.tds_relay.proofs.spared.Sending.{kept_refl}
 use Rattle.tds_relay.proofs.spared.Shutting.{closes_kept, unclosed}
 use Rattle.tds_relay.proofs.spared.Begun.{answers_refl}
+use Rattle.tds_relay.proofs.spared.Lasting.{last_refl}
 use Rattle.tds_relay.proofs.relay.Relay.put_held.Goals as goal
 
 pub returns-in_default-clause-body : goal.returns-in_default-clause-body
@@ -50,8 +52,14 @@ returns-clause-alone c =
     (alone_same c.args.key (hall_in c.args.self.now) (hall_of_ends (desk_in c.args.self.now.desk) (ends_in (with_value c.args.self.now.applications c.args.key c.forget.new.self))) kept refl)
 
 pub returns-clause-closes : goal.returns-clause-closes
-returns-clause-closes c = closes_on c.put.result (Itself c.args.key) _ _ _ c.put.ensures.closes
+returns-clause-closes c = closes_on c.put.result (Itself c.args.key) _ _ _ (for_any c.put.result c.args.key _ _ _ c.put.ensures.closes)
     (closes_kept (Itself c.args.key) _ _ (ends_kept c.args.self.now.applications c.args.key c.in-Some.application.now _ c.in-Some.ensures.value c.forget.ensures.end) (posts_kept c.args.self.now.applications c.args.key c.in-Some.application.now _ c.in-Some.ensures.value c.forget.ensures.post) refl (kept_refl c.args.self.now.links.items) (unclosed _ _ refl))
 
 pub returns-in_default-clause-answers : goal.returns-in_default-clause-answers
 returns-in_default-clause-answers c = answers_refl c.args.self.now.links.items
+
+pub returns-in_default-clause-lasts : goal.returns-in_default-clause-lasts
+returns-in_default-clause-lasts c = inl (last_refl c.args.self.now.links.items)
+
+pub returns-clause-lasts : goal.returns-clause-lasts
+returns-clause-lasts c = c.put.ensures.lasts

@@ -13,6 +13,7 @@ use Rattle.tds_relay.proofs.steps.Bodied.{closed_body, closed_starts, shut_start
 use Rattle.tds_relay.proofs.steps.Going.{waits_from}
 use Rattle.tds_relay.specs.Closings.{IsWho, Itself}
 use Rattle.tds_relay.proofs.spared.Closings.{closes_first, closes_more_on}
+use Rattle.tds_relay.proofs.spared.Reasons.{for_any}
 use Rattle.tds_relay.proofs.relay.Relay.renew.Goals as goal
 
 pub returns-in-Kept-clause-goes : goal.returns-in-Kept-clause-goes
@@ -91,3 +92,6 @@ returns-in-Kept-clause-closes c = closes_first c.start_kept.result (Itself c.arg
 
 pub returns-in-Closed-clause-closes : goal.returns-in-Closed-clause-closes
 returns-in-Closed-clause-closes c = closes_more_on c.close.result (IsWho (Some c.args.key)) (Itself c.args.key) _ _ (λ key e. (let u : Some c.args.key ≡ Some key = e in cc)) c.close.ensures.closes
+
+pub returns-else-has_transaction-clause-closes : goal.returns-else-has_transaction-clause-closes
+returns-else-has_transaction-clause-closes c = for_any c.change.result c.args.key _ _ _ c.change.ensures.closes

@@ -10,10 +10,11 @@ use Rattle.tds_relay.proofs.steps.Carried.{carries_ok}
 use Rattle.tds_relay.proofs.steps.Reaching.{ok_more, reached_on}
 use Rattle.tds_relay.specs.Posts.{names_in}
 use Rattle.tds_relay.proofs.steps.Renaming.{names_on}
-use Rattle.tds_relay.proofs.spared.Lines.{waited_or}
-use Rattle.tds_relay.specs.Closings.{IsWaiting, Itself, ItselfOrWaiting}
+use Rattle.tds_relay.specs.Closings.{IsWaiting}
+use Rattle.tds_relay.specs.Reasons.{ForReasonOrWaiting}
 use Rattle.std.proofs.Common.{inl}
 use Rattle.tds_relay.proofs.spared.Closings.{closes_more, closes_with}
+use Rattle.tds_relay.proofs.spared.Reasons.{lent_behind}
 use Rattle.tds_relay.proofs.spared.Few.{few_behind, most_kept, none_stays}
 use Rattle.tds_relay.proofs.relay.Relay.said.Goals as goal
 
@@ -44,9 +45,11 @@ returns-clause-carries c = λ reached.
 pub returns-clause-names : goal.returns-clause-names
 returns-clause-names c = names_on c.serve_line.result (names_in c.args.self.now.applications) c.take_all.new.self.applications c.serve_line.new.self.applications c.in_ok-take_all.ensures.names c.serve_line.ensures.kept
 
-pub returns-clause-closes : goal.returns-clause-closes
-returns-clause-closes c = closes_with c.serve_line.result (IsWaiting (desk_in c.take_all.new.self.desk).line) (ItselfOrWaiting c.args.key (desk_in c.args.self.now.desk).line) _ _ _ (waited_or c.args.key (desk_in c.args.self.now.desk) (desk_in c.take_all.new.self.desk) c.in_ok-take_all.ensures.goes) c.serve_line.ensures.closes
-    (closes_more (Itself c.args.key) (ItselfOrWaiting c.args.key (desk_in c.args.self.now.desk).line) _ _ (λ key e. inl e) c.in_ok-take_all.ensures.closes)
-
 pub returns-clause-few : goal.returns-clause-few
 returns-clause-few c = few_behind c.serve_line.result _ _ _ _ _ (most_kept _ _ (c.in_ok-take_all.ensures.closes.told)) (none_stays _ _ c.in_ok-take_all.ensures.read) c.serve_line.ensures.few
+
+pub returns-clause-closes : goal.returns-clause-closes
+returns-clause-closes c =
+    let all = ForReasonOrWaiting c.args.key c.args.piece.now c.args.self.now in
+    closes_with c.serve_line.result (IsWaiting (desk_in c.take_all.new.self.desk).line) all _ _ _ (lent_behind c.args.key c.args.piece.now c.args.self.now c.take_all.new.self c.in_ok-take_all.ensures.carries c.in_ok-take_all.ensures.goes) c.serve_line.ensures.closes
+    (closes_more _ all _ _ (λ other x. inl x) c.in_ok-take_all.ensures.closes)

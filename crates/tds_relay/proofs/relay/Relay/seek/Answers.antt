@@ -1,10 +1,13 @@
-use Rattle.std.proofs.Common.{refl, rules, ◌∙◌}
+use Rattle.std.proofs.Common.{refl, rules, sym, ◌∙◌}
 use Rattle.tds_relay.specs.Ties.{Application}
 use Rattle.tds_relay.proofs.steps.Reaching.{ok_if, ok_more}
 use Rattle.tds_relay.proofs.steps.Staying.{stays_refl, stays_same}
 use Rattle.tds_relay.specs.Bodies.{body_of}
 use Rattle.tds_relay.proofs.steps.Bodied.{same_starts}
-use Rattle.tds_relay.specs.Closings.{Itself}
+use Rattle.tds_relay.specs.Desk.{find_key}
+use Rattle.tds_relay.specs.Ties.{desk_in}
+use Rattle.tds_relay.proofs.spared.Lined.{has_some}
+use Rattle.tds_relay.proofs.spared.Reasons.{for_reason}
 use Rattle.tds_relay.proofs.spared.Closings.{closes_nobody}
 use Rattle.tds_relay.proofs.spared.Cleaned.{not_both}
 use Rattle.tds_relay.proofs.relay.Relay.seek.Goals as goal
@@ -25,10 +28,13 @@ pub returns-in-None-clause-body : goal.returns-in-None-clause-body
 returns-in-None-clause-body c = ok_if c.wait.result _ (same_starts (body_of c.args.key c.args.self.now) (body_of c.args.key c.wait.new.self) (c.wait.ensures.body c.args.key))
 
 pub returns-in-None-clause-closes : goal.returns-in-None-clause-closes
-returns-in-None-clause-closes c = ok_if c.wait.result _ (closes_nobody (Itself c.args.key) _ _ c.wait.ensures.closes)
+returns-in-None-clause-closes c = ok_if c.wait.result _ (closes_nobody _ _ _ c.wait.ensures.closes)
 
 pub returns-in-Some-clause-stays : goal.returns-in-Some-clause-stays
 returns-in-Some-clause-stays c = λ none. absurd (not_both _ _ c.in-Some.is (c.hold_of.ensures ∙ none))
 
 pub returns-in-None-clause-stays : goal.returns-in-None-clause-stays
 returns-in-None-clause-stays c = λ none. ok_if c.wait.result _ (c.wait.ensures.body c.args.key)
+
+pub returns-in-Some-clause-closes : goal.returns-in-Some-clause-closes
+returns-in-Some-clause-closes c = for_reason c.start_kept.result c.args.key _ _ _ (has_some (find_key c.args.key (desk_in c.args.self.now.desk).holds) _ (sym c.hold_of.ensures ∙ c.in-Some.is)) c.start_kept.ensures.closes

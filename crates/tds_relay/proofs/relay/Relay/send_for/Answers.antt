@@ -1,4 +1,4 @@
-use Rattle.std.proofs.Common.{ap}
+use Rattle.std.proofs.Common.{ap, rules}
 use Rattle.tds_relay.specs.Ties.{desk_in}
 use Rattle.tds_relay.proofs.steps.Fronts.{moves_same}
 use Rattle.tds_relay.proofs.steps.Reaching.{ok_more}
@@ -6,6 +6,7 @@ use Rattle.tds_relay.proofs.steps.Staying.{stays_on}
 use Rattle.tds_relay.proofs.bytes.Calls.{stand_from}
 use Rattle.tds_relay.specs.Closings.{Itself}
 use Rattle.tds_relay.proofs.spared.Closings.{closes_first, closes_nobody}
+use Rattle.tds_relay.proofs.spared.Reasons.{for_reason}
 use Rattle.tds_relay.proofs.relay.Relay.send_for.Goals as goal
 
 pub returns-else-fits-clause-read : goal.returns-else-fits-clause-read
@@ -22,7 +23,7 @@ pub returns-else-fits-clause-stand : goal.returns-else-fits-clause-stand
 returns-else-fits-clause-stand c = stand_from c.lose_own.result _ _ _ c.fits_on.ensures.desk c.lose_own.ensures.stand
 
 pub returns-then-fits-clause-closes : goal.returns-then-fits-clause-closes
-returns-then-fits-clause-closes c = closes_nobody (Itself c.args.key) _ _ c.in_ok-fits.ensures.closes
+returns-then-fits-clause-closes c = closes_nobody _ _ _ c.in_ok-fits.ensures.closes
 
 pub returns-else-fits-clause-closes : goal.returns-else-fits-clause-closes
-returns-else-fits-clause-closes c = closes_first c.lose_own.result (Itself c.args.key) _ _ _ c.lose_own.ensures.closes c.in_ok-fits.ensures.closes
+returns-else-fits-clause-closes c = for_reason c.lose_own.result c.args.key _ _ _ (c.in_ok-fits.ensures.no_room (search rules)) (closes_first c.lose_own.result (Itself c.args.key) _ _ _ c.lose_own.ensures.closes c.in_ok-fits.ensures.closes)

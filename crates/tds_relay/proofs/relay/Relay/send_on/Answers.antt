@@ -43,10 +43,10 @@ pub returns-else-fits-clause-ordered : goal.returns-else-fits-clause-ordered
 returns-else-fits-clause-ordered c = ordered_on c.lose.result _ _ _ c.lose.ensures.ordered c.in_ok-fits.ensures.ordered
 
 pub returns-then-fits-clause-closes : goal.returns-then-fits-clause-closes
-returns-then-fits-clause-closes c = closes_nobody (IsWho (holder (desk_in c.args.self.now.desk) c.args.number)) _ _ c.in_ok-fits.ensures.closes
+returns-then-fits-clause-closes c = closes_nobody _ _ _ c.in_ok-fits.ensures.closes
 
 pub returns-else-fits-clause-closes : goal.returns-else-fits-clause-closes
-returns-else-fits-clause-closes c = closes_next c.lose.result (IsWho (holder (desk_in c.fits_on.new.self.desk) c.args.number)) (IsWho (holder (desk_in c.args.self.now.desk) c.args.number)) _ _ _ (λ key e. ap (λ (d : code.Desk). holder (desk_in d) c.args.number) (sym c.fits_on.ensures.desk) ∙ e) c.lose.ensures.closes c.in_ok-fits.ensures.closes
+returns-else-fits-clause-closes c = closes_next c.lose.result (IsWho (holder (desk_in c.fits_on.new.self.desk) c.args.number)) _ _ _ _ (λ key e. (ap (λ (d : code.Desk). holder (desk_in d) c.args.number) (sym c.fits_on.ensures.desk) ∙ e, c.in_ok-fits.ensures.no_room (search rules))) c.lose.ensures.closes c.in_ok-fits.ensures.closes
 
 pub returns-else-fits-clause-others : goal.returns-else-fits-clause-others
 returns-else-fits-clause-others c = ok_more c.lose.result _ _ (λ o other differs. o other differs ∙ c.in_ok-fits.ensures.others other differs) c.lose.ensures.others

@@ -6,6 +6,7 @@ use Rattle.tds_relay.proofs.steps.Staying.{stays_on}
 use Rattle.tds_relay.proofs.bytes.Calls.{stand_from}
 use Rattle.tds_relay.specs.Closings.{Itself}
 use Rattle.tds_relay.proofs.spared.Closings.{closes_first, closes_nobody}
+use Rattle.tds_relay.proofs.spared.Reasons.{for_reason}
 use Rattle.tds_relay.proofs.relay.Relay.send_stop.Goals as goal
 
 pub returns-else-fits-clause-read : goal.returns-else-fits-clause-read
@@ -28,7 +29,7 @@ pub returns-else-fits-clause-sends : goal.returns-else-fits-clause-sends
 returns-else-fits-clause-sends c = ok_more c.fail.result _ _ (λ d. inl d) c.fail.ensures.over
 
 pub returns-then-fits-clause-closes : goal.returns-then-fits-clause-closes
-returns-then-fits-clause-closes c = closes_nobody (Itself c.args.key) _ _ c.in_ok-fits.ensures.closes
+returns-then-fits-clause-closes c = closes_nobody _ _ _ c.in_ok-fits.ensures.closes
 
 pub returns-else-fits-clause-closes : goal.returns-else-fits-clause-closes
-returns-else-fits-clause-closes c = closes_first c.fail.result (Itself c.args.key) _ _ _ c.fail.ensures.closes c.in_ok-fits.ensures.closes
+returns-else-fits-clause-closes c = for_reason c.fail.result c.args.key _ _ _ (c.in_ok-fits.ensures.no_room (search rules)) (closes_first c.fail.result (Itself c.args.key) _ _ _ c.fail.ensures.closes c.in_ok-fits.ensures.closes)

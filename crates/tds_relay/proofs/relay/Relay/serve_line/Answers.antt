@@ -1,17 +1,38 @@
-use Rattle.std.proofs.Common.{refl, ◌∙◌, inr, rules}
-use Rattle.tds_relay.proofs.spared.Apart.{unserved_on}
-use Rattle.tds_relay.proofs.spared.Ordered.{ordered_both}
+use Rattle.std.proofs.Common.{◌≡◌, ℕ, suc, length, ap, arith, refl, ◌∙◌, inl, inr, rules}
+use Rattle.std.proofs.Math.Nat.{zero-add}
+use Rattle.tds_relay.proofs.spared.Apart.{served_shorter, unserved_on, unserved_refl}
+use Rattle.tds_relay.proofs.spared.Ordered.{ordered_both, ordered_refl}
 use Rattle.tds_relay.proofs.steps.Fronts.{moves_does}
 use Rattle.tds_relay.proofs.steps.Reaching.{reaches_turn}
-use Rattle.tds_relay.proofs.steps.Staying.{opens_both}
-use Rattle.tds_relay.proofs.spared.Resting.{go_both, reached_on_does, reached_serves, served_go}
-use Rattle.tds_relay.specs.Closings.{IsWaiting, Itself}
+use Rattle.tds_relay.proofs.steps.Staying.{opens_both, opens_refl}
+use Rattle.tds_relay.proofs.spared.Resting.{go_both, go_refl, reached_on_does, reached_serves, served_go}
+use Rattle.tds_relay.specs.Closings.{IsWaiting, Itself, register_in}
 use Rattle.tds_relay.specs.Fronts.{hall_in}
 use Rattle.tds_relay.specs.Ties.{desk_in}
 use Rattle.tds_relay.proofs.spared.Lines.{served_waited}
-use Rattle.tds_relay.proofs.spared.Closings.{closes_both, closes_more}
-use Rattle.tds_relay.proofs.spared.Few.{few_lent, most_kept}
+use Rattle.tds_relay.proofs.spared.Closings.{closes_both, closes_more, closes_refl}
+use Rattle.tds_relay.proofs.spared.Lasting.{last_both, last_more, last_start}
+use Rattle.tds_relay.proofs.spared.Few.{few_lent, most_kept, none_refl}
 use Rattle.tds_relay.proofs.relay.Relay.serve_line.Goals as goal
+
+pub line-init : goal.line-init
+line-init c =
+    let old = c.args.self.now in
+    let may = IsWaiting (desk_in old.desk).line in
+    record {
+      goes = λ by from h. h;
+      kept = refl;
+      moves = λ by from h. h;
+      opens = opens_refl old.links.items;
+      stand = λ n r h. h;
+      going = go_refl old;
+      ordered = ordered_refl old.orders.items;
+      unserved = unserved_refl (hall_in old);
+      few = inl (none_refl old.links.items);
+      shorter = zero-add (length old.desk.line.items);
+      lasting = last_start may (register_in old);
+      closes = closes_refl may (register_in old);
+    }
 
 pub line-preserved : goal.line-preserved
 line-preserved c = record {
@@ -29,6 +50,18 @@ line-preserved c = record {
       closes_both (IsWaiting (desk_in c.args.self.now.desk).line) _ _ _ c.line.invariant.closes
       (closes_more (Itself c.in-Some.served.hold.key) (IsWaiting (desk_in c.args.self.now.desk).line) _ _
       (served_waited (hall_in c.args.self.now) (hall_in c.line.self) _ c.in-Some.served c.line.invariant.unserved c.in_ok-served.ensures.ok.1 c.in-Some.is) c.in_ok-lend-in-Some.ensures.closes);
+  shorter =
+      let gone : suc (length c.serve.new.self.line.items) ≡ length c.line.self.desk.line.items =
+      served_shorter (desk_in c.line.self.desk) (desk_in c.serve.new.self) _ c.in-Some.served _ _ c.in_ok-served.ensures.ok.1 c.in-Some.is c.in_ok-served.ensures.ok.0 in
+      let stays : length c.lend.new.self.desk.line.items ≡ length c.serve.new.self.line.items = ap (length {A = ℕ}) c.in_ok-lend-in-Some.ensures.alone.line in
+      omega (arith, c.line.invariant.shorter, gone, stays);
+  lasting =
+      last_both (IsWaiting (desk_in c.args.self.now.desk).line) _ (register_in c.line.self) _ c.line.invariant.closes
+      (closes_more (Itself c.in-Some.served.hold.key) (IsWaiting (desk_in c.args.self.now.desk).line) _ _
+      (served_waited (hall_in c.args.self.now) (hall_in c.line.self) _ c.in-Some.served c.line.invariant.unserved c.in_ok-served.ensures.ok.1 c.in-Some.is) c.in_ok-lend-in-Some.ensures.closes)
+      c.line.invariant.lasting
+      (last_more (Itself c.in-Some.served.hold.key) (IsWaiting (desk_in c.args.self.now.desk).line) _ _
+      (served_waited (hall_in c.args.self.now) (hall_in c.line.self) _ c.in-Some.served c.line.invariant.unserved c.in_ok-served.ensures.ok.1 c.in-Some.is) c.in_ok-lend-in-Some.ensures.lasts);
   unserved =
       unserved_on _ _ _ _ _ c.in-Some.served _ _ c.line.invariant.unserved c.in_ok-served.ensures.ok.1 c.in-Some.is c.in_ok-served.ensures.ok.0 refl c.in_ok-lend-in-Some.ensures.alone;
 }

@@ -1,6 +1,7 @@
-use Rattle.std.proofs.Common.{◌≡◌}
+use Rattle.std.proofs.Common.{◌≡◌, ◌+◌, length}
 use Rattle.tds_relay.specs.Few.{Few}
 use Rattle.tds_relay.specs.Fronts.{MovedOn, hall_in}
+use Rattle.tds_relay.specs.Lent.{LastBut}
 use Rattle.tds_relay.specs.Ordering.{StayOrdered}
 use Rattle.tds_relay.specs.Posts.{posts_in}
 use Rattle.tds_relay.specs.Reads.{Opens}
@@ -22,5 +23,7 @@ invariant-line l = record {
   ordered : StayOrdered l.fn.self.orders.items l.self.orders.items;
   unserved : Unserved (hall_in l.fn.self) (hall_in l.self);
   few : Few l.fn.self.most l.fn.self.links.items l.self.links.items;
+  shorter : l.turn + length l.self.desk.line.items ≡ length l.fn.self.desk.line.items;
+  lasting : LastBut (IsWaiting (desk_in l.fn.self.desk).line) (register_in l.fn.self) (register_in l.self);
   closes : ClosesOnly (IsWaiting (desk_in l.fn.self.desk).line) (register_in l.fn.self) (register_in l.self);
 }

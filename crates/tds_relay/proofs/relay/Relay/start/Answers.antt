@@ -20,6 +20,9 @@ use Rattle.tds_relay.specs.Hall.{closes}
 use Rattle.tds_relay.proofs.spared.Apart.{alone_changed, alone_on, alone_same, line_does}
 use Rattle.tds_relay.proofs.spared.Ordered.{ordered_closing, ordered_refl}
 use Rattle.tds_relay.proofs.spared.Begun.{answers_refl, answers_unchanged}
+use Rattle.tds_relay.specs.Closings.{Itself, register_in}
+use Rattle.tds_relay.proofs.spared.Ended.{its_name}
+use Rattle.tds_relay.proofs.spared.Lasting.{last_closed, last_named, last_start, same_but}
 use Rattle.tds_relay.proofs.relay.Relay.start.Goals as goal
 
 pub returns-in-Ok-clause-goes : goal.returns-in-Ok-clause-goes
@@ -178,3 +181,29 @@ returns-then-not-is_open-clause-answers c = answers_refl c.args.self.now.links.i
 
 pub returns-in_default-hold_of-clause-answers : goal.returns-in_default-hold_of-clause-answers
 returns-in_default-hold_of-clause-answers c = answers_unchanged c.end.result _ _ c.end.ensures.links
+
+pub returns-in_default-clause-lasts : goal.returns-in_default-clause-lasts
+returns-in_default-clause-lasts c = last_start (Itself c.args.key) (register_in c.args.self.now)
+
+pub returns-then-application-clause-lasts : goal.returns-then-application-clause-lasts
+returns-then-application-clause-lasts c = last_start (Itself c.args.key) (register_in c.args.self.now)
+
+pub returns-in_default-asking-clause-lasts : goal.returns-in_default-asking-clause-lasts
+returns-in_default-asking-clause-lasts c = last_start (Itself c.args.key) (register_in c.args.self.now)
+
+pub returns-then-application-2-clause-lasts : goal.returns-then-application-2-clause-lasts
+returns-then-application-2-clause-lasts c = last_start (Itself c.args.key) (register_in c.args.self.now)
+
+pub returns-then-not-is_open-clause-lasts : goal.returns-then-not-is_open-clause-lasts
+returns-then-not-is_open-clause-lasts c = last_start (Itself c.args.key) (register_in c.args.self.now)
+
+pub returns-in_default-hold_of-clause-lasts : goal.returns-in_default-hold_of-clause-lasts
+returns-in_default-hold_of-clause-lasts c = same_but c.end.result (Itself c.args.key) (register_in c.args.self.now) (register_in c.end.new.self) c.end.ensures.links
+
+pub returns-in-Ok-clause-lasts : goal.returns-in-Ok-clause-lasts
+returns-in-Ok-clause-lasts c =
+    last_named c.put_held.result c.args.key c.in-Some.application.now.tag (register_in c.args.self.now) c.put_held.new.self (its_name c.args.self.now c.args.key c.in-Some.application.now c.in-Some.ensures c.if-application.false) c.put_held.ensures.lasts
+
+pub returns-in-Err-clause-lasts : goal.returns-in-Err-clause-lasts
+returns-in-Err-clause-lasts c =
+    last_closed c.fail.result c.args.key c.in-Some.application.now.tag (register_in c.args.self.now) (register_in c.fail.new.self) (its_name c.args.self.now c.args.key c.in-Some.application.now c.in-Some.ensures c.if-application.false) c.fail.ensures.over

@@ -11,6 +11,8 @@ use Rattle.tds_relay.proofs.spared.Apart.{alone_refl}
 use Rattle.tds_relay.proofs.spared.Resting.{others_all, others_refl}
 use Rattle.tds_relay.proofs.spared.Starting.{unkept_closed}
 use Rattle.tds_relay.proofs.spared.Begun.{answers_refl}
+use Rattle.tds_relay.specs.Closings.{Itself, register_in}
+use Rattle.tds_relay.proofs.spared.Lasting.{last_closed, last_start}
 use Rattle.tds_relay.proofs.relay.Relay.start_kept.Goals as goal
 
 pub returns-in_default-clause-moves : goal.returns-in_default-clause-moves
@@ -59,3 +61,17 @@ returns-clause-placed c = ok_more c.fail.result _ _ (λ d. inl (unkept_closed _ 
 
 pub returns-then-is_held_back-clause-answers : goal.returns-then-is_held_back-clause-answers
 returns-then-is_held_back-clause-answers c = answers_refl c.args.self.now.links.items
+
+pub returns-in_default-clause-lasts : goal.returns-in_default-clause-lasts
+returns-in_default-clause-lasts c = c.start.ensures.lasts
+
+pub returns-then-is_reset-clause-lasts : goal.returns-then-is_reset-clause-lasts
+returns-then-is_reset-clause-lasts c = c.start-then-is_reset.ensures.lasts
+
+pub returns-then-is_held_back-clause-lasts : goal.returns-then-is_held_back-clause-lasts
+returns-then-is_held_back-clause-lasts c = last_start (Itself c.args.key) (register_in c.args.self.now)
+
+pub returns-clause-lasts : goal.returns-clause-lasts
+returns-clause-lasts c =
+    let named = c.is_held_back.ensures.named (search rules) in
+    last_closed c.fail.result c.args.key named.0 (register_in c.args.self.now) (register_in c.fail.new.self) named.1 c.fail.ensures.over

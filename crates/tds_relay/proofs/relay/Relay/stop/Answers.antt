@@ -1,8 +1,9 @@
-use Rattle.std.proofs.Common.{List, ℕ, refl, rules, subst}
+use Rattle.std.proofs.Common.{◌≡◌, List, false, inl, inr, ℕ, refl, rules, subst}
 use Rattle.tds_relay.specs.Bodies.{ClientStops}
 use Rattle.tds_relay.specs.Ties.{Application}
 use Rattle.tds_relay.proofs.steps.Fronts.{moves_does, moves_same}
 use Rattle.tds_relay.proofs.steps.Reaching.{reaches_turn}
+use Rattle.tds_relay.proofs.spared.Reasons.{asked_not, is_asked}
 use Rattle.tds_relay.proofs.relay.Relay.stop.Goals as goal
 
 pub returns-then-matches-clause-goes : goal.returns-then-matches-clause-goes
@@ -20,8 +21,11 @@ returns-else-matches-clause-goes c = λ from h. reaches_turn (Application c.args
 pub returns-else-matches-clause-moves : goal.returns-else-matches-clause-moves
 returns-else-matches-clause-moves c = λ es here from h. moves_does (Application c.args.key) from _ _ _ _ _ _ _ c.in-Ok.ensures.ok (tt, here, tt) refl refl h
 
-pub returns-in-Err-clause-moves : goal.returns-in-Err-clause-moves
-returns-in-Err-clause-moves c = λ es here from h. moves_same (Application c.args.key) from _ _ _ _ c.in-Err.ensures.err refl h
+pub returns-in_ok-unless_memory-in-Err-clause-moves : goal.returns-in_ok-unless_memory-in-Err-clause-moves
+returns-in_ok-unless_memory-in-Err-clause-moves c = λ es here from h. moves_same (Application c.args.key) from _ _ _ _ c.in-Err.ensures.err refl h
+
+pub returns-in_err-unless_memory-in-Err-clause-moves : goal.returns-in_err-unless_memory-in-Err-clause-moves
+returns-in_err-unless_memory-in-Err-clause-moves c = λ es here from h. moves_same (Application c.args.key) from _ _ _ _ c.in-Err.ensures.err refl h
 
 pub returns-then-matches-clause-stops : goal.returns-then-matches-clause-stops
 returns-then-matches-clause-stops c = record {
@@ -30,3 +34,18 @@ returns-then-matches-clause-stops c = record {
   number_is = refl;
   stops = subst (λ (xs : List ℕ). ClientStops c.args.key c.args.self.now.desk c.cancel.new.self xs c.cancel.new.out.items) (search rules) c.in-Ok.ensures.stops;
 }
+
+pub returns-in_ok-unless_memory-in-Err-clause-none : goal.returns-in_ok-unless_memory-in-Err-clause-none
+returns-in_ok-unless_memory-in-Err-clause-none c = inl (record { refusal = c.in-Err.refusal; reason = c.in_ok-unless_memory-in-Err.ensures; refuses = λ hold its count. c.in-Err.ensures.refused hold its })
+
+pub returns-else-matches-clause-none : goal.returns-else-matches-clause-none
+returns-else-matches-clause-none c =
+    let not : is_asked c.in-Ok.how ≡ false = search rules in
+    inr (record {
+      hold = c.in-Ok.hold;
+      its = c.in-Ok.ensures.whose;
+      request = c.in-Ok.ensures.how.0;
+      how = c.in-Ok.how;
+      answers = c.in-Ok.ensures.how.1;
+      not_asked = asked_not c.in-Ok.how not;
+    })

@@ -18,9 +18,18 @@ use Rattle.tds_relay.proofs.steps.Carried.{carries_deaf, carries_fed, carries_mo
 use Rattle.tds_relay.proofs.steps.Renaming.{names_given}
 use Rattle.tds_relay.specs.Posts.{names_of}
 use Rattle.tds_relay.specs.Closings.{Itself}
-use Rattle.tds_relay.proofs.spared.Closings.{closes_both}
+use Rattle.tds_relay.proofs.spared.Closings.{closes_both, closes_more}
 use Rattle.tds_relay.proofs.spared.Sending.{kept_refl}
 use Rattle.tds_relay.proofs.spared.Shutting.{closes_kept, closes_written, unclosed}
+use Rattle.std.proofs.Common.{Bool, Option, option_map}
+use Rattle.tds_front.specs.Bytes.{fed}
+use Rattle.tds_front.specs.declared.front.Front.{Front}
+use Rattle.tds_packet.specs.declared.status.Reset.{Reset}
+use Rattle.tds_relay.specs.Hall.{Open, asks_by, end_at}
+use Rattle.tds_relay.specs.Reasons.{GivesReason, ItselfFor, ReasonBy, ReasonWith, room_left}
+use Rattle.tds_relay.proofs.steps.Fronts.{end_is}
+use Rattle.tds_relay.proofs.steps.Underway.{written_there}
+use Rattle.tds_relay.proofs.spared.Reasons.{may_before}
 use Rattle.tds_relay.proofs.relay.Relay.take.Goals as goal
 
 pub returns-in-Err-clause-tells : goal.returns-in-Err-clause-tells
@@ -146,12 +155,45 @@ pub returns-then-application-clause-names : goal.returns-then-application-clause
 returns-then-application-clause-names c = ap names_of (posts_kept c.args.self.now.applications c.args.key c.in-Some.application.now c.in-Some.application.now c.in-Some.ensures.value refl)
 
 pub returns-then-application-clause-closes : goal.returns-then-application-clause-closes
-returns-then-application-clause-closes c = closes_kept (Itself c.args.key) _ _ (ends_kept c.args.self.now.applications c.args.key c.in-Some.application.now c.in-Some.application.now c.in-Some.ensures.value refl) (posts_kept c.args.self.now.applications c.args.key c.in-Some.application.now c.in-Some.application.now c.in-Some.ensures.value refl) refl (kept_refl c.args.self.now.links.items) (unclosed _ _ refl)
+returns-then-application-clause-closes c = closes_kept _ _ _ (ends_kept c.args.self.now.applications c.args.key c.in-Some.application.now c.in-Some.application.now c.in-Some.ensures.value refl) (posts_kept c.args.self.now.applications c.args.key c.in-Some.application.now c.in-Some.application.now c.in-Some.ensures.value refl) refl (kept_refl c.args.self.now.links.items) (unclosed _ _ refl)
 
 pub returns-in-Err-clause-closes : goal.returns-in-Err-clause-closes
-returns-in-Err-clause-closes c = closes_both (Itself c.args.key) _ _ _
-    (closes_written (Itself c.args.key) c.args.self.now.applications c.args.key c.in-Some.application.now c.feed.new.self _ _ c.in-Some.ensures.value c.feed.ensures.over refl refl (posts_kept c.args.self.now.applications c.args.key c.in-Some.application.now c.feed.new.self c.in-Some.ensures.value c.feed.ensures.post) refl (kept_refl c.args.self.now.links.items) (unclosed _ _ refl)) c.in_ok-expel_for-in-Err.ensures.closes
+returns-in-Err-clause-closes c =
+    let a = c.in-Some.application.now in
+    let r = c.args.self.now in
+    let here : a.is_over ≡ false = search rules in
+    let was = end_there r.applications c.args.key a c.in-Some.ensures.value ∙ ap Some (end_open a here) in
+    let why : GivesReason c.args.piece.now c.args.key r =
+    subst (ReasonBy c.args.piece.now c.args.key r) (sym was)
+    (subst (ReasonWith c.args.piece.now c.args.key r (fed a.front c.args.piece.now).front a.is_withdrawn a.reset) (c.feed.ensures.brings) (subst (ReasonWith c.args.piece.now c.args.key r (fed a.front c.args.piece.now).front a.is_withdrawn a.reset) (sym c.in-Err.is) tt)) in
+    closes_both (ItselfFor c.args.key (GivesReason c.args.piece.now c.args.key r)) _ _ _
+    (closes_written _ c.args.self.now.applications c.args.key c.in-Some.application.now c.feed.new.self _ _ c.in-Some.ensures.value c.feed.ensures.over refl refl (posts_kept c.args.self.now.applications c.args.key c.in-Some.application.now c.feed.new.self c.in-Some.ensures.value c.feed.ensures.post) refl (kept_refl c.args.self.now.links.items) (unclosed _ _ refl))
+    (closes_more (Itself c.args.key) (ItselfFor c.args.key (GivesReason c.args.piece.now c.args.key r)) _ _ (λ other same. (same, why)) c.in_ok-expel_for-in-Err.ensures.closes)
 
 pub returns-clause-closes : goal.returns-clause-closes
-returns-clause-closes c = closes_both (Itself c.args.key) _ _ _ (closes_written (Itself c.args.key) c.args.self.now.applications c.args.key c.in-Some.application.now c.feed.new.self _ _ c.in-Some.ensures.value c.feed.ensures.over refl refl (posts_kept c.args.self.now.applications c.args.key c.in-Some.application.now c.feed.new.self c.in-Some.ensures.value c.feed.ensures.post) refl (kept_refl c.args.self.now.links.items) (unclosed _ _ refl))
-    c.in_ok-obey.ensures.closes
+returns-clause-closes c =
+    let slab = c.args.self.now.applications in
+    let a = c.in-Some.application.now in
+    let b = c.feed.new.self in
+    let r = c.args.self.now in
+    let piece = c.args.piece.now in
+    let said = c.in-Ok.fed.said in
+    let here : a.is_over ≡ false = search rules in
+    let was = end_there slab c.args.key a c.in-Some.ensures.value ∙ ap Some (end_open a here) in
+    let behind : Front = (fed a.front piece).front in
+    let now : end_at (ends_in (with_value slab c.args.key b)) c.args.key ≡ Some (Open behind a.is_withdrawn (asks_by said a.reset)) =
+    end_is (with_value slab c.args.key b) c.args.key ∙ ap (option_map end_of) (written_there slab c.args.key a b c.in-Some.ensures.value) ∙ ap Some (end_open b (c.feed.ensures.over ∙ here))
+    ∙ ap (λ (f : Front). Some (Open f b.is_withdrawn b.reset)) c.feed.ensures.front ∙ ap (λ (w : Bool). Some (Open behind w b.reset)) c.feed.ensures.withdrawn ∙ ap (λ (o : Option Reset). Some (Open behind a.is_withdrawn o)) c.in-Ok.ensures.asks in
+    let same = asks_kept slab c.args.key a b c.in-Some.ensures.value c.feed.ensures.body c.args.key (going_of c.args.key r) in
+    let rooms : room_left (get (with_value slab c.args.key b) c.args.key) ≡ room_left (get slab c.args.key) =
+    ap room_left (written_there slab c.args.key a b c.in-Some.ensures.value) ∙ c.feed.ensures.room ∙ ap room_left c.in-Some.ensures.value in
+    closes_both (ItselfFor c.args.key (GivesReason piece c.args.key r)) _ _ _
+    (closes_written _ c.args.self.now.applications c.args.key c.in-Some.application.now c.feed.new.self _ _ c.in-Some.ensures.value c.feed.ensures.over refl refl (posts_kept c.args.self.now.applications c.args.key c.in-Some.application.now c.feed.new.self c.in-Some.ensures.value c.feed.ensures.post) refl (kept_refl c.args.self.now.links.items) (unclosed _ _ refl))
+    (closes_more _ (ItselfFor c.args.key (GivesReason piece c.args.key r)) _ _
+    (λ other x. (
+      x.0,
+      subst (ReasonBy piece c.args.key r) (sym was)
+          (subst (ReasonWith piece c.args.key r behind a.is_withdrawn a.reset) c.feed.ensures.brings (subst (ReasonWith piece c.args.key r behind a.is_withdrawn a.reset) (sym c.in-Ok.is)
+          (may_before said (take c.in-Ok.fed.count piece) c.args.key _ _ _ _ r.desk r.links.items _ _ _ _ now rooms (posts_kept slab c.args.key a b c.in-Some.ensures.value c.feed.ensures.post) same x.1))),
+    ))
+    c.in_ok-obey.ensures.closes)

@@ -1,17 +1,19 @@
-use Rattle.std.proofs.Common.{◌≡◌}
+use Rattle.std.proofs.Common.{◌≡◌, ◌≤◌, ◌+◌, length}
 use Rattle.tds_relay.specs.Asking.{Asks}
 use Rattle.tds_relay.specs.Bodies.{Carries, body_of}
 use Rattle.tds_relay.specs.Fronts.{house_in}
 use Rattle.tds_relay.specs.Posts.{names_in}
 use Rattle.tds_relay.specs.Reads.{Stays}
+use Rattle.tds_relay.specs.Reasons.{HasReason, ItselfFor}
 use Rattle.tds_relay.specs.Taking.{Tells}
 use Rattle.tds_relay.specs.Ties.{Application, Goes, desk_in}
 use Rattle.tds_relay.specs.Walkers.{AllStand}
-use Rattle.tds_relay.specs.Closings.{ClosesOnly, Itself, register_in}
+use Rattle.tds_relay.specs.Closings.{ClosesOnly, register_in}
 use Rattle.tds_relay.proofs.relay.Relay.take_all.Given as goal
 
 abbrev pub invariant-taking : goal.invariant-taking
 invariant-taking l = record {
+  turns : length l.rest + l.counter ≤ length l.fn.piece;
   goes : Goes (Application l.fn.key) (desk_in l.fn.self.desk) (desk_in l.self.desk);
   names : names_in l.self.applications ≡ names_in l.fn.self.applications;
   tells : Tells l.fn.key (house_in l.fn.self) l.fn.piece l.rest (house_in l.self);
@@ -19,5 +21,5 @@ invariant-taking l = record {
   carries : Carries l.fn.key (house_in l.fn.self) l.fn.piece l.rest (body_of l.fn.key l.fn.self) (body_of l.fn.key l.self) (house_in l.self);
   read : Stays l.fn.self.links.items l.self.links.items;
   stand : AllStand l.fn.self.desk.service l.self.desk.service;
-  closes : ClosesOnly (Itself l.fn.key) (register_in l.fn.self) (register_in l.self);
+  closes : ClosesOnly (ItselfFor l.fn.key (HasReason l.fn.key l.fn.piece l.fn.self)) (register_in l.fn.self) (register_in l.self);
 }

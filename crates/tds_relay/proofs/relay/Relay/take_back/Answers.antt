@@ -1,4 +1,5 @@
-use Rattle.std.proofs.Common.{◌∙◌, ap, inl, inr, refl, subst, sym}
+use Rattle.std.proofs.Common.{◌∙◌, List, ap, inl, inr, refl, subst, sym, ℕ}
+use Rattle.tds_relay.specs.declared.link.Link.{Link}
 use Rattle.tds_relay.specs.Anew.{AsksNothing}
 use Rattle.tds_relay.specs.Fronts.{ends_in, hall_in, hall_of_ends, withdraws}
 use Rattle.tds_relay.specs.Hall.{Hall, IsHere, Moves, change_end, closes}
@@ -13,6 +14,8 @@ use Rattle.tds_relay.proofs.bytes.Calls.{stand_at, stand_on}
 use Rattle.tds_relay.proofs.steps.Bodied.{asks_then, forgot_on, kept_on_ok}
 use Rattle.tds_relay.specs.Closings.{Itself, Nobody}
 use Rattle.tds_relay.proofs.spared.Closings.{closes_both, closes_first}
+use Rattle.tds_relay.specs.Reasons.{HasNoRoom}
+use Rattle.tds_relay.proofs.spared.Reasons.{for_reason, for_that, halts_unfit, none_of, some_of}
 use Rattle.tds_relay.proofs.relay.Relay.take_back.Goals as goal
 
 pub returns-in-Some-clause-moves : goal.returns-in-Some-clause-moves
@@ -29,7 +32,7 @@ returns-in-Some-clause-moves c =
       same = refl;
       next = subst (λ (h : Hall). Moves by h (hall_in c.send_for.new.self)) (sym (taken_back_at c.args.key d before now (ends_in c.withdraw.new.self.applications) bytes f behind))
           (m by _ (moves_same by _ _ _ _ _ (ap desk_in c.withdraw.ensures.desk) refl
-          (moves_unwaits c.args.key _ _ _ now _ (stops_unwaits c.args.key _ _ _ _ _ _ _ c.forget_request.ensures.turns c.in-Some.ensures.some.2) behind quiet (no_moves by _))));
+          (moves_unwaits c.args.key _ _ _ now _ (stops_unwaits c.args.key _ _ _ _ _ _ _ c.forget_request.ensures.turns (some_of _ c.in-Some.number _ c.in-Some.is c.in_ok-number.ensures.some).2) behind quiet (no_moves by _))));
     }))
     c.send_for.ensures.moves
 
@@ -78,7 +81,30 @@ returns-in-None-clause-body c =
     (kept_on_ok c.expel.result c.forget_request.new.self.applications c.stop.new.self.applications c.expel.new.self.applications c.stop.ensures.asks c.expel.ensures.asks)
 
 pub returns-in-Some-clause-closes : goal.returns-in-Some-clause-closes
-returns-in-Some-clause-closes c = closes_first c.send_for.result (Itself c.args.key) _ _ _ c.send_for.ensures.closes (closes_both Nobody _ _ _ (closes_both Nobody _ _ _ c.forget_request.ensures.closes c.stop.ensures.closes) c.withdraw.ensures.closes)
+returns-in-Some-clause-closes c =
+    let mid = c.forget_request.new.self in
+    let halts = (some_of _ c.in-Some.number _ c.in-Some.is c.in_ok-number.ensures.stops) in
+    closes_first c.send_for.result _ _ _ _
+    (for_that c.send_for.result c.args.key _ _ _ _
+    (λ none. record {
+      mid = mid.desk;
+      holds = c.forget_request.ensures.holds;
+      service = c.forget_request.ensures.service;
+      cannot =
+          inr (halts_unfit c.args.key c.in-Some.number mid c.stop.new.self c.args.self.now.links.items halts
+          (subst (λ (xs : List ℕ). HasNoRoom c.in-Some.number xs c.args.self.now.links.items) c.withdraw.ensures.outbox
+          (subst (λ (ls : List Link). HasNoRoom c.in-Some.number c.withdraw.new.self.outbox.items ls) (c.withdraw.ensures.links ∙ c.stop.ensures.links ∙ c.forget_request.ensures.links) none)));
+    })
+    c.send_for.ensures.closes)
+    (closes_both Nobody _ _ _ (closes_both Nobody _ _ _ c.forget_request.ensures.closes c.stop.ensures.closes) c.withdraw.ensures.closes)
 
 pub returns-in-None-clause-closes : goal.returns-in-None-clause-closes
-returns-in-None-clause-closes c = closes_first c.expel.result (Itself c.args.key) _ _ _ c.expel.ensures.closes (closes_both Nobody _ _ _ c.forget_request.ensures.closes c.stop.ensures.closes)
+returns-in-None-clause-closes c =
+    for_reason c.expel.result c.args.key _ _ _
+    (record {
+      mid = c.forget_request.new.self.desk;
+      holds = c.forget_request.ensures.holds;
+      service = c.forget_request.ensures.service;
+      cannot = inl (none_of _ _ c.in-None.is c.in_ok-number.ensures.none);
+    })
+    (closes_first c.expel.result (Itself c.args.key) _ _ _ c.expel.ensures.closes (closes_both Nobody _ _ _ c.forget_request.ensures.closes c.stop.ensures.closes))

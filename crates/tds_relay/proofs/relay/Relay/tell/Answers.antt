@@ -1,9 +1,12 @@
+use Rattle.std.proofs.Common.{Option, subst, sym, ℕ}
+use Rattle.tds_relay.specs.Fronts.{ends_in}
+use Rattle.tds_relay.specs.Reasons.{HasTakenBack}
 use Rattle.tds_relay.specs.declared.desk.coming.What.TheVariants as whats
 use Rattle.tds_relay.proofs.steps.Fronts.{told_as, told_nobody}
 use Rattle.tds_relay.proofs.spared.Ordered.{ordered_closed}
 use Rattle.tds_relay.proofs.spared.Waking.{not_silent}
-use Rattle.tds_relay.specs.Closings.{Anybody, Itself, Nobody, register_in}
-use Rattle.tds_relay.proofs.spared.Closings.{anybody, closes_refl}
+use Rattle.tds_relay.specs.Closings.{Itself, register_in}
+use Rattle.tds_relay.proofs.spared.Closings.{closes_more, closes_nobody, closes_refl}
 use Rattle.tds_relay.proofs.relay.Relay.tell.Goals as goal
 
 pub returns-in_default-clause-ends : goal.returns-in_default-clause-ends
@@ -28,16 +31,22 @@ pub returns-in-Acknowledged-clause-silent : goal.returns-in-Acknowledged-clause-
 returns-in-Acknowledged-clause-silent c = λ resumes key h. not_silent c.args.heard c.in-Some.key key _ c.in-Some.is c.in-Acknowledged.is (c.acknowledged.ensures.silent resumes) h
 
 pub returns-in_default-clause-closes : goal.returns-in_default-clause-closes
-returns-in_default-clause-closes c = closes_refl Anybody (register_in c.args.self.now)
+returns-in_default-clause-closes c = closes_refl _ (register_in c.args.self.now)
 
 pub returns-in-Goes-clause-closes : goal.returns-in-Goes-clause-closes
-returns-in-Goes-clause-closes c = anybody Nobody _ _ c.goes_on.ensures.closes
+returns-in-Goes-clause-closes c = closes_nobody _ _ _ c.goes_on.ensures.closes
 
 pub returns-in-Finished-clause-closes : goal.returns-in-Finished-clause-closes
-returns-in-Finished-clause-closes c = anybody Nobody _ _ c.answered.ensures.closes
+returns-in-Finished-clause-closes c = closes_nobody _ _ _ c.answered.ensures.closes
 
 pub returns-in-Acknowledged-clause-closes : goal.returns-in-Acknowledged-clause-closes
-returns-in-Acknowledged-clause-closes c = anybody Nobody _ _ c.acknowledged.ensures.closes
+returns-in-Acknowledged-clause-closes c = closes_nobody _ _ _ c.acknowledged.ensures.closes
 
 pub returns-in_ok-end-in-Closed-clause-closes : goal.returns-in_ok-end-in-Closed-clause-closes
-returns-in_ok-end-in-Closed-clause-closes c = anybody (Itself c.in-Some.key) _ _ c.in_ok-end-in-Closed.ensures.closes
+returns-in_ok-end-in-Closed-clause-closes c = closes_more (Itself c.in-Some.key) _ _ _ (λ other same. c.in-Closed.is) c.in_ok-end-in-Closed.ensures.closes
+
+pub returns-in-Acknowledged-clause-resumes : goal.returns-in-Acknowledged-clause-resumes
+returns-in-Acknowledged-clause-resumes c = λ resumes. subst (λ (o : Option ℕ). HasTakenBack o (ends_in c.args.self.now.applications)) (sym c.in-Some.is) (c.acknowledged.ensures.resumes resumes)
+
+pub returns-in_ok-end-in-Closed-clause-outbox : goal.returns-in_ok-end-in-Closed-clause-outbox
+returns-in_ok-end-in-Closed-clause-outbox c = λ lasts. absurd (lasts c.in-Closed.is)

@@ -1,8 +1,10 @@
-use Rattle.std.proofs.Common.{refl, rules}
+use Rattle.std.proofs.Common.{List, inl, inr, refl, rules, subst, ℕ}
+use Rattle.tds_relay.specs.Bodies.{ClientStops}
 use Rattle.tds_relay.specs.Ties.{Application}
 use Rattle.tds_relay.proofs.steps.Fronts.{moves_closes, moves_does}
 use Rattle.tds_relay.proofs.steps.Reaching.{ok_more, reaches_turn}
 use Rattle.tds_relay.proofs.bytes.Calls.{stand_on}
+use Rattle.tds_relay.proofs.spared.Reasons.{for_reason, for_that, stops_unfit}
 use Rattle.tds_relay.proofs.relay.Relay.unask.Goals as goal
 
 pub returns-then-not-has_nothing_out-clause-moves : goal.returns-then-not-has_nothing_out-clause-moves
@@ -14,21 +16,27 @@ returns-in-Ok-clause-goes c = ok_more c.send_for.result _ _ (λ g from h. g (App
 pub returns-in-Ok-clause-moves : goal.returns-in-Ok-clause-moves
 returns-in-Ok-clause-moves c =
     ok_more c.send_for.result _ _
-    (λ m from h. m (Application c.args.key) from (moves_does (Application c.args.key) from _ _ _ _ _ _ _ c.in-Ok.ensures.ok (tt, c.has_nothing_out.ensures (search rules), tt) refl refl h))
+    (λ m from h. m (Application c.args.key) from (moves_does (Application c.args.key) from _ _ _ _ _ _ _ c.in-Ok.ensures.ok (tt, c.has_nothing_out.ensures.here (search rules), tt) refl refl h))
     c.send_for.ensures.moves
 
-pub returns-in-Err-clause-moves : goal.returns-in-Err-clause-moves
-returns-in-Err-clause-moves c =
+pub returns-in_ok-unless_memory-in-Err-clause-moves : goal.returns-in_ok-unless_memory-in-Err-clause-moves
+returns-in_ok-unless_memory-in-Err-clause-moves c =
     ok_more c.expel-in-Err.result _ _ (λ m from h. m from (moves_closes (Application c.args.key) from _ _ _ _ c.args.key c.in-Err.ensures.err refl h)) c.expel-in-Err.ensures.moves
 
 pub returns-in-Ok-clause-stand : goal.returns-in-Ok-clause-stand
 returns-in-Ok-clause-stand c = stand_on c.send_for.result _ _ _ c.in-Ok.ensures.stand c.send_for.ensures.stand
 
-pub returns-in-Err-clause-stand : goal.returns-in-Err-clause-stand
-returns-in-Err-clause-stand c = stand_on c.expel-in-Err.result _ _ _ c.in-Err.ensures.stand c.expel-in-Err.ensures.stand
+pub returns-in_ok-unless_memory-in-Err-clause-stand : goal.returns-in_ok-unless_memory-in-Err-clause-stand
+returns-in_ok-unless_memory-in-Err-clause-stand c = stand_on c.expel-in-Err.result _ _ _ c.in-Err.ensures.stand c.expel-in-Err.ensures.stand
 
 pub returns-in-Ok-clause-closes : goal.returns-in-Ok-clause-closes
-returns-in-Ok-clause-closes c = c.send_for.ensures.closes
+returns-in-Ok-clause-closes c =
+    let stops = subst (λ (xs : List ℕ). ClientStops c.args.key c.args.self.now.desk c.cancel.new.self xs c.cancel.new.out.items) (search rules) c.in-Ok.ensures.stops in
+    for_that c.send_for.result c.args.key _ _ _ _ (λ none. inr (inr (stops_unfit c.args.key c.args.self.now.desk c.cancel.new.self c.cancel.new.out.items c.args.self.now.links.items c.in-Ok.hold stops c.in-Ok.ensures.whose none))) c.send_for.ensures.closes
 
-pub returns-in-Err-clause-closes : goal.returns-in-Err-clause-closes
-returns-in-Err-clause-closes c = c.expel-in-Err.ensures.closes
+pub returns-in_ok-unless_memory-in-Err-clause-closes : goal.returns-in_ok-unless_memory-in-Err-clause-closes
+returns-in_ok-unless_memory-in-Err-clause-closes c =
+    for_reason c.expel-in-Err.result c.args.key _ _ _ (inr (inl (record { refusal = c.in-Err.refusal; reason = c.in_ok-unless_memory-in-Err.ensures; refuses = λ hold its count. c.in-Err.ensures.refused hold its }))) c.expel-in-Err.ensures.closes
+
+pub returns-then-not-has_nothing_out-clause-closes : goal.returns-then-not-has_nothing_out-clause-closes
+returns-then-not-has_nothing_out-clause-closes c = for_reason c.expel.result c.args.key _ _ _ (inl (c.has_nothing_out.ensures.out (search rules))) c.expel.ensures.closes

@@ -3,6 +3,7 @@ use Rattle.tds_packet.specs.declared.kind.Direction.TheVariants.{ToClient}
 use Rattle.tds_service.specs.Table.{reading_on}
 use Rattle.tds_relay.proofs.steps.Handed.{done_keeps, hears_is}
 use Rattle.tds_relay.proofs.bytes.Reader.{reads_by}
+use Rattle.tds_relay.proofs.bytes.Turns.{takes_some}
 use Rattle.tds_relay.proofs.spared.Waking.{puts_brings}
 use Rattle.std.proofs.Common.{inl, refl}
 use Rattle.tds_relay.proofs.relay.coming.hear_on.Goals as goal
@@ -33,3 +34,12 @@ returns-clause-puts c = puts_brings c.args.number _ _ _ _ _ _ c.in_ok-heard.ensu
 
 pub returns-in-Err-clause-asks : goal.returns-in-Err-clause-asks
 returns-in-Err-clause-asks c = λ key goes. refl
+
+pub returns-clause-takes : goal.returns-clause-takes
+returns-clause-takes c = λ less some. takes_some c.args.link.now.reader _ _ c.args.piece.now c.in-Ok.count c.feed.ensures.taken c.in-Ok.ensures.count c.in-Ok.ensures.all less some
+
+pub returns-in-Err-clause-cleans : goal.returns-in-Err-clause-cleans
+returns-in-Err-clause-cleans c = tt
+
+pub returns-clause-cleans : goal.returns-clause-cleans
+returns-clause-cleans c = c.in_ok-heard.ensures.cleans

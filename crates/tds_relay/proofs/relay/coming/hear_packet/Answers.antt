@@ -1,4 +1,4 @@
-use Rattle.std.proofs.Common.{◌≡◌, ◌∙◌, ◌&&◌, not, Bool, Option, ap, false, refl, rules, sym, true, Some, ℕ, subst}
+use Rattle.std.proofs.Common.{◌≡◌, ◌∙◌, ◌&&◌, not, Bool, Option, ap, false, inl, refl, rules, sym, true, Some, ℕ, subst}
 use Rattle.std.specs.Prelude.{IsSome}
 use Rattle.tds_service.specs.Table.{reading_on}
 use Rattle.tds_relay.specs.declared.link.News.{News}
@@ -186,3 +186,21 @@ returns-in_default-key-clause-asks c = λ key goes. refl
 
 pub returns-in_default-get_mut-clause-asks : goal.returns-in_default-get_mut-clause-asks
 returns-in_default-get_mut-clause-asks c = λ key goes. refl
+
+pub returns-then-matches-clause-cleans : goal.returns-then-matches-clause-cleans
+returns-then-matches-clause-cleans c = c.in_ok-heard.ensures.cleans
+
+pub returns-in_default-key-clause-cleans : goal.returns-in_default-key-clause-cleans
+returns-in_default-key-clause-cleans c = c.in_ok-heard.ensures.cleans
+
+pub returns-in_default-get_mut-clause-cleans : goal.returns-in_default-get_mut-clause-cleans
+returns-in_default-get_mut-clause-cleans c = c.in_ok-heard.ensures.cleans
+
+pub returns-then-not-hears-clause-cleans : goal.returns-then-not-hears-clause-cleans
+returns-then-not-hears-clause-cleans c = c.in_ok-heard.ensures.cleans
+
+pub returns-clause-cleans : goal.returns-clause-cleans
+returns-clause-cleans c = c.in_ok-heard.ensures.cleans
+
+pub returns-in_default-clause-cleans : goal.returns-in_default-clause-cleans
+returns-in_default-clause-cleans c = λ not. inl refl

@@ -8,6 +8,7 @@ use Rattle.tds_relay.specs.Bodies.{ClientPuts}
 use Rattle.tds_relay.proofs.steps.Going.{holds_stay, puts_last, puts_part}
 use Rattle.tds_relay.specs.Desk.{Desk, Puts}
 use Rattle.tds_relay.proofs.spared.Apart.{line_does}
+use Rattle.tds_relay.specs.Reasons.{OfBytes, OfEnd}
 use Rattle.tds_relay.proofs.relay.putting.put_on.Goals as goal
 
 pub returns-then-not-whole-clause-goes : goal.returns-then-not-whole-clause-goes
@@ -16,8 +17,8 @@ returns-then-not-whole-clause-goes c = λ by from h. reaches_turn by from _ _ _ 
 pub returns-in-Ok-finish-clause-goes : goal.returns-in-Ok-finish-clause-goes
 returns-in-Ok-finish-clause-goes c = λ by from h. reaches_turn by from _ _ _ _ _ c.in-Ok-finish.ensures.ok.1 tt (reaches_turn by from _ _ _ _ _ c.in-Ok.ensures.ok.1 tt h)
 
-pub returns-in-Err-clause-goes : goal.returns-in-Err-clause-goes
-returns-in-Err-clause-goes c = λ by from h. subst (Reaches by from) (sym c.in-Err.ensures.err) (reaches_turn by from _ _ _ _ _ c.in-Ok.ensures.ok.1 tt h)
+pub returns-in_ok-unless_memory-in-Err-finish-clause-goes : goal.returns-in_ok-unless_memory-in-Err-finish-clause-goes
+returns-in_ok-unless_memory-in-Err-finish-clause-goes c = λ by from h. subst (Reaches by from) (sym c.in-Err-finish.ensures.err) (reaches_turn by from _ _ _ _ _ c.in-Ok.ensures.ok.1 tt h)
 
 pub returns-then-not-whole-clause-puts : goal.returns-then-not-whole-clause-puts
 returns-then-not-whole-clause-puts c = inr (record { count = c.in-Ok.ensures.ok.0; mid = _; between = _; first = c.in-Ok.ensures.ok.1; last = inl (refl, refl) })
@@ -31,9 +32,9 @@ returns-in-Ok-finish-clause-puts c = inr (record {
   last = inr (search rules, c.in-Ok-finish.ensures.ok.0, c.in-Ok-finish.ensures.ok.1);
 })
 
-pub returns-in-Err-clause-puts : goal.returns-in-Err-clause-puts
-returns-in-Err-clause-puts c =
-    inr (record { count = c.in-Ok.ensures.ok.0; mid = _; between = _; first = c.in-Ok.ensures.ok.1; last = inl (c.in-Err.ensures.err, c.in-Err.ensures.nothing) })
+pub returns-in_ok-unless_memory-in-Err-finish-clause-puts : goal.returns-in_ok-unless_memory-in-Err-finish-clause-puts
+returns-in_ok-unless_memory-in-Err-finish-clause-puts c =
+    inr (record { count = c.in-Ok.ensures.ok.0; mid = _; between = _; first = c.in-Ok.ensures.ok.1; last = inl (c.in-Err-finish.ensures.err, c.in-Err-finish.ensures.nothing) })
 
 pub returns-then-not-whole-clause-sends : goal.returns-then-not-whole-clause-sends
 returns-then-not-whole-clause-sends c = λ e.
@@ -48,15 +49,15 @@ returns-in-Ok-finish-clause-sends c = λ e.
 pub returns-in-Ok-finish-clause-stand : goal.returns-in-Ok-finish-clause-stand
 returns-in-Ok-finish-clause-stand c = λ n r h. c.in-Ok-finish.ensures.stand n r (c.in-Ok.ensures.stand n r h)
 
-pub returns-in-Err-clause-stand : goal.returns-in-Err-clause-stand
-returns-in-Err-clause-stand c = λ n r h. c.in-Err.ensures.stand n r (c.in-Ok.ensures.stand n r h)
+pub returns-in_ok-unless_memory-in-Err-finish-clause-stand : goal.returns-in_ok-unless_memory-in-Err-finish-clause-stand
+returns-in_ok-unless_memory-in-Err-finish-clause-stand c = λ n r h. c.in-Err-finish.ensures.stand n r (c.in-Ok.ensures.stand n r h)
 
 pub returns-in-Ok-finish-clause-others : goal.returns-in-Ok-finish-clause-others
 returns-in-Ok-finish-clause-others c = deed_both c.args.desk.now c.put.new.self c.finish.new.self c.args.key
     (reached_does _ _ c.args.key (Puts c.in-Ok.ensures.ok.0) _ _ c.in-Ok.ensures.ok.1 tt) c.put.ensures.others c.finish.ensures.others
 
-pub returns-in-Err-clause-others : goal.returns-in-Err-clause-others
-returns-in-Err-clause-others c = deed_both c.args.desk.now c.put.new.self c.finish.new.self c.args.key
+pub returns-in_ok-unless_memory-in-Err-finish-clause-others : goal.returns-in_ok-unless_memory-in-Err-finish-clause-others
+returns-in_ok-unless_memory-in-Err-finish-clause-others c = deed_both c.args.desk.now c.put.new.self c.finish.new.self c.args.key
     (reached_does _ _ c.args.key (Puts c.in-Ok.ensures.ok.0) _ _ c.in-Ok.ensures.ok.1 tt) c.put.ensures.others c.finish.ensures.others
 
 pub returns-then-not-whole-clause-body : goal.returns-then-not-whole-clause-body
@@ -79,5 +80,14 @@ returns-then-not-whole-clause-line c = line_does c.args.key _ _ _ _ _ c.in-Ok.en
 pub returns-in-Ok-finish-clause-line : goal.returns-in-Ok-finish-clause-line
 returns-in-Ok-finish-clause-line c = line_does c.args.key _ _ _ _ _ c.in-Ok-finish.ensures.ok.1 ∙ line_does c.args.key _ _ _ _ _ c.in-Ok.ensures.ok.1
 
-pub returns-in-Err-clause-line : goal.returns-in-Err-clause-line
-returns-in-Err-clause-line c = ap (λ (d : Desk). d.line) c.in-Err.ensures.err ∙ line_does c.args.key _ _ _ _ _ c.in-Ok.ensures.ok.1
+pub returns-in_ok-unless_memory-in-Err-finish-clause-line : goal.returns-in_ok-unless_memory-in-Err-finish-clause-line
+returns-in_ok-unless_memory-in-Err-finish-clause-line c = ap (λ (d : Desk). d.line) c.in-Err-finish.ensures.err ∙ line_does c.args.key _ _ _ _ _ c.in-Ok.ensures.ok.1
+
+pub returns-in-Err-clause-untaken : goal.returns-in-Err-clause-untaken
+returns-in-Err-clause-untaken c = λ e. OfBytes (record { refusal = c.in-Err.refusal; reason = c.in_ok-unless_memory-in-Err.ensures; refuses = c.in-Err.ensures.refused })
+
+pub returns-in_ok-unless_memory-in-Err-finish-clause-untaken : goal.returns-in_ok-unless_memory-in-Err-finish-clause-untaken
+returns-in_ok-unless_memory-in-Err-finish-clause-untaken c = λ e.
+    OfEnd (search rules) c.put.new.self c.args.out.now.items c.put.new.out.items
+    (puts_part c.args.bytes.now c.args.key c.args.desk.now c.put.new.self _ _ _ c.in-Ok.ensures.whose (holds_stay c.args.key _ (desk_in c.args.desk.now) (desk_in c.put.new.self) _ _ c.in-Ok.ensures.ok.1) c.in-Ok.ensures.puts)
+    (record { refusal = c.in-Err-finish.refusal; reason = c.in_ok-unless_memory-in-Err-finish.ensures; refuses = c.in-Err-finish.ensures.refused })

@@ -7,9 +7,11 @@ use Rattle.tds_service_c.proofs.Comings.{may_be_told}
 use Rattle.tds_service_c.proofs.packet.listening.hear_other.Goals as goal
 
 pub returns-in-More-clause-tells : goal.returns-in-More-clause-tells
-returns-in-More-clause-tells c = λ token told.
+returns-in-More-clause-tells c = λ told.
+    let token = c.args.token.now in
+    let sign = c.sign_of.result in
     let l = line_of c.args.seat.now in
     let new = line_of c.hear-heard.result.seat in
     let answer = outcome_answer c.args.seat.now.asked c.hear-heard.result.outcome in
-    may_be_told (one_part c.args.sign token) l new answer token
-    (subst (λ (b : Bool). Hears (one_part c.args.sign token) l new answer (told_if b token)) told (c.hear-heard.ensures.hears token))
+    may_be_told (one_part sign token) l new answer token
+    (subst (λ (b : Bool). Hears (one_part sign token) l new answer (told_if b token)) told (c.hear-heard.ensures.hears token))

@@ -1,6 +1,7 @@
 use Rattle.std.proofs.Common.{rules, ◌≡◌, ◌-◌, ap, length}
 use Rattle.tds_wire.specs.Memory.{shapes_of}
-use Rattle.tds_walk.proofs.Walks.{IsReadyValue, fed_row}
+use Rattle.tds_walk.specs.Taking.{IsReadyValue}
+use Rattle.tds_walk.proofs.Walks.{fed_row}
 use Rattle.tds_walk.proofs.walk.TdsWire.take_row.Goals as goal
 
 pub returns-clause-exact : goal.returns-clause-exact

@@ -1,7 +1,8 @@
 use Rattle.std.proofs.Common.{rules, Option, subst}
 use Rattle.tds_wire.specs.declared.told.Token.{Token}
 use Rattle.tds_wire.specs.Whole.{IsNext}
-use Rattle.tds_walk.proofs.Walks.{IsReadyValue, fed_whole}
+use Rattle.tds_walk.specs.Taking.{IsReadyValue}
+use Rattle.tds_walk.proofs.Walks.{fed_whole}
 use Rattle.tds_walk.proofs.walk.TdsWire.take_whole.Goals as goal
 
 pub returns-in-Some-clause-exact : goal.returns-in-Some-clause-exact

@@ -1,0 +1,3 @@
+-- Connections that the pool cleans.
+pub mod Cleaned
+pub mod Skipping

@@ -1,0 +1,160 @@
+-- Why an application is closed by what comes: a packet behind the other.
+use Rattle.std.proofs.Common.{◌≡◌, ◌≢◌, ◌⊎◌, ◌∙◌, ℕ, Bool, true, false, List, [], Option, Some, None, inl, inr, refl, sym, ap, subst, option_map, if◌then◌else◌, slice_index_or, slice_set}
+use Rattle.std.specs.Prelude.{IfOk, Result, Ok, Err}
+use Rattle.slab.specs.Slab.{Slab, get}
+use Rattle.tds_front.specs.declared.fault.FrontFault.{FrontFault}
+use Rattle.tds_front.specs.declared.front.Front.{Front}
+use Rattle.tds_packet.specs.declared.status.Reset.{Reset}
+use Rattle.tds_service.specs.Table.{reading_on}
+use Rattle.tds_relay.specs.declared.application.Application.{Application}
+use Rattle.tds_relay.specs.declared.desk.coming.Heard.{Heard}
+use Rattle.tds_relay.specs.declared.desk.coming.What.{What}
+use Rattle.tds_relay.specs.declared.desk.coming.What.TheVariants as whats
+use Rattle.tds_relay.specs.declared.link.Link.{Link}
+use Rattle.tds_relay.specs.declared.outgoing.Outgoing.{Outgoing}
+use Rattle.tds_relay.specs.declared.relay.Relay as code
+use Rattle.tds_relay.specs.Asking.{IsTakenBack}
+use Rattle.tds_relay.specs.Closings.{ClosesOnly, IsWho, register_in}
+use Rattle.tds_relay.specs.Fronts.{end_of, ends_in, house_in, house_with, told_by}
+use Rattle.tds_relay.specs.Hall.{End, Ends, Open, Over, end_at, holder}
+use Rattle.tds_relay.specs.Handing.{HearsBy}
+use Rattle.tds_relay.specs.House.{House}
+use Rattle.tds_relay.specs.Posts.{Post, Posts, fits, post_at, post_in, posts_in}
+use Rattle.tds_relay.specs.Reads.{link_at, place_of}
+use Rattle.tds_relay.specs.Reasons.{Cleans, HasNoRoom, HasTakenBack, HearsNothing, IsHeardAs, IsOverfull, ItselfFor, LosesAt, LosesBy, LosesFor, LosesOn, OfPacket, OfSending, post_on}
+use Rattle.tds_relay.specs.Taking.{IsDeaf}
+use Rattle.tds_relay.specs.Ties.{desk_in}
+use Rattle.tds_relay.proofs.spared.Closings.{closes_both, closes_more}
+use Rattle.tds_relay.proofs.steps.Fed.{end_there}
+use Rattle.tds_relay.proofs.steps.Placed.{IsAt, is_at}
+
+-- ---- Who took something back
+
+taken_by : (over w : Bool) (why : Option FrontFault) (front : Front) (asks : Option Reset) → w ≡ true
+    → IsTakenBack (Some (if over then Over why else Open front w asks)) ⊎ IsDeaf (Some (if over then Over why else Open front w asks))
+taken_by true w why front asks e = inr tt
+taken_by false w why front asks e = inl e
+
+pub taken_or_deaf : (s : Slab Application) (key : ℕ) (a : Application) → Some a ≡ get s key → a.is_withdrawn ≡ true → IsTakenBack (end_at (ends_in s) key) ⊎ IsDeaf (end_at (ends_in s) key)
+taken_or_deaf s key a is withdrawn = subst (λ (o : Option End). IsTakenBack o ⊎ IsDeaf o) (sym (end_there s key a is)) (taken_by a.is_over a.is_withdrawn a.fault a.front a.reset withdrawn)
+
+-- ---- What waits on a connection
+
+pub posts_written : (number : ℕ) (ls : List Link) (place : ℕ) (d m : Link) → place_of number ls ≡ Some place → m.number ≡ (slice_index_or ls place d).number → m.out ≡ (slice_index_or ls place d).out
+    → post_on number (slice_set ls place m) ≡ post_on number ls
+posts_written number ls place d m is same out =
+    let at : IsAt number ls place = is_at number ls place is in
+    ap (option_map (λ (l : Link). post_in l.out)) (at.written d m same) ∙ ap (λ (o : Outgoing). Some (post_in o)) out ∙ sym (ap (option_map (λ (l : Link). post_in l.out)) (at.found d))
+
+fits_by : (bytes : List ℕ) (o : Option Link) → option_map (λ (l : Link). fits (post_in l.out) bytes) o ≡ option_map (λ (p : Post). fits p bytes) (option_map (λ (l : Link). post_in l.out) o)
+fits_by bytes None = refl
+fits_by bytes (Some l) = refl
+
+room_as : (number : ℕ) (bytes : List ℕ) (old new : List Link) → post_on number new ≡ post_on number old → HasNoRoom number bytes new → HasNoRoom number bytes old
+room_as number bytes old new same none =
+    fits_by bytes (link_at number old) ∙ sym (ap (option_map (λ (p : Post). fits p bytes)) same) ∙ sym (fits_by bytes (link_at number new)) ∙ none
+
+-- ---- A packet
+
+pub heard_as : {E : Type 0} (r : Result (ℕ × Option Heard) E) (number : ℕ) (piece : List ℕ) (place : ℕ) (l m : Link) (old : code.Relay) (new : Option Heard → House) → place_of number old.links.items ≡ Some place
+    → l ≡ slice_index_or old.links.items place l → IfOk r (λ heard. HearsBy number (reading_on number old.desk.service) l m piece heard.0 heard.1 (house_in old) (new heard.1))
+    → IfOk r (λ heard. HearsNothing heard.1 ⊎ IsHeardAs number piece heard.1 old (new heard.1))
+heard_as (Ok x) number piece place l m old new is value h =
+    let at : IsAt number old.links.items place = is_at number old.links.items place is in
+    inr (record { link = l; there = at.found l ∙ ap Some (sym value); next = m; count = x.0; hears = h })
+heard_as (Err e) number piece place l m old new is value h = tt
+
+full_by : (what : What) (key : Option ℕ) (ends : Ends) (posts : Posts) (other : ℕ) → key ≡ Some other → IsOverfull (post_at posts other) → LosesBy what key ends posts other
+full_by whats.Goes key ends posts other its full = (its, full)
+full_by whats.Finished key ends posts other its full = (its, full)
+full_by whats.Acknowledged key ends posts other its full = inl (its, full)
+full_by whats.Closed key ends posts other its full = tt
+
+as_heard : (o : Option Heard) (h : Heard) (ends : Ends) (posts : Posts) (other : ℕ) → o ≡ Some h → LosesBy h.what h.key ends posts other → LosesFor o ends posts other
+as_heard o h ends posts other is loses = subst (λ (x : Option Heard). LosesFor x ends posts other) (sym is) loses
+
+-- who is written to is full
+pub write_loses : (number : ℕ) (o : Option Heard) (h : Heard) (key : ℕ) (old : code.Relay) (posts : Posts) → o ≡ Some h → h.key ≡ Some key → posts ≡ posts_in old.applications
+    → (other : ℕ) → ItselfFor key (IsOverfull (post_at posts key)) other → LosesAt number o old other
+write_loses number o h key old posts is its same other x =
+    inl (as_heard o h (ends_in old.applications) (posts_in old.applications) other is
+    (full_by h.what h.key (ends_in old.applications) (posts_in old.applications) other (its ∙ ap Some (sym x.0)) (subst (λ (n : ℕ). IsOverfull (post_at (posts_in old.applications) n)) (sym x.0) (subst (λ (ps : Posts). IsOverfull (post_at ps key)) same x.1))))
+
+pub resumes_loses : (number : ℕ) (o : Option Heard) (h : Heard) (old : code.Relay) → o ≡ Some h → h.what ≡ whats.Acknowledged → HasTakenBack h.key (ends_in old.applications) → (other : ℕ) → LosesAt number o old other
+resumes_loses number o h old is what taken other =
+    inl (as_heard o h (ends_in old.applications) (posts_in old.applications) other is (subst (λ (w : What). LosesBy w h.key (ends_in old.applications) (posts_in old.applications) other) (sym what) (inr taken)))
+
+closed_loses : (number : ℕ) (o : Option Heard) (h : Heard) (old : code.Relay) → o ≡ Some h → h.what ≡ whats.Closed → (other : ℕ) → LosesAt number o old other
+closed_loses number o h old is what other =
+    inl (as_heard o h (ends_in old.applications) (posts_in old.applications) other is (subst (λ (w : What). LosesBy w h.key (ends_in old.applications) (posts_in old.applications) other) (sym what) tt))
+
+pub nothing_loses : (number : ℕ) (o : Option Heard) (old : code.Relay) → o ≡ None → (other : ℕ) → LosesAt number o old other
+nothing_loses number o old is other = inl (subst (λ (x : Option Heard). LosesFor x (ends_in old.applications) (posts_in old.applications) other) (sym is) tt)
+
+is_closed : (what : What) → (what ≡ whats.Closed) ⊎ (what ≢ whats.Closed)
+is_closed whats.Goes = inr (λ e. (let u : whats.Goes ≡ whats.Closed = e in cc))
+is_closed whats.Finished = inr (λ e. (let u : whats.Finished ≡ whats.Closed = e in cc))
+is_closed whats.Acknowledged = inr (λ e. (let u : whats.Acknowledged ≡ whats.Closed = e in cc))
+is_closed whats.Closed = inl refl
+
+-- what goes out doesn't fit
+unsent_loses : (number : ℕ) (o : Option Heard) (h : Heard) (old told : code.Relay) → o ≡ Some h → told.links.items ≡ old.links.items → (h.what ≢ whats.Closed → told.outbox.items ≡ old.outbox.items) → (other : ℕ)
+    → (h.what ≡ whats.Closed) ⊎ (h.what ≢ whats.Closed) → HasNoRoom number told.outbox.items told.links.items → LosesAt number o old other
+unsent_loses number o h old told is links out other (inl closed) none = closed_loses number o h old is closed other
+unsent_loses number o h old told is links out other (inr lasts) none =
+    inr (subst (λ (xs : List ℕ). HasNoRoom number xs old.links.items) (out lasts) (subst (λ (ls : List Link). HasNoRoom number told.outbox.items ls) links none))
+
+-- it is told, and what goes out is sent
+pub sent_closes : (number : ℕ) (o : Option Heard) (h : Heard) (old told sent : code.Relay) → o ≡ Some h → (h.what ≢ whats.Closed → told.outbox.items ≡ old.outbox.items) → told.links.items ≡ old.links.items
+    → ClosesOnly (λ other. h.what ≡ whats.Closed) (register_in old) (register_in told)
+    → ClosesOnly (λ other. IsWho (holder (desk_in told.desk) number) other × HasNoRoom number told.outbox.items told.links.items) (register_in told) (register_in sent)
+    → ClosesOnly (LosesAt number o old) (register_in old) (register_in sent)
+sent_closes number o h old told sent is out links tells sends =
+    closes_both (LosesAt number o old) (register_in old) (register_in told) (register_in sent)
+    (closes_more (λ other. h.what ≡ whats.Closed) (LosesAt number o old) (register_in old) (register_in told) (λ other closed. closed_loses number o h old is closed other) tells)
+    (closes_more (λ other. IsWho (holder (desk_in told.desk) number) other × HasNoRoom number told.outbox.items told.links.items) (LosesAt number o old) (register_in told) (register_in sent)
+    (λ other x. unsent_loses number o h old told is links (λ lasts. out lasts) other (is_closed h.what) x.1) sends)
+
+-- ---- In a call
+
+loses_closed : (what : What) (key : Option ℕ) (ends : Ends) (posts : Posts) (other : ℕ) → (what ≡ whats.Closed) ⊎ (what ≢ whats.Closed)
+    → LosesBy what key ends posts other ⊎ (what ≢ whats.Closed)
+loses_closed what key ends posts other (inl e) = inl (subst (λ (w : What). LosesBy w key ends posts other) (sym e) tt)
+loses_closed what key ends posts other (inr lasts) = inr lasts
+
+nothing_key : (key : Option ℕ) (what : What) (ends : Ends) (posts : Posts) (other : ℕ) → key ≡ None → what ≡ whats.Goes → LosesBy what key ends posts other → ⊥
+nothing_key key what ends posts other none goes loses =
+    let x = subst (λ (w : What). LosesBy w key ends posts other) goes loses in
+    (let u : None ≡ Some other = sym none ∙ x.0 in cc)
+
+-- of what nothing came nobody is
+of_nothing : (number : ℕ) (left : List ℕ) (o : Option Heard) (mid : code.Relay) (ends : Ends) (posts : Posts) (other : ℕ) → HearsNothing o → LosesFor o ends posts other → LosesOn number left mid other
+of_nothing number left None mid ends posts other none loses = absurd none
+of_nothing number left (Some h) mid ends posts other none loses = absurd (nothing_key h.key h.what ends posts other none.0 none.1 loses)
+
+by_packet : (number : ℕ) (left : List ℕ) (o : Option Heard) (mid : code.Relay) (new : House) (other : ℕ) → HearsNothing o ⊎ IsHeardAs number left o mid new → LosesFor o (ends_in mid.applications) new.posts other → LosesOn number left mid other
+by_packet number left o mid new other (inl none) loses = of_nothing number left o mid (ends_in mid.applications) new.posts other none loses
+by_packet number left o mid new other (inr heard) loses = OfPacket o new heard loses
+
+sends_or : (number : ℕ) (left out : List ℕ) (h : Heard) (mid : code.Relay) (new : House) (other : ℕ) → HearsNothing (Some h) ⊎ IsHeardAs number left (Some h) mid new → Cleans (Some h) [] out → HasNoRoom number out mid.links.items
+    → LosesBy h.what h.key (ends_in mid.applications) new.posts other ⊎ (h.what ≢ whats.Closed) → LosesOn number left mid other
+sends_or number left out h mid new other heard cleans none (inl loses) = by_packet number left (Some h) mid new other heard loses
+sends_or number left out h mid new other heard cleans none (inr lasts) = OfSending out (cleans lasts, none)
+
+by_sending : (number : ℕ) (left out : List ℕ) (o : Option Heard) (mid : code.Relay) (new : House) (other : ℕ) → HearsNothing o ⊎ IsHeardAs number left o mid new → Cleans o [] out → HasNoRoom number out mid.links.items → LosesOn number left mid other
+by_sending number left out None mid new other heard cleans none = by_packet number left None mid new other heard tt
+by_sending number left out (Some h) mid new other heard cleans none =
+    sends_or number left out h mid new other heard cleans none (loses_closed h.what h.key (ends_in mid.applications) new.posts other (is_closed h.what))
+
+loses_or : (number : ℕ) (left : List ℕ) (o : Option Heard) (mid next : code.Relay) (new : House) (other : ℕ) → HearsNothing o ⊎ IsHeardAs number left o mid new → ends_in next.applications ≡ ends_in mid.applications
+    → posts_in next.applications ≡ new.posts → Cleans o [] next.outbox.items → post_on number next.links.items ≡ post_on number mid.links.items → LosesAt number o next other → LosesOn number left mid other
+loses_or number left o mid next new other heard ends posts cleans same (inl loses) =
+    by_packet number left o mid new other heard
+    (subst (λ (ps : Posts). LosesFor o (ends_in mid.applications) ps other) posts (subst (λ (es : Ends). LosesFor o es (posts_in next.applications) other) ends loses))
+loses_or number left o mid next new other heard ends posts cleans same (inr none) =
+    by_sending number left next.outbox.items o mid new other heard cleans (room_as number next.outbox.items mid.links.items next.links.items same none)
+
+pub loses_by : (number : ℕ) (left : List ℕ) (o : Option Heard) (mid next : code.Relay) (es : Ends) (other : ℕ) → HearsNothing o ⊎ IsHeardAs number left o mid (house_with (desk_in next.desk) (told_by o es) (posts_in next.applications))
+    → ends_in next.applications ≡ ends_in mid.applications → Cleans o [] next.outbox.items → post_on number next.links.items ≡ post_on number mid.links.items → LosesAt number o next other → LosesOn number left mid other
+loses_by number left o mid next es other heard ends cleans same why =
+    loses_or number left o mid next (house_with (desk_in next.desk) (told_by o es) (posts_in next.applications)) other heard ends refl cleans same why

@@ -1,0 +1,161 @@
+-- Why an application is closed by what it says: piece by piece, and by a loan behind them.
+use Rattle.std.proofs.Common.{◌≡◌, ◌≢◌, ◌⊎◌, ◌<◌, ◌∙◌, ℕ, Bool, true, false, List, [], length, Option, Some, None, inl, inr, refl, sym, ap, subst, option_map, if◌then◌else◌}
+use Rattle.std.proofs.lemmas.Bool.{cases_eq}
+use Rattle.std.specs.Prelude.{IfNone, IfSome, IsSome, Result, Ok, Err, OnOk}
+use Rattle.slab.specs.Slab.{Slab, get}
+use Rattle.tds_packet.specs.declared.kind.Kind.{Kind}
+use Rattle.tds_packet.specs.declared.status.Reset.{Reset}
+use Rattle.tds_packet.specs.declared.status.Reset.TheVariants.{Full, KeepTransaction}
+use Rattle.tds_client.specs.declared.message.MessageKind.{MessageKind}
+use Rattle.tds_client.specs.declared.state.Cancelled.{Cancelled}
+use Rattle.tds_client.specs.declared.state.Cancelled.TheVariants as how
+use Rattle.tds_client.specs.Session.{ClientSession}
+use Rattle.tds_front.specs.declared.front.Said.{Said}
+use Rattle.tds_service.specs.Table.{client_of}
+use Rattle.tds_relay.specs.declared.application.Application.{Application}
+use Rattle.tds_relay.specs.declared.application.Asking.{Asking}
+use Rattle.tds_relay.specs.declared.application.Asking.TheVariants as asking
+use Rattle.tds_relay.specs.declared.desk.Desk as desks
+use Rattle.tds_relay.specs.declared.desk.Hold.{Hold}
+use Rattle.tds_relay.specs.declared.link.Link.{Link}
+use Rattle.tds_relay.specs.declared.relay.Relay as code
+use Rattle.tds_relay.specs.Bodies.{Body, Carries, ClientPuts, ClientStops, Closed, IsHalting, Kept, Nowhere, body_by, body_in, body_of, going, going_by}
+use Rattle.tds_relay.specs.Closings.{ClosesOnly, IsNoRequest, IsWaiting, Itself, ItselfOrWaiting, Register}
+use Rattle.tds_relay.specs.Desk.{find_key}
+use Rattle.tds_relay.specs.Fronts.{house_in}
+use Rattle.tds_relay.specs.Hall.{End}
+use Rattle.tds_relay.specs.Posts.{Post, Posts, post_at, post_of, posts_in}
+use Rattle.tds_relay.specs.Reads.{waits_on}
+use Rattle.tds_relay.specs.Reasons.{ByLoan, CannotBegin, CannotGoOn, CannotPut, ForReasonOrWaiting, HasNoRoom, HasReason, IsOverfull, ItselfFor, MayClose, StopsUnfit, room_left}
+use Rattle.tds_relay.specs.Ties.{Application as ByApplication, Goes, desk_in}
+use Rattle.tds_relay.specs.Told.{room_to_keep}
+use Rattle.tds_relay.proofs.spared.Closings.{closes_more_on}
+use Rattle.tds_relay.proofs.spared.Lines.{waited_or}
+use Rattle.tds_relay.proofs.steps.Posting.{post_is}
+
+pub for_reason : {A E : Type 0} (r : Result A E) (key : ℕ) (R : Type 0) (a b : Register) → R → OnOk r (ClosesOnly (Itself key) a b) → OnOk r (ClosesOnly (ItselfFor key R) a b)
+for_reason r key R a b why h = closes_more_on r (Itself key) (ItselfFor key R) a b (λ other same. (same, why)) h
+
+pub for_that : {A E : Type 0} (r : Result A E) (key : ℕ) (R S : Type 0) (a b : Register) → (R → S) → OnOk r (ClosesOnly (ItselfFor key R) a b) → OnOk r (ClosesOnly (ItselfFor key S) a b)
+for_that r key R S a b f h = closes_more_on r (ItselfFor key R) (ItselfFor key S) a b (λ other x. (x.0, f x.1)) h
+
+pub for_any : {A E : Type 0} (r : Result A E) (key : ℕ) (R : Type 0) (a b : Register) → OnOk r (ClosesOnly (ItselfFor key R) a b) → OnOk r (ClosesOnly (Itself key) a b)
+for_any r key R a b h = closes_more_on r (ItselfFor key R) (Itself key) a b (λ other x. x.0) h
+
+-- ---- It can't go on
+
+nothing_by : (over whole : Bool) (more : List ℕ) (key : ℕ) (end : Option End) (room : ℕ) (d : desks.Desk) (links : List Link) → CannotGoOn whole more key end room d links (if over then Closed else Nowhere)
+nothing_by true whole more key end room d links = tt
+nothing_by false whole more key end room d links = tt
+
+pub nothing_goes : (whole : Bool) (more : List ℕ) (key : ℕ) (end : Option End) (room : ℕ) (d : desks.Desk) (links : List Link) (o : Option Application) (a : Application) (g : Body) → Some a ≡ o → a.asking ≡ asking.Nothing
+    → CannotGoOn whole more key end room d links (body_in o g)
+nothing_goes whole more key end room d links o a g is asks =
+    subst (λ (x : Option Application). CannotGoOn whole more key end room d links (body_in x g)) is
+    (subst (λ (x : Asking). CannotGoOn whole more key end room d links (if a.is_over then Closed else body_by x a.held.items g)) (sym asks) (nothing_by a.is_over whole more key end room d links))
+
+kept_by : (over whole : Bool) (more : List ℕ) (key : ℕ) (end : Option End) (room : ℕ) (d : desks.Desk) (links : List Link) (kind : MessageKind) (bytes : List ℕ) (was : Bool) → (room < length more) ⊎ IsSome (find_key key d.holds.items)
+    → CannotGoOn whole more key end room d links (if over then Closed else Kept kind bytes was)
+kept_by true whole more key end room d links kind bytes was why = tt
+kept_by false whole more key end room d links kind bytes was why = why
+
+kept_goes : (whole : Bool) (more : List ℕ) (key : ℕ) (end : Option End) (room : ℕ) (d : desks.Desk) (links : List Link) (o : Option Application) (a : Application) (g : Body) (kind : MessageKind) (was : Bool) → Some a ≡ o
+    → a.asking ≡ asking.Waits kind was → (room < length more) ⊎ IsSome (find_key key d.holds.items) → CannotGoOn whole more key end room d links (body_in o g)
+kept_goes whole more key end room d links o a g kind was is asks why =
+    subst (λ (x : Option Application). CannotGoOn whole more key end room d links (body_in x g)) is
+    (subst (λ (x : Asking). CannotGoOn whole more key end room d links (if a.is_over then Closed else body_by x a.held.items g)) (sym asks) (kept_by a.is_over whole more key end room d links kind a.held.items was why))
+
+-- it is too long to be kept
+pub too_long : (whole : Bool) (more : List ℕ) (key : ℕ) (end : Option End) (d : desks.Desk) (links : List Link) (o : Option Application) (a : Application) (g : Body) (kind : MessageKind) (was : Bool) → Some a ≡ o
+    → a.asking ≡ asking.Waits kind was → room_to_keep a < length more → CannotGoOn whole more key end (room_left o) d links (body_in o g)
+too_long whole more key end d links o a g kind was is asks long = kept_goes whole more key end (room_left o) d links o a g kind was is asks (inl (subst (λ (x : Option Application). room_left x < length more) is long))
+
+-- its application holds a connection
+pub held_goes : (whole : Bool) (more : List ℕ) (key : ℕ) (end : Option End) (room : ℕ) (d : desks.Desk) (links : List Link) (o : Option Application) (a : Application) (g : Body) (kind : MessageKind) (was : Bool) → Some a ≡ o
+    → a.asking ≡ asking.Waits kind was → IsSome (find_key key d.holds.items) → CannotGoOn whole more key end room d links (body_in o g)
+held_goes whole more key end room d links o a g kind was is asks held = kept_goes whole more key end room d links o a g kind was is asks (inr held)
+
+going_with : (whole : Bool) (more : List ℕ) (key : ℕ) (end : Option End) (room : ℕ) (d : desks.Desk) (links : List Link) (number : ℕ) (o : Option ClientSession) (w : Option (List ℕ)) → CannotPut whole more key end d links
+    → CannotGoOn whole more key end room d links (going_by number o w)
+going_with whole more key end room d links number None w why = why
+going_with whole more key end room d links number (Some client) None why = why
+going_with whole more key end room d links number (Some client) (Some waits) why = why
+
+going_goes : (whole : Bool) (more : List ℕ) (key : ℕ) (end : Option End) (room : ℕ) (d : desks.Desk) (links : List Link) (o : Option Hold) → CannotPut whole more key end d links
+    → CannotGoOn whole more key end room d links (going d.service links o)
+going_goes whole more key end room d links None why = why
+going_goes whole more key end room d links (Some hold) why = going_with whole more key end room d links hold.number (client_of hold.lease d.service) (waits_on hold.number links) why
+
+over_or : (over whole : Bool) (more : List ℕ) (key : ℕ) (end : Option End) (room : ℕ) (d : desks.Desk) (links : List Link) (b : Body) → CannotGoOn whole more key end room d links b → CannotGoOn whole more key end room d links (if over then Closed else b)
+over_or true whole more key end room d links b why = tt
+over_or false whole more key end room d links b why = why
+
+-- it isn't put where it goes on
+pub put_goes : (whole : Bool) (more : List ℕ) (key : ℕ) (end : Option End) (room : ℕ) (d : desks.Desk) (links : List Link) (o : Option Application) (a : Application) → Some a ≡ o → a.asking ≡ asking.Goes → CannotPut whole more key end d links
+    → CannotGoOn whole more key end room d links (body_in o (going d.service links (find_key key d.holds.items)))
+put_goes whole more key end room d links o a is asks why =
+    let g = going d.service links (find_key key d.holds.items) in
+    subst (λ (x : Option Application). CannotGoOn whole more key end room d links (body_in x g)) is
+    (subst (λ (x : Asking). CannotGoOn whole more key end room d links (if a.is_over then Closed else body_by x a.held.items g)) (sym asks)
+    (over_or a.is_over whole more key end room d links g (going_goes whole more key end room d links (find_key key d.holds.items) why)))
+
+pub no_room_there : (whole : Bool) (more : List ℕ) (key : ℕ) (d mid : desks.Desk) (out : List ℕ) (links : List Link) (hold : Hold) (p : ClientPuts whole more key d mid [] out) → find_key key d.holds.items ≡ Some hold → HasNoRoom hold.number out links
+    → HasNoRoom p.hold.number out links
+no_room_there whole more key d mid out links hold p its none =
+    let same : hold ≡ p.hold = (let u : Some hold ≡ Some p.hold = sym its ∙ p.its in cc) in
+    subst (λ (h : Hold). HasNoRoom h.number out links) same none
+
+pub no_request : (kind : Kind) (reset : Option Reset) (key : ℕ) (end : Option End) (d : desks.Desk) → IsNoRequest kind → CannotBegin kind reset key end d
+no_request kind None key end d none = inl none
+no_request kind (Some KeepTransaction) key end d none = inl none
+no_request kind (Some Full) key end d none = inl none
+
+-- ---- It can't be taken back
+
+pub some_of : {A : Type 0} (o : Option A) (x : A) (P : A → Type 0) → o ≡ Some x → IfSome o P → P x
+some_of {A} o x P is h = subst (λ (p : Option A). IfSome p P) is h
+
+pub none_of : {A : Type 0} (o : Option A) (Q : Type 0) → o ≡ None → IfNone o Q → Q
+none_of {A} o Q is h = subst (λ (p : Option A). IfNone p Q) is h
+
+pub stops_unfit : (key : ℕ) (d mid : desks.Desk) (out : List ℕ) (links : List Link) (hold : Hold) (s : ClientStops key d mid [] out) → find_key key d.holds.items ≡ Some hold → HasNoRoom hold.number out links → StopsUnfit key d links
+stops_unfit key d mid out links hold s its none =
+    let same : hold ≡ s.hold = (let u : Some hold ≡ Some s.hold = sym its ∙ s.its in cc) in
+    record { mid = mid; out = out; stops = s; no_room = subst (λ (h : Hold). HasNoRoom h.number out links) same none }
+
+pub halts_unfit : (key number : ℕ) (old new : code.Relay) (links : List Link) → IsHalting number key old new → HasNoRoom number new.outbox.items links → StopsUnfit key old.desk links
+halts_unfit key number old new links h none = stops_unfit key old.desk new.desk new.outbox.items links h.hold h.stops h.its (subst (λ (n : ℕ). HasNoRoom n new.outbox.items links) h.number_is none)
+
+-- no attention goes out
+abbrev pub is_asked : Cancelled → Bool
+is_asked how.Nothing = false
+is_asked how.Already = false
+is_asked how.Unsent = false
+is_asked how.Asked = true
+
+pub asked_not : (c : Cancelled) → is_asked c ≡ false → c ≢ how.Asked
+asked_not c not is = (let u : true ≡ false = sym (ap is_asked is) ∙ not in cc)
+
+pub full_there : (s : Slab Application) (key : ℕ) (a : Application) → Some a ≡ get s key → a.out.is_full ≡ true → IsOverfull (post_at (posts_in s) key)
+full_there s key a is full = ap (option_map (λ (p : Post). p.is_full)) (post_is s key ∙ ap (option_map post_of) (sym is)) ∙ ap Some full
+
+-- ---- What is said
+
+-- before its end has read them
+pub may_before : (answer : Said) (taken : List ℕ) (key : ℕ) (end next : Option End) (room after : ℕ) (d : desks.Desk) (links : List Link) (posts given : Posts) (body was : Body) → next ≡ end → after ≡ room → given ≡ posts → was ≡ body
+    → MayClose answer taken key next after d links given was → MayClose answer taken key end room d links posts body
+may_before answer taken key end next room after d links posts given body was ends rooms same bodies why =
+    subst (λ (b : Body). MayClose answer taken key end room d links posts b) bodies
+    (subst (λ (ps : Posts). MayClose answer taken key end room d links ps was) same
+    (subst (λ (n : ℕ). MayClose answer taken key end n d links given was) rooms (subst (λ (e : Option End). MayClose answer taken key e after d links given was) ends why)))
+
+lent_or : (key : ℕ) (bytes : List ℕ) (a b : code.Relay) (other : ℕ) → (other ≡ key) ⊎ (other ≢ key) → Carries key (house_in a) bytes [] (body_of key a) (body_of key b) (house_in b) → IsWaiting (desk_in b.desk).line other
+    → ItselfOrWaiting key (desk_in a.desk).line other → ForReasonOrWaiting key bytes a other
+lent_or key bytes a b other (inl same) carries waits was = inl (same, ByLoan b carries (subst (λ (n : ℕ). IsWaiting (desk_in b.desk).line n) same waits))
+lent_or key bytes a b other (inr differs) carries waits (inl same) = absurd (differs same)
+lent_or key bytes a b other (inr differs) carries waits (inr was) = inr (differs, was)
+
+-- those who wait behind them are served
+pub lent_behind : (key : ℕ) (bytes : List ℕ) (a b : code.Relay) → Carries key (house_in a) bytes [] (body_of key a) (body_of key b) (house_in b) → Goes (ByApplication key) (desk_in a.desk) (desk_in b.desk)
+    → (other : ℕ) → IsWaiting (desk_in b.desk).line other → ForReasonOrWaiting key bytes a other
+lent_behind key bytes a b carries goes other waits = lent_or key bytes a b other (cases_eq other key) carries waits (waited_or key (desk_in a.desk) (desk_in b.desk) goes other waits)

@@ -1,0 +1,285 @@
+-- Why an application is closed by what it says, and by what comes on a connection.
+use Rattle.std.specs.Prelude.{◌≡◌, ◌≢◌, ◌⊎◌, ◌<◌, ℕ, Bool, true, false, List, [], length, take, IsSome, Option, Some, None, Result, Ok, Err, option_map}
+use Rattle.slab.specs.Slab.{get}
+use Rattle.tds_packet.specs.declared.kind.Kind.{Kind}
+use Rattle.tds_packet.specs.declared.status.Reset.{Reset}
+use Rattle.tds_packet.specs.declared.status.Reset.TheVariants.{Full, KeepTransaction}
+use Rattle.tds_wire.specs.declared.told.Token.{Token}
+use Rattle.tds_front.specs.declared.fault.FrontFault.{FrontFault}
+use Rattle.tds_front.specs.declared.front.Fed.{Fed}
+use Rattle.tds_front.specs.declared.front.Front.{Front}
+use Rattle.tds_front.specs.declared.front.Said.{Said}
+use Rattle.tds_front.specs.declared.front.Said.TheVariants as said
+use Rattle.tds_front.specs.declared.stage.Stage.{Stage}
+use Rattle.tds_front.specs.declared.stage.Stage.TheVariants as stages
+use Rattle.tds_front.specs.Bytes.{fed}
+use Rattle.tds_service.specs.declared.refusal.Refusal.{Refusal}
+use Rattle.tds_service.specs.declared.refusal.Refusal.TheVariants as refusals
+use Rattle.tds_service.specs.Service as calls
+use Rattle.tds_service.specs.Service.{Call}
+use Rattle.tds_service.specs.Table.{Answers, Refuses, reading_on, service_in}
+use Rattle.tds_client.specs.declared.state.Cancelled.{Cancelled}
+use Rattle.tds_client.specs.declared.state.Cancelled.TheVariants.{Asked}
+use Rattle.tds_service.specs.Ties.{cancel_answer}
+use Rattle.tds_relay.specs.declared.application.Application.{Application}
+use Rattle.tds_relay.specs.declared.desk.Desk as desks
+use Rattle.tds_relay.specs.declared.desk.Hold.{Hold}
+use Rattle.tds_relay.specs.declared.desk.coming.Heard.{Heard}
+use Rattle.tds_relay.specs.declared.desk.coming.What.{What}
+use Rattle.tds_relay.specs.declared.desk.coming.What.TheVariants as whats
+use Rattle.tds_relay.specs.declared.link.Link.{Link}
+use Rattle.tds_relay.specs.declared.relay.Relay as code
+use Rattle.tds_relay.specs.Asking.{IsTakenBack}
+use Rattle.tds_relay.specs.Bodies.{Astray, Body, Carries, ClientPuts, ClientStops, Closed, Going, Kept, Nowhere, body_of, last_of}
+use Rattle.tds_relay.specs.Cleaning.{MayClean}
+use Rattle.tds_relay.specs.Closings.{IsNoRequest, IsWaiting}
+use Rattle.tds_relay.specs.Desk.{find_key}
+use Rattle.tds_relay.specs.Fronts.{ends_in, house_in}
+use Rattle.tds_relay.specs.Hall.{End, Ends, IfOpen, Open, Over, asks_by, end_at}
+use Rattle.tds_relay.specs.Handing.{HearsBy}
+use Rattle.tds_relay.specs.House.{House}
+use Rattle.tds_relay.specs.Posts.{Post, Posts, acknowledgement, fits, give, post_at, post_in, posts_in}
+use Rattle.tds_relay.specs.Reads.{Streams, StreamsAll, link_at, open_at}
+use Rattle.tds_relay.specs.Taking.{IsDeaf}
+use Rattle.tds_relay.specs.Ties.{Leaving, desk_in}
+use Rattle.tds_relay.specs.Told.{room_to_keep}
+
+-- ---- Bytes of a request aren't put on the connection that its application holds
+
+-- want of memory is none: that is handed up
+abbrev pub IsReason : Refusal → Type 0
+IsReason refusals.Unknown = Unit {0}
+IsReason refusals.AllInUse = Unit {0}
+IsReason refusals.NotNow = Unit {0}
+IsReason refusals.NotIdle = Unit {0}
+IsReason refusals.NotSending = Unit {0}
+IsReason refusals.Broken = Unit {0}
+IsReason refusals.Memory = ⊥
+
+-- What the service does by this call it refuses of that connection.
+pub record RefusesThere (call : ℕ → ℕ → Call Token) (key : ℕ) (d : desks.Desk) : Type 0 where
+  pub refusal : Refusal
+  pub reason : IsReason refusal
+  pub refuses : (hold : Hold) → find_key key d.holds.items ≡ Some hold → (count : ℕ) → Refuses (call hold.lease count) (service_in d.service) refusal
+
+-- These bytes are refused; or they are taken, and the end of their message is refused.
+pub data IsUntaken (whole : Bool) (more : List ℕ) (key : ℕ) (d : desks.Desk) : Type 0 where
+  OfBytes : RefusesThere calls.Put key d → IsUntaken whole more key d
+  OfEnd : whole ≡ true → (mid : desks.Desk) (before after : List ℕ) → ClientPuts false more key d mid before after → RefusesThere calls.Finish key mid → IsUntaken whole more key d
+
+-- No request has begun, or all of it is to be put and hasn't come.
+abbrev pub IsUnbegun : Bool → Stage → Type 0
+IsUnbegun whole stages.Quiet = Unit {0}
+IsUnbegun whole (stages.Receiving kind gone) = whole ≡ true
+IsUnbegun whole (stages.Underway gone) = ⊥
+IsUnbegun whole stages.Stopping = Unit {0}
+IsUnbegun whole (stages.Broken fault) = Unit {0}
+
+-- More would wait there behind these than may.
+abbrev pub HasNoRoom : ℕ → List ℕ → List Link → Type 0
+HasNoRoom number bytes links = option_map (λ (l : Link). fits (post_in l.out) bytes) (link_at number links) ≡ Some false
+
+pub data CannotPut (whole : Bool) (more : List ℕ) (key : ℕ) (end : Option End) (d : desks.Desk) (links : List Link) : Type 0 where
+  Unheld : find_key key d.holds.items ≡ None → CannotPut whole more key end d links
+  Unbegun : IfOpen (IsUnbegun whole) end → CannotPut whole more key end d links
+  Untaken : IsUntaken whole more key d → CannotPut whole more key end d links
+  -- its client puts them, and what goes out by that doesn't fit
+  Unfit : (mid : desks.Desk) (out : List ℕ) (puts : ClientPuts whole more key d mid [] out) → HasNoRoom puts.hold.number out links → CannotPut whole more key end d links
+
+-- ---- They can't go on
+
+-- so much more may be kept of its request
+abbrev pub room_left : Option Application → ℕ
+room_left None = 0
+room_left (Some a) = room_to_keep a
+
+-- They are more than may be kept of a request that waits; or this waits no longer, where its application holds a connection: that may not
+-- take it.
+abbrev pub CannotGoOn : Bool → List ℕ → ℕ → Option End → ℕ → desks.Desk → List Link → Body → Type 0
+CannotGoOn whole more key end room d links Closed = Unit {0}
+CannotGoOn whole more key end room d links Nowhere = Unit {0}
+CannotGoOn whole more key end room d links (Kept kind bytes was) = (room < length more) ⊎ IsSome (find_key key d.holds.items)
+CannotGoOn whole more key end room d links Astray = CannotPut whole more key end d links
+CannotGoOn whole more key end room d links (Going number client waits) = CannotPut whole more key end d links
+
+-- with what a relay has
+abbrev pub CannotGoOnAt : Bool → List ℕ → ℕ → code.Relay → Type 0
+CannotGoOnAt whole more key r = CannotGoOn whole more key (end_at (ends_in r.applications) key) (room_left (get r.applications key)) r.desk r.links.items (body_of key r)
+
+-- ---- A request can't begin
+
+-- Something of a request has gone on, or an attention.
+abbrev pub HasGoneOut : Stage → Type 0
+HasGoneOut stages.Quiet = ⊥
+HasGoneOut (stages.Receiving kind gone) = gone ≡ true
+HasGoneOut (stages.Underway gone) = gone ≡ true
+HasGoneOut stages.Stopping = Unit {0}
+HasGoneOut (stages.Broken fault) = Unit {0}
+
+-- An application isn't parted from its connection: something is out there, or it has one still behind letting it go.
+pub data CannotPart (key : ℕ) (end : Option End) (d : desks.Desk) : Type 0 where
+  Out : IfOpen HasGoneOut end → CannotPart key end d
+  Held : (mid : desks.Desk) → Leaving key (desk_in d) (desk_in mid) → IsSome (find_key key mid.holds.items) → CannotPart key end d
+
+-- Packets of its type are no request. Or it would be asked on the connection that its application holds; but one that asks for a full reset
+-- is parted from that.
+abbrev pub CannotBegin : Kind → Option Reset → ℕ → Option End → desks.Desk → Type 0
+CannotBegin kind None key end d = IsNoRequest kind ⊎ IsSome (find_key key d.holds.items)
+CannotBegin kind (Some KeepTransaction) key end d = IsNoRequest kind ⊎ IsSome (find_key key d.holds.items)
+CannotBegin kind (Some Full) key end d = IsNoRequest kind ⊎ CannotPart key end d
+
+-- ---- It can't be taken back
+
+-- The service refuses to cancel it.
+abbrev pub IsUncancelled : ℕ → desks.Desk → Type 0
+IsUncancelled key d = RefusesThere (λ lease count. calls.Cancel lease) key d
+
+-- No attention goes out by its cancel.
+pub record StopsNothing (key : ℕ) (d : desks.Desk) : Type 0 where
+  pub hold : Hold
+  pub its : find_key key d.holds.items ≡ Some hold
+  pub request : ℕ
+  pub how : Cancelled
+  pub answers : Answers (calls.Cancel hold.lease) (service_in d.service) (cancel_answer request how)
+  pub not_asked : how ≢ Asked
+
+-- What goes out by it doesn't fit.
+pub record StopsUnfit (key : ℕ) (d : desks.Desk) (links : List Link) : Type 0 where
+  pub mid : desks.Desk
+  pub out : List ℕ
+  pub stops : ClientStops key d mid [] out
+  pub no_room : HasNoRoom stops.hold.number out links
+
+abbrev pub IsUnstopped : ℕ → desks.Desk → Type 0
+IsUnstopped key d = IsUncancelled key d ⊎ StopsNothing key d
+
+abbrev pub CannotStop : ℕ → desks.Desk → List Link → Type 0
+CannotStop key d links = IsUnstopped key d ⊎ StopsUnfit key d links
+
+-- one that is forgotten here alone: nothing of it may have gone out
+abbrev pub CannotUnask : ℕ → Option End → desks.Desk → List Link → Type 0
+CannotUnask key end d links = IfOpen HasGoneOut end ⊎ (IsUncancelled key d ⊎ StopsUnfit key d links)
+
+-- so where its application waits no more
+pub record WaitsNoMore (Cannot : desks.Desk → Type 0) (d : desks.Desk) : Type 0 where
+  pub mid : desks.Desk
+  pub holds : mid.holds ≡ d.holds
+  pub service : mid.service ≡ d.service
+  pub cannot : Cannot mid
+
+-- of which something has gone on or not
+abbrev pub CannotForget : Bool → ℕ → Option End → desks.Desk → List Link → Type 0
+CannotForget false key end d links = WaitsNoMore (λ mid. CannotUnask key end mid links) d
+CannotForget true key end d links = WaitsNoMore (λ mid. CannotStop key mid links) d
+
+-- More would wait for it than may.
+abbrev pub IsOverfull : Option Post → Type 0
+IsOverfull post = option_map (λ (p : Post). p.is_full) post ≡ Some true
+
+-- ---- By what an application says
+
+-- A request can't begin, its bytes can't go on, or it can't be taken back; by what says nothing nobody is closed.
+abbrev pub MayClose : Said → List ℕ → ℕ → Option End → ℕ → desks.Desk → List Link → Posts → Body → Type 0
+MayClose said.Nothing taken key end room d links posts body = ⊥
+MayClose (said.Begin kind reset) taken key end room d links posts body = CannotBegin kind reset key end d
+MayClose (said.Body count) taken key end room d links posts body = CannotGoOn false (last_of count taken) key end room d links body
+MayClose (said.End count) taken key end room d links posts body = CannotGoOn true (last_of count taken) key end room d links body
+MayClose (said.Forget gone) taken key end room d links posts body = CannotForget gone key end d links
+MayClose said.Acknowledge taken key end room d links posts body = CannotForget false key end d links ⊎ IsOverfull (post_at (give key acknowledgement posts) key)
+MayClose said.HandOn taken key end room d links posts body = CannotStop key d links
+
+-- with what a relay has; this is its end
+abbrev pub MayCloseAt : Said → List ℕ → ℕ → Option End → code.Relay → Type 0
+MayCloseAt answer taken key end r = MayClose answer taken key end (room_left (get r.applications key)) r.desk r.links.items (posts_in r.applications) (body_of key r)
+
+abbrev pub ReasonWith : List ℕ → ℕ → code.Relay → Front → Bool → Option Reset → Result Fed FrontFault → Type 0
+ReasonWith bytes key r front withdrawn asks (Ok taken) = MayCloseAt taken.said (take taken.count bytes) key (Some (Open front withdrawn (asks_by taken.said asks))) r
+ReasonWith bytes key r front withdrawn asks (Err fault) = Unit {0}
+
+abbrev pub ReasonBy : List ℕ → ℕ → code.Relay → Option End → Type 0
+ReasonBy bytes key r None = ⊥
+ReasonBy bytes key r (Some (Open front withdrawn asks)) = ReasonWith bytes key r (fed front bytes).front withdrawn asks (fed front bytes).brings
+ReasonBy bytes key r (Some (Over why)) = ⊥
+
+-- The first piece of these breaks the rules; or what is asked by it can't be done.
+abbrev pub GivesReason : List ℕ → ℕ → code.Relay → Type 0
+GivesReason bytes key r = ReasonBy bytes key r (end_at (ends_in r.applications) key)
+
+-- By one piece of these, behind others. Or its request waits behind them, and one that waits may be lent a connection that doesn't take it.
+pub data HasReason (key : ℕ) (bytes : List ℕ) (r : code.Relay) : Type 0 where
+  ByPiece : (mid : code.Relay) (left : List ℕ) → Carries key (house_in r) bytes left (body_of key r) (body_of key mid) (house_in mid) → GivesReason left key mid → HasReason key bytes r
+  ByLoan : (mid : code.Relay) → Carries key (house_in r) bytes [] (body_of key r) (body_of key mid) (house_in mid) → IsWaiting (desk_in mid.desk).line key → HasReason key bytes r
+
+-- ---- Whom it may close
+
+-- This one, for that.
+abbrev pub ItselfFor : ℕ → Type 0 → ℕ → Type 0
+ItselfFor key Reason other = (other ≡ key) × Reason
+
+-- An application's bytes close it for a reason that they have; where others wait, one of them may be lent a connection then that doesn't take
+-- its request.
+abbrev pub ForReasonOrWaiting : ℕ → List ℕ → code.Relay → ℕ → Type 0
+ForReasonOrWaiting key bytes r other = ItselfFor key (HasReason key bytes r) other ⊎ ((other ≢ key) × IsWaiting (desk_in r.desk).line other)
+
+-- ---- By what is heard of a packet
+
+-- What this application took back is acknowledged, unless it is to be closed.
+abbrev pub HasTakenBack : Option ℕ → Ends → Type 0
+HasTakenBack key ends = (whose : ℕ) × (key ≡ Some whose) × (IsTakenBack (end_at ends whose) ⊎ IsDeaf (end_at ends whose))
+
+-- Whoever is handed it is closed where more would wait for it than may; behind what it took back its next request may not be taken. A
+-- connection that is closed for what its server said is its end too.
+abbrev pub LosesBy : What → Option ℕ → Ends → Posts → ℕ → Type 0
+LosesBy whats.Goes key ends posts other = (key ≡ Some other) × IsOverfull (post_at posts other)
+LosesBy whats.Finished key ends posts other = (key ≡ Some other) × IsOverfull (post_at posts other)
+LosesBy whats.Acknowledged key ends posts other = ((key ≡ Some other) × IsOverfull (post_at posts other)) ⊎ HasTakenBack key ends
+LosesBy whats.Closed key ends posts other = Unit {0}
+
+-- So it is where a header isn't one.
+abbrev pub LosesFor : Option Heard → Ends → Posts → ℕ → Type 0
+LosesFor None ends posts other = Unit {0}
+LosesFor (Some heard) ends posts other = LosesBy heard.what heard.key ends posts other
+
+-- What goes out there by it is nothing, or a cleaning, where the connection stays.
+abbrev pub Cleans : Option Heard → List ℕ → List ℕ → Type 0
+Cleans None before after = Unit {0}
+Cleans (Some heard) before after = heard.what ≢ whats.Closed → MayClean before after
+
+-- It doesn't fit behind what waits.
+abbrev pub IsUnsendable : ℕ → List ℕ → List Link → Type 0
+IsUnsendable number out links = MayClean [] out × HasNoRoom number out links
+
+-- ---- By bytes that come
+
+-- These bytes of a connection are heard so, up to the end of a packet: by its reader, and by the service.
+pub record IsHeardAs (number : ℕ) (left : List ℕ) (heard : Option Heard) (r : code.Relay) (new : House) : Type 0 where
+  pub link : Link
+  pub there : link_at number r.links.items ≡ Some link
+  pub next : Link
+  pub count : ℕ
+  pub hears : HearsBy number (reading_on number r.desk.service) link next left count heard (house_in r) new
+
+-- Nothing was.
+abbrev pub HearsNothing : Option Heard → Type 0
+HearsNothing None = ⊥
+HearsNothing (Some heard) = (heard.key ≡ None) × (heard.what ≡ whats.Goes)
+
+-- It closes this one; or what goes out by it does.
+pub data LosesOn (number : ℕ) (left : List ℕ) (r : code.Relay) (other : ℕ) : Type 0 where
+  OfPacket : (heard : Option Heard) (new : House) → IsHeardAs number left heard r new → LosesFor heard (ends_in r.applications) new.posts other → LosesOn number left r other
+  OfSending : (out : List ℕ) → IsUnsendable number out r.links.items → LosesOn number left r other
+
+-- They come behind others. Or all have come, and one that waits may be lent a connection that doesn't take its request.
+pub data HeardFor (number : ℕ) (bytes : List ℕ) (r : code.Relay) (other : ℕ) : Type 0 where
+  ByPacket : (mid : code.Relay) (left : List ℕ)
+      → Streams number (open_at number r.links.items) (house_in r) r.desk.service bytes left (open_at number mid.links.items) (house_in mid) mid.desk.service → LosesOn number left mid other → HeardFor number bytes r other
+  InLine : (mid : code.Relay)
+      → StreamsAll number (open_at number r.links.items) (house_in r) r.desk.service bytes (open_at number mid.links.items) (house_in mid) mid.desk.service → IsWaiting (desk_in mid.desk).line other → HeardFor number bytes r other
+
+-- what waits on the connection of this number
+abbrev pub post_on : ℕ → List Link → Option Post
+post_on number links = option_map (λ (l : Link). post_in l.out) (link_at number links)
+
+-- by a packet that has been handed on
+abbrev pub LosesAt : ℕ → Option Heard → code.Relay → ℕ → Type 0
+LosesAt number heard r other = LosesFor heard (ends_in r.applications) (posts_in r.applications) other ⊎ HasNoRoom number r.outbox.items r.links.items
