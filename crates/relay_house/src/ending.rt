@@ -126,7 +126,7 @@ impl House {
         let Some(relay) = relay_of(&mut self.groups, group) else {
             return Ok(());
         };
-        let held = relay.sent(application, 0);
+        let held = relay.held_tag(application);
         relay.left(application)?;
         match held {
             Some(connection) => {
@@ -189,7 +189,7 @@ impl House {
             ..
         } = self;
         let relay = relay_of(groups, group)?;
-        let key = match (relay.sent_on(number, 0), pair) {
+        let key = match (relay.holder_tag(number), pair) {
             (Some(key), _) => key,
             (None, Some(pair)) => pair.application,
             (None, None) => return None,

@@ -216,7 +216,7 @@ fn is_wanted(groups: &mut Groups<Group>, group: usize, number: u64) -> bool {
         return false;
     };
     match relay.place_on(number) {
-        Some(PlaceOn::Opening) => relay.sent_on(number, 0).is_some() || relay.waiting() > 0,
+        Some(PlaceOn::Opening) => relay.holder_tag(number).is_some() || relay.waiting() > 0,
         _ => false,
     }
 }

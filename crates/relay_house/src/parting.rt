@@ -81,8 +81,7 @@ impl House {
         let Some(relay) = relay_of(groups, group) else {
             return Ok(false);
         };
-        // What is asked here says so, too, where nothing was sent.
-        let Some(connection) = relay.sent(application, 0) else {
+        let Some(connection) = relay.held_tag(application) else {
             return Ok(false);
         };
         let rests = match sockets.get(connection) {
@@ -154,8 +153,7 @@ impl House {
         let Some(relay) = relay_of(groups, group) else {
             return Ok(false);
         };
-        // What is asked here says so, too, where nothing was sent.
-        let holder = relay.sent_on(number, 0);
+        let holder = relay.holder_tag(number);
         if relay.park(application)? {
             if let Some(holder) = holder {
                 sockets.touch(holder);

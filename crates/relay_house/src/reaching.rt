@@ -201,7 +201,7 @@ impl House {
         let Some(relay) = relay_of(&mut self.groups, group) else {
             return Ok(());
         };
-        if let Some(key) = relay.sent_on(number, 0) {
+        if let Some(key) = relay.holder_tag(number) {
             self.tell_not_opened(key, why)?;
         }
         match relay_of(&mut self.groups, group) {

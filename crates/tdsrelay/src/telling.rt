@@ -186,13 +186,12 @@ impl Program {
             groups,
             ..
         } = &mut self.house;
-        // What is asked here says so, too, where nothing was sent.
         let other = match sockets.get(key)?.whose() {
             Whose::Application(group, application) => {
-                relay_of(groups, group)?.sent(application, 0)?
+                relay_of(groups, group)?.held_tag(application)?
             }
-            Whose::Opening(group, number) => relay_of(groups, group)?.sent_on(number, 0)?,
-            Whose::Connection(group, number) => relay_of(groups, group)?.sent_on(number, 0)?,
+            Whose::Opening(group, number) => relay_of(groups, group)?.holder_tag(number)?,
+            Whose::Connection(group, number) => relay_of(groups, group)?.holder_tag(number)?,
             _ => return None,
         };
         Some(sockets.get(other)?.number)

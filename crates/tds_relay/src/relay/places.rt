@@ -6,7 +6,8 @@ ghost use Rattle.tds_relay.specs.Faults.{header_fault_in, why_at};
 ghost use Rattle.tds_relay.specs.Fronts.{house_in};
 ghost use Rattle.tds_relay.specs.Places.{begun_in, held_by, open_on};
 ghost use Rattle.tds_relay.specs.Ties.{desk_in};
-ghost use Rattle.tds_relay.specs.Told.{counts_in, has_cancelled, held_place, place_on, place_with, told_place, unheld_place};
+ghost use Rattle.tds_relay.specs.Told.{counts_in, has_cancelled, held_name, held_place, holder_name};
+ghost use Rattle.tds_relay.specs.Told.{place_on, place_with, told_place, unheld_place};
 
 use super::Relay;
 use crate::application::{Application, Asking};
@@ -73,6 +74,22 @@ impl Relay {
             None => None,
         };
         Some(where_is(application, number))
+    }
+
+    /// The tag of the connection that the application of this key holds, if there are both.
+    pub fn held_tag(&self, key: usize) -> Option<usize>
+        ensures { result ≡ held_name key self.now }
+    {
+        let hold = self.desk.hold_of(key)?;
+        self.link(hold.number)?.tag
+    }
+
+    /// The tag of the application that holds the connection of this number, if there are both.
+    pub fn holder_tag(&self, number: u64) -> Option<usize>
+        ensures { result ≡ holder_name number self.now }
+    {
+        let key = self.desk.key_on(number)?;
+        Some(self.applications.get(key)?.tag)
     }
 
     /// How many requests the application of this key has begun.
