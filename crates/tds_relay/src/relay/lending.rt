@@ -338,8 +338,7 @@ impl Relay {
             return Ok(());
         };
         application.asking = Asking::Goes;
-        let held = application.held().to_vec(self.alloc)?;
-        application.forget();
+        let held = application.take_held();
         self.put(key, &held, whole)
     }
 
