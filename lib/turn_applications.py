@@ -9,12 +9,14 @@ import struct
 from peers import ATTENTION, PATIENCE, login, with_features
 from turn_sessions import DATABASE, LANGUAGE, LAST, Session, Vices, ends_with
 from turn_tokens import (
-    ACKNOWLEDGED, BATCH, CALL, DONE, END, EXECUTE, LOAD, RECOVERY, RESET, RESET_BUT_TRANSACTION, UNPREPARE,
+    ACKNOWLEDGED, BATCH, BY_NAME, CALL, DONE, END, EXECUTE, LOAD, RECOVERY, RESET, RESET_BUT_TRANSACTION, UNPREPARE,
     calls_body, change, done, headers, let_in, packets, text_of, tokens)
 
 # All that another one's session could have left.
 EVERYTHING = "get a;get b;get c;get t;get level;get text;where;open;sum b;unlock;hidden"
 
+# A handle that no server gives.
+NO_HANDLE = 0x7FFFFFFF
 # Where LOGIN7 has the client's locale (MS-TDS 2.2.6.4).
 LOCALE = 32
 
@@ -124,9 +126,13 @@ class Application:
         return await self.exchange((text, status), BATCH, text_of(text), parts, ends_with("batch"), status)
 
     async def call(self, *calls):
-        real = [(name, self.handles.get(value, value) if name in (EXECUTE, UNPREPARE) else value)
+        real = [(name, self.real(value) if BY_NAME.get(name, name) in (EXECUTE, UNPREPARE) else value)
                 for name, value in calls]
         return await self.exchange(calls, CALL, calls_body(real), self.own.calls(calls), ends_with("calls"))
+
+    def real(self, handle):
+        """The number that its connection's server gave for this handle, where it is open."""
+        return self.handles[handle] if handle in self.own.handles else NO_HANDLE
 
     async def load(self, count):
         data = bytes(4 * count)

@@ -11,8 +11,8 @@ import itertools
 import struct
 
 from turn_tokens import (
-    COUNTED, DONE, DONE_PROCEDURE, EXECUTE, EXECUTE_SQL, IN_BATCH, MORE, PREPARE, PREPARE_AND_EXECUTE, UNPREPARE,
-    change, done, error, return_status, returned, rows, session_state, state, text_of, wide_rows)
+    BY_NAME, COUNTED, DONE, DONE_PROCEDURE, EXECUTE, EXECUTE_SQL, IN_BATCH, MORE, PREPARE, PREPARE_AND_EXECUTE, UNPREPARE,
+    change, done, error, return_status, returned_as, rows, session_state, state, text_of, wide_rows)
 
 DATABASE, LANGUAGE = "d0", "l0"
 # The states by their numbers: settings, the isolation level, a text; tables and locks, which have no value.
@@ -20,9 +20,9 @@ STATES = {1: "a", 2: "b", 3: "c", 4: "t", 5: "level", 6: "text"}
 LEVEL, TEXT, TABLES, LOCKS = 5, 6, 9, 10
 LAST = 0xFFFFFFFF
 # Errors as SQL Server numbers them: no column list of a bulk load, a table that is there or isn't, no lock, no handle,
-# no procedure, no transaction, one that is open, no statement; another transaction's descriptor.
+# no procedure, no memory, no transaction, one that is open, no statement; another transaction's descriptor.
 NO_LOAD, IS_THERE, NO_TABLE, NO_LOCK, NO_HANDLE, NO_PROCEDURE = 4022, 2714, 208, 1223, 8179, 2812
-NOT_TO_COMMIT, NOT_TO_ROLL_BACK, IS_OPEN, NO_STATEMENT, OTHER_TRANSACTION = 3902, 3903, 50001, 102, 3989
+NO_MEMORY, NOT_TO_COMMIT, NOT_TO_ROLL_BACK, IS_OPEN, NO_STATEMENT, OTHER_TRANSACTION = 701, 3902, 3903, 50001, 102, 3989
 
 
 @dataclasses.dataclass(frozen=True)
@@ -44,6 +44,9 @@ class Vices:
     keeps_level: bool = False
     # The number of its first SESSIONSTATE: behind FFFFFFFF nothing can be recovered any more.
     first: int = 0
+    # How it returns a handle (turn_tokens); and the first call that closes one fails.
+    returns: str = "one"
+    fails_to_close: bool = False
     # Its packets end anywhere; it takes its time between parts of rows.
     is_torn: bool = False
     is_slow: bool = False
@@ -107,7 +110,7 @@ class Session:
         level = self.settings.get("level", 0) if self.vices.keeps_level else 0
         self.settings = dict.fromkeys(STATES.values(), 0) | {"level": level}
         self.tables, self.locks, self.database, self.language = {}, 0, DATABASE, LANGUAGE
-        self.handles, self.hidden, self.awaits_load = {}, 0, False
+        self.handles, self.hidden, self.awaits_load, self.has_failed = {}, 0, False, False
         self.descriptor = self.before = 0
         self.said = self.values()
         if kept[0] and not is_full:
@@ -156,16 +159,20 @@ class Session:
                 yield done(IN_BATCH | MORE, DONE_PROCEDURE)
 
     def call(self, name, value):
+        name = BY_NAME.get(name, name)
         if name in (PREPARE, PREPARE_AND_EXECUTE):
             self.given += 1
             self.handles[self.given] = value
             if name == PREPARE_AND_EXECUTE:
                 yield from self.batch(value)
-            yield returned(self.given)
+            yield returned_as(self.vices.returns, self.given)
         elif name in (EXECUTE, UNPREPARE) and value not in self.handles:
             yield error(NO_HANDLE)
         elif name == EXECUTE:
             yield from self.batch(self.handles[value])
+        elif name == UNPREPARE and self.vices.fails_to_close and not self.has_failed:
+            self.has_failed = True
+            yield error(NO_MEMORY)
         elif name == UNPREPARE:
             del self.handles[value]
         elif name in (EXECUTE_SQL, "sp_executesql"):

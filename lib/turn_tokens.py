@@ -13,6 +13,9 @@ MORE, COUNTED, ACKNOWLEDGED, IN_BATCH = 1, 0x10, 0x20, 0x80
 DONE, DONE_PROCEDURE = 0xFD, 0xFE
 # Numbers of procedures (MS-TDS 2.2.6.6).
 EXECUTE_SQL, PREPARE, EXECUTE, PREPARE_AND_EXECUTE, UNPREPARE = 10, 11, 12, 13, 15
+# The same by their names, and the parameter of those that prepare: a handle, which is returned.
+BY_NAME = {"sp_prepare": PREPARE, "sp_execute": EXECUTE, "sp_prepexec": PREPARE_AND_EXECUTE, "sp_unprepare": UNPREPARE}
+HANDLE = b"\x00\x01\x26\x04\x00"
 # Session recovery among the features, and what ends them (MS-TDS 2.2.6.4, 2.2.7.11).
 RECOVERY, FEATURES_END = 1, 0xFF
 
@@ -60,9 +63,16 @@ def return_status(value=0):
 
 
 def returned(value):
-    """RETURNVALUE, an INTN of four bytes."""
+    """RETURNVALUE, an INTN of four bytes (MS-TDS 2.2.7.19)."""
     head = struct.pack("<HB", 1, 0) + b"\x01" + bytes(4) + bytes(2) + b"\x26\x04"
     return b"\xac" + head + b"\x04" + struct.pack("<i", value)
+
+
+def returned_as(how, value):
+    """What is returned for a handle: once, never, twice, as a number of eight bytes, or by a name."""
+    long = b"\xac" + struct.pack("<HB", 1, 0) + b"\x01" + bytes(6) + b"\x26\x08\x08" + struct.pack("<q", value)
+    named = b"\xac" + struct.pack("<HB", 1, 1) + text_of("h") + returned(value)[4:]
+    return {"one": returned(value), "none": b"", "two": 2 * returned(value), "long": long, "named": named}[how]
 
 
 def state(number, value):
@@ -118,7 +128,10 @@ class Answer:
         if kind == 0x79:
             return "status", struct.unpack("<i", self.taken(5)[1:])[0]
         if kind == 0xAC:
-            return "returned", struct.unpack("<i", self.taken(18)[14:])[0]
+            units = self.taken(4)[3]
+            self.taken(2 * units + 7)
+            count = self.taken(2)[1]
+            return "returned", int.from_bytes(self.taken(1 + count)[1:], "little", signed=True)
         if kind in (DONE, DONE_PROCEDURE):
             return "done", kind, struct.unpack("<H", self.taken(13)[1:3])[0]
         if kind == 0xE3:
@@ -178,7 +191,9 @@ def calls_body(calls):
     parts = []
     for name, value in calls:
         head = struct.pack("<HH", 0xFFFF, name) if isinstance(name, int) else struct.pack("<H", len(name)) + text_of(name)
-        parts.append(head + b"\x00\x00" + parameter(value))
+        number = BY_NAME.get(name, name)
+        handle = HANDLE if number in (PREPARE, PREPARE_AND_EXECUTE) else b""
+        parts.append(head + b"\x00\x00" + handle + parameter(value))
     return b"\xff".join(parts)
 
 
@@ -191,7 +206,10 @@ def calls_of(body):
             name, at = struct.unpack_from("<H", body, at + 2)[0], at + 4
         else:
             name, at = body[at + 2:at + 2 + 2 * count].decode("utf-16le"), at + 2 + 2 * count
-        at += 2 + 2
+        at += 2
+        if body[at:at + 5] == HANDLE:
+            at += 5
+        at += 2
         if body[at] == 0x26:
             value, at = struct.unpack_from("<i", body, at + 3)[0], at + 7
         else:

@@ -59,13 +59,121 @@ async def prepared_and_executed(pair):
     await pair.a.call((EXECUTE, 1))
 
 
-@kept()
+@shared()
 async def prepared_and_unprepared(pair):
-    """Handles aren't counted."""
+    await pair.a.call((PREPARE, "get b"))
+    await pair.a.call((EXECUTE, 1))
+    await pair.a.call((UNPREPARE, 1))
+    await pair.other()
+    await pair.a.call((EXECUTE, 1))
+
+
+@shared(vices=Vices(is_torn=True))
+async def prepared_and_unprepared_by_names(pair):
+    await pair.a.call(("sp_prepexec", "get b"))
+    await pair.a.call(("sp_prepare", "get a"))
+    await pair.a.call(("sp_execute", 1))
+    await pair.a.ask("get a")
+    await pair.a.call(("sp_unprepare", 2))
+    await pair.a.call(("sp_unprepare", 1))
+    await pair.other()
+    await pair.a.call((PREPARE, "get c"))
+    await pair.a.call((EXECUTE, 3))
+
+
+@kept()
+async def prepared_until_it_is_unprepared(pair):
+    await pair.a.call((PREPARE_AND_EXECUTE, "get b"))
+    await pair.other()
+    await pair.a.call((UNPREPARE, 1))
+    await pair.served()
+
+
+@kept()
+async def one_of_two_unprepared(pair):
+    await pair.a.call((PREPARE, "get b"))
+    await pair.a.call((PREPARE, "get c"))
+    await pair.a.call((UNPREPARE, 1))
+    await pair.other()
+    await pair.a.call((EXECUTE, 2))
+
+
+@kept()
+async def unprepared_what_is_not_open(pair):
+    """It closes none, and what it may have meant isn't clear."""
+    await pair.a.call((UNPREPARE, 1))
+    await pair.other()
+
+
+@kept()
+async def unprepared_twice(pair):
+    await pair.a.call((PREPARE, "get b"))
+    await pair.a.call((UNPREPARE, 1))
+    await pair.a.call((UNPREPARE, 1))
+    await pair.other()
+
+
+@kept(vices=Vices(fails_to_close=True))
+async def unprepared_in_vain(pair):
+    """Its answer tells an error: the handle is open. Behind the next one it isn't."""
     await pair.a.call((PREPARE, "get b"))
     await pair.a.call((UNPREPARE, 1))
     await pair.other()
     await pair.a.call((EXECUTE, 1))
+    await pair.a.call((UNPREPARE, 1))
+    await pair.served()
+
+
+def returned_otherwise(how):
+    """A handle that isn't read: it is as if none were counted, up to a full reset."""
+    async def deed(pair):
+        await pair.a.call((PREPARE, "get b"))
+        await pair.a.ask("get a")
+        await pair.other()
+        await pair.a.ask("get a", END | RESET)
+        await pair.served()
+    deed.__name__ = f"handle_returned_as_{how}"
+    kept(vices=Vices(returns=how))(deed)
+
+
+for way in ("none", "two", "long", "named"):
+    returned_otherwise(way)
+
+
+@kept()
+async def unprepared_in_one_request(pair):
+    """Several calls in a message aren't read."""
+    await pair.a.call((PREPARE, "get b"))
+    await pair.a.call((UNPREPARE, 1), (EXECUTE_SQL, "get a"))
+    await pair.other()
+
+
+@kept()
+async def prepare_that_is_cancelled(pair):
+    """Its handle may have been made."""
+    pair.a.send(CALL, calls_body([(PREPARE_AND_EXECUTE, "rows 1 20;wait")]))
+    await pair.waits()
+    pair.a.same("a call", await pair.a.cancels(), tokens(rows(1, 20) + done(ACKNOWLEDGED)))
+    await pair.a.ask("get a")
+    await pair.other()
+
+
+@shared()
+async def as_many_handles_as_are_kept(pair):
+    for _ in range(64):
+        await pair.a.call((PREPARE, "get b"))
+    for number in range(64):
+        await pair.a.call((UNPREPARE, number + 1))
+    await pair.other()
+
+
+@kept()
+async def more_handles_than_are_kept(pair):
+    for _ in range(65):
+        await pair.a.call((PREPARE, "get b"))
+    for number in range(65):
+        await pair.a.call((UNPREPARE, number + 1))
+    await pair.other()
 
 
 @kept()

@@ -7,8 +7,8 @@ use Rattle.tds_packet.specs.declared.status.Reset.TheVariants.{Full, KeepTransac
 use Rattle.tds_state.specs.declared.asked.Asked.{Asked}
 use Rattle.tds_state.specs.declared.asked.Request.{Request}
 use Rattle.tds_state.specs.declared.asked.Request.TheVariants.{Batch, Procedure, Other}
-use Rattle.tds_state.specs.Hearing.{Unread, Nothing, Recovery, States, Value, Transaction, ResetDone, Done}
-use Rattle.tds_state.specs.Asking.{is_call, is_harmless, makes_by, may_make_handles, body_sent_by}
+use Rattle.tds_state.specs.Hearing.{Unread, Nothing, Recovery, States, Value, Transaction, ResetDone, Done, Returned, Failed}
+use Rattle.tds_state.specs.Asking.{procedure_call, is_call, is_known_call, makes_by, may_make_handles, body_sent_by}
 use Rattle.tds_state.specs.Pasts.{Remark, Begins, Goes, Cancels, Tells, Ends, are_harmless, answer_has_ended, newest_is_cancelled, newest_kind, session_said, was_call_cancelled}
 use Rattle.tds_state.specs.Sessions.{awaits_by, ended_flight, is_followed, is_quiet, keeps_open, flight_stopped}
 use Rattle.tds_state.specs.declared.session.Flight.{Flight}
@@ -33,6 +33,8 @@ kind_asked (Goes bytes ∷ past) = sent_kind (session_said past).asked.kind (ses
 kind_asked (Cancels ∷ past) = kind_asked past
 kind_asked (Tells Unread ∷ past) = kind_asked past
 kind_asked (Tells Nothing ∷ past) = kind_asked past
+kind_asked (Tells (Returned value) ∷ past) = kind_asked past
+kind_asked (Tells Failed ∷ past) = kind_asked past
 kind_asked (Tells (Recovery states) ∷ past) = kind_asked past
 kind_asked (Tells (States ok all) ∷ past) = kind_asked past
 kind_asked (Tells (Value type value) ∷ past) = kind_asked past
@@ -53,6 +55,8 @@ no_call_cancelled (Cancels ∷ past) h =
     ap (λ (k : Request). is_call k || was_call_cancelled past) (sym (kind_asked past)) ∙ (ap (λ (b : Bool). b || was_call_cancelled past) parts.0 ∙ no_call_cancelled past parts.1)
 no_call_cancelled (Tells Unread ∷ past) h = no_call_cancelled past h
 no_call_cancelled (Tells Nothing ∷ past) h = no_call_cancelled past h
+no_call_cancelled (Tells (Returned value) ∷ past) h = no_call_cancelled past h
+no_call_cancelled (Tells Failed ∷ past) h = no_call_cancelled past h
 no_call_cancelled (Tells (Recovery states) ∷ past) h = no_call_cancelled past h
 no_call_cancelled (Tells (States ok all) ∷ past) h = no_call_cancelled past h
 no_call_cancelled (Tells (Value type value) ∷ past) h = no_call_cancelled past h
@@ -82,6 +86,8 @@ name_room (Goes bytes ∷ past) = sent_most (session_said past).asked.kind (sess
 name_room (Cancels ∷ past) = name_room past
 name_room (Tells Unread ∷ past) = name_room past
 name_room (Tells Nothing ∷ past) = name_room past
+name_room (Tells (Returned value) ∷ past) = name_room past
+name_room (Tells Failed ∷ past) = name_room past
 name_room (Tells (Recovery states) ∷ past) = name_room past
 name_room (Tells (States ok all) ∷ past) = name_room past
 name_room (Tells (Value type value) ∷ past) = name_room past
@@ -115,6 +121,8 @@ name_short (Goes bytes ∷ past) = sent_short (session_said past).asked.kind (se
 name_short (Cancels ∷ past) = name_short past
 name_short (Tells Unread ∷ past) = name_short past
 name_short (Tells Nothing ∷ past) = name_short past
+name_short (Tells (Returned value) ∷ past) = name_short past
+name_short (Tells Failed ∷ past) = name_short past
 name_short (Tells (Recovery states) ∷ past) = name_short past
 name_short (Tells (States ok all) ∷ past) = name_short past
 name_short (Tells (Value type value) ∷ past) = name_short past
@@ -140,11 +148,11 @@ calls_harmless more (Begins Batch (Some KeepTransaction) ∷ past) h m =
     calls_harmless [] past parts.0 (harmless_whole (session_said past).asked (name_short past) parts.1)
 calls_harmless more (Begins Procedure None ∷ past) h m =
     let parts = neither (session_said past).is_pinned (may_make_handles (session_said past).asked) h in
-    and_from (is_harmless (take 1024 more)) (are_harmless [] past) (not-false (is_harmless (take 1024 more)) m) (calls_harmless [] past parts.0 (harmless_whole (session_said past).asked (name_short past) parts.1))
-calls_harmless more (Begins Procedure (Some Full) ∷ past) h m = not-false (is_harmless (take 1024 more)) m
+    and_from (is_known_call (procedure_call (take 1024 more))) (are_harmless [] past) (not-false (is_known_call (procedure_call (take 1024 more))) m) (calls_harmless [] past parts.0 (harmless_whole (session_said past).asked (name_short past) parts.1))
+calls_harmless more (Begins Procedure (Some Full) ∷ past) h m = not-false (is_known_call (procedure_call (take 1024 more))) m
 calls_harmless more (Begins Procedure (Some KeepTransaction) ∷ past) h m =
     let parts = neither (session_said past).is_pinned (may_make_handles (session_said past).asked) h in
-    and_from (is_harmless (take 1024 more)) (are_harmless [] past) (not-false (is_harmless (take 1024 more)) m) (calls_harmless [] past parts.0 (harmless_whole (session_said past).asked (name_short past) parts.1))
+    and_from (is_known_call (procedure_call (take 1024 more))) (are_harmless [] past) (not-false (is_known_call (procedure_call (take 1024 more))) m) (calls_harmless [] past parts.0 (harmless_whole (session_said past).asked (name_short past) parts.1))
 calls_harmless more (Begins Other None ∷ past) h m =
     let parts = neither (session_said past).is_pinned (may_make_handles (session_said past).asked) h in
     calls_harmless [] past parts.0 (harmless_whole (session_said past).asked (name_short past) parts.1)
@@ -156,6 +164,8 @@ calls_harmless more (Goes bytes ∷ past) h m = calls_harmless (bytes ++ more) p
 calls_harmless more (Cancels ∷ past) h m = calls_harmless more past (neither (is_call (session_said past).asked.kind) (session_said past).is_pinned h).1 m
 calls_harmless more (Tells Unread ∷ past) h m = calls_harmless more past h m
 calls_harmless more (Tells Nothing ∷ past) h m = calls_harmless more past h m
+calls_harmless more (Tells (Returned value) ∷ past) h m = calls_harmless more past h m
+calls_harmless more (Tells Failed ∷ past) h m = calls_harmless more past h m
 calls_harmless more (Tells (Recovery states) ∷ past) h m = calls_harmless more past h m
 calls_harmless more (Tells (States ok all) ∷ past) h m = calls_harmless more past h m
 calls_harmless more (Tells (Value type value) ∷ past) h m = calls_harmless more past h m
@@ -186,6 +196,8 @@ answer_ended (Goes bytes ∷ past) h = answer_ended past h
 answer_ended (Cancels ∷ past) h = absurd (false≢true h)
 answer_ended (Tells Unread ∷ past) h = answer_ended past h
 answer_ended (Tells Nothing ∷ past) h = answer_ended past h
+answer_ended (Tells (Returned value) ∷ past) h = answer_ended past h
+answer_ended (Tells Failed ∷ past) h = answer_ended past h
 answer_ended (Tells (Recovery states) ∷ past) h = answer_ended past h
 answer_ended (Tells (States ok all) ∷ past) h = answer_ended past h
 answer_ended (Tells (Value type value) ∷ past) h = answer_ended past h
@@ -224,6 +236,8 @@ cancel_stops (Goes bytes ∷ past) h = cancel_stops past h
 cancel_stops (Cancels ∷ past) h = refl
 cancel_stops (Tells Unread ∷ past) h = cancel_stops past h
 cancel_stops (Tells Nothing ∷ past) h = cancel_stops past h
+cancel_stops (Tells (Returned value) ∷ past) h = cancel_stops past h
+cancel_stops (Tells Failed ∷ past) h = cancel_stops past h
 cancel_stops (Tells (Recovery states) ∷ past) h = cancel_stops past h
 cancel_stops (Tells (States ok all) ∷ past) h = cancel_stops past h
 cancel_stops (Tells (Value type value) ∷ past) h = cancel_stops past h

@@ -6,7 +6,7 @@ use Rattle.tds_packet.specs.declared.status.Reset.TheVariants.{Full, KeepTransac
 use Rattle.tds_state.specs.declared.asked.Asked.{Asked}
 use Rattle.tds_state.specs.declared.asked.Request.{Request}
 use Rattle.tds_state.specs.declared.asked.Request.TheVariants.{Batch, Procedure, Other}
-use Rattle.tds_state.specs.Hearing.{Unread, Nothing, Recovery, States, Value, Transaction, ResetDone, Done}
+use Rattle.tds_state.specs.Hearing.{Unread, Nothing, Recovery, States, Value, Transaction, ResetDone, Done, Returned, Failed}
 use Rattle.std.proofs.Common.{drop, subst}
 use Rattle.std.proofs.lemmas.Bool.{and_left, and_right, cases_eq, eq-eqb, ne_eqb}
 use Rattle.std.specs.Prelude.{◌==◌, nat_lt}
@@ -121,6 +121,8 @@ bulk_free body (Goes bytes ∷ past) h = bulk_free (bytes ++ body) past (sent_fr
 bulk_free body (Cancels ∷ past) h = bulk_free body past h
 bulk_free body (Tells Unread ∷ past) h = bulk_free body past h
 bulk_free body (Tells Nothing ∷ past) h = bulk_free body past h
+bulk_free body (Tells (Returned value) ∷ past) h = bulk_free body past h
+bulk_free body (Tells Failed ∷ past) h = bulk_free body past h
 bulk_free body (Tells (Recovery states) ∷ past) h = bulk_free body past h
 bulk_free body (Tells (States ok all) ∷ past) h = bulk_free body past h
 bulk_free body (Tells (Value type value) ∷ past) h = bulk_free body past h

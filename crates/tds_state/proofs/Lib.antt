@@ -11,4 +11,8 @@ pub mod Resting
 pub mod Tellings
 pub mod Letters
 pub mod Pieces
+pub mod Places
+pub mod Counting
+pub mod Keeping
+pub mod Exchanged
 mod Saying

@@ -5,7 +5,7 @@ use Rattle.std.specs.Prelude.{◌&&◌, ◌||◌, not}
 use Rattle.tds_packet.specs.declared.status.Reset.{Reset}
 use Rattle.tds_packet.specs.declared.status.Reset.TheVariants.{Full, KeepTransaction}
 use Rattle.tds_state.specs.declared.session.Session.{Session}
-use Rattle.tds_state.specs.Hearing.{Unread, Nothing, Recovery, States, Value, Transaction, ResetDone, Done}
+use Rattle.tds_state.specs.Hearing.{Unread, Nothing, Recovery, States, Value, Transaction, ResetDone, Done, Returned, Failed}
 use Rattle.tds_state.specs.Asking.{is_call, may_make_handles}
 use Rattle.tds_state.specs.KeptBytes.{KeptBytes, has_room, no_bytes_kept}
 use Rattle.tds_state.specs.Ledgers.{Ledger, back_if, begun_with, may_add, may_begin, no_values, value_noted}
@@ -24,6 +24,8 @@ at_login (Goes bytes ∷ past) = at_login past
 at_login (Cancels ∷ past) = at_login past
 at_login (Tells Unread ∷ past) = at_login past
 at_login (Tells Nothing ∷ past) = at_login past
+at_login (Tells (Returned value) ∷ past) = at_login past
+at_login (Tells Failed ∷ past) = at_login past
 at_login (Tells (Recovery states) ∷ past) = at_login past
 at_login (Tells (States ok all) ∷ past) = at_login past
 at_login (Tells (Value type value) ∷ past) = at_login past
@@ -42,6 +44,8 @@ reset_owed (Goes bytes ∷ past) = reset_owed past
 reset_owed (Cancels ∷ past) = reset_owed past
 reset_owed (Tells Unread ∷ past) = reset_owed past
 reset_owed (Tells Nothing ∷ past) = reset_owed past
+reset_owed (Tells (Returned value) ∷ past) = reset_owed past
+reset_owed (Tells Failed ∷ past) = reset_owed past
 reset_owed (Tells (Recovery states) ∷ past) = reset_owed past
 reset_owed (Tells (States ok all) ∷ past) = reset_owed past
 reset_owed (Tells (Value type value) ∷ past) = reset_owed past
@@ -75,6 +79,8 @@ room_stays (Goes bytes ∷ past) = room_stays past
 room_stays (Cancels ∷ past) = room_stays past
 room_stays (Tells Unread ∷ past) = room_stays past
 room_stays (Tells Nothing ∷ past) = room_stays past
+room_stays (Tells (Returned value) ∷ past) = room_stays past
+room_stays (Tells Failed ∷ past) = room_stays past
 room_stays (Tells (Recovery states) ∷ past) = begun_most (((session_said past).is_login && not (session_said past).is_acknowledged) && may_begin (session_said past).states states) (session_said past).states states ∙ room_stays past
 room_stays (Tells (States ok all) ∷ past) = ap (λ (k : KeptBytes). k.most) (noted_initial (session_said past).states ok all.states) ∙ room_stays past
 room_stays (Tells (Value type value) ∷ past) = room_stays past
@@ -98,6 +104,8 @@ acknowledged (Goes bytes ∷ past) h = acknowledged past h
 acknowledged (Cancels ∷ past) h = acknowledged past h
 acknowledged (Tells Unread ∷ past) h = acknowledged past h
 acknowledged (Tells Nothing ∷ past) h = acknowledged past h
+acknowledged (Tells (Returned value) ∷ past) h = acknowledged past h
+acknowledged (Tells Failed ∷ past) h = acknowledged past h
 acknowledged (Tells (Recovery states) ∷ past) h = ⊎_elim (λ b. or_left (not (was_asked past)) (was_acknowledged past) (sym (at_login past) ∙ began_at_login (session_said past) states b)) (λ a. or_right (not (was_asked past)) (was_acknowledged past) (acknowledged past a)) (or_cases (accepts_states (session_said past) states) (session_said past).is_acknowledged h)
 acknowledged (Tells (States ok all) ∷ past) h = acknowledged past h
 acknowledged (Tells (Value type value) ∷ past) h = acknowledged past h
@@ -119,6 +127,8 @@ all_read (Goes bytes ∷ past) h = all_read past h
 all_read (Cancels ∷ past) h = all_read past h
 all_read (Tells Unread ∷ past) h = absurd (true≢false h)
 all_read (Tells Nothing ∷ past) h = all_read past h
+all_read (Tells (Returned value) ∷ past) h = all_read past h
+all_read (Tells Failed ∷ past) h = all_read past h
 all_read (Tells (Recovery states) ∷ past) h =
     let parts = neither (not (accepts_states (session_said past) states)) (session_said past).is_lost h in
     let may = (and_parts ((session_said past).is_login && not (session_said past).is_acknowledged) (may_begin (session_said past).states states) (not-false (accepts_states (session_said past) states) parts.0)).1 in
@@ -144,6 +154,8 @@ recoverable (Goes bytes ∷ past) = recoverable past
 recoverable (Cancels ∷ past) = recoverable past
 recoverable (Tells Unread ∷ past) = recoverable past
 recoverable (Tells Nothing ∷ past) = recoverable past
+recoverable (Tells (Returned value) ∷ past) = recoverable past
+recoverable (Tells Failed ∷ past) = recoverable past
 recoverable (Tells (Recovery states) ∷ past) = recoverable past
 recoverable (Tells (States ok all) ∷ past) = refl
 recoverable (Tells (Value type value) ∷ past) = recoverable past
@@ -162,6 +174,8 @@ transaction_open (Goes bytes ∷ past) = transaction_open past
 transaction_open (Cancels ∷ past) = transaction_open past
 transaction_open (Tells Unread ∷ past) = transaction_open past
 transaction_open (Tells Nothing ∷ past) = transaction_open past
+transaction_open (Tells (Returned value) ∷ past) = transaction_open past
+transaction_open (Tells Failed ∷ past) = transaction_open past
 transaction_open (Tells (Recovery states) ∷ past) = transaction_open past
 transaction_open (Tells (States ok all) ∷ past) = transaction_open past
 transaction_open (Tells (Value type value) ∷ past) = transaction_open past
@@ -182,6 +196,8 @@ not_kept (Goes bytes ∷ past) h = not_kept past h
 not_kept (Cancels ∷ past) h = not_kept past (neither (is_call (session_said past).asked.kind) (session_said past).is_pinned h).1
 not_kept (Tells Unread ∷ past) h = not_kept past h
 not_kept (Tells Nothing ∷ past) h = not_kept past h
+not_kept (Tells (Returned value) ∷ past) h = not_kept past h
+not_kept (Tells Failed ∷ past) h = not_kept past h
 not_kept (Tells (Recovery states) ∷ past) h = not_kept past h
 not_kept (Tells (States ok all) ∷ past) h = not_kept past h
 not_kept (Tells (Value type value) ∷ past) h = not_kept past h
@@ -202,6 +218,8 @@ not_followed (Goes bytes ∷ past) h = not_followed past h
 not_followed (Cancels ∷ past) h = not_followed past (neither (is_call (session_said past).asked.kind) (session_said past).is_pinned h).1
 not_followed (Tells Unread ∷ past) h = not_followed past h
 not_followed (Tells Nothing ∷ past) h = not_followed past h
+not_followed (Tells (Returned value) ∷ past) h = not_followed past h
+not_followed (Tells Failed ∷ past) h = not_followed past h
 not_followed (Tells (Recovery states) ∷ past) h = not_followed past h
 not_followed (Tells (States ok all) ∷ past) h = not_followed past h
 not_followed (Tells (Value type value) ∷ past) h = not_followed past h

@@ -5,7 +5,7 @@ use Rattle.std.specs.Prelude.{◌&&◌, ◌||◌, not}
 use Rattle.tds_packet.specs.declared.status.Reset.{Reset}
 use Rattle.tds_packet.specs.declared.status.Reset.TheVariants.{Full, KeepTransaction}
 use Rattle.tds_state.specs.declared.session.Session.{Session}
-use Rattle.tds_state.specs.Hearing.{Unread, Nothing, Recovery, States, Value, Transaction, ResetDone, Done}
+use Rattle.tds_state.specs.Hearing.{Unread, Nothing, Recovery, States, Value, Transaction, ResetDone, Done, Returned, Failed}
 use Rattle.std.proofs.lemmas.Bool.{cases_eq, eq-eqb, ne_eqb, ltb-false}
 use Rattle.std.proofs.lemmas.List.{get_or-set_other, get_or-set_same, length-append, length-replicate, length-set, take_all}
 use Rattle.std.proofs.Common.{subst}
@@ -106,6 +106,8 @@ numbers (Goes bytes ∷ past) = numbers past
 numbers (Cancels ∷ past) = numbers past
 numbers (Tells Unread ∷ past) = numbers past
 numbers (Tells Nothing ∷ past) = numbers past
+numbers (Tells (Returned value) ∷ past) = numbers past
+numbers (Tells Failed ∷ past) = numbers past
 numbers (Tells (Recovery states) ∷ past) = begun_length (((session_said past).is_login && not (session_said past).is_acknowledged) && may_begin (session_said past).states states) (session_said past).states states ∙ numbers past
 numbers (Tells (States ok all) ∷ past) = all_noted_length (session_said past).states ok all.states ∙ numbers past
 numbers (Tells (Value type value) ∷ past) = numbers past
@@ -133,6 +135,8 @@ unacknowledged (Goes bytes ∷ past) h = unacknowledged past h
 unacknowledged (Cancels ∷ past) h = unacknowledged past h
 unacknowledged (Tells Unread ∷ past) h = unacknowledged past h
 unacknowledged (Tells Nothing ∷ past) h = unacknowledged past h
+unacknowledged (Tells (Returned value) ∷ past) h = unacknowledged past h
+unacknowledged (Tells Failed ∷ past) h = unacknowledged past h
 unacknowledged (Tells (Recovery states) ∷ past) h = empty_if (accepts_states (session_said past) states) (session_said past).is_acknowledged (session_said past).states states h (unacknowledged past (neither (accepts_states (session_said past) states) (session_said past).is_acknowledged h).1)
 unacknowledged (Tells (States ok all) ∷ past) h = ap (λ (k : KeptBytes). k.bytes) (noted_initial (session_said past).states ok all.states) ∙ unacknowledged past h
 unacknowledged (Tells (Value type value) ∷ past) h = unacknowledged past h
@@ -156,6 +160,8 @@ state_home id few (Goes bytes ∷ past) h = state_home id few past h
 state_home id few (Cancels ∷ past) h = state_home id few past h
 state_home id few (Tells Unread ∷ past) h = state_home id few past h
 state_home id few (Tells Nothing ∷ past) h = state_home id few past h
+state_home id few (Tells (Returned value) ∷ past) h = state_home id few past h
+state_home id few (Tells Failed ∷ past) h = state_home id few past h
 state_home id few (Tells (Recovery states) ∷ past) h = begun_home (accepts_states (session_said past) states) (session_said past).states states id (newest_state id past) (λ b. unacknowledged past (first_begins (session_said past) states b)) (state_home id few past) h
 state_home id few (Tells (States ok all) ∷ past) h =
     let room : id < length (session_said past).states.astray = omega (arith, few, numbers past) in
@@ -189,6 +195,8 @@ states_begun (Goes bytes ∷ past) h = states_begun past h
 states_begun (Cancels ∷ past) h = states_begun past h
 states_begun (Tells Unread ∷ past) h = absurd (true≢false h)
 states_begun (Tells Nothing ∷ past) h = states_begun past h
+states_begun (Tells (Returned value) ∷ past) h = states_begun past h
+states_begun (Tells Failed ∷ past) h = states_begun past h
 states_begun (Tells (Recovery states) ∷ past) h =
     let is = not-false (accepts_states (session_said past) states) (neither (not (accepts_states (session_said past) states)) (session_said past).is_lost h).0 in
     begun_bytes (accepts_states (session_said past) states) (session_said past).states states is (and_parts ((session_said past).is_login && not (session_said past).is_acknowledged) (may_begin (session_said past).states states) is).1
@@ -233,6 +241,8 @@ types (Goes bytes ∷ past) = types past
 types (Cancels ∷ past) = types past
 types (Tells Unread ∷ past) = types past
 types (Tells Nothing ∷ past) = types past
+types (Tells (Returned value) ∷ past) = types past
+types (Tells Failed ∷ past) = types past
 types (Tells (Recovery states) ∷ past) = types past
 types (Tells (States ok all) ∷ past) = types past
 types (Tells (Value type value) ∷ past) = taken_length (session_said past).is_login (session_said past).changes type value ∙ types past
@@ -255,6 +265,8 @@ none_at_login type (Goes bytes ∷ past) h = none_at_login type past h
 none_at_login type (Cancels ∷ past) h = none_at_login type past h
 none_at_login type (Tells Unread ∷ past) h = none_at_login type past h
 none_at_login type (Tells Nothing ∷ past) h = none_at_login type past h
+none_at_login type (Tells (Returned value) ∷ past) h = none_at_login type past h
+none_at_login type (Tells Failed ∷ past) h = none_at_login type past h
 none_at_login type (Tells (Recovery states) ∷ past) h = none_at_login type past h
 none_at_login type (Tells (States ok all) ∷ past) h = none_at_login type past h
 none_at_login type (Tells (Value other value) ∷ past) h =
@@ -285,6 +297,8 @@ value_home type few (Goes bytes ∷ past) h = value_home type few past h
 value_home type few (Cancels ∷ past) h = value_home type few past h
 value_home type few (Tells Unread ∷ past) h = value_home type few past h
 value_home type few (Tells Nothing ∷ past) h = value_home type few past h
+value_home type few (Tells (Returned value) ∷ past) h = value_home type few past h
+value_home type few (Tells Failed ∷ past) h = value_home type few past h
 value_home type few (Tells (Recovery states) ∷ past) h = value_home type few past h
 value_home type few (Tells (States ok all) ∷ past) h = value_home type few past h
 value_home type few (Tells (Value other value) ∷ past) h =
@@ -314,6 +328,8 @@ values_room (Goes bytes ∷ past) = values_room past
 values_room (Cancels ∷ past) = values_room past
 values_room (Tells Unread ∷ past) = values_room past
 values_room (Tells Nothing ∷ past) = values_room past
+values_room (Tells (Returned value) ∷ past) = values_room past
+values_room (Tells Failed ∷ past) = values_room past
 values_room (Tells (Recovery states) ∷ past) = values_room past
 values_room (Tells (States ok all) ∷ past) = values_room past
 values_room (Tells (Value type value) ∷ past) = taken_most (session_said past).is_login (session_said past).changes type value ∙ values_room past
@@ -348,6 +364,8 @@ values_begun (Goes bytes ∷ past) h = values_begun past h
 values_begun (Cancels ∷ past) h = values_begun past h
 values_begun (Tells Unread ∷ past) h = absurd (true≢false h)
 values_begun (Tells Nothing ∷ past) h = values_begun past h
+values_begun (Tells (Returned value) ∷ past) h = values_begun past h
+values_begun (Tells Failed ∷ past) h = values_begun past h
 values_begun (Tells (Recovery states) ∷ past) h = values_begun past (neither (not (accepts_states (session_said past) states)) (session_said past).is_lost h).1
 values_begun (Tells (States ok all) ∷ past) h = values_begun past (neither (not all.is_whole) (session_said past).is_lost h).1
 values_begun (Tells (Value type value) ∷ past) h =

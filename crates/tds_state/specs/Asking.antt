@@ -1,10 +1,13 @@
 -- What of a request may leave behind what a server doesn't tell. Its body is what stands behind ALL_HEADERS (MS-TDS 2.2.5.3).
-use Rattle.std.specs.Prelude.{ℕ, ◌+◌, ◌*◌, ◌==◌, ◌&&◌, ◌||◌, not, nat_lt, Bool, true, false, List, [], ◌∷◌, length, take, get_or, if◌then◌else◌}
+use Rattle.std.specs.Prelude.{ℕ, ◌+◌, ◌*◌, ◌==◌, ◌&&◌, ◌||◌, not, nat_lt, Bool, true, false, List, [], ◌∷◌, length, take, drop, get_or, Option, Some, None, if◌then◌else◌}
 use Rattle.std.specs.Str.{bytes_eq}
 use Rattle.tds_state.specs.declared.asked.Asked.{Asked}
+use Rattle.tds_state.specs.declared.asked.Call.{Call}
+use Rattle.tds_state.specs.declared.asked.Call.TheVariants as calls
 use Rattle.tds_state.specs.declared.asked.Request.{Request}
 use Rattle.tds_state.specs.declared.asked.Request.TheVariants.{Batch, Procedure, Other}
 use Rattle.tds_state.specs.KeptBytes.{no_bytes_kept, with_more_kept}
+use Rattle.tds_state.specs.Spots.{four_bytes, bytes_stand}
 
 -- ---- Letters, of two bytes each, the lowest first
 
@@ -52,16 +55,72 @@ abbrev pub execute_name : List ℕ
 execute_name =
     115 ∷ 0 ∷ 112 ∷ 0 ∷ 95 ∷ 0 ∷ 101 ∷ 0 ∷ 120 ∷ 0 ∷ 101 ∷ 0 ∷ 99 ∷ 0 ∷ 117 ∷ 0 ∷ 116 ∷ 0 ∷ 101 ∷ 0 ∷ 115 ∷ 0 ∷ 113 ∷ 0 ∷ 108 ∷ 0 ∷ []
 
-abbrev pub is_harmless_name : List ℕ → Bool
-is_harmless_name name = bytes_eq name execute_name || is_plain_name name
+-- `sp_execute`: the text of a handle is run
+abbrev pub run_name : List ℕ
+run_name = 115 ∷ 0 ∷ 112 ∷ 0 ∷ 95 ∷ 0 ∷ 101 ∷ 0 ∷ 120 ∷ 0 ∷ 101 ∷ 0 ∷ 99 ∷ 0 ∷ 117 ∷ 0 ∷ 116 ∷ 0 ∷ 101 ∷ 0 ∷ []
 
--- `sp_executesql` by its number, 10, or by its name; or a plain name
+abbrev pub is_harmless_name : List ℕ → Bool
+is_harmless_name name = bytes_eq name execute_name || (bytes_eq name run_name || is_plain_name name)
+
+-- `sp_executesql` or `sp_execute` by its number, 10 or 12, or by its name; or a plain name
 unfoldable pub is_harmless : List ℕ → Bool
 is_harmless [] = false
 is_harmless (a ∷ []) = false
 is_harmless (a ∷ b ∷ behind) =
-    if (a == 255) && (b == 255) then bytes_eq (take 2 behind) (10 ∷ 0 ∷ [])
+    if (a == 255) && (b == 255) then (bytes_eq (take 2 behind) (10 ∷ 0 ∷ []) || bytes_eq (take 2 behind) (12 ∷ 0 ∷ []))
     else not (nat_lt (length behind) (2 * (a + 256 * b))) && is_harmless_name (take (2 * (a + 256 * b)) behind)
+
+-- ---- Calls that make a handle or close one: their number or their name, two bytes of options, and parameters, each the length of its
+-- name, a byte (1: it is returned), its type (26 04: a number of four bytes) and its value behind its length
+
+abbrev pub prepare_number : List ℕ
+prepare_number = 255 ∷ 255 ∷ 11 ∷ 0 ∷ []
+
+abbrev pub prepare_name : List ℕ
+prepare_name = 10 ∷ 0 ∷ 115 ∷ 0 ∷ 112 ∷ 0 ∷ 95 ∷ 0 ∷ 112 ∷ 0 ∷ 114 ∷ 0 ∷ 101 ∷ 0 ∷ 112 ∷ 0 ∷ 97 ∷ 0 ∷ 114 ∷ 0 ∷ 101 ∷ 0 ∷ []
+
+abbrev pub prepexec_number : List ℕ
+prepexec_number = 255 ∷ 255 ∷ 13 ∷ 0 ∷ []
+
+abbrev pub prepexec_name : List ℕ
+prepexec_name = 11 ∷ 0 ∷ 115 ∷ 0 ∷ 112 ∷ 0 ∷ 95 ∷ 0 ∷ 112 ∷ 0 ∷ 114 ∷ 0 ∷ 101 ∷ 0 ∷ 112 ∷ 0 ∷ 101 ∷ 0 ∷ 120 ∷ 0 ∷ 101 ∷ 0 ∷ 99 ∷ 0 ∷ []
+
+abbrev pub unprepare_number : List ℕ
+unprepare_number = 255 ∷ 255 ∷ 15 ∷ 0 ∷ []
+
+abbrev pub unprepare_name : List ℕ
+unprepare_name = 12 ∷ 0 ∷ 115 ∷ 0 ∷ 112 ∷ 0 ∷ 95 ∷ 0 ∷ 117 ∷ 0 ∷ 110 ∷ 0 ∷ 112 ∷ 0 ∷ 114 ∷ 0 ∷ 101 ∷ 0 ∷ 112 ∷ 0 ∷ 97 ∷ 0 ∷ 114 ∷ 0 ∷ 101 ∷ 0 ∷ []
+
+-- its first parameter has no name, and is a number of four bytes that is returned
+abbrev pub prepares_by : List ℕ → List ℕ → Bool
+prepares_by head front = bytes_stand head 0 front && bytes_stand (drop (length front) head) 2 (0 ∷ 1 ∷ 38 ∷ 4 ∷ [])
+
+abbrev pub prepares : List ℕ → Bool
+prepares head =
+    (prepares_by head prepare_number || prepares_by head prepexec_number) || (prepares_by head prepare_name || prepares_by head prepexec_name)
+
+-- its only parameter has no name, and is this number of four bytes, with which the request ends
+abbrev pub unprepared_handle : List ℕ → List ℕ → Option ℕ
+unprepared_handle head front =
+    if bytes_stand head 0 front && bytes_stand (drop (length front) head) 2 (0 ∷ 0 ∷ 38 ∷ 4 ∷ 4 ∷ []) then four_bytes (drop 7 (drop (length front) head))
+    else None
+
+abbrev pub unprepares_or : Option ℕ → Call → Call
+unprepares_or (Some handle) other = calls.Unprepares handle
+unprepares_or None other = other
+
+abbrev pub unprepares : List ℕ → Call
+unprepares head = unprepares_or (unprepared_handle head unprepare_number) (unprepares_or (unprepared_handle head unprepare_name) calls.Unknown)
+
+-- what a call is of which these are the first bytes
+abbrev pub procedure_call : List ℕ → Call
+procedure_call head = if is_harmless head then calls.Harmless else if prepares head then calls.Prepares else unprepares head
+
+abbrev pub is_known_call : Call → Bool
+is_known_call calls.Harmless = true
+is_known_call calls.Prepares = true
+is_known_call (calls.Unprepares handle) = true
+is_known_call calls.Unknown = false
 
 -- ---- The letters `bulk` in a batch: behind `insert bulk`, the rows come with the next request
 
@@ -93,12 +152,20 @@ body_sent_by Other a bytes = a
 abbrev pub with_body : Asked → List ℕ → Asked
 with_body a bytes = body_sent_by a.kind a bytes
 
--- it may make what a server doesn't tell, as a prepared handle
+abbrev pub call_by : Request → List ℕ → Call
+call_by Batch head = calls.Harmless
+call_by Procedure head = procedure_call head
+call_by Other head = calls.Harmless
+
+abbrev pub asked_call : Asked → Call
+asked_call a = call_by a.kind a.head.bytes
+
 abbrev pub makes_by : Request → List ℕ → Bool
 makes_by Batch head = false
-makes_by Procedure head = not (is_harmless head)
+makes_by Procedure head = not (is_known_call (procedure_call head))
 makes_by Other head = false
 
+-- it may make what a server doesn't tell, and that isn't counted
 abbrev pub may_make_handles : Asked → Bool
 may_make_handles a = makes_by a.kind a.head.bytes
 

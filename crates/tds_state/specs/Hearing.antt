@@ -7,6 +7,7 @@ use Rattle.tds_wire.specs.declared.told.Told.{Told}
 use Rattle.tds_wire.specs.declared.told.Told.TheVariants as told
 use Rattle.tds_wire.specs.declared.told.Token.{Token}
 use Rattle.tds_state.specs.declared.states.StateSpot.{StateSpot}
+use Rattle.tds_state.specs.Spots.{four_bytes, bytes_stand}
 use Rattle.tds_state.specs.States.{Listed, behind_state, states_listed, spot_with, state_value}
 
 -- ---- FEATUREEXTACK (MS-TDS 2.2.7.11): features, each its number, the length of its data in four bytes, and these; FF behind the last one
@@ -49,6 +50,13 @@ new_value type (a ∷ b ∷ c ∷ d ∷ []) = None
 new_value type (a ∷ b ∷ c ∷ d ∷ count ∷ behind) =
     if nat_lt (length behind) (value_length type count) then None else Some (take (value_length type count) behind)
 
+-- ---- RETURNVALUE (2.2.7.19): its place, the length of its name, a byte (1: of a parameter), six more, its type (26 04: a number of four
+-- bytes) and its value behind its length
+
+-- the number of a parameter without a name
+abbrev pub returned_value : List ℕ → Option ℕ
+returned_value bytes = if bytes_stand bytes 3 (0 ∷ 1 ∷ []) && bytes_stand bytes 11 (38 ∷ 4 ∷ 4 ∷ []) then four_bytes (drop 14 bytes) else None
+
 -- ---- Any token
 
 pub data Heard : Type 0 where
@@ -67,6 +75,10 @@ pub data Heard : Type 0 where
   ResetDone : Heard
   -- a DONE of this kind with this status
   Done : ℕ → ℕ → Heard
+  -- a value is returned, this number of four bytes or another one
+  Returned : Option ℕ → Heard
+  -- an error is told
+  Failed : Heard
 
 abbrev pub is_kept_whole : Token → List ℕ → Bool
 is_kept_whole token bytes = token.length == length bytes
@@ -98,14 +110,27 @@ news_of_states number is_recoverable token bytes =
 abbrev pub news_of_features : Token → List ℕ → Heard
 news_of_features token bytes = if is_kept_whole token bytes then recovered (recovery (drop 1 bytes)) else Unread
 
+abbrev pub news_of_returned : Token → List ℕ → Heard
+news_of_returned token bytes = Returned (if is_kept_whole token bytes then returned_value bytes else None)
+
+abbrev pub error_news : ℕ → Heard
+error_news kind = if kind == 0xAA then Failed else Nothing
+
+abbrev pub unclear_news : ℕ → Heard
+unclear_news kind = if (kind == 0xE3) || (kind == 0xE4) then Unread else error_news kind
+
+abbrev pub other_news : Token → List ℕ → Heard
+other_news token bytes =
+    if token.kind == 0xAE then news_of_features token bytes else if token.kind == 0xAC then news_of_returned token bytes else Nothing
+
 abbrev pub news_by : Told → Token → List ℕ → Heard
 news_by (told.Done done) token bytes = Done token.kind done.status
 news_by (told.Change change) token bytes = news_of_change change.value change.kind token bytes
-news_by (told.Message message) token bytes = Nothing
+news_by (told.Message message) token bytes = error_news token.kind
 news_by (told.ReturnStatus value) token bytes = Nothing
 news_by (told.SessionState state) token bytes = news_of_states state.sequence state.is_recoverable token bytes
-news_by told.Unclear token bytes = if (token.kind == 0xE3) || (token.kind == 0xE4) then Unread else Nothing
-news_by told.Other token bytes = if token.kind == 0xAE then news_of_features token bytes else Nothing
+news_by told.Unclear token bytes = unclear_news token.kind
+news_by told.Other token bytes = other_news token bytes
 
 -- this token, with these bytes
 abbrev pub state_news : Token → List ℕ → Heard

@@ -1,8 +1,11 @@
 pub mod KeptBytes
 pub mod States
+pub mod Spots
 pub mod Asking
+pub mod Handles
 pub mod Ledgers
 pub mod Hearing
 pub mod Sessions
 pub mod Tracking
 pub mod Pasts
+pub mod Exchanges

@@ -5,7 +5,7 @@ use Rattle.tds_packet.specs.declared.status.Reset.TheVariants.{Full, KeepTransac
 use Rattle.tds_state.specs.declared.asked.Request.{Request}
 use Rattle.tds_state.specs.declared.asked.Request.TheVariants.{Batch, Procedure, Other}
 use Rattle.tds_state.specs.declared.session.Session.{Session}
-use Rattle.tds_state.specs.Asking.{bulk, is_call, is_harmless, small}
+use Rattle.tds_state.specs.Asking.{bulk, procedure_call, is_call, is_known_call, small}
 use Rattle.tds_state.specs.Hearing.{Heard, Unread, Recovery, States, Value, Transaction, ResetDone, Done}
 use Rattle.tds_state.specs.Ledgers.{may_begin, no_values, state_bytes}
 use Rattle.tds_state.specs.Sessions.{session_asked, session_cancelled, session_ended, session_told, is_followed, is_full_reset, keeps_open, transaction_left, session_at_login, session_sent}
@@ -139,13 +139,13 @@ newest_value type (r ∷ past) = newest_value type past
 
 -- ---- What was asked since a full reset was asked for: the request that asks comes behind it
 
--- each call is harmless; of a call, 1,024 bytes count
+-- of each call is known what it leaves, a handle at most; of a call, 1,024 bytes count
 unfoldable pub are_harmless : List ℕ → List Remark → Bool
 are_harmless body [] = true
 are_harmless body (Goes bytes ∷ past) = are_harmless (bytes ++ body) past
-are_harmless body (Begins Procedure None ∷ past) = is_harmless (take 1024 body) && are_harmless [] past
-are_harmless body (Begins Procedure (Some Full) ∷ past) = is_harmless (take 1024 body)
-are_harmless body (Begins Procedure (Some KeepTransaction) ∷ past) = is_harmless (take 1024 body) && are_harmless [] past
+are_harmless body (Begins Procedure None ∷ past) = is_known_call (procedure_call (take 1024 body)) && are_harmless [] past
+are_harmless body (Begins Procedure (Some Full) ∷ past) = is_known_call (procedure_call (take 1024 body))
+are_harmless body (Begins Procedure (Some KeepTransaction) ∷ past) = is_known_call (procedure_call (take 1024 body)) && are_harmless [] past
 are_harmless body (Begins Batch (Some Full) ∷ past) = true
 are_harmless body (Begins Other (Some Full) ∷ past) = true
 are_harmless body (Begins kind reset ∷ past) = are_harmless [] past

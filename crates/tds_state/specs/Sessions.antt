@@ -7,8 +7,11 @@ use Rattle.tds_state.specs.declared.asked.Request.TheVariants.{Other}
 use Rattle.tds_state.specs.declared.session.Flight.{Flight}
 use Rattle.tds_state.specs.declared.session.Flight.TheVariants.{Quiet, Asked, Cancelled, Stopped}
 use Rattle.tds_state.specs.declared.session.Session.{Session}
-use Rattle.tds_state.specs.Asking.{request_begun, is_call, may_make_handles, with_body}
-use Rattle.tds_state.specs.Hearing.{Heard, Unread, Nothing, Recovery, States, Value, Transaction, ResetDone, Done}
+use Rattle.tds_state.specs.declared.asked.Call.{Call}
+use Rattle.tds_state.specs.declared.handles.Handles.{Handles}
+use Rattle.tds_state.specs.Asking.{asked_call, request_begun, is_call, may_make_handles, with_body}
+use Rattle.tds_state.specs.Handles.{are_closed, failed_if, handles_begun, handles_settled, no_handles, value_returned}
+use Rattle.tds_state.specs.Hearing.{Heard, Unread, Nothing, Recovery, States, Value, Transaction, ResetDone, Done, Returned, Failed}
 use Rattle.tds_state.specs.KeptBytes.{no_bytes_kept}
 use Rattle.tds_state.specs.Ledgers.{Ledger, back_if, begun_if, is_home, may_add, may_begin, no_values, value_noted, value_taken_in}
 use Rattle.tds_state.specs.States.{Listed, OneState}
@@ -28,6 +31,7 @@ session_at_login = record {
   asked = record { kind = Other; head = no_bytes_kept 1024; letters = 0 };
   states = no_values 7168;
   changes = no_values 1024;
+  handles = no_handles;
 }
 
 -- ---- A request (MS-TDS 2.2.3.1.2 on resets)
@@ -50,6 +54,12 @@ abbrev pub reset_owed_by : Option Reset → Option Reset → Option Reset
 reset_owed_by None owed = owed
 reset_owed_by (Some reset) owed = Some reset
 
+abbrev pub is_quiet : Flight → Bool
+is_quiet Quiet = true
+is_quiet Asked = false
+is_quiet Cancelled = false
+is_quiet Stopped = false
+
 abbrev pub session_asked : Session → Request → Option Reset → Session
 session_asked s kind reset = record s {
   is_login = false;
@@ -57,6 +67,7 @@ session_asked s kind reset = record s {
   owed = reset_owed_by reset s.owed;
   flight = Asked;
   asked = request_begun s.asked kind;
+  handles = handles_begun (is_full_reset reset) (is_quiet s.flight) (asked_call s.asked) s.handles;
 }
 
 -- bytes of its body
@@ -125,10 +136,15 @@ flight_stopped is_stop Stopped = Stopped
 abbrev pub is_followed : ℕ → ℕ → Bool
 is_followed kind status = (kind == 0xFE) && (status / 128 % 2 == 1)
 
+-- it ends in an error (2.2.7.6)
+abbrev pub ends_in_error : ℕ → Bool
+ends_in_error status = (status / 2 % 2 == 1) || (status / 256 % 2 == 1)
+
 abbrev pub done_told : Session → ℕ → ℕ → Session
 done_told s kind status = record s {
   is_pinned = is_followed kind status || s.is_pinned;
   flight = flight_stopped (status / 32 % 2 == 1) s.flight;
+  handles = failed_if (ends_in_error status) s.handles;
 }
 
 abbrev pub session_told : Session → Heard → Session
@@ -140,6 +156,8 @@ session_told s (Value type value) = value_told s type value
 session_told s (Transaction descriptor) = record s { transaction = descriptor }
 session_told s ResetDone = reset_done_told s
 session_told s (Done kind status) = done_told s kind status
+session_told s (Returned value) = record s { handles = value_returned value s.handles }
+session_told s Failed = record s { handles = failed_if true s.handles }
 
 -- ---- The end of a message of the server's
 
@@ -156,16 +174,21 @@ awaits_by Asked awaits = false
 awaits_by Cancelled awaits = awaits
 awaits_by Stopped awaits = true
 
+-- the answer that was due is whole: what its call makes or closes counts now
+abbrev pub flight_settled : Flight → Call → Handles → Handles
+flight_settled Quiet call h = h
+flight_settled Asked call h = handles_settled call h
+flight_settled Cancelled call h = h
+flight_settled Stopped call h = h
+
 abbrev pub session_ended : Session → Session
-session_ended s = record s { flight = ended_flight s.flight; awaits = awaits_by s.flight s.awaits }
+session_ended s = record s {
+  flight = ended_flight s.flight;
+  awaits = awaits_by s.flight s.awaits;
+  handles = flight_settled s.flight (asked_call s.asked) s.handles;
+}
 
 -- ---- Whether it rests
-
-abbrev pub is_quiet : Flight → Bool
-is_quiet Quiet = true
-is_quiet Asked = false
-is_quiet Cancelled = false
-is_quiet Stopped = false
 
 abbrev pub is_owed : Option Reset → Bool
 is_owed None = false
@@ -175,9 +198,10 @@ is_owed (Some reset) = true
 abbrev pub is_told_home : Session → Bool
 is_told_home s = s.is_acknowledged && (not s.is_lost && (s.is_recoverable && (is_home s.states && is_home s.changes)))
 
--- no transaction, no reset to come, nothing that isn't told
+-- no transaction, no reset to come, no handle, nothing that isn't told
 abbrev pub has_nothing_open : Session → Bool
-has_nothing_open s = (s.transaction == 0) && (not (is_owed s.owed) && (not s.is_pinned && not (may_make_handles s.asked)))
+has_nothing_open s =
+    (s.transaction == 0) && (not (is_owed s.owed) && (not s.is_pinned && (not (may_make_handles s.asked) && are_closed s.handles)))
 
 -- no answer is due, and nothing that belongs to the last request
 abbrev pub has_nothing_due : Session → Bool

@@ -9,9 +9,9 @@ use Rattle.tds_state.specs.Sessions.{session_told, session_at_login}
 abbrev pub new_tracker : Tracker
 new_tracker = record { session = session_at_login; partial = no_bytes_kept 8192 }
 
--- ENVCHANGE, SESSIONSTATE and FEATUREEXTACK are kept, up to the most; of any other token its first byte
+-- ENVCHANGE, SESSIONSTATE, FEATUREEXTACK and RETURNVALUE are kept, up to the most; of any other token its first byte
 abbrev pub is_needed : ℕ → Bool
-is_needed kind = (kind == 0xE3) || (kind == 0xE4) || (kind == 0xAE)
+is_needed kind = (kind == 0xE3) || (kind == 0xE4) || (kind == 0xAE) || (kind == 0xAC)
 
 abbrev pub needed : KeptBytes → List ℕ → List ℕ
 needed k more = if is_needed (get_or (k.bytes ++ more) 0 0) then more else take (1 - length k.bytes) more

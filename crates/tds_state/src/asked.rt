@@ -1,12 +1,13 @@
 //! What of a request may leave behind what a server doesn't tell. No SQL is read for it but four letters.
 
 ghost use Rattle.std.specs.Prelude.{◌≡◌, IfOk};
-ghost use Rattle.tds_state.specs.Asking.{request_begun, is_call, is_harmless, is_harmless_name, is_plain_behind, is_plain_first, is_plain_letter, is_system_part, letter_of, letters_after, letters_next, may_make_handles, small, with_body};
+ghost use Rattle.tds_state.specs.Asking.{asked_call, procedure_call, request_begun, is_call, is_harmless, is_harmless_name, is_known_call, is_plain_behind, is_plain_first, is_plain_letter, is_system_part, letter_of, letters_after, letters_next, may_make_handles, prepares, prepares_by, small, unprepared_handle, unprepares, with_body};
 ghost use Rattle.tds_state.specs.KeptBytes.{no_bytes_kept};
 ghost use Rattle.tds_state.specs.declared.asked.Request.TheVariants.{Other};
 
 use crate::NoMemory;
 use crate::kept::{Kept, behind};
+use crate::spots::{bytes_stand, four_bytes};
 use std::alloc::Global;
 
 /// What a request is, as far as it matters here.
@@ -18,6 +19,19 @@ pub enum Request {
     Procedure,
     /// Rows of a bulk load, or a transaction manager request.
     Other,
+}
+
+/// What a request leaves behind that a server doesn't tell.
+#[derive(Clone, Copy, Debug, PartialEq, Eq)]
+pub enum Call {
+    /// Nothing.
+    Harmless,
+    /// The handle that its answer returns.
+    Prepares,
+    /// This handle isn't open any more.
+    Unprepares(u32),
+    /// It may be anything.
+    Unknown,
 }
 
 /// The newest request, as far as its body has come.
@@ -35,6 +49,22 @@ const HEAD: usize = 1_024;
 
 /// `sp_executesql`, two bytes a letter.
 const EXECUTE: [u8; 26] = *b"s\0p\0_\0e\0x\0e\0c\0u\0t\0e\0s\0q\0l\0";
+
+/// `sp_execute`.
+const RUN: [u8; 20] = *b"s\0p\0_\0e\0x\0e\0c\0u\0t\0e\0";
+
+/// `sp_prepare`, `sp_prepexec` and `sp_unprepare`, by their numbers, and by their names behind the count of letters.
+const PREPARE: [u8; 4] = [0xff, 0xff, 11, 0];
+
+const PREPARE_NAME: [u8; 22] = *b"\x0a\0s\0p\0_\0p\0r\0e\0p\0a\0r\0e\0";
+
+const PREPEXEC: [u8; 4] = [0xff, 0xff, 13, 0];
+
+const PREPEXEC_NAME: [u8; 24] = *b"\x0b\0s\0p\0_\0p\0r\0e\0p\0e\0x\0e\0c\0";
+
+const UNPREPARE: [u8; 4] = [0xff, 0xff, 15, 0];
+
+const UNPREPARE_NAME: [u8; 26] = *b"\x0c\0s\0p\0_\0u\0n\0p\0r\0e\0p\0a\0r\0e\0";
 
 /// `bulk`, two bytes a letter.
 const BULK: [u8; 8] = *b"b\0u\0l\0k\0";
@@ -113,7 +143,8 @@ fn is_plain_behind(name: &[u8]) -> bool
 fn is_harmless_name(name: &[u8]) -> bool
     ensures { result ≡ is_harmless_name name.now }
 {
-    name == EXECUTE.as_slice() || (!is_system_part(name) && is_plain_behind(name))
+    name == EXECUTE.as_slice()
+        || (name == RUN.as_slice() || (!is_system_part(name) && is_plain_behind(name)))
 }
 
 /// Whether a call of which these are the first bytes leaves nothing behind that a server doesn't tell.
@@ -123,12 +154,74 @@ fn is_harmless(head: &[u8]) -> bool
 {
     match head {
         [0xff, 0xff, 10, 0, ..] => true,
+        [0xff, 0xff, 12, 0, ..] => true,
         [0xff, 0xff, ..] => false,
         [a, b, behind @ ..] => {
             let count = 2 * (usize::from(*a) + 256 * usize::from(*b));
             count <= behind.len() && is_harmless_name(&behind[..count])
         }
         _ => false,
+    }
+}
+
+/// Whether a call begins so, and its first parameter is a number without a name that is returned.
+fn prepares_by(head: &[u8], front: &[u8]) -> bool
+    ensures { result ≡ prepares_by head.now front.now }
+{
+    bytes_stand(head, 0, front) && bytes_stand(behind(head, front.len()), 2, &[0, 1, 0x26, 4])
+}
+
+fn prepares(head: &[u8]) -> bool
+    ensures { result ≡ prepares head.now }
+{
+    (prepares_by(head, PREPARE.as_slice()) || prepares_by(head, PREPEXEC.as_slice()))
+        || (prepares_by(head, PREPARE_NAME.as_slice())
+            || prepares_by(head, PREPEXEC_NAME.as_slice()))
+}
+
+/// The handle that a call which begins so closes: it is its only parameter, a number without a name.
+fn unprepared_handle(head: &[u8], front: &[u8]) -> Option<u32>
+    ensures { result ≡ unprepared_handle head.now front.now }
+{
+    let rest = behind(head, front.len());
+    if bytes_stand(head, 0, front) && bytes_stand(rest, 2, &[0, 0, 0x26, 4, 4]) {
+        four_bytes(behind(rest, 7))
+    } else {
+        None
+    }
+}
+
+fn unprepares(head: &[u8]) -> Call
+    ensures { result ≡ unprepares head.now }
+{
+    if let Some(handle) = unprepared_handle(head, UNPREPARE.as_slice()) {
+        return Call::Unprepares(handle);
+    }
+    match unprepared_handle(head, UNPREPARE_NAME.as_slice()) {
+        Some(handle) => Call::Unprepares(handle),
+        None => Call::Unknown,
+    }
+}
+
+/// What a call is of which these are the first bytes.
+fn procedure_call(head: &[u8]) -> Call
+    ensures { result ≡ procedure_call head.now }
+{
+    if is_harmless(head) {
+        Call::Harmless
+    } else if prepares(head) {
+        Call::Prepares
+    } else {
+        unprepares(head)
+    }
+}
+
+fn is_known_call(call: Call) -> bool
+    ensures { result ≡ is_known_call call }
+{
+    match call {
+        Call::Harmless | Call::Prepares | Call::Unprepares(_) => true,
+        Call::Unknown => false,
     }
 }
 
@@ -190,12 +283,22 @@ impl Asked {
         }
     }
 
-    /// Whether it may make what a server doesn't tell, as a prepared handle.
+    /// What it leaves behind.
+    pub(crate) fn call(&self) -> Call
+        ensures { result ≡ asked_call self.now }
+    {
+        match self.kind {
+            Request::Procedure => procedure_call(self.head.bytes()),
+            Request::Batch | Request::Other => Call::Harmless,
+        }
+    }
+
+    /// Whether it may make what a server doesn't tell, and that isn't counted.
     pub(crate) fn may_make_handles(&self) -> bool
         ensures { result ≡ may_make_handles self.now }
     {
         match self.kind {
-            Request::Procedure => !is_harmless(self.head.bytes()),
+            Request::Procedure => !is_known_call(procedure_call(self.head.bytes())),
             Request::Batch | Request::Other => false,
         }
     }

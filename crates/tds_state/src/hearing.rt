@@ -1,8 +1,11 @@
-//! Reads what FEATUREEXTACK and ENVCHANGE say (MS-TDS 2.2.7.11, 2.2.7.9).
+//! Reads what FEATUREEXTACK, ENVCHANGE and RETURNVALUE say (MS-TDS 2.2.7.11, 2.2.7.9, 2.2.7.19).
 
 ghost use Rattle.std.specs.Prelude.{◌≡◌, ◌≤◌, ◌<◌, ◌+◌, IfSome, MatchOption, None, Some, length};
-ghost use Rattle.tds_state.specs.Hearing.{feature_at, has_value, new_value, recovery, value_length};
+ghost use Rattle.tds_state.specs.Sessions.{ends_in_error};
+ghost use Rattle.tds_state.specs.Hearing.{feature_at, has_value, new_value, recovery, returned_value, value_length};
 
+use crate::kept::behind;
+use crate::spots::{bytes_stand, four_bytes};
 use crate::states::{StateSpot, behind_state, spot_of, value_at};
 
 /// Session recovery among the features, and the byte behind the last one.
@@ -78,4 +81,22 @@ pub(crate) fn new_value(kind: u8, bytes: &[u8]) -> Option<&[u8]>
     } else {
         Some(&behind[..length])
     }
+}
+
+/// The number that a RETURNVALUE returns of a parameter without a name.
+pub(crate) fn returned_value(bytes: &[u8]) -> Option<u32>
+    ensures { result ≡ returned_value bytes.now }
+{
+    if bytes_stand(bytes, 3, &[0, 1]) && bytes_stand(bytes, 11, &[0x26, 4, 4]) {
+        four_bytes(behind(bytes, 14))
+    } else {
+        None
+    }
+}
+
+/// A DONE that ends in an error (MS-TDS 2.2.7.6).
+pub(crate) fn ends_in_error(status: u16) -> bool
+    ensures { result ≡ ends_in_error status }
+{
+    status / 2 % 2 == 1 || status / 256 % 2 == 1
 }

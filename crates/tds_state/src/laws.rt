@@ -4,6 +4,7 @@
 ghost use Rattle.std.specs.Prelude.{◌≡◌, ◌<◌, ◌++◌, ℕ, List, [], Option, None, true, false};
 ghost use Rattle.tds_state.specs.Pasts.{IsInitial, Remark, are_harmless, first_states, first_values, answer_has_ended, newest_has_bulk, newest_is_cancelled};
 ghost use Rattle.tds_state.specs.Pasts.{newest_is_recoverable, newest_state, newest_value, owed_in, session_said, open_transaction, was_acknowledged, was_all_read, was_call_cancelled, was_followed, was_kept};
+ghost use Rattle.tds_state.specs.Exchanges.{times_open, was_unclear};
 ghost use Rattle.tds_state.specs.Sessions.{session_rests, session_sent};
 ghost use Rattle.tds_state.specs.Tracking.{tracks};
 ghost use Rattle.tds_state.specs.declared.session.Session.{Session};
@@ -44,8 +45,9 @@ pub fn only_behind_a_reset()
         → was_kept past ≡ false }
 {}
 
-/// Only where, since a full reset was asked for, each call was of `sp_executesql` or of a plain name, none was
-/// cancelled, and no answer said that another call followed in its message.
+/// Only where, since a full reset was asked for, each call was of `sp_executesql`, `sp_execute` or a plain name, or
+/// prepares a handle or unprepares one, as is read here; none was cancelled, and no answer said that another call
+/// followed in its message.
 pub fn only_behind_harmless_calls()
     ensures harmless { (past : List Remark) → session_rests (session_said past) ≡ true
         → are_harmless [] past ≡ true }
@@ -53,6 +55,16 @@ pub fn only_behind_harmless_calls()
         → was_call_cancelled past ≡ false }
     ensures followed { (past : List Remark) → session_rests (session_said past) ≡ true
         → was_followed past ≡ false }
+{}
+
+/// Only where, since a full reset was asked for, each handle that a call prepared was unprepared, by a call whose whole
+/// answer told no error. Each call that prepares was returned a number, no call unprepared what wasn't open, and of
+/// those that a request overtook, or that came from there on, none prepares or unprepares.
+pub fn only_where_handles_are_closed()
+    ensures handles { (past : List Remark) (handle : ℕ) → session_rests (session_said past) ≡ true
+        → 0 < handle → times_open handle past ≡ 0 }
+    ensures clear { (past : List Remark) → session_rests (session_said past) ≡ true
+        → was_unclear past ≡ false }
 {}
 
 /// Only where a message of the server's has ended behind the newest request, which wasn't cancelled, and isn't

@@ -3,18 +3,22 @@
 #![tactic(auto)]
 
 mod asked;
+mod handles;
 mod hearing;
 mod kept;
 pub mod laws;
 mod packets;
 mod prefix;
+mod resets;
 mod session;
+mod spots;
 mod states;
 mod tracker;
 mod values;
 mod watch;
 
-pub use asked::{Asked, Request};
+pub use asked::{Asked, Call, Request};
+pub use handles::{Handles, Returned};
 pub use kept::Kept;
 pub use session::{Flight, Session};
 pub use states::StateSpot;

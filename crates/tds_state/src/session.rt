@@ -1,15 +1,17 @@
 //! A session, by what its server said of it and by what was asked.
-
 ghost use Rattle.std.specs.Prelude.{◌≡◌, ◌≤◌, IfOk, length};
 ghost use Rattle.tds_state.specs.Hearing as hearing;
 ghost use Rattle.tds_state.specs.Hearing.{state_news, is_kept_whole};
-ghost use Rattle.tds_state.specs.Sessions.{all_noted, session_asked, awaits_by, session_cancelled, ended_flight, session_ended, session_told, has_nothing_due, is_followed, has_nothing_open, is_full_reset, is_owed, is_quiet, is_told_home, keeps_open, transaction_left, session_at_login, reset_owed_by, session_rests, session_sent, flight_stopped};
+ghost use Rattle.tds_state.specs.Sessions.{all_noted, session_asked, awaits_by, session_cancelled, ended_flight, session_ended, session_told, has_nothing_due, is_followed, has_nothing_open, is_quiet, is_told_home, session_at_login, session_rests, session_sent, flight_settled, flight_stopped};
+ghost use Rattle.tds_state.specs.Asking.{asked_call};
 ghost use Rattle.tds_state.specs.States.{states_listed};
 
 use crate::NoMemory;
 use crate::asked::{Asked, Request};
-use crate::hearing::{has_value, new_value, recovery};
+use crate::handles::Handles;
+use crate::hearing::{ends_in_error, has_value, new_value, recovery, returned_value};
 use crate::kept::behind;
+use crate::resets::{is_full, is_owed, keeps_open, left_by, owed_by};
 use crate::states::{behind_state, spot_at, value_at};
 use crate::values::Values;
 use std::alloc::Global;
@@ -53,6 +55,7 @@ pub struct Session {
     /// The states by their numbers (StateId), and the values that ENVCHANGE tells by their types.
     pub(crate) states: Values,
     pub(crate) changes: Values,
+    pub(crate) handles: Handles,
 }
 
 const STATES: usize = 7_168;
@@ -66,6 +69,10 @@ const SESSIONSTATE: u8 = 0xe4;
 const FEATUREEXTACK: u8 = 0xae;
 
 const DONEPROC: u8 = 0xfe;
+
+const ERROR: u8 = 0xaa;
+
+const RETURNVALUE: u8 = 0xac;
 
 /// A DONEPROC behind which another one of its message follows (MS-TDS 2.2.7.7).
 fn is_followed(kind: u8, status: u16) -> bool
@@ -105,15 +112,6 @@ fn note_all(values: &mut Values, is_recoverable: bool, states: &[u8]) -> bool
     rest.is_empty()
 }
 
-fn is_owed(reset: Option<Reset>) -> bool
-    ensures { result ≡ is_owed reset }
-{
-    match reset {
-        Some(_) => true,
-        None => false,
-    }
-}
-
 fn is_quiet(flight: Flight) -> bool
     ensures { result ≡ is_quiet flight }
 {
@@ -121,41 +119,6 @@ fn is_quiet(flight: Flight) -> bool
         Flight::Quiet => true,
         Flight::Asked | Flight::Cancelled | Flight::Stopped => false,
     }
-}
-
-/// Whether this is a full reset.
-fn is_full(reset: Option<Reset>) -> bool
-    ensures { result ≡ is_full_reset reset }
-{
-    match reset {
-        Some(Reset::Full) => true,
-        Some(Reset::KeepTransaction) | None => false,
-    }
-}
-
-/// Whether this is a reset that keeps the transaction.
-fn keeps_open(reset: Option<Reset>) -> bool
-    ensures { result ≡ keeps_open reset }
-{
-    match reset {
-        Some(Reset::KeepTransaction) => true,
-        Some(Reset::Full) | None => false,
-    }
-}
-
-fn owed_by(reset: Option<Reset>, owed: Option<Reset>) -> Option<Reset>
-    ensures { result ≡ reset_owed_by reset owed }
-{
-    match reset {
-        Some(reset) => Some(reset),
-        None => owed,
-    }
-}
-
-fn left_by(is_full: bool, transaction: u64) -> u64
-    ensures { result ≡ transaction_left is_full transaction }
-{
-    if is_full { 0 } else { transaction }
 }
 
 fn ended_flight(flight: Flight) -> Flight
@@ -202,6 +165,7 @@ impl Session {
             asked: Asked::new(alloc)?,
             states: Values::new(alloc, STATES)?,
             changes: Values::new(alloc, CHANGES)?,
+            handles: Handles::new(),
         })
     }
 
@@ -212,6 +176,8 @@ impl Session {
         self.is_login = false;
         self.is_pinned = !is_full(reset) && (self.is_pinned || self.asked.may_make_handles());
         self.owed = owed_by(reset, self.owed);
+        self.handles
+            .begin(is_full(reset), is_quiet(self.flight), self.asked.call());
         self.flight = Flight::Asked;
         self.asked.begin(kind);
     }
@@ -236,19 +202,44 @@ impl Session {
         match token.told {
             Told::Done(done) => self.hear_done(token.kind, done.status),
             Told::Change(change) => self.hear_change(change, token, bytes),
-            Told::Message(_) | Told::ReturnStatus(_) => {}
+            Told::Message(_) => self.handles.fail_if(token.kind == ERROR),
+            Told::ReturnStatus(_) => {}
             Told::SessionState(state) => self.hear_states(state, token, bytes),
-            Told::Unclear => {
-                if token.kind == ENVCHANGE || token.kind == SESSIONSTATE {
-                    self.is_lost = true;
-                }
-            }
-            Told::Other => {
-                if token.kind == FEATUREEXTACK {
-                    self.hear_features(token, bytes);
-                }
-            }
+            Told::Unclear => self.hear_unclear(token.kind),
+            Told::Other => self.hear_other(token, bytes),
         }
+    }
+
+    /// A token whose fields don't fit.
+    fn hear_unclear(&mut self, kind: u8)
+        ensures { self.new ≡ session_told self.old (hearing.unclear_news kind) }
+    {
+        if kind == ENVCHANGE || kind == SESSIONSTATE {
+            self.is_lost = true;
+        } else {
+            self.handles.fail_if(kind == ERROR);
+        }
+    }
+
+    fn hear_other(&mut self, token: &Token, bytes: &[u8])
+        ensures { self.new ≡ session_told self.old (hearing.other_news token.now bytes.now) }
+    {
+        if token.kind == FEATUREEXTACK {
+            self.hear_features(token, bytes);
+        } else if token.kind == RETURNVALUE {
+            self.hear_returned(token, bytes);
+        }
+    }
+
+    fn hear_returned(&mut self, token: &Token, bytes: &[u8])
+        ensures { self.new ≡ session_told self.old (hearing.news_of_returned token.now bytes.now) }
+    {
+        let value = if is_kept(token, bytes) {
+            returned_value(bytes)
+        } else {
+            None
+        };
+        self.handles.take(value);
     }
 
     fn hear_done(&mut self, kind: u8, status: u16)
@@ -256,6 +247,7 @@ impl Session {
     {
         self.is_pinned = is_followed(kind, status) || self.is_pinned;
         self.flight = stopped_by(status / 32 % 2 == 1, self.flight);
+        self.handles.fail_if(ends_in_error(status));
     }
 
     fn hear_change(&mut self, change: Change, token: &Token, bytes: &[u8])
@@ -351,10 +343,24 @@ impl Session {
         self.is_lost = !begins || self.is_lost;
     }
 
+    /// Where an answer was due, it is whole.
+    fn settle(&mut self, flight: Flight)
+        ensures { self.new ≡ record self.old {
+          handles
+              = flight_settled flight (asked_call self.old.asked) self.old.handles;
+        } }
+    {
+        match flight {
+            Flight::Asked => self.handles.settle(self.asked.call()),
+            Flight::Quiet | Flight::Cancelled | Flight::Stopped => {}
+        }
+    }
+
     /// A message of the server's has ended.
     pub(crate) fn end(&mut self)
         ensures { self.new ≡ session_ended self.old }
     {
+        self.settle(self.flight);
         self.awaits = awaits_by(self.flight, self.awaits);
         self.flight = ended_flight(self.flight);
     }
@@ -368,12 +374,14 @@ impl Session {
                 && (self.is_recoverable && (self.states.is_home() && self.changes.is_home())))
     }
 
-    /// No transaction, no reset to come, nothing that isn't told.
+    /// No transaction, no reset to come, no handle, nothing that isn't told.
     fn is_free(&self) -> bool
         ensures { result ≡ has_nothing_open self.now }
     {
         self.transaction == 0
-            && (!is_owed(self.owed) && (!self.is_pinned && !self.asked.may_make_handles()))
+            && (!is_owed(self.owed)
+                && (!self.is_pinned
+                    && (!self.asked.may_make_handles() && self.handles.are_closed())))
     }
 
     /// No answer is due, and nothing that belongs to the last request.

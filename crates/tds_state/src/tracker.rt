@@ -23,11 +23,12 @@ pub struct Tracker {
 /// The most bytes of a token that are kept.
 const TOKEN: usize = 8_192;
 
-/// Whether the bytes of a token of this kind are needed: ENVCHANGE, SESSIONSTATE, FEATUREEXTACK.
+/// Whether the bytes of a token of this kind are needed: ENVCHANGE, SESSIONSTATE, FEATUREEXTACK,
+/// RETURNVALUE.
 fn is_needed(kind: u8) -> bool
     ensures { result ≡ is_needed kind }
 {
-    matches!(kind, 0xe3 | 0xe4 | 0xae)
+    matches!(kind, 0xe3 | 0xe4 | 0xae | 0xac)
 }
 
 /// The byte that the first of these begins with, or else the second.
