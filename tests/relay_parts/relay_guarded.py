@@ -271,19 +271,35 @@ def served(serve, port):
 
 
 def outage(program, cases, serve):
-    """The server is away for a while: who asks meanwhile waits, and is served once it is back."""
+    """The server is away for a while: who asks meanwhile waits, and is served once it is back. So does who logs in, be it the
+    first one of its kind; past the limit it is told why."""
     with socket.create_server(("127.0.0.1", 0)) as it:
         port = it.getsockname()[1]
-    with served(serve, port) as first, Relay(program, port, "--most", "2", "--wait", "120") as relay:
+    with served(serve, port) as first, Relay(program, port, "--most", "2", "--wait", "120", "--login", "2") as relay:
         one, two = let_in(relay), let_in(relay)
         cases.check("a row before an outage", rows(one, 1))
         first.kill()
         first.wait()
         two.sendall(batch("rows 2 1"))
-        time.sleep(1.5)
-        cases.same("who asks in an outage waits", until(relay, lambda it: it["applications_waiting"] == 1)["applications_waiting"], 1)
+        news = [connect(relay.port) for _ in range(3)]
+        for link, user in zip(news, ("anna", "anna", "otto")):
+            link.sendall(login_of(user=user))
+        time.sleep(4)
+        found = until(relay, lambda it: it["applications_waiting"] == 1)
+        cases.same("who asks in an outage waits", found["applications_waiting"], 1)
+        cases.same("so do first logins of other kinds", (found["applications_logging_in"], found["total_applications_refused"]), (3, 0))
+        ats = [(it["waits_for"], it["limit"]) for it in found["sockets"] if it.get("user") in ("anna", "otto")]
+        cases.same("and what for", ats, [("its connection to open", 120)] * 3)
         with served(serve, port):
             cases.check("and is served behind it", struct.pack("<Bi", 0xD1, 2) in message(two))
+            cases.same("so are they", [(error_in(message(link)), rows(link, 3)) for link in news], [(None, True)] * 3)
+    with Relay(program, port, "--wait", "2") as relay:
+        link, begun = connect(relay.port), time.monotonic()
+        link.sendall(login_of())
+        cases.same("who logs in is told past the limit why", all_of(link), error_packet(
+            50100, f"The server 127.0.0.1:{port} fails with ECONNREFUSED: Connection refused (os error 111)."))
+        cases.check("and not before", time.monotonic() - begun >= 2)
+        cases.same("it is a wait", relay.json()["total_limits_wait"], 1)
 
 
 def restarted(program, cases, serve):

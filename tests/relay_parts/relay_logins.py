@@ -160,7 +160,7 @@ def several(program, cases, server):
         cases.check("an application is told of its connection's end", first.ask("rows 2 1")[2] == [LOST] and closed(first.link))
         second = Application(relay.port)
         cases.check("the next server takes over", second.ask("rows 2 1")[0] == [2] and two.come)
-    with Before(server) as one, Before(server) as two, Relay(program, one, 4, others=[two]) as relay:
+    with Before(server) as one, Before(server) as two, Relay(program, one, 4, "--wait", "0", others=[two]) as relay:
         one.stop()
         first = Application(relay.port)
         cases.check("the first one is away from the beginning", first.ask("rows 1 1")[0] == [1] and two.come)

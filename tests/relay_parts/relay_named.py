@@ -87,7 +87,7 @@ def addresses(program, cases, server, room):
                     and f"server 0 127.0.0.1:{server}" in relay.ask("/")[1].decode())
         lines = relay.lines()
         cases.check("and a line says that they are others", "name sql has other addresses than before" in lines, lines)
-    with Names(room, sql="1 127.0.0.9") as names, Relay(program, server, *names.words, at="sql") as relay:
+    with Names(room, sql="1 127.0.0.9") as names, Relay(program, server, *names.words, "--wait", "0", at="sql") as relay:
         cases.same("nobody listens at its address", first_error(relay), 50100)
         names.found["sql"] = "1 127.0.0.1"
         end = time.monotonic() + PATIENCE

@@ -214,7 +214,7 @@ def silent(program, cases):
     servers = [socket.create_server(("127.0.0.1", 0)) for _ in range(2)]
     ports = [port_of(it) for it in servers]
     for count in (1, 2):
-        with Relay(program, ports[0], "--login", "6", others=ports[1:count]) as relay:
+        with Relay(program, ports[0], "--login", "6", "--wait", "0", others=ports[1:count]) as relay:
             links = [connect(relay.port) for _ in range(3)]
             for link in links:
                 link.sendall(login())

@@ -64,7 +64,7 @@ def unreached(program, cases):
     for what, words, does in found:
         server = Answering(does) if does else None
         at = f"127.0.0.1:{server.port if server else port}"
-        with Relay(program, at.rpartition(":")[2], "--log") as relay:
+        with Relay(program, at.rpartition(":")[2], "--log", "--wait", "1") as relay:
             told, lines = told_at_login(relay), relay.lines()
         if server:
             server.stop()

@@ -152,6 +152,10 @@ impl House {
         if cause.is_failure() && self.dial_again(rt, key, gone, cause)? {
             return Ok(());
         }
+        if gone.has_legs {
+            let why = self.upstream.sentence(self.alloc)?;
+            return self.not_reached(rt, gone.whose, why.as_str());
+        }
         self.missed(rt, gone.whose)
     }
 

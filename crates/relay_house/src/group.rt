@@ -48,6 +48,8 @@ pub struct Group {
     /// count were none of an application's but such a check.
     pub checked: u64,
     pub checks: u64,
+    /// Whether no server could be reached for its first login: who waits for its judgement waits for that.
+    pub is_unreached: bool,
     /// The number of its first connection, until that was cleaned.
     pub first: Option<u64>,
     /// The millisecond in which a server let its login in last, and whether one doesn't any more.
@@ -93,6 +95,7 @@ impl Group {
             goes_on: false,
             checked: 0,
             checks: 0,
+            is_unreached: false,
             first: None,
             judged: 0,
             is_over: false,

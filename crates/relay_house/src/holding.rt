@@ -1,5 +1,5 @@
-//! Connections that are to be dialed later: while no server can be reached, and where all groups together have
-//! as many as may be. Who waits for one waits until `--wait`.
+//! Logins that are to be dialed later: while no server can be reached, and where all groups together have as many
+//! connections as may be. Who waits for one waits until `--wait`.
 
 use crate::group::Group;
 use crate::house::{House, relay_of};
@@ -16,11 +16,10 @@ const SHORTEST: u64 = 250;
 
 const LONGEST: u64 = 5_000;
 
-/// A connection of a group that is to be dialed, from this millisecond on.
+/// The first login of a group, or a further connection of one, that is to be dialed from this millisecond on.
 #[derive(Clone, Copy)]
 struct Held {
-    group: usize,
-    number: u64,
+    whose: Whose,
     next: u64,
 }
 
@@ -60,39 +59,28 @@ impl Holding {
     /// A connection is dialed once there is room.
     fn hold(&mut self, group: usize, number: u64, now: u64) -> Result<(), AllocError> {
         self.held.push(Held {
-            group,
-            number,
+            whose: Whose::Opening(group, number),
             next: now,
         })?;
         Ok(())
     }
 
     /// No server could be reached: it is dialed again later.
-    fn hold_back(
-        &mut self,
-        group: usize,
-        number: u64,
-        failure: Failure,
-        now: u64,
-    ) -> Result<(), AllocError> {
+    fn hold_back(&mut self, whose: Whose, failure: Failure, now: u64) -> Result<(), AllocError> {
         self.unreached = Some(failure);
         let next = now.saturating_add(self.pause);
         self.pause = self.pause.saturating_mul(2).min(LONGEST);
-        self.held.push(Held {
-            group,
-            number,
-            next,
-        })?;
+        self.held.push(Held { whose, next })?;
         Ok(())
     }
 
     /// Takes out the first one whose time has come.
-    fn take(&mut self, now: u64) -> Option<(usize, u64)> {
+    fn take(&mut self, now: u64) -> Option<Whose> {
         for place in 0..self.held.len() {
             let held = *self.held.get(place)?;
             if held.next <= now {
                 let _ = self.held.remove(place);
-                return Some((held.group, held.number));
+                return Some(held.whose);
             }
         }
         None
@@ -133,22 +121,71 @@ impl House {
         let failed = self.upstream.failed;
         if let Some(failure) = failed {
             if failure.cause.is_failure() && self.asked.limits.wait > 0 {
-                return Ok(self.holding.hold_back(group, number, failure, now)?);
+                let whose = Whose::Opening(group, number);
+                return Ok(self.holding.hold_back(whose, failure, now)?);
             }
         }
         let why = self.upstream.sentence(self.alloc)?;
         self.not_opened(group, number, why.as_str())
     }
 
+    /// A server is dialed for the first login of a group.
+    pub(crate) fn dial_first<R: Net>(&mut self, rt: &R, group: usize) -> io::Result<()> {
+        self.upstream.begin();
+        if self.reach(rt, Whose::First(group), 0)? {
+            return Ok(());
+        }
+        self.fail_to_judge(group)
+    }
+
+    /// No server was reached for the first login of a group: where all are away it is dialed again later, else who
+    /// waits for its judgement is told why.
+    pub(crate) fn fail_to_judge(&mut self, group: usize) -> io::Result<()> {
+        let now = self.now();
+        let failed = self.upstream.failed;
+        if let Some(failure) = failed {
+            if is_absence(failure.cause)
+                && self.asked.limits.wait > 0
+                && self.begin_waiting(group)
+            {
+                let whose = Whose::First(group);
+                return Ok(self.holding.hold_back(whose, failure, now)?);
+            }
+        }
+        let why = self.upstream.sentence(self.alloc)?;
+        self.not_judged(group, why.as_str())
+    }
+
+    /// Who waits for the judgement of a group's first login waits for a server from now on. False where there is no
+    /// such group.
+    fn begin_waiting(&mut self, group: usize) -> bool {
+        match self.groups.get_mut(group) {
+            Some(group) if group.is_judged() => group.is_unreached = true,
+            _ => return false,
+        }
+        self.sockets.touch_all();
+        true
+    }
+
     /// Dials those whose time has come, as far as there is room.
     pub fn dial_held<R: Net>(&mut self, rt: &R) -> io::Result<()> {
         for _ in 0..self.holding.len() {
             let now = self.now();
-            let Some((group, number)) = self.holding.take(now) else {
-                return Ok(());
-            };
-            self.dial_held_one(rt, group, number)?;
+            match self.holding.take(now) {
+                Some(Whose::Opening(group, number)) => self.dial_held_one(rt, group, number)?,
+                Some(Whose::First(group)) => self.dial_held_first(rt, group)?,
+                _ => return Ok(()),
+            }
         }
+        Ok(())
+    }
+
+    /// The first login of a group is dialed again, where somebody waits for its judgement still.
+    fn dial_held_first<R: Net>(&mut self, rt: &R, group: usize) -> io::Result<()> {
+        if self.has_judged(group) {
+            return self.dial_first(rt, group);
+        }
+        self.forget(group);
         Ok(())
     }
 
@@ -193,6 +230,11 @@ impl House {
         self.ended(rt, key, Cause::Own)?;
         Ok(true)
     }
+}
+
+/// Whether a server isn't there, so that it may be later: not where it is, and does what it may not.
+fn is_absence(cause: Cause) -> bool {
+    matches!(cause, Cause::Closed | Cause::Failed(_) | Cause::Silent)
 }
 
 /// How many connections all groups have together, those too that are being opened.

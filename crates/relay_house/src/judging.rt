@@ -151,6 +151,21 @@ impl House {
         }
     }
 
+    /// Whether an application still waits for the judgement of a group's first login.
+    pub(crate) fn has_judged(&self, group: usize) -> bool {
+        let Some(judged) = self.groups.get(group) else {
+            return false;
+        };
+        if let Stage::Judged(waiting) = &judged.stage {
+            for key in waiting.iter() {
+                if self.is_judged(*key, group) {
+                    return true;
+                }
+            }
+        }
+        false
+    }
+
     /// Whether a socket is still an application that waits for this judgement.
     pub(crate) fn is_judged(&self, key: usize, group: usize) -> bool {
         match self.sockets.get(key) {

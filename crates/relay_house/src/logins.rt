@@ -260,10 +260,6 @@ impl House {
         if let Some(socket) = self.sockets.get_mut(key) {
             socket.role = Role::Judged(group);
         }
-        self.upstream.begin();
-        if self.reach(rt, Whose::First(group), 0)? {
-            return Ok(());
-        }
-        self.missed(rt, Whose::First(group))
+        self.dial_first(rt, group)
     }
 }

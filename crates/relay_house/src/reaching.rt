@@ -171,12 +171,14 @@ impl House {
 
     /// No server was reached for this login: why is what became of the last one.
     pub(crate) fn missed<R: Net>(&mut self, rt: &R, whose: Whose) -> io::Result<()> {
-        if let Whose::Opening(group, number) = whose {
-            self.fail_to_open(group, number)?;
-            return self.obey(rt, group);
+        match whose {
+            Whose::First(group) => self.fail_to_judge(group),
+            Whose::Opening(group, number) => {
+                self.fail_to_open(group, number)?;
+                self.obey(rt, group)
+            }
+            _ => Ok(()),
         }
-        let why = self.upstream.sentence(self.alloc)?;
-        self.not_reached(rt, whose, why.as_str())
     }
 
     /// No server was reached for this login, and this is why.

@@ -59,7 +59,7 @@ impl Program {
         let age = now.saturating_sub(socket.born);
         let next = next_look(&socket.seen, socket.born, &limits, now);
         self.house.sockets.look_again(key, next);
-        if self.ending.is_some() && ends_at_once(at) {
+        if self.ending.is_some() && (ends_at_once(at) || matches!(whose, Whose::Judged(_))) {
             return Some(Why::End);
         }
         if why_free.is_some() {
@@ -144,6 +144,7 @@ impl Program {
                 None => self.house.part_with(rt, key),
             },
             (Whose::Judged(_), Why::Login) => self.house.put_refusal(key, SILENT),
+            (Whose::Judged(_), Why::Wait) => self.refuse_unreached(key),
             (Whose::Leg(_), Why::Login) => self.house.put_refusal(key, UNANSWERED),
             (_, Why::Login | Why::Cancel) => self.house.ended(rt, key, Cause::Silent),
             _ => self.house.ended(rt, key, Cause::Own),
@@ -192,6 +193,14 @@ impl Program {
         }
     }
 
+    /// An application has waited too long for a server that judges its login, and is told why there is none.
+    fn refuse_unreached(&mut self, key: usize) -> io::Result<()> {
+        match self.house.holding.sentence(self.house.alloc)? {
+            Some(why) => self.house.put_refusal(key, why.as_str()),
+            None => self.house.put_refusal(key, SILENT),
+        }
+    }
+
     /// An application has waited too long for its connection to open, and is told why.
     fn tell_unreached(&mut self, key: usize) -> io::Result<()> {
         match self.house.holding.sentence(self.house.alloc)? {
@@ -220,7 +229,7 @@ fn why_free(groups: &Groups<Group>, whose: Whose) -> Option<Why> {
 fn at_as(groups: &mut Groups<Group>, whose: Whose, has_more: bool) -> (At, u64) {
     match whose {
         Whose::Gate | Whose::Leg(_) => (At::Login, 0),
-        Whose::Judged(_) => (At::Login, 1),
+        Whose::Judged(group) => (at_judged(groups, group), 1),
         Whose::First(_) | Whose::Opening(..) | Whose::Again(_) => (At::Login, 0),
         Whose::Owed => (At::Owed, 0),
         Whose::Names => (At::Quiet, 0),
@@ -230,6 +239,15 @@ fn at_as(groups: &mut Groups<Group>, whose: Whose, has_more: bool) -> (At, u64) 
             Some(relay) => at_on(relay.place_on(number)),
             None => (At::Other, 0),
         },
+    }
+}
+
+/// What an application is at whose first login of a group is judged: where no server can be reached for that, it waits
+/// for a connection to open.
+fn at_judged(groups: &Groups<Group>, group: usize) -> At {
+    match groups.get(group) {
+        Some(group) if group.is_unreached => At::Opening,
+        _ => At::Login,
     }
 }
 
