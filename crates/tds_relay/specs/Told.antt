@@ -153,8 +153,10 @@ is_there number ls = is_some (link_at number ls)
 abbrev pub counts_in : code.Relay → Counts
 counts_in r = record { requests = r.desk.figures.requests; cancels = r.desk.figures.cancels; cleanings = r.cleanings; failed = r.failed }
 
--- He is told the same.
+-- He is told the same, and packets are as long, of which the logins acknowledge the same.
 pub record TellsTheSame (old new : code.Relay) : Type 0 where
   pub counts : counts_in new ≡ counts_in old
   pub why : new.refused ≡ old.refused
   pub most : new.most ≡ old.most
+  pub size : new.size ≡ old.size
+  pub features : new.features ≡ old.features

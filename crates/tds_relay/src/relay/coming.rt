@@ -4,7 +4,7 @@ ghost use Rattle.std.specs.Prelude.{IfOk, IsNone, OnOk, length, true};
 ghost use Rattle.tds_service.specs.Table.{reading_on};
 ghost use Rattle.tds_relay.specs.Bodies.{AskAsBefore, Body, body_in};
 ghost use Rattle.tds_relay.specs.Closings.{ClosesOnly, but_told, is_shut};
-ghost use Rattle.tds_relay.specs.Closings.{register_in};
+ghost use Rattle.tds_relay.specs.Closings.{register_in, settings_in};
 ghost use Rattle.tds_relay.specs.Coming.{AllAlong};
 ghost use Rattle.tds_relay.specs.Faults.{IsHeaderOf};
 ghost use Rattle.tds_relay.specs.Few.{Few, NobodyWaits, NoneNew};
@@ -103,7 +103,7 @@ impl Relay {
     /// Takes bytes up to the end of a packet, and hands on what is an application's. None where they
     /// are no packet of an answer. What comes on a connection that isn't open is nothing.
     fn hear(&mut self, number: u64, piece: &[u8]) -> Result<(usize, Option<Heard>), NoMemory>
-        ensures most { self.new.most ≡ self.old.most }
+        ensures settings { settings_in self.new ≡ settings_in self.old }
         ensures goes { OnOk result (Goes (Connection number)
             (desk_in self.old.desk) (desk_in self.new.desk)) }
         ensures names { OnOk result (names_in self.new.applications

@@ -60,7 +60,7 @@ taking-preserved c = record {
       one_closes (LosesAt c.args.number c.in_ok-count.heard c.hear.new.self) (HeardFor c.args.number c.args.piece.now c.args.self.now) (register_in c.args.self.now) (register_in c.taking.self) (register_in c.hear.new.self) (register_in c.heard.new.self)
       (λ key why. ByPacket c.taking.self c.taking.rest.now c.taking.invariant.streams
       (loses_by c.args.number c.taking.rest.now _ c.taking.self c.hear.new.self _ key c.in_ok-count.ensures.hears c.in_ok-count.ensures.ends c.in_ok-count.ensures.cleans c.in_ok-count.ensures.posts why))
-      c.taking.invariant.closes c.in_ok-count.ensures.ends c.in_ok-count.ensures.names c.in_ok-count.ensures.same c.hear.ensures.orders c.hear.ensures.most c.in_ok-heard.ensures.closes c.in_ok-heard.ensures.kept;
+      c.taking.invariant.closes c.in_ok-count.ensures.ends c.in_ok-count.ensures.names c.in_ok-count.ensures.same c.hear.ensures.orders c.hear.ensures.settings c.in_ok-heard.ensures.closes c.in_ok-heard.ensures.kept;
   ordered = ordered_more _ _ _ _ c.taking.invariant.ordered c.hear.ensures.orders c.in_ok-heard.ensures.ordered;
   none =
       none_both _ _ _ c.taking.invariant.none
