@@ -3,7 +3,10 @@ use Rattle.std.specs.Prelude.{◌≡◌, ◌⊎◌, ◌==◌, ℕ, codes, Bool, 
 use Rattle.tds_client.specs.declared.message.MessageKind.TheVariants.{Batch}
 use Rattle.tds_client.specs.Session.{ClientSession}
 use Rattle.tds_client.specs.Streams.{opened}
+use Rattle.tds_wire.specs.declared.told.Token.{Token}
 use Rattle.tds_service.specs.declared.service.Service as services
+use Rattle.tds_service.specs.Service as calls
+use Rattle.tds_service.specs.Service.{Service, step}
 use Rattle.tds_service.specs.Table.{client_of}
 use Rattle.tds_service.specs.Ties.{cancel_out}
 use Rattle.tds_relay.specs.declared.desk.Hold.{Hold}
@@ -75,6 +78,10 @@ abbrev pub OfItsHold : (Option ClientSession → Option (List ℕ) → Option (L
 OfItsHold Left key old now = (hold : Hold) → find_key key old.desk.holds.items ≡ Some hold → Left (client_of hold.lease old.desk.service) (waits_on hold.number old.links.items) (now hold.number)
 
 -- ---- One that has come before any application asked is cleaned first
+
+-- This is the one that a service lends.
+abbrev pub IsLent : ℕ → Service → Type 0
+IsLent number s = (lease : ℕ) × (had : Bool) × ((step {T = Token} s calls.Lease).reply ≡ calls.Lent lease number had)
 
 -- There were connections before; or the desk has done what it does to bring one, of which the service lends none, or memory is refused to its
 -- cleaning.

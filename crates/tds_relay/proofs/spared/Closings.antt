@@ -87,6 +87,14 @@ writes_then : (May : ℕ → Type 0) (key : ℕ) (a b c : Register) → ClosesOn
 writes_then May key a b c h k (inr w) = inr w
 writes_then May key a b c h k (inl e) = writes_or May key a b c k e (h.writes key)
 
+-- a connection that is ordered written to stays so while it is called as it was
+pub writes_behind : (May : ℕ → Type 0) (number : ℕ) (a b : Register) → ClosesOnly May a b → IsToWrite (called_at number a.links) a.orders → IsToWrite (called_at number b.links) b.orders
+writes_behind May number a b k w = write_as (called_at number a.links) (called_at number b.links) a.orders b.orders (k.were_called number) k.ordered w
+
+pub writes_stay : {A E : Type 0} (r : Result A E) (May : ℕ → Type 0) (number : ℕ) (a b : Register) → OnOk r (ClosesOnly May a b) → IsToWrite (called_at number a.links) a.orders → OnOk r (IsToWrite (called_at number b.links) b.orders)
+writes_stay (Ok x) May number a b k w = writes_behind May number a b k w
+writes_stay (Err e) May number a b k w = tt
+
 named_on : (o : Option ℕ) (xs ys : List Order) → StayOrdered xs ys → IsToWrite o xs → IsToWrite o ys
 named_on o xs ys s w = write_as o o xs ys (λ tag e. e) s w
 

@@ -1,7 +1,7 @@
 //! The first connection of all, which has come before any application asked.
 ghost use Rattle.std.specs.Prelude.{◌≡◌, IfNone, IfOk, IfSome, List, None, OnOk, Some};
 ghost use Rattle.std.specs.Prelude.{true};
-ghost use Rattle.tds_relay.specs.Cleaning.{IsFirst, IsNotBrought};
+ghost use Rattle.tds_relay.specs.Cleaning.{IsFirst, IsLent, IsNotBrought};
 ghost use Rattle.tds_relay.specs.Closings.{ClosesOnly, IsWaiting};
 ghost use Rattle.tds_relay.specs.Closings.{register_in, with_links};
 ghost use Rattle.tds_relay.specs.Fronts.{house_in};
@@ -42,6 +42,8 @@ impl Relay {
             × IsFirst tag self.old.links.items first
             × ClosesOnly (IsWaiting (desk_in self.old.desk).line)
             (with_links first (register_in self.old)) (register_in self.new)) }
+        ensures lent { IfOk result (λ brought. IfSome brought (λ number.
+            IsLent number (desk_in self.old.desk).service)) }
         ensures tries { IfOk result (λ brought. IfNone brought (IsNotBrought self.old.links.items
             (desk_in self.old.desk) (desk_in self.new.desk))) }
     {
