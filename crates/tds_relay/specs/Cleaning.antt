@@ -3,7 +3,10 @@ use Rattle.std.specs.Prelude.{◌≡◌, ◌⊎◌, ◌==◌, ℕ, codes, Bool, 
 use Rattle.tds_client.specs.declared.message.MessageKind.TheVariants.{Batch}
 use Rattle.tds_client.specs.Session.{ClientSession}
 use Rattle.tds_client.specs.Streams.{opened}
+use Rattle.tds_wire.specs.declared.told.Token.{Token}
 use Rattle.tds_service.specs.declared.service.Service as services
+use Rattle.tds_service.specs.Service as calls
+use Rattle.tds_service.specs.Service.{Service, step}
 use Rattle.tds_service.specs.Table.{client_of}
 use Rattle.tds_service.specs.Ties.{cancel_out}
 use Rattle.tds_relay.specs.declared.desk.Hold.{Hold}
@@ -11,7 +14,9 @@ use Rattle.tds_relay.specs.declared.desk.leaving.Left.{Left}
 use Rattle.tds_relay.specs.declared.link.Link.{Link}
 use Rattle.tds_relay.specs.declared.relay.Relay as code
 use Rattle.tds_relay.specs.Bodies.{ArePut}
+use Rattle.tds_relay.specs.Closings.{Settings}
 use Rattle.tds_relay.specs.Desk.{Brings, Desk, Way, find_key, turn}
+use Rattle.tds_relay.specs.Lent.{IsMade}
 use Rattle.tds_relay.specs.Reads.{bytes_on, waits_on}
 
 -- ---- What a cleaning says
@@ -76,11 +81,16 @@ OfItsHold Left key old now = (hold : Hold) → find_key key old.desk.holds.items
 
 -- ---- One that has come before any application asked is cleaned first
 
+-- This is the one that a service lends.
+abbrev pub IsLentBy : ℕ → Service → Type 0
+IsLentBy number s = (lease : ℕ) × (had : Bool) × ((step {T = Token} s calls.Lease).reply ≡ calls.Lent lease number had)
+
 -- There were connections before; or the desk has done what it does to bring one, of which the service lends none, or memory is refused to its
 -- cleaning.
 abbrev pub IsNotBrought : List Link → Desk → Desk → Type 0
 IsNotBrought links old new = ((length links == 0) ≡ false) ⊎ ((gives : Bool) × (way : Way) × (new ≡ (turn old (Brings gives way)).desk))
 
--- One is behind them that is open and called so, on which nothing waits; or none is.
-abbrev pub IsFirst : ℕ → List Link → List Link → Type 0
-IsFirst tag old new = (new ≡ old) ⊎ ((l : Link) × (new ≡ old ++ l ∷ []) × (l.tag ≡ Some tag) × (l.is_open ≡ true) × (bytes_on l ≡ []))
+-- One is behind them that is open and called so, on which nothing waits, and made as the relay was told; or none is.
+abbrev pub IsFirst : ℕ → Settings → List Link → List Link → Type 0
+IsFirst tag s old new =
+    (new ≡ old) ⊎ ((l : Link) × (new ≡ old ++ l ∷ []) × (l.tag ≡ Some tag) × (l.is_open ≡ true) × (bytes_on l ≡ []) × IsMade s.size s.features l)

@@ -2,6 +2,7 @@
 use Rattle.std.specs.Prelude.{◌≡◌, ◌⊎◌, ℕ, Bool, true, false, not, List, Option, Some, None, slice_index_or, slice_set}
 use Rattle.tds_packet.specs.declared.kind.Kind.{Kind}
 use Rattle.tds_packet.specs.declared.kind.Kind.TheVariants as kinds
+use Rattle.tds_wire.specs.declared.features.Features.{Features}
 use Rattle.tds_relay.specs.declared.fault.Refused.{Refused}
 use Rattle.tds_relay.specs.declared.link.Link.{Link}
 use Rattle.tds_relay.specs.declared.order.Order.{Order}
@@ -14,10 +15,16 @@ use Rattle.tds_relay.specs.Posts.{Posts, names_of, post_at, posts_in}
 use Rattle.tds_relay.specs.Reads.{Seen, seen_at}
 use Rattle.tds_relay.specs.Sending.{IsToWrite, IsWritten, called_at, sending_at}
 
--- Which connection is the last that was closed for a packet's header, and how many there may be.
+-- How many connections there may be, how long packets are, and what the connections' logins acknowledge.
+pub record Settings : Type 0 where
+  pub most : ℕ
+  pub size : ℕ
+  pub features : Features
+
+-- Which connection is the last that was closed for a packet's header, and what the relay was told of all.
 pub record KeptBeside : Type 0 where
   pub refused : Option Refused
-  pub most : ℕ
+  pub settings : Settings
 
 -- The ends of all applications, and what waits for them, by their keys; the connections; what is ordered; and what is kept beside that.
 pub record Register : Type 0 where
@@ -27,8 +34,12 @@ pub record Register : Type 0 where
   pub orders : List Order
   pub kept : KeptBeside
 
+abbrev pub settings_in : code.Relay → Settings
+settings_in r = record { most = r.most; size = r.size; features = r.features }
+
 abbrev pub register_in : code.Relay → Register
-register_in r = record { ends = ends_in r.applications; posts = posts_in r.applications; links = r.links.items; orders = r.orders.items; kept = record { refused = r.refused; most = r.most } }
+register_in r =
+    record { ends = ends_in r.applications; posts = posts_in r.applications; links = r.links.items; orders = r.orders.items; kept = record { refused = r.refused; settings = settings_in r } }
 
 -- one of them is there no more
 abbrev pub without_key : ℕ → Register → Register
@@ -40,11 +51,12 @@ with_links links r = record { ends = r.ends; posts = r.posts; links = links; ord
 
 -- so many connections may be there
 abbrev pub with_most : ℕ → Register → Register
-with_most most r = record { ends = r.ends; posts = r.posts; links = r.links; orders = r.orders; kept = record { refused = r.kept.refused; most = most } }
+with_most most r =
+    record { ends = r.ends; posts = r.posts; links = r.links; orders = r.orders; kept = record { refused = r.kept.refused; settings = record r.kept.settings { most = most } } }
 
 -- what waits for applications, and why a connection was closed, as another has it
 abbrev pub but_told : Register → Register → Register
-but_told by r = record { ends = r.ends; posts = by.posts; links = r.links; orders = r.orders; kept = record { refused = by.kept.refused; most = r.kept.most } }
+but_told by r = record { ends = r.ends; posts = by.posts; links = r.links; orders = r.orders; kept = record { refused = by.kept.refused; settings = r.kept.settings } }
 
 abbrev pub name_with : Option End → Option (Option ℕ) → Option ℕ
 name_with None name = None
@@ -70,7 +82,8 @@ pub data IsDue (May : ℕ → Type 0) (tag : ℕ) (old new : Register) : Type 0 
   OfConnection : (number : ℕ) → called_at number old.links ≡ Some tag → called_at number new.links ≡ None → IsDue May tag old new
 
 -- What was ordered stays so. Whoever is to be closed now and wasn't before is one of these, and is ordered closed; and a connection that is to
--- be opened now and wasn't before is ordered opened. Why one was closed for a packet's header is told as before, and as many may be there.
+-- be opened now and wasn't before is ordered opened. Why one was closed for a packet's header is told as before; as many may be
+-- there, packets are as long, and the logins acknowledge the same.
 pub record ClosesOnly (May : ℕ → Type 0) (old new : Register) : Type 0 where
   pub ordered : StayOrdered old.orders new.orders
   pub told : new.kept ≡ old.kept

@@ -70,6 +70,10 @@ abbrev pub IsHeaderOf : ℕ → packets.Reading → Option Heard → Option Refu
 IsHeaderOf number r (Some heard) old new = new ≡ old
 IsHeaderOf number r None old new = (fault : PacketFault) × (fault_of r r.taken ≡ Some fault) × (new ≡ Some (record { number = number; fault = fault }))
 
+-- It is the same as before; or a header that was refused on the connection of this number is the last one.
+abbrev pub IsRefusedOn : ℕ → Option Refused → Option Refused → Type 0
+IsRefusedOn number old new = (new ≡ old) ⊎ ((r : packets.Reading) × (fault : PacketFault) × (fault_of r r.taken ≡ Some fault) × (new ≡ Some (record { number = number; fault = fault })))
+
 -- how that of the connection of this number was
 abbrev pub header_fault_in : ℕ → Option Refused → Option PacketFault
 header_fault_in number None = None

@@ -10,7 +10,7 @@ use Rattle.tds_relay.specs.declared.desk.coming.Heard.{Heard}
 use Rattle.tds_relay.specs.declared.link.Answer.{Answer}
 use Rattle.tds_relay.specs.declared.link.Link.{Link}
 use Rattle.tds_relay.specs.declared.link.News.{News}
-use Rattle.tds_relay.specs.Cutting.{IsCut, awaited, ends_in}
+use Rattle.tds_relay.specs.Cutting.{IsCut, IsCutTo, awaited, ends_in}
 use Rattle.tds_relay.specs.Desk.{Way, owes_reset, whose}
 use Rattle.tds_relay.specs.Fronts.{IsWhat}
 use Rattle.tds_relay.specs.Hall.{done_by}
@@ -42,6 +42,21 @@ IsFor true goes a header content manner = IsBy goes a header content manner
 -- What the server owes before it and tells in it is cut out, once.
 abbrev pub news_for : Bool → Bool → Bool → Bool → News
 news_for asks is_in owed held = record { is_told = asks && not is_in; is_cut = (owed || held) && not (asks && is_in); is_owed = owed }
+
+-- ---- What is known behind it of the message that comes
+
+-- The same as before, unless the news is cut out of it.
+abbrev pub IsKnownBy : Bool → Bool → Answer → Header → List ℕ → Answer → Type 0
+IsKnownBy false owed a header content new = new ≡ a
+IsKnownBy true owed a header content new = IsCutTo (awaited owed a) (ends_in header) content new
+
+abbrev pub IsKnown : News → Answer → Header → List ℕ → Answer → Type 0
+IsKnown goes a header content new = IsKnownBy goes.is_cut goes.is_owed a header content new
+
+-- The same as before; or the news was cut out of the packet that the reader has.
+abbrev pub KnowsOn : packets.Reading → Answer → Answer → Type 0
+KnowsOn r a new =
+    (new ≡ a) ⊎ ((owed : Bool) × (header : Header) × (content : List ℕ) × IsPacket r.direction r.size r.taken header content × IsCutTo (awaited owed a) (ends_in header) content new)
 
 -- ---- Which packet is handed on
 

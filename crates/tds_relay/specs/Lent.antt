@@ -1,7 +1,11 @@
 -- Connections where one is lent: what is known of the message that comes there, and which are there still.
 use Rattle.std.specs.Prelude.{◌≡◌, ◌⊎◌, ℕ, IfSome, List, Some, None, option_map}
+use Rattle.tds_wire.specs.declared.features.Features.{Features}
+use Rattle.tds_service.specs.Beginning.{Begins}
 use Rattle.tds_relay.specs.Cutting.{at_its_beginning}
 use Rattle.tds_relay.specs.declared.link.Link.{Link}
+use Rattle.tds_relay.specs.declared.link.TheConstants.{COLUMNS}
+use Rattle.tds_relay.specs.declared.news.Known.TheVariants as knowns
 use Rattle.tds_relay.specs.declared.relay.Relay as code
 use Rattle.tds_relay.specs.Closings.{Register, open_name}
 use Rattle.tds_relay.specs.Fronts.{ends_in}
@@ -17,12 +21,13 @@ pub record KeepsAnswers (old new : List Link) : Type 0 where
 abbrev pub BeginsOn : ℕ → List Link → List Link → Type 0
 BeginsOn number old new = StaysAt (option_map at_its_beginning (answer_at number old)) (answer_at number new)
 
--- Packets of this size are read there, and set anew.
-abbrev pub HasSize : ℕ → Link → Type 0
-HasSize size l = (l.reader.size ≡ size) × (l.answer.size ≡ size)
+-- Packets of this size are read there, set anew, and sent. Its login acknowledged these features, and no message has begun.
+abbrev pub IsMade : ℕ → Features → Link → Type 0
+IsMade size features l =
+    (l.reader.size ≡ size) × (l.answer.size ≡ size) × (l.out.size ≡ size) × Begins COLUMNS features l.answer.walker × (l.answer.known ≡ knowns.None)
 
-abbrev pub IsSizedOn : ℕ → ℕ → List Link → Type 0
-IsSizedOn size number ls = IfSome (link_at number ls) (HasSize size)
+abbrev pub IsMadeOn : ℕ → Features → ℕ → List Link → Type 0
+IsMadeOn size features number ls = IfSome (link_at number ls) (IsMade size features)
 
 -- ---- Which are there
 

@@ -1,6 +1,6 @@
 -- The news of a reset that no application asked for, cut out of an answer: ENVCHANGE (227) of type 18, which stands behind its length
 -- in two bytes (MS-TDS 2.2.7.9). That is the first one where the server owes it; any other is the application's own, and goes on.
-use Rattle.std.specs.Prelude.{ℕ, ◌==◌, Bool, true, List, [], ◌∷◌, ◌++◌, if◌then◌else◌}
+use Rattle.std.specs.Prelude.{ℕ, ◌==◌, Bool, true, false, List, [], ◌∷◌, ◌++◌, if◌then◌else◌}
 use Rattle.tds_relay.specs.declared.news.Known.{Known}
 use Rattle.tds_relay.specs.declared.news.Known.TheVariants as known
 
@@ -23,6 +23,16 @@ held (known.Two low) = 227 ∷ low ∷ []
 held (known.Three low high) = 227 ∷ low ∷ high ∷ []
 held known.Other = []
 held known.News = []
+
+-- some are
+abbrev pub holds_back : Known → Bool
+holds_back known.None = false
+holds_back known.Awaited = false
+holds_back known.One = true
+holds_back (known.Two low) = true
+holds_back (known.Three low high) = true
+holds_back known.Other = false
+holds_back known.News = true
 
 -- the bytes that go on with this one, where this is known behind it
 abbrev pub let_on : Known → ℕ → Known → List ℕ

@@ -1,5 +1,5 @@
 -- What whoever asks is told of applications and connections: where they are, what they are called, and how much of them may be read.
-use Rattle.std.specs.Prelude.{◌≡◌, ℕ, ◌+◌, ◌-◌, ◌*◌, ◌/◌, min, Bool, true, false, is_some, List, length, Option, Some, None, option_and_then, option_map, if◌then◌else◌, vec_len}
+use Rattle.std.specs.Prelude.{◌≡◌, ℕ, ◌+◌, ◌-◌, ◌*◌, ◌/◌, min, ◌||◌, Bool, true, false, is_some, List, length, Option, Some, None, option_and_then, option_map, if◌then◌else◌, vec_len}
 use Rattle.slab.specs.Slab.{get}
 use Rattle.tds_front.specs.declared.stage.Stage.{Stage}
 use Rattle.tds_front.specs.declared.stage.Stage.TheVariants as stages
@@ -13,7 +13,8 @@ use Rattle.tds_relay.specs.declared.relay.places.Place.{Place}
 use Rattle.tds_relay.specs.declared.relay.places.Place.TheVariants.{Quiet, Holding, Waiting, Opening, Asking as Asks, Cancelling, Over}
 use Rattle.tds_relay.specs.declared.relay.places.PlaceOn.{PlaceOn}
 use Rattle.tds_relay.specs.declared.relay.places.PlaceOn.TheVariants as on
-use Rattle.tds_relay.specs.Desk.{Desk}
+use Rattle.tds_relay.specs.Desk.{Desk, owes_reset}
+use Rattle.tds_relay.specs.News.{holds_back}
 use Rattle.tds_relay.specs.Places.{held_by, holder, seated}
 use Rattle.tds_relay.specs.Reads.{link_at, waits_on}
 use Rattle.tds_relay.specs.declared.application.TheConstants.{MOST_HELD}
@@ -123,6 +124,29 @@ abbrev pub least_for : Option ℕ → code.Relay → ℕ
 least_for None r = PIECE
 least_for (Some key) r = (PIECE - waiting_for (get r.applications key)) - BESIDE
 
+-- So much may be: nothing of one that isn't there, and a piece where nobody holds it. Its packets may be set anew, or the news of a reset may go
+-- before them, where who holds it asked for one, bytes of a token were held back, or the server owes that news.
+abbrev pub may_grow : Application → Link → Bool → Bool
+may_grow a l owes = is_some a.reset || (holds_back l.answer.known || owes)
+
+abbrev pub room_beside : Bool → ℕ → ℕ
+room_beside grows room = if grows then room - BESIDE else room
+
+abbrev pub room_held : Link → Bool → Option Application → ℕ
+room_held l owes None = PIECE
+room_held l owes (Some a) = room_beside (may_grow a l owes) (PIECE - waiting_in a.out)
+
+abbrev pub room_for : ℕ → Link → Option ℕ → code.Relay → ℕ
+room_for number l None r = PIECE
+room_for number l (Some key) r = room_held l (owes_reset number (desk_in r.desk)) (get r.applications key)
+
+abbrev pub room_from : ℕ → Option Link → code.Relay → ℕ
+room_from number None r = 0
+room_from number (Some l) r = room_for number l (holder (desk_in r.desk) number) r
+
+abbrev pub room_there : ℕ → code.Relay → ℕ
+room_there number r = room_from number (link_at number r.links.items) r
+
 -- ---- What whoever carries their bytes calls them, and whom he is to read again
 
 abbrev pub name_of : Option Application → Option ℕ
@@ -153,8 +177,10 @@ is_there number ls = is_some (link_at number ls)
 abbrev pub counts_in : code.Relay → Counts
 counts_in r = record { requests = r.desk.figures.requests; cancels = r.desk.figures.cancels; cleanings = r.cleanings; failed = r.failed }
 
--- He is told the same.
+-- He is told the same, and packets are as long, of which the logins acknowledge the same.
 pub record TellsTheSame (old new : code.Relay) : Type 0 where
   pub counts : counts_in new ≡ counts_in old
   pub why : new.refused ≡ old.refused
   pub most : new.most ≡ old.most
+  pub size : new.size ≡ old.size
+  pub features : new.features ≡ old.features

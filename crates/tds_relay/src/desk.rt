@@ -1,6 +1,7 @@
 //! Who holds which connection of a service, and whose requests wait for one.
 ghost use Rattle.std.specs.Prelude.{◌≡◌, [], ℕ, IfOk, OnOk, OnErr, length, option_copied, option_map, true};
 ghost use Rattle.tds_service.specs.Service.{Seat, is_open, seat_numbered};
+ghost use Rattle.tds_service.specs.Sizes.{AllSized};
 ghost use Rattle.tds_service.specs.Table.{place_of};
 ghost use Rattle.tds_packet.specs.declared.status.Reset.TheVariants.{Full};
 ghost use Rattle.tds_relay.specs.Anew.{Resets};
@@ -94,6 +95,7 @@ impl Desk {
             ≡ new_desk (record { most = most; mode = mode })) }
         ensures unread { IfOk result (λ desk. (number : ℕ)
             → IsUnread COLUMNS features number desk.service) }
+        ensures sized { IfOk result (λ desk. AllSized size desk.service) }
     {
         let Some(service) = Service::new(alloc, most, size, COLUMNS, features) else {
             return Err(AllocError);

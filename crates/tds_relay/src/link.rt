@@ -48,6 +48,7 @@ pub(crate) struct Answer {
 }
 
 impl Link {
+    ghost use Rattle.tds_relay.specs.Lent.{IsMade};
     ghost use Rattle.tds_relay.specs.Posts.{post_in};
 
     pub(crate) fn new(
@@ -61,8 +62,7 @@ impl Link {
         ensures unread { IfOk result (λ link. link.reader.taken ≡ []) }
         ensures unnamed { IfOk result (λ link. link.tag ≡ None) }
         ensures nothing { IfOk result (λ link. (post_in link.out).bytes ≡ []) }
-        ensures sized { IfOk result (λ link. (link.reader.size ≡ size)
-            × (link.answer.size ≡ size)) }
+        ensures made { IfOk result (IsMade size features) }
     {
         let answer = Answer {
             alloc,
@@ -86,7 +86,7 @@ impl Answer {
     ghost use Rattle.tds_relay.specs.Cutting.{left_of, passed_on};
     ghost use Rattle.tds_service.specs.Packets.{behind_packet};
     ghost use Rattle.tds_wire.specs.Reading.{Reading};
-    ghost use Rattle.tds_relay.specs.News.{held, known_next};
+    ghost use Rattle.tds_relay.specs.News.{held, holds_back, known_next};
     ghost use Rattle.tds_relay.specs.Posts.{post_in, put};
 
     /// Nothing has come of the message that comes next.
@@ -98,7 +98,9 @@ impl Answer {
     }
 
     /// Whether bytes of a token were held back: what comes next isn't handed on without them.
-    pub(crate) fn holds(&self) -> bool {
+    pub(crate) fn holds(&self) -> bool
+        ensures { result ≡ holds_back self.now.known }
+    {
         match self.known {
             Known::None | Known::Awaited | Known::Other => false,
             Known::One | Known::Two(_) | Known::Three(..) | Known::News => true,

@@ -168,6 +168,7 @@ pub(crate) fn set_tag(links: &mut Links, number: u64, tag: usize)
 #[tactic(auto, using(crate::proofs::steps::Staying::sees_written))]
 pub(crate) fn forget_sent(links: &mut Links, number: u64, count: usize) -> bool
     ensures read { Sees links.old.items links.new.items }
+    ensures answers { KeepsAnswers links.old.items links.new.items }
     ensures others { (other : ℕ) → other ≢ number
         → waits_on other links.new.items ≡ waits_on other links.old.items }
     ensures found { result ≡ is_there number links.old.items }

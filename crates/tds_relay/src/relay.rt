@@ -2,6 +2,7 @@
 ghost use Rattle.std.specs.Prelude.{◌≡◌, ◌-◌, ◌≤◌, [], ℕ, Bool, IfOk, IfSome, None, OnOk, Some, false, length};
 ghost use Rattle.std.specs.Prelude.{IsSome, option_copied, true};
 ghost use Rattle.slab.specs.Slab.{get, slab_len};
+ghost use Rattle.tds_service.specs.Sizes.{AllSized};
 ghost use Rattle.tds_relay.specs.Asking.{IsUnderway};
 ghost use Rattle.tds_relay.specs.Bodies.{AskAsBefore, Nowhere, body_of};
 ghost use Rattle.tds_relay.specs.Bounds.{waiting_for};
@@ -17,7 +18,7 @@ ghost use Rattle.tds_relay.specs.Reads.{link_at, waits_on};
 ghost use Rattle.tds_relay.specs.Reasons.{HasGoneOut};
 ghost use Rattle.tds_relay.specs.Sparing.{OthersRest};
 ghost use Rattle.tds_relay.specs.Ties.{Cause, CausesRequest, Goes, Neither, desk_in};
-ghost use Rattle.tds_relay.specs.Told.{TellsTheSame, least_for, room_at, room_behind};
+ghost use Rattle.tds_relay.specs.Told.{TellsTheSame, least_for, room_at, room_behind, room_there};
 ghost use Rattle.tds_relay.specs.Waiting.{StandsInLine};
 ghost use Rattle.tds_relay.specs.Walkers.{AllStand, IsUnread};
 ghost use Rattle.tds_relay.specs.declared.application.Application.{Application};
@@ -99,6 +100,7 @@ impl Relay {
         ensures nothing { IfOk result (λ relay. (relay.links.items ≡ [])
             × (relay.orders.items ≡ []) × (relay.refused ≡ None)) }
         ensures sized { IfOk result (λ relay. (relay.size ≡ size) × (relay.features ≡ features)) }
+        ensures goes_out { IfOk result (λ relay. AllSized size relay.desk.service) }
         ensures most { IfOk result (λ relay. relay.most ≡ most) }
     {
         let desk = Desk::new(alloc, mode, most, size, features)?;
@@ -195,6 +197,7 @@ impl Relay {
     /// for who holds it.
     pub fn room_on(&self, number: u64) -> usize
         ensures most { result ≤ PIECE }
+        ensures is { result ≡ room_there number self.now }
         ensures fits { (key : ℕ)
             → key_of (find_number number (desk_in self.now.desk).holds) ≡ Some key
             → result ≤ PIECE - waiting_for (get self.now.applications key) }

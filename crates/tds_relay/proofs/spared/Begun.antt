@@ -3,7 +3,8 @@ use Rattle.std.proofs.Common.{◌≡◌, ◌∙◌, ◌==◌, ◌++◌, not, ℕ
 use Rattle.std.specs.Prelude.{IfSome, Result, Ok, Err, OnOk}
 use Rattle.std.proofs.lemmas.Bool.{eqb-true}
 use Rattle.tds_relay.specs.Cutting.{at_its_beginning}
-use Rattle.tds_relay.specs.Lent.{BeginsOn, HasSize, IsSizedOn, KeepsAnswers}
+use Rattle.tds_wire.specs.declared.features.Features.{Features}
+use Rattle.tds_relay.specs.Lent.{BeginsOn, IsMade, IsMadeOn, KeepsAnswers}
 use Rattle.tds_relay.specs.declared.link.Answer.{Answer}
 use Rattle.tds_relay.specs.declared.link.Link.{Link}
 use Rattle.tds_relay.specs.Reads.{StaysAt, answer_at, answer_on, link_at, without_link}
@@ -77,14 +78,15 @@ pub begins_on : {A E : Type 0} (r : Result A E) (number : ℕ) (ls ms ns : List 
 begins_on (Ok x) number ls ms ns is h = begins_by (answer_at number ls) (answer_at number ms) (answer_at number ns) is (h.keeps number)
 begins_on (Err e) number ls ms ns is h = tt
 
-pushed_if : (b : Bool) (size number : ℕ) (l : Link) → HasSize size l → IfSome (if b then Some l else None) (HasSize size)
-pushed_if true size number l is = is
-pushed_if false size number l is = tt
+pushed_if : (b : Bool) (size : ℕ) (features : Features) (l : Link) → IsMade size features l → IfSome (if b then Some l else None) (IsMade size features)
+pushed_if true size features l is = is
+pushed_if false size features l is = tt
 
-pushed_by : (b : Bool) (size number : ℕ) (x : Link) (xs : List Link) (o : Option Link) → (if b then Some x else link_at number xs) ≡ None → (link_at number xs ≡ None → IfSome o (HasSize size)) → IfSome (if b then Some x else o) (HasSize size)
-pushed_by true size number x xs o none later = absurd (let u : Some x ≡ None = none in let v : ⊥ = cc in v)
-pushed_by false size number x xs o none later = later none
+pushed_by : (b : Bool) (size : ℕ) (features : Features) (number : ℕ) (x : Link) (xs : List Link) (o : Option Link) → (if b then Some x else link_at number xs) ≡ None
+    → (link_at number xs ≡ None → IfSome o (IsMade size features)) → IfSome (if b then Some x else o) (IsMade size features)
+pushed_by true size features number x xs o none later = absurd (let u : Some x ≡ None = none in let v : ⊥ = cc in v)
+pushed_by false size features number x xs o none later = later none
 
-pub pushed_sized : (size number : ℕ) (ls : List Link) (l : Link) → link_at number ls ≡ None → HasSize size l → IsSizedOn size number (ls ++ l ∷ [])
-pushed_sized size number [] l none is = pushed_if (l.number == number) size number l is
-pushed_sized size number (x ∷ xs) l none is = pushed_by (x.number == number) size number x xs (link_at number (xs ++ l ∷ [])) none (λ e. pushed_sized size number xs l e is)
+pub pushed_made : (size : ℕ) (features : Features) (number : ℕ) (ls : List Link) (l : Link) → link_at number ls ≡ None → IsMade size features l → IsMadeOn size features number (ls ++ l ∷ [])
+pushed_made size features number [] l none is = pushed_if (l.number == number) size features l is
+pushed_made size features number (x ∷ xs) l none is = pushed_by (x.number == number) size features number x xs (link_at number (xs ++ l ∷ [])) none (λ e. pushed_made size features number xs l e is)

@@ -3,7 +3,7 @@ use Rattle.std.proofs.Common.{◌≡◌, ◌⊎◌, ◌∙◌, ℕ, true, List, 
 use Rattle.std.specs.Prelude.{Result, Ok, Err, OnOk}
 use Rattle.tds_relay.specs.declared.order.Order.{Order}
 use Rattle.tds_relay.specs.declared.order.Order.TheVariants as orders
-use Rattle.tds_relay.specs.Closings.{Anybody, ClosesOnly, IsDue, KeptBeside, Nobody, OfApplication, OfConnection, Register, but_told, is_shut, is_shut_at, open_name}
+use Rattle.tds_relay.specs.Closings.{Anybody, ClosesOnly, IsDue, KeptBeside, Nobody, OfApplication, OfConnection, Register, Settings, but_told, is_shut, is_shut_at, open_name}
 use Rattle.tds_relay.specs.Hall.{Ends, end_at}
 use Rattle.tds_relay.specs.Closings.{name_with}
 use Rattle.tds_relay.specs.Ordering.{IsOrdered, StayOrdered}
@@ -86,6 +86,14 @@ writes_then : (May : ℕ → Type 0) (key : ℕ) (a b c : Register) → ClosesOn
     → (post_at c.posts key ≡ post_at a.posts key) ⊎ IsToWrite (open_name key c) c.orders
 writes_then May key a b c h k (inr w) = inr w
 writes_then May key a b c h k (inl e) = writes_or May key a b c k e (h.writes key)
+
+-- a connection that is ordered written to stays so while it is called as it was
+pub writes_behind : (May : ℕ → Type 0) (number : ℕ) (a b : Register) → ClosesOnly May a b → IsToWrite (called_at number a.links) a.orders → IsToWrite (called_at number b.links) b.orders
+writes_behind May number a b k w = write_as (called_at number a.links) (called_at number b.links) a.orders b.orders (k.were_called number) k.ordered w
+
+pub writes_stay : {A E : Type 0} (r : Result A E) (May : ℕ → Type 0) (number : ℕ) (a b : Register) → OnOk r (ClosesOnly May a b) → IsToWrite (called_at number a.links) a.orders → OnOk r (IsToWrite (called_at number b.links) b.orders)
+writes_stay (Ok x) May number a b k w = writes_behind May number a b k w
+writes_stay (Err e) May number a b k w = tt
 
 named_on : (o : Option ℕ) (xs ys : List Order) → StayOrdered xs ys → IsToWrite o xs → IsToWrite o ys
 named_on o xs ys s w = write_as o o xs ys (λ tag e. e) s w
@@ -203,15 +211,15 @@ heard_due May tag a b c first same sends (inr d) = inr (heard_by May tag a b c f
 
 -- What waits for applications changes by it, and why a connection was closed.
 pub closes_heard : (May : ℕ → Type 0) (a b c : Register) → ClosesOnly May (but_told b a) b → c.ends ≡ b.ends → names_of c.posts ≡ names_of b.posts → ((number : ℕ) → sending_at number c.links ≡ sending_at number b.links)
-    → ((number : ℕ) → is_shut_at number c ≡ true → is_shut_at number b ≡ true) → c.orders ≡ b.orders → c.kept.most ≡ b.kept.most → ClosesOnly May (but_told c a) c
-closes_heard May a b c h ends names sends shut are most =
+    → ((number : ℕ) → is_shut_at number c ≡ true → is_shut_at number b ≡ true) → c.orders ≡ b.orders → c.kept.settings ≡ b.kept.settings → ClosesOnly May (but_told c a) c
+closes_heard May a b c h ends names sends shut are settings =
     let same : (key : ℕ) → open_name key c ≡ open_name key b =
     λ key. ap (λ (es : Ends). name_with (end_at es key) (slice_index_or (names_of c.posts) key None)) ends
     ∙ ap (λ (ns : List (Option (Option ℕ))). name_with (end_at b.ends key) (slice_index_or ns key None)) names in
     let first : (key : ℕ) → open_name key (but_told c a) ≡ open_name key (but_told b a) = λ key. ap (λ (ns : List (Option (Option ℕ))). name_with (end_at a.ends key) (slice_index_or ns key None)) names in
     record {
       ordered = subst (StayOrdered a.orders) (sym are) h.ordered;
-      told = ap (λ (n : ℕ). let k : KeptBeside = record { refused = c.kept.refused; most = n } in k) (most ∙ ap (λ (k : KeptBeside). k.most) h.told);
+      told = ap (λ (s : Settings). let k : KeptBeside = record { refused = c.kept.refused; settings = s } in k) (settings ∙ ap (λ (k : KeptBeside). k.settings) h.told);
       closes = λ key tag e.
           subst (λ (o : Option ℕ). (o ≡ Some tag) ⊎ (May key × IsOrdered (orders.Close tag) c.orders)) (sym (same key))
           (subst (λ (xs : List Order). (open_name key b ≡ Some tag) ⊎ (May key × IsOrdered (orders.Close tag) xs)) (sym are) (h.closes key tag (sym (first key) ∙ e)));
@@ -229,7 +237,7 @@ closes_heard May a b c h ends names sends shut are most =
     }
 
 abbrev told_with : Posts → Option Refused → Register → Register
-told_with posts refused r = record { ends = r.ends; posts = posts; links = r.links; orders = r.orders; kept = record { refused = refused; most = r.kept.most } }
+told_with posts refused r = record { ends = r.ends; posts = posts; links = r.links; orders = r.orders; kept = record { refused = refused; settings = r.kept.settings } }
 
 told_as : (May : ℕ → Type 0) (a c d : Register) → ClosesOnly May (but_told c a) d → d.posts ≡ c.posts → d.kept ≡ c.kept → ClosesOnly May (but_told d a) d
 told_as May a c d h posts told =
@@ -246,7 +254,7 @@ closes_done_on (Ok x) May More a c d f k posts h = closes_done More a c d h (clo
 closes_done_on (Err e) May More a c d f k posts h = tt
 
 pub one_closes : (May More : ℕ → Type 0) (a b c d : Register) → ((key : ℕ) → May key → More key) → ClosesOnly More (but_told b a) b → c.ends ≡ b.ends → names_of c.posts ≡ names_of b.posts
-    → ((number : ℕ) → (sending_at number c.links ≡ sending_at number b.links) × (is_shut (seen_at number c.links) ≡ is_shut (seen_at number b.links))) → c.orders ≡ b.orders → c.kept.most ≡ b.kept.most → ClosesOnly May c d → d.posts ≡ c.posts
+    → ((number : ℕ) → (sending_at number c.links ≡ sending_at number b.links) × (is_shut (seen_at number c.links) ≡ is_shut (seen_at number b.links))) → c.orders ≡ b.orders → c.kept.settings ≡ b.kept.settings → ClosesOnly May c d → d.posts ≡ c.posts
     → ClosesOnly More (but_told d a) d
-one_closes May More a b c d f h ends names same are most k posts =
-    closes_done More a c d (closes_heard More a b c h ends names (λ number. (same number).0) (λ number e. sym (same number).1 ∙ e) are most) (closes_more May More c d f k) posts
+one_closes May More a b c d f h ends names same are settings k posts =
+    closes_done More a c d (closes_heard More a b c h ends names (λ number. (same number).0) (λ number e. sym (same number).1 ∙ e) are settings) (closes_more May More c d f k) posts

@@ -113,5 +113,5 @@ pub all_served : (r : code.Relay) (turn n : ℕ) → turn + length r.desk.line.i
 all_served r turn n shorter done = inl (none_waits r.desk.line.items (service_in r.desk.service) (omega (arith, shorter, done)))
 
 -- how many there may be, as it was
-pub most_kept : (k l : KeptBeside) → k ≡ l → k.most ≡ l.most
-most_kept k l e = ap (λ (x : KeptBeside). x.most) e
+pub most_kept : (k l : KeptBeside) → k ≡ l → k.settings.most ≡ l.settings.most
+most_kept k l e = ap (λ (x : KeptBeside). x.settings.most) e

@@ -25,7 +25,7 @@ use Rattle.tds_relay.specs.Desk.{owes_reset, Desk, Comes, Way, turn, whose}
 use Rattle.tds_relay.specs.Fronts.{IsWhat, end_of, ends_in as ends_of, house_with, told_by}
 use Rattle.tds_relay.specs.Hall as hall
 use Rattle.tds_relay.specs.Hall.{End, Ends, Open, Over, done_by, end_at, told, what_in}
-use Rattle.tds_relay.specs.Handing.{Brings, Hears, IsBy, IsDone, IsFor, IsOf, Passing, fed}
+use Rattle.tds_relay.specs.Handing.{Brings, Hears, IsBy, IsDone, IsFor, IsKnownBy, IsOf, KnowsOn, Passing, fed}
 use Rattle.tds_relay.specs.House.{House, IsHanded, IsRight, IsTold, Manner, MayHand, Withheld, behind_news, change_whose, closes, end_whose, handed, hears_of_reset, is_said, put_all, put_some}
 use Rattle.tds_relay.specs.Posts.{Post, Posts, change, post_at, post_of, posts_in, put, put_news}
 use Rattle.tds_relay.specs.Ties.{Turns, part_on}
@@ -247,3 +247,9 @@ done_keeps number walker a r s next heard old new (inl none) same whole less =
     ap (λ (x : packets.Reading). x.direction) (less (subst (λ (x : packets.Reading). ¬ IsWhole x) (sym same) none.0))
 done_keeps number walker a r s next heard old new (inr p) same whole less =
     ap (λ (x : packets.Reading). x.direction) (whole (subst (λ (x : packets.Reading). IsWhole x) (sym same) (p.header, p.content, p.packet)))
+
+-- ---- What is known behind it
+
+pub knows_by : (cut owed : Bool) (r : packets.Reading) (a : Answer) (header : Header) (content : List ℕ) (new : Answer) → IsPacket r.direction r.size r.taken header content → IsKnownBy cut owed a header content new → KnowsOn r a new
+knows_by false owed r a header content new packet same = inl same
+knows_by true owed r a header content new packet behind = inr (owed, header, content, packet, behind)

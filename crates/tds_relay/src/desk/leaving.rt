@@ -1,7 +1,7 @@
 //! Connections that are let go, and cleaned; that come without being asked for; and that are lost.
 ghost use Rattle.std.specs.Prelude.{◌≡◌, [], ℕ, Bool, IfOk, IfSome, None, OnOk, true};
 ghost use Rattle.tds_service.specs.Table.{KeepsClientsOff, client_of, reading_on, service_in};
-ghost use Rattle.tds_relay.specs.Cleaning.{GoesOutAtEnd, GoesOutAtAny, GoesOutBy, IsBatch, IsPutBehind};
+ghost use Rattle.tds_relay.specs.Cleaning.{GoesOutAtEnd, GoesOutAtAny, GoesOutBy, IsBatch, IsLentBy, IsPutBehind};
 ghost use Rattle.tds_relay.specs.Desk.{Brings, Leaves, Loses, Renews, Way, cleaning, find_key, find_number};
 ghost use Rattle.tds_relay.specs.Desk.{key_of, releasing};
 ghost use Rattle.tds_relay.specs.Sparing.{AsideStay, OffHold, OthersHold};
@@ -152,6 +152,8 @@ impl Desk {
             × Turns (Brings gives way) (desk_in self.old) (desk_in self.new)
             out.old.items out.new.items) }
         ensures stand { OnOk result (AllStand self.old.service self.new.service) }
+        ensures lent { IfOk result (λ left. IfSome left (λ it.
+            IsLentBy it.number (desk_in self.old).service)) }
         ensures ends { IfOk result (λ left. IfSome left
             (GoesOutAtAny out.old.items out.new.items)) }
     {

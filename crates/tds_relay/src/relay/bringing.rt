@@ -1,9 +1,9 @@
 //! The first connection of all, which has come before any application asked.
 ghost use Rattle.std.specs.Prelude.{◌≡◌, IfNone, IfOk, IfSome, List, None, OnOk, Some};
 ghost use Rattle.std.specs.Prelude.{true};
-ghost use Rattle.tds_relay.specs.Cleaning.{IsFirst, IsNotBrought};
+ghost use Rattle.tds_relay.specs.Cleaning.{IsFirst, IsLentBy, IsNotBrought};
 ghost use Rattle.tds_relay.specs.Closings.{ClosesOnly, IsWaiting};
-ghost use Rattle.tds_relay.specs.Closings.{register_in, with_links};
+ghost use Rattle.tds_relay.specs.Closings.{register_in, settings_in, with_links};
 ghost use Rattle.tds_relay.specs.Fronts.{house_in};
 ghost use Rattle.tds_relay.specs.House.{Steps};
 ghost use Rattle.tds_relay.specs.Posts.{names_in, posts_in};
@@ -39,9 +39,11 @@ impl Relay {
         ensures goes_on { OnOk result (AllGo self.old self.new) }
         ensures ordered { OnOk result (StayOrdered self.old.orders.items self.new.orders.items) }
         ensures closes { OnOk result ((first : List Link)
-            × IsFirst tag self.old.links.items first
+            × IsFirst tag (settings_in self.old) self.old.links.items first
             × ClosesOnly (IsWaiting (desk_in self.old.desk).line)
             (with_links first (register_in self.old)) (register_in self.new)) }
+        ensures lent { IfOk result (λ brought. IfSome brought (λ number.
+            IsLentBy number (desk_in self.old.desk).service)) }
         ensures tries { IfOk result (λ brought. IfNone brought (IsNotBrought self.old.links.items
             (desk_in self.old.desk) (desk_in self.new.desk))) }
     {

@@ -4,14 +4,14 @@ ghost use Rattle.std.specs.Prelude.{IfOk, IsNone, OnOk, length, true};
 ghost use Rattle.tds_service.specs.Table.{reading_on};
 ghost use Rattle.tds_relay.specs.Bodies.{AskAsBefore, Body, body_in};
 ghost use Rattle.tds_relay.specs.Closings.{ClosesOnly, but_told, is_shut};
-ghost use Rattle.tds_relay.specs.Closings.{register_in};
+ghost use Rattle.tds_relay.specs.Closings.{register_in, settings_in};
 ghost use Rattle.tds_relay.specs.Coming.{AllAlong};
-ghost use Rattle.tds_relay.specs.Faults.{IsHeaderOf};
+ghost use Rattle.tds_relay.specs.Faults.{IsHeaderOf, IsRefusedOn};
 ghost use Rattle.tds_relay.specs.Few.{Few, NobodyWaits, NoneNew};
 ghost use Rattle.tds_relay.specs.Fronts.{Moved, end_of, ends_in, hall_in, hall_of_ends, told_by, house_in, house_of};
 ghost use Rattle.tds_relay.specs.Fronts.{house_with};
 ghost use Rattle.tds_relay.specs.Hall.{told};
-ghost use Rattle.tds_relay.specs.Handing.{Brings, HearsBy, Passes, news_for, fed};
+ghost use Rattle.tds_relay.specs.Handing.{Brings, HearsBy, IsKnown, KnowsOn, Passes, news_for, fed};
 ghost use Rattle.tds_relay.specs.House.{Steps};
 ghost use Rattle.tds_relay.specs.Reasons.{Cleans, HeardFor, IsHeardAs, HearsNothing, LosesAt, post_on};
 ghost use Rattle.tds_relay.specs.Posts.{names_in, post_of, posts_in};
@@ -61,6 +61,7 @@ impl Relay {
         ensures ordered { OnOk result (StayOrdered self.old.orders.items self.new.orders.items) }
         ensures wakes { OnOk result (Wakes (posts_in self.old.applications)
             self.new.applications self.new.orders.items) }
+        ensures refused { OnOk result (IsRefusedOn number self.old.refused self.new.refused) }
         ensures closes { OnOk result (ClosesOnly (HeardFor number piece.now self.old)
             (but_told (register_in self.new) (register_in self.old)) (register_in self.new)) }
     {
@@ -85,6 +86,7 @@ impl Relay {
         ensures ordered { OnOk result (StayOrdered self.old.orders.items self.new.orders.items) }
         ensures wakes { OnOk result (Wakes (posts_in self.old.applications)
             self.new.applications self.new.orders.items) }
+        ensures refused { OnOk result (IsRefusedOn number self.old.refused self.new.refused) }
         ensures closes { OnOk result (ClosesOnly (HeardFor number piece.now self.old)
             (but_told (register_in self.new) (register_in self.old)) (register_in self.new)) }
     {
@@ -103,7 +105,7 @@ impl Relay {
     /// Takes bytes up to the end of a packet, and hands on what is an application's. None where they
     /// are no packet of an answer. What comes on a connection that isn't open is nothing.
     fn hear(&mut self, number: u64, piece: &[u8]) -> Result<(usize, Option<Heard>), NoMemory>
-        ensures most { self.new.most ≡ self.old.most }
+        ensures settings { settings_in self.new ≡ settings_in self.old }
         ensures goes { OnOk result (Goes (Connection number)
             (desk_in self.old.desk) (desk_in self.new.desk)) }
         ensures names { OnOk result (names_in self.new.applications
@@ -133,6 +135,7 @@ impl Relay {
         ensures posts { OnOk result (post_on number self.new.links.items
             ≡ post_on number self.old.links.items) }
         ensures cleans { IfOk result (λ heard. Cleans heard.1 [] self.new.outbox.items) }
+        ensures refused { OnOk result (IsRefusedOn number self.old.refused self.new.refused) }
         ensures hears { IfOk result (λ heard. HearsNothing heard.1
             ⊎ IsHeardAs number piece.now heard.1 self.old (house_with (desk_in self.new.desk)
             (told_by heard.1 (ends_in self.old.applications)) (posts_in self.new.applications))) }
@@ -243,6 +246,8 @@ fn hear_on(
         (posts_in applications.old) (posts_in applications.new)) }
     ensures refused { IfOk result (λ heard. IsHeaderOf number
         (fed link.old.reader piece.now) heard.1 refused.old refused.new) }
+    ensures known { OnOk result (KnowsOn (fed link.old.reader piece.now) link.old.answer
+        link.new.answer) }
     ensures cleans { IfOk result (λ heard. Cleans heard.1 outbox.old.items outbox.new.items) }
 {
     let count = match link.reader.feed(piece) {
@@ -282,6 +287,7 @@ fn hear_packet(
     ensures tag { link.new.tag ≡ link.old.tag }
     ensures ends { OnOk result (ends_in applications.new ≡ ends_in applications.old) }
     ensures asks { OnOk result (AskAsBefore applications.old applications.new) }
+    ensures known { OnOk result (KnowsOn link.old.reader link.old.answer link.new.answer) }
     ensures cleans { IfOk result (λ heard. Cleans (Some heard) outbox.old.items
         outbox.new.items) }
 {
@@ -333,6 +339,8 @@ fn hand_on(
     requires { packet.header.length ≡ 8 + length packet.«data».now }
     ensures passes { OnOk result (Passes news answer.old packet.entry.header
         packet.entry.«data».now (post_of application.old) (post_of application.new)) }
+    ensures known { OnOk result (IsKnown news answer.old packet.entry.header
+        packet.entry.«data».now answer.new) }
     ensures end { OnOk result (end_of application.new ≡ end_of application.old) }
     ensures body { OnOk result ((goes : Body)
         → body_in (Some application.new) goes ≡ body_in (Some application.old) goes) }

@@ -13,13 +13,14 @@ ghost use Rattle.tds_relay.specs.Few.{Few, FewBy, NobodyWaits};
 ghost use Rattle.tds_relay.specs.Fronts.{MovedOn, ends_in, hall_in, house_in};
 ghost use Rattle.tds_relay.specs.Hall.{AsksFor, IsReset, end_at, holder};
 ghost use Rattle.tds_relay.specs.House.{StepsOn};
-ghost use Rattle.tds_relay.specs.Lent.{AllLast, BeginsOn, IsSizedOn, KeepsAnswers, LastBut, LastOrDeaf};
+ghost use Rattle.tds_relay.specs.Lent.{AllLast, BeginsOn, IsMade, IsMadeOn, KeepsAnswers, LastBut, LastOrDeaf};
 ghost use Rattle.tds_relay.specs.Posts.{names_in, posts_in};
 ghost use Rattle.tds_relay.specs.Reads.{Opens, OpensOne, Stays, named_seen, open_at};
 ghost use Rattle.tds_relay.specs.Cutting.{at_its_beginning};
 ghost use Rattle.tds_relay.specs.Reads.{answer_at, bytes_on, link_at, opened_at, opened_seen, seen_at, waits_on};
 ghost use Rattle.tds_relay.specs.Ordering.{StayOrdered};
 ghost use Rattle.tds_relay.specs.Reasons.{HasNoRoom};
+ghost use Rattle.tds_relay.specs.Sending.{IsToWrite, called_at};
 ghost use Rattle.tds_relay.specs.Sparing.{AllGo, AllRest, IsHeldBack, IsUnkept, OthersRest};
 ghost use Rattle.tds_relay.specs.Sparing.{StartsOn};
 ghost use Rattle.tds_relay.specs.Taking.{IsDeaf};
@@ -43,8 +44,7 @@ impl Relay {
         ensures unread { IfOk result (λ link. link.reader.taken ≡ []) }
         ensures unnamed { IfOk result (λ link. link.tag ≡ None) }
         ensures nothing { IfOk result (λ link. bytes_on link ≡ []) }
-        ensures sized { IfOk result (λ link. (link.reader.size ≡ self.now.size)
-            × (link.answer.size ≡ self.now.size)) }
+        ensures made { IfOk result (IsMade self.now.size self.now.features) }
     {
         Link::new(self.alloc, number, self.size, self.features)
     }
@@ -81,6 +81,8 @@ impl Relay {
         ensures starts { IsReached (desk_in self.old.desk)
             → OnOk result (StartsOn number self.old self.new) }
         ensures ordered { OnOk result (StayOrdered self.old.orders.items self.new.orders.items) }
+        ensures writes { OnOk result (IsToWrite (called_at number self.new.links.items)
+            self.new.orders.items) }
         ensures closes { OnOk result (ClosesOnly
             (WhoOrWaiting (holder (desk_in self.old.desk) number) (desk_in self.old.desk).line)
             (register_in self.old) (register_in self.new)) }
@@ -187,9 +189,10 @@ impl Relay {
         ensures ordered { OnOk result (StayOrdered self.old.orders.items self.new.orders.items) }
         ensures begins { served.had ≡ true → OnOk result (BeginsOn served.hold.number
             self.old.links.items self.new.links.items) }
-        ensures sized { served.had ≡ false
+        ensures made { served.had ≡ false
             → link_at served.hold.number self.old.links.items ≡ None
-            → OnOk result (IsSizedOn self.old.size served.hold.number self.new.links.items) }
+            → OnOk result (IsMadeOn self.old.size self.old.features served.hold.number
+            self.new.links.items) }
         ensures closes { OnOk result (ClosesOnly (Itself served.hold.key)
             (register_in self.old) (register_in self.new)) }
         ensures lasts { OnOk result (LastBut (Itself served.hold.key)

@@ -8,6 +8,7 @@ ghost use Rattle.tds_relay.specs.Desk.{find_number};
 ghost use Rattle.tds_relay.specs.Fronts.{MovedOn, ends_in, hall_in, house_in};
 ghost use Rattle.tds_relay.specs.Hall.{holder};
 ghost use Rattle.tds_relay.specs.House.{Steps};
+ghost use Rattle.tds_relay.specs.Lent.{KeepsAnswers};
 ghost use Rattle.tds_relay.specs.Ordering.{StayOrdered};
 ghost use Rattle.tds_relay.specs.Posts.{change, post_at, posts_in, unsent_of, without_first};
 ghost use Rattle.tds_relay.specs.Reasons.{HasNoRoom, IsOverfull, ItselfFor};
@@ -93,6 +94,7 @@ impl Relay {
         ensures kept { posts_in self.new.applications ≡ posts_in self.old.applications }
         ensures ends { ends_in self.new.applications ≡ ends_in self.old.applications }
         ensures read { Sees self.old.links.items self.new.links.items }
+        ensures answers { KeepsAnswers self.old.links.items self.new.links.items }
         ensures sent { waits_on number self.new.links.items
             ≡ option_map (drop count) (waits_on number self.old.links.items) }
         ensures others { (other : ℕ) → other ≢ number

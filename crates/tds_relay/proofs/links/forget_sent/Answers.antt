@@ -5,6 +5,7 @@ use Rattle.tds_relay.specs.Linking.{Linked}
 use Rattle.tds_relay.specs.Posts.{Post, post_in}
 use Rattle.tds_relay.specs.Reads.{place_of, seen_of}
 use Rattle.tds_relay.proofs.spared.Waits.{none_waits, one_waits, others_wait}
+use Rattle.tds_relay.proofs.spared.Begun.{answers_refl, answers_written}
 use Rattle.tds_relay.proofs.steps.Placed.{is_at, is_nowhere}
 use Rattle.tds_relay.proofs.steps.Staying.{sees_written}
 use Rattle.tds_relay.proofs.indexed.Placing.{placed_written}
@@ -14,6 +15,14 @@ pub returns-clause-read : goal.returns-clause-read
 returns-clause-read c = rw (← c.links.view_is) (
     sees_written c.links.inside.list.items c.in-Some.place c.index_mut-link.result.now _
     (ap (λ (l : Link). l.number) c.index_mut-link.ensures.value) (ap seen_of c.index_mut-link.ensures.value))
+
+pub returns-clause-answers : goal.returns-clause-answers
+returns-clause-answers c = rw (← c.links.view_is) (
+    answers_written c.links.inside.list.items c.in-Some.place c.index_mut-link.result.now _
+    (ap (λ (l : Link). l.number) c.index_mut-link.ensures.value) (ap (λ (l : Link). l.answer) c.index_mut-link.ensures.value))
+
+pub returns-in_default-clause-answers : goal.returns-in_default-clause-answers
+returns-in_default-clause-answers c = answers_refl c.args.links.now.items
 
 pub returns-clause-others : goal.returns-clause-others
 returns-clause-others c = rw (← c.links.view_is) (

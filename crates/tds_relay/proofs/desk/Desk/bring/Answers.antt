@@ -10,3 +10,6 @@ returns-in-Err-clause-stand c = same_stand c.args.self.now.service c.lease.new.s
 
 pub returns-clause-ends : goal.returns-clause-ends
 returns-clause-ends c = λ there. any_text c.cleaning_text.result.now _ _ _ c.cleaning_text.ensures (c.in_ok-is_there.ensures.ends there)
+
+pub returns-clause-lent : goal.returns-clause-lent
+returns-clause-lent c = (c.in-Ok.lent.lease, c.in-Ok.lent.had, c.in-Ok.ensures.ok.reply_is)

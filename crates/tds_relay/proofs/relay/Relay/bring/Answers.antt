@@ -89,7 +89,7 @@ returns-clause-closes c =
     let old = desk_in c.args.self.now.desk in
     let mid = desk_in c.send_unheld.new.self.desk in (
       c.push.new.self.items,
-      inr (_, c.in_ok-push.ensures.items, refl, refl, c.in_ok-link.ensures.nothing),
+      inr (_, c.in_ok-push.ensures.items, refl, refl, c.in_ok-link.ensures.nothing, c.in_ok-link.ensures.made),
       closes_both (IsWaiting old.line) _ _ _ (closes_nobody (IsWaiting old.line) _ _ c.in_ok-send_unheld.ensures.closes)
           (closes_more (IsWaiting mid.line) (IsWaiting old.line) _ _
           (λ key. waited Neither old mid key (λ none. none) (λ from h. c.in_ok-send_unheld.ensures.goes Neither from (reaches_turn Neither from _ _ _ _ _ c.in_ok-left.ensures.turns.2 refl h)))

@@ -2,6 +2,7 @@ use Rattle.tds_relay.specs.Fronts.{house_in}
 use Rattle.tds_relay.specs.Ties.{Connection, desk_in}
 use Rattle.tds_relay.proofs.steps.Stepping.{steps_on_ok}
 use Rattle.tds_relay.proofs.bytes.Streaming.{comes, streams_steps}
+use Rattle.tds_relay.proofs.steps.Faults.{refused_served}
 use Rattle.tds_relay.proofs.steps.Staying.{others_served}
 use Rattle.tds_relay.specs.Posts.{names_in}
 use Rattle.tds_relay.proofs.steps.Renaming.{names_on}
@@ -55,3 +56,8 @@ returns-clause-closes c =
 
 pub returns-clause-few : goal.returns-clause-few
 returns-clause-few c = few_behind c.serve_line.result _ _ _ _ _ (most_kept _ _ (c.in_ok-hear_all.ensures.closes.told)) (c.in_ok-hear_all.ensures.none) c.serve_line.ensures.few
+
+pub returns-clause-refused : goal.returns-clause-refused
+returns-clause-refused c =
+    refused_served c.serve_line.result c.args.number (IsWaiting (desk_in c.hear_all.new.self.desk).line) c.args.self.now.refused (register_in c.hear_all.new.self) (register_in c.serve_line.new.self)
+    c.in_ok-hear_all.ensures.refused c.serve_line.ensures.closes

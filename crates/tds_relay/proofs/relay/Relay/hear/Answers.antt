@@ -10,6 +10,7 @@ use Rattle.tds_relay.specs.Reads.{bytes_on, place_of}
 use Rattle.tds_relay.proofs.bytes.Streaming.{hear_at, unheard, unopened}
 use Rattle.tds_relay.proofs.bytes.Turns.{less_at, less_nowhere, less_shut, takes_at}
 use Rattle.tds_service.specs.Table.{reading_on}
+use Rattle.tds_relay.proofs.steps.Faults.{refused_heard}
 use Rattle.tds_relay.proofs.steps.Placed.{others_written}
 use Rattle.tds_relay.proofs.steps.Staying.{others_open, opens_refl}
 use Rattle.tds_relay.proofs.steps.Reaching.{ok_if}
@@ -157,3 +158,12 @@ returns-clause-hears c =
     (λ (heard : Option Heard). house_with (desk_in c.hear_on.new.desk) (told_by heard (ends_in c.args.self.now.applications)) (posts_in c.hear_on.new.applications))
     (sym c.place_in.ensures.is ∙ c.in-Some.is)
     (subst (λ (v : Linked). c.index_mut-link.result.now ≡ slice_index_or v.items c.in-Some.place c.index_mut-link.result.now) c.links.view_is c.index_mut-link.ensures.value) c.hear_on.ensures.hears
+
+pub returns-in_default-clause-refused : goal.returns-in_default-clause-refused
+returns-in_default-clause-refused c = inl refl
+
+pub returns-then-not-link-clause-refused : goal.returns-then-not-link-clause-refused
+returns-then-not-link-clause-refused c = inl refl
+
+pub returns-clause-refused : goal.returns-clause-refused
+returns-clause-refused c = refused_heard c.hear_on.result c.args.number _ _ _ c.hear_on.ensures.refused

@@ -1,4 +1,4 @@
-use Rattle.std.proofs.Common.{◌≡◌, ◌∙◌, List, Option, ap, length, refl, subst, suc, sym, ℕ, rules}
+use Rattle.std.proofs.Common.{◌≡◌, ◌∙◌, List, Option, ap, inl, length, refl, subst, suc, sym, ℕ, rules}
 use Rattle.tds_packet.specs.Reading.{Reading}
 use Rattle.tds_relay.specs.declared.relay.Relay.{Relay}
 use Rattle.tds_relay.specs.Coming.{AllAlong}
@@ -11,6 +11,7 @@ use Rattle.tds_relay.specs.Waking.{Wakes}
 use Rattle.tds_relay.proofs.spared.Coming.{along_on, along_refl, one_along, rest_along}
 use Rattle.tds_relay.proofs.spared.Ordered.{ordered_more, ordered_on, ordered_refl}
 use Rattle.tds_relay.proofs.spared.Waking.{one_wakes, wakes_on, wakes_same}
+use Rattle.tds_relay.proofs.steps.Faults.{refused_next}
 use Rattle.tds_relay.proofs.steps.Told.{deaf_led_on}
 use Rattle.tds_relay.proofs.steps.Fronts.{moved_same}
 use Rattle.tds_relay.proofs.steps.Reaching.{ok_more, reached_on}
@@ -35,6 +36,7 @@ taking-init c = record {
   others = others_open c.args.number _ _ (opens_refl c.args.self.now.links.items);
   bodies = λ reached. along_refl c.args.self.now;
   closes = closes_refl (HeardFor c.args.number c.args.piece.now c.args.self.now) (register_in c.args.self.now);
+  refused = inl refl;
   ordered = ordered_refl c.args.self.now.orders.items;
   none = none_refl c.args.self.now.links.items;
   wakes = wakes_same (posts_in c.args.self.now.applications) c.args.self.now.applications c.args.self.now.orders.items refl;
@@ -60,7 +62,10 @@ taking-preserved c = record {
       one_closes (LosesAt c.args.number c.in_ok-count.heard c.hear.new.self) (HeardFor c.args.number c.args.piece.now c.args.self.now) (register_in c.args.self.now) (register_in c.taking.self) (register_in c.hear.new.self) (register_in c.heard.new.self)
       (λ key why. ByPacket c.taking.self c.taking.rest.now c.taking.invariant.streams
       (loses_by c.args.number c.taking.rest.now _ c.taking.self c.hear.new.self _ key c.in_ok-count.ensures.hears c.in_ok-count.ensures.ends c.in_ok-count.ensures.cleans c.in_ok-count.ensures.posts why))
-      c.taking.invariant.closes c.in_ok-count.ensures.ends c.in_ok-count.ensures.names c.in_ok-count.ensures.same c.hear.ensures.orders c.hear.ensures.most c.in_ok-heard.ensures.closes c.in_ok-heard.ensures.kept;
+      c.taking.invariant.closes c.in_ok-count.ensures.ends c.in_ok-count.ensures.names c.in_ok-count.ensures.same c.hear.ensures.orders c.hear.ensures.settings c.in_ok-heard.ensures.closes c.in_ok-heard.ensures.kept;
+  refused =
+      refused_next c.args.number (LosesAt c.args.number c.in_ok-count.heard c.hear.new.self) _ _ _ (register_in c.hear.new.self) (register_in c.heard.new.self)
+      c.taking.invariant.refused c.in_ok-count.ensures.refused refl c.in_ok-heard.ensures.closes;
   ordered = ordered_more _ _ _ _ c.taking.invariant.ordered c.hear.ensures.orders c.in_ok-heard.ensures.ordered;
   none =
       none_both _ _ _ c.taking.invariant.none

@@ -2,6 +2,7 @@ use Rattle.std.proofs.Common.{◌≡◌, length}
 use Rattle.tds_relay.specs.Closings.{ClosesOnly, but_told, register_in}
 use Rattle.tds_relay.specs.Reasons.{HeardFor}
 use Rattle.tds_relay.specs.Coming.{AllAlong}
+use Rattle.tds_relay.specs.Faults.{IsRefusedOn}
 use Rattle.tds_relay.specs.Few.{NoneNew}
 use Rattle.tds_relay.specs.Fronts.{house_in}
 use Rattle.tds_relay.specs.Ordering.{StayOrdered}
@@ -21,6 +22,7 @@ invariant-taking l = record {
   others : OpensOthers l.fn.number l.fn.self.links.items l.self.links.items;
   bodies : IsReached (desk_in l.fn.self.desk) → AllAlong l.fn.self l.self;
   closes : ClosesOnly (HeardFor l.fn.number l.fn.piece l.fn.self) (but_told (register_in l.self) (register_in l.fn.self)) (register_in l.self);
+  refused : IsRefusedOn l.fn.number l.fn.self.refused l.self.refused;
   ordered : StayOrdered l.fn.self.orders.items l.self.orders.items;
   none : NoneNew l.fn.self.links.items l.self.links.items;
   wakes : Wakes (posts_in l.fn.self.applications) l.self.applications l.self.orders.items;

@@ -1,6 +1,6 @@
 use Rattle.std.proofs.Common.{List, inl, refl, ap, subst, sym, rules}
 use Rattle.tds_relay.specs.declared.link.Link.{Link}
-use Rattle.tds_relay.specs.Lent.{IsSizedOn}
+use Rattle.tds_relay.specs.Lent.{IsMadeOn}
 use Rattle.tds_relay.specs.Ties.{desk_in, IsReached}
 use Rattle.tds_relay.proofs.steps.Fronts.{moves_same}
 use Rattle.tds_relay.proofs.steps.Reaching.{ok_more}
@@ -14,7 +14,7 @@ use Rattle.tds_relay.proofs.spared.Ordered.{ordered_on, ordered_same}
 use Rattle.tds_relay.specs.Closings.{Itself, register_in}
 use Rattle.tds_relay.proofs.spared.Closings.{closes_first, closes_nobody}
 use Rattle.tds_relay.proofs.spared.Shutting.{closes_pushed}
-use Rattle.tds_relay.proofs.spared.Begun.{begins_on, pushed_sized}
+use Rattle.tds_relay.proofs.spared.Begun.{begins_on, pushed_made}
 use Rattle.tds_relay.proofs.spared.Few.{few_again, few_pushed, none_stays}
 use Rattle.tds_relay.proofs.spared.Lasting.{last_first_on, last_pushed}
 use Rattle.tds_relay.proofs.relay.Relay.lend.Goals as goal
@@ -62,9 +62,10 @@ returns-clause-closes c = closes_pushed (Itself c.args.served.hold.key) _ _ _ c.
 pub returns-then-served-clause-begins : goal.returns-then-served-clause-begins
 returns-then-served-clause-begins c = λ had. begins_on c.start_kept.result c.args.served.hold.number _ _ _ c.restart.ensures.begins c.start_kept.ensures.answers
 
-pub returns-clause-sized : goal.returns-clause-sized
-returns-clause-sized c = λ had none.
-    subst (λ (ls : List Link). IsSizedOn c.args.self.now.size c.args.served.hold.number ls) (sym c.in_ok-push.ensures.items) (pushed_sized c.args.self.now.size c.args.served.hold.number c.args.self.now.links.items c.in_ok-link.link none c.in_ok-link.ensures.sized)
+pub returns-clause-made : goal.returns-clause-made
+returns-clause-made c = λ had none.
+    subst (λ (ls : List Link). IsMadeOn c.args.self.now.size c.args.self.now.features c.args.served.hold.number ls) (sym c.in_ok-push.ensures.items)
+    (pushed_made c.args.self.now.size c.args.self.now.features c.args.served.hold.number c.args.self.now.links.items c.in_ok-link.link none c.in_ok-link.ensures.made)
 
 pub returns-then-served-clause-few : goal.returns-then-served-clause-few
 returns-then-served-clause-few c = few_again c.start_kept.result c.args.served.had _ _ _ (search rules) (none_stays _ _ c.restart.ensures.read) c.start_kept.ensures.read

@@ -12,9 +12,10 @@ use Rattle.tds_relay.proofs.steps.Renaming.{names_on}
 use Rattle.tds_relay.specs.Posts.{names_in, names_of}
 use Rattle.tds_relay.proofs.spared.Ordered.{ordered_both, ordered_on, ordered_same}
 use Rattle.tds_relay.proofs.spared.Lines.{waited_on}
-use Rattle.tds_relay.specs.Closings.{IsWaiting, IsWho, Nobody, WhoOrWaiting}
+use Rattle.tds_relay.specs.Closings.{IsWaiting, IsWho, Nobody, WhoOrWaiting, register_in}
+use Rattle.tds_relay.specs.Sending.{IsToWrite, called_at}
 use Rattle.tds_relay.specs.Hall.{holder, is_in}
-use Rattle.tds_relay.proofs.spared.Closings.{closes_both, closes_more, closes_nobody, closes_with}
+use Rattle.tds_relay.proofs.spared.Closings.{closes_both, closes_more, closes_nobody, closes_with, writes_behind, writes_stay}
 use Rattle.tds_relay.proofs.spared.Few.{few_behind, most_kept, none_both, none_same, none_stays}
 use Rattle.tds_relay.proofs.relay.Relay.opened.Goals as goal
 
@@ -82,3 +83,8 @@ returns-clause-closes c = let same = c.order_write_on.ensures.desk ∙ c.set_ope
 
 pub returns-clause-few : goal.returns-clause-few
 returns-clause-few c = few_behind c.serve_line.result _ _ _ _ _ (most_kept _ _ (c.in_ok-start_on.ensures.closes.told ∙ c.in_ok-order_write_on.ensures.closes.told ∙ c.set_open.ensures.closes.told)) (none_both _ _ _ (none_same _ _ c.set_open.ensures.waits) (none_stays _ _ (stays_behind _ _ _ c.in_ok-order_write_on.ensures.links c.in_ok-start_on.ensures.read))) c.serve_line.ensures.few
+
+pub returns-clause-writes : goal.returns-clause-writes
+returns-clause-writes c =
+    writes_stay c.serve_line.result (IsWaiting (desk_in c.start_on.new.self.desk).line) c.args.number (register_in c.start_on.new.self) (register_in c.serve_line.new.self) c.serve_line.ensures.closes
+    (writes_behind (IsWho (holder (desk_in c.order_write_on.new.self.desk) c.args.number)) c.args.number (register_in c.order_write_on.new.self) (register_in c.start_on.new.self) c.in_ok-start_on.ensures.closes c.in_ok-order_write_on.ensures.writes)

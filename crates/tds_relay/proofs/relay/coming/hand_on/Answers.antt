@@ -1,7 +1,7 @@
 use Rattle.std.proofs.Common.{◌∙◌, ◌++◌, ℕ, Bool, List, Some, ap, refl, subst, sym}
 use Rattle.tds_packet.specs.Layout.{header_bytes}
 use Rattle.tds_relay.specs.Cutting.{awaited}
-use Rattle.tds_relay.specs.Handing.{IsOf}
+use Rattle.tds_relay.specs.Handing.{IsKnownBy, IsOf}
 use Rattle.tds_relay.specs.House.{Whole, Without, behind_news}
 use Rattle.tds_relay.specs.Posts.{Post, post_in, put}
 use Rattle.tds_relay.proofs.steps.Handed.{news_first}
@@ -37,3 +37,14 @@ returns-then-news-clause-end c = ok_if c.put_without_news.result _ refl
 
 pub returns-else-news-clause-end : goal.returns-else-news-clause-end
 returns-else-news-clause-end c = ok_if c.put_packet.result _ refl
+
+pub returns-then-news-clause-known : goal.returns-then-news-clause-known
+returns-then-news-clause-known c =
+    ok_more c.put_without_news.result _ _
+    (λ behind. subst (λ (b : Bool). IsKnownBy b c.args.news.is_owed c.args.answer.now c.args.packet.header c.args.packet.«data».now c.put_without_news.new.self) (sym c.if-news.true) behind)
+    c.put_without_news.ensures.behind
+
+pub returns-else-news-clause-known : goal.returns-else-news-clause-known
+returns-else-news-clause-known c =
+    ok_if c.put_packet.result _
+    (subst (λ (b : Bool). IsKnownBy b c.args.news.is_owed c.args.answer.now c.args.packet.header c.args.packet.«data».now c.args.answer.now) (sym c.if-news.false) refl)

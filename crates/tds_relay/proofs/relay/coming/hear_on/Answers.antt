@@ -1,6 +1,8 @@
-use Rattle.std.proofs.Common.{◌≡◌, ◌∙◌, false, rules, sym, true}
+use Rattle.std.proofs.Common.{◌≡◌, ◌∙◌, false, rules, subst, sym, true}
+use Rattle.tds_packet.specs.Reading.{Reading}
 use Rattle.tds_packet.specs.declared.kind.Direction.TheVariants.{ToClient}
 use Rattle.tds_service.specs.Table.{reading_on}
+use Rattle.tds_relay.specs.Handing.{KnowsOn}
 use Rattle.tds_relay.proofs.steps.Handed.{done_keeps, hears_is}
 use Rattle.tds_relay.proofs.bytes.Reader.{reads_by}
 use Rattle.tds_relay.proofs.bytes.Turns.{takes_some}
@@ -43,3 +45,9 @@ returns-in-Err-clause-cleans c = tt
 
 pub returns-clause-cleans : goal.returns-clause-cleans
 returns-clause-cleans c = c.in_ok-heard.ensures.cleans
+
+pub returns-in-Err-clause-known : goal.returns-in-Err-clause-known
+returns-in-Err-clause-known c = inl refl
+
+pub returns-clause-known : goal.returns-clause-known
+returns-clause-known c = subst (λ (r : Reading). KnowsOn r c.args.link.now.answer c.hear_packet.new.link.answer) c.feed.ensures.taken c.in_ok-heard.ensures.known

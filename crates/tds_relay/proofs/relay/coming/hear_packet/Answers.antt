@@ -11,7 +11,7 @@ use Rattle.tds_relay.specs.House.{IsTold, Withheld, closes, end_whose, handed, h
 use Rattle.tds_relay.specs.Posts.{posts_in}
 use Rattle.tds_relay.specs.Ties.{Connection, desk_in, part_on}
 use Rattle.tds_relay.proofs.steps.Fronts.{ends_kept}
-use Rattle.tds_relay.proofs.steps.Handed.{end_whose_is, handed_for, handed_is, has_walker, passing, to_absent, to_closed, to_deaf, to_nobody, to_one, withheld_for, withheld_is}
+use Rattle.tds_relay.proofs.steps.Handed.{end_whose_is, handed_for, handed_is, has_walker, knows_by, passing, to_absent, to_closed, to_deaf, to_nobody, to_one, withheld_for, withheld_is}
 use Rattle.tds_relay.proofs.steps.Posting.{posts_kept}
 use Rattle.tds_relay.proofs.steps.Reaching.{reaches_turn}
 use Rattle.tds_relay.proofs.steps.Resets.{heard_so, told_for, unowed}
@@ -204,3 +204,23 @@ returns-clause-cleans c = c.in_ok-heard.ensures.cleans
 
 pub returns-in_default-clause-cleans : goal.returns-in_default-clause-cleans
 returns-in_default-clause-cleans c = λ not. inl refl
+
+pub returns-in_default-clause-known : goal.returns-in_default-clause-known
+returns-in_default-clause-known c = inl refl
+
+pub returns-then-matches-clause-known : goal.returns-then-matches-clause-known
+returns-then-matches-clause-known c = inl refl
+
+pub returns-in_default-key-clause-known : goal.returns-in_default-key-clause-known
+returns-in_default-key-clause-known c = inl refl
+
+pub returns-in_default-get_mut-clause-known : goal.returns-in_default-get_mut-clause-known
+returns-in_default-get_mut-clause-known c = inl refl
+
+pub returns-then-not-hears-clause-known : goal.returns-then-not-hears-clause-known
+returns-then-not-hears-clause-known c = inl refl
+
+pub returns-clause-known : goal.returns-clause-known
+returns-clause-known c =
+    knows_by c.news_for-news.result.is_cut c.news_for-news.result.is_owed c.args.link.now.reader c.args.link.now.answer c.in-Some.packet.header c.in-Some.packet.«data».now c.hand_on.new.answer c.in-Some.ensures.lent
+    c.in_ok-hand_on.ensures.known
