@@ -1,5 +1,5 @@
 -- An attention that is seen later leaves a conversation where it was, as long as the server goes on with the answer.
-use Rattle.std.proofs.Common.{◌≡◌, ◌∙◌, ℕ, Bool, true, List, [], ◌∷◌, ◌++◌, refl, ap, subst}
+use Rattle.std.proofs.Common.{◌≡◌, ◌∙◌, ℕ, Bool, true, false, List, [], ◌∷◌, ◌++◌, refl, ap, subst}
 use Rattle.tds_judge.specs.declared.finding.Spot.{Spot}
 use Rattle.tds_judge.specs.declared.talk.Event.{Event}
 use Rattle.tds_judge.specs.declared.talk.Event.TheVariants as events
@@ -85,6 +85,14 @@ place_crossed Stopping last most dated forgotten _ is stop may = absurd stop
 place_crossed (Skipping done) last most dated forgotten _ is stop may = absurd stop
 place_crossed place last most dated forgotten _ is stop may = absurd is
 
+-- nothing that the server says ends a message that is to be ignored
+none_forgotten : (event : Event) → IsOfServer event → forgotten_by event false ≡ false
+none_forgotten (events.Packet size fills) is = refl
+none_forgotten events.Answer is = refl
+none_forgotten (events.Says token) is = refl
+none_forgotten (events.Answered whole) is = refl
+none_forgotten _ is = absurd is
+
 pub crossed : (past rest : List Said) (here there : Spot) (size status : ℕ) (event : Event)
     → IsOfServer event → May past event
     → IsLawful (rest ++ said there event ∷ said here (events.Attention size status) ∷ past)
@@ -96,5 +104,5 @@ crossed past rest here there size status event is may lawful =
     let before = lawful_before rest xs lawful in
     let attends = before.0.1 in
     let both = place_crossed (place_of past) (last_told past) (size_told past) (is_dated past) (is_forgotten past) event is attends.0 may in
-    lawful_rest rest xs ys (record { place = both.0; last = refl; asks = refl; cleared = refl; agreed = refl; size = refl; dated = refl; forgotten = refl }) lawful
+    lawful_rest rest xs ys (record { place = both.0; last = refl; asks = refl; cleared = refl; agreed = refl; size = refl; dated = refl; forgotten = none_forgotten event is }) lawful
     ((before.0.0, may), (both.1, attends.1, attends.2))
