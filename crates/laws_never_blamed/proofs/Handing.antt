@@ -22,7 +22,7 @@ use Rattle.tds_judge.specs.declared.talk.Event.TheVariants as events
 use Rattle.tds_judge.specs.declared.talk.Reset.{Reset as Asks}
 use Rattle.tds_judge.specs.declared.talk.Reset.TheVariants as resets
 use Rattle.tds_judge.specs.Conversation.{MayAnswer, MayEnd, Place, Asking, Answering, Quiet, Skipping, Stopping, begun_at, ended_at, place_of}
-use Rattle.tds_judge.specs.History.{Said}
+use Rattle.tds_judge.specs.History.{Said, is_forgotten}
 use Rattle.laws_never_blamed.specs.Seen.{AreBehindLogin, Eye, acknowledge, sees, sees_begin, sees_items, sees_packet}
 use Rattle.laws_never_blamed.specs.Relayed.{EndsFinally, Side, goes_on_behind, sees_handed, sees_news, sees_told, own_news}
 use Rattle.laws_never_blamed.proofs.Hears.{as_reset}
@@ -57,7 +57,7 @@ reads_at eye true asks past now = goes_on_at eye past resets.None (record { fine
 reads_at eye false asks past now =
     let here : place_of (sees_packet eye past) ≡ Asking (as_reset asks) = packet_place eye past ∙ now.at in
     record {
-      fine = fine_answer eye (sees_packet eye past) (subst MayAnswer (sym here) tt) (packet_fine eye past now.fine);
+      fine = fine_answer eye (sees_packet eye past) (subst (MayAnswer (is_forgotten (sees_packet eye past))) (sym here) tt) (packet_fine eye past now.fine);
       at = record { final = false; place = answer_place eye (sees_packet eye past) ∙ ap begun_at here };
     }
 
@@ -66,7 +66,7 @@ skips_at eye true asks past now = record { fine = packet_fine eye past now.fine;
 skips_at eye false asks past now =
     let here : place_of (sees_packet eye past) ≡ Stopping = packet_place eye past ∙ now.at in
     record {
-      fine = fine_answer eye (sees_packet eye past) (subst MayAnswer (sym here) tt) (packet_fine eye past now.fine);
+      fine = fine_answer eye (sees_packet eye past) (subst (MayAnswer (is_forgotten (sees_packet eye past))) (sym here) tt) (packet_fine eye past now.fine);
       place = answer_place eye (sees_packet eye past) ∙ ap begun_at here;
     }
 

@@ -16,7 +16,7 @@ use Rattle.tds_judge.specs.declared.talk.Reset.{Reset as Asks}
 use Rattle.tds_judge.specs.declared.talk.Reset.TheVariants as resets
 use Rattle.tds_judge.specs.Breaches.{agreed_last, final_by_token, size_by_token, size_told}
 use Rattle.tds_judge.specs.Conversation.{IsLawful, MayAnswer, MayEnd, MaySay, Place, Answering, Skipping, heard_at, left_by, place_of}
-use Rattle.tds_judge.specs.History.{Said}
+use Rattle.tds_judge.specs.History.{Said, is_forgotten}
 use Rattle.tds_judge.specs.Talking.{acknowledges, says_more, told_acknowledges}
 use Rattle.tds_relay.specs.House.{news_in, news_of, owed_behind}
 use Rattle.laws_never_blamed.specs.Seen.{AreBehindLogin, Eye, NothingIf, acknowledge, sees, sees_items}
@@ -59,7 +59,7 @@ pub fine_attention : (eye : Eye) (past : List Said) → Fine past → Fine (sees
 unfolding IsLawful AllSupposed agreed_last size_told
 fine_attention eye past f = record { lawful = λ s. (f.lawful s.0, s.1); agreed = f.agreed; size = f.size }
 
-pub fine_answer : (eye : Eye) (past : List Said) → MayAnswer (place_of past) → Fine past → Fine (sees eye past events.Answer)
+pub fine_answer : (eye : Eye) (past : List Said) → MayAnswer (is_forgotten past) (place_of past) → Fine past → Fine (sees eye past events.Answer)
 unfolding IsLawful AllSupposed agreed_last size_told
 fine_answer eye past may f = record { lawful = λ s. (f.lawful s.0, may); agreed = f.agreed; size = f.size }
 

@@ -21,7 +21,7 @@ use Rattle.tds_judge.specs.declared.talk.Event.TheVariants as events
 use Rattle.tds_judge.specs.declared.talk.Reset.{Reset as Asks}
 use Rattle.tds_judge.specs.Breaches.{agreed_last, final_by_token, size_by_token, size_told}
 use Rattle.tds_judge.specs.Conversation.{IsLawful, MayAnswer, MayEnd, MaySay, Place, Quiet, Asking, Answering, Stopping, Skipping, begun_at, ended_at, heard_at, left_by, place_of}
-use Rattle.tds_judge.specs.History.{Said, asks_of, is_cleared, last_told, owed_of}
+use Rattle.tds_judge.specs.History.{Said, asks_of, is_cleared, is_forgotten, last_told, owed_of}
 use Rattle.tds_judge.specs.Talking.{acknowledges}
 use Rattle.laws_never_blamed.specs.Seen.{AreBehindLogin, EndsIf, Eye, IsBehindLogin, NothingIf, Watch, acknowledge, sees, sees_begin, sees_close, sees_items, sees_packet}
 use Rattle.laws_conforming_server.specs.Answering.{IsNoFault}
@@ -172,7 +172,7 @@ pub reading_begins : (eye : Eye) (begun : Bool) (named : ℕ) (h : Heard) (past 
 unfolding IsLawful agreed_last size_told last_told place_of asks_of is_cleared
 reading_begins eye true named h past k a = (k, a)
 reading_begins eye false named h past k a = (
-  record { lawful = (k.lawful, subst MayAnswer (sym a.place) tt); agreed = k.agreed; size = k.size; last = k.last },
+  record { lawful = (k.lawful, subst (MayAnswer (is_forgotten past)) (sym a.place) tt); agreed = k.agreed; size = k.size; last = k.last },
   record {
     place = ap begun_at a.place ∙ ap (λ (d : FinalDone). Answering (as_reset h.mark) (is_final d)) (sym a.done);
     owes = a.owes;
@@ -185,7 +185,7 @@ pub skipping_begins : (eye : Eye) (begun : Bool) (named : ℕ) (h : Heard) (past
 unfolding IsLawful agreed_last size_told last_told place_of asks_of is_cleared
 skipping_begins eye true named h past k a = (k, a.0, a.1)
 skipping_begins eye false named h past k a = (
-  record { lawful = (k.lawful, subst MayAnswer (sym a.place) tt); agreed = k.agreed; size = k.size; last = k.last },
+  record { lawful = (k.lawful, subst (MayAnswer (is_forgotten past)) (sym a.place) tt); agreed = k.agreed; size = k.size; last = k.last },
   record { place = ap begun_at a.place ∙ ap (λ (d : FinalDone). Skipping (is_acknowledged d)) (sym a.done); owes = a.owes },
   ap is_acknowledged a.done,
 )

@@ -22,7 +22,7 @@ use Rattle.tds_judge.specs.declared.talk.Event.TheVariants as events
 use Rattle.tds_judge.specs.declared.talk.Reset.{Reset as Asks}
 use Rattle.tds_judge.specs.declared.talk.Reset.TheVariants as resets
 use Rattle.tds_judge.specs.Conversation.{MayAnswer, MayEnd, Place, Quiet, Asking, Answering, Stopping, Skipping, begun_at, ended_at, forgotten_at, heard_at, place_of, stopped_at}
-use Rattle.tds_judge.specs.History.{Said}
+use Rattle.tds_judge.specs.History.{Said, is_forgotten}
 use Rattle.tds_judge.specs.Talking as talking
 use Rattle.laws_never_blamed.specs.Seen.{Eye, sees, sees_packet, sees_request}
 use Rattle.laws_never_blamed.specs.Relayed.{Side, own_acknowledgement, sees_attention, sees_dropped, sees_first, sees_more, sees_owed}
@@ -158,7 +158,7 @@ owed_fine s past pieces f e =
     let three = sees eye two (events.Says own_acknowledgement) in
     let f1 = fine_packet eye past (eye.length past) (eye.fills past) f in
     let e2 : place_of two ≡ Skipping false = ap begun_at e in
-    let f2 = fine_answer eye one (subst MayAnswer (sym e) tt) f1 in
+    let f2 = fine_answer eye one (subst (MayAnswer (is_forgotten one)) (sym e) tt) f1 in
     let e3 : place_of three ≡ Skipping true = ap (heard_at own_acknowledgement) e2 in
     let f3 = fine_says eye two own_acknowledgement (subst (λ (p : Place). Rattle.tds_judge.specs.Conversation.MaySay p own_acknowledgement) (sym e2) refl) tt f2 in
     (fine_answered eye three true (λ final. subst (λ (p : Place). MayEnd p true) (sym e3) tt) f3, ap ended_at e3)

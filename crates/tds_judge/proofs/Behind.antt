@@ -12,7 +12,7 @@ use Rattle.tds_wire.specs.declared.told.ChangeValue.TheVariants as changes
 use Rattle.tds_wire.specs.declared.told.Told.{Told}
 use Rattle.tds_wire.specs.declared.told.Told.TheVariants as told
 use Rattle.tds_judge.specs.Breaches.{agreed_last, asked_last, gone_last, has_begun, has_worked, idle_since, is_asking, is_awaited_answer, is_bulk, is_dated, is_entering, is_lent, is_other_shown, is_over, is_unheard, size_told}
-use Rattle.tds_judge.specs.History.{Said, asks_of, further, has_asked_since, has_ended, is_acknowledged, is_cleared, is_out, is_twice, is_underway, last_told, left_underway, talk_behind, course_of}
+use Rattle.tds_judge.specs.History.{Said, asks_of, further, has_asked_since, has_ended, is_acknowledged, is_cleared, is_forgotten, is_out, is_twice, is_underway, last_told, left_underway, talk_behind, course_of}
 use Rattle.tds_judge.specs.Talking.{begun_as, descriptor_of, has_begun as begun_at, has_ended as ended_at, keeps, kind_heard, owed, talk_by}
 
 -- the talk that a history makes
@@ -28,6 +28,7 @@ talk_as past = record {
   asking = is_asking past;
   reset_done = is_cleared past;
   bulk = is_bulk past;
+  forgotten = is_forgotten past;
   transaction = last_told past;
   begun = has_begun past;
   begun_unheard = is_unheard past;
@@ -77,7 +78,7 @@ plainly t = ap (λ (b : Bool). record t { acknowledges = b }) (sym (or-false t.a
 by_change : (past : List Said) (spot : Spot) (kind start length type : ℕ) (value : ChangeValue)
     → talk_by (talk_as past) spot.time (said_token kind start length (told.Change (record { kind = type; value = value })))
     ≡ behind_of past spot (said_token kind start length (told.Change (record { kind = type; value = value })))
-unfolding talk_by asked_last course_of is_out is_twice is_dated is_other_shown asks_of is_cleared last_told has_begun is_unheard gone_last is_over is_acknowledged is_lent idle_since agreed_last size_told is_entering has_worked is_asking is_bulk
+unfolding talk_by asked_last course_of is_out is_twice is_dated is_other_shown asks_of is_cleared last_told has_begun is_unheard gone_last is_over is_acknowledged is_lent idle_since agreed_last size_told is_entering has_worked is_asking is_bulk is_forgotten
 by_change past spot kind start length type (changes.Transaction new old) =
     changed ((type == 8) || (type == 11)) (kind_heard (talk_as past) kind) spot.time type new
     ∙ plainly (record (kind_heard (talk_as past) kind) {
@@ -101,7 +102,7 @@ by_change past spot kind start length type changes.Other = plainly (kind_heard (
 
 by_token : (past : List Said) (spot : Spot) (kind start length : ℕ) (x : Told)
     → talk_by (talk_as past) spot.time (said_token kind start length x) ≡ behind_of past spot (said_token kind start length x)
-unfolding talk_by asked_last course_of is_out is_twice is_dated is_other_shown asks_of is_cleared last_told has_begun is_unheard gone_last is_over is_acknowledged is_lent idle_since agreed_last size_told is_entering has_worked is_asking is_bulk
+unfolding talk_by asked_last course_of is_out is_twice is_dated is_other_shown asks_of is_cleared last_told has_begun is_unheard gone_last is_over is_acknowledged is_lent idle_since agreed_last size_told is_entering has_worked is_asking is_bulk is_forgotten
 by_token past spot kind start length (told.Done done) = refl
 by_token past spot kind start length (told.Change change) = by_change past spot kind start length change.kind change.value
 by_token past spot kind start length (told.Message message) = plainly (kind_heard (talk_as past) kind)
@@ -115,33 +116,34 @@ by_token past spot kind start length told.Other = plainly (kind_heard (talk_as p
 
 ends : (b cut : Bool) (t : Talk) (time : ℕ)
     → (if b
-    then record t { underway = if t.attention then t.late else t.doubled && t.underway; attention = false; doubled = t.doubled && t.attention; late = false; ended_since = false; since = time; most = t.agreed }
-    else record t { underway = false; late = t.late && not t.ended_since; ended_since = true; since = time; most = t.agreed; other = t.other || cut })
+    then record t { underway = if t.attention then t.late else t.doubled && t.underway; attention = false; doubled = t.doubled && t.attention; late = false; ended_since = false; forgotten = false; since = time; most = t.agreed }
+    else record t { underway = false; late = t.late && not t.ended_since; ended_since = true; forgotten = false; since = time; most = t.agreed; other = t.other || cut })
     ≡ record t {
       underway = left_underway b t.attention t.late t.doubled t.underway;
       attention = t.attention && not b;
       doubled = if b then t.doubled && t.attention else t.doubled;
       late = not b && (t.late && not t.ended_since);
       ended_since = not b;
+      forgotten = false;
       since = time;
       most = t.agreed;
       other = if b then t.other else t.other || cut;
     }
 ends true cut t time =
-    ap (λ (a : Bool). record t { underway = if t.attention then t.late else t.doubled && t.underway; attention = a; doubled = t.doubled && t.attention; late = false; ended_since = false; since = time; most = t.agreed })
+    ap (λ (a : Bool). record t { underway = if t.attention then t.late else t.doubled && t.underway; attention = a; doubled = t.doubled && t.attention; late = false; ended_since = false; forgotten = false; since = time; most = t.agreed })
     (sym (and-false t.attention))
 ends false cut t time =
-    ap (λ (a : Bool). record t { underway = false; attention = a; late = t.late && not t.ended_since; ended_since = true; since = time; most = t.agreed; other = t.other || cut }) (sym (and-true t.attention))
+    ap (λ (a : Bool). record t { underway = false; attention = a; late = t.late && not t.ended_since; ended_since = true; forgotten = false; since = time; most = t.agreed; other = t.other || cut }) (sym (and-true t.attention))
 
 -- ---- An event
 
 said_next : (past : List Said) (spot : Spot) (event : Event) → talk_by (talk_as past) spot.time event ≡ behind_of past spot event
-unfolding talk_by asked_last course_of is_out is_twice is_dated is_other_shown asks_of is_cleared last_told has_begun is_unheard gone_last is_over is_acknowledged is_lent idle_since agreed_last size_told is_entering has_worked is_asking is_bulk
+unfolding talk_by asked_last course_of is_out is_twice is_dated is_other_shown asks_of is_cleared last_told has_begun is_unheard gone_last is_over is_acknowledged is_lent idle_since agreed_last size_told is_entering has_worked is_asking is_bulk is_forgotten
 said_next past spot (events.Says token) = by_token past spot token.kind token.start token.length token.told
 said_next past spot (events.Answered whole) = ends (is_acknowledged past) (is_awaited_answer past && (not whole && not (is_dated past))) (talk_as past) spot.time
 said_next past spot _ = refl
 
 pub talk_is : (past : List Said) → talk_behind past ≡ talk_as past
-unfolding further asked_last course_of is_out is_twice is_dated is_other_shown asks_of is_cleared last_told has_begun is_unheard gone_last is_over is_acknowledged is_lent idle_since agreed_last size_told is_entering has_worked is_asking is_bulk
+unfolding further asked_last course_of is_out is_twice is_dated is_other_shown asks_of is_cleared last_told has_begun is_unheard gone_last is_over is_acknowledged is_lent idle_since agreed_last size_told is_entering has_worked is_asking is_bulk is_forgotten
 talk_is [] = refl
 talk_is (x ∷ past) = ap (λ (t : Talk). talk_by t x.spot.time x.event) (talk_is past) ∙ said_next past x.spot x.event

@@ -6,6 +6,7 @@ pub mod Behind
 pub mod Notes
 pub mod Each
 pub mod Breaking
+pub mod Standing
 pub mod Lawful
 pub mod Handing
 pub mod Conversations

@@ -108,7 +108,7 @@ notes_of limits t spot (events.Answered whole) =
     note (is_plain t && (not whole && t.dated)) names.CutToken 0
     ∷ note (is_awaited t && (not whole && not t.dated)) names.OtherVersion 0
     ∷ note (is_plain t && (whole && not t.is_final)) names.NoFinalDone 0
-    ∷ note (is_plain t && (t.is_final && ((is_asked t.reset && not t.reset_done) && not t.bulk))) names.ResetUnanswered 0
+    ∷ note (is_plain t && (t.is_final && (((is_asked t.reset && not t.forgotten) && not t.reset_done) && not t.bulk))) names.ResetUnanswered 0
     ∷ note (t.attention && (not t.acknowledges && (t.late && t.ended_since))) names.AttentionIgnored 0
     ∷ []
 notes_of limits t spot events.TakenUp = note true names.TakenUp 0 ∷ []

@@ -17,7 +17,7 @@ use Rattle.tds_wire.specs.declared.told.Told.TheVariants as told
 use Rattle.tds_wire.specs.declared.told.Token.{Token}
 use Rattle.tds_judge.specs.Breaches.{final_by_token, is_dated, size_told}
 use Rattle.tds_judge.specs.Framing.{Run, closed, event_said, steps}
-use Rattle.tds_judge.specs.History.{Said, last_told}
+use Rattle.tds_judge.specs.History.{Said, is_forgotten, last_told}
 use Rattle.tds_judge.specs.Talking.{acknowledges, admits, changes_wrongly, ignores_early, is_both, is_full, reset_of, says_more}
 
 -- Where a conversation is.
@@ -57,6 +57,7 @@ heard_at token place = place
 -- a message of the server begins, and ends
 abbrev pub begun_at : Place → Place
 begun_at (Asking reset) = Answering reset false
+begun_at Quiet = Answering resets.None false
 begun_at Stopping = Skipping false
 begun_at place = place
 
@@ -69,10 +70,11 @@ abbrev pub stopped_at : Place → Place
 stopped_at (Answering reset final) = Skipping false
 stopped_at place = Stopping
 
--- what the server is to ignore isn't answered (2.2.3.1.2)
+-- what the server is to ignore need not be answered (2.2.1.7), and its reset isn't to be told done
 abbrev pub forgotten_at : Place → Place
 forgotten_at (Asking reset) = Quiet
 forgotten_at (Greeting enters) = Entering
+forgotten_at (Answering reset final) = Answering resets.None final
 forgotten_at place = place
 
 abbrev pub place_by : Event → Place → Place
@@ -119,12 +121,13 @@ abbrev pub MayName : Place → Transaction → ℕ → Type 0
 MayName (Asking reset) last descriptor = Names last reset descriptor
 MayName _ last descriptor = ⊥
 
--- A message of the server begins where one is awaited.
-abbrev pub MayAnswer : Place → Type 0
-MayAnswer (Greeting enters) = Unit {0}
-MayAnswer (Asking reset) = Unit {0}
-MayAnswer Stopping = Unit {0}
-MayAnswer _ = ⊥
+-- A message of the server begins where one is awaited, or to say of a request that it was ignored, and failed so (2.2.1.7).
+abbrev pub MayAnswer : Bool → Place → Type 0
+MayAnswer forgotten (Greeting enters) = Unit {0}
+MayAnswer forgotten (Asking reset) = Unit {0}
+MayAnswer forgotten Stopping = Unit {0}
+MayAnswer forgotten Quiet = forgotten ≡ true
+MayAnswer forgotten _ = ⊥
 
 -- The answer to a request acknowledges no attention. Behind an acknowledgement nothing comes in its message (2.2.7.6). None begins a transaction
 -- inside another one, or ends another one (2.2.7.9).
@@ -160,27 +163,28 @@ abbrev pub MayHead : Bool → Type 0
 MayHead false = Unit {0}
 MayHead true = ⊥
 
--- by the transaction and the packet size that were told last, 0 where no size was, and by whether TDS 7.2 or later was shown
-abbrev pub MayAt : Place → Transaction → ℕ → Bool → Event → Type 0
-MayAt place last most dated (events.Packet size fills) = ((most == 0) || not (nat_lt most size)) ≡ true
-MayAt place last most dated events.Unfinished = ⊥
-MayAt place last most dated (events.Request status bulk) = MayAsk place status
-MayAt place last most dated events.Login = MayGreet place
-MayAt place last most dated (events.Attention size status) = MayStop place × (size ≡ 8) × (status ≡ 1)
-MayAt place last most dated (events.Later status) = (reset_of status ≡ resets.None) × (ignores_early status ≡ false)
-MayAt place last most dated (events.Names descriptor) = MayName place last descriptor
-MayAt place last most dated (events.Headers fault) = MayHead dated
-MayAt place last most dated events.Ignored = Unit {0}
-MayAt place last most dated events.Answer = MayAnswer place
-MayAt place last most dated (events.Says token) = MaySay place token × (changes_wrongly last token ≡ false)
-MayAt place last most dated (events.Answered whole) = MayEnd place whole
-MayAt place last most dated events.TakenUp = Unit {0}
-MayAt place last most dated (events.Stops ending value) = MayStay ending
-MayAt place last most dated events.Borrowed = MayLend place
-MayAt place last most dated events.Closed = Unit {0}
+-- by the transaction and the packet size that were told last, 0 where no size was, and by whether TDS 7.2 or later was shown, and a message that
+-- is to be ignored ended last
+abbrev pub MayAt : Place → Transaction → ℕ → (dated forgotten : Bool) → Event → Type 0
+MayAt place last most dated forgotten (events.Packet size fills) = ((most == 0) || not (nat_lt most size)) ≡ true
+MayAt place last most dated forgotten events.Unfinished = ⊥
+MayAt place last most dated forgotten (events.Request status bulk) = MayAsk place status
+MayAt place last most dated forgotten events.Login = MayGreet place
+MayAt place last most dated forgotten (events.Attention size status) = MayStop place × (size ≡ 8) × (status ≡ 1)
+MayAt place last most dated forgotten (events.Later status) = (reset_of status ≡ resets.None) × (ignores_early status ≡ false)
+MayAt place last most dated forgotten (events.Names descriptor) = MayName place last descriptor
+MayAt place last most dated forgotten (events.Headers fault) = MayHead dated
+MayAt place last most dated forgotten events.Ignored = Unit {0}
+MayAt place last most dated forgotten events.Answer = MayAnswer forgotten place
+MayAt place last most dated forgotten (events.Says token) = MaySay place token × (changes_wrongly last token ≡ false)
+MayAt place last most dated forgotten (events.Answered whole) = MayEnd place whole
+MayAt place last most dated forgotten events.TakenUp = Unit {0}
+MayAt place last most dated forgotten (events.Stops ending value) = MayStay ending
+MayAt place last most dated forgotten events.Borrowed = MayLend place
+MayAt place last most dated forgotten events.Closed = Unit {0}
 
 abbrev pub May : List Said → Event → Type 0
-May past event = MayAt (place_of past) (last_told past) (size_told past) (is_dated past) event
+May past event = MayAt (place_of past) (last_told past) (size_told past) (is_dated past) (is_forgotten past) event
 
 -- ---- A lawful conversation, the newest first
 

@@ -117,23 +117,36 @@ is_twice (x ∷ past) = twice_by x.event (is_acknowledged past) (is_out past) (i
 abbrev pub left_underway : (acknowledged out since twice before : Bool) → Bool
 left_underway acknowledged out since twice before = if acknowledged then (if out then since else twice && before) else false
 
-abbrev pub underway_by : Event → (acknowledged out since twice before : Bool) → Bool
-underway_by (events.Request status bulk) acknowledged out since twice before = true
-underway_by events.Login acknowledged out since twice before = true
-underway_by (events.Answered whole) acknowledged out since twice before = left_underway acknowledged out since twice before
-underway_by events.Ignored acknowledged out since twice before = false
-underway_by (events.Attention size status) acknowledged out since twice before = before
-underway_by events.Answer acknowledged out since twice before = before
-underway_by (events.Says token) acknowledged out since twice before = before
-underway_by (events.Packet size fills) acknowledged out since twice before = before
-underway_by events.Unfinished acknowledged out since twice before = before
-underway_by (events.Later status) acknowledged out since twice before = before
-underway_by (events.Names descriptor) acknowledged out since twice before = before
-underway_by (events.Headers fault) acknowledged out since twice before = before
-underway_by events.TakenUp acknowledged out since twice before = before
-underway_by (events.Stops ending value) acknowledged out since twice before = before
-underway_by events.Borrowed acknowledged out since twice before = before
-underway_by events.Closed acknowledged out since twice before = before
+-- A message that is to be ignored has ended, and nothing was sent or answered since: the server may answer that it ignored it (2.2.1.7).
+abbrev pub forgotten_by : Event → Bool → Bool
+forgotten_by events.Ignored before = true
+forgotten_by (events.Request status bulk) before = false
+forgotten_by events.Login before = false
+forgotten_by (events.Attention size status) before = false
+forgotten_by (events.Answered whole) before = false
+forgotten_by _ before = before
+
+unfoldable pub is_forgotten : List Said → Bool
+is_forgotten [] = false
+is_forgotten (x ∷ past) = forgotten_by x.event (is_forgotten past)
+
+abbrev pub underway_by : Event → (acknowledged out since twice forgotten before : Bool) → Bool
+underway_by (events.Request status bulk) acknowledged out since twice forgotten before = true
+underway_by events.Login acknowledged out since twice forgotten before = true
+underway_by (events.Answered whole) acknowledged out since twice forgotten before = left_underway acknowledged out since twice before
+underway_by events.Ignored acknowledged out since twice forgotten before = false
+underway_by (events.Attention size status) acknowledged out since twice forgotten before = before
+underway_by events.Answer acknowledged out since twice forgotten before = before || forgotten
+underway_by (events.Says token) acknowledged out since twice forgotten before = before
+underway_by (events.Packet size fills) acknowledged out since twice forgotten before = before
+underway_by events.Unfinished acknowledged out since twice forgotten before = before
+underway_by (events.Later status) acknowledged out since twice forgotten before = before
+underway_by (events.Names descriptor) acknowledged out since twice forgotten before = before
+underway_by (events.Headers fault) acknowledged out since twice forgotten before = before
+underway_by events.TakenUp acknowledged out since twice forgotten before = before
+underway_by (events.Stops ending value) acknowledged out since twice forgotten before = before
+underway_by events.Borrowed acknowledged out since twice forgotten before = before
+underway_by events.Closed acknowledged out since twice forgotten before = before
 
 -- since the attention that is out, the answer of its request has ended
 abbrev pub ended_by : Event → (acknowledged underway before : Bool) → Bool
@@ -153,16 +166,16 @@ pub record Course : Type 0 where
   pub ended : Bool
   pub since : Bool
 
-abbrev pub course_by : Event → (acknowledged out twice : Bool) → Course → Course
-course_by event acknowledged out twice t = record {
-  underway = underway_by event acknowledged out t.since twice t.underway;
+abbrev pub course_by : Event → (acknowledged out twice forgotten : Bool) → Course → Course
+course_by event acknowledged out twice forgotten t = record {
+  underway = underway_by event acknowledged out t.since twice forgotten t.underway;
   ended = ended_by event acknowledged t.underway t.ended;
   since = asked_since_by event acknowledged out t.ended t.since;
 }
 
 unfoldable pub course_of : List Said → Course
 course_of [] = record { underway = false; ended = false; since = false }
-course_of (x ∷ past) = course_by x.event (is_acknowledged past) (is_out past) (is_twice past) (course_of past)
+course_of (x ∷ past) = course_by x.event (is_acknowledged past) (is_out past) (is_twice past) (is_forgotten past) (course_of past)
 
 abbrev pub is_underway : List Said → Bool
 is_underway past = (course_of past).underway

@@ -70,9 +70,9 @@ is_unasked t token = acknowledges token && (is_request t.asked && (not t.attenti
 abbrev pub is_behind : Talk → Token → Bool
 is_behind t token = t.is_final && (is_request t.asked && (not t.attention && not (acknowledges token)))
 
--- no reset is to be told done
+-- no reset is to be told done, nor one of a request that is to be ignored
 abbrev pub resets_unasked : Talk → Token → Bool
-resets_unasked t token = tells_reset token && (is_request t.asked && not (is_asked (owed t.reset_done t.reset)))
+resets_unasked t token = tells_reset token && (is_request t.asked && (not (is_asked (owed t.reset_done t.reset)) || t.forgotten))
 
 -- a reset that is to be told done is told behind what was asked for
 abbrev pub resets_late : Talk → Token → Bool
@@ -112,7 +112,7 @@ token_noted xs t spot token =
 
 -- nothing is to be answered
 abbrev pub is_unawaited : Talk → Bool
-is_unawaited t = is_known t.asked && (not t.underway && (not t.attention && not t.doubled))
+is_unawaited t = is_known t.asked && (not t.underway && (not t.attention && (not t.doubled && not t.forgotten)))
 
 abbrev pub begin_noted : List Finding → Talk → Spot → List Finding
 begin_noted xs t spot = noted (noted xs spot (is_unawaited t) names.AnswerUnasked 0) spot t.asking names.AnswerBeforeEnd 0
@@ -120,6 +120,10 @@ begin_noted xs t spot = noted (noted xs spot (is_unawaited t) names.AnswerUnaske
 -- an answer ends inside a token, where TDS 7.2 or later wasn't shown
 abbrev pub is_of_another_version : Talk → Bool → Bool
 is_of_another_version t whole = is_awaited t && (not whole && not t.dated)
+
+-- a reset is still to be told done, neither of a bulk load nor of a request that is to be ignored
+abbrev pub is_reset_due : Talk → Bool
+is_reset_due t = ((is_asked t.reset && not t.forgotten) && not t.reset_done) && not t.bulk
 
 abbrev pub answer_noted : List Finding → Talk → Spot → Bool → List Finding
 answer_noted xs t spot whole =
@@ -130,7 +134,7 @@ answer_noted xs t spot whole =
     (noted xs spot (is_plain t && (not whole && t.dated)) names.CutToken 0)
     spot (is_of_another_version t whole) names.OtherVersion 0)
     spot (is_plain t && (whole && not t.is_final)) names.NoFinalDone 0)
-    spot (is_plain t && (t.is_final && ((is_asked t.reset && not t.reset_done) && not t.bulk))) names.ResetUnanswered 0)
+    spot (is_plain t && (t.is_final && is_reset_due t)) names.ResetUnanswered 0)
     spot (t.attention && (not t.acknowledges && (t.late && t.ended_since))) names.AttentionIgnored 0
 
 abbrev pub close_noted : List Finding → Limits → Talk → Spot → List Finding

@@ -223,6 +223,7 @@ begins_request t status bulk = record t {
   reset = reset_of status;
   reset_done = false;
   bulk = bulk;
+  forgotten = false;
   begun = false;
   borrowed = t.borrowed && is_asked (reset_of status);
   entering = false;
@@ -230,7 +231,7 @@ begins_request t status bulk = record t {
 
 abbrev pub begins_login : Talk → Talk
 begins_login t =
-    record t { asked = asks.Login; underway = true; asking = false; reset = resets.None; reset_done = false; bulk = false; begun = false; transaction = transactions.Told 0; entering = true }
+    record t { asked = asks.Login; underway = true; asking = false; reset = resets.None; reset_done = false; bulk = false; forgotten = false; begun = false; transaction = transactions.Told 0; entering = true }
 
 -- a transaction that the answer underway has begun was begun by an answer that is cancelled now
 abbrev pub cancels : Talk → Talk
@@ -240,6 +241,7 @@ cancels t = record t {
   late = false;
   ended_since = not t.underway;
   asking = false;
+  forgotten = false;
   begun_unheard = t.begun_unheard || (t.begun && t.underway);
 }
 
@@ -250,7 +252,7 @@ has_named t = record t { begun_unheard = false; ended = 0; dated = true }
 -- ---- What an answer says
 
 abbrev pub begins_answer : Talk → Talk
-begins_answer t = record t { is_final = false; acknowledges = false; worked = false; asking = false }
+begins_answer t = record t { underway = t.underway || t.forgotten; is_final = false; acknowledges = false; worked = false; asking = false }
 
 -- of the three kinds of DONE the last decides
 abbrev pub is_done : Talk → Done → Talk
@@ -326,10 +328,11 @@ ends_answer t time whole =
       doubled = t.doubled && t.attention;
       late = false;
       ended_since = false;
+      forgotten = false;
       since = time;
       most = t.agreed;
     }
-    else record t { underway = false; late = t.late && not t.ended_since; ended_since = true; since = time; most = t.agreed; other = t.other || (is_awaited t && (not whole && not t.dated)) }
+    else record t { underway = false; late = t.late && not t.ended_since; ended_since = true; forgotten = false; since = time; most = t.agreed; other = t.other || (is_awaited t && (not whole && not t.dated)) }
 
 -- ---- What is said
 
@@ -343,7 +346,7 @@ talk_by t time (events.Attention size status) = cancels t
 talk_by t time (events.Later status) = record t { asking = t.asking && not (status % 2 == 1) }
 talk_by t time (events.Names descriptor) = has_named t
 talk_by t time (events.Headers fault) = t
-talk_by t time events.Ignored = record t { underway = false }
+talk_by t time events.Ignored = record t { underway = false; forgotten = true }
 talk_by t time events.Answer = begins_answer t
 talk_by t time (events.Says token) = token_heard t time token
 talk_by t time (events.Answered whole) = ends_answer t time whole
@@ -365,6 +368,7 @@ new_talk = record {
   reset = resets.None;
   reset_done = false;
   bulk = false;
+  forgotten = false;
   transaction = transactions.Unknown;
   begun = false;
   begun_unheard = false;

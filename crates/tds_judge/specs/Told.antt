@@ -10,7 +10,7 @@ use Rattle.tds_wire.specs.declared.told.Token.{Token}
 use Rattle.tds_judge.specs.Breaches.{asked_last, gone_last, idle_since, has_worked, is_asking, is_awaited_answer, is_bulk, is_dated, is_entering, is_lent, is_other_shown, is_over, is_plain_answer, is_unheard, size_told}
 use Rattle.tds_judge.specs.Framing.{Run}
 use Rattle.tds_judge.specs.Findings.{is_note, is_risk, number_of}
-use Rattle.tds_judge.specs.History.{Said, Tells, asks_of, has_asked_since, has_ended, is_acknowledged, is_another, is_attention_unanswered, is_both_resets, is_cleared, is_found, is_out, is_request_while_answering, is_second_attention, is_twice, is_underway, is_wrong_descriptor, last_told, of_names, of_request, owed_of, talk_behind}
+use Rattle.tds_judge.specs.History.{Said, Tells, asks_of, has_asked_since, has_ended, is_acknowledged, is_another, is_attention_unanswered, is_both_resets, is_cleared, is_forgotten, is_found, is_out, is_request_while_answering, is_second_attention, is_twice, is_underway, is_wrong_descriptor, last_told, of_names, of_request, owed_of, talk_behind}
 use Rattle.tds_judge.specs.Talking.{acknowledges, changes_wrongly, descriptor_of, ends_none, says_more, ignores_early, is_asked, is_full, is_known, is_request, is_short, is_unclear, reset_of, tells_reset}
 use Rattle.tds_judge.specs.Noting.{ends_by_compute, ends_by_direction, ends_by_length, ends_by_protocol, ends_by_tls, ends_by_token, ends_by_version, told_by}
 
@@ -141,9 +141,9 @@ is_reset_twice past event = of_request event (λ status. is_asked (reset_of stat
 abbrev pub is_reused : List Said → Event → Bool
 is_reused past event = of_request event (λ status. is_lent past && not (is_asked (reset_of status)))
 
--- a reset is told done, and none is to be
+-- a reset is told done, and none is to be: where the request that asked for it is to be ignored, too
 abbrev pub is_reset_unasked : List Said → Event → Bool
-is_reset_unasked past event = of_token event (λ token. tells_reset token && (is_request (asked_last past) && not (is_asked (owed_of past))))
+is_reset_unasked past event = of_token event (λ token. tells_reset token && (is_request (asked_last past) && (not (is_asked (owed_of past)) || is_forgotten past)))
 
 -- a reset that is to be told done is told behind what was asked for (2.2.3.1.2)
 abbrev pub is_reset_late : List Said → Event → Bool
@@ -155,16 +155,16 @@ is_lent_early past event = of_loan event (is_out past || (is_underway past && is
 
 -- ---- Answers
 
--- an answer begins, and no request, no login and no attention awaits one
+-- an answer begins, and no request, no login and no attention awaits one, nor is it of a message that was to be ignored
 abbrev pub is_answer_unasked : List Said → Event → Bool
-is_answer_unasked past event = of_begin event (is_known (asked_last past) && (not (is_underway past) && (not (is_out past) && not (is_twice past))))
+is_answer_unasked past event = of_begin event (is_known (asked_last past) && (not (is_underway past) && (not (is_out past) && (not (is_twice past) && not (is_forgotten past)))))
 
 -- an answer begins before the last packet of its request (2.2.3.1.2)
 abbrev pub is_early : List Said → Event → Bool
 is_early past event = of_begin event (is_asking past)
 
 abbrev pub is_reset_unanswered : List Said → Event → Bool
-is_reset_unanswered past event = of_answer event (λ whole. is_plain_answer past && (is_over past && ((is_asked (asks_of past) && not (is_cleared past)) && not (is_bulk past))))
+is_reset_unanswered past event = of_answer event (λ whole. is_plain_answer past && (is_over past && (((is_asked (asks_of past) && not (is_forgotten past)) && not (is_cleared past)) && not (is_bulk past))))
 
 abbrev pub is_without_end : List Said → Event → Bool
 is_without_end past event = of_answer event (λ whole. is_plain_answer past && (whole && not (is_over past)))

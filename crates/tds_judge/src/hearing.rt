@@ -24,6 +24,7 @@ impl Talk {
             reset: Reset::None,
             reset_done: false,
             bulk: false,
+            forgotten: false,
             transaction: Transaction::Unknown,
             begun: false,
             begun_unheard: false,
@@ -58,6 +59,7 @@ impl Talk {
         self.reset = Reset::of(status);
         self.reset_done = false;
         self.bulk = bulk;
+        self.forgotten = false;
         self.begun = false;
         self.borrowed = self.borrowed && self.reset.is_asked();
         self.entering = false;
@@ -72,6 +74,7 @@ impl Talk {
         self.reset = Reset::None;
         self.reset_done = false;
         self.bulk = false;
+        self.forgotten = false;
         self.begun = false;
         self.transaction = Transaction::Told(0);
         self.entering = true;
@@ -85,6 +88,7 @@ impl Talk {
         self.late = false;
         self.ended_since = !self.underway;
         self.asking = false;
+        self.forgotten = false;
         self.begun_unheard = self.begun_unheard || (self.begun && self.underway);
     }
 
@@ -185,6 +189,7 @@ impl Talk {
     {
         self.since = time;
         self.most = self.agreed;
+        self.forgotten = false;
         if self.acknowledges {
             self.underway = if self.attention {
                 self.late
@@ -216,8 +221,12 @@ impl Talk {
                 self.ended = 0;
                 self.dated = true;
             }
-            Event::Ignored => self.underway = false,
+            Event::Ignored => {
+                self.underway = false;
+                self.forgotten = true;
+            }
             Event::Answer => {
+                self.underway = self.underway || self.forgotten;
                 self.is_final = false;
                 self.acknowledges = false;
                 self.worked = false;

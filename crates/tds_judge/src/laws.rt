@@ -1,12 +1,12 @@
 //! What follows from the definitions alone. Each function does nothing when it runs: its contract is
 //! the law.
 
-ghost use Rattle.std.specs.Prelude.{◌≡◌, ◌&&◌, ◌++◌, ℕ, List, [], false};
+ghost use Rattle.std.specs.Prelude.{◌≡◌, ◌&&◌, ◌++◌, ℕ, List, [], false, not};
 ghost use Rattle.tds_judge.specs.Breaches.{asked_last};
 ghost use Rattle.tds_judge.specs.Conversation.{IsLawful, MayLend, Piece, place_of, seen};
 ghost use Rattle.tds_judge.specs.Framing.{IsNew, Run, run_of, steps};
 ghost use Rattle.tds_judge.specs.History.{Said, Tells, is_attention_unanswered, is_both_resets};
-ghost use Rattle.tds_judge.specs.History.{is_found, is_request_while_answering};
+ghost use Rattle.tds_judge.specs.History.{is_forgotten, is_found, is_request_while_answering};
 ghost use Rattle.tds_judge.specs.History.{is_second_attention, is_wrong_descriptor, talk_behind};
 ghost use Rattle.tds_judge.specs.Noting.{told_by};
 ghost use Rattle.tds_judge.specs.Talking.{is_known};
@@ -147,10 +147,11 @@ pub fn pieces_are_events()
 {}
 
 /// Behind a lawful conversation an answer that comes where nothing is awaited, so that none may come, is a
-/// breach, wherever anything was sent to the server.
+/// breach, wherever anything was sent to the server, but for one to a message that was to be ignored.
 pub fn unasked_answers_are_told()
     ensures { (past : List Said) → IsLawful past → MayLend (place_of past)
-        → is_breach past events.Answer ≡ is_judged past && is_known (asked_last past) }
+        → is_breach past events.Answer
+        ≡ is_judged past && (is_known (asked_last past) && not (is_forgotten past)) }
 {}
 
 /// A lawful conversation is never blamed: no event of it is a breach, behind a lawful history; and

@@ -121,7 +121,8 @@ impl Talk {
     fn is_reset_unasked(&self, token: &Token) -> bool
         ensures { result ≡ noting.resets_unasked self.now token.now }
     {
-        tells_reset(token) && self.asked.is_request() && !self.owed().is_asked()
+        let none = !self.owed().is_asked() || self.forgotten;
+        tells_reset(token) && self.asked.is_request() && none
     }
 
     /// What is still to be told done is told behind something that was done of the request.
@@ -184,7 +185,8 @@ impl Talk {
     fn is_unawaited(&self) -> bool
         ensures { result ≡ noting.is_unawaited self.now }
     {
-        self.asked.is_known() && !self.underway && !self.attention && !self.doubled
+        let none = self.asked.is_known() && !self.underway && !self.attention;
+        none && !self.doubled && !self.forgotten
     }
 
     /// Whether an answer is that to a request which wasn't cancelled.
@@ -208,6 +210,14 @@ impl Talk {
         self.is_awaited() && !whole && !self.dated
     }
 
+    /// Whether a reset is still to be told done: none of a bulk load is, nor of what is to be ignored.
+    fn is_reset_due(&self) -> bool
+        ensures { result ≡ noting.is_reset_due self.now }
+    {
+        let asked = self.reset.is_asked() && !self.forgotten;
+        asked && !self.reset_done && !self.bulk
+    }
+
     fn note_answered(&self, out: &mut Vec<Finding>, spot: Spot, whole: bool)
         requires { vec_len out.old + 5 ≤ vec_capacity out.old }
         ensures items { out.new.items
@@ -219,8 +229,7 @@ impl Talk {
         let cut = plain && !whole;
         let old = self.is_of_another_version(whole);
         let open = plain && whole && !self.is_final;
-        let due = self.reset.is_asked() && !self.reset_done && !self.bulk;
-        let unreset = plain && self.is_final && due;
+        let unreset = plain && self.is_final && self.is_reset_due();
         let ignored = self.attention && !self.acknowledges && self.late && self.ended_since;
         note(out, spot, cut && self.dated, Name::CutToken, 0);
         note(out, spot, old, Name::OtherVersion, 0);

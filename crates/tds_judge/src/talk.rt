@@ -115,6 +115,8 @@ pub struct Talk {
     pub reset: Reset,
     pub reset_done: bool,
     pub bulk: bool,
+    /// A message that is to be ignored has ended, and nothing was sent or answered since.
+    pub forgotten: bool,
     pub transaction: Transaction,
     /// The newest request's answer began a transaction.
     pub begun: bool,
