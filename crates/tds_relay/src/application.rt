@@ -8,7 +8,6 @@ use crate::NoMemory;
 use crate::desk::What;
 use crate::outgoing::{BESIDE, Outgoing, PIECE};
 use std::alloc::Global;
-use std::mem;
 use tds_client::MessageKind;
 use tds_front::laws::takes_some;
 use tds_front::{Fed, Front, FrontFault, Said, Stage};
@@ -135,15 +134,11 @@ impl Application {
             && matches!(self.reset, Some(Reset::KeepTransaction))
     }
 
-    /// What is kept of its request; nothing is any more.
-    pub(crate) fn take_held(&mut self) -> Vec<u8>
-        ensures post { post_of self.new ≡ post_of self.old }
-        ensures end { end_of self.new ≡ end_of self.old }
-        ensures asking { self.new.asking ≡ self.old.asking }
-        ensures held { result.items ≡ self.old.held.items }
-        ensures body { (self.new.is_over ≡ self.old.is_over) × (self.new.held.items ≡ []) }
+    /// What is kept of its request.
+    pub(crate) fn held(&self) -> &[u8]
+        ensures { result.now ≡ self.now.held.items }
     {
-        mem::replace(&mut self.held, Vec::new(self.alloc))
+        self.held.as_slice()
     }
 
     /// How many bytes of it may be read, so that what is kept of them may be, and what they are answered

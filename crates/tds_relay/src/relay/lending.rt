@@ -341,7 +341,8 @@ impl Relay {
             return Ok(());
         };
         application.asking = Asking::Goes;
-        let held = application.take_held();
+        let held = application.held().to_vec(self.alloc)?;
+        application.forget();
         self.put(key, &held, whole)
     }
 

@@ -28,11 +28,11 @@ pub returns-clause-body : goal.returns-clause-body
 returns-clause-body c =
     let s = c.args.self.now.applications in
     let a = c.in-Some.application.now in
-    let b = c.take_held.new.self in
+    let b = c.forget.new.self in
     let bytes : c.deref.result.now ≡ a.held.items = search rules in
     ok_more c.put.result _ _
     (λ p. subst (λ (xs : List ℕ). Grows c.args.whole xs (going_of c.args.key c.args.self.now) (body_of c.args.key c.put.new.self)) (bytes ∙ ap held_of c.in-Some.ensures.value)
-    (grows_asked c.args.whole c.deref.result.now (get (with_value s c.args.key b) c.args.key) (get c.put.new.self.applications c.args.key) (going_of c.args.key c.args.self.now) (going_of c.args.key c.put.new.self) b (written_there s c.args.key a b c.in-Some.ensures.value) c.take_held.ensures.asking p))
+    (grows_asked c.args.whole c.deref.result.now (get (with_value s c.args.key b) c.args.key) (get c.put.new.self.applications c.args.key) (going_of c.args.key c.args.self.now) (going_of c.args.key c.put.new.self) b (written_there s c.args.key a b c.in-Some.ensures.value) c.forget.ensures.asking p))
     c.put.ensures.body
 
 pub returns-clause-others : goal.returns-clause-others
@@ -43,17 +43,17 @@ pub returns-in_default-clause-gone : goal.returns-in_default-clause-gone
 returns-in_default-clause-gone c = unkept_none c.args.self.now.applications c.args.key _ (search rules)
 
 pub returns-clause-gone : goal.returns-clause-gone
-returns-clause-gone c = put_unkept_on c.put.result _ c.args.key c.args.self.now.applications c.in-Some.application.now c.take_held.new.self c.put.new.self c.put.ensures.body c.in-Some.ensures.value c.take_held.ensures.asking
+returns-clause-gone c = put_unkept_on c.put.result _ c.args.key c.args.self.now.applications c.in-Some.application.now c.forget.new.self c.put.new.self c.put.ensures.body c.in-Some.ensures.value c.forget.ensures.asking
 
 pub returns-clause-alone : goal.returns-clause-alone
 returns-clause-alone c =
-    let kept = ends_kept c.args.self.now.applications c.args.key c.in-Some.application.now c.take_held.new.self c.in-Some.ensures.value c.take_held.ensures.end in
-    alone_on c.put.result c.args.key (hall_in c.args.self.now) (hall_of_ends (desk_in c.args.self.now.desk) (ends_in (with_value c.args.self.now.applications c.args.key c.take_held.new.self))) _ c.put.ensures.alone
-    (alone_same c.args.key (hall_in c.args.self.now) (hall_of_ends (desk_in c.args.self.now.desk) (ends_in (with_value c.args.self.now.applications c.args.key c.take_held.new.self))) kept refl)
+    let kept = ends_kept c.args.self.now.applications c.args.key c.in-Some.application.now c.forget.new.self c.in-Some.ensures.value c.forget.ensures.end in
+    alone_on c.put.result c.args.key (hall_in c.args.self.now) (hall_of_ends (desk_in c.args.self.now.desk) (ends_in (with_value c.args.self.now.applications c.args.key c.forget.new.self))) _ c.put.ensures.alone
+    (alone_same c.args.key (hall_in c.args.self.now) (hall_of_ends (desk_in c.args.self.now.desk) (ends_in (with_value c.args.self.now.applications c.args.key c.forget.new.self))) kept refl)
 
 pub returns-clause-closes : goal.returns-clause-closes
 returns-clause-closes c = closes_on c.put.result (Itself c.args.key) _ _ _ (for_any c.put.result c.args.key _ _ _ c.put.ensures.closes)
-    (closes_kept (Itself c.args.key) _ _ (ends_kept c.args.self.now.applications c.args.key c.in-Some.application.now _ c.in-Some.ensures.value c.take_held.ensures.end) (posts_kept c.args.self.now.applications c.args.key c.in-Some.application.now _ c.in-Some.ensures.value c.take_held.ensures.post) refl (kept_refl c.args.self.now.links.items) (unclosed _ _ refl))
+    (closes_kept (Itself c.args.key) _ _ (ends_kept c.args.self.now.applications c.args.key c.in-Some.application.now _ c.in-Some.ensures.value c.forget.ensures.end) (posts_kept c.args.self.now.applications c.args.key c.in-Some.application.now _ c.in-Some.ensures.value c.forget.ensures.post) refl (kept_refl c.args.self.now.links.items) (unclosed _ _ refl))
 
 pub returns-in_default-clause-answers : goal.returns-in_default-clause-answers
 returns-in_default-clause-answers c = answers_refl c.args.self.now.links.items
