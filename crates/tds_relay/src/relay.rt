@@ -2,6 +2,7 @@
 ghost use Rattle.std.specs.Prelude.{◌≡◌, ◌-◌, ◌≤◌, [], ℕ, Bool, IfOk, IfSome, None, OnOk, Some, false, length};
 ghost use Rattle.std.specs.Prelude.{IsSome, option_copied, true};
 ghost use Rattle.slab.specs.Slab.{get, slab_len};
+ghost use Rattle.tds_front.specs.Bytes.{new_front};
 ghost use Rattle.tds_service.specs.Sizes.{AllSized};
 ghost use Rattle.tds_relay.specs.Asking.{IsUnderway};
 ghost use Rattle.tds_relay.specs.Bodies.{AskAsBefore, Nowhere, body_of};
@@ -10,7 +11,7 @@ ghost use Rattle.tds_relay.specs.Closings.{ClosesOnly, Nobody, register_in};
 ghost use Rattle.tds_relay.specs.Desk.{find_key, find_number, key_of, new_desk};
 ghost use Rattle.tds_relay.specs.Fronts.{Moved, ends_in, hall_in, house_in};
 ghost use Rattle.tds_relay.specs.Hall.{IfOpen, IsAway, IsHere, MayPart, change_end, end_at};
-ghost use Rattle.tds_relay.specs.Hall.{lets_go};
+ghost use Rattle.tds_relay.specs.Hall.{Open, lets_go};
 ghost use Rattle.tds_relay.specs.House.{Steps, new_house};
 ghost use Rattle.tds_relay.specs.Places.{HasNoTransaction, begun_in, holder};
 ghost use Rattle.tds_relay.specs.Posts.{Enters, posts_in};
@@ -132,6 +133,8 @@ impl Relay {
         ensures desk { self.new.desk ≡ self.old.desk }
         ensures size { IfOk result (λ key. IfSome (get self.new.applications key)
             (λ (a : Application). a.out.size ≡ self.old.size)) }
+        ensures front { IfOk result (λ key. end_at (ends_in self.new.applications) key
+            ≡ Some (Open (new_front self.old.size) false None)) }
         ensures posts { IfOk result (λ key. Enters self.old.size tag key
             (posts_in self.old.applications) (posts_in self.new.applications)) }
         ensures steps { OnOk result (Steps Neither (house_in self.old) (house_in self.new)) }
