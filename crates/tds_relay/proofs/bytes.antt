@@ -6,6 +6,7 @@ pub mod Heard
 pub mod Leaving
 pub mod Reader
 pub mod Rereading
+pub mod SetAnew
 pub mod Streaming
 pub mod Taking
 pub mod Turns

@@ -1,4 +1,5 @@
 pub mod Away
+pub mod Fewer
 pub mod Kept
 pub mod Lining
 pub mod Lists

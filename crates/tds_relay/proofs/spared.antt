@@ -12,6 +12,7 @@ pub mod Letting
 pub mod Lines
 pub mod Lined
 pub mod Losing
+pub mod Only
 pub mod Ordered
 pub mod Parks
 pub mod Resting

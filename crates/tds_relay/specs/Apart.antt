@@ -1,5 +1,5 @@
 -- What a call leaves as it was: the ends of all applications but one, or of all but those that wait for a connection.
-use Rattle.std.specs.Prelude.{◌≡◌, ◌≢◌, ℕ, false, Some}
+use Rattle.std.specs.Prelude.{◌≡◌, ◌≢◌, ℕ, false, Option, Some}
 use Rattle.tds_relay.specs.Hall.{Hall, end_at, holder, is_in}
 
 -- The end of each other application is as it was, and whoever waited waits.
@@ -16,3 +16,10 @@ UnlessServed old new = (key : ℕ) → is_in key old.desk.line ≡ false → end
 abbrev pub LosesOnly : ℕ → Hall → Hall → Type 0
 LosesOnly number old new =
     (key : ℕ) → holder old.desk number ≢ Some key → is_in key old.desk.line ≡ false → end_at new.ends key ≡ end_at old.ends key
+
+-- So is that of each but this one, if there is one, who neither holds the connection of this number nor waits; and it holds that and waits no
+-- more than before.
+abbrev pub SparesOthers : ℕ → Option ℕ → Hall → Hall → Type 0
+SparesOthers number who old new =
+    (key : ℕ) → who ≢ Some key → holder old.desk number ≢ Some key → is_in key old.desk.line ≡ false
+    → (holder new.desk number ≢ Some key) × (is_in key new.desk.line ≡ false) × (end_at new.ends key ≡ end_at old.ends key)

@@ -88,8 +88,10 @@ IsCut a header content bytes = IsAnew a.size header.packet_id (ends_in header) (
 abbrev pub at_its_beginning : code.Answer → code.Answer
 at_its_beginning a = record a { walker = restarted a.walker; known = knowns.None }
 
--- What is known behind a packet, and where the walker stands then: where what is left of its data ends, and anew behind a message's end.
+-- What is known behind a packet, and where the walker stands then: where what is left of its data ends, and anew behind a message's end. The
+-- next ones are as long.
 abbrev pub IsCutTo : code.Answer → Bool → List ℕ → code.Answer → Type 0
 IsCutTo old ends content new =
     (new.known ≡ (if ends then known_next (left_of old.known old.walker content).known else (left_of old.known old.walker content).known))
     × ((next : Reading) → (left_of old.known old.walker content).stands ≡ Some next → new.walker ≡ behind_packet ends next)
+    × (new.size ≡ old.size)

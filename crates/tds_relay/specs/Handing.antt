@@ -7,10 +7,12 @@ use Rattle.tds_packet.specs.Reading.{IsWhole, fault_of, up_to_end, with_taken}
 use Rattle.tds_packet.specs.Stream.{IsLess}
 use Rattle.tds_wire.specs.Reading.{Reading}
 use Rattle.tds_relay.specs.declared.desk.coming.Heard.{Heard}
+use Rattle.tds_relay.specs.declared.desk.coming.What.TheVariants as whats
 use Rattle.tds_relay.specs.declared.link.Answer.{Answer}
 use Rattle.tds_relay.specs.declared.link.Link.{Link}
 use Rattle.tds_relay.specs.declared.link.News.{News}
 use Rattle.tds_relay.specs.Cutting.{IsCut, IsCutTo, awaited, ends_in}
+use Rattle.tds_relay.specs.News.{holds_back}
 use Rattle.tds_relay.specs.Desk.{Way, owes_reset, whose}
 use Rattle.tds_relay.specs.Fronts.{IsWhat}
 use Rattle.tds_relay.specs.Hall.{done_by}
@@ -58,10 +60,18 @@ abbrev pub KnowsOn : packets.Reading → Answer → Answer → Type 0
 KnowsOn r a new =
     (new ≡ a) ⊎ ((owed : Bool) × (header : Header) × (content : List ℕ) × IsPacket r.direction r.size r.taken header content × IsCutTo (awaited owed a) (ends_in header) content new)
 
+-- A packet is set anew where the server owes the news before it, or bytes before it were held back; from where its connection's walker
+-- stands, in packets of that connection's size. By any other nothing is known of the message.
+abbrev pub PassesAs : Bool → Answer → Header → List ℕ → Manner → Answer → Type 0
+PassesAs owed a header content (Whole tells) new = new ≡ a
+PassesAs owed a header content (Without tells bytes) new =
+    ((owed || holds_back a.known) ≡ true) × IsCut (awaited owed a) header content bytes × IsCutTo (awaited owed a) (ends_in header) content new
+PassesAs owed a header content Withheld new = new ≡ a
+
 -- ---- Which packet is handed on
 
 -- The reader has a packet. The desk hears what its walker makes of it, and whoever has the connection is told, and handed it or not.
-pub record Passing (number : ℕ) (walker : Option Reading) (a : Answer) (r : packets.Reading) (heard : Heard) (old new : House) : Type 0 where
+pub record Passing (number : ℕ) (walker : Option Reading) (a next : Answer) (r : packets.Reading) (heard : Heard) (old new : House) : Type 0 where
   pub header : Header
   pub content : List ℕ
   pub packet : IsPacket r.direction r.size r.taken header content
@@ -72,12 +82,17 @@ pub record Passing (number : ℕ) (walker : Option Reading) (a : Answer) (r : pa
   pub has_walker : (key : ℕ) → whose old.hall.desk number ≡ Some key → IsSome walker
   pub goes : News
   pub by : IsFor (is_said heard.what (end_whose heard.key old.hall.ends)) goes a header content manner
+  pub cut : PassesAs (owes_reset number old.hall.desk) a header content manner next
   pub told : IsTold (owes_reset number old.hall.desk) (hears_of_reset heard.what (end_whose heard.key old.hall.ends)) manner (part_on walker content (ends_in header))
   pub is : new ≡ after old (Hands number header content (part_on walker content (ends_in header)) way manner)
 
+-- Nothing came of it.
+abbrev pub IsNothing : Heard → Type 0
+IsNothing heard = (heard.key ≡ None) × (heard.what ≡ whats.Goes)
+
 -- That one, once, and no other. Where the reader has none, nothing is done.
-abbrev pub Brings : ℕ → Option Reading → Answer → packets.Reading → Heard → House → House → Type 0
-Brings number walker a r heard old new = ((¬ IsWhole r) × (new ≡ old)) ⊎ Passing number walker a r heard old new
+abbrev pub Brings : ℕ → Option Reading → Answer → Answer → packets.Reading → Heard → House → House → Type 0
+Brings number walker a next r heard old new = ((¬ IsWhole r) × (new ≡ old) × IsNothing heard × (next ≡ a)) ⊎ Passing number walker a next r heard old new
 
 -- A packet that was handed on is done.
 pub record IsDone (r new : packets.Reading) : Type 0 where
@@ -93,11 +108,16 @@ fed r bytes = with_taken r (up_to_end r (r.taken ++ bytes))
 -- So many of these bytes were taken, and what the reader had with them is handed on. It keeps less than a packet.
 pub record Hears (number : ℕ) (walker : Option Reading) (link next : Link) (bytes : List ℕ) (count : ℕ) (heard : Heard) (old new : House) : Type 0 where
   pub taken : (fed link.reader bytes).taken ≡ link.reader.taken ++ take count bytes
-  pub brings : Brings number walker link.answer (fed link.reader bytes) heard old new
+  pub brings : Brings number walker link.answer next.answer (fed link.reader bytes) heard old new
   pub done : IsDone (fed link.reader bytes) next.reader
   pub less : IsLess next.reader next.reader.taken
 
+-- to whose end it is told
+abbrev pub heard_key : Option Heard → Option ℕ
+heard_key None = None
+heard_key (Some heard) = heard.key
+
 -- Or a header with a fault has come, and nothing is done.
 abbrev pub HearsBy : ℕ → Option Reading → Link → Link → List ℕ → ℕ → Option Heard → House → House → Type 0
-HearsBy number walker link next bytes count None old new = IsSome (fault_of (fed link.reader bytes) (fed link.reader bytes).taken) × (new ≡ old)
+HearsBy number walker link next bytes count None old new = IsSome (fault_of (fed link.reader bytes) (fed link.reader bytes).taken) × (new ≡ old) × (next.answer ≡ link.answer)
 HearsBy number walker link next bytes count (Some heard) old new = Hears number walker link next bytes count heard old new

@@ -218,11 +218,6 @@ abbrev pub if_heard : Option Heard → Option Reading → Option Reading
 if_heard None now = None
 if_heard (Some heard) now = now
 
--- Whatever was heard before, these bytes are heard behind it.
-abbrev pub Continues : ℕ → List ℕ → List ℕ → Option Reading → Option Reading → House → services.Service → House → services.Service → Type 0
-Continues number left rest now next f at g to =
-    (had : Option Reading) (old : House) (from : services.Service) (bytes : List ℕ) → Streams number had old from bytes left now f at → Streams number had old from bytes rest next g to
-
 -- Bytes that come are heard, and then those who wait are served, by which nothing comes: the connection has just what was left of them,
 -- or isn't open.
 pub record Comes (number : ℕ) (had : Option Reading) (old : House) (from : services.Service) (bytes : List ℕ) (now : Option Reading) (new : House) (to : services.Service) : Type 0 where

@@ -36,7 +36,7 @@ use Rattle.tds_relay.specs.Closings.{IsNoRequest, IsWaiting}
 use Rattle.tds_relay.specs.Desk.{find_key}
 use Rattle.tds_relay.specs.Fronts.{ends_in, house_in}
 use Rattle.tds_relay.specs.Hall.{End, Ends, IfOpen, Open, Over, asks_by, end_at}
-use Rattle.tds_relay.specs.Handing.{HearsBy}
+use Rattle.tds_relay.specs.Handing.{HearsBy, IsNothing}
 use Rattle.tds_relay.specs.House.{House}
 use Rattle.tds_relay.specs.Posts.{Post, Posts, acknowledgement, fits, give, post_at, post_in, posts_in}
 use Rattle.tds_relay.specs.Reads.{Streams, StreamsAll, link_at, open_at}
@@ -262,7 +262,7 @@ pub record IsHeardAs (number : ℕ) (left : List ℕ) (heard : Option Heard) (r 
 -- Nothing was.
 abbrev pub HearsNothing : Option Heard → Type 0
 HearsNothing None = ⊥
-HearsNothing (Some heard) = (heard.key ≡ None) × (heard.what ≡ whats.Goes)
+HearsNothing (Some heard) = IsNothing heard
 
 -- It closes this one; or what goes out by it does.
 pub data LosesOn (number : ℕ) (left : List ℕ) (r : code.Relay) (other : ℕ) : Type 0 where

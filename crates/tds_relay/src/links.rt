@@ -1,6 +1,7 @@
 //! The connections by their numbers.
 ghost use Rattle.std.specs.Prelude.{◌≡◌, ◌≢◌, ◌==◌, ◌<◌, ◌≤◌, ◌++◌, ◌∷◌, [], ℕ, List, IfOk, IfSome, drop, false, length};
 ghost use Rattle.std.specs.Prelude.{OnErr, OnOk, option_copied, option_map, true, vec_capacity};
+ghost use Rattle.tds_relay.specs.Coming.{MayBeginAny};
 ghost use Rattle.tds_relay.specs.Cutting.{at_its_beginning};
 ghost use Rattle.tds_relay.specs.Lent.{KeepsAnswers};
 ghost use Rattle.tds_relay.specs.Linking.{ArePlaced};
@@ -142,6 +143,7 @@ pub(crate) fn restart(links: &mut Links, number: u64)
         → waits_on other links.new.items ≡ waits_on other links.old.items }
     ensures begins { answer_at number links.new.items
         ≡ option_map at_its_beginning (answer_at number links.old.items) }
+    ensures any { MayBeginAny links.old.items links.new.items }
 {
     let Some(place) = place_in(links, number) else {
         return;

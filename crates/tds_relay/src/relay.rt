@@ -4,6 +4,7 @@ ghost use Rattle.std.specs.Prelude.{IsSome, option_copied, true};
 ghost use Rattle.slab.specs.Slab.{get, slab_len};
 ghost use Rattle.tds_front.specs.Bytes.{new_front};
 ghost use Rattle.tds_service.specs.Sizes.{AllSized};
+ghost use Rattle.tds_relay.specs.Apart.{SparesOthers};
 ghost use Rattle.tds_relay.specs.Asking.{IsUnderway};
 ghost use Rattle.tds_relay.specs.Bodies.{AskAsBefore, Nowhere, body_of};
 ghost use Rattle.tds_relay.specs.Bounds.{waiting_for};
@@ -317,6 +318,8 @@ impl Relay {
             self.new.desk.service) }
         ensures body { (other : ℕ) → body_of other self.new ≡ body_of other self.old }
         ensures lines { OnOk result (StandsInLine key self.new) }
+        ensures spares { OnOk result ((number : ℕ)
+            → SparesOthers number (Some key) (hall_in self.old) (hall_in self.new)) }
         ensures closes { ClosesOnly Nobody (register_in self.old) (register_in self.new) }
     {
         if self.is_away(key) {

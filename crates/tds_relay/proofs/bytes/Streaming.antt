@@ -13,10 +13,10 @@ use Rattle.tds_relay.specs.declared.link.Link.{Link}
 use Rattle.tds_relay.specs.Cutting.{ends_in}
 use Rattle.tds_relay.specs.Fronts.{Moved, MovedOn}
 use Rattle.tds_relay.specs.Hall.{Hall, Move, Moves}
-use Rattle.tds_relay.specs.Handing.{Hears, HearsBy, fed}
+use Rattle.tds_relay.specs.Handing.{Brings, Hears, fed}
 use Rattle.tds_relay.specs.House.{House, Step, Admits, CausesStep, Hands, Makes, MayAll, MayStep, Removes, Steps, Takes, Writes, after, after_all}
 use Rattle.tds_relay.specs.Posts.{Posts}
-use Rattle.tds_relay.specs.Reads.{Comes, Continues, Opens, Reads, ReadsBy, Stays, StaysAt, Streams, StreamsAll, if_heard, open_at, open_of, packets_of, place_of, reader_at, seen_of}
+use Rattle.tds_relay.specs.Reads.{Comes, Opens, Reads, ReadsBy, Stays, StaysAt, Streams, StreamsAll, if_heard, open_at, open_of, packets_of, place_of, reader_at, seen_of}
 use Rattle.tds_relay.specs.Ties.{Connection, part_on}
 use Rattle.tds_relay.specs.Walkers.{AllStand, ReadsBy as WalksBy, ReadsOn, Walks}
 use Rattle.tds_relay.proofs.bytes.Rereading.{walks_both, walks_hands, walks_makes, walks_none, walks_on}
@@ -29,7 +29,7 @@ use Rattle.tds_relay.proofs.bytes.Taking.{reads_gone, reads_less, reads_nothing,
 
 -- ---- Packets of steps
 
-packets_both : (xs ys : List Step) → packets_of (xs ++ ys) ≡ packets_of xs ++ packets_of ys
+pub packets_both : (xs ys : List Step) → packets_of (xs ++ ys) ≡ packets_of xs ++ packets_of ys
 packets_both [] ys = refl
 packets_both (Makes move ∷ xs) ys = packets_both xs ys
 packets_both (Hands number header content part way manner ∷ xs) ys = ap (λ (zs : List (List ℕ)). (header_bytes header ++ content) ∷ zs) (packets_both xs ys)
@@ -38,24 +38,24 @@ packets_both (Writes key count ∷ xs) ys = packets_both xs ys
 packets_both (Admits key ends posts ∷ xs) ys = packets_both xs ys
 packets_both (Removes key gives way ∷ xs) ys = packets_both xs ys
 
-no_packets : (moves : List Move) → packets_of (makes_all moves) ≡ []
+pub no_packets : (moves : List Move) → packets_of (makes_all moves) ≡ []
 no_packets [] = refl
 no_packets (move ∷ moves) = no_packets moves
 
 -- ---- From call to call
 
-begins_by : (had : Option packets.Reading) → ReadsBy had [] [] had
+pub begins_by : (had : Option packets.Reading) → ReadsBy had [] [] had
 begins_by None = (refl, refl)
 begins_by (Some r) = λ few. reads_nothing r few
 
-pub streams_begin : (number : ℕ) (had : Option packets.Reading) (h : House) (s : Service) (bytes : List ℕ) → Streams number had h s bytes bytes had h s
+abbrev pub streams_begin : (number : ℕ) (had : Option packets.Reading) (h : House) (s : Service) (bytes : List ℕ) → Streams number had h s bytes bytes had h s
 streams_begin number had h s bytes = record { steps = []; heard = []; are = refl; may = tt; caused = tt; bytes_are = refl; reads = begins_by had; walks = walks_none s h }
 
 pub streams_left : (number : ℕ) (had now : Option packets.Reading) (old h : House) (from to : Service) (bytes left rest : List ℕ) → rest ≡ left → Streams number had old from bytes left now h to → Streams number had old from bytes rest now h to
 streams_left number had now old h from to bytes left rest is s = subst (λ (xs : List ℕ). Streams number had old from bytes xs now h to) (sym is) s
 
 -- the hall moves on, and nothing more comes of the connection
-pub streams_go : (number : ℕ) (had now next : Option packets.Reading) (old : House) (from at to : Service) (h h1 : Hall) (ps ps1 : Posts) (bytes left : List ℕ)
+abbrev pub streams_go : (number : ℕ) (had now next : Option packets.Reading) (old : House) (from at to : Service) (h h1 : Hall) (ps ps1 : Posts) (bytes left : List ℕ)
     → Moves (Connection number) h h1 → ps1 ≡ ps → StaysAt now next → AllStand at to → Streams number had old from bytes left now (record { hall = h; posts = ps }) at → Streams number had old from bytes left next (record { hall = h1; posts = ps1 }) to
 streams_go number had now next old from at to h h1 ps ps1 bytes left m kept stays stand s =
     let more : List Step = makes_all m.moves in
@@ -76,7 +76,7 @@ streams_go number had now next old from at to h h1 ps ps1 bytes left m kept stay
       walks = walks_both from at to old s.steps more s.walks (walks_makes at to (after_all old s.steps) m.moves stand);
     }
 
-pub streams_moved : (number : ℕ) (had now next : Option packets.Reading) (old : House) (from at to : Service) (h h1 : Hall) (ps ps1 : Posts) (bytes left : List ℕ)
+abbrev pub streams_moved : (number : ℕ) (had now next : Option packets.Reading) (old : House) (from at to : Service) (h h1 : Hall) (ps ps1 : Posts) (bytes left : List ℕ)
     → Moved (Connection number) h h1 → ps1 ≡ ps → StaysAt now next → AllStand at to → Streams number had old from bytes left now (record { hall = h; posts = ps }) at
     → Streams number had old from bytes left next (record { hall = h1; posts = ps1 }) to
 streams_moved number had now next old from at to h h1 ps ps1 bytes left m kept stays stand s =
@@ -87,12 +87,12 @@ pub streams_steps : (number : ℕ) (had now : Option packets.Reading) (old new :
 streams_steps number had now old new from to bytes left s = record { steps = s.steps; are = s.are; may = s.may; caused = s.caused }
 
 -- bytes that were heard, and the others
-heard_more : (bytes heard left : List ℕ) (count : ℕ) → bytes ≡ heard ++ left → bytes ≡ (heard ++ take count left) ++ drop count left
+pub heard_more : (bytes heard left : List ℕ) (count : ℕ) → bytes ≡ heard ++ left → bytes ≡ (heard ++ take count left) ++ drop count left
 heard_more bytes heard left count e =
     e ∙ ap (λ (xs : List ℕ). heard ++ xs) (sym (take-append-drop count left)) ∙ sym (append_assoc heard (take count left) (drop count left))
 
 -- nobody hears them, for the connection isn't there; or it will be so
-pub streams_unheard : (number : ℕ) (had now : Option packets.Reading) (old f g : House) (from at to : Service) (bytes left : List ℕ) (count : ℕ) → g ≡ f → AllStand at to
+abbrev pub streams_unheard : (number : ℕ) (had now : Option packets.Reading) (old f g : House) (from at to : Service) (bytes left : List ℕ) (count : ℕ) → g ≡ f → AllStand at to
     → Streams number had old from bytes left now f at → Streams number had old from bytes (drop count left) None g to
 streams_unheard number had now old f g from at to bytes left count same stand s = record {
   steps = s.steps;
@@ -105,112 +105,64 @@ streams_unheard number had now old f g from at to bytes left count same stand s 
   walks = walks_on from at to old s.steps s.walks stand;
 }
 
-less_by : (had now : Option packets.Reading) (r next : packets.Reading) (bytes more : List ℕ) (ps : List (List ℕ)) → ReadsBy had bytes ps now → now ≡ Some r → next ≡ with_taken r (r.taken ++ more) → IsLess next next.taken
+pub less_by : (had now : Option packets.Reading) (r next : packets.Reading) (bytes more : List ℕ) (ps : List (List ℕ)) → ReadsBy had bytes ps now → now ≡ Some r → next ≡ with_taken r (r.taken ++ more) → IsLess next next.taken
     → ReadsBy had (bytes ++ more) ps (Some next)
 less_by None now r next bytes more ps s is fed few = absurd (let none = s.1 in let u : ⊥ = cc in u)
 less_by (Some h) now r next bytes more ps s is fed few = λ begins. reads_less h r next bytes more ps (subst (λ (o : Option packets.Reading). Reads h bytes ps o) is (s begins)) fed few
 
-packet_by : (had now : Option packets.Reading) (r next : packets.Reading) (bytes more : List ℕ) (ps : List (List ℕ)) → ReadsBy had bytes ps now → now ≡ Some r → IsWhole (with_taken r (r.taken ++ more)) → next ≡ with_taken r []
+pub packet_by : (had now : Option packets.Reading) (r next : packets.Reading) (bytes more : List ℕ) (ps : List (List ℕ)) → ReadsBy had bytes ps now → now ≡ Some r → IsWhole (with_taken r (r.taken ++ more)) → next ≡ with_taken r []
     → ReadsBy had (bytes ++ more) (ps ++ (r.taken ++ more) ∷ []) (Some next)
 packet_by None now r next bytes more ps s is whole fed = absurd (let none = s.1 in let u : ⊥ = cc in u)
 packet_by (Some h) now r next bytes more ps s is whole fed = λ begins. reads_packet h r next bytes more ps (subst (λ (o : Option packets.Reading). Reads h bytes ps o) is (s begins)) whole fed
 
 -- what they are with what was there
-pub streams_hear : (number : ℕ) (had now : Option packets.Reading) (link next : Link) (old f g : House) (from at to : Service) (bytes left : List ℕ) (count : ℕ) (heard : Heard)
+abbrev pub streams_brought : (number : ℕ) (had now : Option packets.Reading) (link next : Link) (old f g : House) (from at to : Service) (bytes left : List ℕ) (count : ℕ) (heard : Heard)
     → now ≡ Some link.reader → f.hall.desk.service ≡ service_in at → Hears number (reading_on number at) link next left count heard f g → ReadsOn number (fed link.reader left) at to
-    → Streams number had old from bytes left now f at → Streams number had old from bytes (drop count left) (Some next.reader) g to
-streams_hear number had now link next old f g from at to bytes left count heard is its hears reads s =
+    → Brings number (reading_on number at) link.answer next.answer (fed link.reader left) heard f g → Streams number had old from bytes left now f at → Streams number had old from bytes (drop count left) (Some next.reader) g to
+streams_brought number had now link next old f g from at to bytes left count heard is its hears reads (inl none) s =
+    let more : List ℕ = take count left in
+    let r : packets.Reading = fed link.reader left in
+    let same : r ≡ with_taken link.reader (link.reader.taken ++ more) = ap (λ (xs : List ℕ). with_taken link.reader xs) hears.taken in
+    record {
+      steps = s.steps;
+      heard = s.heard ++ more;
+      are = s.are ∙ sym none.1;
+      may = s.may;
+      caused = s.caused;
+      bytes_are = heard_more bytes s.heard left count s.bytes_are;
+      reads = less_by had now link.reader next.reader s.heard more (packets_of s.steps) s.reads is (hears.done.less none.0 ∙ same) hears.less;
+      walks = walks_on from at to old s.steps s.walks (reads.none none.0);
+    }
+streams_brought number had now link next old f g from at to bytes left count heard is its hears reads (inr p) s =
     let walker = reading_on number at in
     let more : List ℕ = take count left in
     let r : packets.Reading = fed link.reader left in
     let same : r ≡ with_taken link.reader (link.reader.taken ++ more) = ap (λ (xs : List ℕ). with_taken link.reader xs) hears.taken in
-    elim hears.brings [
-      | inl none ↦ record {
-        steps = s.steps;
-        heard = s.heard ++ more;
-        are = s.are ∙ sym none.1;
-        may = s.may;
-        caused = s.caused;
-        bytes_are = heard_more bytes s.heard left count s.bytes_are;
-        reads = less_by had now link.reader next.reader s.heard more (packets_of s.steps) s.reads is (hears.done.less none.0 ∙ same) hears.less;
-        walks = walks_on from at to old s.steps s.walks (reads.none none.0);
-      }
-      | inr p ↦
-          let step : Step = Hands number p.header p.content (part_on walker p.content (ends_in p.header)) p.way p.manner in
-          let packet : header_bytes p.header ++ p.content ≡ link.reader.taken ++ more = sym p.packet.laid_out.spelled ∙ hears.taken in
-          let all : packets_of s.steps ++ (link.reader.taken ++ more) ∷ [] ≡ packets_of (s.steps ++ step ∷ []) =
-          ap (λ (xs : List ℕ). packets_of s.steps ++ xs ∷ []) (sym packet) ∙ sym (packets_both s.steps (step ∷ [])) in
-          let whole : IsWhole r = (p.header, p.content, p.packet) in
-          let may : MayStep f step = may_hand number walker link.answer r heard f g p in
-          record {
-            steps = s.steps ++ step ∷ [];
-            heard = s.heard ++ more;
-            are = after_both old s.steps (step ∷ []) ∙ ap (λ (h : House). after h step) s.are ∙ sym p.is;
-            may = may_both old s.steps (step ∷ []) s.may (subst (λ (h : House). MayAll h (step ∷ [])) (sym s.are) (may, tt));
-            caused = each_both (CausesStep (Connection number)) s.steps (step ∷ []) s.caused ((refl, tt), tt);
-            bytes_are = heard_more bytes s.heard left count s.bytes_are;
-            reads = subst (λ (ps : List (List ℕ)). ReadsBy had (s.heard ++ more) ps (Some next.reader)) all
-                (packet_by had now link.reader next.reader s.heard more (packets_of s.steps) s.reads is (subst (λ (x : packets.Reading). IsWhole x) same whole) (hears.done.whole whole));
-            walks = walks_both from at to old s.steps (step ∷ []) s.walks
-                (subst (λ (h : House). Walks at h (step ∷ []) to) (sym s.are)
-                (walks_hands number p.header p.content p.way p.manner at to f its (reads.one p.header p.content p.packet)));
-          }
-    ]
+    let step : Step = Hands number p.header p.content (part_on walker p.content (ends_in p.header)) p.way p.manner in
+    let packet : header_bytes p.header ++ p.content ≡ link.reader.taken ++ more = sym p.packet.laid_out.spelled ∙ hears.taken in
+    let all : packets_of s.steps ++ (link.reader.taken ++ more) ∷ [] ≡ packets_of (s.steps ++ step ∷ []) =
+    ap (λ (xs : List ℕ). packets_of s.steps ++ xs ∷ []) (sym packet) ∙ sym (packets_both s.steps (step ∷ [])) in
+    let whole : IsWhole r = (p.header, p.content, p.packet) in
+    let may : MayStep f step = may_hand number walker link.answer next.answer r heard f g p in
+    record {
+      steps = s.steps ++ step ∷ [];
+      heard = s.heard ++ more;
+      are = after_both old s.steps (step ∷ []) ∙ ap (λ (h : House). after h step) s.are ∙ sym p.is;
+      may = may_both old s.steps (step ∷ []) s.may (subst (λ (h : House). MayAll h (step ∷ [])) (sym s.are) (may, tt));
+      caused = each_both (CausesStep (Connection number)) s.steps (step ∷ []) s.caused ((refl, tt), tt);
+      bytes_are = heard_more bytes s.heard left count s.bytes_are;
+      reads = subst (λ (ps : List (List ℕ)). ReadsBy had (s.heard ++ more) ps (Some next.reader)) all
+          (packet_by had now link.reader next.reader s.heard more (packets_of s.steps) s.reads is (subst (λ (x : packets.Reading). IsWhole x) same whole) (hears.done.whole whole));
+      walks = walks_both from at to old s.steps (step ∷ []) s.walks
+          (subst (λ (h : House). Walks at h (step ∷ []) to) (sym s.are)
+          (walks_hands number p.header p.content p.way p.manner at to f its (reads.one p.header p.content p.packet)));
+    }
 
 -- ---- As calls answer
-
-hear_by : (number : ℕ) (link next : Link) (piece : List ℕ) (now behind : Option packets.Reading) (f g : House) (at to : Service) (count : ℕ) (heard : Option Heard)
-    → now ≡ Some link.reader → behind ≡ Some next.reader → f.hall.desk.service ≡ service_in at → HearsBy number (reading_on number at) link next piece count heard f g
-    → WalksBy number (fed link.reader piece) heard at to → Continues number piece (drop count piece) now (if_heard heard behind) f at g to
-hear_by number link next piece now behind f g at to count None is after its h walks = λ had old from bytes s. streams_unheard number had now old f g from at to bytes piece count h.1 walks s
-hear_by number link next piece now behind f g at to count (Some heard) is after its h walks = λ had old from bytes s.
-    subst (λ (o : Option packets.Reading). Streams number had old from bytes (drop count piece) o g to) (sym after)
-    (streams_hear number had now link next old f g from at to bytes piece count heard is its h walks s)
-
-pub hear_ok : {E : Type 0} (r : Result (ℕ × Option Heard) E) (number : ℕ) (link next : Link) (piece : List ℕ) (now behind : Option packets.Reading) (f : House) (g : Option Heard → House) (at to : Service)
-    → now ≡ Some link.reader → behind ≡ Some next.reader → f.hall.desk.service ≡ service_in at → IfOk r (λ heard. HearsBy number (reading_on number at) link next piece heard.0 heard.1 f (g heard.1))
-    → IfOk r (λ heard. WalksBy number (fed link.reader piece) heard.1 at to)
-    → IfOk r (λ heard. Continues number piece (drop heard.0 piece) now (if_heard heard.1 behind) f at (g heard.1) to)
-hear_ok (Ok x) number link next piece now behind f g at to is after its h walks = hear_by number link next piece now behind f (g x.1) at to x.0 x.1 is after its h walks
-hear_ok (Err e) number link next piece now behind f g at to is after its h walks = tt
-
--- it is open, and what has come of a packet is written back
-pub hear_at : {E : Type 0} (r : Result (ℕ × Option Heard) E) (number : ℕ) (ls : List Link) (place : ℕ) (l next : Link) (piece : List ℕ) (f : House) (g : Option Heard → House) (from to : Service)
-    → place_of number ls ≡ Some place → l ≡ slice_index_or ls place l → next.number ≡ l.number → l.is_open ≡ true → next.is_open ≡ l.is_open → f.hall.desk.service ≡ service_in from
-    → IfOk r (λ heard. HearsBy number (reading_on number from) l next piece heard.0 heard.1 f (g heard.1)) → IfOk r (λ heard. WalksBy number (fed l.reader piece) heard.1 from to)
-    → IfOk r (λ heard. Continues number piece (drop heard.0 piece) (open_at number ls) (if_heard heard.1 (open_at number (slice_set ls place next))) f from (g heard.1) to)
-hear_at r number ls place l next piece f g from to is there same is_open stays its h walks =
-    let at : IsAt number ls place = is_at number ls place is in
-    hear_ok r number l next piece (open_at number ls) (open_at number (slice_set ls place next)) f g from to
-    (is_open_at number ls l (at.found l ∙ ap Some (sym there)) is_open)
-    (is_open_at number (slice_set ls place next) next (at.written l next (same ∙ ap (λ (x : Link). x.number) there)) (stays ∙ is_open)) its h walks
-
--- it isn't open
-unheard_by : (number : ℕ) (piece : List ℕ) (count : ℕ) (now next : Option packets.Reading) (f : House) (at : Service) → next ≡ None → Continues number piece (drop count piece) now next f at f at
-unheard_by number piece count now next f at none = λ had old from bytes s.
-    subst (λ (o : Option packets.Reading). Streams number had old from bytes (drop count piece) o f at) (sym none) (streams_unheard number had now old f f from at at bytes piece count refl (λ n r st. st) s)
-
-pub unopened : (number : ℕ) (piece : List ℕ) (count : ℕ) (ls : List Link) (place : ℕ) (l : Link) (f : House) (at : Service) → place_of number ls ≡ Some place → l ≡ slice_index_or ls place l → l.is_open ≡ false
-    → Continues number piece (drop count piece) (open_at number ls) (open_at number (slice_set ls place l)) f at f at
-unopened number piece count ls place l f at is there closed =
-    unheard_by number piece count (open_at number ls) (open_at number (slice_set ls place l)) f at
-    (is_shut_at number (slice_set ls place l) l ((is_at number ls place is).written l l (ap (λ (x : Link). x.number) there)) closed)
-
--- it isn't there
-pub unheard : (number : ℕ) (piece : List ℕ) (count : ℕ) (ls : List Link) (f : House) (at : Service) → place_of number ls ≡ None → Continues number piece (drop count piece) (open_at number ls) (open_at number ls) f at f at
-unheard number piece count ls f at is =
-    unheard_by number piece count (open_at number ls) (open_at number ls) f at (ap (λ (o : Option Link). open_of (option_map seen_of o)) (is_nowhere number ls is))
 
 pub heard_stays : (number : ℕ) (heard : Option Heard) (ls ms : List Link) → Stays ls ms → (IsNone heard → reader_at number ms ≡ None) → StaysAt (if_heard heard (open_at number ls)) (open_at number ms)
 heard_stays number None ls ms stays gone = subst (λ (o : Option packets.Reading). StaysAt None o) (sym (gone_open number ms (gone refl))) tt
 heard_stays number (Some heard) ls ms stays gone = (stays_opens ls ms stays).opens number
-
--- bytes are heard, and what came of them is done
-pub streams_on : (number : ℕ) (had : Option packets.Reading) (old f : House) (from at between to : Service) (h h1 : Hall) (ps ps1 : Posts) (bytes left rest : List ℕ) (heard : Option Heard) (now : Option packets.Reading) (ls ms : List Link)
-    → Streams number had old from bytes left now f at → Continues number left rest now (if_heard heard (open_at number ls)) f at (record { hall = h; posts = ps }) between
-    → Moved (Connection number) h h1 → ps1 ≡ ps → Stays ls ms → (IsNone heard → reader_at number ms ≡ None) → AllStand between to → Streams number had old from bytes rest (open_at number ms) (record { hall = h1; posts = ps1 }) to
-streams_on number had old f from at between to h h1 ps ps1 bytes left rest heard now ls ms s hears m kept stays gone stand =
-    streams_moved number had (if_heard heard (open_at number ls)) (open_at number ms) old from between to h h1 ps ps1 bytes rest m kept (heard_stays number heard ls ms stays gone) stand (hears had old from bytes s)
 
 -- and then those who wait are served
 pub comes : {A E : Type 0} (r : Result A E) (number : ℕ) (had : Option packets.Reading) (old : House) (from at to : Service) (h h1 : Hall) (ps ps1 : Posts) (bytes : List ℕ) (ls ms : List Link)

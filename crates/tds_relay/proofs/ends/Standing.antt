@@ -164,7 +164,7 @@ pub own_holder : (d : Desk) (key : ℕ) (h : Hold) (c : Seat) → Sound d → Al
 own_holder d key h c sound sit its = own_holder_by d key h c (find_number h.number d.holds) sound sit its refl
 
 -- what comes on another connection isn't handed to it
-cared_number : (d : Desk) (h : Hold) (n : ℕ) (c : Seat) → Sound d → find_lease h.lease d.holds ≡ Some h → seat_numbered n d.service.seats ≡ Some c → c.place ≡ Leased h.lease → h.number ≡ n
+pub cared_number : (d : Desk) (h : Hold) (n : ℕ) (c : Seat) → Sound d → find_lease h.lease d.holds ≡ Some h → seat_numbered n d.service.seats ≡ Some c → c.place ≡ Leased h.lease → h.number ≡ n
 cared_number d h n c sound held there lent =
     let cared : CaresFor d.holds c = each_found (CaresFor d.holds) (has_number n) c d.service.seats sound.cared there in
     let is : IsCaredFor d.holds c.number (Leased h.lease) c.line = subst (λ (p : Rattle.tds_service.specs.Service.Place). IsCaredFor d.holds c.number p c.line) lent cared in

@@ -11,7 +11,7 @@ use Rattle.tds_relay.specs.Reads.{StaysAt, answer_at, answer_on, link_at, withou
 use Rattle.tds_relay.proofs.spared.Sending.{taken_link, written_as}
 use Rattle.tds_relay.proofs.steps.Staying.{at_refl}
 
-at_next : {A : Type 0} (o p q : Option A) → StaysAt o p → StaysAt p q → StaysAt o q
+pub at_next : {A : Type 0} (o p q : Option A) → StaysAt o p → StaysAt p q → StaysAt o q
 at_next o p None h k = tt
 at_next {A} o p (Some r) h k = subst (λ (x : Option A). StaysAt o x) k h
 

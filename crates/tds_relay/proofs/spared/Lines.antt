@@ -36,7 +36,7 @@ out_filter : (p : ℕ → Bool) (key : ℕ) (ks : List ℕ) → is_in key ks ≡
 out_filter p key [] e = refl
 out_filter p key (k ∷ ks) e = out_if (p k) key k ks (filter p ks) e (out_filter p key ks)
 
-out_behind : (key k : ℕ) (ks : List ℕ) → is_in key ks ≡ false → (k == key) ≡ false → is_in key (ks ++ k ∷ []) ≡ false
+pub out_behind : (key k : ℕ) (ks : List ℕ) → is_in key ks ≡ false → (k == key) ≡ false → is_in key (ks ++ k ∷ []) ≡ false
 out_behind key k [] e f = or_both (k == key) false f refl
 out_behind key k (x ∷ xs) e f = or_both (x == key) (is_in key (xs ++ k ∷ [])) (or_first (x == key) (is_in key xs) e) (out_behind key k xs (or_second (x == key) (is_in key xs) e) f)
 
@@ -71,13 +71,13 @@ keeps_line : (d : Desk) (h : Hold) (resumes : Bool) (s : Service) (o : Option �
 keeps_line d h resumes s None = refl
 keeps_line d h resumes s (Some ticket) = renewed_line d h ticket (lent_in (step {T = Token} s (calls.Resume ticket)).reply) resumes
 
-renews_line : (d : Desk) (resumes : Bool) (o : Option Hold) → (renews d resumes o).desk.line ≡ d.line
+pub renews_line : (d : Desk) (resumes : Bool) (o : Option Hold) → (renews d resumes o).desk.line ≡ d.line
 renews_line d resumes None = refl
 renews_line d resumes (Some h) =
     let kept = step {T = Token} d.service (calls.Keep h.lease) in
     keeps_line d h resumes kept.service (ticket_in kept.reply)
 
-comes_line : (d : Desk) (call : Call Token) (s : Service) (number : ℕ) (way : Way) (lease : Option ℕ) (h : Hearing) → (comes_by d call s number way lease h).desk.line ≡ d.line
+pub comes_line : (d : Desk) (call : Call Token) (s : Service) (number : ℕ) (way : Way) (lease : Option ℕ) (h : Hearing) → (comes_by d call s number way lease h).desk.line ≡ d.line
 comes_line d call s number way lease desk.Goes = refl
 comes_line d call s number way lease desk.Settled = refl
 comes_line d call s number way lease desk.Wrong = refl

@@ -56,13 +56,13 @@ room_as number bytes old new same none =
 
 -- ---- A packet
 
-pub heard_as : {E : Type 0} (r : Result (ℕ × Option Heard) E) (number : ℕ) (piece : List ℕ) (place : ℕ) (l m : Link) (old : code.Relay) (new : Option Heard → House) → place_of number old.links.items ≡ Some place
+pub heard_as : {E : Type 0} (r : Result (ℕ × Option Heard) E) (Idle : Type 0) (number : ℕ) (piece : List ℕ) (place : ℕ) (l m : Link) (old : code.Relay) (new : Option Heard → House) → place_of number old.links.items ≡ Some place
     → l ≡ slice_index_or old.links.items place l → IfOk r (λ heard. HearsBy number (reading_on number old.desk.service) l m piece heard.0 heard.1 (house_in old) (new heard.1))
-    → IfOk r (λ heard. HearsNothing heard.1 ⊎ IsHeardAs number piece heard.1 old (new heard.1))
-heard_as (Ok x) number piece place l m old new is value h =
+    → IfOk r (λ heard. (HearsNothing heard.1 × Idle) ⊎ IsHeardAs number piece heard.1 old (new heard.1))
+heard_as (Ok x) Idle number piece place l m old new is value h =
     let at : IsAt number old.links.items place = is_at number old.links.items place is in
     inr (record { link = l; there = at.found l ∙ ap Some (sym value); next = m; count = x.0; hears = h })
-heard_as (Err e) number piece place l m old new is value h = tt
+heard_as (Err e) Idle number piece place l m old new is value h = tt
 
 full_by : (what : What) (key : Option ℕ) (ends : Ends) (posts : Posts) (other : ℕ) → key ≡ Some other → IsOverfull (post_at posts other) → LosesBy what key ends posts other
 full_by whats.Goes key ends posts other its full = (its, full)
@@ -154,7 +154,11 @@ loses_or number left o mid next new other heard ends posts cleans same (inl lose
 loses_or number left o mid next new other heard ends posts cleans same (inr none) =
     by_sending number left next.outbox.items o mid new other heard cleans (room_as number next.outbox.items mid.links.items next.links.items same none)
 
-pub loses_by : (number : ℕ) (left : List ℕ) (o : Option Heard) (mid next : code.Relay) (es : Ends) (other : ℕ) → HearsNothing o ⊎ IsHeardAs number left o mid (house_with (desk_in next.desk) (told_by o es) (posts_in next.applications))
+unless_idle : {A B C : Type 0} → (A × B) ⊎ C → A ⊎ C
+unless_idle (inl x) = inl x.0
+unless_idle (inr y) = inr y
+
+pub loses_by : (number : ℕ) (left : List ℕ) (o : Option Heard) (mid next : code.Relay) (es : Ends) (other : ℕ) → (HearsNothing o × (next.desk ≡ mid.desk)) ⊎ IsHeardAs number left o mid (house_with (desk_in next.desk) (told_by o es) (posts_in next.applications))
     → ends_in next.applications ≡ ends_in mid.applications → Cleans o [] next.outbox.items → post_on number next.links.items ≡ post_on number mid.links.items → LosesAt number o next other → LosesOn number left mid other
 loses_by number left o mid next es other heard ends cleans same why =
-    loses_or number left o mid next (house_with (desk_in next.desk) (told_by o es) (posts_in next.applications)) other heard ends refl cleans same why
+    loses_or number left o mid next (house_with (desk_in next.desk) (told_by o es) (posts_in next.applications)) other (unless_idle heard) ends refl cleans same why

@@ -45,11 +45,15 @@ other_link (x ∷ xs) zero d m other same differs =
 other_link (x ∷ xs) (suc i) d m other same differs = either_link (x.number == other) x (link_at other (slice_set xs i m)) (link_at other xs) (other_link xs i d m other same differs)
 
 -- the others' stay
+pub others_link : (number : ℕ) (ls : List Link) (place : ℕ) (d m : Link) → place_of number ls ≡ Some place → m.number ≡ (slice_index_or ls place d).number
+    → (other : ℕ) → other ≢ number → link_at other (slice_set ls place m) ≡ link_at other ls
+others_link number ls place d m is same other differs =
+    let at : IsAt number ls place = is_at number ls place is in
+    other_link ls place d m other same (ap (λ (k : ℕ). k == other) (at.named d) ∙ differs_by (number == other) number other refl differs)
+
 pub others_wait : (number : ℕ) (ls : List Link) (place : ℕ) (d m : Link) → place_of number ls ≡ Some place → m.number ≡ (slice_index_or ls place d).number
     → (other : ℕ) → other ≢ number → waits_on other (slice_set ls place m) ≡ waits_on other ls
-others_wait number ls place d m is same other differs =
-    let at : IsAt number ls place = is_at number ls place is in
-    ap (option_map waits_of) (other_link ls place d m other same (ap (λ (k : ℕ). k == other) (at.named d) ∙ differs_by (number == other) number other refl differs))
+others_wait number ls place d m is same other differs = ap (option_map waits_of) (others_link number ls place d m is same other differs)
 
 -- its own changes with it
 pub one_waits : (by : List ℕ → List ℕ) (number : ℕ) (ls : List Link) (place : ℕ) (d m : Link) → place_of number ls ≡ Some place → m.number ≡ (slice_index_or ls place d).number

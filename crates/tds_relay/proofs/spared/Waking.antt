@@ -88,9 +88,9 @@ puts_whose : (heard : Heard) (who : Option ℕ) (ends : Ends) (posts : Posts) (h
 puts_whose heard None ends posts header content manner its said = λ key. inl refl
 puts_whose heard (Some k) ends posts header content manner its said = λ key. puts_one heard k key ends posts header content manner its said (cases_eq key k)
 
-pub puts_brings : (number : ℕ) (walker : Option Reading) (a : Answer) (r : packets.Reading) (heard : Heard) (old new : House) → Brings number walker a r heard old new → PutsFor (Some heard) old.hall.ends old.posts new.posts
-puts_brings number walker a r heard old new (inl e) = λ key. inl (ap (λ (h : House). post_at h.posts key) e.1)
-puts_brings number walker a r heard old new (inr p) =
+pub puts_brings : (number : ℕ) (walker : Option Reading) (a b : Answer) (r : packets.Reading) (heard : Heard) (old new : House) → Brings number walker a b r heard old new → PutsFor (Some heard) old.hall.ends old.posts new.posts
+puts_brings number walker a b r heard old new (inl e) = λ key. inl (ap (λ (h : House). post_at h.posts key) e.1)
+puts_brings number walker a b r heard old new (inr p) =
     subst (PutsFor (Some heard) old.hall.ends old.posts) (sym (ap (λ (h : House). h.posts) p.is))
     (puts_whose heard (whose old.hall.desk number) old.hall.ends old.posts p.header p.content p.manner p.whose_is
     (said_or (is_said heard.what (end_whose heard.key old.hall.ends)) p.goes a p.header p.content p.manner p.by))

@@ -1,5 +1,5 @@
 -- Packets that are handed on, and what steps they are.
-use Rattle.std.proofs.Common.{◌≡◌, ◌∙◌, ℕ, Bool, true, false, List, Option, Some, None, inl, inr, refl, sym, ap, subst, not, ◌∷◌, if◌then◌else◌, slice_set, option_map, [], ◌++◌, take}
+use Rattle.std.proofs.Common.{◌≡◌, ◌∙◌, ℕ, Bool, true, false, List, Option, Some, None, inl, inr, refl, sym, ap, subst, not, ◌&&◌, ◌||◌, ◌∷◌, if◌then◌else◌, slice_set, option_map, [], ◌++◌, take}
 use Rattle.std.proofs.lemmas.List.{set-get_or}
 use Rattle.std.specs.Prelude.{IsSome}
 use Rattle.slab.specs.Slab.{Slab, get, with_value}
@@ -25,7 +25,8 @@ use Rattle.tds_relay.specs.Desk.{owes_reset, Desk, Comes, Way, turn, whose}
 use Rattle.tds_relay.specs.Fronts.{IsWhat, end_of, ends_in as ends_of, house_with, told_by}
 use Rattle.tds_relay.specs.Hall as hall
 use Rattle.tds_relay.specs.Hall.{End, Ends, Open, Over, done_by, end_at, told, what_in}
-use Rattle.tds_relay.specs.Handing.{Brings, Hears, IsBy, IsDone, IsFor, IsKnownBy, IsOf, KnowsOn, Passing, fed}
+use Rattle.tds_relay.specs.Handing.{Brings, Hears, IsBy, PassesAs, IsDone, IsFor, IsKnown, IsKnownBy, IsOf, KnowsOn, Passing, fed, news_for}
+use Rattle.tds_relay.specs.News.{holds_back}
 use Rattle.tds_relay.specs.House.{House, IsHanded, IsRight, IsTold, Manner, MayHand, Withheld, behind_news, change_whose, closes, end_whose, handed, hears_of_reset, is_said, put_all, put_some}
 use Rattle.tds_relay.specs.Posts.{Post, Posts, change, post_at, post_of, posts_in, put, put_news}
 use Rattle.tds_relay.specs.Ties.{Turns, part_on}
@@ -67,9 +68,9 @@ told_alike : (who : Option ℕ) (what : What) (dones : List (Rattle.tds_service.
 told_alike None what dones es is = refl
 told_alike (Some key) what dones es is = ap (λ (w : What). hears_of_reset w (end_at es key)) (sym is)
 
-pub may_hand : (number : ℕ) (walker : Option Reading) (a : Answer) (r : packets.Reading) (heard : Heard) (old new : House) → (p : Passing number walker a r heard old new)
+pub may_hand : (number : ℕ) (walker : Option Reading) (a b : Answer) (r : packets.Reading) (heard : Heard) (old new : House) → (p : Passing number walker a b r heard old new)
     → MayHand old number p.header p.content (part_on walker p.content (ends_in p.header)) p.manner
-may_hand number walker a r heard old new p =
+may_hand number walker a b r heard old new p =
     let part = part_on walker p.content (ends_in p.header) in
     let dones = done_by old.hall.desk number part in
     let who = whose old.hall.desk number in
@@ -186,12 +187,12 @@ has_walker d number key cs is h =
 -- ---- That it was
 
 -- a packet has come, and was handed on so
-pub passing : (number : ℕ) (walker : Option Reading) (goes : News) (a : Answer) (r : packets.Reading) (heard : Heard) (d d1 : Desk) (es : Ends) (p p1 : Posts) (h : Header) (content : List ℕ) (ends : Bool) (way : Way) (manner : Manner) (before after : List ℕ)
+pub passing : (number : ℕ) (walker : Option Reading) (goes : News) (a b : Answer) (r : packets.Reading) (heard : Heard) (d d1 : Desk) (es : Ends) (p p1 : Posts) (h : Header) (content : List ℕ) (ends : Bool) (way : Way) (manner : Manner) (before after : List ℕ)
     → IsPacket r.direction r.size r.taken h content → ends ≡ ends_in h → Turns (Comes number (part_on walker content ends) way) d d1 before after
     → heard.key ≡ whose d number → IsWhat heard.key heard.what (done_by d number (part_on walker content ends)) → ((key : ℕ) → whose d number ≡ Some key → IsSome walker)
-    → IsFor (is_said heard.what (end_whose heard.key es)) goes a h content manner → IsTold (owes_reset number d) (hears_of_reset heard.what (end_whose heard.key es)) manner (part_on walker content ends) → p1 ≡ change_whose (whose d number) (put_some (handed manner h content)) p
-    → Brings number walker a r heard (house_with d es p) (house_with d1 (told_by (Some heard) es) p1)
-passing number walker goes a r heard d d1 es p p1 h content ends way manner before behind packet last turned its what there by tells is =
+    → IsFor (is_said heard.what (end_whose heard.key es)) goes a h content manner → PassesAs (owes_reset number d) a h content manner b → IsTold (owes_reset number d) (hears_of_reset heard.what (end_whose heard.key es)) manner (part_on walker content ends) → p1 ≡ change_whose (whose d number) (put_some (handed manner h content)) p
+    → Brings number walker a b r heard (house_with d es p) (house_with d1 (told_by (Some heard) es) p1)
+passing number walker goes a b r heard d d1 es p p1 h content ends way manner before behind packet last turned its what there by cut tells is =
     let turns = subst (λ (b : Bool). Turns (Comes number (part_on walker content b) way) d d1 before behind) last turned in
     let hears = subst (λ (b : Bool). IsTold (owes_reset number d) (hears_of_reset heard.what (end_whose heard.key es)) manner (part_on walker content b)) last tells in
     let said = subst (λ (b : Bool). IsWhat heard.key heard.what (done_by d number (part_on walker content b))) last what in
@@ -207,6 +208,7 @@ passing number walker goes a r heard d d1 es p p1 h content ends way manner befo
       has_walker = there;
       goes = goes;
       by = by;
+      cut = cut;
       told = hears;
       is =
           ap (λ (e : Desk). house_with e (told_by (Some heard) es) p1) turns.desk_is
@@ -218,35 +220,52 @@ passing number walker goes a r heard d d1 es p p1 h content ends way manner befo
 -- ---- Of which bytes
 
 left_less : ((r : packets.Reading) (bytes : List ℕ) → ¬ IsWhole (with_taken r (up_to_end r bytes)) → IsLess r (up_to_end r bytes)) → ((r : packets.Reading) → IsLess r [])
-    → (number : ℕ) (walker : Option Reading) (a : Answer) (r next : packets.Reading) (bytes : List ℕ) (heard : Heard) (old new : House)
-    → Brings number walker a (fed r bytes) heard old new → IsDone (fed r bytes) next → IsLess next next.taken
-left_less less nothing number walker a r next bytes heard old new (inl none) done =
+    → (number : ℕ) (walker : Option Reading) (a b : Answer) (r next : packets.Reading) (bytes : List ℕ) (heard : Heard) (old new : House)
+    → Brings number walker a b (fed r bytes) heard old new → IsDone (fed r bytes) next → IsLess next next.taken
+left_less less nothing number walker a b r next bytes heard old new (inl none) done =
     subst (λ (x : packets.Reading). IsLess x x.taken) (sym (done.less none.0)) (less r (r.taken ++ bytes) none.0)
-left_less less nothing number walker a r next bytes heard old new (inr p) done =
+left_less less nothing number walker a b r next bytes heard old new (inr p) done =
     subst (λ (x : packets.Reading). IsLess x x.taken) (sym (done.whole (p.header, p.content, p.packet))) (nothing r)
 
 pub hears_is : ((r : packets.Reading) (bytes : List ℕ) → ¬ IsWhole (with_taken r (up_to_end r bytes)) → IsLess r (up_to_end r bytes)) → ((r : packets.Reading) → IsLess r [])
     → (number : ℕ) (walker : Option Reading) (link next : Link) (bytes : List ℕ) (count : ℕ) (heard : Heard) (old new : House) (r s : packets.Reading)
-    → r ≡ fed link.reader bytes → r.taken ≡ link.reader.taken ++ take count bytes → Brings number walker link.answer r heard old new
+    → r ≡ fed link.reader bytes → r.taken ≡ link.reader.taken ++ take count bytes → Brings number walker link.answer next.answer r heard old new
     → s ≡ r → (IsWhole s → next.reader ≡ with_taken s []) → (¬ IsWhole s → next.reader ≡ s) → Hears number walker link next bytes count heard old new
 hears_is less nothing number walker link next bytes count heard old new r s is took brings same whole none =
-    let brought = subst (λ (x : packets.Reading). Brings number walker link.answer x heard old new) is brings in
+    let brought = subst (λ (x : packets.Reading). Brings number walker link.answer next.answer x heard old new) is brings in
     let done : IsDone (fed link.reader bytes) next.reader =
     subst (λ (x : packets.Reading). IsDone x next.reader) (same ∙ is) (record { whole = whole; less = none }) in
     record {
       taken = ap (λ (x : packets.Reading). x.taken) (sym is) ∙ took;
       brings = brought;
       done = done;
-      less = left_less less nothing number walker link.answer link.reader next.reader bytes heard old new brought done;
+      less = left_less less nothing number walker link.answer next.answer link.reader next.reader bytes heard old new brought done;
     }
 
 -- its reader goes the same way
-pub done_keeps : (number : ℕ) (walker : Option Reading) (a : Answer) (r s next : packets.Reading) (heard : Heard) (old new : House) → Brings number walker a r heard old new
+pub done_keeps : (number : ℕ) (walker : Option Reading) (a b : Answer) (r s next : packets.Reading) (heard : Heard) (old new : House) → Brings number walker a b r heard old new
     → s ≡ r → (IsWhole s → next ≡ with_taken s []) → (¬ IsWhole s → next ≡ s) → next.direction ≡ s.direction
-done_keeps number walker a r s next heard old new (inl none) same whole less =
+done_keeps number walker a b r s next heard old new (inl none) same whole less =
     ap (λ (x : packets.Reading). x.direction) (less (subst (λ (x : packets.Reading). ¬ IsWhole x) (sym same) none.0))
-done_keeps number walker a r s next heard old new (inr p) same whole less =
+done_keeps number walker a b r s next heard old new (inr p) same whole less =
     ap (λ (x : packets.Reading). x.direction) (whole (subst (λ (x : packets.Reading). IsWhole x) (sym same) (p.header, p.content, p.packet)))
+
+-- ---- As what is known has it
+
+cut_of : (tells cut owed : Bool) (a : Answer) (h : Header) (content : List ℕ) (manner : Manner) (new : Answer) → (cut ≡ true → (owed || holds_back a.known) ≡ true) → IsOf tells cut (awaited owed a) h content manner
+    → IsKnownBy cut owed a h content new → PassesAs owed a h content manner new
+cut_of tells false owed a h content manner new why by known = subst (λ (m : Manner). PassesAs owed a h content m new) (sym by) known
+cut_of tells true owed a h content manner new why by known = subst (λ (m : Manner). PassesAs owed a h content m new) (sym by.1) (why refl, by.2, known)
+
+and_first : (a b : Bool) → (a && b) ≡ true → a ≡ true
+and_first true b e = refl
+and_first false b e = absurd (let u : ⊥ = cc in u)
+
+pub cut_as : (asks is_in owed held : Bool) (a : Answer) (h : Header) (content : List ℕ) (manner : Manner) (new : Answer) → held ≡ holds_back a.known → IsBy (news_for asks is_in owed held) a h content manner
+    → IsKnown (news_for asks is_in owed held) a h content new → PassesAs owed a h content manner new
+cut_as asks is_in owed held a h content manner new holds by known =
+    cut_of (asks && not is_in) ((owed || held) && not (asks && is_in)) owed a h content manner new
+    (λ e. ap (λ (b : Bool). owed || b) (sym holds) ∙ and_first (owed || held) (not (asks && is_in)) e) by known
 
 -- ---- What is known behind it
 

@@ -2,22 +2,23 @@
 ghost use Rattle.std.specs.Prelude.{◌≡◌, ◌≢◌, ◌⊎◌, ◌≤◌, ◌+◌, ◌&&◌, [], ℕ, not, None, Some, drop, false};
 ghost use Rattle.std.specs.Prelude.{IfOk, IsNone, OnOk, length, true};
 ghost use Rattle.tds_service.specs.Table.{reading_on};
+ghost use Rattle.tds_relay.specs.Apart.{LosesOnly, SparesOthers};
 ghost use Rattle.tds_relay.specs.Bodies.{AskAsBefore, Body, body_in};
 ghost use Rattle.tds_relay.specs.Closings.{ClosesOnly, but_told, is_shut};
 ghost use Rattle.tds_relay.specs.Closings.{register_in, settings_in};
-ghost use Rattle.tds_relay.specs.Coming.{AllAlong};
+ghost use Rattle.tds_relay.specs.Coming.{AllAlong, ComesAnew, ContinuesAnew, MayBeginAny, StreamsAnew};
 ghost use Rattle.tds_relay.specs.Faults.{IsHeaderOf, IsRefusedOn};
 ghost use Rattle.tds_relay.specs.Few.{Few, NobodyWaits, NoneNew};
 ghost use Rattle.tds_relay.specs.Fronts.{Moved, end_of, ends_in, hall_in, hall_of_ends, told_by, house_in, house_of};
 ghost use Rattle.tds_relay.specs.Fronts.{house_with};
 ghost use Rattle.tds_relay.specs.Hall.{told};
-ghost use Rattle.tds_relay.specs.Handing.{Brings, HearsBy, IsKnown, KnowsOn, Passes, news_for, fed};
+ghost use Rattle.tds_relay.specs.Handing.{Brings, HearsBy, IsKnown, KnowsOn, Passes, heard_key, news_for, fed};
 ghost use Rattle.tds_relay.specs.House.{Steps};
 ghost use Rattle.tds_relay.specs.Reasons.{Cleans, HeardFor, IsHeardAs, HearsNothing, LosesAt, post_on};
 ghost use Rattle.tds_relay.specs.Posts.{names_in, post_of, posts_in};
 ghost use Rattle.tds_packet.specs.Stream.{IsLess};
-ghost use Rattle.tds_relay.specs.Reads.{Comes, Continues, IsLessAt, OpensOthers, Stays, StreamsAll};
-ghost use Rattle.tds_relay.specs.Reads.{if_heard, open_at};
+ghost use Rattle.tds_relay.specs.Reads.{Comes, IsLessAt, OpensOthers, Stays, StreamsAll};
+ghost use Rattle.tds_relay.specs.Reads.{answer_at, if_heard, open_at};
 ghost use Rattle.tds_relay.specs.Reads.{reader_at, seen_at, waits_on};
 ghost use Rattle.tds_relay.specs.Bounds.{IsRoom};
 ghost use Rattle.tds_relay.specs.Ordering.{StayOrdered};
@@ -54,6 +55,7 @@ impl Relay {
         ensures comes { OnOk result (Comes number (open_at number self.old.links.items)
             (house_in self.old) self.old.desk.service piece.now
             (open_at number self.new.links.items) (house_in self.new) self.new.desk.service) }
+        ensures anew { OnOk result (ComesAnew number piece.now self.old self.new) }
         ensures others { OnOk result (OpensOthers number
             self.old.links.items self.new.links.items) }
         ensures bodies { IsReached (desk_in self.old.desk)
@@ -62,6 +64,8 @@ impl Relay {
         ensures wakes { OnOk result (Wakes (posts_in self.old.applications)
             self.new.applications self.new.orders.items) }
         ensures refused { OnOk result (IsRefusedOn number self.old.refused self.new.refused) }
+        ensures only { IsReached (desk_in self.old.desk)
+            → OnOk result (LosesOnly number (hall_in self.old) (hall_in self.new)) }
         ensures closes { OnOk result (ClosesOnly (HeardFor number piece.now self.old)
             (but_told (register_in self.new) (register_in self.old)) (register_in self.new)) }
     {
@@ -79,6 +83,10 @@ impl Relay {
         ensures streams { OnOk result (StreamsAll number (open_at number self.old.links.items)
             (house_in self.old) self.old.desk.service piece.now
             (open_at number self.new.links.items) (house_in self.new) self.new.desk.service) }
+        ensures anew { OnOk result (StreamsAnew number (answer_at number self.old.links.items)
+            (open_at number self.old.links.items) (house_in self.old) self.old.desk.service
+            piece.now [] (answer_at number self.new.links.items)
+            (open_at number self.new.links.items) (house_in self.new) self.new.desk.service) }
         ensures others { OnOk result (OpensOthers number
             self.old.links.items self.new.links.items) }
         ensures bodies { IsReached (desk_in self.old.desk)
@@ -87,6 +95,8 @@ impl Relay {
         ensures wakes { OnOk result (Wakes (posts_in self.old.applications)
             self.new.applications self.new.orders.items) }
         ensures refused { OnOk result (IsRefusedOn number self.old.refused self.new.refused) }
+        ensures spares { IsReached (desk_in self.old.desk) → OnOk result (SparesOthers number None
+            (hall_in self.old) (hall_in self.new)) }
         ensures closes { OnOk result (ClosesOnly (HeardFor number piece.now self.old)
             (but_told (register_in self.new) (register_in self.old)) (register_in self.new)) }
     {
@@ -112,8 +122,9 @@ impl Relay {
             ≡ names_in self.old.applications) }
         ensures ends { OnOk result (ends_in self.new.applications
             ≡ ends_in self.old.applications) }
-        ensures continues { IfOk result (λ heard. Continues number piece.now
-            (drop heard.0 piece.now) (open_at number self.old.links.items)
+        ensures continues { IfOk result (λ heard. ContinuesAnew number piece.now
+            (drop heard.0 piece.now) (answer_at number self.old.links.items)
+            (open_at number self.old.links.items) (answer_at number self.new.links.items)
             (if_heard heard.1 (open_at number self.new.links.items)) (house_in self.old)
             self.old.desk.service (house_with (desk_in self.new.desk)
             (told_by heard.1 (ends_in self.old.applications)) (posts_in self.new.applications))
@@ -136,7 +147,8 @@ impl Relay {
             ≡ post_on number self.old.links.items) }
         ensures cleans { IfOk result (λ heard. Cleans heard.1 [] self.new.outbox.items) }
         ensures refused { OnOk result (IsRefusedOn number self.old.refused self.new.refused) }
-        ensures hears { IfOk result (λ heard. HearsNothing heard.1
+        ensures hears { IfOk result (λ heard.
+            (HearsNothing heard.1 × (self.new.desk ≡ self.old.desk))
             ⊎ IsHeardAs number piece.now heard.1 self.old (house_with (desk_in self.new.desk)
             (told_by heard.1 (ends_in self.old.applications)) (posts_in self.new.applications))) }
     {
@@ -179,6 +191,9 @@ impl Relay {
             → IsWoken key self.new.applications self.new.orders.items) }
         ensures others { IsNotAcknowledged heard → OnOk result ((other : ℕ) → other ≢ number
             → waits_on other self.new.links.items ≡ waits_on other self.old.links.items) }
+        ensures begins { OnOk result (MayBeginAny self.old.links.items self.new.links.items) }
+        ensures spares { IsReached (desk_in self.old.desk) → OnOk result (SparesOthers number
+            (heard_key heard) (hall_in self.old) (hall_in self.new)) }
         ensures closes { OnOk result (ClosesOnly (LosesAt number heard self.old)
             (register_in self.old) (register_in self.new)) }
     {
@@ -275,7 +290,7 @@ fn hear_packet(
         (desk_in desk.new)) }
     ensures names { OnOk result (names_in applications.new ≡ names_in applications.old) }
     ensures brings { IfOk result (λ heard. Brings number (reading_on number desk.old.service)
-        link.old.answer link.old.reader heard (house_of desk.old applications.old)
+        link.old.answer link.new.answer link.old.reader heard (house_of desk.old applications.old)
         (house_with (desk_in desk.new) (told_by (Some heard) (ends_in applications.old))
         (posts_in applications.new))) }
     ensures read { OnOk result (HasRead number link.old.reader desk.old.service

@@ -21,6 +21,7 @@ ghost use Rattle.tds_relay.specs.Reads.{answer_at, bytes_on, link_at, opened_at,
 ghost use Rattle.tds_relay.specs.Ordering.{StayOrdered};
 ghost use Rattle.tds_relay.specs.Reasons.{HasNoRoom};
 ghost use Rattle.tds_relay.specs.Sending.{IsToWrite, called_at};
+ghost use Rattle.tds_relay.specs.Coming.{MayBeginAny};
 ghost use Rattle.tds_relay.specs.Sparing.{AllGo, AllRest, IsHeldBack, IsUnkept, OthersRest};
 ghost use Rattle.tds_relay.specs.Sparing.{StartsOn};
 ghost use Rattle.tds_relay.specs.Taking.{IsDeaf};
@@ -219,6 +220,7 @@ impl Relay {
         ensures read { Stays self.old.links.items self.new.links.items }
         ensures begins { answer_at number self.new.links.items
             ≡ option_map at_its_beginning (answer_at number self.old.links.items) }
+        ensures any { MayBeginAny self.old.links.items self.new.links.items }
         ensures rests { AllRest self.old self.new }
         ensures orders { self.new.orders.items ≡ self.old.orders.items }
         ensures closes { ClosesOnly Nobody (register_in self.old) (register_in self.new) }

@@ -1,8 +1,9 @@
 //! What an application that took its request back asks next, once the server has acknowledged that.
-ghost use Rattle.std.specs.Prelude.{◌≡◌, ℕ, true, OnOk, Some};
+ghost use Rattle.std.specs.Prelude.{◌≡◌, ℕ, true, None, OnOk, Some};
 ghost use Rattle.tds_packet.specs.declared.status.Reset.TheVariants.{KeepTransaction};
+ghost use Rattle.tds_relay.specs.Apart.{SparesOthers};
 ghost use Rattle.tds_relay.specs.Closings.{Anybody, ClosesOnly, register_in};
-ghost use Rattle.tds_relay.specs.Coming.{AllAlong};
+ghost use Rattle.tds_relay.specs.Coming.{AllAlong, MayBeginAny};
 ghost use Rattle.tds_relay.specs.Fronts.{Moved, ends_in, hall_in};
 ghost use Rattle.tds_relay.specs.Hall.{AsksFor, IfWhose, MayPart, end_at, holder};
 ghost use Rattle.tds_relay.specs.Ordering.{StayOrdered};
@@ -32,6 +33,9 @@ impl Relay {
             → OnOk result (AllAlong self.old self.new) }
         ensures ordered { OnOk result (StayOrdered self.old.orders.items self.new.orders.items) }
         ensures resumes { OnOk result (Resumes key self.old self.new) }
+        ensures begins { OnOk result (MayBeginAny self.old.links.items self.new.links.items) }
+        ensures spares { IsReached (desk_in self.old.desk) → OnOk result (SparesOthers number
+            (Some key) (hall_in self.old) (hall_in self.new)) }
         ensures closes { OnOk result (ClosesOnly Anybody
             (register_in self.old) (register_in self.new)) }
     {
@@ -58,6 +62,9 @@ impl Relay {
         ensures bodies { IsReached (desk_in self.old.desk)
             → OnOk result (AllAlong self.old self.new) }
         ensures ordered { OnOk result (StayOrdered self.old.orders.items self.new.orders.items) }
+        ensures begins { OnOk result (MayBeginAny self.old.links.items self.new.links.items) }
+        ensures spares { IsReached (desk_in self.old.desk) → OnOk result (SparesOthers number
+            (Some key) (hall_in self.old) (hall_in self.new)) }
         ensures closes { OnOk result (ClosesOnly Anybody
             (register_in self.old) (register_in self.new)) }
     {
@@ -89,6 +96,9 @@ impl Relay {
         ensures ordered { OnOk result (StayOrdered self.old.orders.items self.new.orders.items) }
         ensures lines { OnOk result ((key : ℕ)
             → holder (desk_in self.old.desk) number ≡ Some key → StandsInLine key self.new) }
+        ensures begins { OnOk result (MayBeginAny self.old.links.items self.new.links.items) }
+        ensures spares { IsReached (desk_in self.old.desk) → OnOk result (SparesOthers number
+            None (hall_in self.old) (hall_in self.new)) }
         ensures closes { OnOk result (ClosesOnly Anybody
             (register_in self.old) (register_in self.new)) }
     {

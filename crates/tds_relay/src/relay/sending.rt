@@ -1,6 +1,7 @@
 //! What waits for applications and on connections, and is sent.
 ghost use Rattle.std.specs.Prelude.{◌≡◌, ◌≢◌, ◌+◌, ◌≤◌, ℕ, None, OnOk, drop, if◌then◌else◌, length, option_map};
 ghost use Rattle.slab.specs.Slab.{get};
+ghost use Rattle.tds_relay.specs.Apart.{Alone, SparesOthers};
 ghost use Rattle.tds_relay.specs.Bodies.{AskAsBefore, AskOn};
 ghost use Rattle.tds_relay.specs.Bounds.{most_for};
 ghost use Rattle.tds_relay.specs.Closings.{ClosesOnly, IsWho, Nobody, register_in};
@@ -130,6 +131,9 @@ impl Relay {
         ensures ordered { OnOk result (StayOrdered self.old.orders.items self.new.orders.items) }
         ensures others { OnOk result ((other : ℕ) → other ≢ number
             → waits_on other self.new.links.items ≡ waits_on other self.old.links.items) }
+        ensures answers { OnOk result (KeepsAnswers self.old.links.items self.new.links.items) }
+        ensures spares { OnOk result (SparesOthers number None (hall_in self.old)
+            (hall_in self.new)) }
         ensures closes { OnOk result (ClosesOnly (λ other.
             IsWho (holder (desk_in self.old.desk) number) other
             × HasNoRoom number self.old.outbox.items self.old.links.items)
@@ -202,6 +206,7 @@ impl Relay {
         ensures asks { OnOk result (AskOn self.old.applications self.new.applications) }
         ensures ordered { OnOk result (StayOrdered self.old.orders.items self.new.orders.items) }
         ensures wakes { OnOk result (IsWoken key self.new.applications self.new.orders.items) }
+        ensures alone { OnOk result (Alone key (hall_in self.old) (hall_in self.new)) }
         ensures closes { OnOk result (ClosesOnly (ItselfFor key
             (IsOverfull (post_at (posts_in self.old.applications) key)))
             (register_in self.old) (register_in self.new)) }

@@ -8,6 +8,7 @@ use Rattle.tds_relay.proofs.steps.Placed.{IsAt, is_at, is_nowhere}
 use Rattle.tds_relay.proofs.spared.Waits.{waits_same}
 use Rattle.tds_relay.proofs.steps.Staying.{fills_same, stays_written}
 use Rattle.tds_relay.proofs.indexed.Placing.{placed_written}
+use Rattle.tds_relay.proofs.bytes.SetAnew.{any_refl, any_written}
 use Rattle.tds_relay.proofs.links.restart.Goals as goal
 
 pub returns-clause-read : goal.returns-clause-read
@@ -38,3 +39,12 @@ returns-clause-begins c = rw (← c.links.view_is) (
 pub invariant_of-links : goal.invariant_of-links
 invariant_of-links c =
     placed_written c.links.inside.list.items c.links.inside.places.items c.in-Some.place c.index_mut-link.result.now _ c.links.invariant (ap (λ (l : Link). l.number) c.index_mut-link.ensures.value)
+
+pub returns-in_default-clause-any : goal.returns-in_default-clause-any
+returns-in_default-clause-any c = any_refl c.args.links.now.items
+
+pub returns-clause-any : goal.returns-clause-any
+returns-clause-any c = rw (← c.links.view_is) (
+    any_written c.args.number c.links.inside.list.items c.in-Some.place c.index_mut-link.result.now _
+    (ap (λ (v : Linked). place_of c.args.number v.items) c.links.view_is ∙ sym c.place_in.ensures.is ∙ c.in-Some.is) (ap (λ (l : Link). l.number) c.index_mut-link.ensures.value)
+    (c.restart.ensures ∙ ap (λ (l : Link). at_its_beginning l.answer) c.index_mut-link.ensures.value))

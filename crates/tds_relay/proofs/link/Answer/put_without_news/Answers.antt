@@ -28,5 +28,6 @@ returns-clause-cut c =
 pub returns-clause-behind : goal.returns-clause-behind
 returns-clause-behind c =
     let owed = awaited c.args.owed c.args.self.now in
-    ok_if c.append.result _ (behind_is owed c.args.bytes.now c.ends-ends.result (ends_in c.args.header) c.awaits.new.self c.cut.new.self.known c.close.new.self.known c.cut.new.self.walker c.close.new.self.walker c.awaits.ensures
-    c.ends-ends.ensures c.in_ok-cut.ensures.known c.in_ok-cut.ensures.stands c.in_ok-close.ensures.known c.in_ok-close.ensures.walker)
+    let behind = behind_is owed c.args.bytes.now c.ends-ends.result (ends_in c.args.header) c.awaits.new.self c.cut.new.self.known c.close.new.self.known c.cut.new.self.walker c.close.new.self.walker c.awaits.ensures
+    c.ends-ends.ensures c.in_ok-cut.ensures.known c.in_ok-cut.ensures.stands c.in_ok-close.ensures.known c.in_ok-close.ensures.walker in
+    ok_if c.append.result _ (behind.0, behind.1, c.in_ok-close.ensures.size ∙ c.in_ok-cut.ensures.size)

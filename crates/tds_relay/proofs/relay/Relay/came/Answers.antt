@@ -18,6 +18,8 @@ use Rattle.tds_relay.specs.Closings.{IsWaiting, register_in}
 use Rattle.tds_relay.specs.Reasons.{HeardFor, InLine}
 use Rattle.tds_relay.proofs.spared.Closings.{closes_done_on}
 use Rattle.tds_relay.proofs.spared.Few.{few_behind, most_kept}
+use Rattle.tds_relay.proofs.spared.Only.{only_on}
+use Rattle.tds_relay.proofs.bytes.SetAnew.{comes_anew}
 use Rattle.tds_relay.proofs.relay.Relay.came.Goals as goal
 
 pub returns-clause-steps : goal.returns-clause-steps
@@ -61,3 +63,12 @@ pub returns-clause-refused : goal.returns-clause-refused
 returns-clause-refused c =
     refused_served c.serve_line.result c.args.number (IsWaiting (desk_in c.hear_all.new.self.desk).line) c.args.self.now.refused (register_in c.hear_all.new.self) (register_in c.serve_line.new.self)
     c.in_ok-hear_all.ensures.refused c.serve_line.ensures.closes
+
+pub returns-clause-only : goal.returns-clause-only
+returns-clause-only c = λ reached.
+    only_on c.serve_line.result c.args.number (hall_in c.args.self.now) (hall_in c.hear_all.new.self) (hall_in c.serve_line.new.self) (c.in_ok-hear_all.ensures.spares reached) c.serve_line.ensures.apart
+
+pub returns-clause-anew : goal.returns-clause-anew
+returns-clause-anew c =
+    comes_anew c.serve_line.result c.args.number c.args.piece.now c.args.self.now c.hear_all.new.self c.serve_line.new.self c.in_ok-hear_all.ensures.anew c.serve_line.ensures.moves c.serve_line.ensures.kept
+    c.serve_line.ensures.opens c.serve_line.ensures.stand

@@ -7,7 +7,7 @@ use Rattle.tds_relay.specs.declared.outgoing.Outgoing.{Outgoing}
 use Rattle.tds_relay.specs.Posts.{post_in, posts_in}
 use Rattle.tds_relay.specs.Ties.{desk_in}
 use Rattle.tds_relay.specs.Reads.{bytes_on, place_of}
-use Rattle.tds_relay.proofs.bytes.Streaming.{hear_at, unheard, unopened}
+use Rattle.tds_relay.proofs.bytes.SetAnew.{hear_at, unheard, unopened}
 use Rattle.tds_relay.proofs.bytes.Turns.{less_at, less_nowhere, less_shut, takes_at}
 use Rattle.tds_service.specs.Table.{reading_on}
 use Rattle.tds_relay.proofs.steps.Faults.{refused_heard}
@@ -121,10 +121,10 @@ returns-clause-takes c = rw (← c.links.view_is) (
     c.index_mut-link.ensures.value (search rules) c.hear_on.ensures.takes)
 
 pub returns-in_default-clause-hears : goal.returns-in_default-clause-hears
-returns-in_default-clause-hears c = inl (refl, refl)
+returns-in_default-clause-hears c = inl ((refl, refl), refl)
 
 pub returns-then-not-link-clause-hears : goal.returns-then-not-link-clause-hears
-returns-then-not-link-clause-hears c = inl (refl, refl)
+returns-then-not-link-clause-hears c = inl ((refl, refl), refl)
 
 pub returns-in_default-clause-cleans : goal.returns-in_default-clause-cleans
 returns-in_default-clause-cleans c = λ not. inl (search rules)
@@ -154,7 +154,7 @@ returns-clause-posts c = rw (← c.links.view_is) (
 
 pub returns-clause-hears : goal.returns-clause-hears
 returns-clause-hears c =
-    heard_as c.hear_on.result c.args.number c.args.piece.now c.in-Some.place c.index_mut-link.result.now c.hear_on.new.link c.args.self.now
+    heard_as c.hear_on.result (c.hear_on.new.desk ≡ c.args.self.now.desk) c.args.number c.args.piece.now c.in-Some.place c.index_mut-link.result.now c.hear_on.new.link c.args.self.now
     (λ (heard : Option Heard). house_with (desk_in c.hear_on.new.desk) (told_by heard (ends_in c.args.self.now.applications)) (posts_in c.hear_on.new.applications))
     (sym c.place_in.ensures.is ∙ c.in-Some.is)
     (subst (λ (v : Linked). c.index_mut-link.result.now ≡ slice_index_or v.items c.in-Some.place c.index_mut-link.result.now) c.links.view_is c.index_mut-link.ensures.value) c.hear_on.ensures.hears

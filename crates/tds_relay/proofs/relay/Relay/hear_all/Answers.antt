@@ -1,11 +1,11 @@
-use Rattle.std.proofs.Common.{◌≡◌, ◌∙◌, List, Option, ap, inl, length, refl, subst, suc, sym, ℕ, rules}
+use Rattle.std.proofs.Common.{◌≡◌, ◌∙◌, [], List, Option, ap, inl, length, refl, subst, suc, sym, ℕ, rules}
 use Rattle.tds_packet.specs.Reading.{Reading}
 use Rattle.tds_relay.specs.declared.relay.Relay.{Relay}
 use Rattle.tds_relay.specs.Coming.{AllAlong}
 use Rattle.tds_relay.specs.Fronts.{hall_in, house_in, told_by}
 use Rattle.tds_relay.specs.Ordering.{StayOrdered}
 use Rattle.tds_relay.specs.Posts.{names_in, names_of, posts_in}
-use Rattle.tds_relay.specs.Reads.{OpensOthers, Streams, open_at}
+use Rattle.tds_relay.specs.Reads.{OpensOthers, answer_at, open_at}
 use Rattle.tds_relay.specs.Ties.{Connection, Goes, IsReached, Neither, desk_in}
 use Rattle.tds_relay.specs.Waking.{Wakes}
 use Rattle.tds_relay.proofs.spared.Coming.{along_on, along_refl, one_along, rest_along}
@@ -17,7 +17,8 @@ use Rattle.tds_relay.proofs.steps.Fronts.{moved_same}
 use Rattle.tds_relay.proofs.steps.Reaching.{ok_more, reached_on}
 use Rattle.tds_relay.proofs.steps.Renaming.{names_on}
 use Rattle.tds_relay.proofs.steps.Staying.{gone_open, opens_refl, others_both, others_open, others_stay, others_stay_on}
-use Rattle.tds_relay.proofs.bytes.Streaming.{heard_stays, streams_begin, streams_left, streams_on}
+use Rattle.tds_relay.proofs.bytes.SetAnew.{anew_all, anew_begin, anew_left, anew_on, none_is}
+use Rattle.tds_relay.proofs.bytes.Streaming.{heard_stays}
 use Rattle.tds_relay.proofs.bytes.Turns.{some_is, streams_all, turned, turns_begin, turns_end}
 use Rattle.tds_relay.specs.Closings.{ClosesOnly, but_told, register_in}
 use Rattle.tds_relay.specs.Reasons.{ByPacket, HeardFor, LosesAt}
@@ -25,6 +26,7 @@ use Rattle.tds_relay.proofs.spared.Losing.{loses_by}
 use Rattle.tds_relay.proofs.spared.Closings.{closes_done_on, closes_refl, one_closes}
 use Rattle.tds_relay.proofs.spared.Few.{none_both, none_heard, none_on, none_refl, none_stays}
 use Rattle.tds_relay.specs.Few.{NoneNew}
+use Rattle.tds_relay.proofs.spared.Only.{one_spares, spares_refl}
 use Rattle.tds_relay.proofs.relay.Relay.hear_all.Goals as goal
 
 pub taking-init : goal.taking-init
@@ -32,10 +34,11 @@ taking-init c = record {
   turns = turns_begin (open_at c.args.number c.args.self.now.links.items) c.args.piece.now;
   goes = λ from h. h;
   names = refl;
-  streams = streams_begin c.args.number (open_at c.args.number c.args.self.now.links.items) (house_in c.args.self.now) c.args.self.now.desk.service c.args.piece.now;
+  anew = anew_begin c.args.number (answer_at c.args.number c.args.self.now.links.items) (open_at c.args.number c.args.self.now.links.items) (house_in c.args.self.now) c.args.self.now.desk.service c.args.piece.now;
   others = others_open c.args.number _ _ (opens_refl c.args.self.now.links.items);
   bodies = λ reached. along_refl c.args.self.now;
   closes = closes_refl (HeardFor c.args.number c.args.piece.now c.args.self.now) (register_in c.args.self.now);
+  spares = λ reached. spares_refl c.args.number _ (hall_in c.args.self.now);
   refused = inl refl;
   ordered = ordered_refl c.args.self.now.orders.items;
   none = none_refl c.args.self.now.links.items;
@@ -50,19 +53,22 @@ taking-preserved c = record {
       (heard_stays c.args.number _ c.hear.new.self.links.items c.heard.new.self.links.items c.in_ok-heard.ensures.read c.in_ok-heard.ensures.gone) c.taking.invariant.turns;
   goes = λ from h. c.in_ok-heard.ensures.goes from (c.in_ok-count.ensures.goes from (c.taking.invariant.goes from h));
   names = ap names_of c.in_ok-heard.ensures.kept ∙ c.in_ok-count.ensures.names ∙ c.taking.invariant.names;
-  streams =
-      streams_left c.args.number _ _ _ _ _ _ _ _ _ c.behind-rest.ensures
-      (streams_on c.args.number _ _ _ _ _ _ _ _ _ _ _ _ _ _ _ _ _ _ c.taking.invariant.streams c.in_ok-count.ensures.continues
+  anew =
+      anew_left c.args.number _ _ _ _ _ _ _ _ _ _ _ c.behind-rest.ensures
+      (anew_on c.args.number _ _ _ _ _ _ _ _ _ _ _ _ _ _ _ _ _ _ _ _ c.taking.invariant.anew c.in_ok-count.ensures.continues
       (moved_same (Connection c.args.number) _ _ _ _ _ refl (ap (told_by _) c.in_ok-count.ensures.ends) c.in_ok-heard.ensures.moves)
-      c.in_ok-heard.ensures.kept c.in_ok-heard.ensures.read c.in_ok-heard.ensures.gone c.in_ok-heard.ensures.stand);
+      c.in_ok-heard.ensures.kept c.in_ok-heard.ensures.read c.in_ok-heard.ensures.gone c.in_ok-heard.ensures.stand c.in_ok-heard.ensures.begins);
   others = others_stay c.args.number _ _ _ (others_both c.args.number _ _ _ c.taking.invariant.others c.in_ok-count.ensures.others) c.in_ok-heard.ensures.read;
   bodies = λ reached.
       one_along c.args.number c.args.self.now c.taking.self c.hear.new.self c.heard.new.self reached (c.taking.invariant.bodies reached) c.taking.invariant.goes c.in_ok-count.ensures.goes c.in_ok-count.ensures.asks c.in_ok-heard.ensures.bodies;
   closes =
       one_closes (LosesAt c.args.number c.in_ok-count.heard c.hear.new.self) (HeardFor c.args.number c.args.piece.now c.args.self.now) (register_in c.args.self.now) (register_in c.taking.self) (register_in c.hear.new.self) (register_in c.heard.new.self)
-      (λ key why. ByPacket c.taking.self c.taking.rest.now c.taking.invariant.streams
+      (λ key why. ByPacket c.taking.self c.taking.rest.now c.taking.invariant.anew.streams
       (loses_by c.args.number c.taking.rest.now _ c.taking.self c.hear.new.self _ key c.in_ok-count.ensures.hears c.in_ok-count.ensures.ends c.in_ok-count.ensures.cleans c.in_ok-count.ensures.posts why))
       c.taking.invariant.closes c.in_ok-count.ensures.ends c.in_ok-count.ensures.names c.in_ok-count.ensures.same c.hear.ensures.orders c.hear.ensures.settings c.in_ok-heard.ensures.closes c.in_ok-heard.ensures.kept;
+  spares = λ reached.
+      one_spares c.args.number c.taking.rest.now _ (hall_in c.args.self.now) c.taking.self c.hear.new.self c.heard.new.self _ (reached_on (Connection c.args.number) _ _ c.taking.invariant.goes reached) (c.taking.invariant.spares reached)
+      c.in_ok-count.ensures.hears c.in_ok-count.ensures.ends c.in_ok-count.ensures.goes c.in_ok-heard.ensures.spares;
   refused =
       refused_next c.args.number (LosesAt c.args.number c.in_ok-count.heard c.hear.new.self) _ _ _ (register_in c.hear.new.self) (register_in c.heard.new.self)
       c.taking.invariant.refused c.in_ok-count.ensures.refused refl c.in_ok-heard.ensures.closes;
@@ -79,4 +85,15 @@ pub returns-clause-streams : goal.returns-clause-streams
 returns-clause-streams c =
     let last : c.taking.counter ≡ suc (length c.args.piece.now) = search rules in
     streams_all c.args.number _ (open_at c.args.number c.taking.self.links.items) _ _ _ _ c.args.piece.now c.taking.rest.now
-    (turns_end (open_at c.args.number c.taking.self.links.items) c.taking.rest.now c.taking.counter (length c.args.piece.now) last c.taking.invariant.turns) c.taking.invariant.streams
+    (turns_end (open_at c.args.number c.taking.self.links.items) c.taking.rest.now c.taking.counter (length c.args.piece.now) last c.taking.invariant.turns) c.taking.invariant.anew.streams
+
+pub returns-clause-anew : goal.returns-clause-anew
+returns-clause-anew c =
+    let last : c.taking.counter ≡ suc (length c.args.piece.now) = search rules in
+    anew_all c.args.number _ _ _ (open_at c.args.number c.taking.self.links.items) _ _ _ _ c.args.piece.now c.taking.rest.now
+    (turns_end (open_at c.args.number c.taking.self.links.items) c.taking.rest.now c.taking.counter (length c.args.piece.now) last c.taking.invariant.turns) c.taking.invariant.anew
+
+pub returns-then-is_empty-clause-anew : goal.returns-then-is_empty-clause-anew
+returns-then-is_empty-clause-anew c =
+    let none : c.taking.rest.now ≡ [] = none_is c.taking.rest.now (sym c.is_empty.ensures ∙ c.if-is_empty.true) in
+    anew_all c.args.number _ _ _ (open_at c.args.number c.taking.self.links.items) _ _ _ _ c.args.piece.now c.taking.rest.now none c.taking.invariant.anew

@@ -17,6 +17,9 @@ use Rattle.tds_relay.proofs.spared.Closings.{closes_behind, closes_more_on, clos
 use Rattle.tds_relay.proofs.spared.Losing.{nothing_loses, resumes_loses, sent_closes, write_loses}
 use Rattle.tds_relay.specs.Reads.{waits_on}
 use Rattle.tds_relay.proofs.spared.Lined.{acknowledges}
+use Rattle.tds_relay.proofs.spared.Only.{spares_for, spares_lost_on, spares_none, spares_sent, spares_shut, spares_wrote}
+use Rattle.tds_relay.specs.Fronts.{hall_in}
+use Rattle.tds_relay.proofs.bytes.SetAnew.{any_kept, any_on, any_refl, any_same, any_sent}
 use Rattle.tds_relay.proofs.relay.Relay.heard.Goals as goal
 
 pub returns-in_default-clause-moves : goal.returns-in_default-clause-moves
@@ -323,3 +326,74 @@ pub returns-then-resumes-clause-goes : goal.returns-then-resumes-clause-goes
 returns-then-resumes-clause-goes c =
     ok_more c.resume.result _ _
     (λ g from h. g from (c.in_ok-send_on.ensures.goes (Connection c.args.number) from (subst (λ (d : desks.Desk). Reaches (Connection c.args.number) from (desk_in d)) (sym c.in_ok-resumes.ensures.desk) h))) c.resume.ensures.goes
+
+pub returns-in_default-clause-spares : goal.returns-in_default-clause-spares
+returns-in_default-clause-spares c = λ reached.
+    ok_more c.lose.result _ _ (λ h. spares_none c.args.number _ (hall_in c.args.self.now) (hall_in c.lose.new.self) h)
+    (spares_lost_on c.lose.result c.args.number (hall_in c.args.self.now) (hall_in c.lose.new.self) c.lose.ensures.ends c.lose.ensures.line c.lose.ensures.moves)
+
+pub returns-in-Goes-Some-clause-spares : goal.returns-in-Goes-Some-clause-spares
+returns-in-Goes-Some-clause-spares c = λ reached.
+    spares_wrote c.order_write.result c.args.number c.args.heard c.in-Some.heard c.in-Goes-Some.key c.args.self.now c.tell.new.self c.send_on.new.self c.order_write.new.self c.in-Some.is (search rules) c.in_ok-resumes.ensures.desk c.in_ok-resumes.ensures.ends c.in_ok-send_on.ensures.spares c.order_write.ensures.alone c.order_write.ensures.moves
+
+pub returns-in-Finished-Some-clause-spares : goal.returns-in-Finished-Some-clause-spares
+returns-in-Finished-Some-clause-spares c = λ reached.
+    spares_wrote c.order_write-in-Finished-Some.result c.args.number c.args.heard c.in-Some.heard c.in-Finished-Some.key c.args.self.now c.tell.new.self c.send_on.new.self c.order_write-in-Finished-Some.new.self c.in-Some.is (search rules) c.in_ok-resumes.ensures.desk c.in_ok-resumes.ensures.ends c.in_ok-send_on.ensures.spares c.order_write-in-Finished-Some.ensures.alone c.order_write-in-Finished-Some.ensures.moves
+
+pub returns-else-resumes-clause-spares : goal.returns-else-resumes-clause-spares
+returns-else-resumes-clause-spares c = λ reached.
+    spares_wrote c.order_write-else-resumes.result c.args.number c.args.heard c.in-Some.heard c.in-Acknowledged-Some.key c.args.self.now c.tell.new.self c.send_on.new.self c.order_write-else-resumes.new.self c.in-Some.is (search rules) c.in_ok-resumes.ensures.desk c.in_ok-resumes.ensures.ends c.in_ok-send_on.ensures.spares c.order_write-else-resumes.ensures.alone c.order_write-else-resumes.ensures.moves
+
+pub returns-then-resumes-clause-spares : goal.returns-then-resumes-clause-spares
+returns-then-resumes-clause-spares c = λ reached.
+    let told : IsReached (desk_in c.tell.new.self.desk) = subst (λ (d : desks.Desk). IsReached (desk_in d)) (sym c.in_ok-resumes.ensures.desk) reached in
+    let there : IsReached (desk_in c.send_on.new.self.desk) = put_reached c.tell.new.self.desk c.send_on.new.self.desk c.send_on.new.self.desk c.in_ok-send_on.ensures.goes refl told in
+    spares_for c.resume.result c.args.number c.args.heard c.in-Some.heard c.in-Acknowledged-Some.key (hall_in c.args.self.now) (hall_in c.send_on.new.self) (hall_in c.resume.new.self) c.in-Some.is (search rules)
+    (spares_sent c.args.number c.args.heard c.in-Some.heard c.args.self.now c.tell.new.self c.send_on.new.self c.in-Some.is c.in_ok-resumes.ensures.desk c.in_ok-resumes.ensures.ends c.in_ok-send_on.ensures.spares) (c.resume.ensures.spares there)
+
+pub returns-in-Goes-None-clause-spares : goal.returns-in-Goes-None-clause-spares
+returns-in-Goes-None-clause-spares c = λ reached. spares_sent c.args.number c.args.heard c.in-Some.heard c.args.self.now c.tell.new.self c.send_on.new.self c.in-Some.is c.in_ok-resumes.ensures.desk c.in_ok-resumes.ensures.ends c.in_ok-send_on.ensures.spares
+
+pub returns-in-Finished-None-clause-spares : goal.returns-in-Finished-None-clause-spares
+returns-in-Finished-None-clause-spares c = λ reached. spares_sent c.args.number c.args.heard c.in-Some.heard c.args.self.now c.tell.new.self c.send_on.new.self c.in-Some.is c.in_ok-resumes.ensures.desk c.in_ok-resumes.ensures.ends c.in_ok-send_on.ensures.spares
+
+pub returns-in-Acknowledged-None-clause-spares : goal.returns-in-Acknowledged-None-clause-spares
+returns-in-Acknowledged-None-clause-spares c = λ reached. spares_sent c.args.number c.args.heard c.in-Some.heard c.args.self.now c.tell.new.self c.send_on.new.self c.in-Some.is c.in_ok-resumes.ensures.desk c.in_ok-resumes.ensures.ends c.in_ok-send_on.ensures.spares
+
+pub returns-in-Closed-Some-clause-spares : goal.returns-in-Closed-Some-clause-spares
+returns-in-Closed-Some-clause-spares c = λ reached.
+    spares_shut c.close_link.result c.args.number c.args.heard c.in-Some.heard c.args.self.now c.tell.new.self c.send_on.new.self c.close_link.new.self c.in-Some.is c.in_ok-resumes.ensures.desk c.in_ok-resumes.ensures.ends c.in_ok-send_on.ensures.spares c.close_link.ensures.desk c.close_link.ensures.ends
+
+pub returns-in-Closed-None-clause-spares : goal.returns-in-Closed-None-clause-spares
+returns-in-Closed-None-clause-spares c = λ reached.
+    spares_shut c.close_link-in-Closed-None.result c.args.number c.args.heard c.in-Some.heard c.args.self.now c.tell.new.self c.send_on.new.self c.close_link-in-Closed-None.new.self c.in-Some.is c.in_ok-resumes.ensures.desk c.in_ok-resumes.ensures.ends c.in_ok-send_on.ensures.spares c.close_link-in-Closed-None.ensures.desk c.close_link-in-Closed-None.ensures.ends
+
+pub returns-in_default-clause-begins : goal.returns-in_default-clause-begins
+returns-in_default-clause-begins c = any_kept c.lose.result _ _ _ (any_refl c.args.self.now.links.items) c.lose.ensures.answers
+
+pub returns-in-Goes-Some-clause-begins : goal.returns-in-Goes-Some-clause-begins
+returns-in-Goes-Some-clause-begins c = any_same c.order_write.result _ _ _ (any_sent c.args.self.now.links.items c.tell.new.self.links.items c.send_on.new.self.links.items c.in_ok-resumes.ensures.links c.in_ok-send_on.ensures.answers) c.order_write.ensures.links
+
+pub returns-in-Finished-Some-clause-begins : goal.returns-in-Finished-Some-clause-begins
+returns-in-Finished-Some-clause-begins c = any_same c.order_write-in-Finished-Some.result _ _ _ (any_sent c.args.self.now.links.items c.tell.new.self.links.items c.send_on.new.self.links.items c.in_ok-resumes.ensures.links c.in_ok-send_on.ensures.answers) c.order_write-in-Finished-Some.ensures.links
+
+pub returns-else-resumes-clause-begins : goal.returns-else-resumes-clause-begins
+returns-else-resumes-clause-begins c = any_same c.order_write-else-resumes.result _ _ _ (any_sent c.args.self.now.links.items c.tell.new.self.links.items c.send_on.new.self.links.items c.in_ok-resumes.ensures.links c.in_ok-send_on.ensures.answers) c.order_write-else-resumes.ensures.links
+
+pub returns-then-resumes-clause-begins : goal.returns-then-resumes-clause-begins
+returns-then-resumes-clause-begins c = any_on c.resume.result _ _ _ (any_sent c.args.self.now.links.items c.tell.new.self.links.items c.send_on.new.self.links.items c.in_ok-resumes.ensures.links c.in_ok-send_on.ensures.answers) c.resume.ensures.begins
+
+pub returns-in-Goes-None-clause-begins : goal.returns-in-Goes-None-clause-begins
+returns-in-Goes-None-clause-begins c = any_sent c.args.self.now.links.items c.tell.new.self.links.items c.send_on.new.self.links.items c.in_ok-resumes.ensures.links c.in_ok-send_on.ensures.answers
+
+pub returns-in-Finished-None-clause-begins : goal.returns-in-Finished-None-clause-begins
+returns-in-Finished-None-clause-begins c = any_sent c.args.self.now.links.items c.tell.new.self.links.items c.send_on.new.self.links.items c.in_ok-resumes.ensures.links c.in_ok-send_on.ensures.answers
+
+pub returns-in-Acknowledged-None-clause-begins : goal.returns-in-Acknowledged-None-clause-begins
+returns-in-Acknowledged-None-clause-begins c = any_sent c.args.self.now.links.items c.tell.new.self.links.items c.send_on.new.self.links.items c.in_ok-resumes.ensures.links c.in_ok-send_on.ensures.answers
+
+pub returns-in-Closed-Some-clause-begins : goal.returns-in-Closed-Some-clause-begins
+returns-in-Closed-Some-clause-begins c = any_kept c.close_link.result _ _ _ (any_sent c.args.self.now.links.items c.tell.new.self.links.items c.send_on.new.self.links.items c.in_ok-resumes.ensures.links c.in_ok-send_on.ensures.answers) c.close_link.ensures.answers
+
+pub returns-in-Closed-None-clause-begins : goal.returns-in-Closed-None-clause-begins
+returns-in-Closed-None-clause-begins c = any_kept c.close_link-in-Closed-None.result _ _ _ (any_sent c.args.self.now.links.items c.tell.new.self.links.items c.send_on.new.self.links.items c.in_ok-resumes.ensures.links c.in_ok-send_on.ensures.answers) c.close_link-in-Closed-None.ensures.answers

@@ -11,6 +11,11 @@ use Rattle.tds_relay.specs.Ties.{IsReached}
 use Rattle.tds_relay.proofs.steps.Reaching.{reached_on}
 use Rattle.tds_relay.specs.Closings.{Nobody}
 use Rattle.tds_relay.proofs.spared.Closings.{anybody, anybody_on, anybody_then}
+use Rattle.tds_relay.proofs.spared.Only.{spares_alone_on, spares_both, spares_changed, spares_none, spares_on, spares_renewed}
+use Rattle.tds_relay.specs.Fronts.{ends_in, hall_in, hall_of_ends}
+use Rattle.tds_relay.specs.Hall.{closes}
+use Rattle.std.proofs.Common.{◌∙◌, Some}
+use Rattle.tds_relay.proofs.bytes.SetAnew.{any_kept, any_refl}
 use Rattle.tds_relay.proofs.relay.Relay.keep.Goals as goal
 
 pub returns-in-Kept-clause-goes : goal.returns-in-Kept-clause-goes
@@ -75,3 +80,38 @@ returns-in-Kept-clause-closes c = anybody_on c.start_kept.result _ _ _ _ c.start
 
 pub returns-in-Closed-clause-closes : goal.returns-in-Closed-clause-closes
 returns-in-Closed-clause-closes c = anybody_then c.close.result _ _ _ c.close.ensures.closes
+
+pub returns-in-Kept-clause-spares : goal.returns-in-Kept-clause-spares
+returns-in-Kept-clause-spares c = λ reached.
+    let old = hall_in c.args.self.now in
+    let mid = hall_in c.restart.new.self in
+    let new = hall_in c.start_kept.new.self in
+    spares_on c.start_kept.result c.args.number (Some c.args.key) old mid new
+    (spares_renewed c.args.number c.args.key c.in_ok-hold.ensures.turns.0 old mid reached (ap desk_in c.restart.ensures.desk ∙ c.in_ok-hold.ensures.turns.1.desk_is) c.restart.ensures.ends)
+    (spares_alone_on c.start_kept.result c.args.number c.args.key mid new c.start_kept.ensures.alone c.start_kept.ensures.moves)
+
+pub returns-in-NotKept-clause-spares : goal.returns-in-NotKept-clause-spares
+returns-in-NotKept-clause-spares c = λ reached.
+    let old = hall_in c.args.self.now in
+    let mid = hall_of_ends (desk_in c.renew.new.self) (ends_in c.args.self.now.applications) in
+    let new = hall_in c.replace.new.self in
+    let there : IsReached (desk_in c.renew.new.self) =
+    reached_on (Connection c.args.number) (desk_in c.args.self.now.desk) (desk_in c.renew.new.self) (λ from h. reaches_turn (Connection c.args.number) from _ _ _ _ _ c.in_ok-hold.ensures.turns.1 tt h) reached in
+    spares_on c.replace.result c.args.number (Some c.args.key) old mid new
+    (spares_renewed c.args.number c.args.key c.in_ok-hold.ensures.turns.0 old mid reached c.in_ok-hold.ensures.turns.1.desk_is refl)
+    (ok_more c.replace.result _ _ (λ h. spares_none c.args.number (Some c.args.key) mid new h) (c.replace.ensures.spares there))
+
+pub returns-in-Closed-clause-spares : goal.returns-in-Closed-clause-spares
+returns-in-Closed-clause-spares c = λ reached.
+    let old = hall_in c.args.self.now in
+    let mid = hall_of_ends (desk_in c.renew.new.self) (ends_in c.args.self.now.applications) in
+    let new = hall_in c.close.new.self in
+    ok_more c.close.result _ _
+    (λ e. spares_both c.args.number (Some c.args.key) old mid new (spares_renewed c.args.number c.args.key c.in_ok-hold.ensures.turns.0 old mid reached c.in_ok-hold.ensures.turns.1.desk_is refl)
+    (spares_changed c.args.number (Some c.args.key) closes mid new (ap desk_in c.close.ensures.desk) e)) c.close.ensures.ends
+
+pub returns-in-Kept-clause-begins : goal.returns-in-Kept-clause-begins
+returns-in-Kept-clause-begins c = any_kept c.start_kept.result _ _ _ c.restart.ensures.any c.start_kept.ensures.answers
+
+pub returns-in-Closed-clause-begins : goal.returns-in-Closed-clause-begins
+returns-in-Closed-clause-begins c = any_kept c.close.result _ _ _ (any_refl c.args.self.now.links.items) c.close.ensures.answers

@@ -12,6 +12,10 @@ use Rattle.tds_relay.proofs.steps.Underway.{none_deaf}
 use Rattle.tds_relay.proofs.spared.Reasons.{for_reason, full_there}
 use Rattle.tds_relay.proofs.spared.Sending.{kept_refl}
 use Rattle.tds_relay.proofs.spared.Shutting.{closes_kept, write_closes}
+use Rattle.tds_relay.proofs.spared.Apart.{alone_changed, alone_refl}
+use Rattle.tds_relay.specs.Desk.{Desk}
+use Rattle.tds_relay.specs.Fronts.{hall_in}
+use Rattle.tds_relay.specs.Hall.{closes}
 use Rattle.tds_relay.proofs.relay.Relay.order_write.Goals as goal
 
 pub returns-then-is_full-clause-moves : goal.returns-then-is_full-clause-moves
@@ -35,3 +39,13 @@ returns-clause-closes c = closes_kept _ _ _ refl refl refl (kept_refl c.args.sel
 
 pub returns-then-is_full-clause-closes : goal.returns-then-is_full-clause-closes
 returns-then-is_full-clause-closes c = for_reason c.end.result c.args.key _ _ _ (full_there c.args.self.now.applications c.args.key c.in-Some.application.now c.in-Some.ensures (search rules)) c.end.ensures.closes
+
+pub returns-in_default-clause-alone : goal.returns-in_default-clause-alone
+returns-in_default-clause-alone c = alone_refl c.args.key (hall_in c.args.self.now)
+
+pub returns-clause-alone : goal.returns-clause-alone
+returns-clause-alone c = alone_refl c.args.key (hall_in c.args.self.now)
+
+pub returns-then-is_full-clause-alone : goal.returns-then-is_full-clause-alone
+returns-then-is_full-clause-alone c =
+    ok_more c.end.result _ _ (λ e. alone_changed c.args.key closes (hall_in c.args.self.now) (hall_in c.end.new.self) e (ap (λ (d : Desk). d.line) (ap desk_in c.end.ensures.desk))) c.end.ensures.ends

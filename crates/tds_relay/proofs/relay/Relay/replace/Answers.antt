@@ -15,6 +15,13 @@ use Rattle.tds_relay.specs.Waiting.{StandsInLine}
 use Rattle.tds_relay.specs.Waiting as waiting
 use Rattle.tds_relay.proofs.spared.Cleaned.{not_both}
 use Rattle.tds_relay.proofs.spared.Lined.{lost_deaf, same_key}
+use Rattle.std.proofs.Common.{Some}
+use Rattle.tds_relay.proofs.spared.Only.{spares_both, spares_holder, spares_left, spares_lost_on, spares_none, spares_parted}
+use Rattle.tds_relay.specs.Fronts.{hall_in}
+use Rattle.tds_relay.specs.Hall.{lets_go}
+use Rattle.tds_relay.proofs.bytes.SetAnew.{any_keeps, any_kept, any_refl}
+use Rattle.tds_relay.specs.Lent.{KeepsAnswers}
+use Rattle.tds_relay.specs.Coming.{MayBeginAny}
 use Rattle.tds_relay.proofs.relay.Relay.replace.Goals as goal
 
 pub returns-in_default-clause-goes : goal.returns-in_default-clause-goes
@@ -88,3 +95,35 @@ pub returns-clause-lines : goal.returns-clause-lines
 returns-clause-lines c =
     ok_more c.wait.result _ _
     (λ l key its. subst (λ (k : ℕ). StandsInLine k c.wait.new.self) (same_key c.in-Some.key key _ (sym c.in-Some.is ∙ c.in_ok-holder.ensures.whose) its) l) c.wait.ensures.lines
+
+pub returns-then-not-may_replace-clause-spares : goal.returns-then-not-may_replace-clause-spares
+returns-then-not-may_replace-clause-spares c = λ reached.
+    spares_lost_on c.lose.result c.args.number (hall_in c.args.self.now) (hall_in c.lose.new.self) c.lose.ensures.ends c.lose.ensures.line c.lose.ensures.moves
+
+pub returns-in_default-clause-spares : goal.returns-in_default-clause-spares
+returns-in_default-clause-spares c = λ reached.
+    ok_more c.close_link.result _ _
+    (λ e. spares_left c.args.number (hall_in c.args.self.now) (hall_in c.close_link.new.self) (ap desk_in c.close_link.ensures.desk ∙ c.in_ok-holder.ensures.turns.desk_is) e) c.close_link.ensures.ends
+
+pub returns-clause-spares : goal.returns-clause-spares
+returns-clause-spares c = λ reached.
+    let old = hall_in c.args.self.now in
+    let mid = hall_in c.close_link-2.new.self in
+    let new = hall_in c.wait.new.self in
+    let its = sym (sym c.in-Some.is ∙ c.in_ok-holder.ensures.whose) in
+    let parted = spares_parted c.args.number c.in-Some.key lets_go old mid its (ap desk_in (c.in_ok-close_link.ensures.desk ∙ c.let_go.ensures.desk) ∙ c.in_ok-holder.ensures.turns.desk_is)
+    (c.in_ok-close_link.ensures.ends ∙ c.let_go.ensures.ends) in
+    ok_more c.wait.result _ _
+    (λ w. spares_holder c.args.number c.in-Some.key old new its (spares_both c.args.number (Some c.in-Some.key) old mid new (spares_none c.args.number (Some c.in-Some.key) old mid parted) (w c.args.number))) c.wait.ensures.spares
+
+pub returns-then-not-may_replace-clause-begins : goal.returns-then-not-may_replace-clause-begins
+returns-then-not-may_replace-clause-begins c = any_kept c.lose.result _ _ _ (any_refl c.args.self.now.links.items) c.lose.ensures.answers
+
+pub returns-in_default-clause-begins : goal.returns-in_default-clause-begins
+returns-in_default-clause-begins c = any_kept c.close_link.result _ _ _ (any_refl c.args.self.now.links.items) c.close_link.ensures.answers
+
+pub returns-clause-begins : goal.returns-clause-begins
+returns-clause-begins c =
+    let gone : KeepsAnswers c.args.self.now.links.items c.close_link-2.new.self.links.items =
+    subst (λ (ls : List Link). KeepsAnswers ls c.close_link-2.new.self.links.items) c.let_go.ensures.links c.in_ok-close_link.ensures.answers in
+    ok_if c.wait.result _ (subst (λ (ls : List Link). MayBeginAny c.args.self.now.links.items ls) (sym c.wait.ensures.links) (any_keeps _ _ gone))

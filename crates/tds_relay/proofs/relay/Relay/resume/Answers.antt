@@ -2,6 +2,9 @@ use Rattle.std.proofs.Common.{inl, inr, rules}
 use Rattle.tds_relay.proofs.steps.Reaching.{ok_if, ok_more}
 use Rattle.tds_relay.proofs.spared.Coming.{start_along}
 use Rattle.tds_relay.proofs.spared.Closings.{anybody_then}
+use Rattle.tds_relay.proofs.spared.Only.{spares_alone_on}
+use Rattle.tds_relay.specs.Fronts.{hall_in}
+use Rattle.tds_relay.proofs.bytes.SetAnew.{any_kept, any_refl}
 use Rattle.tds_relay.proofs.relay.Relay.resume.Goals as goal
 
 pub returns-then-asks_to_keep-clause-moves : goal.returns-then-asks_to_keep-clause-moves
@@ -19,3 +22,10 @@ returns-then-asks_to_keep-clause-resumes c = ok_if c.keep.result _ (inl (c.asks_
 
 pub returns-else-asks_to_keep-clause-resumes : goal.returns-else-asks_to_keep-clause-resumes
 returns-else-asks_to_keep-clause-resumes c = ok_more c.start_kept.result _ _ (λ p. inr p) c.start_kept.ensures.placed
+
+pub returns-else-asks_to_keep-clause-spares : goal.returns-else-asks_to_keep-clause-spares
+returns-else-asks_to_keep-clause-spares c = λ reached.
+    spares_alone_on c.start_kept.result c.args.number c.args.key (hall_in c.args.self.now) (hall_in c.start_kept.new.self) c.start_kept.ensures.alone c.start_kept.ensures.moves
+
+pub returns-else-asks_to_keep-clause-begins : goal.returns-else-asks_to_keep-clause-begins
+returns-else-asks_to_keep-clause-begins c = any_kept c.start_kept.result _ _ _ (any_refl c.args.self.now.links.items) c.start_kept.ensures.answers

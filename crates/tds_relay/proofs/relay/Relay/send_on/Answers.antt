@@ -10,6 +10,10 @@ use Rattle.tds_relay.proofs.spared.Ordered.{ordered_on}
 use Rattle.tds_relay.specs.Closings.{IsWho}
 use Rattle.tds_relay.specs.Hall.{holder}
 use Rattle.tds_relay.proofs.spared.Closings.{closes_next, closes_nobody}
+use Rattle.tds_relay.proofs.spared.Only.{spares_lost_on, spares_on, spares_same}
+use Rattle.tds_relay.specs.Fronts.{hall_in}
+use Rattle.std.specs.Prelude.{None}
+use Rattle.tds_relay.proofs.spared.Begun.{answers_on}
 use Rattle.tds_relay.proofs.relay.Relay.send_on.Goals as goal
 
 pub returns-else-fits-clause-read : goal.returns-else-fits-clause-read
@@ -50,3 +54,17 @@ returns-else-fits-clause-closes c = closes_next c.lose.result (IsWho (holder (de
 
 pub returns-else-fits-clause-others : goal.returns-else-fits-clause-others
 returns-else-fits-clause-others c = ok_more c.lose.result _ _ (λ o other differs. o other differs ∙ c.in_ok-fits.ensures.others other differs) c.lose.ensures.others
+
+pub returns-then-fits-clause-spares : goal.returns-then-fits-clause-spares
+returns-then-fits-clause-spares c = spares_same c.args.number None (hall_in c.args.self.now) (hall_in c.fits_on.new.self) (ap desk_in c.fits_on.ensures.desk) c.in_ok-fits.ensures.ends
+
+pub returns-else-fits-clause-spares : goal.returns-else-fits-clause-spares
+returns-else-fits-clause-spares c =
+    let old = hall_in c.args.self.now in
+    let mid = hall_in c.fits_on.new.self in
+    let new = hall_in c.lose.new.self in
+    spares_on c.lose.result c.args.number None old mid new (spares_same c.args.number None old mid (ap desk_in c.fits_on.ensures.desk) c.in_ok-fits.ensures.ends)
+    (spares_lost_on c.lose.result c.args.number mid new c.lose.ensures.ends c.lose.ensures.line c.lose.ensures.moves)
+
+pub returns-else-fits-clause-answers : goal.returns-else-fits-clause-answers
+returns-else-fits-clause-answers c = answers_on c.lose.result _ _ _ c.in_ok-fits.ensures.answers c.lose.ensures.answers

@@ -3,6 +3,8 @@ use Rattle.tds_relay.proofs.steps.Fronts.{moves_does}
 use Rattle.tds_relay.proofs.steps.Reaching.{ok_more, reaches_turn}
 use Rattle.tds_relay.proofs.steps.Underway.{in_line}
 use Rattle.tds_relay.proofs.spared.Lined.{stands_last}
+use Rattle.tds_relay.specs.Fronts.{hall_in}
+use Rattle.tds_relay.proofs.spared.Only.{spares_refl, spares_waits}
 use Rattle.tds_relay.proofs.relay.Relay.wait.Goals as goal
 
 pub returns-then-is_away-clause-goes : goal.returns-then-is_away-clause-goes
@@ -17,3 +19,9 @@ returns-then-is_away-clause-underway c = λ none. ok_more c.wait.result _ _ (λ 
 
 pub returns-then-is_away-clause-lines : goal.returns-then-is_away-clause-lines
 returns-then-is_away-clause-lines c = ok_more c.wait.result _ _ (λ t. stands_last _ _ c.args.key t.desk_is) c.wait.ensures.ok
+
+pub returns-then-is_away-clause-spares : goal.returns-then-is_away-clause-spares
+returns-then-is_away-clause-spares c = ok_more c.wait.result _ _ (λ t number. spares_waits number c.args.key _ _ t.desk_is refl) c.wait.ensures.ok
+
+pub returns-else-is_away-clause-spares : goal.returns-else-is_away-clause-spares
+returns-else-is_away-clause-spares c = λ number. spares_refl number _ (hall_in c.args.self.now)

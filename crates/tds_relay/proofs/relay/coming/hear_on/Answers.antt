@@ -15,7 +15,7 @@ invariant_of-link-2 c =
     let direction : c.hear_packet.new.link.reader.direction ≡ ToClient = search rules in
     record {
       reads =
-          done_keeps c.args.number (reading_on c.args.number c.args.desk.now.service) _ _ _ _ _ _ _
+          done_keeps c.args.number (reading_on c.args.number c.args.desk.now.service) _ _ _ _ _ _ _ _
           c.in_ok-heard.ensures.brings c.in_ok-heard.ensures.reader c.done.ensures.next c.done.ensures.same ∙ direction;
       unread = λ closed. absurd (let no : true ≡ false = sym (c.hear_packet.ensures.is_open ∙ c.requires) ∙ closed in let u : ⊥ = cc in u);
     }
@@ -32,7 +32,7 @@ pub returns-in-Err-clause-puts : goal.returns-in-Err-clause-puts
 returns-in-Err-clause-puts c = λ key. inl refl
 
 pub returns-clause-puts : goal.returns-clause-puts
-returns-clause-puts c = puts_brings c.args.number _ _ _ _ _ _ c.in_ok-heard.ensures.brings
+returns-clause-puts c = puts_brings c.args.number _ _ _ _ _ _ _ c.in_ok-heard.ensures.brings
 
 pub returns-in-Err-clause-asks : goal.returns-in-Err-clause-asks
 returns-in-Err-clause-asks c = λ key goes. refl

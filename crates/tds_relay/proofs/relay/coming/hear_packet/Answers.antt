@@ -6,12 +6,12 @@ use Rattle.tds_relay.specs.Desk.{owes_reset, whose}
 use Rattle.tds_relay.specs.declared.desk.coming.What.TheVariants as whats
 use Rattle.tds_relay.specs.Fronts.{end_of, ends_in}
 use Rattle.tds_relay.specs.Hall.{End}
-use Rattle.tds_relay.specs.Handing.{IsBy, news_for}
+use Rattle.tds_relay.specs.Handing.{IsBy, PassesAs, IsKnown, news_for}
 use Rattle.tds_relay.specs.House.{IsTold, Withheld, closes, end_whose, handed, hears_of_reset, is_said}
 use Rattle.tds_relay.specs.Posts.{posts_in}
 use Rattle.tds_relay.specs.Ties.{Connection, desk_in, part_on}
 use Rattle.tds_relay.proofs.steps.Fronts.{ends_kept}
-use Rattle.tds_relay.proofs.steps.Handed.{end_whose_is, handed_for, handed_is, has_walker, knows_by, passing, to_absent, to_closed, to_deaf, to_nobody, to_one, withheld_for, withheld_is}
+use Rattle.tds_relay.proofs.steps.Handed.{cut_as, end_whose_is, handed_for, handed_is, has_walker, knows_by, passing, to_absent, to_closed, to_deaf, to_nobody, to_one, withheld_for, withheld_is}
 use Rattle.tds_relay.proofs.steps.Posting.{posts_kept}
 use Rattle.tds_relay.proofs.steps.Reaching.{reaches_turn}
 use Rattle.tds_relay.proofs.steps.Resets.{heard_so, told_for, unowed}
@@ -50,9 +50,9 @@ returns-then-matches-clause-brings c =
     let walker = reading_on c.args.number c.args.desk.now.service in
     let there : (key : ℕ) → whose d c.args.number ≡ Some key → IsSome walker = λ key e. has_walker d c.args.number key c.args.desk.now.service.seats.items refl e in
     let unsaid : is_said heard.what (end_whose heard.key es) ≡ false = to_closed heard.what (end_whose heard.key es) (search rules) in
-    passing c.args.number walker none c.args.link.now.answer c.args.link.now.reader heard d _ es posts _ c.in-Some.packet.header c.in-Some.packet.«data».now c.ends-ends.result turned.0 Withheld _ _
+    passing c.args.number walker none c.args.link.now.answer c.args.link.now.answer c.args.link.now.reader heard d _ es posts _ c.in-Some.packet.header c.in-Some.packet.«data».now c.ends-ends.result turned.0 Withheld _ _
     c.in-Some.ensures.lent c.ends-ends.ensures turned.1 c.in_ok-heard.ensures.whose c.in_ok-heard.ensures.heard there
-    (withheld_for _ none c.args.link.now.answer _ _ unsaid) tt (withheld_is (whose d c.args.number) c.in-Some.packet.header c.in-Some.packet.«data».now posts)
+    (withheld_for _ none c.args.link.now.answer _ _ unsaid) refl tt (withheld_is (whose d c.args.number) c.in-Some.packet.header c.in-Some.packet.«data».now posts)
 
 pub returns-in_default-key-clause-brings : goal.returns-in_default-key-clause-brings
 returns-in_default-key-clause-brings c =
@@ -64,9 +64,9 @@ returns-in_default-key-clause-brings c =
     let walker = reading_on c.args.number c.args.desk.now.service in
     let there : (key : ℕ) → whose d c.args.number ≡ Some key → IsSome walker = λ key e. has_walker d c.args.number key c.args.desk.now.service.seats.items refl e in
     let unsaid : is_said heard.what (end_whose heard.key es) ≡ false = to_nobody heard.what heard.key es (search rules) in
-    passing c.args.number walker none c.args.link.now.answer c.args.link.now.reader heard d _ es posts _ c.in-Some.packet.header c.in-Some.packet.«data».now c.ends-ends.result turned.0 Withheld _ _
+    passing c.args.number walker none c.args.link.now.answer c.args.link.now.answer c.args.link.now.reader heard d _ es posts _ c.in-Some.packet.header c.in-Some.packet.«data».now c.ends-ends.result turned.0 Withheld _ _
     c.in-Some.ensures.lent c.ends-ends.ensures turned.1 c.in_ok-heard.ensures.whose c.in_ok-heard.ensures.heard there
-    (withheld_for _ none c.args.link.now.answer _ _ unsaid) tt (withheld_is (whose d c.args.number) c.in-Some.packet.header c.in-Some.packet.«data».now posts)
+    (withheld_for _ none c.args.link.now.answer _ _ unsaid) refl tt (withheld_is (whose d c.args.number) c.in-Some.packet.header c.in-Some.packet.«data».now posts)
 
 pub returns-in_default-get_mut-clause-brings : goal.returns-in_default-get_mut-clause-brings
 returns-in_default-get_mut-clause-brings c =
@@ -78,9 +78,9 @@ returns-in_default-get_mut-clause-brings c =
     let walker = reading_on c.args.number c.args.desk.now.service in
     let there : (key : ℕ) → whose d c.args.number ≡ Some key → IsSome walker = λ key e. has_walker d c.args.number key c.args.desk.now.service.seats.items refl e in
     let unsaid : is_said heard.what (end_whose heard.key es) ≡ false = to_absent heard.what c.args.applications.now heard.key c.in-Some-key.key (search rules) (search rules) in
-    passing c.args.number walker none c.args.link.now.answer c.args.link.now.reader heard d _ es posts _ c.in-Some.packet.header c.in-Some.packet.«data».now c.ends-ends.result turned.0 Withheld _ _
+    passing c.args.number walker none c.args.link.now.answer c.args.link.now.answer c.args.link.now.reader heard d _ es posts _ c.in-Some.packet.header c.in-Some.packet.«data».now c.ends-ends.result turned.0 Withheld _ _
     c.in-Some.ensures.lent c.ends-ends.ensures turned.1 c.in_ok-heard.ensures.whose c.in_ok-heard.ensures.heard there
-    (withheld_for _ none c.args.link.now.answer _ _ unsaid) tt (withheld_is (whose d c.args.number) c.in-Some.packet.header c.in-Some.packet.«data».now posts)
+    (withheld_for _ none c.args.link.now.answer _ _ unsaid) refl tt (withheld_is (whose d c.args.number) c.in-Some.packet.header c.in-Some.packet.«data».now posts)
 
 pub returns-then-not-hears-clause-brings : goal.returns-then-not-hears-clause-brings
 returns-then-not-hears-clause-brings c =
@@ -92,9 +92,9 @@ returns-then-not-hears-clause-brings c =
     let walker = reading_on c.args.number c.args.desk.now.service in
     let there : (key : ℕ) → whose d c.args.number ≡ Some key → IsSome walker = λ key e. has_walker d c.args.number key c.args.desk.now.service.seats.items refl e in
     let unsaid : is_said heard.what (end_whose heard.key es) ≡ false = to_deaf heard.what c.args.applications.now heard.key c.in-Some-key.key c.in-Some-get_mut.application.now (search rules) c.in-Some-get_mut.ensures.value (search rules) in
-    passing c.args.number walker none c.args.link.now.answer c.args.link.now.reader heard d _ es posts _ c.in-Some.packet.header c.in-Some.packet.«data».now c.ends-ends.result turned.0 Withheld _ _
+    passing c.args.number walker none c.args.link.now.answer c.args.link.now.answer c.args.link.now.reader heard d _ es posts _ c.in-Some.packet.header c.in-Some.packet.«data».now c.ends-ends.result turned.0 Withheld _ _
     c.in-Some.ensures.lent c.ends-ends.ensures turned.1 c.in_ok-heard.ensures.whose c.in_ok-heard.ensures.heard there
-    (withheld_for _ none c.args.link.now.answer _ _ unsaid) tt (posts_kept c.args.applications.now c.in-Some-key.key c.in-Some-get_mut.application.now c.in-Some-get_mut.application.now c.in-Some-get_mut.ensures.value refl ∙ withheld_is (whose d c.args.number) c.in-Some.packet.header c.in-Some.packet.«data».now posts)
+    (withheld_for _ none c.args.link.now.answer _ _ unsaid) refl tt (posts_kept c.args.applications.now c.in-Some-key.key c.in-Some-get_mut.application.now c.in-Some-get_mut.application.now c.in-Some-get_mut.ensures.value refl ∙ withheld_is (whose d c.args.number) c.in-Some.packet.header c.in-Some.packet.«data».now posts)
 
 pub returns-clause-brings : goal.returns-clause-brings
 returns-clause-brings c =
@@ -120,14 +120,19 @@ returns-clause-brings c =
     let asks = c.is_told-asks.ensures hears ∙ ap (λ (o : Option End). hears_of_reset heard.what o) (sym (end_whose_is c.args.applications.now heard.key c.in-Some-key.key a its c.in-Some-get_mut.ensures.value)) in
     let by : IsBy (news_for c.is_told-asks.result (c.owes_reset-owed.result && not c.owes_reset.result) c.owes_reset-owed.result c.holds.result) c.args.link.now.answer header content passes.manner =
     subst (λ (n : News). IsBy n c.args.link.now.answer header content passes.manner) c.news_for-news.ensures passes.by in
+    let known : IsKnown (news_for c.is_told-asks.result (c.owes_reset-owed.result && not c.owes_reset.result) c.owes_reset-owed.result c.holds.result) c.args.link.now.answer header content c.hand_on.new.answer =
+    subst (λ (n : News). IsKnown n c.args.link.now.answer header content c.hand_on.new.answer) c.news_for-news.ensures c.in_ok-hand_on.ensures.known in
+    let cut : PassesAs (owes_reset number d) c.args.link.now.answer header content passes.manner c.hand_on.new.answer =
+    subst (λ (b : Bool). PassesAs b c.args.link.now.answer header content passes.manner c.hand_on.new.answer) c.owes_reset-owed.ensures
+    (cut_as c.is_told-asks.result (c.owes_reset-owed.result && not c.owes_reset.result) c.owes_reset-owed.result c.holds.result c.args.link.now.answer header content passes.manner c.hand_on.new.answer c.holds.ensures by known) in
     let tells : IsTold (owes_reset number d) (hears_of_reset heard.what (end_whose heard.key es)) passes.manner part =
     subst (λ (b : Bool). IsTold (owes_reset number d) b passes.manner part) asks
     (told_for (owes_reset number d) c.is_told-asks.result (c.owes_reset-owed.result && not c.owes_reset.result) c.owes_reset-owed.result c.holds.result c.args.link.now.answer header content passes.manner part told
     (unowed c.owes_reset-owed.result c.owes_reset.result c.holds.result) by) in
-    passing number walker (news_for c.is_told-asks.result (c.owes_reset-owed.result && not c.owes_reset.result) c.owes_reset-owed.result c.holds.result) c.args.link.now.answer c.args.link.now.reader heard
+    passing number walker (news_for c.is_told-asks.result (c.owes_reset-owed.result && not c.owes_reset.result) c.owes_reset-owed.result c.holds.result) c.args.link.now.answer c.hand_on.new.answer c.args.link.now.reader heard
     d _ es posts _ header content c.ends-ends.result turned.0 passes.manner _ _
     c.in-Some.ensures.lent c.ends-ends.ensures turned.1 c.in_ok-heard.ensures.whose c.in_ok-heard.ensures.heard there
-    (handed_for _ _ c.args.link.now.answer _ _ passes.manner said by) tells
+    (handed_for _ _ c.args.link.now.answer _ _ passes.manner said by) cut tells
     (handed_is (whose d number) c.in-Some-key.key header content passes.manner c.args.applications.now a c.hand_on.new.application
     (sym its ∙ c.in_ok-heard.ensures.whose) c.in-Some-get_mut.ensures.value passes.is)
 
