@@ -3,6 +3,7 @@ pub mod ends
 pub mod held
 pub mod indexed
 pub mod promises
+pub mod seats
 pub mod spared
 pub mod steps
 pub mod visits

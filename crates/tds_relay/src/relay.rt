@@ -26,6 +26,7 @@ ghost use Rattle.tds_relay.specs.Walkers.{AllStand, IsUnread};
 ghost use Rattle.tds_relay.specs.declared.application.Application.{Application};
 ghost use Rattle.tds_relay.specs.declared.link.TheConstants.{COLUMNS};
 ghost use Rattle.tds_relay.specs.declared.outgoing.TheConstants.{PIECE};
+ghost use Rattle.tds_relay.specs.Few.{IsSeated};
 
 mod asking;
 mod bringing;
@@ -104,6 +105,7 @@ impl Relay {
         ensures sized { IfOk result (λ relay. (relay.size ≡ size) × (relay.features ≡ features)) }
         ensures goes_out { IfOk result (λ relay. AllSized size relay.desk.service) }
         ensures most { IfOk result (λ relay. relay.most ≡ most) }
+        ensures seated { IfOk result (λ relay. IsSeated relay) }
     {
         let desk = Desk::new(alloc, mode, most, size, features)?;
         Ok(Relay {
@@ -145,6 +147,7 @@ impl Relay {
             × (begun_in (get self.new.applications key) ≡ 0)) }
         ensures tells { TellsTheSame self.old self.new }
         ensures orders { self.new.orders.items ≡ self.old.orders.items }
+        ensures seated { IsSeated self.old → OnOk result (IsSeated self.new) }
     {
         let application = Application::new(self.alloc, tag, self.size);
         let Ok(key) = self.applications.insert(application) else {
@@ -163,6 +166,7 @@ impl Relay {
         ensures body { (key : ℕ) → body_of key self.new ≡ body_of key self.old }
         ensures are { (result.items ≡ self.old.orders.items) × (self.new.orders.items ≡ []) }
         ensures tells { TellsTheSame self.old self.new }
+        ensures seated { IsSeated self.old → IsSeated self.new }
     {
         mem::replace(&mut self.orders, Vec::new(self.alloc))
     }
@@ -321,6 +325,7 @@ impl Relay {
         ensures spares { OnOk result ((number : ℕ)
             → SparesOthers number (Some key) (hall_in self.old) (hall_in self.new)) }
         ensures closes { ClosesOnly Nobody (register_in self.old) (register_in self.new) }
+        ensures seated { IsSeated self.old → OnOk result (IsSeated self.new) }
     {
         if self.is_away(key) {
             self.desk.wait(key)

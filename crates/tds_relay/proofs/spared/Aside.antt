@@ -191,7 +191,7 @@ cared_apart hs lease number n h (Kept ticket) l held differs c is same = absurd 
 cared_apart hs lease number n h Free l held differs c is same = let u : false ≡ true = is in let v : ⊥ = cc in v
 cared_apart hs lease number n h Draining l held differs c is same = let u : false ≡ true = is in let v : ⊥ = cc in v
 
-led_at : (d : Desk) → IsReached d → IsLed d.service
+pub led_at : (d : Desk) → IsReached d → IsLed d.service
 led_at d r = (r.0.most, calls_along (new_desk r.0) r.1, sym (service_along (new_desk r.0) r.1) ∙ ap (λ (e : Desk). e.service) r.2)
 
 -- one that is given back leaves them

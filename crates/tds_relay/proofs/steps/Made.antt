@@ -163,6 +163,17 @@ pub turns_by : (d : Desk) (event : Event) (s : Service) (held : List Hold) (wait
     → Makes all d.service s before after → Turns event d (record { mode = d.mode; service = s; holds = held; line = waiting; broken = d.broken; figures = d.figures }) before after
 turns_by d event s held waiting all before after is made = turns_broken d event s held waiting all d.broken before after is made
 
+-- one that comes is lent, and let go at once
+pub brought_turns : (d : Desk) (s1 s2 : Service) (lease number n : ℕ) (had gives : Bool) (way : Way) (before after : List ℕ) → StepsIn (step {T = Token} d.service calls.Lease) s1 (Lent lease number had) n [] []
+    → Makes (releasing s1 lease number gives way) s1 s2 before after → Turns (desk.Brings gives way) d (record { mode = d.mode; service = s2; holds = d.holds; line = d.line; broken = d.broken; figures = d.figures }) before after
+brought_turns d s1 s2 lease number n had gives way before after one made =
+    let lent = step {T = Token} d.service calls.Lease in
+    let all : List (Call Token) = releasing s1 lease number gives way in
+    let goes : turn d (desk.Brings gives way) ≡ moves d d.holds d.line (calls.Lease ∷ all) =
+    ap (λ (r : Reply). desk.brings_by d lent.service gives way (desk.lent_in r)) one.reply_is
+    ∙ ap (λ (x : Service). moves d d.holds d.line (calls.Lease ∷ releasing x lease number gives way)) (sym one.service_is) in
+    turns_by d (desk.Brings gives way) s2 d.holds d.line (calls.Lease ∷ all) before after goes (made_at calls.Lease all d.service s1 s2 (Lent lease number had) n before after one made)
+
 pub renewed : (d : Desk) (key : ℕ) (h : Hold) (s1 s2 : Service) (ticket lease number n1 n2 : ℕ) (had : Bool) (held : List Hold) → find_key key d.holds ≡ Some h
     → StepsIn (step {T = Token} d.service (calls.Keep h.lease)) s1 (calls.Ticket ticket) n1 [] [] → StepsIn (step {T = Token} s1 (calls.Resume ticket)) s2 (Lent lease number had) n2 [] []
     → held ≡ without_lease h.lease d.holds ++ holding h.key lease number ∷ [] → Turns (desk.Renews key true) d (record { mode = d.mode; service = s2; holds = held; line = d.line; broken = d.broken; figures = d.figures }) [] []

@@ -1,13 +1,14 @@
 //! What comes on connections, and whose it is.
-ghost use Rattle.std.specs.Prelude.{◌≡◌, ◌≢◌, ℕ, List, Some, IfOk, OnOk, if◌then◌else◌};
+ghost use Rattle.std.specs.Prelude.{◌≡◌, ◌≢◌, ℕ, List, Some, IfOk, OnOk, true, if◌then◌else◌};
 ghost use Rattle.tds_service.specs.Table.{reading_on, service_in};
 ghost use Rattle.tds_relay.specs.Cleaning.{MayClean};
 ghost use Rattle.tds_relay.specs.Desk.{Comes, Way, cleaned_by, settles, whose, whose_by};
 ghost use Rattle.tds_relay.specs.Fronts.{IsWhat};
 ghost use Rattle.tds_relay.specs.Hall.{done_by};
-ghost use Rattle.tds_relay.specs.Ties.{Makes, Settles, Turns, desk_in, part_on};
-ghost use Rattle.tds_relay.specs.Walkers.{AllRead, AllStand};
+ghost use Rattle.tds_relay.specs.Ties.{IsReached, Makes, Settles, Turns, desk_in, part_on};
+ghost use Rattle.tds_relay.specs.Walkers.{AllRead, AllStand, IsLed};
 ghost use Rattle.tds_relay.specs.declared.desk.coming.What.TheVariants.{Closed, Goes};
+ghost use Rattle.tds_relay.specs.Few.{HearsSeat, HasNumber, SeatStays, is_left};
 
 use super::Desk;
 use super::holds::find_lease;
@@ -43,6 +44,9 @@ fn cleaned(service: &mut Service, number: u64, lease: u64) -> Result<bool, NoMem
         → Makes (cleaned_by (service_in service.old) number lease)
         (service_in service.old) (service_in service.new) out out) }
     ensures stand { OnOk result (AllStand service.old service.new) }
+    ensures seats { IsLed (service_in service.old) → HasNumber lease number (service_in service.old)
+        → IfOk result (λ is_there. SeatStays is_there number (service_in service.old)
+        (service_in service.new)) }
 {
     match service.cleaned(lease) {
         Ok((_, Rest::Free)) => Ok(true),
@@ -110,6 +114,8 @@ impl Desk {
             self.new.service) }
         ensures cleans { IfOk result (λ heard. heard.what ≢ Closed
             → MayClean out.old.items out.new.items) }
+        ensures seats { IsReached (desk_in self.old) → IfOk result (λ heard. HearsSeat (Some heard)
+            number (desk_in self.old).service (desk_in self.new).service) }
     {
         let came = match self.service.heard(number, bytes, ends) {
             Ok(came) => came,
@@ -159,6 +165,10 @@ impl Desk {
         ensures stand { OnOk result (AllStand self.old.service self.new.service) }
         ensures cleans { IfOk result (λ heard. heard ≢ Closed
             → MayClean out.old.items out.new.items) }
+        ensures seats { IsLed (desk_in self.old).service → ((l : ℕ) → lease ≡ Some l
+            → HasNumber l number (desk_in self.old).service) → is_left what ≡ true
+            → IfOk result (λ heard. SeatStays (is_left heard) number (desk_in self.old).service
+            (desk_in self.new).service) }
     {
         match lease {
             Some(lease) => match find_lease(&self.holds, lease) {

@@ -5,9 +5,10 @@ ghost use Rattle.tds_relay.specs.Cleaning.{GoesOutAtEnd, GoesOutAtAny, GoesOutBy
 ghost use Rattle.tds_relay.specs.Desk.{Brings, Leaves, Loses, Renews, Way, cleaning, find_key, find_number};
 ghost use Rattle.tds_relay.specs.Desk.{key_of, releasing};
 ghost use Rattle.tds_relay.specs.Sparing.{AsideStay, OffHold, OthersHold};
-ghost use Rattle.tds_relay.specs.Ties.{IsNumberOf, Makes, Turns, desk_in, is_sent, lost_by};
+ghost use Rattle.tds_relay.specs.Ties.{IsNumberOf, IsReached, Makes, Turns, desk_in, is_sent, lost_by};
 ghost use Rattle.tds_relay.specs.Walkers.{AllStand, IsLed};
 ghost use Rattle.tds_relay.specs.Cleaning.{text_of_cleaning};
+ghost use Rattle.tds_relay.specs.Few.{BringsSeat, HasNumber, LeavesSeat, RenewsSeat, SeatStays};
 
 use super::holds::{find_key, find_number, remove_lease, remove_number};
 use super::lists::remove_key;
@@ -108,6 +109,9 @@ fn release(
     ensures ends { IfOk result (λ is_there. is_there ≡ true
         → IsPutBehind (GoesOutAtEnd text.now (client_of hold.lease service.old))
         out.old.items out.new.items) }
+    ensures seats { IsLed (service_in service.old)
+        → HasNumber hold.lease hold.number (service_in service.old) → IfOk result (λ is_there.
+        SeatStays is_there hold.number (service_in service.old) (service_in service.new)) }
 {
     match service.give_back(hold.lease, out) {
         Ok((_, Rest::Free)) => clean(service, hold.number, text, out),
@@ -133,6 +137,8 @@ impl Desk {
         ensures others { OnOk result (OthersHold key self.old self.new) }
         ensures ends { IfOk result (λ left. GoesOutBy self.old.service
             (find_key key (desk_in self.old).holds) left out.old.items out.new.items) }
+        ensures seats { IsReached (desk_in self.old) → IfOk result (λ left. LeavesSeat left
+            (desk_in self.old).service (desk_in self.new).service) }
     {
         remove_key(&mut self.line, key);
         let Some(hold) = find_key(&self.holds, key) else {
@@ -156,6 +162,8 @@ impl Desk {
             IsLentBy it.number (desk_in self.old).service)) }
         ensures ends { IfOk result (λ left. IfSome left
             (GoesOutAtAny out.old.items out.new.items)) }
+        ensures seats { IsReached (desk_in self.old) → IfOk result (λ left. BringsSeat left
+            (desk_in self.old).service (desk_in self.new).service) }
     {
         let lent = match self.service.lease() {
             Ok(lent) => lent,
@@ -179,6 +187,8 @@ impl Desk {
         ensures turns { IfOk result (λ renewed. (resumes : Bool) × Turns (Renews key resumes)
             (desk_in self.old) (desk_in self.new) [] []) }
         ensures stand { OnOk result (AllStand self.old.service self.new.service) }
+        ensures seats { IsReached (desk_in self.old) → IfOk result (λ renewed. RenewsSeat renewed
+            (desk_in self.old).service (desk_in self.new).service) }
     {
         let Some(hold) = find_key(&self.holds, key) else {
             return Ok(Renewed::NotKept);

@@ -9,7 +9,7 @@ ghost use Rattle.tds_relay.specs.Bodies.{Begins, Body, Carries, CarriesOn, Grows
 ghost use Rattle.tds_relay.specs.Bodies.{body_of, last_of};
 ghost use Rattle.tds_relay.specs.Closings.{ClosesOnly, IsNoRequest, Itself, register_in};
 ghost use Rattle.tds_relay.specs.Desk.{find_key};
-ghost use Rattle.tds_relay.specs.Few.{Few, NobodyWaits};
+ghost use Rattle.tds_relay.specs.Few.{Few, IsSeated, NobodyWaits};
 ghost use Rattle.tds_relay.specs.Fronts.{FedOn, Moved, ends_in, given_by, hall_in, house_in};
 ghost use Rattle.tds_relay.specs.Hall.{AsksFor, AsksToPart, IfAsked, end_at};
 ghost use Rattle.tds_relay.specs.House.{Steps};
@@ -55,6 +55,7 @@ impl Relay {
             (house_in self.new)) }
         ensures closes { OnOk result (ClosesOnly (ForReasonOrWaiting key piece.now self.old)
             (register_in self.old) (register_in self.new)) }
+        ensures seated { IsSeated self.old → OnOk result (IsSeated self.new) }
     {
         self.take_all(key, piece)?;
         self.serve_line()
@@ -77,6 +78,7 @@ impl Relay {
             (body_of key self.old) (body_of key self.new) (house_in self.new)) }
         ensures closes { OnOk result (ClosesOnly (ItselfFor key (HasReason key piece.now self.old))
             (register_in self.old) (register_in self.new)) }
+        ensures seated { IsSeated self.old → OnOk result (IsSeated self.new) }
     {
         let mut rest = piece;
         'taking: for _ in 0..piece.len() {
@@ -108,6 +110,7 @@ impl Relay {
         ensures closes { OnOk result (ClosesOnly (ItselfFor key
             (GivesReason piece.now key self.old)) (register_in self.old) (register_in self.new)) }
         ensures some { IfOk result (λ count. 1 ≤ length piece.now → 1 ≤ count) }
+        ensures seated { IsSeated self.old → OnOk result (IsSeated self.new) }
     {
         let Some(application) = self.applications.get_mut(key) else {
             return Ok(piece.len());
@@ -148,6 +151,7 @@ impl Relay {
         ensures keeps { find_key key (desk_in self.old.desk).holds ≡ None
             → OnOk result (KeepsSaid said bytes.now (get self.old.applications key)
             (body_of key self.new)) }
+        ensures seated { IsSeated self.old → OnOk result (IsSeated self.new) }
     {
         bytes_are_packets();
         match said {
@@ -186,6 +190,7 @@ impl Relay {
         ensures closes { OnOk result (ClosesOnly (ItselfFor key (CannotBegin kind reset key
             (end_at (ends_in self.old.applications) key) self.old.desk))
             (register_in self.old) (register_in self.new)) }
+        ensures seated { IsSeated self.old → OnOk result (IsSeated self.new) }
     {
         let Some(application) = self.applications.get_mut(key) else {
             return Ok(());
@@ -230,30 +235,12 @@ impl Relay {
         ensures closes { OnOk result (ClosesOnly (ItselfFor key
             (IsSome (find_key key (desk_in self.old.desk).holds)))
             (register_in self.old) (register_in self.new)) }
+        ensures seated { IsSeated self.old → OnOk result (IsSeated self.new) }
     {
         match self.desk.hold_of(key) {
             Some(_) => self.start_kept(key),
             None => self.wait(key),
         }
-    }
-
-    /// Whether an application holds a connection with an open transaction, on which the server hasn't
-    /// acknowledged yet that its last request was taken back.
-    #[tactic(auto, using(crate::proofs::steps::Underway::drains))]
-    fn may_keep_later(&self, key: usize) -> bool
-        ensures { result ≡ true
-            → IsUnderway false self.now.links.items key (hall_in self.now) }
-    {
-        let Some(hold) = self.desk.hold_of(key) else {
-            return false;
-        };
-        let Some(application) = self.applications.get(key) else {
-            return false;
-        };
-        if !application.is_withdrawn {
-            return false;
-        }
-        self.desk.is_open_on(hold.number) == Some(true)
     }
 
     /// The application lets its connection go, and waits for one like who has come.
@@ -275,6 +262,7 @@ impl Relay {
         ensures closes { OnOk result (ClosesOnly (ItselfFor key (CannotPart key
             (end_at (ends_in self.old.applications) key) self.old.desk))
             (register_in self.old) (register_in self.new)) }
+        ensures seated { IsSeated self.old → OnOk result (IsSeated self.new) }
     {
         if !self.has_nothing_out(key) {
             return self.expel(key);
@@ -305,6 +293,7 @@ impl Relay {
             → OnOk result (Starts (body_of key self.old) (body_of key self.new)) }
         ensures closes { OnOk result (ClosesOnly (Itself key)
             (register_in self.old) (register_in self.new)) }
+        ensures seated { IsSeated self.old → OnOk result (IsSeated self.new) }
     {
         match self.desk.renew(key)? {
             Renewed::Kept(hold) => {
@@ -345,6 +334,7 @@ impl Relay {
         ensures closes { OnOk result (ClosesOnly (ItselfFor key
             (CannotGoOnAt whole bytes.now key self.old)) (register_in self.old)
             (register_in self.new)) }
+        ensures seated { IsSeated self.old → OnOk result (IsSeated self.new) }
     {
         let Some(application) = self.applications.get_mut(key) else {
             return Ok(());

@@ -14,6 +14,7 @@ ghost use Rattle.tds_relay.specs.Sparing.{AllGo};
 ghost use Rattle.tds_relay.specs.Ties.{Goes, Neither};
 ghost use Rattle.tds_relay.specs.Ties.{desk_in};
 ghost use Rattle.tds_relay.specs.Walkers.{AllStand};
+ghost use Rattle.tds_relay.specs.Few.{IsSeated};
 
 use super::Relay;
 use crate::NoMemory;
@@ -46,6 +47,7 @@ impl Relay {
             IsLentBy number (desk_in self.old.desk).service)) }
         ensures tries { IfOk result (λ brought. IfNone brought (IsNotBrought self.old.links.items
             (desk_in self.old.desk) (desk_in self.new.desk))) }
+        ensures seated { IsSeated self.old → OnOk result (IsSeated self.new) }
     {
         if !self.links.is_empty() {
             return Ok(None);

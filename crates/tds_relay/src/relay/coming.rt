@@ -8,7 +8,7 @@ ghost use Rattle.tds_relay.specs.Closings.{ClosesOnly, but_told, is_shut};
 ghost use Rattle.tds_relay.specs.Closings.{register_in, settings_in};
 ghost use Rattle.tds_relay.specs.Coming.{AllAlong, ComesAnew, ContinuesAnew, MayBeginAny, StreamsAnew};
 ghost use Rattle.tds_relay.specs.Faults.{IsHeaderOf, IsRefusedOn};
-ghost use Rattle.tds_relay.specs.Few.{Few, NobodyWaits, NoneNew};
+ghost use Rattle.tds_relay.specs.Few.{Few, HearsSeat, IsSeated, IsSeatedBehind, NobodyWaits, NoneNew};
 ghost use Rattle.tds_relay.specs.Fronts.{Moved, end_of, ends_in, hall_in, hall_of_ends, told_by, house_in, house_of};
 ghost use Rattle.tds_relay.specs.Fronts.{house_with};
 ghost use Rattle.tds_relay.specs.Hall.{told};
@@ -68,6 +68,7 @@ impl Relay {
             → OnOk result (LosesOnly number (hall_in self.old) (hall_in self.new)) }
         ensures closes { OnOk result (ClosesOnly (HeardFor number piece.now self.old)
             (but_told (register_in self.new) (register_in self.old)) (register_in self.new)) }
+        ensures seated { IsSeated self.old → OnOk result (IsSeated self.new) }
     {
         self.hear_all(number, piece)?;
         self.serve_line()
@@ -99,6 +100,7 @@ impl Relay {
             (hall_in self.old) (hall_in self.new)) }
         ensures closes { OnOk result (ClosesOnly (HeardFor number piece.now self.old)
             (but_told (register_in self.new) (register_in self.old)) (register_in self.new)) }
+        ensures seated { IsSeated self.old → OnOk result (IsSeated self.new) }
     {
         let mut rest = piece;
         'taking: for _ in 0..piece.len() + 1 {
@@ -151,6 +153,8 @@ impl Relay {
             (HearsNothing heard.1 × (self.new.desk ≡ self.old.desk))
             ⊎ IsHeardAs number piece.now heard.1 self.old (house_with (desk_in self.new.desk)
             (told_by heard.1 (ends_in self.old.applications)) (posts_in self.new.applications))) }
+        ensures seated { IsSeated self.old → IfOk result (λ heard.
+            IsSeatedBehind heard.1 number self.new) }
     {
         let Relay {
             desk,
@@ -196,6 +200,8 @@ impl Relay {
             (heard_key heard) (hall_in self.old) (hall_in self.new)) }
         ensures closes { OnOk result (ClosesOnly (LosesAt number heard self.old)
             (register_in self.old) (register_in self.new)) }
+        ensures seated { IsSeatedBehind heard number self.old
+            → OnOk result (IsSeated self.new) }
     {
         let Some(heard) = heard else {
             return self.lose(number);
@@ -264,6 +270,8 @@ fn hear_on(
     ensures known { OnOk result (KnowsOn (fed link.old.reader piece.now) link.old.answer
         link.new.answer) }
     ensures cleans { IfOk result (λ heard. Cleans heard.1 outbox.old.items outbox.new.items) }
+    ensures seats { IsReached (desk_in desk.old) → IfOk result (λ heard. HearsSeat heard.1 number
+        (desk_in desk.old).service (desk_in desk.new).service) }
 {
     let count = match link.reader.feed(piece) {
         Ok(count) => count,
@@ -305,6 +313,8 @@ fn hear_packet(
     ensures known { OnOk result (KnowsOn link.old.reader link.old.answer link.new.answer) }
     ensures cleans { IfOk result (λ heard. Cleans (Some heard) outbox.old.items
         outbox.new.items) }
+    ensures seats { IsReached (desk_in desk.old) → IfOk result (λ heard. HearsSeat (Some heard)
+        number (desk_in desk.old).service (desk_in desk.new).service) }
 {
     let Some(packet) = link.reader.packet() else {
         return Ok(NOTHING);

@@ -5,7 +5,7 @@ ghost use Rattle.tds_relay.specs.Apart.{Alone, LosesOnly};
 ghost use Rattle.tds_relay.specs.Bodies.{AskAsBefore, AskOn, Body, Closed, body_in};
 ghost use Rattle.tds_relay.specs.Cleaning.{OfItsHold, WaitsAtEnd, WaitsBehindEnd};
 ghost use Rattle.tds_relay.specs.Desk.{Loses, find_number, key_of, turn};
-ghost use Rattle.tds_relay.specs.Few.{Few, NobodyWaits};
+ghost use Rattle.tds_relay.specs.Few.{Few, IsSeated, IsSeatedOff, NobodyWaits};
 ghost use Rattle.tds_relay.specs.Fronts.{LetsGoFirst, Moved, MovedOn, ends_in, hall_in, hall_of_ends};
 ghost use Rattle.tds_relay.specs.Fronts.{house_in};
 ghost use Rattle.tds_relay.specs.Hall.{change_end, change_whose, closes, closes_for, end_at, holder};
@@ -52,6 +52,7 @@ impl Relay {
             (without_key key (register_in self.old)) (register_in self.new)) }
         ensures ends { IsReached (desk_in self.old.desk) → OnOk result (OfItsHold WaitsBehindEnd key
             self.old (λ number. open_waits number self.new.links.items)) }
+        ensures seated { IsSeated self.old → OnOk result (IsSeated self.new) }
     {
         let _ = self.applications.try_remove(key).is_some();
         self.release(key)?;
@@ -78,6 +79,7 @@ impl Relay {
         ensures closes { OnOk result (ClosesOnly
             (WhoOrWaiting (holder (desk_in self.old.desk) number) (desk_in self.old.desk).line)
             (register_in self.old) (register_in self.new)) }
+        ensures seated { IsSeated self.old → OnOk result (IsSeated self.new) }
     {
         self.lose(number)?;
         self.serve_line()
@@ -100,6 +102,7 @@ impl Relay {
             → OnOk result (OthersRest key self.old self.new) }
         ensures closes { OnOk result (ClosesOnly (Itself key)
             (register_in self.old) (register_in self.new)) }
+        ensures seated { IsSeated self.old → OnOk result (IsSeated self.new) }
     {
         self.expel_for(key, None)
     }
@@ -123,6 +126,7 @@ impl Relay {
             → OnOk result (OthersRest key self.old self.new) }
         ensures closes { OnOk result (ClosesOnly (Itself key)
             (register_in self.old) (register_in self.new)) }
+        ensures seated { IsSeated self.old → OnOk result (IsSeated self.new) }
     {
         self.end_for(key, why)?;
         self.release(key)
@@ -197,6 +201,7 @@ impl Relay {
             (register_in self.old) (register_in self.new)) }
         ensures ends { IsReached (desk_in self.old.desk) → OnOk result (OfItsHold WaitsAtEnd key
             self.old (λ number. waits_on number self.new.links.items)) }
+        ensures seated { IsSeated self.old → OnOk result (IsSeated self.new) }
     {
         self.outbox.clear();
         let left = self.desk.leave(key, &mut self.outbox)?;
@@ -242,6 +247,7 @@ impl Relay {
         ensures answers { OnOk result (KeepsAnswers self.old.links.items self.new.links.items) }
         ensures closes { OnOk result (ClosesOnly (IsWho (holder (desk_in self.old.desk) number))
             (register_in self.old) (register_in self.new)) }
+        ensures seated { IsSeatedOff number self.old → OnOk result (IsSeated self.new) }
     {
         let key = self.desk.lose(number)?;
         self.close(number, key)
@@ -265,6 +271,7 @@ impl Relay {
         ensures answers { OnOk result (KeepsAnswers self.old.links.items self.new.links.items) }
         ensures closes { OnOk result (ClosesOnly (Itself key)
             (register_in self.old) (register_in self.new)) }
+        ensures seated { IsSeated self.old → OnOk result (IsSeated self.new) }
     {
         match self.desk.key_on(number) {
             Some(holder) => {

@@ -2,16 +2,15 @@
 ghost use Rattle.std.specs.Prelude.{◌≡◌, ◌≢◌, ◌⊎◌, ◌++◌, [], ℕ, Bool, IfOk, IsSome, List, None, OnOk, Some};
 ghost use Rattle.std.specs.Prelude.{false, option_map, true};
 ghost use Rattle.slab.specs.Slab.{get};
-ghost use Rattle.tds_packet.specs.declared.status.Reset.TheVariants.{KeepTransaction};
 ghost use Rattle.tds_relay.specs.Apart.{Alone, UnlessServed};
 ghost use Rattle.tds_relay.specs.Asking.{IsUnderway, waits_of};
 ghost use Rattle.tds_relay.specs.Bodies.{AskAsBefore, Grows, Starts, body_of, going_of, held_of};
 ghost use Rattle.tds_relay.specs.Closings.{ClosesOnly, IsWaiting, IsWho, Itself, Nobody, WhoOrWaiting};
 ghost use Rattle.tds_relay.specs.Closings.{register_in};
 ghost use Rattle.tds_relay.specs.Desk.{find_number, key_of};
-ghost use Rattle.tds_relay.specs.Few.{Few, FewBy, NobodyWaits};
+ghost use Rattle.tds_relay.specs.Few.{Few, FewBy, IsSeated, IsSeatedIf, NobodyWaits};
 ghost use Rattle.tds_relay.specs.Fronts.{MovedOn, ends_in, hall_in, house_in};
-ghost use Rattle.tds_relay.specs.Hall.{AsksFor, IsReset, end_at, holder};
+ghost use Rattle.tds_relay.specs.Hall.{IsReset, end_at, holder};
 ghost use Rattle.tds_relay.specs.House.{StepsOn};
 ghost use Rattle.tds_relay.specs.Lent.{AllLast, BeginsOn, IsMade, IsMadeOn, KeepsAnswers, LastBut, LastOrDeaf};
 ghost use Rattle.tds_relay.specs.Posts.{names_in, posts_in};
@@ -62,6 +61,7 @@ impl Relay {
         ensures rest { AllRest self.old self.new }
         ensures tells { TellsTheSame self.old self.new }
         ensures orders { self.new.orders.items ≡ self.old.orders.items }
+        ensures seated { IsSeated self.old → IsSeated self.new }
     {
         set_tag(&mut self.links, number, tag);
     }
@@ -87,6 +87,7 @@ impl Relay {
         ensures closes { OnOk result (ClosesOnly
             (WhoOrWaiting (holder (desk_in self.old.desk) number) (desk_in self.old.desk).line)
             (register_in self.old) (register_in self.new)) }
+        ensures seated { IsSeated self.old → OnOk result (IsSeated self.new) }
     {
         self.set_open(number);
         self.order_write_on(number)?;
@@ -128,6 +129,7 @@ impl Relay {
         ensures ordered { OnOk result (StayOrdered self.old.orders.items self.new.orders.items) }
         ensures closes { OnOk result (ClosesOnly (IsWho (holder (desk_in self.old.desk) number))
             (register_in self.old) (register_in self.new)) }
+        ensures seated { IsSeated self.old → OnOk result (IsSeated self.new) }
     {
         match self.desk.key_on(number) {
             Some(key) => self.start_kept(key),
@@ -155,6 +157,7 @@ impl Relay {
             (register_in self.old) (register_in self.new)) }
         ensures lasts { OnOk result (LastBut (IsWaiting (desk_in self.old.desk).line)
             (register_in self.old) (register_in self.new)) }
+        ensures seated { IsSeated self.old → OnOk result (IsSeated self.new) }
     {
         let waiting = self.desk.waiting();
         'line: for turn in 0..waiting {
@@ -198,6 +201,8 @@ impl Relay {
             (register_in self.old) (register_in self.new)) }
         ensures lasts { OnOk result (LastBut (Itself served.hold.key)
             (register_in self.old) (register_in self.new)) }
+        ensures seated { IsSeatedIf served.had served.hold.number true self.old
+            → OnOk result (IsSeated self.new) }
     {
         let number = served.hold.number;
         if served.had {
@@ -229,17 +234,6 @@ impl Relay {
         restart(&mut self.links, number);
     }
 
-    /// Whether an application's request asks for a reset that keeps its transaction.
-    pub(super) fn asks_to_keep(&self, key: usize) -> bool
-        ensures { result ≡ true → AsksFor KeepTransaction
-            (end_at (ends_in self.now.applications) key) }
-    {
-        match self.applications.get(key) {
-            Some(application) => application.asks_to_keep(),
-            None => false,
-        }
-    }
-
     /// Asks what an application asks, where its connection is open, and the server has acknowledged there
     /// what it took back.
     #[tactic(auto, using(crate::proofs::steps::Reaching::reaches_turn, crate::proofs::steps::Reaching::reaches_turned, crate::proofs::steps::Underway::of_none, crate::proofs::steps::Underway::of_over, crate::proofs::steps::Underway::drains, crate::proofs::bytes::Calls::stand_on, crate::proofs::spared::Resting::others_refl, crate::proofs::spared::Ordered::ordered_refl, crate::proofs::spared::Apart::alone_refl))]
@@ -268,6 +262,7 @@ impl Relay {
             (register_in self.old) (register_in self.new)) }
         ensures lasts { OnOk result (LastBut (Itself key)
             (register_in self.old) (register_in self.new)) }
+        ensures seated { IsSeated self.old → OnOk result (IsSeated self.new) }
     {
         let Some(application) = self.applications.get(key) else {
             return Ok(());
@@ -310,6 +305,7 @@ impl Relay {
         ensures answers { OnOk result (KeepsAnswers self.old.links.items self.new.links.items) }
         ensures closes { OnOk result (ClosesOnly (Itself key)
             (register_in self.old) (register_in self.new)) }
+        ensures seated { IsSeated self.old → OnOk result (IsSeated self.new) }
     {
         self.lose_own(key, number)?;
         self.end(key)
@@ -338,6 +334,7 @@ impl Relay {
         ensures closes { OnOk result (ClosesOnly (Itself key)
             (register_in self.old) (register_in self.new)) }
         ensures lasts { OnOk result (LastOrDeaf key self.old.links.items self.new) }
+        ensures seated { IsSeated self.old → OnOk result (IsSeated self.new) }
     {
         let Some(application) = self.applications.get_mut(key) else {
             return Ok(());

@@ -3,7 +3,7 @@ ghost use Rattle.std.specs.Prelude.{◌≡◌, OnOk, false, true};
 ghost use Rattle.tds_relay.specs.Apart.{UnlessServed};
 ghost use Rattle.tds_relay.specs.Closings.{ClosesOnly, IsWaiting};
 ghost use Rattle.tds_relay.specs.Closings.{register_in, with_most};
-ghost use Rattle.tds_relay.specs.Few.{Few, IsCrowded, MayServe, NobodyWaits};
+ghost use Rattle.tds_relay.specs.Few.{Few, IsCrowded, IsSeated, MayServe, NobodyWaits};
 ghost use Rattle.tds_relay.specs.Fronts.{MovedOn, hall_in};
 ghost use Rattle.tds_relay.specs.Lent.{LastBut};
 ghost use Rattle.tds_relay.specs.Ordering.{StayOrdered};
@@ -37,6 +37,7 @@ impl Relay {
             (with_most most (register_in self.old)) (register_in self.new)) }
         ensures lasts { OnOk result (LastBut (IsWaiting (desk_in self.old.desk).line)
             (with_most most (register_in self.old)) (register_in self.new)) }
+        ensures seated { IsSeated self.old → OnOk result (IsSeated self.new) }
     {
         self.most = most;
         self.serve_line()

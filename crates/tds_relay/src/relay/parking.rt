@@ -4,7 +4,7 @@ ghost use Rattle.tds_relay.specs.Apart.{UnlessServed};
 ghost use Rattle.tds_relay.specs.Cleaning.{OfItsHold, WaitsBehindEnd};
 ghost use Rattle.tds_relay.specs.Closings.{ClosesOnly, IsWaiting, register_in};
 ghost use Rattle.tds_relay.specs.Desk.{Sharing};
-ghost use Rattle.tds_relay.specs.Few.{Few, NobodyWaits};
+ghost use Rattle.tds_relay.specs.Few.{Few, IsSeated, NobodyWaits};
 ghost use Rattle.tds_relay.specs.Fronts.{hall_in, house_in};
 ghost use Rattle.tds_relay.specs.Hall.{IsAway};
 ghost use Rattle.tds_relay.specs.House.{IsLedTo, Steps};
@@ -56,6 +56,7 @@ impl Relay {
         ensures ends { IsReached (desk_in self.old.desk) → IfOk result (λ is. is ≡ true
             → OfItsHold WaitsBehindEnd key self.old
             (λ number. open_waits number self.new.links.items)) }
+        ensures seated { IsSeated self.old → OnOk result (IsSeated self.new) }
     {
         if !self.may_park(key) {
             return Ok(false);

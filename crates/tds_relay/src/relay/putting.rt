@@ -14,6 +14,7 @@ ghost use Rattle.tds_relay.specs.Reasons.{CannotPut, IsReason, IsUnbegun, IsUnta
 ghost use Rattle.tds_relay.specs.Sparing.{OthersHold, OthersRest};
 ghost use Rattle.tds_relay.specs.Ties.{GoesOn, IsReached, desk_in};
 ghost use Rattle.tds_relay.specs.Walkers.{AllStand};
+ghost use Rattle.tds_relay.specs.Few.{IsSeated, KeepsSeats};
 
 use super::Relay;
 use crate::NoMemory;
@@ -44,6 +45,7 @@ impl Relay {
             (end_at (ends_in self.old.applications) key) self.old.desk self.old.links.items))
             (register_in self.old) (register_in self.new)) }
         ensures lasts { OnOk result (LastOrDeaf key self.old.links.items self.new) }
+        ensures seated { IsSeated self.old → OnOk result (IsSeated self.new) }
     {
         let Some(hold) = self.desk.hold_of(key) else {
             return self.end(key);
@@ -118,6 +120,7 @@ fn put_on(
     ensures others { OnOk result (OthersHold key desk.old desk.new) }
     ensures line { OnOk result ((desk_in desk.new).line ≡ (desk_in desk.old).line) }
     ensures untaken { IfOk result (λ is. is ≡ false → IsUntaken whole bytes.now key desk.old) }
+    ensures seats { OnOk result (KeepsSeats (desk_in desk.old).service (desk_in desk.new).service) }
 {
     match desk.put(key, bytes, out) {
         Ok(_) => {}

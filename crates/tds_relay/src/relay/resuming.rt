@@ -1,7 +1,8 @@
 //! What an application that took its request back asks next, once the server has acknowledged that.
-ghost use Rattle.std.specs.Prelude.{◌≡◌, ℕ, true, None, OnOk, Some};
+ghost use Rattle.std.specs.Prelude.{◌≡◌, ℕ, true, false, None, OnOk, Some};
 ghost use Rattle.tds_packet.specs.declared.status.Reset.TheVariants.{KeepTransaction};
 ghost use Rattle.tds_relay.specs.Apart.{SparesOthers};
+ghost use Rattle.tds_relay.specs.Asking.{IsUnderway};
 ghost use Rattle.tds_relay.specs.Closings.{Anybody, ClosesOnly, register_in};
 ghost use Rattle.tds_relay.specs.Coming.{AllAlong, MayBeginAny};
 ghost use Rattle.tds_relay.specs.Fronts.{Moved, ends_in, hall_in};
@@ -12,6 +13,7 @@ ghost use Rattle.tds_relay.specs.Reads.{Stays};
 ghost use Rattle.tds_relay.specs.Ties.{Connection, Goes, IsReached, desk_in};
 ghost use Rattle.tds_relay.specs.Waiting.{Resumes, StandsInLine};
 ghost use Rattle.tds_relay.specs.Walkers.{AllStand};
+ghost use Rattle.tds_relay.specs.Few.{IsSeated};
 
 use super::Relay;
 use crate::NoMemory;
@@ -38,12 +40,43 @@ impl Relay {
             (Some key) (hall_in self.old) (hall_in self.new)) }
         ensures closes { OnOk result (ClosesOnly Anybody
             (register_in self.old) (register_in self.new)) }
+        ensures seated { IsSeated self.old → OnOk result (IsSeated self.new) }
     {
         if self.asks_to_keep(key) {
             self.keep(number, key)
         } else {
             self.start_kept(key)
         }
+    }
+
+    /// Whether an application's request asks for a reset that keeps its transaction.
+    pub(super) fn asks_to_keep(&self, key: usize) -> bool
+        ensures { result ≡ true → AsksFor KeepTransaction
+            (end_at (ends_in self.now.applications) key) }
+    {
+        match self.applications.get(key) {
+            Some(application) => application.asks_to_keep(),
+            None => false,
+        }
+    }
+
+    /// Whether an application holds a connection with an open transaction, on which the server hasn't
+    /// acknowledged yet that its last request was taken back.
+    #[tactic(auto, using(crate::proofs::steps::Underway::drains))]
+    pub(super) fn may_keep_later(&self, key: usize) -> bool
+        ensures { result ≡ true
+            → IsUnderway false self.now.links.items key (hall_in self.now) }
+    {
+        let Some(hold) = self.desk.hold_of(key) else {
+            return false;
+        };
+        let Some(application) = self.applications.get(key) else {
+            return false;
+        };
+        if !application.is_withdrawn {
+            return false;
+        }
+        self.desk.is_open_on(hold.number) == Some(true)
     }
 
     /// The application keeps its connection with its transaction, for a request that has waited.
@@ -67,6 +100,7 @@ impl Relay {
             (Some key) (hall_in self.old) (hall_in self.new)) }
         ensures closes { OnOk result (ClosesOnly Anybody
             (register_in self.old) (register_in self.new)) }
+        ensures seated { IsSeated self.old → OnOk result (IsSeated self.new) }
     {
         match self.desk.renew(key)? {
             Renewed::Kept(hold) => {
@@ -101,6 +135,7 @@ impl Relay {
             None (hall_in self.old) (hall_in self.new)) }
         ensures closes { OnOk result (ClosesOnly Anybody
             (register_in self.old) (register_in self.new)) }
+        ensures seated { IsSeated self.old → OnOk result (IsSeated self.new) }
     {
         if !self.may_replace(number) {
             return self.lose(number);

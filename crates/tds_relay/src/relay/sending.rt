@@ -1,5 +1,5 @@
 //! What waits for applications and on connections, and is sent.
-ghost use Rattle.std.specs.Prelude.{◌≡◌, ◌≢◌, ◌+◌, ◌≤◌, ℕ, None, OnOk, drop, if◌then◌else◌, length, option_map};
+ghost use Rattle.std.specs.Prelude.{◌≡◌, ◌≢◌, ◌+◌, ◌≤◌, ℕ, None, OnOk, drop, if◌then◌else◌, length, option_map, false};
 ghost use Rattle.slab.specs.Slab.{get};
 ghost use Rattle.tds_relay.specs.Apart.{Alone, SparesOthers};
 ghost use Rattle.tds_relay.specs.Bodies.{AskAsBefore, AskOn};
@@ -22,6 +22,7 @@ ghost use Rattle.tds_relay.specs.Told.{TellsTheSame, held_name, holder_name, is_
 ghost use Rattle.tds_relay.specs.Waking.{IsWoken};
 ghost use Rattle.tds_relay.specs.Walkers.{AllStand};
 ghost use Rattle.tds_relay.specs.declared.outgoing.TheConstants.{PIECE};
+ghost use Rattle.tds_relay.specs.Few.{IsSeated, IsSeatedBut};
 
 use super::Relay;
 use crate::NoMemory;
@@ -64,6 +65,7 @@ impl Relay {
         ensures whose { result ≡ held_name key self.old }
         ensures tells { TellsTheSame self.old self.new }
         ensures orders { self.new.orders.items ≡ self.old.orders.items }
+        ensures seated { IsSeated self.old → IsSeated self.new }
     {
         self.forget_sent(key, count);
         let hold = self.desk.hold_of(key)?;
@@ -105,6 +107,7 @@ impl Relay {
             then holder_name number self.old else None) }
         ensures tells { TellsTheSame self.old self.new }
         ensures orders { self.new.orders.items ≡ self.old.orders.items }
+        ensures seated { IsSeated self.old → IsSeated self.new }
     {
         if !forget_sent(&mut self.links, number, count) {
             return None;
@@ -138,6 +141,9 @@ impl Relay {
             IsWho (holder (desk_in self.old.desk) number) other
             × HasNoRoom number self.old.outbox.items self.old.links.items)
             (register_in self.old) (register_in self.new)) }
+        ensures seated { IsSeated self.old → OnOk result (IsSeated self.new) }
+        ensures gone { IsSeatedBut number false self.old
+            → OnOk result (IsSeatedBut number false self.new) }
     {
         let fits = self.fits_on(number)?;
         if fits { Ok(()) } else { self.lose(number) }
@@ -156,6 +162,7 @@ impl Relay {
         ensures closes { OnOk result (ClosesOnly (ItselfFor key
             (HasNoRoom number self.old.outbox.items self.old.links.items))
             (register_in self.old) (register_in self.new)) }
+        ensures seated { IsSeated self.old → OnOk result (IsSeated self.new) }
     {
         let fits = self.fits_on(number)?;
         if fits {
@@ -185,6 +192,7 @@ impl Relay {
             (waits_on number self.old.links.items) (waits_on number self.new.links.items)) }
         ensures closes { OnOk result (ClosesOnly Nobody
             (register_in self.old) (register_in self.new)) }
+        ensures seated { IsSeated self.old → OnOk result (IsSeated self.new) }
     {
         let fits = self.fits_on(number)?;
         if fits {

@@ -16,6 +16,7 @@ ghost use Rattle.tds_relay.specs.Sparing.{IsHeldBack, IsUnkept, OthersRest};
 ghost use Rattle.tds_relay.specs.Ties.{GoesOn, IsReached, desk_in};
 ghost use Rattle.tds_relay.specs.Waiting.{GoesOrWaits};
 ghost use Rattle.tds_relay.specs.Walkers.{AllStand};
+ghost use Rattle.tds_relay.specs.Few.{IsSeated};
 
 use super::Relay;
 use crate::NoMemory;
@@ -48,6 +49,7 @@ impl Relay {
             (register_in self.old) (register_in self.new)) }
         ensures lasts { OnOk result (LastBut (Itself key)
             (register_in self.old) (register_in self.new)) }
+        ensures seated { IsSeated self.old → OnOk result (IsSeated self.new) }
     {
         let Some(hold) = self.desk.hold_of(key) else {
             return self.start(key);

@@ -15,6 +15,7 @@ ghost use Rattle.tds_relay.specs.Reasons.{CannotForget, CannotStop, CannotUnask,
 ghost use Rattle.tds_relay.specs.Reasons.{IsOverfull, IsUnstopped, ItselfFor};
 ghost use Rattle.tds_relay.specs.Ties.{Application, Goes, GoesOn, Turns, desk_in};
 ghost use Rattle.tds_relay.specs.Walkers.{AllStand};
+ghost use Rattle.tds_relay.specs.Few.{IsSeated};
 
 use super::Relay;
 use super::putting::unless_memory;
@@ -44,6 +45,7 @@ impl Relay {
         ensures closes { OnOk result (ClosesOnly (ItselfFor key (CannotForget false key
             (end_at (ends_in self.old.applications) key) self.old.desk self.old.links.items))
             (register_in self.old) (register_in self.new)) }
+        ensures seated { IsSeated self.old → OnOk result (IsSeated self.new) }
     {
         let was_asked = self.forget_request(key);
         if was_asked { self.unask(key) } else { Ok(()) }
@@ -87,6 +89,7 @@ impl Relay {
         ensures closes { OnOk result (ClosesOnly (ItselfFor key (CannotUnask key
             (end_at (ends_in self.old.applications) key) self.old.desk self.old.links.items))
             (register_in self.old) (register_in self.new)) }
+        ensures seated { IsSeated self.old → OnOk result (IsSeated self.new) }
     {
         if !self.has_nothing_out(key) {
             return self.expel(key);
@@ -119,6 +122,7 @@ impl Relay {
         ensures closes { OnOk result (ClosesOnly (ItselfFor key (CannotForget true key
             (end_at (ends_in self.old.applications) key) self.old.desk self.old.links.items))
             (register_in self.old) (register_in self.new)) }
+        ensures seated { IsSeated self.old → OnOk result (IsSeated self.new) }
     {
         let _ = self.forget_request(key);
         match self.stop(key)? {
@@ -149,6 +153,7 @@ impl Relay {
         ensures none { IfOk result (λ stopped. IfNone stopped
             (IsUnstopped key self.old.desk)) }
         ensures closes { ClosesOnly Nobody (register_in self.old) (register_in self.new) }
+        ensures seated { IsSeated self.old → IsSeated self.new }
     {
         self.outbox.clear();
         match self.desk.cancel(key, &mut self.outbox) {
@@ -219,6 +224,7 @@ impl Relay {
         ensures closes { OnOk result (ClosesOnly (ItselfFor key
             (CannotStop key self.old.desk self.old.links.items))
             (register_in self.old) (register_in self.new)) }
+        ensures seated { IsSeated self.old → OnOk result (IsSeated self.new) }
     {
         match self.stop(key)? {
             Some(number) => self.send_stop(key, number),
@@ -240,6 +246,7 @@ impl Relay {
         ensures closes { OnOk result (ClosesOnly (ItselfFor key
             (HasNoRoom number self.old.outbox.items self.old.links.items))
             (register_in self.old) (register_in self.new)) }
+        ensures seated { IsSeated self.old → OnOk result (IsSeated self.new) }
     {
         let fits = self.fits_on(number)?;
         if fits { Ok(()) } else { self.fail(key, number) }

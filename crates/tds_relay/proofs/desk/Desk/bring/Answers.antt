@@ -1,5 +1,10 @@
 use Rattle.tds_relay.proofs.bytes.Walking.{lease_stand, same_stand}
 use Rattle.tds_relay.proofs.spared.Cleaned.{any_text}
+use Rattle.tds_service.specs.Table.{service_in}
+use Rattle.tds_relay.specs.Ties.{desk_in}
+use Rattle.tds_relay.proofs.seats.Rests.{brought_is, same_keeps}
+use Rattle.tds_relay.proofs.spared.Aside.{led_at}
+use Rattle.tds_relay.proofs.steps.Made.{brought_turns}
 use Rattle.tds_relay.proofs.desk.Desk.bring.Goals as goal
 
 pub returns-clause-stand : goal.returns-clause-stand
@@ -13,3 +18,15 @@ returns-clause-ends c = λ there. any_text c.cleaning_text.result.now _ _ _ c.cl
 
 pub returns-clause-lent : goal.returns-clause-lent
 returns-clause-lent c = (c.in-Ok.lent.lease, c.in-Ok.lent.had, c.in-Ok.ensures.ok.reply_is)
+
+pub returns-clause-seats : goal.returns-clause-seats
+returns-clause-seats c = λ reached.
+    brought_is c.in_ok-is_there.is_there c.in-Ok.lent.had c.in-Ok.lent.lease c.in-Ok.lent.number _ (service_in c.args.self.now.service) c.lease.new.self (service_in c.release.new.service) _ _ (led_at (desk_in c.args.self.now) reached) c.in-Ok.ensures.ok c.in_ok-is_there.ensures.seats
+
+pub returns-in-Err-clause-seats : goal.returns-in-Err-clause-seats
+returns-in-Err-clause-seats c = λ reached. same_keeps (service_in c.args.self.now.service) (service_in c.lease.new.self) c.in-Err.ensures.err
+
+pub returns-clause-turns : goal.returns-clause-turns
+returns-clause-turns c =
+    let made = c.in_ok-is_there.ensures.makes in
+    (made.0, made.1, brought_turns (desk_in c.args.self.now) (service_in c.lease.new.self) (service_in c.release.new.service) c.in-Ok.lent.lease c.in-Ok.lent.number _ c.in-Ok.lent.had made.0 made.1 _ _ c.in-Ok.ensures.ok made.2)

@@ -17,6 +17,14 @@ use Rattle.tds_relay.proofs.steps.Made.{ok_both, came_settled, came_unknown, cam
 use Rattle.tds_relay.proofs.bytes.Heard.{came_read, lost_read, unknown_read}
 use Rattle.tds_relay.specs.Walkers.{AllRead}
 use Rattle.tds_relay.proofs.steps.Reaching.{ok_if}
+use Rattle.std.proofs.Common.{false, true}
+use Rattle.tds_service.specs.Service as calls
+use Rattle.tds_relay.proofs.bytes.Walking.{led_on}
+use Rattle.tds_relay.specs.Few.{SeatStays, is_left}
+use Rattle.tds_relay.proofs.seats.Counting.{unknown_stays}
+use Rattle.tds_relay.proofs.seats.Desks.{lost_at}
+use Rattle.tds_relay.proofs.seats.Rests.{came_on, heard_stays, kept_stays}
+use Rattle.tds_relay.proofs.spared.Aside.{led_at}
 use Rattle.tds_relay.proofs.desk.Desk.came.Goals as goal
 
 pub returns-in_ok-what-in-Finished-clause-ok : goal.returns-in_ok-what-in-Finished-clause-ok
@@ -145,3 +153,43 @@ returns-in_ok-lose-in-Fault-clause-ok c =
           (came_wrong d (desk_in c.lose.new.self) c.args.number (packet_part came.0 c.args.bytes.now c.args.ends) NotLent (service_in c.heard.new.self) c.in-Fault.fault c.args.out.now.items came.2.1.steps answers
           c.in_ok-lose-in-Fault.ensures.turns),
     )
+
+pub returns-in_ok-what-in-Finished-clause-seats : goal.returns-in_ok-what-in-Finished-clause-seats
+returns-in_ok-what-in-Finished-clause-seats c = λ reached.
+    let came = c.in-Ok.ensures.ok in
+    let s = service_in c.args.self.now.service in
+    let led = led_at (desk_in c.args.self.now) reached in
+    heard_stays _ c.args.number s (service_in c.heard.new.self) (service_in c.settle.new.self.service) (packet_part came.0 c.args.bytes.now c.args.ends) came.2.1.steps.service_is
+    (c.in_ok-what-in-Finished.ensures.seats (led_on s (service_in c.heard.new.self) (calls.Came c.args.number (packet_part came.0 c.args.bytes.now c.args.ends)) came.2.1.steps.service_is led)
+    (came_on s c.heard.new.self c.args.number (packet_part came.0 c.args.bytes.now c.args.ends) c.in-Ok.came.lease led came.2.1.steps.service_is came.2.1.holder) refl)
+
+pub returns-in_ok-what-in-Acknowledged-clause-seats : goal.returns-in_ok-what-in-Acknowledged-clause-seats
+returns-in_ok-what-in-Acknowledged-clause-seats c = λ reached.
+    let came = c.in-Ok.ensures.ok in
+    let s = service_in c.args.self.now.service in
+    let led = led_at (desk_in c.args.self.now) reached in
+    heard_stays _ c.args.number s (service_in c.heard.new.self) (service_in c.settle-in-Acknowledged.new.self.service) (packet_part came.0 c.args.bytes.now c.args.ends) came.2.1.steps.service_is
+    (c.in_ok-what-in-Acknowledged.ensures.seats (led_on s (service_in c.heard.new.self) (calls.Came c.args.number (packet_part came.0 c.args.bytes.now c.args.ends)) came.2.1.steps.service_is led)
+    (came_on s c.heard.new.self c.args.number (packet_part came.0 c.args.bytes.now c.args.ends) c.in-Ok.came.lease led came.2.1.steps.service_is came.2.1.holder) refl)
+
+pub returns-in-More-clause-seats : goal.returns-in-More-clause-seats
+returns-in-More-clause-seats c = λ reached.
+    let came = c.in-Ok.ensures.ok in
+    kept_stays c.args.number (service_in c.args.self.now.service) (service_in c.heard.new.self) (calls.Came c.args.number (packet_part came.0 c.args.bytes.now c.args.ends)) tt came.2.1.steps.service_is
+
+pub returns-in_ok-lose-in-Fault-clause-seats : goal.returns-in_ok-lose-in-Fault-clause-seats
+returns-in_ok-lose-in-Fault-clause-seats c = λ reached.
+    let came = c.in-Ok.ensures.ok in
+    let s = service_in c.args.self.now.service in
+    let t = service_in c.heard.new.self in
+    heard_stays false c.args.number s t (service_in c.lose.new.self.service) (packet_part came.0 c.args.bytes.now c.args.ends) came.2.1.steps.service_is
+    (lost_at c.args.number _ (desk_in c.lose.new.self) _ _ (led_on s t (calls.Came c.args.number (packet_part came.0 c.args.bytes.now c.args.ends)) came.2.1.steps.service_is (led_at (desk_in c.args.self.now) reached)) c.in_ok-lose-in-Fault.ensures.turns)
+
+pub returns-in-Err-clause-seats : goal.returns-in-Err-clause-seats
+returns-in-Err-clause-seats c = λ reached.
+    let same : c.heard.new.self ≡ c.args.self.now.service = search rules in
+    ok_both c.unheard.result (c.in-Err.refusal ≢ refusals.Memory) (λ heard. heard.key ≡ None) _
+    (λ never heard nobody.
+    subst (λ (x : services.Service). SeatStays (is_left heard.what) c.args.number (service_in c.args.self.now.service) (service_in x)) (sym same)
+    (unknown_stays (is_left heard.what) c.args.number (service_in c.args.self.now.service) (unread c.args.self.now.service c.args.number c.args.bytes.now c.args.ends c.in-Err.refusal c.in-Err.ensures.refused never)))
+    c.unheard.ensures.unknown c.unheard.ensures.nobody

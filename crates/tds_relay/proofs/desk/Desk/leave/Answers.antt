@@ -2,6 +2,9 @@ use Rattle.std.proofs.Common.{refl, rules}
 use Rattle.tds_relay.proofs.spared.Aside.{left_others, none_others}
 use Rattle.tds_relay.specs.Desk.{find_key}
 use Rattle.tds_relay.proofs.spared.Cleaned.{ends_none, ends_some, text_is}
+use Rattle.tds_relay.specs.Ties.{desk_in}
+use Rattle.tds_relay.proofs.seats.Rests.{held_on}
+use Rattle.tds_relay.proofs.spared.Aside.{led_at}
 use Rattle.tds_relay.proofs.desk.Desk.leave.Goals as goal
 
 pub returns-in_default-clause-others : goal.returns-in_default-clause-others
@@ -16,3 +19,9 @@ returns-in_default-clause-ends c = ends_none c.args.self.now.service (find_key c
 pub returns-clause-ends : goal.returns-clause-ends
 returns-clause-ends c = ends_some c.args.self.now.service (find_key c.args.key c.args.self.now.holds.items) c.in-Some.hold _ _ _ (search rules)
     (λ there. text_is c.cleaning_text.result.now _ _ _ c.cleaning_text.ensures (c.in_ok-is_there.ensures.ends there))
+
+pub returns-in_default-clause-seats : goal.returns-in_default-clause-seats
+returns-in_default-clause-seats c = λ reached n. refl
+
+pub returns-clause-seats : goal.returns-clause-seats
+returns-clause-seats c = λ reached. c.in_ok-is_there.ensures.seats (led_at (desk_in c.args.self.now) reached) (held_on (desk_in c.args.self.now) c.args.key c.in-Some.hold reached (search rules))

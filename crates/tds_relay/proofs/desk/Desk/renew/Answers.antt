@@ -6,6 +6,13 @@ use Rattle.tds_relay.specs.Ties.{desk_in}
 use Rattle.tds_relay.proofs.steps.Made.{renewed}
 use Rattle.tds_service.specs.Service as calls
 use Rattle.tds_relay.proofs.bytes.Walking.{keeps_stand, same_stand}
+use Rattle.std.proofs.Common.{◌∙◌, ap, refl}
+use Rattle.tds_service.specs.Service.{Service}
+use Rattle.tds_relay.specs.Ties.{lost_by}
+use Rattle.tds_relay.proofs.bytes.Walking.{led_on}
+use Rattle.tds_relay.proofs.seats.Desks.{both_keep}
+use Rattle.tds_relay.proofs.seats.Rests.{call_keeps, kept_stays, same_keeps, then_forgot}
+use Rattle.tds_relay.proofs.spared.Aside.{led_at}
 use Rattle.tds_relay.proofs.desk.Desk.renew.Goals as goal
 
 pub returns-clause-turns : goal.returns-clause-turns
@@ -27,3 +34,23 @@ returns-clause-stand c = λ n r h. keeps_stand c.keep.new.self c.resume.new.self
 
 pub returns-in-Err-clause-stand : goal.returns-in-Err-clause-stand
 returns-in-Err-clause-stand c = same_stand c.args.self.now.service c.keep.new.self c.in-Err.ensures.err c.in-Err.ensures.makes c.in-Err.ensures.keeps
+
+pub returns-in_default-clause-seats : goal.returns-in_default-clause-seats
+returns-in_default-clause-seats c = λ reached n. refl
+
+pub returns-in-Err-clause-seats : goal.returns-in-Err-clause-seats
+returns-in-Err-clause-seats c = λ reached. same_keeps (service_in c.args.self.now.service) (service_in c.keep.new.self) c.in-Err.ensures.err
+
+pub returns-in_default-resume-clause-seats : goal.returns-in_default-resume-clause-seats
+returns-in_default-resume-clause-seats c = λ reached.
+    let s = service_in c.args.self.now.service in
+    let t = service_in c.keep.new.self in
+    then_forgot true c.in-Some.hold.number s t (service_in c.forget.new.service) (kept_stays c.in-Some.hold.number s t (calls.Keep c.in-Some.hold.lease) tt c.in-Ok.ensures.ok.1.service_is)
+    (led_on s t (calls.Keep c.in-Some.hold.lease) c.in-Ok.ensures.ok.1.service_is (led_at (desk_in c.args.self.now) reached))
+    (c.in_ok-forget.ensures.lost ∙ ap (λ (x : Service). lost_by x c.in-Some.hold.number) c.in_default-resume.ensures.err)
+
+pub returns-clause-seats : goal.returns-clause-seats
+returns-clause-seats c = λ reached.
+    both_keep (service_in c.args.self.now.service) (service_in c.keep.new.self) (service_in c.resume.new.self)
+    (call_keeps (service_in c.args.self.now.service) (service_in c.keep.new.self) (calls.Keep c.in-Some.hold.lease) tt c.in-Ok.ensures.ok.1.service_is)
+    (call_keeps (service_in c.keep.new.self) (service_in c.resume.new.self) (calls.Resume c.in-Ok.ticket) tt c.in-Ok-resume.ensures.ok.service_is)

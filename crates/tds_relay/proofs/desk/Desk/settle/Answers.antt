@@ -5,6 +5,11 @@ use Rattle.tds_relay.specs.declared.desk.Hold.{Hold}
 use Rattle.tds_relay.specs.Desk.{NotLent, cleaned_by, find_lease, settles, settles_of}
 use Rattle.tds_relay.specs.Ties.{desk_in}
 use Rattle.tds_relay.proofs.steps.Made.{settles_by}
+use Rattle.std.proofs.Common.{refl, subst, sym, true, Bool}
+use Rattle.std.proofs.lemmas.Result.{IfOk-weaker}
+use Rattle.tds_relay.specs.Few.{SeatStays, is_left}
+use Rattle.tds_relay.proofs.seats.Counting.{stays_refl}
+use Rattle.tds_relay.proofs.seats.Rests.{if_left, made_stays}
 use Rattle.tds_relay.proofs.desk.Desk.settle.Goals as goal
 
 pub returns-in_ok-is_there-in-None-find_lease-clause-settles : goal.returns-in_ok-is_there-in-None-find_lease-clause-settles
@@ -18,3 +23,17 @@ returns-in_ok-is_there-in-None-find_lease-clause-settles c =
       settles_by d (service_in c.cleaned.new.service) (cleaned_by d.service c.args.number lease) (settles d.holds d.service c.args.number NotLent c.args.lease) c.args.out.now.items c.args.out.now.items is
           (c.in_ok-is_there-in-None-find_lease.ensures.makes c.args.out.now.items),
     )
+
+pub returns-in-Some-find_lease-clause-seats : goal.returns-in-Some-find_lease-clause-seats
+returns-in-Some-find_lease-clause-seats c = λ led on left. subst (λ (b : Bool). SeatStays b c.args.number (desk_in c.args.self.now).service (desk_in c.args.self.now).service) (sym left) (stays_refl c.args.number (desk_in c.args.self.now).service)
+
+pub returns-in_ok-is_there-in-None-find_lease-clause-seats : goal.returns-in_ok-is_there-in-None-find_lease-clause-seats
+returns-in_ok-is_there-in-None-find_lease-clause-seats c = λ led on left.
+    if_left c.in_ok-is_there-in-None-find_lease.is_there c.what_of.result c.args.number (service_in c.args.self.now.service) (service_in c.cleaned.new.service) c.what_of.ensures
+    (c.in_ok-is_there-in-None-find_lease.ensures.seats led (on c.in-Some.lease c.in-Some.is))
+
+pub returns-in_ok-is_there-in-None-clause-seats : goal.returns-in_ok-is_there-in-None-clause-seats
+returns-in_ok-is_there-in-None-clause-seats c = λ led on left.
+    let made = c.in_ok-is_there-in-None.ensures.makes in
+    if_left c.in_ok-is_there-in-None.is_there c.what_of-in-None.result c.args.number (service_in c.args.self.now.service) (service_in c.clean.new.service) c.what_of-in-None.ensures
+    (made_stays (service_in c.args.self.now.service) (service_in c.clean.new.service) c.args.number c.in_ok-is_there-in-None.is_there made.0 _ _ led made.1 made.2)

@@ -9,6 +9,12 @@ use Rattle.tds_service.specs.Service as calls
 use Rattle.tds_relay.proofs.steps.Reaching.{ok_more}
 use Rattle.tds_relay.proofs.spared.Aside.{called_for, forgot_for, refl_for, refused_for}
 use Rattle.tds_relay.proofs.spared.Cleaned.{cancelled, cancelled_cleaned}
+use Rattle.std.proofs.Common.{false, refl, ap, is_some, ◌∙◌}
+use Rattle.tds_service.specs.declared.place.Rest.{Rest}
+use Rattle.tds_service.specs.Service.{Service}
+use Rattle.tds_service.specs.Table.{rest_of}
+use Rattle.tds_relay.specs.Ties.{lost_by}
+use Rattle.tds_relay.proofs.seats.Rests.{back_stays, forgot_stays, free_stays}
 use Rattle.tds_relay.proofs.desk.leaving.release.Goals as goal
 
 pub returns-in-Ok-default-Free-clause-makes : goal.returns-in-Ok-default-Free-clause-makes
@@ -61,3 +67,20 @@ returns-in-Ok-default-Free-clause-ends c = IfOk-weaker c.clean.result _ _
 
 pub returns-in-Ok-default-Draining-clause-ends : goal.returns-in-Ok-default-Draining-clause-ends
 returns-in-Ok-default-Draining-clause-ends c = λ there. cancelled c.args.text.now c.args.hold.lease c.args.service.now c.args.out.now.items c.give_back.new.out.items c.in-Ok-default-Draining.ensures.stops
+
+pub returns-in-Ok-default-Free-clause-seats : goal.returns-in-Ok-default-Free-clause-seats
+returns-in-Ok-default-Free-clause-seats c = λ led on. IfOk-weaker c.clean.result _ _
+    (λ is_there h. free_stays (service_in c.args.service.now) (service_in c.give_back.new.self) (service_in c.clean.new.service) c.args.hold.lease c.args.hold.number c.in-Ok-default-Free.field-0-1 c.in-Ok-default-Free.field-0-0 _ _ _ _ is_there led on c.in-Ok-default-Free.ensures.ok
+    (ap (λ (r : Rest). is_some (rest_of r)) c.in-Ok-default-Free.field-0-1-is) h) c.clean.ensures.makes
+
+pub returns-in-Ok-default-Draining-clause-seats : goal.returns-in-Ok-default-Draining-clause-seats
+returns-in-Ok-default-Draining-clause-seats c = λ led on. back_stays true (service_in c.args.service.now) (service_in c.give_back.new.self) c.args.hold.lease c.args.hold.number c.in-Ok-default-Draining.field-0-1 c.in-Ok-default-Draining.field-0-0 _ _ led on c.in-Ok-default-Draining.ensures.ok
+    (ap (λ (r : Rest). is_some (rest_of r)) c.in-Ok-default-Draining.field-0-1-is)
+
+pub returns-in-Ok-default-Closed-clause-seats : goal.returns-in-Ok-default-Closed-clause-seats
+returns-in-Ok-default-Closed-clause-seats c = λ led on. back_stays false (service_in c.args.service.now) (service_in c.give_back.new.self) c.args.hold.lease c.args.hold.number c.in-Ok-default-Closed.field-0-1 c.in-Ok-default-Closed.field-0-0 _ _ led on c.in-Ok-default-Closed.ensures.ok
+    (ap (λ (r : Rest). is_some (rest_of r)) c.in-Ok-default-Closed.field-0-1-is)
+
+pub returns-in_ok-forget-in-Err-clause-seats : goal.returns-in_ok-forget-in-Err-clause-seats
+returns-in_ok-forget-in-Err-clause-seats c = λ led on. forgot_stays c.args.hold.number (service_in c.args.service.now) (service_in c.forget.new.service) led
+    (c.in_ok-forget-in-Err.ensures.lost ∙ ap (λ (s : Service). lost_by s c.args.hold.number) c.in-Err.ensures.err)

@@ -12,6 +12,8 @@ use Rattle.tds_relay.proofs.spared.Ordered.{ordered_both}
 use Rattle.tds_relay.proofs.spared.Lines.{waited}
 use Rattle.tds_relay.specs.Closings.{IsWaiting, register_in}
 use Rattle.tds_relay.proofs.spared.Closings.{closes_both, closes_more, closes_nobody, closes_refl}
+use Rattle.tds_relay.proofs.seats.Linked.{seated_pushed}
+use Rattle.tds_relay.proofs.seats.Relays.{brought_none, brought_one, none_brought}
 use Rattle.tds_relay.proofs.relay.Relay.bring.Goals as goal
 
 pub returns-in_default-clause-goes : goal.returns-in_default-clause-goes
@@ -115,3 +117,18 @@ returns-in_default-clause-tries c = inr (c.in_ok-left.ensures.turns.0, c.in_ok-l
 
 pub returns-then-not-left-clause-tries : goal.returns-then-not-left-clause-tries
 returns-then-not-left-clause-tries c = inr (c.in_ok-left.ensures.turns.0, c.in_ok-left.ensures.turns.1, c.in_ok-left.ensures.turns.2.desk_is)
+
+pub returns-in_default-clause-seated : goal.returns-in_default-clause-seated
+returns-in_default-clause-seated c = λ s. brought_none c.in_ok-left.ensures.turns.0 c.in_ok-left.ensures.turns.1 c.args.self.now.desk c.bring.new.self _ _ c.args.self.now.links.items c.in_ok-left.field-0 c.in_ok-left.ensures.turns.2 c.in_ok-left.ensures.seats s c.in_default.is
+
+pub returns-then-not-left-clause-seated : goal.returns-then-not-left-clause-seated
+returns-then-not-left-clause-seated c = λ s.
+    let empty : c.is_empty.result ≡ true = search rules in
+    none_brought c.in-Some.left.number (desk_in c.bring.new.self) c.args.self.now.links.items (none_there c.args.self.now.links.items (sym c.is_empty.ensures ∙ empty))
+    (brought_one c.in_ok-left.ensures.turns.0 c.in_ok-left.ensures.turns.1 c.args.self.now.desk c.bring.new.self _ _ c.args.self.now.links.items c.in_ok-left.field-0 c.in_ok-left.ensures.turns.2 c.in_ok-left.ensures.seats s c.in-Some.left false c.in-Some.is (search rules))
+
+pub returns-clause-seated : goal.returns-clause-seated
+returns-clause-seated c = λ s.
+    c.in_ok-serve_line.ensures.seated (c.in_ok-send_unheld.ensures.seated
+    (seated_pushed c.in-Some.left.number (desk_in c.bring.new.self) _ c.args.self.now.links.items c.push.new.self.items c.in_ok-push.ensures.items c.in_ok-link.ensures.number
+    (brought_one c.in_ok-left.ensures.turns.0 c.in_ok-left.ensures.turns.1 c.args.self.now.desk c.bring.new.self _ _ c.args.self.now.links.items c.in_ok-left.field-0 c.in_ok-left.ensures.turns.2 c.in_ok-left.ensures.seats s c.in-Some.left true c.in-Some.is (search rules))))

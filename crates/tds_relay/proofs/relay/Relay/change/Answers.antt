@@ -77,3 +77,9 @@ returns-then-is_some-clause-closes c = for_reason c.expel-then-is_some.result c.
 
 pub returns-clause-closes : goal.returns-clause-closes
 returns-clause-closes c = ok_if c.wait.result _ (closes_nobody _ _ _ (closes_both Nobody _ _ _ c.in_ok-release.ensures.closes c.wait.ensures.closes))
+
+pub returns-clause-seated : goal.returns-clause-seated
+returns-clause-seated c = λ s. c.wait.ensures.seated (c.in_ok-release.ensures.seated s)
+
+pub returns-then-is_some-clause-seated : goal.returns-then-is_some-clause-seated
+returns-then-is_some-clause-seated c = λ s. c.expel-then-is_some.ensures.seated (c.in_ok-release.ensures.seated s)

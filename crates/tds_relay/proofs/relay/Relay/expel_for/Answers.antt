@@ -12,6 +12,7 @@ use Rattle.tds_relay.proofs.bytes.Calls.{stand_from}
 use Rattle.tds_relay.proofs.spared.Resting.{all_others, all_rest, others_on}
 use Rattle.tds_relay.specs.Closings.{Itself}
 use Rattle.tds_relay.proofs.spared.Closings.{closes_behind}
+use Rattle.tds_relay.proofs.seats.Relays.{kept_seated}
 use Rattle.tds_relay.proofs.relay.Relay.expel_for.Goals as goal
 
 pub returns-clause-goes : goal.returns-clause-goes
@@ -48,3 +49,6 @@ returns-clause-others c = λ reached.
 
 pub returns-clause-closes : goal.returns-clause-closes
 returns-clause-closes c = closes_behind c.release.result (Itself c.args.key) _ _ _ c.release.ensures.closes c.in_ok-end_for.ensures.closes
+
+pub returns-clause-seated : goal.returns-clause-seated
+returns-clause-seated c = λ s. c.release.ensures.seated (kept_seated c.args.self.now c.end_for.new.self c.in_ok-end_for.ensures.desk c.in_ok-end_for.ensures.links s)

@@ -15,6 +15,7 @@ use Rattle.tds_relay.proofs.spared.Ordered.{ordered_closing}
 use Rattle.tds_relay.specs.Closings.{Itself}
 use Rattle.tds_relay.proofs.spared.Closings.{closes_on}
 use Rattle.tds_relay.proofs.spared.Begun.{answers_then}
+use Rattle.tds_relay.proofs.seats.Relays.{kept_end}
 use Rattle.tds_relay.proofs.relay.Relay.fail.Goals as goal
 
 pub returns-clause-goes : goal.returns-clause-goes
@@ -53,3 +54,6 @@ returns-clause-closes c = closes_on c.end.result (Itself c.args.key) _ _ _ c.end
 
 pub returns-clause-answers : goal.returns-clause-answers
 returns-clause-answers c = answers_then c.end.result _ _ _ c.in_ok-lose_own.ensures.answers c.end.ensures.links
+
+pub returns-clause-seated : goal.returns-clause-seated
+returns-clause-seated c = λ s. kept_end c.end.result c.lose_own.new.self c.end.new.self c.end.ensures.desk c.end.ensures.links (c.in_ok-lose_own.ensures.seated s)

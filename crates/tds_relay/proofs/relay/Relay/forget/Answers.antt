@@ -11,6 +11,7 @@ use Rattle.tds_relay.specs.Hall.{Ends, end_at}
 use Rattle.tds_relay.specs.Reasons.{CannotUnask}
 use Rattle.tds_relay.proofs.spared.Reasons.{for_that}
 use Rattle.tds_relay.proofs.spared.Closings.{closes_first, closes_nobody}
+use Rattle.tds_relay.proofs.seats.Relays.{unwaited}
 use Rattle.tds_relay.proofs.relay.Relay.forget.Goals as goal
 
 pub returns-then-was_asked-clause-moves : goal.returns-then-was_asked-clause-moves
@@ -56,3 +57,9 @@ returns-then-was_asked-clause-closes c =
 
 pub returns-else-was_asked-clause-closes : goal.returns-else-was_asked-clause-closes
 returns-else-was_asked-clause-closes c = closes_nobody _ _ _ c.forget_request-was_asked.ensures.closes
+
+pub returns-then-was_asked-clause-seated : goal.returns-then-was_asked-clause-seated
+returns-then-was_asked-clause-seated c = λ s. c.unask.ensures.seated (unwaited c.args.key c.args.self.now.desk c.forget_request-was_asked.new.self c.args.self.now.links.items c.forget_request-was_asked.ensures.turns c.forget_request-was_asked.ensures.service c.forget_request-was_asked.ensures.links s)
+
+pub returns-else-was_asked-clause-seated : goal.returns-else-was_asked-clause-seated
+returns-else-was_asked-clause-seated c = λ s. unwaited c.args.key c.args.self.now.desk c.forget_request-was_asked.new.self c.args.self.now.links.items c.forget_request-was_asked.ensures.turns c.forget_request-was_asked.ensures.service c.forget_request-was_asked.ensures.links s

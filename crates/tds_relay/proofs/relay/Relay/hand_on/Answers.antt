@@ -84,3 +84,9 @@ returns-in-Some-clause-closes c =
 
 pub returns-in-None-clause-closes : goal.returns-in-None-clause-closes
 returns-in-None-clause-closes c = for_reason c.expel.result c.args.key _ _ _ (inl (none_of _ _ c.in-None.is c.in_ok-number.ensures.none)) (closes_first c.expel.result (Itself c.args.key) _ _ _ c.expel.ensures.closes c.stop.ensures.closes)
+
+pub returns-in-Some-clause-seated : goal.returns-in-Some-clause-seated
+returns-in-Some-clause-seated c = λ s. c.send_stop.ensures.seated (c.stop.ensures.seated s)
+
+pub returns-in-None-clause-seated : goal.returns-in-None-clause-seated
+returns-in-None-clause-seated c = λ s. c.expel.ensures.seated (c.stop.ensures.seated s)

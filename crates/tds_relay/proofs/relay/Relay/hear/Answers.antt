@@ -5,7 +5,7 @@ use Rattle.tds_relay.specs.declared.desk.coming.Heard.{Heard}
 use Rattle.tds_relay.specs.Fronts.{ends_in, house_in, house_with, told_by}
 use Rattle.tds_relay.specs.declared.outgoing.Outgoing.{Outgoing}
 use Rattle.tds_relay.specs.Posts.{post_in, posts_in}
-use Rattle.tds_relay.specs.Ties.{desk_in}
+use Rattle.tds_relay.specs.Ties.{Connection, desk_in}
 use Rattle.tds_relay.specs.Reads.{bytes_on, place_of}
 use Rattle.tds_relay.proofs.bytes.SetAnew.{hear_at, unheard, unopened}
 use Rattle.tds_relay.proofs.bytes.Turns.{less_at, less_nowhere, less_shut, takes_at}
@@ -13,7 +13,7 @@ use Rattle.tds_service.specs.Table.{reading_on}
 use Rattle.tds_relay.proofs.steps.Faults.{refused_heard}
 use Rattle.tds_relay.proofs.steps.Placed.{others_written}
 use Rattle.tds_relay.proofs.steps.Staying.{others_open, opens_refl}
-use Rattle.tds_relay.proofs.steps.Reaching.{ok_if}
+use Rattle.tds_relay.proofs.steps.Reaching.{ok_if, ok_more, reached_on}
 use Rattle.std.proofs.Common.{inl}
 use Rattle.tds_relay.specs.Sending.{sending_of}
 use Rattle.tds_relay.proofs.spared.Sending.{same_written, sending_same}
@@ -22,6 +22,8 @@ use Rattle.std.proofs.Common.{◌≡◌, List, [], slice_index_or, subst, ℕ}
 use Rattle.std.specs.Prelude.{IfOk}
 use Rattle.tds_relay.specs.Reasons.{Cleans}
 use Rattle.tds_relay.proofs.spared.Losing.{heard_as, posts_written}
+use Rattle.tds_relay.proofs.seats.Relays.{behind_on}
+use Rattle.tds_relay.proofs.seats.Linked.{heard_there, seated_as}
 use Rattle.tds_relay.proofs.relay.Relay.hear.Goals as goal
 
 pub returns-in_default-clause-continues : goal.returns-in_default-clause-continues
@@ -167,3 +169,22 @@ returns-then-not-link-clause-refused c = inl refl
 
 pub returns-clause-refused : goal.returns-clause-refused
 returns-clause-refused c = refused_heard c.hear_on.result c.args.number _ _ _ c.hear_on.ensures.refused
+
+pub returns-in_default-clause-seated : goal.returns-in_default-clause-seated
+returns-in_default-clause-seated c = λ s. s
+
+pub returns-then-not-link-clause-seated : goal.returns-then-not-link-clause-seated
+returns-then-not-link-clause-seated c = rw (← c.links.view_is) (
+    λ s. seated_as (desk_in c.args.self.now.desk) c.links.inside.list.items _
+    (heard_there c.links.inside.list.items _ (λ other. (same_written c.links.inside.list.items c.in-Some.place c.index_mut-link.result.now _
+    (ap (λ (l : Link). l.number) c.index_mut-link.ensures.value) (ap sending_of c.index_mut-link.ensures.value) (ap (λ (l : Link). l.is_open) c.index_mut-link.ensures.value) other).0)) s)
+
+pub returns-clause-seated : goal.returns-clause-seated
+returns-clause-seated c = rw (← c.links.view_is) (
+    λ s. behind_on c.hear_on.result c.args.number (desk_in c.args.self.now.desk) _ c.links.inside.list.items
+    (ok_more c.hear_on.result _ _ (λ g. reached_on (Connection c.args.number) (desk_in c.args.self.now.desk) (desk_in c.hear_on.new.desk) g) c.hear_on.ensures.goes)
+    (c.hear_on.ensures.seats s.reached)
+    (heard_there c.links.inside.list.items _ (λ other. (same_written c.links.inside.list.items c.in-Some.place c.index_mut-link.result.now _
+    (c.hear_on.ensures.number ∙ ap (λ (l : Link). l.number) c.index_mut-link.ensures.value)
+    (sending_same c.index_mut-link.result.now c.hear_on.new.link c.hear_on.ensures.tag c.hear_on.ensures.out ∙ ap sending_of c.index_mut-link.ensures.value)
+    (c.hear_on.ensures.is_open ∙ ap (λ (l : Link). l.is_open) c.index_mut-link.ensures.value) other).0)) s)

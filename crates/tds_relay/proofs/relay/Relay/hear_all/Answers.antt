@@ -43,6 +43,7 @@ taking-init c = record {
   ordered = ordered_refl c.args.self.now.orders.items;
   none = none_refl c.args.self.now.links.items;
   wakes = wakes_same (posts_in c.args.self.now.applications) c.args.self.now.applications c.args.self.now.orders.items refl;
+  seated = λ s. s;
 }
 
 pub taking-preserved : goal.taking-preserved
@@ -79,6 +80,7 @@ taking-preserved c = record {
   wakes =
       one_wakes c.args.number (posts_in c.args.self.now.applications) c.taking.self c.hear.new.self c.heard.new.self _ c.taking.invariant.wakes c.in_ok-count.ensures.ends c.in_ok-count.ensures.names c.in_ok-count.ensures.puts c.hear.ensures.orders
       c.in_ok-heard.ensures.kept c.in_ok-heard.ensures.ordered c.in_ok-heard.ensures.moves c.in_ok-heard.ensures.wakes;
+  seated = λ s. c.in_ok-heard.ensures.seated (c.in_ok-count.ensures.seated (c.taking.invariant.seated s));
 }
 
 pub returns-clause-streams : goal.returns-clause-streams

@@ -13,6 +13,7 @@ use Rattle.tds_relay.specs.Reads.{OpensOthers, answer_at, open_at}
 use Rattle.tds_relay.specs.Ties.{Connection, Goes, IsReached, desk_in}
 use Rattle.tds_relay.specs.Waking.{Wakes}
 use Rattle.tds_relay.proofs.bytes.Turns.{InTurns}
+use Rattle.tds_relay.specs.Few.{IsSeated}
 use Rattle.tds_relay.proofs.relay.Relay.hear_all.Given as goal
 
 abbrev pub invariant-taking : goal.invariant-taking
@@ -30,4 +31,5 @@ invariant-taking l = record {
   ordered : StayOrdered l.fn.self.orders.items l.self.orders.items;
   none : NoneNew l.fn.self.links.items l.self.links.items;
   wakes : Wakes (posts_in l.fn.self.applications) l.self.applications l.self.orders.items;
+  seated : IsSeated l.fn.self → IsSeated l.self;
 }

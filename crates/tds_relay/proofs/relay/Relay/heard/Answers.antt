@@ -20,6 +20,11 @@ use Rattle.tds_relay.proofs.spared.Lined.{acknowledges}
 use Rattle.tds_relay.proofs.spared.Only.{spares_for, spares_lost_on, spares_none, spares_sent, spares_shut, spares_wrote}
 use Rattle.tds_relay.specs.Fronts.{hall_in}
 use Rattle.tds_relay.proofs.bytes.SetAnew.{any_kept, any_on, any_refl, any_same, any_sent}
+use Rattle.tds_relay.proofs.seats.Relays.{behind_none, behind_out, behind_stays, but_kept, closed_end, kept_end, kept_seated, links_there}
+use Rattle.tds_relay.proofs.seats.Desks.{off_of}
+use Rattle.tds_relay.specs.Few.{is_left}
+use Rattle.tds_relay.specs.declared.desk.coming.What.TheVariants as whats
+use Rattle.std.proofs.Common.{◌≡◌, false}
 use Rattle.tds_relay.proofs.relay.Relay.heard.Goals as goal
 
 pub returns-in_default-clause-moves : goal.returns-in_default-clause-moves
@@ -397,3 +402,56 @@ returns-in-Closed-Some-clause-begins c = any_kept c.close_link.result _ _ _ (any
 
 pub returns-in-Closed-None-clause-begins : goal.returns-in-Closed-None-clause-begins
 returns-in-Closed-None-clause-begins c = any_kept c.close_link-in-Closed-None.result _ _ _ (any_sent c.args.self.now.links.items c.tell.new.self.links.items c.send_on.new.self.links.items c.in_ok-resumes.ensures.links c.in_ok-send_on.ensures.answers) c.close_link-in-Closed-None.ensures.answers
+
+pub returns-in_default-clause-seated : goal.returns-in_default-clause-seated
+returns-in_default-clause-seated c = λ s. c.lose.ensures.seated (off_of c.args.number (desk_in c.args.self.now.desk) c.args.self.now.links.items (behind_none c.args.heard c.args.number c.args.self.now c.in_default.is s))
+
+pub returns-in-Goes-Some-clause-seated : goal.returns-in-Goes-Some-clause-seated
+returns-in-Goes-Some-clause-seated c = λ s.
+    kept_end c.order_write.result c.send_on.new.self c.order_write.new.self c.order_write.ensures.desk c.order_write.ensures.links
+    (c.in_ok-send_on.ensures.seated (kept_seated c.args.self.now c.tell.new.self c.in_ok-resumes.ensures.desk c.in_ok-resumes.ensures.links
+    (behind_stays c.args.heard c.in-Some.heard c.args.number c.args.self.now c.in-Some.is (ap is_left (let w : c.in-Some.heard.what ≡ whats.Goes = search rules in w)) s)))
+
+pub returns-in-Goes-None-clause-seated : goal.returns-in-Goes-None-clause-seated
+returns-in-Goes-None-clause-seated c = λ s.
+    c.in_ok-send_on.ensures.seated (kept_seated c.args.self.now c.tell.new.self c.in_ok-resumes.ensures.desk c.in_ok-resumes.ensures.links
+    (behind_stays c.args.heard c.in-Some.heard c.args.number c.args.self.now c.in-Some.is (ap is_left (let w : c.in-Some.heard.what ≡ whats.Goes = search rules in w)) s))
+
+pub returns-in-Finished-Some-clause-seated : goal.returns-in-Finished-Some-clause-seated
+returns-in-Finished-Some-clause-seated c = λ s.
+    kept_end c.order_write-in-Finished-Some.result c.send_on.new.self c.order_write-in-Finished-Some.new.self c.order_write-in-Finished-Some.ensures.desk c.order_write-in-Finished-Some.ensures.links
+    (c.in_ok-send_on.ensures.seated (kept_seated c.args.self.now c.tell.new.self c.in_ok-resumes.ensures.desk c.in_ok-resumes.ensures.links
+    (behind_stays c.args.heard c.in-Some.heard c.args.number c.args.self.now c.in-Some.is (ap is_left (let w : c.in-Some.heard.what ≡ whats.Finished = search rules in w)) s)))
+
+pub returns-in-Finished-None-clause-seated : goal.returns-in-Finished-None-clause-seated
+returns-in-Finished-None-clause-seated c = λ s.
+    c.in_ok-send_on.ensures.seated (kept_seated c.args.self.now c.tell.new.self c.in_ok-resumes.ensures.desk c.in_ok-resumes.ensures.links
+    (behind_stays c.args.heard c.in-Some.heard c.args.number c.args.self.now c.in-Some.is (ap is_left (let w : c.in-Some.heard.what ≡ whats.Finished = search rules in w)) s))
+
+pub returns-then-resumes-clause-seated : goal.returns-then-resumes-clause-seated
+returns-then-resumes-clause-seated c = λ s.
+    c.resume.ensures.seated (c.in_ok-send_on.ensures.seated (kept_seated c.args.self.now c.tell.new.self c.in_ok-resumes.ensures.desk c.in_ok-resumes.ensures.links
+    (behind_stays c.args.heard c.in-Some.heard c.args.number c.args.self.now c.in-Some.is (ap is_left (let w : c.in-Some.heard.what ≡ whats.Acknowledged = search rules in w)) s)))
+
+pub returns-else-resumes-clause-seated : goal.returns-else-resumes-clause-seated
+returns-else-resumes-clause-seated c = λ s.
+    kept_end c.order_write-else-resumes.result c.send_on.new.self c.order_write-else-resumes.new.self c.order_write-else-resumes.ensures.desk c.order_write-else-resumes.ensures.links
+    (c.in_ok-send_on.ensures.seated (kept_seated c.args.self.now c.tell.new.self c.in_ok-resumes.ensures.desk c.in_ok-resumes.ensures.links
+    (behind_stays c.args.heard c.in-Some.heard c.args.number c.args.self.now c.in-Some.is (ap is_left (let w : c.in-Some.heard.what ≡ whats.Acknowledged = search rules in w)) s)))
+
+pub returns-in-Acknowledged-None-clause-seated : goal.returns-in-Acknowledged-None-clause-seated
+returns-in-Acknowledged-None-clause-seated c = λ s.
+    c.in_ok-send_on.ensures.seated (kept_seated c.args.self.now c.tell.new.self c.in_ok-resumes.ensures.desk c.in_ok-resumes.ensures.links
+    (behind_stays c.args.heard c.in-Some.heard c.args.number c.args.self.now c.in-Some.is (ap is_left (let w : c.in-Some.heard.what ≡ whats.Acknowledged = search rules in w)) s))
+
+pub returns-in-Closed-Some-clause-seated : goal.returns-in-Closed-Some-clause-seated
+returns-in-Closed-Some-clause-seated c = λ s.
+    closed_end c.close_link.result c.args.number c.send_on.new.self.desk c.send_on.new.self.links.items c.close_link.new.self c.close_link.ensures.desk c.close_link.ensures.gone c.close_link.ensures.others
+    (c.in_ok-send_on.ensures.gone (but_kept c.args.number false c.args.self.now c.tell.new.self c.in_ok-resumes.ensures.desk (links_there c.args.self.now.links.items c.tell.new.self.links.items c.in_ok-resumes.ensures.links)
+    (behind_out c.args.heard c.in-Some.heard c.args.number c.args.self.now c.in-Some.is (ap is_left (let w : c.in-Some.heard.what ≡ whats.Closed = search rules in w)) s)))
+
+pub returns-in-Closed-None-clause-seated : goal.returns-in-Closed-None-clause-seated
+returns-in-Closed-None-clause-seated c = λ s.
+    closed_end c.close_link-in-Closed-None.result c.args.number c.send_on.new.self.desk c.send_on.new.self.links.items c.close_link-in-Closed-None.new.self c.close_link-in-Closed-None.ensures.desk c.close_link-in-Closed-None.ensures.gone c.close_link-in-Closed-None.ensures.others
+    (c.in_ok-send_on.ensures.gone (but_kept c.args.number false c.args.self.now c.tell.new.self c.in_ok-resumes.ensures.desk (links_there c.args.self.now.links.items c.tell.new.self.links.items c.in_ok-resumes.ensures.links)
+    (behind_out c.args.heard c.in-Some.heard c.args.number c.args.self.now c.in-Some.is (ap is_left (let w : c.in-Some.heard.what ≡ whats.Closed = search rules in w)) s)))

@@ -16,6 +16,8 @@ use Rattle.tds_relay.specs.Fronts.{ends_in, hall_in, hall_of_ends}
 use Rattle.tds_relay.specs.Hall.{closes}
 use Rattle.std.proofs.Common.{◌∙◌, Some}
 use Rattle.tds_relay.proofs.bytes.SetAnew.{any_kept, any_refl}
+use Rattle.tds_relay.proofs.seats.Relays.{closed_end, desk_lasting, renewed_on, renewed_out, renews_keep}
+use Rattle.tds_relay.specs.declared.desk.leaving.Renewed.TheVariants as renewals
 use Rattle.tds_relay.proofs.relay.Relay.keep.Goals as goal
 
 pub returns-in-Kept-clause-goes : goal.returns-in-Kept-clause-goes
@@ -115,3 +117,16 @@ returns-in-Kept-clause-begins c = any_kept c.start_kept.result _ _ _ c.restart.e
 
 pub returns-in-Closed-clause-begins : goal.returns-in-Closed-clause-begins
 returns-in-Closed-clause-begins c = any_kept c.close.result _ _ _ (any_refl c.args.self.now.links.items) c.close.ensures.answers
+
+pub returns-in-Kept-clause-seated : goal.returns-in-Kept-clause-seated
+returns-in-Kept-clause-seated c = λ s.
+    c.start_kept.ensures.seated (desk_lasting c.renew.new.self c.args.self.now.links.items c.restart.new.self c.restart.ensures.desk c.restart.ensures.lasts c.restart.ensures.read (renewed_on c.args.key c.in_ok-hold.ensures.turns.0 c.args.self.now.desk c.renew.new.self _ _ c.args.self.now.links.items c.in_ok-hold.ensures.turns.1 s (renews_keep _ (renewals.Kept c.in-Kept.hold) _ _ c.in-Kept.is (c.in_ok-hold.ensures.seats s.reached))))
+
+pub returns-in-NotKept-clause-seated : goal.returns-in-NotKept-clause-seated
+returns-in-NotKept-clause-seated c = λ s.
+    c.replace.ensures.seated (renewed_on c.args.key c.in_ok-hold.ensures.turns.0 c.args.self.now.desk c.renew.new.self _ _ c.args.self.now.links.items c.in_ok-hold.ensures.turns.1 s (renews_keep _ (renewals.NotKept) _ _ c.in-NotKept.is (c.in_ok-hold.ensures.seats s.reached)))
+
+pub returns-in-Closed-clause-seated : goal.returns-in-Closed-clause-seated
+returns-in-Closed-clause-seated c = λ s.
+    closed_end c.close.result c.in-Closed.number c.renew.new.self c.args.self.now.links.items c.close.new.self c.close.ensures.desk c.close.ensures.gone c.close.ensures.others
+    (renewed_out c.args.key c.in_ok-hold.ensures.turns.0 c.args.self.now.desk c.renew.new.self _ _ c.args.self.now.links.items c.in_ok-hold.ensures.turns.1 s c.in-Closed.number (renews_keep _ (renewals.Closed c.in-Closed.number) _ _ c.in-Closed.is (c.in_ok-hold.ensures.seats s.reached)))

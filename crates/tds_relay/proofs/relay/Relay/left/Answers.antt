@@ -76,3 +76,6 @@ returns-clause-ends c = λ reached. left_served c.serve_line.result c.args.key c
 
 pub returns-clause-few : goal.returns-clause-few
 returns-clause-few c = few_behind c.serve_line.result _ _ _ _ _ (most_kept _ _ (c.in_ok-release.ensures.closes.told)) (none_stays _ _ c.in_ok-release.ensures.read) c.serve_line.ensures.few
+
+pub returns-clause-seated : goal.returns-clause-seated
+returns-clause-seated c = λ s. c.serve_line.ensures.seated (c.in_ok-release.ensures.seated s)

@@ -17,6 +17,9 @@ use Rattle.tds_relay.proofs.spared.Shutting.{closes_pushed}
 use Rattle.tds_relay.proofs.spared.Begun.{begins_on, pushed_made}
 use Rattle.tds_relay.proofs.spared.Few.{few_again, few_pushed, none_stays}
 use Rattle.tds_relay.proofs.spared.Lasting.{last_first_on, last_pushed}
+use Rattle.tds_relay.proofs.seats.Relays.{if_had, lasting_seated}
+use Rattle.tds_relay.proofs.seats.Linked.{seated_pushed}
+use Rattle.std.proofs.Common.{false, true, ◌≡◌}
 use Rattle.tds_relay.proofs.relay.Relay.lend.Goals as goal
 
 pub returns-then-served-clause-opens : goal.returns-then-served-clause-opens
@@ -80,3 +83,14 @@ returns-then-served-clause-lasts c =
 
 pub returns-clause-lasts : goal.returns-clause-lasts
 returns-clause-lasts c = inl (last_pushed c.in_ok-link.link _ _ c.in_ok-push.ensures.items)
+
+pub returns-then-served-clause-seated : goal.returns-then-served-clause-seated
+returns-then-served-clause-seated c = λ s.
+    let had : c.args.served.had ≡ true = search rules in
+    c.start_kept.ensures.seated (lasting_seated c.args.self.now c.restart.new.self c.restart.ensures.desk c.restart.ensures.lasts c.restart.ensures.read (if_had true c.args.served.had c.args.served.hold.number c.args.self.now had s))
+
+pub returns-clause-seated : goal.returns-clause-seated
+returns-clause-seated c = λ s.
+    let had : c.args.served.had ≡ false = search rules in
+    seated_pushed c.args.served.hold.number (desk_in c.args.self.now.desk) c.in_ok-link.link c.args.self.now.links.items c.push.new.self.items c.in_ok-push.ensures.items c.in_ok-link.ensures.number
+    (if_had false c.args.served.had c.args.served.hold.number c.args.self.now had s)

@@ -10,6 +10,8 @@ use Rattle.tds_relay.specs.Hall.{change_whose, closes, holder}
 use Rattle.tds_relay.proofs.spared.Apart.{line_loses}
 use Rattle.tds_relay.specs.Closings.{IsWho}
 use Rattle.tds_relay.proofs.spared.Closings.{closes_more_on}
+use Rattle.tds_relay.proofs.seats.Relays.{closed_end}
+use Rattle.tds_relay.proofs.seats.Desks.{lost_seated}
 use Rattle.tds_relay.proofs.relay.Relay.lose.Goals as goal
 
 pub returns-clause-lost : goal.returns-clause-lost
@@ -47,3 +49,8 @@ returns-clause-line c = ok_if c.close.result _ (ap (λ (d : code.Desk). (desk_in
 
 pub returns-clause-closes : goal.returns-clause-closes
 returns-clause-closes c = closes_more_on c.close.result (IsWho c.in_ok-key.key) (IsWho (holder (desk_in c.args.self.now.desk) c.args.number)) _ _ (λ key e. sym c.in_ok-key.ensures.whose ∙ e) c.close.ensures.closes
+
+pub returns-clause-seated : goal.returns-clause-seated
+returns-clause-seated c = λ s.
+    closed_end c.close.result c.args.number c.lose.new.self c.args.self.now.links.items c.close.new.self c.close.ensures.desk c.close.ensures.gone c.close.ensures.others
+    (lost_seated c.args.number (desk_in c.args.self.now.desk) (desk_in c.lose.new.self) _ _ c.args.self.now.links.items c.in_ok-key.ensures.turns s)

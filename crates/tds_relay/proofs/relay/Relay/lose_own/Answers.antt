@@ -7,6 +7,7 @@ use Rattle.tds_relay.specs.Hall.{holder}
 use Rattle.tds_relay.specs.Ties.{desk_in}
 use Rattle.tds_relay.proofs.spared.Closings.{closes_more_on}
 use Rattle.tds_relay.proofs.spared.Begun.{answers_refl}
+use Rattle.tds_relay.proofs.seats.Desks.{off_of}
 use Rattle.tds_relay.proofs.relay.Relay.lose_own.Goals as goal
 
 pub returns-then-holder-key-clause-alone : goal.returns-then-holder-key-clause-alone
@@ -28,3 +29,6 @@ returns-else-holder-key-clause-answers c = answers_refl c.args.self.now.links.it
 
 pub returns-in-None-clause-answers : goal.returns-in-None-clause-answers
 returns-in-None-clause-answers c = answers_refl c.args.self.now.links.items
+
+pub returns-then-holder-key-clause-seated : goal.returns-then-holder-key-clause-seated
+returns-then-holder-key-clause-seated c = λ s. c.lose.ensures.seated (off_of c.args.number (desk_in c.args.self.now.desk) c.args.self.now.links.items s)

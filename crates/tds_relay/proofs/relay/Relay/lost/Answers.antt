@@ -14,6 +14,7 @@ use Rattle.tds_relay.specs.Closings.{IsWaiting, IsWho, WhoOrWaiting}
 use Rattle.tds_relay.specs.Hall.{holder, is_in}
 use Rattle.tds_relay.proofs.spared.Closings.{closes_more, closes_with}
 use Rattle.tds_relay.proofs.spared.Few.{few_behind, most_kept, none_stays}
+use Rattle.tds_relay.proofs.seats.Desks.{off_of}
 use Rattle.tds_relay.proofs.relay.Relay.lost.Goals as goal
 
 pub returns-clause-steps : goal.returns-clause-steps
@@ -51,3 +52,6 @@ returns-clause-closes c = closes_with c.serve_line.result (IsWaiting (desk_in c.
 
 pub returns-clause-few : goal.returns-clause-few
 returns-clause-few c = few_behind c.serve_line.result _ _ _ _ _ (most_kept _ _ (c.in_ok-lose.ensures.closes.told)) (none_stays _ _ c.in_ok-lose.ensures.read) c.serve_line.ensures.few
+
+pub returns-clause-seated : goal.returns-clause-seated
+returns-clause-seated c = λ s. c.serve_line.ensures.seated (c.in_ok-lose.ensures.seated (off_of c.args.number (desk_in c.args.self.now.desk) c.args.self.now.links.items s))

@@ -21,6 +21,7 @@ use Rattle.tds_relay.specs.Reasons.{CannotGoOn, IsOverfull, MayCloseAt, room_lef
 use Rattle.tds_relay.specs.Hall.{End}
 use Rattle.slab.specs.Slab.{get}
 use Rattle.tds_relay.specs.Waiting.{KeepsInLine, KeepsSaid}
+use Rattle.tds_relay.proofs.seats.Relays.{kept_end}
 use Rattle.tds_relay.proofs.relay.Relay.obey.Goals as goal
 
 pub returns-in-Begin-clause-given : goal.returns-in-Begin-clause-given
@@ -221,3 +222,6 @@ returns-in-End-clause-keeps c = λ none.
     ok_more c.go_on-in-End.result _ _
     (λ k. subst (λ (s : Said). KeepsSaid s c.args.bytes.now (get c.args.self.now.applications c.args.key) (body_of c.args.key c.go_on-in-End.new.self)) (sym c.in-End.is)
     (subst (λ (xs : List ℕ). KeepsInLine true xs (get c.args.self.now.applications c.args.key) (body_of c.args.key c.go_on-in-End.new.self)) c.last-in-End.ensures k)) (c.go_on-in-End.ensures.keeps none)
+
+pub returns-in_ok-forget-in-Acknowledge-clause-seated : goal.returns-in_ok-forget-in-Acknowledge-clause-seated
+returns-in_ok-forget-in-Acknowledge-clause-seated c = λ s. kept_end c.acknowledge.result c.forget-in-Acknowledge.new.self c.acknowledge.new.self c.acknowledge.ensures.desk c.acknowledge.ensures.links (c.in_ok-forget-in-Acknowledge.ensures.seated s)

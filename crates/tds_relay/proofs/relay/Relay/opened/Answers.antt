@@ -17,6 +17,10 @@ use Rattle.tds_relay.specs.Sending.{IsToWrite, called_at}
 use Rattle.tds_relay.specs.Hall.{holder, is_in}
 use Rattle.tds_relay.proofs.spared.Closings.{closes_both, closes_more, closes_nobody, closes_with, writes_behind, writes_stay}
 use Rattle.tds_relay.proofs.spared.Few.{few_behind, most_kept, none_both, none_same, none_stays}
+use Rattle.tds_relay.proofs.seats.Relays.{kept_seated, kept_there}
+use Rattle.tds_relay.proofs.seats.Linked.{all_there}
+use Rattle.tds_relay.specs.Ties.{Reaches}
+use Rattle.tds_relay.proofs.steps.Reaching.{ok_more}
 use Rattle.tds_relay.proofs.relay.Relay.opened.Goals as goal
 
 pub returns-clause-steps : goal.returns-clause-steps
@@ -88,3 +92,13 @@ pub returns-clause-writes : goal.returns-clause-writes
 returns-clause-writes c =
     writes_stay c.serve_line.result (IsWaiting (desk_in c.start_on.new.self.desk).line) c.args.number (register_in c.start_on.new.self) (register_in c.serve_line.new.self) c.serve_line.ensures.closes
     (writes_behind (IsWho (holder (desk_in c.order_write_on.new.self.desk) c.args.number)) c.args.number (register_in c.order_write_on.new.self) (register_in c.start_on.new.self) c.in_ok-start_on.ensures.closes c.in_ok-order_write_on.ensures.writes)
+
+pub returns-clause-seated : goal.returns-clause-seated
+returns-clause-seated c = λ s.
+    c.serve_line.ensures.seated (c.in_ok-start_on.ensures.seated (kept_seated c.set_open.new.self c.order_write_on.new.self c.order_write_on.ensures.desk c.in_ok-order_write_on.ensures.links
+    (kept_there c.args.self.now c.set_open.new.self c.set_open.ensures.desk (all_there c.args.self.now.links.items c.set_open.new.self.links.items c.set_open.ensures.waits) s)))
+
+pub returns-clause-goes : goal.returns-clause-goes
+returns-clause-goes c =
+    ok_more c.serve_line.result _ _ (λ g by from h. g by from (c.in_ok-start_on.ensures.goes by from
+    (subst (λ (d : code.Desk). Reaches by from (desk_in d)) (sym (c.order_write_on.ensures.desk ∙ c.set_open.ensures.desk)) h))) c.serve_line.ensures.goes

@@ -82,3 +82,6 @@ returns-clause-closes c =
 
 pub returns-clause-ends : goal.returns-clause-ends
 returns-clause-ends c = λ reached yes. parked_ends c.args.key c.args.self.now c.release.new.self c.serve_line.new.self (c.in_ok-release.ensures.ends reached) c.in_ok-serve_line.ensures.opens
+
+pub returns-clause-seated : goal.returns-clause-seated
+returns-clause-seated c = λ s. c.in_ok-serve_line.ensures.seated (c.in_ok-release.ensures.seated s)

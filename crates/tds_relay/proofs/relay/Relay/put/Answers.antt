@@ -25,6 +25,8 @@ use Rattle.tds_relay.specs.Reasons.{HasNoRoom, Unbegun, Unfit, Unheld, Untaken}
 use Rattle.tds_relay.proofs.spared.Reasons.{for_reason, no_room_there}
 use Rattle.tds_relay.proofs.spared.Begun.{answers_both, answers_from, answers_on, answers_same, answers_unchanged}
 use Rattle.tds_relay.proofs.spared.Lasting.{deaf_last, last_all, last_links, same_last}
+use Rattle.tds_relay.proofs.seats.Relays.{desk_kept, kept_end, lasting_seated}
+use Rattle.tds_relay.proofs.seats.Desks.{gone_on, seated_on}
 use Rattle.tds_relay.proofs.relay.Relay.put.Goals as goal
 
 pub returns-in_default-clause-moves : goal.returns-in_default-clause-moves
@@ -231,3 +233,18 @@ returns-else-fits-clause-closes c =
     for_reason c.fail-else-fits.result c.args.key _ _ _
     (Unfit c.put_on.new.desk after p (no_room_there c.args.whole c.args.bytes.now c.args.key c.args.self.now.desk c.put_on.new.desk after c.args.self.now.links.items c.in-Some.hold p (sym c.hold_of.ensures ∙ c.in-Some.is) none))
     (closes_first c.fail-else-fits.result (Itself c.args.key) _ _ _ c.fail-else-fits.ensures.closes (closes_both Nobody _ _ _ c.note_went_on.ensures.closes c.in_ok-fits.ensures.closes))
+
+pub returns-in_default-clause-seated : goal.returns-in_default-clause-seated
+returns-in_default-clause-seated c = λ s. kept_end c.end.result c.args.self.now c.end.new.self c.end.ensures.desk c.end.ensures.links s
+
+pub returns-then-not-is_put-clause-seated : goal.returns-then-not-is_put-clause-seated
+returns-then-not-is_put-clause-seated c = λ s.
+    c.fail-then-not-is_put.ensures.seated (desk_kept c.put_on.new.desk c.args.self.now.links.items c.note_went_on.new.self c.note_went_on.ensures.desk c.note_went_on.ensures.links (seated_on (desk_in c.args.self.now.desk) (desk_in c.put_on.new.desk) c.args.self.now.links.items (gone_on (desk_in c.args.self.now.desk) (desk_in c.put_on.new.desk) c.in_ok-is_put.ensures.goes) c.in_ok-is_put.ensures.seats s))
+
+pub returns-then-fits-clause-seated : goal.returns-then-fits-clause-seated
+returns-then-fits-clause-seated c = λ s.
+    lasting_seated c.note_went_on.new.self c.fits_on.new.self c.fits_on.ensures.desk c.in_ok-fits.ensures.lasts c.in_ok-fits.ensures.read (desk_kept c.put_on.new.desk c.args.self.now.links.items c.note_went_on.new.self c.note_went_on.ensures.desk c.note_went_on.ensures.links (seated_on (desk_in c.args.self.now.desk) (desk_in c.put_on.new.desk) c.args.self.now.links.items (gone_on (desk_in c.args.self.now.desk) (desk_in c.put_on.new.desk) c.in_ok-is_put.ensures.goes) c.in_ok-is_put.ensures.seats s))
+
+pub returns-else-fits-clause-seated : goal.returns-else-fits-clause-seated
+returns-else-fits-clause-seated c = λ s.
+    c.fail-else-fits.ensures.seated (lasting_seated c.note_went_on.new.self c.fits_on.new.self c.fits_on.ensures.desk c.in_ok-fits.ensures.lasts c.in_ok-fits.ensures.read (desk_kept c.put_on.new.desk c.args.self.now.links.items c.note_went_on.new.self c.note_went_on.ensures.desk c.note_went_on.ensures.links (seated_on (desk_in c.args.self.now.desk) (desk_in c.put_on.new.desk) c.args.self.now.links.items (gone_on (desk_in c.args.self.now.desk) (desk_in c.put_on.new.desk) c.in_ok-is_put.ensures.goes) c.in_ok-is_put.ensures.seats s)))

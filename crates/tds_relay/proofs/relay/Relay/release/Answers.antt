@@ -11,6 +11,7 @@ use Rattle.tds_relay.proofs.spared.Ordered.{ordered_on, ordered_same}
 use Rattle.tds_relay.specs.Closings.{IsWho, Nobody}
 use Rattle.tds_relay.proofs.spared.Closings.{closes_on, closes_with}
 use Rattle.tds_relay.proofs.spared.Cleaned.{left_by, nobody_left, shut_by, waits_none}
+use Rattle.tds_relay.proofs.seats.Relays.{closed_end, left_gone, left_none, left_there}
 use Rattle.tds_relay.proofs.relay.Relay.release.Goals as goal
 
 pub returns-in_default-clause-lets_go : goal.returns-in_default-clause-lets_go
@@ -101,3 +102,14 @@ returns-then-left-clause-fronts c = ends_more c.send_unheld.result _ _ _ c.send_
 
 pub returns-else-left-clause-fronts : goal.returns-else-left-clause-fronts
 returns-else-left-clause-fronts c = ends_more c.close.result _ _ _ c.close.ensures.ends c.let_go.ensures.ends
+
+pub returns-in_default-clause-seated : goal.returns-in_default-clause-seated
+returns-in_default-clause-seated c = λ s. left_none c.args.key c.in_ok-left.ensures.turns.0 c.in_ok-left.ensures.turns.1 c.args.self.now c.let_go.new.self c.leave.new.self c.in_ok-left.left _ _ c.in_ok-left.ensures.turns.2 c.in_ok-left.ensures.seats c.let_go.ensures.desk c.let_go.ensures.links s c.in_default.is
+
+pub returns-then-left-clause-seated : goal.returns-then-left-clause-seated
+returns-then-left-clause-seated c = λ s. c.send_unheld.ensures.seated (left_there c.args.key c.in_ok-left.ensures.turns.0 c.in_ok-left.ensures.turns.1 c.args.self.now c.let_go.new.self c.leave.new.self c.in_ok-left.left _ _ c.in_ok-left.ensures.turns.2 c.in_ok-left.ensures.seats c.let_go.ensures.desk c.let_go.ensures.links s c.in-Some.left c.in-Some.is (search rules))
+
+pub returns-else-left-clause-seated : goal.returns-else-left-clause-seated
+returns-else-left-clause-seated c = λ s.
+    closed_end c.close.result c.in-Some.left.number c.let_go.new.self.desk c.let_go.new.self.links.items c.close.new.self c.close.ensures.desk c.close.ensures.gone c.close.ensures.others
+    (left_gone c.args.key c.in_ok-left.ensures.turns.0 c.in_ok-left.ensures.turns.1 c.args.self.now c.let_go.new.self c.leave.new.self c.in_ok-left.left _ _ c.in_ok-left.ensures.turns.2 c.in_ok-left.ensures.seats c.let_go.ensures.desk c.let_go.ensures.links s c.in-Some.left c.in-Some.is (search rules))

@@ -14,6 +14,8 @@ use Rattle.tds_relay.proofs.steps.Going.{waits_from}
 use Rattle.tds_relay.specs.Closings.{IsWho, Itself}
 use Rattle.tds_relay.proofs.spared.Closings.{closes_first, closes_more_on}
 use Rattle.tds_relay.proofs.spared.Reasons.{for_any}
+use Rattle.tds_relay.proofs.seats.Relays.{closed_end, desk_lasting, renewed_on, renewed_out, renews_keep}
+use Rattle.tds_relay.specs.declared.desk.leaving.Renewed.TheVariants as renewals
 use Rattle.tds_relay.proofs.relay.Relay.renew.Goals as goal
 
 pub returns-in-Kept-clause-goes : goal.returns-in-Kept-clause-goes
@@ -95,3 +97,20 @@ returns-in-Closed-clause-closes c = closes_more_on c.close.result (IsWho (Some c
 
 pub returns-else-has_transaction-clause-closes : goal.returns-else-has_transaction-clause-closes
 returns-else-has_transaction-clause-closes c = for_any c.change.result c.args.key _ _ _ c.change.ensures.closes
+
+pub returns-in-Kept-clause-seated : goal.returns-in-Kept-clause-seated
+returns-in-Kept-clause-seated c = λ s.
+    c.start_kept.ensures.seated (desk_lasting c.renew.new.self c.args.self.now.links.items c.restart.new.self c.restart.ensures.desk c.restart.ensures.lasts c.restart.ensures.read (renewed_on c.args.key c.in_ok-hold.ensures.turns.0 c.args.self.now.desk c.renew.new.self _ _ c.args.self.now.links.items c.in_ok-hold.ensures.turns.1 s (renews_keep _ (renewals.Kept c.in-Kept.hold) _ _ c.in-Kept.is (c.in_ok-hold.ensures.seats s.reached))))
+
+pub returns-then-has_transaction-clause-seated : goal.returns-then-has_transaction-clause-seated
+returns-then-has_transaction-clause-seated c = λ s.
+    c.expel.ensures.seated (renewed_on c.args.key c.in_ok-hold.ensures.turns.0 c.args.self.now.desk c.renew.new.self _ _ c.args.self.now.links.items c.in_ok-hold.ensures.turns.1 s (renews_keep _ (renewals.NotKept) _ _ c.in-NotKept.is (c.in_ok-hold.ensures.seats s.reached)))
+
+pub returns-else-has_transaction-clause-seated : goal.returns-else-has_transaction-clause-seated
+returns-else-has_transaction-clause-seated c = λ s.
+    c.change.ensures.seated (renewed_on c.args.key c.in_ok-hold.ensures.turns.0 c.args.self.now.desk c.renew.new.self _ _ c.args.self.now.links.items c.in_ok-hold.ensures.turns.1 s (renews_keep _ (renewals.NotKept) _ _ c.in-NotKept.is (c.in_ok-hold.ensures.seats s.reached)))
+
+pub returns-in-Closed-clause-seated : goal.returns-in-Closed-clause-seated
+returns-in-Closed-clause-seated c = λ s.
+    closed_end c.close.result c.in-Closed.number c.renew.new.self c.args.self.now.links.items c.close.new.self c.close.ensures.desk c.close.ensures.gone c.close.ensures.others
+    (renewed_out c.args.key c.in_ok-hold.ensures.turns.0 c.args.self.now.desk c.renew.new.self _ _ c.args.self.now.links.items c.in_ok-hold.ensures.turns.1 s c.in-Closed.number (renews_keep _ (renewals.Closed c.in-Closed.number) _ _ c.in-Closed.is (c.in_ok-hold.ensures.seats s.reached)))

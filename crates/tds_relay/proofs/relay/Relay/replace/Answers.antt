@@ -22,6 +22,8 @@ use Rattle.tds_relay.specs.Hall.{lets_go}
 use Rattle.tds_relay.proofs.bytes.SetAnew.{any_keeps, any_kept, any_refl}
 use Rattle.tds_relay.specs.Lent.{KeepsAnswers}
 use Rattle.tds_relay.specs.Coming.{MayBeginAny}
+use Rattle.tds_relay.proofs.seats.Relays.{closed_end, closed_seated, desk_but}
+use Rattle.tds_relay.proofs.seats.Desks.{lost_seated, off_of}
 use Rattle.tds_relay.proofs.relay.Relay.replace.Goals as goal
 
 pub returns-in_default-clause-goes : goal.returns-in_default-clause-goes
@@ -127,3 +129,15 @@ returns-clause-begins c =
     let gone : KeepsAnswers c.args.self.now.links.items c.close_link-2.new.self.links.items =
     subst (λ (ls : List Link). KeepsAnswers ls c.close_link-2.new.self.links.items) c.let_go.ensures.links c.in_ok-close_link.ensures.answers in
     ok_if c.wait.result _ (subst (λ (ls : List Link). MayBeginAny c.args.self.now.links.items ls) (sym c.wait.ensures.links) (any_keeps _ _ gone))
+
+pub returns-then-not-may_replace-clause-seated : goal.returns-then-not-may_replace-clause-seated
+returns-then-not-may_replace-clause-seated c = λ s. c.lose.ensures.seated (off_of c.args.number (desk_in c.args.self.now.desk) c.args.self.now.links.items s)
+
+pub returns-in_default-clause-seated : goal.returns-in_default-clause-seated
+returns-in_default-clause-seated c = λ s.
+    closed_end c.close_link.result c.args.number c.lose-2.new.self c.args.self.now.links.items c.close_link.new.self c.close_link.ensures.desk c.close_link.ensures.gone c.close_link.ensures.others (lost_seated c.args.number (desk_in c.args.self.now.desk) (desk_in c.lose-2.new.self) _ _ c.args.self.now.links.items c.in_ok-holder.ensures.turns (off_of c.args.number (desk_in c.args.self.now.desk) c.args.self.now.links.items s))
+
+pub returns-clause-seated : goal.returns-clause-seated
+returns-clause-seated c = λ s.
+    c.wait.ensures.seated (closed_seated c.args.number c.let_go.new.self.desk c.let_go.new.self.links.items c.close_link-2.new.self c.close_link-2.ensures.desk c.in_ok-close_link.ensures.gone c.in_ok-close_link.ensures.others
+    (desk_but c.args.number c.lose-2.new.self c.args.self.now.links.items c.let_go.new.self c.let_go.ensures.desk c.let_go.ensures.links (lost_seated c.args.number (desk_in c.args.self.now.desk) (desk_in c.lose-2.new.self) _ _ c.args.self.now.links.items c.in_ok-holder.ensures.turns (off_of c.args.number (desk_in c.args.self.now.desk) c.args.self.now.links.items s))))

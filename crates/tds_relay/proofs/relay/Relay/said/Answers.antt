@@ -53,3 +53,9 @@ returns-clause-closes c =
     let all = ForReasonOrWaiting c.args.key c.args.piece.now c.args.self.now in
     closes_with c.serve_line.result (IsWaiting (desk_in c.take_all.new.self.desk).line) all _ _ _ (lent_behind c.args.key c.args.piece.now c.args.self.now c.take_all.new.self c.in_ok-take_all.ensures.carries c.in_ok-take_all.ensures.goes) c.serve_line.ensures.closes
     (closes_more _ all _ _ (λ other x. inl x) c.in_ok-take_all.ensures.closes)
+
+pub returns-clause-seated : goal.returns-clause-seated
+returns-clause-seated c = λ s. c.serve_line.ensures.seated (c.in_ok-take_all.ensures.seated s)
+
+pub returns-clause-goes : goal.returns-clause-goes
+returns-clause-goes c = ok_more c.serve_line.result _ _ (λ g from h. g (Application c.args.key) from (c.in_ok-take_all.ensures.goes from h)) c.serve_line.ensures.goes

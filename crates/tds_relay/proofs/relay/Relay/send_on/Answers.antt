@@ -1,3 +1,4 @@
+use Rattle.std.proofs.Common.{false}
 use Rattle.std.proofs.Common.{ap, inl, rules, subst, sym, ◌∙◌}
 use Rattle.tds_relay.specs.Ties.{desk_in, IsReached}
 use Rattle.tds_relay.proofs.steps.Fronts.{moves_same}
@@ -14,6 +15,8 @@ use Rattle.tds_relay.proofs.spared.Only.{spares_lost_on, spares_on, spares_same}
 use Rattle.tds_relay.specs.Fronts.{hall_in}
 use Rattle.std.specs.Prelude.{None}
 use Rattle.tds_relay.proofs.spared.Begun.{answers_on}
+use Rattle.tds_relay.proofs.seats.Relays.{but_lasting, lasting_seated, lost_but}
+use Rattle.tds_relay.proofs.seats.Desks.{off_of}
 use Rattle.tds_relay.proofs.relay.Relay.send_on.Goals as goal
 
 pub returns-else-fits-clause-read : goal.returns-else-fits-clause-read
@@ -68,3 +71,17 @@ returns-else-fits-clause-spares c =
 
 pub returns-else-fits-clause-answers : goal.returns-else-fits-clause-answers
 returns-else-fits-clause-answers c = answers_on c.lose.result _ _ _ c.in_ok-fits.ensures.answers c.lose.ensures.answers
+
+pub returns-then-fits-clause-seated : goal.returns-then-fits-clause-seated
+returns-then-fits-clause-seated c = λ s. lasting_seated c.args.self.now c.fits_on.new.self c.fits_on.ensures.desk c.in_ok-fits.ensures.lasts c.in_ok-fits.ensures.read s
+
+pub returns-else-fits-clause-seated : goal.returns-else-fits-clause-seated
+returns-else-fits-clause-seated c = λ s. c.lose.ensures.seated (off_of c.args.number (desk_in c.fits_on.new.self.desk) c.fits_on.new.self.links.items (lasting_seated c.args.self.now c.fits_on.new.self c.fits_on.ensures.desk c.in_ok-fits.ensures.lasts c.in_ok-fits.ensures.read s))
+
+pub returns-then-fits-clause-gone : goal.returns-then-fits-clause-gone
+returns-then-fits-clause-gone c = λ s. but_lasting c.args.number false c.args.self.now c.fits_on.new.self c.fits_on.ensures.desk c.in_ok-fits.ensures.lasts c.in_ok-fits.ensures.read s
+
+pub returns-else-fits-clause-gone : goal.returns-else-fits-clause-gone
+returns-else-fits-clause-gone c = λ s.
+    lost_but c.lose.result c.args.number c.lose.new.self c.lose.ensures.gone
+    (c.lose.ensures.seated (but_lasting c.args.number false c.args.self.now c.fits_on.new.self c.fits_on.ensures.desk c.in_ok-fits.ensures.lasts c.in_ok-fits.ensures.read s).off)

@@ -7,6 +7,7 @@ use Rattle.tds_relay.proofs.bytes.Calls.{stand_from}
 use Rattle.tds_relay.specs.Closings.{Itself}
 use Rattle.tds_relay.proofs.spared.Closings.{closes_first, closes_nobody}
 use Rattle.tds_relay.proofs.spared.Reasons.{for_reason}
+use Rattle.tds_relay.proofs.seats.Relays.{lasting_seated}
 use Rattle.tds_relay.proofs.relay.Relay.send_stop.Goals as goal
 
 pub returns-else-fits-clause-read : goal.returns-else-fits-clause-read
@@ -33,3 +34,9 @@ returns-then-fits-clause-closes c = closes_nobody _ _ _ c.in_ok-fits.ensures.clo
 
 pub returns-else-fits-clause-closes : goal.returns-else-fits-clause-closes
 returns-else-fits-clause-closes c = for_reason c.fail.result c.args.key _ _ _ (c.in_ok-fits.ensures.no_room (search rules)) (closes_first c.fail.result (Itself c.args.key) _ _ _ c.fail.ensures.closes c.in_ok-fits.ensures.closes)
+
+pub returns-then-fits-clause-seated : goal.returns-then-fits-clause-seated
+returns-then-fits-clause-seated c = λ s. lasting_seated c.args.self.now c.fits_on.new.self c.fits_on.ensures.desk c.in_ok-fits.ensures.lasts c.in_ok-fits.ensures.read s
+
+pub returns-else-fits-clause-seated : goal.returns-else-fits-clause-seated
+returns-else-fits-clause-seated c = λ s. c.fail.ensures.seated (lasting_seated c.args.self.now c.fits_on.new.self c.fits_on.ensures.desk c.in_ok-fits.ensures.lasts c.in_ok-fits.ensures.read s)

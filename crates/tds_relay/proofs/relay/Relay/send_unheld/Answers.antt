@@ -14,6 +14,8 @@ use Rattle.tds_relay.specs.Desk.{find_number, key_of}
 use Rattle.tds_relay.specs.Fronts.{ends_in}
 use Rattle.tds_relay.proofs.spared.Cleaned.{not_both}
 use Rattle.tds_relay.proofs.steps.Staying.{filled_by, gone_filled}
+use Rattle.tds_relay.proofs.seats.Relays.{lasting_seated}
+use Rattle.tds_relay.proofs.seats.Desks.{off_of}
 use Rattle.tds_relay.proofs.relay.Relay.send_unheld.Goals as goal
 
 pub returns-in-None-clause-read : goal.returns-in-None-clause-read
@@ -63,3 +65,12 @@ returns-in-None-clause-puts c = λ none. ok_more c.lose.result _ _ (λ g. gone_f
 pub returns-in-None-clause-ends : goal.returns-in-None-clause-ends
 returns-in-None-clause-ends c = ends_more c.lose.result _ _ _ c.lose.ensures.ends
     (ap (λ (o : Option ℕ). change_whose o closes (ends_in c.fits_on.new.self.applications)) (sym c.key_on.ensures ∙ c.in-None.is) ∙ c.in_ok-fits.ensures.ends)
+
+pub returns-then-fits-clause-seated : goal.returns-then-fits-clause-seated
+returns-then-fits-clause-seated c = λ s. lasting_seated c.args.self.now c.fits_on.new.self c.fits_on.ensures.desk c.in_ok-fits.ensures.lasts c.in_ok-fits.ensures.read s
+
+pub returns-in-Some-clause-seated : goal.returns-in-Some-clause-seated
+returns-in-Some-clause-seated c = λ s. lasting_seated c.args.self.now c.fits_on.new.self c.fits_on.ensures.desk c.in_ok-fits.ensures.lasts c.in_ok-fits.ensures.read s
+
+pub returns-in-None-clause-seated : goal.returns-in-None-clause-seated
+returns-in-None-clause-seated c = λ s. c.lose.ensures.seated (off_of c.args.number (desk_in c.fits_on.new.self.desk) c.fits_on.new.self.links.items (lasting_seated c.args.self.now c.fits_on.new.self c.fits_on.ensures.desk c.in_ok-fits.ensures.lasts c.in_ok-fits.ensures.read s))

@@ -13,6 +13,10 @@ use Rattle.tds_relay.proofs.spared.Lines.{served_waited}
 use Rattle.tds_relay.proofs.spared.Closings.{closes_both, closes_more, closes_refl}
 use Rattle.tds_relay.proofs.spared.Lasting.{last_both, last_more, last_start}
 use Rattle.tds_relay.proofs.spared.Few.{few_lent, most_kept, none_refl}
+use Rattle.std.proofs.Common.{subst}
+use Rattle.tds_relay.specs.Ties.{Serving}
+use Rattle.tds_relay.proofs.seats.Desks.{unserved}
+use Rattle.tds_relay.proofs.seats.Relays.{lent_if}
 use Rattle.tds_relay.proofs.relay.Relay.serve_line.Goals as goal
 
 pub line-init : goal.line-init
@@ -31,6 +35,7 @@ line-init c =
       few = inl (none_refl old.links.items);
       shorter = zero-add (length old.desk.line.items);
       lasting = last_start may (register_in old);
+      seated = λ s. s;
       closes = closes_refl may (register_in old);
     }
 
@@ -64,6 +69,9 @@ line-preserved c = record {
       (served_waited (hall_in c.args.self.now) (hall_in c.line.self) _ c.in-Some.served c.line.invariant.unserved c.in_ok-served.ensures.ok.1 c.in-Some.is) c.in_ok-lend-in-Some.ensures.lasts);
   unserved =
       unserved_on _ _ _ _ _ c.in-Some.served _ _ c.line.invariant.unserved c.in_ok-served.ensures.ok.1 c.in-Some.is c.in_ok-served.ensures.ok.0 refl c.in_ok-lend-in-Some.ensures.alone;
+  seated = λ s.
+      c.in_ok-lend-in-Some.ensures.seated
+      (lent_if c.line.self.desk c.serve.new.self c.in-Some.served c.in-Some.served.had _ _ _ refl refl c.in_ok-served.ensures.ok.0 (subst (Serving (desk_in c.line.self.desk)) c.in-Some.is c.in_ok-served.ensures.ok.1) (c.line.invariant.seated s));
 }
 
 pub returns-in-None-clause-apart : goal.returns-in-None-clause-apart
@@ -86,3 +94,7 @@ returns-then-is_full-clause-apart c = λ key e. (c.line.invariant.unserved.was k
 
 pub returns-then-is_full-clause-served : goal.returns-then-is_full-clause-served
 returns-then-is_full-clause-served c = inr (c.is_full.ensures.full (search rules))
+
+pub returns-in-None-clause-seated : goal.returns-in-None-clause-seated
+returns-in-None-clause-seated c = λ s.
+    unserved (desk_in c.line.self.desk) (desk_in c.serve.new.self) _ _ c.line.self.links.items c.in_ok-served.ensures.ok.0 (subst (Serving (desk_in c.line.self.desk)) c.in-None.is c.in_ok-served.ensures.ok.1) (c.line.invariant.seated s)

@@ -10,6 +10,7 @@ use Rattle.tds_relay.specs.Ties.{GoesOn, desk_in}
 use Rattle.tds_relay.specs.Walkers.{AllStand}
 use Rattle.tds_relay.proofs.spared.Apart.{Unserved}
 use Rattle.tds_relay.specs.Closings.{ClosesOnly, IsWaiting, register_in}
+use Rattle.tds_relay.specs.Few.{IsSeated}
 use Rattle.tds_relay.proofs.relay.Relay.serve_line.Given as goal
 
 abbrev pub invariant-line : goal.invariant-line
@@ -26,4 +27,5 @@ invariant-line l = record {
   shorter : l.turn + length l.self.desk.line.items ≡ length l.fn.self.desk.line.items;
   lasting : LastBut (IsWaiting (desk_in l.fn.self.desk).line) (register_in l.fn.self) (register_in l.self);
   closes : ClosesOnly (IsWaiting (desk_in l.fn.self.desk).line) (register_in l.fn.self) (register_in l.self);
+  seated : IsSeated l.fn.self → IsSeated l.self;
 }

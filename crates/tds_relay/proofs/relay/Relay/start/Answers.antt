@@ -23,6 +23,8 @@ use Rattle.tds_relay.proofs.spared.Begun.{answers_refl, answers_unchanged}
 use Rattle.tds_relay.specs.Closings.{Itself, register_in}
 use Rattle.tds_relay.proofs.spared.Ended.{its_name}
 use Rattle.tds_relay.proofs.spared.Lasting.{last_closed, last_named, last_start, same_but}
+use Rattle.tds_relay.proofs.seats.Relays.{kept_end, desk_seated}
+use Rattle.tds_relay.proofs.seats.Desks.{deed_seated}
 use Rattle.tds_relay.proofs.relay.Relay.start.Goals as goal
 
 pub returns-in-Ok-clause-goes : goal.returns-in-Ok-clause-goes
@@ -207,3 +209,12 @@ returns-in-Ok-clause-lasts c =
 pub returns-in-Err-clause-lasts : goal.returns-in-Err-clause-lasts
 returns-in-Err-clause-lasts c =
     last_closed c.fail.result c.args.key c.in-Some.application.now.tag (register_in c.args.self.now) (register_in c.fail.new.self) (its_name c.args.self.now c.args.key c.in-Some.application.now c.in-Some.ensures c.if-application.false) c.fail.ensures.over
+
+pub returns-in-Ok-clause-seated : goal.returns-in-Ok-clause-seated
+returns-in-Ok-clause-seated c = λ s. c.put_held.ensures.seated (deed_seated c.args.key Asks (desk_in c.args.self.now.desk) (desk_in c.ask.new.self) _ _ c.args.self.now.links.items c.in-Ok.ensures.ok s)
+
+pub returns-in-Err-clause-seated : goal.returns-in-Err-clause-seated
+returns-in-Err-clause-seated c = λ s. c.fail.ensures.seated (desk_seated (desk_in c.args.self.now.desk) (desk_in c.ask.new.self) c.args.self.now.links.items c.in-Err.ensures.err s)
+
+pub returns-in_default-hold_of-clause-seated : goal.returns-in_default-hold_of-clause-seated
+returns-in_default-hold_of-clause-seated c = λ s. kept_end c.end.result c.args.self.now c.end.new.self c.end.ensures.desk c.end.ensures.links s

@@ -4,6 +4,10 @@ use Rattle.tds_relay.specs.Ties.{Application}
 use Rattle.tds_relay.proofs.steps.Fronts.{moves_does, moves_same}
 use Rattle.tds_relay.proofs.steps.Reaching.{reaches_turn}
 use Rattle.tds_relay.proofs.spared.Reasons.{asked_not, is_asked}
+use Rattle.tds_relay.proofs.seats.Relays.{desk_seated}
+use Rattle.tds_relay.proofs.seats.Desks.{deed_seated}
+use Rattle.tds_relay.specs.Ties.{desk_in}
+use Rattle.tds_relay.specs.Desk.{Stops}
 use Rattle.tds_relay.proofs.relay.Relay.stop.Goals as goal
 
 pub returns-then-matches-clause-goes : goal.returns-then-matches-clause-goes
@@ -49,3 +53,15 @@ returns-else-matches-clause-none c =
       answers = c.in-Ok.ensures.how.1;
       not_asked = asked_not c.in-Ok.how not;
     })
+
+pub returns-then-matches-clause-seated : goal.returns-then-matches-clause-seated
+returns-then-matches-clause-seated c = λ s. deed_seated c.args.key Stops (desk_in c.args.self.now.desk) (desk_in c.cancel.new.self) _ _ c.args.self.now.links.items c.in-Ok.ensures.ok s
+
+pub returns-else-matches-clause-seated : goal.returns-else-matches-clause-seated
+returns-else-matches-clause-seated c = λ s. deed_seated c.args.key Stops (desk_in c.args.self.now.desk) (desk_in c.cancel.new.self) _ _ c.args.self.now.links.items c.in-Ok.ensures.ok s
+
+pub returns-in_ok-unless_memory-in-Err-clause-seated : goal.returns-in_ok-unless_memory-in-Err-clause-seated
+returns-in_ok-unless_memory-in-Err-clause-seated c = λ s. desk_seated (desk_in c.args.self.now.desk) (desk_in c.cancel.new.self) c.args.self.now.links.items c.in-Err.ensures.err s
+
+pub returns-in_err-unless_memory-in-Err-clause-seated : goal.returns-in_err-unless_memory-in-Err-clause-seated
+returns-in_err-unless_memory-in-Err-clause-seated c = λ s. desk_seated (desk_in c.args.self.now.desk) (desk_in c.cancel.new.self) c.args.self.now.links.items c.in-Err.ensures.err s

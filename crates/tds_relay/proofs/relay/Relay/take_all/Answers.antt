@@ -31,6 +31,7 @@ taking-init c = record {
   closes = closes_refl (ItselfFor c.args.key (HasReason c.args.key c.args.piece.now c.args.self.now)) (register_in c.args.self.now);
   carries = carries_begin c.args.key (house_in c.args.self.now) c.args.piece.now (body_of c.args.key c.args.self.now);
   stand = λ n r h. h;
+  seated = λ s. s;
 }
 
 pub taking-preserved : goal.taking-preserved
@@ -45,6 +46,7 @@ taking-preserved c = record {
       (closes_more _ (ItselfFor c.args.key (HasReason c.args.key c.args.piece.now c.args.self.now)) _ _ (λ other x. (x.0, ByPiece c.taking.self c.taking.rest.now c.taking.invariant.carries x.1)) c.in_ok-count.ensures.closes);
   carries = carries_left c.args.key _ _ _ _ _ _ _ c.behind-rest.ensures (c.in_ok-count.ensures.carries (house_in c.args.self.now) c.args.piece.now (body_of c.args.key c.args.self.now) c.taking.invariant.carries);
   stand = λ n r h. c.in_ok-count.ensures.stand n r (c.taking.invariant.stand n r h);
+  seated = λ s. c.in_ok-count.ensures.seated (c.taking.invariant.seated s);
 }
 
 pub returns-clause-tells : goal.returns-clause-tells

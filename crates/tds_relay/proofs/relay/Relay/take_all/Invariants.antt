@@ -9,6 +9,7 @@ use Rattle.tds_relay.specs.Taking.{Tells}
 use Rattle.tds_relay.specs.Ties.{Application, Goes, desk_in}
 use Rattle.tds_relay.specs.Walkers.{AllStand}
 use Rattle.tds_relay.specs.Closings.{ClosesOnly, register_in}
+use Rattle.tds_relay.specs.Few.{IsSeated}
 use Rattle.tds_relay.proofs.relay.Relay.take_all.Given as goal
 
 abbrev pub invariant-taking : goal.invariant-taking
@@ -22,4 +23,5 @@ invariant-taking l = record {
   read : Stays l.fn.self.links.items l.self.links.items;
   stand : AllStand l.fn.self.desk.service l.self.desk.service;
   closes : ClosesOnly (ItselfFor l.fn.key (HasReason l.fn.key l.fn.piece l.fn.self)) (register_in l.fn.self) (register_in l.self);
+  seated : IsSeated l.fn.self → IsSeated l.self;
 }

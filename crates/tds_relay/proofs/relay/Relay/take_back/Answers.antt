@@ -16,6 +16,9 @@ use Rattle.tds_relay.specs.Closings.{Itself, Nobody}
 use Rattle.tds_relay.proofs.spared.Closings.{closes_both, closes_first}
 use Rattle.tds_relay.specs.Reasons.{HasNoRoom}
 use Rattle.tds_relay.proofs.spared.Reasons.{for_reason, for_that, halts_unfit, none_of, some_of}
+use Rattle.tds_relay.proofs.seats.Relays.{kept_seated, unwaited}
+use Rattle.tds_relay.specs.declared.desk.Desk as code
+use Rattle.tds_relay.specs.Ties.{Reaches}
 use Rattle.tds_relay.proofs.relay.Relay.take_back.Goals as goal
 
 pub returns-in-Some-clause-moves : goal.returns-in-Some-clause-moves
@@ -108,3 +111,14 @@ returns-in-None-clause-closes c =
       cannot = inl (none_of _ _ c.in-None.is c.in_ok-number.ensures.none);
     })
     (closes_first c.expel.result (Itself c.args.key) _ _ _ c.expel.ensures.closes (closes_both Nobody _ _ _ c.forget_request.ensures.closes c.stop.ensures.closes))
+
+pub returns-in-Some-clause-seated : goal.returns-in-Some-clause-seated
+returns-in-Some-clause-seated c = λ s. c.send_for.ensures.seated (kept_seated c.stop.new.self c.withdraw.new.self c.withdraw.ensures.desk c.withdraw.ensures.links (c.stop.ensures.seated (unwaited c.args.key c.args.self.now.desk c.forget_request.new.self c.args.self.now.links.items c.forget_request.ensures.turns c.forget_request.ensures.service c.forget_request.ensures.links s)))
+
+pub returns-in-None-clause-seated : goal.returns-in-None-clause-seated
+returns-in-None-clause-seated c = λ s. c.expel.ensures.seated (c.stop.ensures.seated (unwaited c.args.key c.args.self.now.desk c.forget_request.new.self c.args.self.now.links.items c.forget_request.ensures.turns c.forget_request.ensures.service c.forget_request.ensures.links s))
+
+pub returns-in-Some-clause-goes : goal.returns-in-Some-clause-goes
+returns-in-Some-clause-goes c =
+    ok_more c.send_for.result _ _ (λ g from h. g (Application c.args.key) from
+    (subst (λ (d : code.Desk). Reaches (Application c.args.key) from (desk_in d)) (sym c.withdraw.ensures.desk) (c.stop.ensures.goes from (c.forget_request.ensures.goes from h)))) c.send_for.ensures.goes

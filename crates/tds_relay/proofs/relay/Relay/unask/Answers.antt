@@ -5,6 +5,10 @@ use Rattle.tds_relay.proofs.steps.Fronts.{moves_closes, moves_does}
 use Rattle.tds_relay.proofs.steps.Reaching.{ok_more, reaches_turn}
 use Rattle.tds_relay.proofs.bytes.Calls.{stand_on}
 use Rattle.tds_relay.proofs.spared.Reasons.{for_reason, for_that, stops_unfit}
+use Rattle.tds_relay.proofs.seats.Relays.{desk_seated}
+use Rattle.tds_relay.proofs.seats.Desks.{deed_seated}
+use Rattle.tds_relay.specs.Ties.{desk_in}
+use Rattle.tds_relay.specs.Desk.{Stops}
 use Rattle.tds_relay.proofs.relay.Relay.unask.Goals as goal
 
 pub returns-then-not-has_nothing_out-clause-moves : goal.returns-then-not-has_nothing_out-clause-moves
@@ -40,3 +44,9 @@ returns-in_ok-unless_memory-in-Err-clause-closes c =
 
 pub returns-then-not-has_nothing_out-clause-closes : goal.returns-then-not-has_nothing_out-clause-closes
 returns-then-not-has_nothing_out-clause-closes c = for_reason c.expel.result c.args.key _ _ _ (inl (c.has_nothing_out.ensures.out (search rules))) c.expel.ensures.closes
+
+pub returns-in-Ok-clause-seated : goal.returns-in-Ok-clause-seated
+returns-in-Ok-clause-seated c = λ s. c.send_for.ensures.seated (deed_seated c.args.key Stops (desk_in c.args.self.now.desk) (desk_in c.cancel.new.self) _ _ c.args.self.now.links.items c.in-Ok.ensures.ok s)
+
+pub returns-in_ok-unless_memory-in-Err-clause-seated : goal.returns-in_ok-unless_memory-in-Err-clause-seated
+returns-in_ok-unless_memory-in-Err-clause-seated c = λ s. c.expel-in-Err.ensures.seated (desk_seated (desk_in c.args.self.now.desk) (desk_in c.cancel.new.self) c.args.self.now.links.items c.in-Err.ensures.err s)

@@ -5,6 +5,8 @@ use Rattle.tds_relay.proofs.steps.Underway.{in_line}
 use Rattle.tds_relay.proofs.spared.Lined.{stands_last}
 use Rattle.tds_relay.specs.Fronts.{hall_in}
 use Rattle.tds_relay.proofs.spared.Only.{spares_refl, spares_waits}
+use Rattle.tds_relay.proofs.seats.Relays.{serviced_seated}
+use Rattle.tds_relay.specs.Desk.{Waits}
 use Rattle.tds_relay.proofs.relay.Relay.wait.Goals as goal
 
 pub returns-then-is_away-clause-goes : goal.returns-then-is_away-clause-goes
@@ -25,3 +27,6 @@ returns-then-is_away-clause-spares c = ok_more c.wait.result _ _ (λ t number. s
 
 pub returns-else-is_away-clause-spares : goal.returns-else-is_away-clause-spares
 returns-else-is_away-clause-spares c = λ number. spares_refl number _ (hall_in c.args.self.now)
+
+pub returns-then-is_away-clause-seated : goal.returns-then-is_away-clause-seated
+returns-then-is_away-clause-seated c = λ s. ok_more c.wait.result _ _ (λ t. serviced_seated (Waits c.args.key) c.args.self.now.desk c.wait.new.self c.args.self.now.links.items _ _ t c.wait.ensures.service s) c.wait.ensures.ok

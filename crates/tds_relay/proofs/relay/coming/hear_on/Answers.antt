@@ -51,3 +51,9 @@ returns-in-Err-clause-known c = inl refl
 
 pub returns-clause-known : goal.returns-clause-known
 returns-clause-known c = subst (λ (r : Reading). KnowsOn r c.args.link.now.answer c.hear_packet.new.link.answer) c.feed.ensures.taken c.in_ok-heard.ensures.known
+
+pub returns-in-Err-clause-seats : goal.returns-in-Err-clause-seats
+returns-in-Err-clause-seats c = λ reached n. refl
+
+pub returns-clause-seats : goal.returns-clause-seats
+returns-clause-seats c = λ reached. c.in_ok-heard.ensures.seats reached

@@ -19,6 +19,7 @@ use Rattle.tds_relay.proofs.bytes.Reader.{has_read}
 use Rattle.tds_relay.proofs.steps.Renaming.{names_handed}
 use Rattle.tds_relay.specs.Posts.{names_of}
 use Rattle.tds_relay.proofs.steps.Bodied.{asks_kept}
+use Rattle.tds_relay.proofs.seats.Counting.{stays_refl}
 use Rattle.tds_relay.proofs.relay.coming.hear_packet.Goals as goal
 
 -- where it isn't handed on
@@ -229,3 +230,21 @@ pub returns-clause-known : goal.returns-clause-known
 returns-clause-known c =
     knows_by c.news_for-news.result.is_cut c.news_for-news.result.is_owed c.args.link.now.reader c.args.link.now.answer c.in-Some.packet.header c.in-Some.packet.«data».now c.hand_on.new.answer c.in-Some.ensures.lent
     c.in_ok-hand_on.ensures.known
+
+pub returns-in_default-clause-seats : goal.returns-in_default-clause-seats
+returns-in_default-clause-seats c = λ reached. stays_refl c.args.number (desk_in c.args.desk.now).service
+
+pub returns-then-matches-clause-seats : goal.returns-then-matches-clause-seats
+returns-then-matches-clause-seats c = λ reached. c.in_ok-heard.ensures.seats reached
+
+pub returns-in_default-key-clause-seats : goal.returns-in_default-key-clause-seats
+returns-in_default-key-clause-seats c = λ reached. c.in_ok-heard.ensures.seats reached
+
+pub returns-in_default-get_mut-clause-seats : goal.returns-in_default-get_mut-clause-seats
+returns-in_default-get_mut-clause-seats c = λ reached. c.in_ok-heard.ensures.seats reached
+
+pub returns-then-not-hears-clause-seats : goal.returns-then-not-hears-clause-seats
+returns-then-not-hears-clause-seats c = λ reached. c.in_ok-heard.ensures.seats reached
+
+pub returns-clause-seats : goal.returns-clause-seats
+returns-clause-seats c = λ reached. c.in_ok-heard.ensures.seats reached

@@ -9,6 +9,8 @@ use Rattle.tds_relay.proofs.steps.Going.{holds_stay, puts_last, puts_part}
 use Rattle.tds_relay.specs.Desk.{Desk, Puts}
 use Rattle.tds_relay.proofs.spared.Apart.{line_does}
 use Rattle.tds_relay.specs.Reasons.{OfBytes, OfEnd}
+use Rattle.tds_relay.proofs.seats.Desks.{both_keep, deed_keeps, desk_keeps}
+use Rattle.tds_relay.specs.Desk.{Ends}
 use Rattle.tds_relay.proofs.relay.putting.put_on.Goals as goal
 
 pub returns-then-not-whole-clause-goes : goal.returns-then-not-whole-clause-goes
@@ -91,3 +93,19 @@ returns-in_ok-unless_memory-in-Err-finish-clause-untaken c = λ e.
     OfEnd (search rules) c.put.new.self c.args.out.now.items c.put.new.out.items
     (puts_part c.args.bytes.now c.args.key c.args.desk.now c.put.new.self _ _ _ c.in-Ok.ensures.whose (holds_stay c.args.key _ (desk_in c.args.desk.now) (desk_in c.put.new.self) _ _ c.in-Ok.ensures.ok.1) c.in-Ok.ensures.puts)
     (record { refusal = c.in-Err-finish.refusal; reason = c.in_ok-unless_memory-in-Err-finish.ensures; refuses = c.in-Err-finish.ensures.refused })
+
+pub returns-then-not-whole-clause-seats : goal.returns-then-not-whole-clause-seats
+returns-then-not-whole-clause-seats c = deed_keeps c.args.key (Puts c.in-Ok.ensures.ok.0) (desk_in c.args.desk.now) (desk_in c.put.new.self) _ _ c.in-Ok.ensures.ok.1
+
+pub returns-in-Ok-finish-clause-seats : goal.returns-in-Ok-finish-clause-seats
+returns-in-Ok-finish-clause-seats c = both_keep (desk_in c.args.desk.now).service (desk_in c.put.new.self).service (desk_in c.finish.new.self).service
+    (deed_keeps c.args.key (Puts c.in-Ok.ensures.ok.0) (desk_in c.args.desk.now) (desk_in c.put.new.self) _ _ c.in-Ok.ensures.ok.1)
+    (deed_keeps c.args.key (Ends c.in-Ok-finish.ensures.ok.0) (desk_in c.put.new.self) (desk_in c.finish.new.self) _ _ c.in-Ok-finish.ensures.ok.1)
+
+pub returns-in_ok-unless_memory-in-Err-finish-clause-seats : goal.returns-in_ok-unless_memory-in-Err-finish-clause-seats
+returns-in_ok-unless_memory-in-Err-finish-clause-seats c = both_keep (desk_in c.args.desk.now).service (desk_in c.put.new.self).service (desk_in c.finish.new.self).service
+    (deed_keeps c.args.key (Puts c.in-Ok.ensures.ok.0) (desk_in c.args.desk.now) (desk_in c.put.new.self) _ _ c.in-Ok.ensures.ok.1)
+    (desk_keeps (desk_in c.put.new.self) (desk_in c.finish.new.self) c.in-Err-finish.ensures.err)
+
+pub returns-in-Err-clause-seats : goal.returns-in-Err-clause-seats
+returns-in-Err-clause-seats c = desk_keeps (desk_in c.args.desk.now) (desk_in c.put.new.self) c.in-Err.ensures.err
