@@ -16,6 +16,7 @@ use Rattle.std.proofs.Common.{inl}
 use Rattle.tds_relay.proofs.spared.Closings.{closes_more, closes_with}
 use Rattle.tds_relay.proofs.spared.Reasons.{lent_behind}
 use Rattle.tds_relay.proofs.spared.Few.{few_behind, most_kept, none_stays}
+use Rattle.tds_relay.proofs.spared.Speaking.{others_served}
 use Rattle.tds_relay.proofs.relay.Relay.said.Goals as goal
 
 pub returns-clause-steps : goal.returns-clause-steps
@@ -53,3 +54,6 @@ returns-clause-closes c =
     let all = ForReasonOrWaiting c.args.key c.args.piece.now c.args.self.now in
     closes_with c.serve_line.result (IsWaiting (desk_in c.take_all.new.self.desk).line) all _ _ _ (lent_behind c.args.key c.args.piece.now c.args.self.now c.take_all.new.self c.in_ok-take_all.ensures.carries c.in_ok-take_all.ensures.goes) c.serve_line.ensures.closes
     (closes_more _ all _ _ (λ other x. inl x) c.in_ok-take_all.ensures.closes)
+
+pub returns-clause-others : goal.returns-clause-others
+returns-clause-others c = others_served c.serve_line.result c.args.key c.args.self.now c.take_all.new.self c.serve_line.new.self c.in_ok-take_all.ensures.goes c.in_ok-take_all.ensures.others c.serve_line.ensures.goes_on
