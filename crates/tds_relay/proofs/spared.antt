@@ -19,6 +19,8 @@ pub mod Resting
 pub mod Sending
 pub mod Reasons
 pub mod Shutting
+pub mod Speaking
 pub mod Starting
+pub mod Undone
 pub mod Waits
 pub mod Waking

@@ -320,10 +320,10 @@ IsNotPut (desk.Puts count) = ⊥
 IsNotPut (desk.Ends count) = ⊥
 IsNotPut desk.Stops = Unit {0}
 
--- Nobody waits who holds a connection, or waits already; and who waits does so until it asks nothing. A request is asked where its reset is
--- done. Who keeps a transaction by another lease asks for the reset that does so. What else moves an end isn't done alone.
+-- Nobody waits who has begun no request, holds a connection, or waits already; who waits does so until it asks nothing. A request is asked
+-- where its reset is done. Who keeps a transaction by another lease asks for the reset that does so. What else moves an end isn't done alone.
 abbrev pub MayDoAlone : Hall → Event → Type 0
-MayDoAlone h (desk.Waits key) = IsAway h key
+MayDoAlone h (desk.Waits key) = IsAway h key × IfOpen IsBegun (end_at h.ends key)
 MayDoAlone h (desk.Unwaits key) = IfOpen AsksNothing (end_at h.ends key)
 MayDoAlone h desk.Serves = Unit {0}
 MayDoAlone h (desk.Brings gives way) = Unit {0}

@@ -17,7 +17,9 @@ use Rattle.tds_service.specs.declared.refusal.Refusal.{Refusal}
 use Rattle.tds_service.specs.declared.refusal.Refusal.TheVariants as refusals
 use Rattle.tds_service.specs.Service as calls
 use Rattle.tds_service.specs.Service.{Call}
-use Rattle.tds_service.specs.Table.{Answers, Refuses, reading_on, service_in}
+use Rattle.tds_service.specs.Table.{Answers, Opens, Refuses, reading_on, service_in}
+use Rattle.tds_client.specs.declared.message.MessageKind.{MessageKind}
+use Rattle.tds_client.specs.Streams.{packets_are}
 use Rattle.tds_client.specs.declared.state.Cancelled.{Cancelled}
 use Rattle.tds_client.specs.declared.state.Cancelled.TheVariants.{Asked}
 use Rattle.tds_service.specs.Ties.{cancel_answer}
@@ -33,6 +35,7 @@ use Rattle.tds_relay.specs.Asking.{IsTakenBack}
 use Rattle.tds_relay.specs.Bodies.{Astray, Body, Carries, ClientPuts, ClientStops, Closed, Going, Kept, Nowhere, body_of, last_of}
 use Rattle.tds_relay.specs.Cleaning.{MayClean}
 use Rattle.tds_relay.specs.Closings.{IsNoRequest, IsWaiting}
+use Rattle.tds_relay.specs.Desk as desk
 use Rattle.tds_relay.specs.Desk.{find_key}
 use Rattle.tds_relay.specs.Fronts.{ends_in, house_in}
 use Rattle.tds_relay.specs.Hall.{End, Ends, IfOpen, Open, Over, asks_by, end_at}
@@ -41,7 +44,7 @@ use Rattle.tds_relay.specs.House.{House}
 use Rattle.tds_relay.specs.Posts.{Post, Posts, acknowledgement, fits, give, post_at, post_in, posts_in}
 use Rattle.tds_relay.specs.Reads.{Streams, StreamsAll, link_at, open_at}
 use Rattle.tds_relay.specs.Taking.{IsDeaf}
-use Rattle.tds_relay.specs.Ties.{Leaving, desk_in}
+use Rattle.tds_relay.specs.Ties.{Leaving, Turns, desk_in}
 use Rattle.tds_relay.specs.Told.{room_to_keep}
 
 -- ---- Bytes of a request aren't put on the connection that its application holds
@@ -56,11 +59,17 @@ IsReason refusals.NotSending = Unit {0}
 IsReason refusals.Broken = Unit {0}
 IsReason refusals.Memory = ⊥
 
--- What the service does by this call it refuses of that connection.
+-- The application holds a connection, and what the service does by this call it refuses of that.
 pub record RefusesThere (call : ℕ → ℕ → Call Token) (key : ℕ) (d : desks.Desk) : Type 0 where
+  pub hold : Hold
+  pub its : find_key key d.holds.items ≡ Some hold
   pub refusal : Refusal
   pub reason : IsReason refusal
-  pub refuses : (hold : Hold) → find_key key d.holds.items ≡ Some hold → (count : ℕ) → Refuses (call hold.lease count) (service_in d.service) refusal
+  pub refuses : (count : ℕ) → Refuses (call hold.lease count) (service_in d.service) refusal
+
+-- It holds none.
+abbrev pub IsUnheld : ℕ → desks.Desk → Type 0
+IsUnheld key d = find_key key d.holds.items ≡ None
 
 -- These bytes are refused; or they are taken, and the end of their message is refused.
 pub data IsUntaken (whole : Bool) (more : List ℕ) (key : ℕ) (d : desks.Desk) : Type 0 where
@@ -80,7 +89,7 @@ abbrev pub HasNoRoom : ℕ → List ℕ → List Link → Type 0
 HasNoRoom number bytes links = option_map (λ (l : Link). fits (post_in l.out) bytes) (link_at number links) ≡ Some false
 
 pub data CannotPut (whole : Bool) (more : List ℕ) (key : ℕ) (end : Option End) (d : desks.Desk) (links : List Link) : Type 0 where
-  Unheld : find_key key d.holds.items ≡ None → CannotPut whole more key end d links
+  Unheld : IsUnheld key d → CannotPut whole more key end d links
   Unbegun : IfOpen (IsUnbegun whole) end → CannotPut whole more key end d links
   Untaken : IsUntaken whole more key d → CannotPut whole more key end d links
   -- its client puts them, and what goes out by that doesn't fit
@@ -94,17 +103,37 @@ room_left None = 0
 room_left (Some a) = room_to_keep a
 
 -- They are more than may be kept of a request that waits; or this waits no longer, where its application holds a connection: that may not
--- take it.
+-- take it; or none has begun.
 abbrev pub CannotGoOn : Bool → List ℕ → ℕ → Option End → ℕ → desks.Desk → List Link → Body → Type 0
 CannotGoOn whole more key end room d links Closed = Unit {0}
 CannotGoOn whole more key end room d links Nowhere = Unit {0}
-CannotGoOn whole more key end room d links (Kept kind bytes was) = (room < length more) ⊎ IsSome (find_key key d.holds.items)
+CannotGoOn whole more key end room d links (Kept kind bytes was) = (room < length more) ⊎ (IsSome (find_key key d.holds.items) ⊎ IfOpen (IsUnbegun false) end)
 CannotGoOn whole more key end room d links Astray = CannotPut whole more key end d links
 CannotGoOn whole more key end room d links (Going number client waits) = CannotPut whole more key end d links
 
 -- with what a relay has
 abbrev pub CannotGoOnAt : Bool → List ℕ → ℕ → code.Relay → Type 0
 CannotGoOnAt whole more key r = CannotGoOn whole more key (end_at (ends_in r.applications) key) (room_left (get r.applications key)) r.desk r.links.items (body_of key r)
+
+-- ---- A request that waits isn't asked on the connection that its application holds
+
+-- That is refused; or it is asked, and what was kept of it isn't put.
+pub data CannotAsk (kind : MessageKind) (bytes : List ℕ) (whole : Bool) (key : ℕ) (end : Option End) (d : desks.Desk) (links : List Link) : Type 0 where
+  Unkept : IsUnheld key d → CannotAsk kind bytes whole key end d links
+  Unasked : RefusesThere (λ lease count. calls.Ask lease) key d → CannotAsk kind bytes whole key end d links
+  Unput : (hold : Hold) → find_key key d.holds.items ≡ Some hold → (mid : desks.Desk) → Turns (desk.Does key desk.Asks) (desk_in d) (desk_in mid) [] [] → Opens kind hold.lease d.service mid.service
+      → CannotPut whole bytes key end mid links → CannotAsk kind bytes whole key end d links
+
+abbrev pub CannotStart : ℕ → Option End → desks.Desk → List Link → Body → Type 0
+CannotStart key end d links Closed = ⊥
+CannotStart key end d links Nowhere = ⊥
+CannotStart key end d links (Kept kind bytes whole) = CannotAsk kind bytes whole key end d links
+CannotStart key end d links Astray = ⊥
+CannotStart key end d links (Going number client waits) = ⊥
+
+-- with what a relay has
+abbrev pub CannotStartAt : ℕ → code.Relay → Type 0
+CannotStartAt key r = CannotStart key (end_at (ends_in r.applications) key) r.desk r.links.items (body_of key r)
 
 -- ---- A request can't begin
 
@@ -121,12 +150,12 @@ pub data CannotPart (key : ℕ) (end : Option End) (d : desks.Desk) : Type 0 whe
   Out : IfOpen HasGoneOut end → CannotPart key end d
   Held : (mid : desks.Desk) → Leaving key (desk_in d) (desk_in mid) → IsSome (find_key key mid.holds.items) → CannotPart key end d
 
--- Packets of its type are no request. Or it would be asked on the connection that its application holds; but one that asks for a full reset
--- is parted from that.
-abbrev pub CannotBegin : Kind → Option Reset → ℕ → Option End → desks.Desk → Type 0
-CannotBegin kind None key end d = IsNoRequest kind ⊎ IsSome (find_key key d.holds.items)
-CannotBegin kind (Some KeepTransaction) key end d = IsNoRequest kind ⊎ IsSome (find_key key d.holds.items)
-CannotBegin kind (Some Full) key end d = IsNoRequest kind ⊎ CannotPart key end d
+-- Packets of its type are no request. Or it isn't asked on the connection that its application holds; or that has to stay; or one that asks
+-- for a full reset isn't parted from it.
+abbrev pub CannotBegin : Kind → Option Reset → ℕ → Option End → desks.Desk → List Link → Type 0
+CannotBegin kind None key end d links = IsNoRequest kind ⊎ ((message : MessageKind) × (packets_are message ≡ kind) × CannotAsk message [] false key end d links)
+CannotBegin kind (Some KeepTransaction) key end d links = IsNoRequest kind ⊎ IsSome (find_key key d.holds.items)
+CannotBegin kind (Some Full) key end d links = IsNoRequest kind ⊎ CannotPart key end d
 
 -- ---- It can't be taken back
 
@@ -151,7 +180,7 @@ pub record StopsUnfit (key : ℕ) (d : desks.Desk) (links : List Link) : Type 0 
   pub no_room : HasNoRoom stops.hold.number out links
 
 abbrev pub IsUnstopped : ℕ → desks.Desk → Type 0
-IsUnstopped key d = IsUncancelled key d ⊎ StopsNothing key d
+IsUnstopped key d = IsUnheld key d ⊎ (IsUncancelled key d ⊎ StopsNothing key d)
 
 abbrev pub CannotStop : ℕ → desks.Desk → List Link → Type 0
 CannotStop key d links = IsUnstopped key d ⊎ StopsUnfit key d links
@@ -167,10 +196,18 @@ pub record WaitsNoMore (Cannot : desks.Desk → Type 0) (d : desks.Desk) : Type 
   pub service : mid.service ≡ d.service
   pub cannot : Cannot mid
 
+-- It is said to go on, and its application holds no connection; or this is to be closed.
+abbrev pub IsAstray : Body → Type 0
+IsAstray Closed = Unit {0}
+IsAstray Nowhere = ⊥
+IsAstray (Kept kind bytes whole) = ⊥
+IsAstray Astray = Unit {0}
+IsAstray (Going number client waits) = ⊥
+
 -- of which something has gone on or not
-abbrev pub CannotForget : Bool → ℕ → Option End → desks.Desk → List Link → Type 0
-CannotForget false key end d links = WaitsNoMore (λ mid. CannotUnask key end mid links) d
-CannotForget true key end d links = WaitsNoMore (λ mid. CannotStop key mid links) d
+abbrev pub CannotForget : Bool → ℕ → Option End → desks.Desk → List Link → Body → Type 0
+CannotForget false key end d links body = IsAstray body ⊎ WaitsNoMore (λ mid. CannotUnask key end mid links) d
+CannotForget true key end d links body = WaitsNoMore (λ mid. CannotStop key mid links) d
 
 -- More would wait for it than may.
 abbrev pub IsOverfull : Option Post → Type 0
@@ -181,11 +218,11 @@ IsOverfull post = option_map (λ (p : Post). p.is_full) post ≡ Some true
 -- A request can't begin, its bytes can't go on, or it can't be taken back; by what says nothing nobody is closed.
 abbrev pub MayClose : Said → List ℕ → ℕ → Option End → ℕ → desks.Desk → List Link → Posts → Body → Type 0
 MayClose said.Nothing taken key end room d links posts body = ⊥
-MayClose (said.Begin kind reset) taken key end room d links posts body = CannotBegin kind reset key end d
+MayClose (said.Begin kind reset) taken key end room d links posts body = CannotBegin kind reset key end d links
 MayClose (said.Body count) taken key end room d links posts body = CannotGoOn false (last_of count taken) key end room d links body
 MayClose (said.End count) taken key end room d links posts body = CannotGoOn true (last_of count taken) key end room d links body
-MayClose (said.Forget gone) taken key end room d links posts body = CannotForget gone key end d links
-MayClose said.Acknowledge taken key end room d links posts body = CannotForget false key end d links ⊎ IsOverfull (post_at (give key acknowledgement posts) key)
+MayClose (said.Forget gone) taken key end room d links posts body = CannotForget gone key end d links body
+MayClose said.Acknowledge taken key end room d links posts body = CannotForget false key end d links body ⊎ IsOverfull (post_at (give key acknowledgement posts) key)
 MayClose said.HandOn taken key end room d links posts body = CannotStop key d links
 
 -- with what a relay has; this is its end

@@ -5,13 +5,15 @@ use Rattle.tds_client.specs.Session.{ClientSession}
 use Rattle.tds_client.specs.Streams.{opened}
 use Rattle.tds_service.specs.declared.service.Service as services
 use Rattle.tds_service.specs.Service.{Seat, Service, has_lease}
-use Rattle.tds_service.specs.Table.{client_of, service_in}
+use Rattle.tds_service.specs.Table.{client_of, reading_on, service_in}
 use Rattle.tds_relay.specs.declared.desk.Desk as desks
 use Rattle.tds_relay.specs.declared.desk.Hold.{Hold}
+use Rattle.tds_relay.specs.declared.desk.leaving.Renewed.{Renewed}
+use Rattle.tds_relay.specs.declared.desk.leaving.Renewed.TheVariants as renewals
 use Rattle.tds_relay.specs.declared.relay.Relay as code
 use Rattle.tds_relay.specs.Asking.{IsTakenBack}
 use Rattle.tds_relay.specs.Bodies.{ArePut, Astray, Body, Closed, Going, Kept, Nowhere, Spared, Starts, body_of}
-use Rattle.tds_relay.specs.Desk.{find_key}
+use Rattle.tds_relay.specs.Desk.{find_key, without_lease}
 use Rattle.tds_relay.specs.Fronts.{ends_in}
 use Rattle.tds_relay.specs.Hall.{end_at}
 use Rattle.tds_relay.specs.Promises.{Each}
@@ -65,6 +67,15 @@ AsideStay but number old new =
     (lease : ℕ) (client : ClientSession) → lease ≢ but → IsAside lease number (service_in old) → client_of lease old ≡ Some client
     → client_of lease new ≡ Some client
 
+-- An application keeps its connection by another lease, the last one that is held; or nothing has changed; or that connection is there no
+-- more.
+abbrev pub IsRenewed : Renewed → ℕ → desks.Desk → desks.Desk → Type 0
+IsRenewed (renewals.Kept hold) key old new =
+    (was : Hold) × (find_key key old.holds.items ≡ Some was) × (hold.key ≡ key) × (new.holds.items ≡ without_lease was.lease old.holds.items ++ hold ∷ [])
+IsRenewed renewals.NotKept key old new = desk_in new ≡ desk_in old
+IsRenewed (renewals.Closed number) key old new =
+    (was : Hold) × (find_key key old.holds.items ≡ Some was) × (number ≡ was.number) × (IsLed (service_in old.service) → reading_on number new.service ≡ None)
+
 -- ---- At a relay
 
 -- It stays, or its application is to be closed; of one that is astray nothing is said.
@@ -87,6 +98,10 @@ SendsOn number old new =
 -- Each stays or starts, where the desk was reached by events.
 pub record AllGo (old new : code.Relay) : Type 0 where
   pub go : IsReached (desk_in old.desk) → (key : ℕ) → Starts (body_of key old) (body_of key new)
+
+-- or each but that of one application
+pub record OthersGo (key : ℕ) (old new : code.Relay) : Type 0 where
+  pub go : IsReached (desk_in old.desk) → (other : ℕ) → other ≢ key → Starts (body_of other old) (body_of other new)
 
 -- ---- A request that has waited
 

@@ -11,8 +11,8 @@ use Rattle.tds_relay.specs.declared.desk.coming.What.TheVariants as whats
 use Rattle.tds_relay.specs.declared.relay.Relay as code
 use Rattle.tds_relay.specs.Bodies.{Body, Kept, body_of, last_of}
 use Rattle.tds_relay.specs.Desk.{find_key}
-use Rattle.tds_relay.specs.Fronts.{ends_in}
-use Rattle.tds_relay.specs.Hall.{AsksFor, end_at, is_in}
+use Rattle.tds_relay.specs.Fronts.{end_of, ends_in}
+use Rattle.tds_relay.specs.Hall.{AsksFor, IfOpen, IsBegun, end_at, is_in}
 use Rattle.tds_relay.specs.Sparing.{IsHeldBack, IsUnkept}
 use Rattle.tds_relay.specs.Taking.{IsDeaf}
 use Rattle.tds_relay.specs.Told.{room_to_keep}
@@ -36,11 +36,12 @@ abbrev pub IsNotAcknowledged : Option Heard → Type 0
 IsNotAcknowledged None = Unit {0}
 IsNotAcknowledged (Some heard) = heard.what ≢ whats.Acknowledged
 
--- These bytes of a request that stands in the line are kept behind the others, where they are no more than may be kept.
+-- These bytes of a request that has begun and stands in the line are kept behind the others, where they are no more than may be kept.
 abbrev pub KeepsInLine : Bool → List ℕ → Option Application → Body → Type 0
 KeepsInLine whole more None new = Unit {0}
 KeepsInLine whole more (Some a) new =
-    a.is_over ≡ false → length more ≤ room_to_keep a → (kind : MessageKind) (was : Bool) → a.asking ≡ asking.Waits kind was → new ≡ Kept kind (a.held.items ++ more) whole
+    a.is_over ≡ false → length more ≤ room_to_keep a → (kind : MessageKind) (was : Bool) → a.asking ≡ asking.Waits kind was → IfOpen IsBegun (Some (end_of a))
+    → new ≡ Kept kind (a.held.items ++ more) whole
 
 -- So are those of one that goes on or ends, by what is said of them.
 abbrev pub KeepsSaid : Said → List ℕ → Option Application → Body → Type 0

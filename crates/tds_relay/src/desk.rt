@@ -1,5 +1,6 @@
 //! Who holds which connection of a service, and whose requests wait for one.
-ghost use Rattle.std.specs.Prelude.{◌≡◌, [], ℕ, IfOk, OnOk, OnErr, length, option_copied, option_map, true};
+ghost use Rattle.std.specs.Prelude.{◌≡◌, [], ℕ, IfOk, OnOk, OnErr, false, length, option_copied, option_map};
+ghost use Rattle.std.specs.Prelude.{true};
 ghost use Rattle.tds_service.specs.Service.{Seat, is_open, seat_numbered};
 ghost use Rattle.tds_service.specs.Sizes.{AllSized};
 ghost use Rattle.tds_service.specs.Table.{place_of};
@@ -248,8 +249,10 @@ impl Desk {
 
     /// Whether the next request on the connection of this number begins a session there.
     fn begins_anew(&self, number: u64) -> bool
-        ensures { result ≡ true
+        ensures anew { result ≡ true
             → Resets Full (seat_numbered number (desk_in self.now).service.seats) }
+        ensures not_anew { result ≡ false
+            → ¬ Resets Full (seat_numbered number (desk_in self.now).service.seats) }
     {
         match self.service.begins_anew_on(number) {
             Some(begins) => begins,
@@ -260,8 +263,10 @@ impl Desk {
     /// Whether a reset is done with the next request on the connection of this number: the session begins with
     /// it, or the reset that keeps a transaction is asked for.
     pub fn resets_on(&self, number: u64, reset: Reset) -> bool
-        ensures { result ≡ true
+        ensures resets { result ≡ true
             → Resets reset (seat_numbered number (desk_in self.now).service.seats) }
+        ensures resets_not { result ≡ false
+            → ¬ Resets reset (seat_numbered number (desk_in self.now).service.seats) }
     {
         if self.begins_anew(number) {
             return true;

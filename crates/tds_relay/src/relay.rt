@@ -11,7 +11,7 @@ ghost use Rattle.tds_relay.specs.Bounds.{waiting_for};
 ghost use Rattle.tds_relay.specs.Closings.{ClosesOnly, Nobody, register_in};
 ghost use Rattle.tds_relay.specs.Desk.{find_key, find_number, key_of, new_desk};
 ghost use Rattle.tds_relay.specs.Fronts.{Moved, ends_in, hall_in, house_in};
-ghost use Rattle.tds_relay.specs.Hall.{IfOpen, IsAway, IsHere, MayPart, change_end, end_at};
+ghost use Rattle.tds_relay.specs.Hall.{IfOpen, IsAway, IsBegun, IsHere, MayPart, change_end, end_at};
 ghost use Rattle.tds_relay.specs.Hall.{Open, lets_go};
 ghost use Rattle.tds_relay.specs.House.{Steps, new_house};
 ghost use Rattle.tds_relay.specs.Places.{HasNoTransaction, begun_in, holder};
@@ -29,6 +29,7 @@ ghost use Rattle.tds_relay.specs.declared.outgoing.TheConstants.{PIECE};
 ghost use Rattle.tds_relay.specs.Few.{IsSeated};
 
 mod asking;
+mod beginning;
 mod bringing;
 mod coming;
 mod leaving;
@@ -282,15 +283,17 @@ impl Relay {
         }
     }
 
-    /// Whether an application may be parted from its connection: nothing of its request has gone on, and this
-    /// asks for a full reset, or for one that keeps its transaction where none is open.
+    /// Whether an application may be parted from its connection: its request has begun, nothing of it has gone on,
+    /// and it asks for a full reset, or for one that keeps its transaction where none is open.
     fn may_part(&self, key: usize) -> bool
-        ensures { result ≡ true → MayPart (hall_in self.now) key }
+        ensures parts { result ≡ true → MayPart (hall_in self.now) key }
+        ensures begun { result ≡ true
+            → IfOpen IsBegun (end_at (ends_in self.now.applications) key) }
     {
         let Some(application) = self.applications.get(key) else {
             return false;
         };
-        if !application.has_nothing_out() {
+        if !application.has_nothing_out() || !application.may_put(false) {
             return false;
         }
         application.asks_full() || (application.asks_kept() && !self.has_transaction(key))
@@ -313,6 +316,7 @@ impl Relay {
         ensures orders { self.new.orders.items ≡ self.old.orders.items }
         ensures kept { posts_in self.new.applications ≡ posts_in self.old.applications }
         ensures moves { OnOk result ((by : Cause) → CausesRequest by key
+            → IfOpen IsBegun (end_at (ends_in self.old.applications) key)
             → Moved by (hall_in self.old) (hall_in self.new)) }
         ensures underway { find_key key (desk_in self.old.desk).holds ≡ None
             → OnOk result ((whole : Bool)

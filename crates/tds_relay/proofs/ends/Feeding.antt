@@ -102,7 +102,7 @@ gone_goes stages.Stopping next k h = absurd k
 gone_goes (stages.Broken fault) next k h = absurd k
 
 plain_here : (stage : Stage) (deed : Deed) (next : Stage) → FitsDeed stage deed next → IsPlain deed → IsHere stage → IsHere next
-plain_here stage (deeds.Begin kind reset) next f plain here = f.1
+plain_here stage (deeds.Begin kind reset) next f plain here = f.1.0
 plain_here stage deeds.Go next f plain here = here_goes stage next f here
 plain_here stage (deeds.Forget gone) next f plain here = here_quiet next f.0
 plain_here stage deeds.Acknowledge next f plain here = here_quiet next f.0

@@ -101,7 +101,7 @@ module _ (h : Hall) (key : ℕ) (sound : Sound h.desk) (sit : AllSit h.desk) (k 
   comes n part way false e = inl (others (desk.Comes n part way) e)
 
   alone : (event : Event) → MayDoAlone h event → Keeps (hall.Does event)
-  alone (desk.Waits other) may = waits other (other == key) refl may
+  alone (desk.Waits other) may = waits other (other == key) refl may.0
   alone (desk.Unwaits other) may = inl (others (desk.Unwaits other) tt)
   alone desk.Serves may = inl (others desk.Serves tt)
   alone (desk.Brings gives way) may = inl (others (desk.Brings gives way) tt)
@@ -135,9 +135,9 @@ by_desk h key sound sit (inr absent) move may = λ hold e.
     absurd (let v : ⊥ = cc in v)
 
 once : (h : Hall) (key : ℕ) (event : Event) → MayDoAlone h event → WaitsOnce key h.desk event
-once h key (desk.Waits other) away = λ is. (
-  subst (λ (x : ℕ). find_key x h.desk.holds ≡ None) is away.holds,
-  subst (λ (x : ℕ). places x h.desk.line ≡ []) is (no_place other h.desk.line away.waits),
+once h key (desk.Waits other) may = λ is. (
+  subst (λ (x : ℕ). find_key x h.desk.holds ≡ None) is may.0.holds,
+  subst (λ (x : ℕ). places x h.desk.line ≡ []) is (no_place other h.desk.line may.0.waits),
 )
 once h key (desk.Unwaits other) may = tt
 once h key desk.Serves may = tt

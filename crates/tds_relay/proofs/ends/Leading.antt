@@ -17,7 +17,7 @@ use Rattle.tds_front.specs.Passing.{Event, Packet, Refuses, GoesOn, Says, EndsWh
 use Rattle.tds_front.specs.Rules as rules
 use Rattle.tds_front.specs.Rules.{taken}
 use Rattle.tds_front.specs.Serving.{Place, Ready, Executing, Happening, Comes, Goes, Closes, IsLawful, behind_brought, behind_reply}
-use Rattle.tds_relay.specs.Hall.{IsHere}
+use Rattle.tds_relay.specs.Hall.{IsBegun, IsHere}
 
 -- ---- One list behind the other
 
@@ -106,7 +106,7 @@ ForgetsFrom stages.Stopping gone = ⊥
 ForgetsFrom (stages.Broken fault) gone = ⊥
 
 abbrev pub FitsDeed : Stage → Deed → Stage → Type 0
-FitsDeed stage (deeds.Begin kind reset) next = (stage ≡ stages.Quiet) × IsHere next
+FitsDeed stage (deeds.Begin kind reset) next = (stage ≡ stages.Quiet) × (IsHere next × IsBegun next)
 FitsDeed stage deeds.Go next = KeepsGone stage next
 FitsDeed stage (deeds.Forget gone) next = (next ≡ stages.Quiet) × ForgetsFrom stage gone
 FitsDeed stage deeds.Acknowledge next = (next ≡ stages.Quiet) × IsHere stage
@@ -127,6 +127,10 @@ here_if : (b : Bool) (kind : Kind) → IsHere (if b then stages.Underway false e
 here_if true kind = refl
 here_if false kind = refl
 
+begun_if : (b : Bool) (kind : Kind) → IsBegun (if b then stages.Underway false else stages.Receiving kind false)
+begun_if true kind = tt
+begun_if false kind = tt
+
 keeps_if : (b : Bool) (kind : Kind) (gone : Bool) → KeepsGone (stages.Receiving kind gone) (if b then stages.Underway gone else stages.Receiving kind gone)
 keeps_if true kind gone = refl
 keeps_if false kind gone = refl
@@ -142,7 +146,7 @@ begins_fit head =
     let ignored : Move = if has_bit status 2 then rules.forgets false status else empty in
     if_fits stages.Quiet (has_both_resets status) (rules.breaks faults.BothResets) ignored tt
     (if_fits stages.Quiet (has_bit status 2) (rules.forgets false status) empty (forgets_fit stages.Quiet false status refl)
-    (if_fits stages.Quiet (head.count == 0) (rules.breaks faults.EmptyPart) begin tt (refl, here_if (has_bit status 1) head.kind)))
+    (if_fits stages.Quiet (head.count == 0) (rules.breaks faults.EmptyPart) begin tt (refl, (here_if (has_bit status 1) head.kind, begun_if (has_bit status 1) head.kind))))
 
 goes_fit : (kind : Kind) (gone : Bool) (head : Head) → Fits (stages.Receiving kind gone) (rules.goes_on kind gone head)
 goes_fit kind gone head =

@@ -143,7 +143,7 @@ module _ (h : Hall) (key : ℕ) (outs outs2 : ℕ → Bool) (sound : Sound h.des
 
   alone_steps : (event : Event) (p : Place) → MayDoAlone h event → StoryOf outs d key p o → LeavesBy (hall.Does event) → Steps (hall.Does event) p
   alone_steps (desk.Waits k) p may s leaves =
-      waits_if d key outs outs2 sound sit k (k == key) p o refl s (away_of k may) (left_of d key outs outs2 sound sit (desk.Waits k) leaves)
+      waits_if d key outs outs2 sound sit k (k == key) p o refl s (away_of k may.0) (left_of d key outs outs2 sound sit (desk.Waits k) leaves)
   alone_steps (desk.Unwaits k) p may s leaves =
       apart_step d key outs outs2 sound sit (desk.Unwaits k) p o s (λ n. tt) tt tt (left_of d key outs outs2 sound sit (desk.Unwaits k) leaves)
   alone_steps desk.Serves p may s leaves =

@@ -13,7 +13,7 @@ use Rattle.tds_service.specs.Service as calls
 use Rattle.tds_service.specs.Service.{Call, Cleaning, Draining, Free, Kept, Leased, Place, Reply, Seat, Service, Step, acts_unless, does, find_by, has_lease, has_number, is_lendable, nothing, rests, step}
 use Rattle.tds_service.specs.Table.{KeepsClients, KeepsClientsOff, client_of, service_in}
 use Rattle.tds_service.specs.declared.service.Service as services
-use Rattle.tds_relay.specs.Desk.{Desk, find_key, find_lease, new_desk, without_lease}
+use Rattle.tds_relay.specs.Desk.{Desk, find_key, find_lease, new_desk, without_lease, without_number}
 use Rattle.tds_relay.specs.Promises.{Each, CaresFor, IsCaredFor}
 use Rattle.tds_relay.specs.Sparing.{AsideStay, Held, IsAside, OthersHold, held_by}
 use Rattle.tds_relay.specs.Ties.{IsReached, desk_in}
@@ -25,7 +25,7 @@ use Rattle.tds_relay.proofs.promises.Caring.{Sound}
 use Rattle.tds_relay.proofs.promises.Holding.{found_by_lease, none_above}
 use Rattle.tds_relay.proofs.promises.Seats.{Fits, each_changed, each_found, each_weaker, found_meets}
 use Rattle.tds_relay.proofs.promises.Tidy.{Tidy, step_rises}
-use Rattle.tds_relay.proofs.spared.Held.{client_found, holds_on, is_held, kept_key, lease_apart, not_equal, off_others, sound_at}
+use Rattle.tds_relay.proofs.spared.Held.{added_key, client_found, holds_on, is_held, kept_key, lease_apart, not_equal, off_others, sound_at}
 use Rattle.tds_relay.specs.Fronting.{calls_along}
 use Rattle.tds_relay.proofs.steps.Calling.{service_along}
 
@@ -73,6 +73,12 @@ module _ (lease number : ℕ) where
         (each_does (suc s.given) test c (Some (Cleaning (suc s.given))) (line.Mark Full ∷ []) (calls.Lent (suc s.given) c.number true) e
         (λ is. absurd (let same : suc s.given ≡ lease = eqb-true (suc s.given) lease is in let u : ⊥ = omega (arith, same, le) in u))) apart
 
+    each_keeps : (test : Seat → Bool) (o : Option Seat) → find_by test s.seats ≡ o → Each Apart (calls.keeps_it {T = Token} s test o).service.seats
+    each_keeps test None e = apart
+    each_keeps test (Some c) e =
+        each_if (calls.may_keep c) (does s (suc s.given) test c (Some (Kept (suc s.given))) [] (calls.Ticket (suc s.given))) (nothing s calls.NotNow)
+        (each_does (suc s.given) test c (Some (Kept (suc s.given))) [] (calls.Ticket (suc s.given)) e (λ is. absurd (let u : false ≡ true = is in let v : ⊥ = cc in v))) apart
+
   -- such a call
   abbrev pub IsMild : Call Token → Type 0
   IsMild calls.Lease = ⊥
@@ -84,7 +90,7 @@ module _ (lease number : ℕ) where
   IsMild (calls.GiveBack other) = Unit {0}
   IsMild (calls.Clean m) = Unit {0}
   IsMild (calls.Cleaned other) = ⊥
-  IsMild (calls.Keep other) = ⊥
+  IsMild (calls.Keep other) = Unit {0}
   IsMild (calls.Abandon ticket) = ⊥
   IsMild (calls.Came m part) = ⊥
   IsMild (calls.Lost m) = ⊥
@@ -100,7 +106,7 @@ module _ (lease number : ℕ) where
   each_step s (calls.GiveBack other) m tidy le h = each_gives s tidy le h (has_lease other) (find_by (has_lease other) s.seats) refl
   each_step s (calls.Clean n) m tidy le h = each_cleans s tidy le h (has_number n) (find_by (has_number n) s.seats) refl
   each_step s (calls.Cleaned other) m tidy le h = absurd m
-  each_step s (calls.Keep other) m tidy le h = absurd m
+  each_step s (calls.Keep other) m tidy le h = each_keeps s tidy le h (has_lease other) (find_by (has_lease other) s.seats) refl
   each_step s (calls.Abandon ticket) m tidy le h = absurd m
   each_step s (calls.Came n part) m tidy le h = absurd m
   each_step s (calls.Lost n) m tidy le h = absurd m
@@ -194,9 +200,10 @@ cared_apart hs lease number n h Draining l held differs c is same = let u : fals
 pub led_at : (d : Desk) → IsReached d → IsLed d.service
 led_at d r = (r.0.most, calls_along (new_desk r.0) r.1, sym (service_along (new_desk r.0) r.1) ∙ ap (λ (e : Desk). e.service) r.2)
 
--- one that is given back leaves them
-pub left_others : (d e : desks.Desk) (key : ℕ) (g : Hold) → find_key key d.holds.items ≡ Some g → e.holds.items ≡ without_lease g.lease d.holds.items → AsideStay g.lease g.number d.service e.service → OthersHold key d e
-left_others d e key g its left stay = record {
+-- one that is another's leaves them
+left_where : (d e : desks.Desk) (key : ℕ) (g : Hold) → find_key key d.holds.items ≡ Some g
+    → ((other : ℕ) (h : Hold) → find_key other d.holds.items ≡ Some h → h.lease ≢ g.lease → h.number ≢ g.number → find_key other e.holds.items ≡ Some h) → AsideStay g.lease g.number d.service e.service → OthersHold key d e
+left_where d e key g its found stay = record {
   hold = λ reached other differs.
       holds_on d e other (λ h client theirs there.
       let sound : Sound (desk_in d) = sound_at (desk_in d) reached in
@@ -209,10 +216,17 @@ left_others d e key g its left stay = record {
         apart = each_weaker (CaresFor d.holds.items) (λ (c : Seat). has_lease h.lease c ≡ true → c.number ≢ g.number) (λ c cared is. cared_apart d.holds.items h.lease g.number c.number h c.place c.line held off cared is)
             (desk_in d).service.seats sound.cared;
       } in (
-        ap (find_key other) left ∙ kept_key (λ (x : Hold). not (x.lease == g.lease)) other h d.holds.items theirs (not_equal (h.lease == g.lease) h.lease g.lease refl apart),
+        found other h theirs apart off,
         stay h.lease client apart aside there ∙ sym there,
       ));
 }
+
+kept_lease : (other lease : ℕ) (h : Hold) (hs : List Hold) → find_key other hs ≡ Some h → h.lease ≢ lease → find_key other (without_lease lease hs) ≡ Some h
+kept_lease other lease h hs theirs apart = kept_key (λ (x : Hold). not (x.lease == lease)) other h hs theirs (not_equal (h.lease == lease) h.lease lease refl apart)
+
+-- one that is given back
+pub left_others : (d e : desks.Desk) (key : ℕ) (g : Hold) → find_key key d.holds.items ≡ Some g → e.holds.items ≡ without_lease g.lease d.holds.items → AsideStay g.lease g.number d.service e.service → OthersHold key d e
+left_others d e key g its left stay = left_where d e key g its (λ other h theirs apart off. ap (find_key other) left ∙ kept_lease other g.lease h d.holds.items theirs apart) stay
 
 -- where there is none
 pub none_others : (d e : desks.Desk) (key : ℕ) → e.holds.items ≡ d.holds.items → e.service ≡ d.service → OthersHold key d e
@@ -220,3 +234,30 @@ none_others d e key holds service = record {
   hold = λ reached other differs.
       inl (ap (λ (s : services.Service). held_by s (find_key other e.holds.items)) service ∙ ap (λ (hs : List Hold). held_by d.service (find_key other hs)) holds);
 }
+
+-- ---- One that is kept with its transaction
+
+kept_given : (lease number own : ℕ) (s t : services.Service) → service_in t ≡ (step {T = Token} (service_in s) (calls.Keep own)).service → IsAside lease number (service_in s) → lease ≢ t.given + 1
+kept_given lease number own s t is aside = above_given (service_in t) lease (aside_step lease number (service_in s) (service_in t) (calls.Keep own) tt is aside).given
+
+-- lent again, by another lease
+pub renewed_others : (d e : desks.Desk) (key : ℕ) (g x : Hold) (t : services.Service) → find_key key d.holds.items ≡ Some g → e.holds.items ≡ without_lease g.lease d.holds.items ++ x ∷ []
+    → service_in t ≡ (step {T = Token} (service_in d.service) (calls.Keep g.lease)).service → KeepsClients g.lease d.service t → KeepsClients (t.given + 1) t e.service → OthersHold key d e
+renewed_others d e key g x t its left is keeps again =
+    left_where d e key g its
+    (λ other h theirs apart off. ap (find_key other) left ∙ added_key other h x (without_lease g.lease d.holds.items) (kept_lease other g.lease h d.holds.items theirs apart))
+    (λ lease client apart aside there. again lease (kept_given lease g.number g.lease d.service t is aside) ∙ keeps lease apart ∙ there)
+
+-- or lost, where that is refused
+pub unkept_others : (d e : desks.Desk) (key : ℕ) (g : Hold) (t u : services.Service) → find_key key d.holds.items ≡ Some g → e.holds.items ≡ without_number g.number d.holds.items
+    → service_in t ≡ (step {T = Token} (service_in d.service) (calls.Keep g.lease)).service → KeepsClients g.lease d.service t → service_in u ≡ service_in t → KeepsClients (t.given + 1) t u → KeepsClientsOff g.number u e.service
+    → OthersHold key d e
+unkept_others d e key g t u its left is keeps same again cut =
+    left_where d e key g its
+    (λ other h theirs apart off. ap (find_key other) left ∙ kept_key (λ (x : Hold). not (x.number == g.number)) other h d.holds.items theirs (not_equal (h.number == g.number) h.number g.number refl off))
+    (λ lease client apart aside there.
+    called_for lease g.lease g.number d.service t e.service (calls.Keep g.lease) tt is keeps apart
+    (refused_for lease (t.given + 1) g.number t u e.service same again (kept_given lease g.number g.lease d.service t is aside) (forgot_for lease g.number u e.service cut)) client aside there)
+
+pub led_kept : (s t u : services.Service) (own : ℕ) → service_in t ≡ (step {T = Token} (service_in s) (calls.Keep own)).service → service_in u ≡ service_in t → IsLed (service_in s) → IsLed (service_in u)
+led_kept s t u own is same led = subst IsLed (sym same) (led_on (service_in s) (service_in t) (calls.Keep own) is led)

@@ -2,7 +2,12 @@
 use Rattle.std.proofs.Common.{◌≡◌, ◌<◌, ◌≤◌, ◌∙◌, ◌==◌, arith, if◌then◌else◌, ℕ, Bool, true, false, List, [], ◌∷◌, ◌++◌, Option, Some, None, refl, sym, ap, subst, option_map}
 use Rattle.std.specs.Prelude.{IsSome, ◌||◌}
 use Rattle.std.proofs.lemmas.Bool.{eq-eqb}
+use Rattle.tds_packet.specs.declared.status.Reset.{Reset}
 use Rattle.tds_client.specs.declared.message.MessageKind.{MessageKind}
+use Rattle.tds_front.specs.declared.fault.FrontFault.{FrontFault}
+use Rattle.tds_front.specs.declared.front.Front.{Front}
+use Rattle.tds_front.specs.declared.stage.Stage.{Stage}
+use Rattle.tds_front.specs.declared.stage.Stage.TheVariants as stages
 use Rattle.tds_relay.specs.declared.application.Application.{Application}
 use Rattle.tds_relay.specs.declared.application.Asking.{Asking}
 use Rattle.tds_relay.specs.declared.application.Asking.TheVariants as asking
@@ -12,7 +17,9 @@ use Rattle.tds_relay.specs.declared.desk.coming.What.TheVariants as whats
 use Rattle.tds_relay.specs.declared.relay.Relay as code
 use Rattle.tds_relay.specs.Desk as desk
 use Rattle.tds_relay.specs.Desk.{Desk, turn}
-use Rattle.tds_relay.specs.Hall.{End, Ends, Open, Over, change_whose, closes, end_at, is_in}
+use Rattle.tds_relay.specs.Fronts.{end_of}
+use Rattle.tds_relay.specs.Hall.{End, Ends, IfOpen, IsBegun, Open, Over, change_whose, closes, end_at, is_in}
+use Rattle.tds_relay.specs.Reasons.{IsUnbegun}
 use Rattle.tds_relay.specs.Taking.{IsDeaf}
 use Rattle.tds_relay.specs.Ties.{desk_in}
 use Rattle.tds_relay.specs.Waiting.{IsNotAcknowledged, KeepsInLine, StandsInLine}
@@ -70,3 +77,19 @@ no_application whole more o b e = subst (λ (x : Option Application). KeepsInLin
 
 pub fits_not : (n m : ℕ) → m < n → n ≤ m → ⊥
 fits_not n m lt le = let a : m < n = lt in let b : n ≤ m = le in let u : ⊥ = omega (arith, a, b) in u
+
+-- one that hasn't begun
+not_begun : (stage : Stage) → IsBegun stage → IsUnbegun false stage → ⊥
+not_begun stages.Quiet b u = b
+not_begun (stages.Receiving kind gone) b u = let e : false ≡ true = u in let v : ⊥ = cc in v
+not_begun (stages.Underway gone) b u = u
+not_begun stages.Stopping b u = b
+not_begun (stages.Broken fault) b u = b
+
+open_begun : (over : Bool) (why : Option FrontFault) (front : Front) (withdrawn : Bool) (asks : Option Reset) → over ≡ false → IfOpen IsBegun (Some (if over then Over why else Open front withdrawn asks))
+    → IfOpen (IsUnbegun false) (Some (if over then Over why else Open front withdrawn asks)) → ⊥
+open_begun true why front withdrawn asks here b u = let v : ⊥ = cc in v
+open_begun false why front withdrawn asks here b u = not_begun front.stage b u
+
+pub begun_not : (a : Application) → a.is_over ≡ false → IfOpen IsBegun (Some (end_of a)) → IfOpen (IsUnbegun false) (Some (end_of a)) → ⊥
+begun_not a here b u = open_begun a.is_over a.fault a.front a.is_withdrawn a.reset here b u

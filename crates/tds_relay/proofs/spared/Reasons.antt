@@ -1,7 +1,7 @@
 -- Why an application is closed by what it says: piece by piece, and by a loan behind them.
 use Rattle.std.proofs.Common.{◌≡◌, ◌≢◌, ◌⊎◌, ◌<◌, ◌∙◌, ℕ, Bool, true, false, List, [], length, Option, Some, None, inl, inr, refl, sym, ap, subst, option_map, if◌then◌else◌}
 use Rattle.std.proofs.lemmas.Bool.{cases_eq}
-use Rattle.std.specs.Prelude.{IfNone, IfSome, IsSome, Result, Ok, Err, OnOk}
+use Rattle.std.specs.Prelude.{IfNone, IfSome, IsSome, Result, OnOk}
 use Rattle.slab.specs.Slab.{Slab, get}
 use Rattle.tds_packet.specs.declared.kind.Kind.{Kind}
 use Rattle.tds_packet.specs.declared.status.Reset.{Reset}
@@ -11,7 +11,11 @@ use Rattle.tds_client.specs.declared.state.Cancelled.{Cancelled}
 use Rattle.tds_client.specs.declared.state.Cancelled.TheVariants as how
 use Rattle.tds_client.specs.Session.{ClientSession}
 use Rattle.tds_front.specs.declared.front.Said.{Said}
-use Rattle.tds_service.specs.Table.{client_of}
+use Rattle.tds_wire.specs.declared.told.Token.{Token}
+use Rattle.tds_service.specs.declared.refusal.Refusal.{Refusal}
+use Rattle.tds_service.specs.declared.service.Service as services
+use Rattle.tds_service.specs.Service.{Call}
+use Rattle.tds_service.specs.Table.{Refuses, client_of, service_in}
 use Rattle.tds_relay.specs.declared.application.Application.{Application}
 use Rattle.tds_relay.specs.declared.application.Asking.{Asking}
 use Rattle.tds_relay.specs.declared.application.Asking.TheVariants as asking
@@ -19,14 +23,15 @@ use Rattle.tds_relay.specs.declared.desk.Desk as desks
 use Rattle.tds_relay.specs.declared.desk.Hold.{Hold}
 use Rattle.tds_relay.specs.declared.link.Link.{Link}
 use Rattle.tds_relay.specs.declared.relay.Relay as code
-use Rattle.tds_relay.specs.Bodies.{Body, Carries, ClientPuts, ClientStops, Closed, IsHalting, Kept, Nowhere, body_by, body_in, body_of, going, going_by}
+use Rattle.tds_relay.specs.Bodies.{Body, Carries, ClientPuts, ClientStops, Closed, IsHalting, Kept, Nowhere, Spared, body_by, body_in, body_of, going, going_by}
 use Rattle.tds_relay.specs.Closings.{ClosesOnly, IsNoRequest, IsWaiting, Itself, ItselfOrWaiting, Register}
 use Rattle.tds_relay.specs.Desk.{find_key}
 use Rattle.tds_relay.specs.Fronts.{house_in}
-use Rattle.tds_relay.specs.Hall.{End}
+use Rattle.tds_relay.specs.Hall.{End, IfOpen}
 use Rattle.tds_relay.specs.Posts.{Post, Posts, post_at, post_of, posts_in}
 use Rattle.tds_relay.specs.Reads.{waits_on}
-use Rattle.tds_relay.specs.Reasons.{ByLoan, CannotBegin, CannotGoOn, CannotPut, ForReasonOrWaiting, HasNoRoom, HasReason, IsOverfull, ItselfFor, MayClose, StopsUnfit, room_left}
+use Rattle.tds_relay.specs.Holding.{Held}
+use Rattle.tds_relay.specs.Reasons.{ByLoan, CannotAsk, CannotBegin, CannotForget, CannotGoOn, CannotPut, CannotStart, CannotUnask, ForReasonOrWaiting, HasNoRoom, IsAstray, IsOverfull, IsReason, IsUnbegun, IsUncancelled, IsUnheld, IsUnstopped, ItselfFor, MayClose, RefusesThere, StopsUnfit, room_left}
 use Rattle.tds_relay.specs.Ties.{Application as ByApplication, Goes, desk_in}
 use Rattle.tds_relay.specs.Told.{room_to_keep}
 use Rattle.tds_relay.proofs.spared.Closings.{closes_more_on}
@@ -54,13 +59,13 @@ nothing_goes whole more key end room d links o a g is asks =
     subst (λ (x : Option Application). CannotGoOn whole more key end room d links (body_in x g)) is
     (subst (λ (x : Asking). CannotGoOn whole more key end room d links (if a.is_over then Closed else body_by x a.held.items g)) (sym asks) (nothing_by a.is_over whole more key end room d links))
 
-kept_by : (over whole : Bool) (more : List ℕ) (key : ℕ) (end : Option End) (room : ℕ) (d : desks.Desk) (links : List Link) (kind : MessageKind) (bytes : List ℕ) (was : Bool) → (room < length more) ⊎ IsSome (find_key key d.holds.items)
+kept_by : (over whole : Bool) (more : List ℕ) (key : ℕ) (end : Option End) (room : ℕ) (d : desks.Desk) (links : List Link) (kind : MessageKind) (bytes : List ℕ) (was : Bool) → (room < length more) ⊎ (IsSome (find_key key d.holds.items) ⊎ IfOpen (IsUnbegun false) end)
     → CannotGoOn whole more key end room d links (if over then Closed else Kept kind bytes was)
 kept_by true whole more key end room d links kind bytes was why = tt
 kept_by false whole more key end room d links kind bytes was why = why
 
 kept_goes : (whole : Bool) (more : List ℕ) (key : ℕ) (end : Option End) (room : ℕ) (d : desks.Desk) (links : List Link) (o : Option Application) (a : Application) (g : Body) (kind : MessageKind) (was : Bool) → Some a ≡ o
-    → a.asking ≡ asking.Waits kind was → (room < length more) ⊎ IsSome (find_key key d.holds.items) → CannotGoOn whole more key end room d links (body_in o g)
+    → a.asking ≡ asking.Waits kind was → (room < length more) ⊎ (IsSome (find_key key d.holds.items) ⊎ IfOpen (IsUnbegun false) end) → CannotGoOn whole more key end room d links (body_in o g)
 kept_goes whole more key end room d links o a g kind was is asks why =
     subst (λ (x : Option Application). CannotGoOn whole more key end room d links (body_in x g)) is
     (subst (λ (x : Asking). CannotGoOn whole more key end room d links (if a.is_over then Closed else body_by x a.held.items g)) (sym asks) (kept_by a.is_over whole more key end room d links kind a.held.items was why))
@@ -73,7 +78,12 @@ too_long whole more key end d links o a g kind was is asks long = kept_goes whol
 -- its application holds a connection
 pub held_goes : (whole : Bool) (more : List ℕ) (key : ℕ) (end : Option End) (room : ℕ) (d : desks.Desk) (links : List Link) (o : Option Application) (a : Application) (g : Body) (kind : MessageKind) (was : Bool) → Some a ≡ o
     → a.asking ≡ asking.Waits kind was → IsSome (find_key key d.holds.items) → CannotGoOn whole more key end room d links (body_in o g)
-held_goes whole more key end room d links o a g kind was is asks held = kept_goes whole more key end room d links o a g kind was is asks (inr held)
+held_goes whole more key end room d links o a g kind was is asks held = kept_goes whole more key end room d links o a g kind was is asks (inr (inl held))
+
+-- none has begun
+pub unbegun_goes : (whole : Bool) (more : List ℕ) (key : ℕ) (end : Option End) (room : ℕ) (d : desks.Desk) (links : List Link) (o : Option Application) (a : Application) (g : Body) (kind : MessageKind) (was : Bool) → Some a ≡ o
+    → a.asking ≡ asking.Waits kind was → IfOpen (IsUnbegun false) end → CannotGoOn whole more key end room d links (body_in o g)
+unbegun_goes whole more key end room d links o a g kind was is asks unbegun = kept_goes whole more key end room d links o a g kind was is asks (inr (inr unbegun))
 
 going_with : (whole : Bool) (more : List ℕ) (key : ℕ) (end : Option End) (room : ℕ) (d : desks.Desk) (links : List Link) (number : ℕ) (o : Option ClientSession) (w : Option (List ℕ)) → CannotPut whole more key end d links
     → CannotGoOn whole more key end room d links (going_by number o w)
@@ -105,12 +115,64 @@ no_room_there whole more key d mid out links hold p its none =
     let same : hold ≡ p.hold = (let u : Some hold ≡ Some p.hold = sym its ∙ p.its in cc) in
     subst (λ (h : Hold). HasNoRoom h.number out links) same none
 
-pub no_request : (kind : Kind) (reset : Option Reset) (key : ℕ) (end : Option End) (d : desks.Desk) → IsNoRequest kind → CannotBegin kind reset key end d
-no_request kind None key end d none = inl none
-no_request kind (Some KeepTransaction) key end d none = inl none
-no_request kind (Some Full) key end d none = inl none
+pub no_request : (kind : Kind) (reset : Option Reset) (key : ℕ) (end : Option End) (d : desks.Desk) (links : List Link) → IsNoRequest kind → CannotBegin kind reset key end d links
+no_request kind None key end d links none = inl none
+no_request kind (Some KeepTransaction) key end d links none = inl none
+no_request kind (Some Full) key end d links none = inl none
+
+-- ---- It isn't asked where it begins
+
+asks_by : (over : Bool) (key : ℕ) (end : Option End) (d : desks.Desk) (links : List Link) (message : MessageKind) → CannotStart key end d links (if over then Closed else Kept message [] false) → CannotAsk message [] false key end d links
+asks_by true key end d links message why = absurd why
+asks_by false key end d links message why = why
+
+pub begun_asks : (key : ℕ) (end : Option End) (d : desks.Desk) (links : List Link) (o : Option Application) (g : Body) (b : Application) (message : MessageKind) → o ≡ Some b → b.asking ≡ asking.Waits message false → b.held.items ≡ []
+    → CannotStart key end d links (body_in o g) → CannotAsk message [] false key end d links
+begun_asks key end d links o g b message is asked held why =
+    asks_by b.is_over key end d links message
+    (subst (CannotStart key end d links)
+    (ap (λ (x : Option Application). body_in x g) is ∙ ap (λ (x : Asking). if b.is_over then Closed else body_by x b.held.items g) asked ∙ ap (λ (xs : List ℕ). if b.is_over then Closed else Kept message xs false) held) why)
 
 -- ---- It can't be taken back
+
+refused_by : (call : ℕ → ℕ → Call Token) (key : ℕ) (d : desks.Desk) (refusal : Refusal) (o : Option Hold) → find_key key d.holds.items ≡ o → IsReason refusal
+    → ((hold : Hold) → find_key key d.holds.items ≡ Some hold → (count : ℕ) → Refuses (call hold.lease count) (service_in d.service) refusal) → IsUnheld key d ⊎ RefusesThere call key d
+refused_by call key d refusal None its reason refuses = inl its
+refused_by call key d refusal (Some hold) its reason refuses = inr (record { hold = hold; its = its; refusal = refusal; reason = reason; refuses = refuses hold its })
+
+-- where it holds one
+pub refused_there : (call : ℕ → ℕ → Call Token) (key : ℕ) (d : desks.Desk) (refusal : Refusal) → IsReason refusal
+    → ((hold : Hold) → find_key key d.holds.items ≡ Some hold → (count : ℕ) → Refuses (call hold.lease count) (service_in d.service) refusal) → IsUnheld key d ⊎ RefusesThere call key d
+refused_there call key d refusal reason refuses = refused_by call key d refusal (find_key key d.holds.items) refl reason refuses
+
+pub uncancelled : (key : ℕ) (end : Option End) (d : desks.Desk) (links : List Link) → IsUnheld key d ⊎ IsUncancelled key d → IsUnheld key d ⊎ CannotUnask key end d links
+uncancelled key end d links (inl none) = inl none
+uncancelled key end d links (inr why) = inr (inr (inl why))
+
+pub unstopped : (key : ℕ) (d : desks.Desk) → IsUnheld key d ⊎ IsUncancelled key d → IsUnstopped key d
+unstopped key d (inl none) = inl none
+unstopped key d (inr why) = inr (inl why)
+
+-- one that goes on
+asked_by : (over : Bool) (g : Body) → Spared g (if over then Closed else g)
+asked_by true g = inr refl
+asked_by false g = inl refl
+
+pub asked_goes : (o : Option Application) (a : Application) (g : Body) → Some a ≡ o → a.asking ≡ asking.Goes → Spared g (body_in o g)
+asked_goes o a g is asks =
+    subst (λ (x : Option Application). Spared g (body_in x g)) is (subst (λ (x : Asking). Spared g (if a.is_over then Closed else body_by x a.held.items g)) (sym asks) (asked_by a.is_over g))
+
+astray_of : (s : services.Service) (links : List Link) (o : Option Hold) (b : Body) → o ≡ None → Spared (going s links o) b → IsAstray b
+astray_of s links o b none (inl e) = subst IsAstray (sym (e ∙ ap (going s links) none)) tt
+astray_of s links o b none (inr e) = subst IsAstray (sym e) tt
+
+-- who holds none is astray
+pub forgotten : (key : ℕ) (end : Option End) (d mid : desks.Desk) (links : List Link) (o : Option Application) → ((g : Body) → Spared g (body_in o g)) → mid.holds ≡ d.holds → mid.service ≡ d.service
+    → IsUnheld key mid ⊎ CannotUnask key end mid links → CannotForget false key end d links (body_in o (going d.service links (find_key key d.holds.items)))
+forgotten key end d mid links o asked holds service (inl none) =
+    let its : find_key key d.holds.items ≡ None = subst (λ (x : Held). find_key key x.items ≡ None) holds none in
+    inl (astray_of d.service links (find_key key d.holds.items) _ its (asked (going d.service links (find_key key d.holds.items))))
+forgotten key end d mid links o asked holds service (inr why) = inr (record { mid = mid; holds = holds; service = service; cannot = why })
 
 pub some_of : {A : Type 0} (o : Option A) (x : A) (P : A → Type 0) → o ≡ Some x → IfSome o P → P x
 some_of {A} o x P is h = subst (λ (p : Option A). IfSome p P) is h

@@ -19,7 +19,7 @@ use Rattle.tds_relay.specs.declared.desk.Hold.{Hold}
 use Rattle.tds_relay.specs.Desk as desk
 use Rattle.tds_relay.specs.Desk.{Desk, does, find_key, turn}
 use Rattle.tds_relay.specs.Fronts.{IsFed, hall_of_ends, withdraws}
-use Rattle.tds_relay.specs.Hall.{Does, End, Ends, Hall, IfOpen, Moves, Open, Over, asks_by, change_end, end_at}
+use Rattle.tds_relay.specs.Hall.{Does, End, Ends, Hall, IfOpen, IfWhose, IsBegun, Moves, Open, Over, asks_by, change_end, end_at, lets_go}
 use Rattle.tds_relay.specs.Ties.{Application, Turns}
 use Rattle.tds_relay.proofs.ends.Leading.{fits}
 use Rattle.tds_relay.proofs.steps.Fronts.{changed_at, moves_one, same_hall}
@@ -67,6 +67,48 @@ says_quiet : (stage : Stage) (packet : Option Head) (count : ℕ) (answer : Said
 says_quiet stage None count answer s d = absurd (data_drops answer s d)
 says_quiet stage (Some head) count answer s d = drops_quiet stage head (taken stage head).does answer refl s d
 
+-- ---- Behind one by which it begins
+
+abbrev pub Opens : Said → Type 0
+Opens said.Nothing = ⊥
+Opens (said.Begin kind reset) = Unit {0}
+Opens (said.Body count) = ⊥
+Opens (said.End count) = ⊥
+Opens (said.Forget gone) = ⊥
+Opens said.Acknowledge = ⊥
+Opens said.HandOn = ⊥
+
+go_opens : (answer : Said) → IsSaid (Ok deeds.Go) answer → Opens answer → ⊥
+go_opens said.Nothing s d = d
+go_opens (said.Begin kind reset) s d = s
+go_opens (said.Body count) s d = s
+go_opens (said.End count) s d = d
+go_opens (said.Forget gone) s d = s
+go_opens said.Acknowledge s d = s
+go_opens said.HandOn s d = s
+
+opens_begun : (stage : Stage) (head : Head) (does : Result Deed FrontFault) (answer : Said) → (taken stage head).does ≡ does → IsSaid does answer → Opens answer → IsBegun (taken stage head).stage
+opens_begun stage head (Ok (deeds.Begin kind reset)) answer e s d = (fits stage head (deeds.Begin kind reset) e).1.1
+opens_begun stage head (Ok deeds.Go) answer e s d = absurd (go_opens answer s d)
+opens_begun stage head (Ok (deeds.Forget gone)) answer e s d = absurd (subst Opens s d)
+opens_begun stage head (Ok deeds.Acknowledge) answer e s d = absurd (subst Opens s d)
+opens_begun stage head (Ok deeds.HandOn) answer e s d = absurd (subst Opens s d)
+opens_begun stage head (Err fault) answer e s d = absurd s
+
+data_opens : (answer : Said) → IsData answer → Opens answer → ⊥
+data_opens said.Nothing s d = d
+data_opens (said.Begin kind reset) s d = s
+data_opens (said.Body count) s d = d
+data_opens (said.End count) s d = d
+data_opens (said.Forget gone) s d = s
+data_opens said.Acknowledge s d = s
+data_opens said.HandOn s d = s
+
+says_begun : (stage : Stage) (packet : Option Head) (count : ℕ) (answer : Said) → SaysOf stage packet (Ok (record { count = count; said = answer })) → Opens answer
+    → IsBegun (stage_fed stage packet (Ok (record { count = count; said = answer })))
+says_begun stage None count answer s d = absurd (data_opens answer s d)
+says_begun stage (Some head) count answer s d = opens_begun stage head (taken stage head).does answer refl s d
+
 -- ---- Its end
 
 abbrev pub StageLaw : Type 0
@@ -90,6 +132,25 @@ pub quiet_fed : (key : ℕ) (before now : Ends) (bytes : List ℕ) (answer : Sai
 quiet_fed key before now bytes answer stage says d f =
     subst (λ (es : Ends). IfOpen AsksNothing (end_at es key)) (sym f.is)
     (open_set AsksNothing before key (fed f.front bytes).front f.withdrawn (asks_by answer f.asks) (fed_quiet f.front bytes f.count answer stage says f.says d))
+
+pub begun_fed : (key : ℕ) (before now : Ends) (bytes : List ℕ) (answer : Said) → StageLaw → SaysLaw → Opens answer → IsFed key before now bytes answer → IfOpen IsBegun (end_at now key)
+begun_fed key before now bytes answer stage says d f =
+    let fed_is = stage f.front bytes ∙ ap (stage_fed f.front.stage (judged f.front.due bytes)) f.says in
+    let begun : IsBegun (fed f.front bytes).front.stage =
+    subst IsBegun (sym fed_is) (says_begun f.front.stage (judged f.front.due bytes) f.count answer (subst (SaysOf f.front.stage (judged f.front.due bytes)) f.says (says f.front bytes)) d) in
+    subst (λ (es : Ends). IfOpen IsBegun (end_at es key)) (sym f.is) (open_set IsBegun before key (fed f.front bytes).front f.withdrawn (asks_by answer f.asks) begun)
+
+open_let : (P : Stage → Type 0) (o : Option End) → IfOpen P o → IfOpen P (option_map lets_go o)
+open_let P None p = tt
+open_let P (Some (Open front withdrawn asks)) p = p
+open_let P (Some (Over why)) p = tt
+
+-- it stays so where its connection is let go
+pub open_lets_go : (P : Stage → Type 0) (es : Ends) (key : ℕ) → IfOpen P (end_at es key) → IfOpen P (end_at (change_end key lets_go es) key)
+open_lets_go P es key p = subst (IfOpen P) (sym (changed_at es key lets_go)) (open_let P (end_at es key) p)
+
+pub whose_is : (P : ℕ → Type 0) (o : Option ℕ) (key : ℕ) → o ≡ Some key → IfWhose P o → P key
+whose_is P o key e h = subst (IfWhose P) e h
 
 quiet_withdrawn : (o : Option End) → IfOpen AsksNothing o → IfOpen AsksNothing (option_map withdraws o)
 quiet_withdrawn None q = tt

@@ -39,6 +39,10 @@ reached_on by old new g r =
     let h : Reaches by old new = g old (record { events = []; are = refl; caused = tt }) in
     (r.0, r.1 ++ h.events, after_both (new_desk r.0) r.1 h.events ∙ ap (λ (d : Desk). desk_after d h.events) r.2 ∙ h.are)
 
+pub reached_turn : (old new : Desk) (event : Event) (before after : List ℕ) → Turns event old new before after → IsReached old → IsReached new
+reached_turn old new event before after t r =
+    (r.0, r.1 ++ event ∷ [], after_both (new_desk r.0) r.1 (event ∷ []) ∙ ap (λ (d : Desk). (turn d event).desk) r.2 ∙ sym t.desk_is)
+
 -- an application lets go what it holds
 pub reaches_left : (key : ℕ) (from old new : Desk) → Leaving key old new → Reaches (Application key) from old → Reaches (Application key) from new
 reaches_left key from old new l h = l.2 (Application key) from (reaches_next (Application key) from old (Leaves key l.0 l.1) refl h)

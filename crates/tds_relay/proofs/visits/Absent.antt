@@ -33,7 +33,7 @@ no_wait : (key : ℕ) (d : Desk) → [] ≡ key ∷ [] → IsAway key d
 no_wait key d is = absurd (let u : ⊥ = cc in u)
 
 does_away : (key : ℕ) (h : Hall) (event : Event) → MayDoAlone h event → comes_to_wait event ≡ key ∷ [] → IsAway key h.desk
-does_away key h (desk.Waits k) may is = away_at key k h may is
+does_away key h (desk.Waits k) may is = away_at key k h may.0 is
 does_away key h (desk.Unwaits k) may is = no_wait key h.desk is
 does_away key h desk.Serves may is = no_wait key h.desk is
 does_away key h (desk.Brings gives way) may is = no_wait key h.desk is

@@ -32,6 +32,9 @@ impl Desk {
         ensures err { OnErr result (desk_in self.new ≡ desk_in self.old) }
         ensures stand { AllStand self.old.service self.new.service }
         ensures others { OthersHold key self.old self.new }
+        ensures refused { IfErr result (λ refusal. (hold : Hold)
+            → find_key key (desk_in self.old).holds ≡ Some hold
+            → Refuses (calls.Ask hold.lease) (service_in self.old.service) refusal) }
     {
         let Some(hold) = find_key(&self.holds, key) else {
             return Err(Refusal::Unknown);

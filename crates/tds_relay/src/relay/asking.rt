@@ -1,35 +1,31 @@
 //! What applications say: requests, and cancels.
-ghost use Rattle.std.specs.Prelude.{◌≡◌, ◌≤◌, [], Bool, IfNone, None, IfOk, IfSome, IsSome, OnOk, Some};
+ghost use Rattle.std.specs.Prelude.{◌≡◌, ◌≤◌, [], Bool, None, IfOk, IsSome, OnOk, Some};
 ghost use Rattle.std.specs.Prelude.{drop, false, length, true};
 ghost use Rattle.slab.specs.Slab.{get};
 ghost use Rattle.tds_relay.specs.Asking.{Asks, AsksOn, IfAsks, IsUnderway, waits_of};
-ghost use Rattle.tds_client.specs.Streams.{packets_are};
-ghost use Rattle.tds_packet.specs.declared.status.Reset.TheVariants.{KeepTransaction};
-ghost use Rattle.tds_relay.specs.Bodies.{Begins, Body, Carries, CarriesOn, Grows, Obeys, Starts};
+ghost use Rattle.tds_relay.specs.Bodies.{Body, Carries, CarriesOn, Grows, Obeys, Starts};
 ghost use Rattle.tds_relay.specs.Bodies.{body_of, last_of};
-ghost use Rattle.tds_relay.specs.Closings.{ClosesOnly, IsNoRequest, Itself, register_in};
+ghost use Rattle.tds_relay.specs.Closings.{ClosesOnly, register_in};
 ghost use Rattle.tds_relay.specs.Desk.{find_key};
 ghost use Rattle.tds_relay.specs.Few.{Few, IsSeated, NobodyWaits};
 ghost use Rattle.tds_relay.specs.Fronts.{FedOn, Moved, ends_in, given_by, hall_in, house_in};
-ghost use Rattle.tds_relay.specs.Hall.{AsksFor, AsksToPart, IfAsked, end_at};
+ghost use Rattle.tds_relay.specs.Hall.{IfOpen, IsBegun, end_at};
 ghost use Rattle.tds_relay.specs.House.{Steps};
 ghost use Rattle.tds_relay.specs.Posts.{names_in, posts_in};
 ghost use Rattle.tds_relay.specs.Reads.{Opens, Stays};
-ghost use Rattle.tds_relay.specs.Reasons.{CannotBegin, CannotGoOnAt, CannotPart, ForReasonOrWaiting};
+ghost use Rattle.tds_relay.specs.Reasons.{CannotGoOnAt, ForReasonOrWaiting};
 ghost use Rattle.tds_relay.specs.Reasons.{GivesReason, HasReason, ItselfFor, MayCloseAt};
 ghost use Rattle.tds_relay.specs.Taking.{Tells, TellsOn};
 ghost use Rattle.tds_relay.specs.Ties.{Application, Goes, IsReached, desk_in};
 ghost use Rattle.tds_relay.specs.Waiting.{KeepsInLine, KeepsSaid};
 ghost use Rattle.tds_relay.specs.Walkers.{AllStand};
+ghost use Rattle.tds_relay.specs.Sparing.{OthersGo, OthersRest};
 
 use super::Relay;
 use crate::NoMemory;
 use crate::application::Asking;
-use crate::desk::Renewed;
-use tds_client::MessageKind;
 use tds_front::Said;
 use tds_front::laws::bytes_are_packets;
-use tds_packet::{Kind, Reset};
 
 impl Relay {
     /// These bytes of an application came. At most as many as `room` says are to be handed in.
@@ -56,6 +52,7 @@ impl Relay {
         ensures closes { OnOk result (ClosesOnly (ForReasonOrWaiting key piece.now self.old)
             (register_in self.old) (register_in self.new)) }
         ensures seated { IsSeated self.old → OnOk result (IsSeated self.new) }
+        ensures others { OnOk result (OthersGo key self.old self.new) }
     {
         self.take_all(key, piece)?;
         self.serve_line()
@@ -79,6 +76,8 @@ impl Relay {
         ensures closes { OnOk result (ClosesOnly (ItselfFor key (HasReason key piece.now self.old))
             (register_in self.old) (register_in self.new)) }
         ensures seated { IsSeated self.old → OnOk result (IsSeated self.new) }
+        ensures others { IsReached (desk_in self.old.desk)
+            → OnOk result (OthersRest key self.old self.new) }
     {
         let mut rest = piece;
         'taking: for _ in 0..piece.len() {
@@ -111,6 +110,8 @@ impl Relay {
             (GivesReason piece.now key self.old)) (register_in self.old) (register_in self.new)) }
         ensures some { IfOk result (λ count. 1 ≤ length piece.now → 1 ≤ count) }
         ensures seated { IsSeated self.old → OnOk result (IsSeated self.new) }
+        ensures others { IsReached (desk_in self.old.desk)
+            → OnOk result (OthersRest key self.old self.new) }
     {
         let Some(application) = self.applications.get_mut(key) else {
             return Ok(piece.len());
@@ -152,6 +153,8 @@ impl Relay {
             → OnOk result (KeepsSaid said bytes.now (get self.old.applications key)
             (body_of key self.new)) }
         ensures seated { IsSeated self.old → OnOk result (IsSeated self.new) }
+        ensures others { IsReached (desk_in self.old.desk)
+            → OnOk result (OthersRest key self.old self.new) }
     {
         bytes_are_packets();
         match said {
@@ -169,52 +172,6 @@ impl Relay {
         }
     }
 
-    /// A request begins. Where it asks for a reset itself, its application gives back what it holds; but
-    /// where the transaction is to stay, its connection stays too: whether there is one is known once the
-    /// server has acknowledged what was taken back before.
-    #[tactic(auto, using(crate::proofs::steps::Reaching::reaches_turn, crate::proofs::steps::Reaching::reaches_left, crate::proofs::steps::Posting::kept_more, crate::proofs::steps::Posting::posts_kept, crate::proofs::steps::Fronts::ends_more, crate::proofs::steps::Fronts::ends_kept, crate::proofs::steps::Staying::stays_refl, crate::proofs::steps::Underway::of_none))]
-    fn begin(&mut self, key: usize, kind: Kind, reset: Option<Reset>) -> Result<(), NoMemory>
-        ensures goes { OnOk result (Goes (Application key)
-            (desk_in self.old.desk) (desk_in self.new.desk)) }
-        ensures kept { OnOk result (posts_in self.new.applications
-            ≡ posts_in self.old.applications) }
-        ensures moves { OnOk result (IfAsked reset (end_at (ends_in self.old.applications) key)
-            → Moved (Application key) (hall_in self.old) (hall_in self.new)) }
-        ensures underway { OnOk result (IsUnderway false self.new.links.items key
-            (hall_in self.new)) }
-        ensures read { OnOk result (Stays self.old.links.items self.new.links.items) }
-        ensures stand { OnOk result (AllStand self.old.desk.service
-            self.new.desk.service) }
-        ensures body { OnOk result ((mid : Body) × Begins kind mid
-            × Starts mid (body_of key self.new)) }
-        ensures closes { OnOk result (ClosesOnly (ItselfFor key (CannotBegin kind reset key
-            (end_at (ends_in self.old.applications) key) self.old.desk))
-            (register_in self.old) (register_in self.new)) }
-        ensures seated { IsSeated self.old → OnOk result (IsSeated self.new) }
-    {
-        let Some(application) = self.applications.get_mut(key) else {
-            return Ok(());
-        };
-        let Some(kind) = message_kind(kind) else {
-            return self.expel(key);
-        };
-        application.asking = Asking::Waits { kind, whole: false };
-        application.forget();
-        let holds = self.desk.hold_of(key).is_some();
-        match (holds, reset) {
-            (false, _) => self.wait(key),
-            (true, None) => self.start(key),
-            (true, Some(Reset::KeepTransaction)) => {
-                if self.may_keep_later(key) {
-                    Ok(())
-                } else {
-                    self.renew(key)
-                }
-            }
-            (true, Some(Reset::Full)) => self.change(key),
-        }
-    }
-
     /// A request that waits is asked where its application holds a connection that can take it, and stands
     /// in the line where it holds none.
     fn seek(&mut self, key: usize) -> Result<(), NoMemory>
@@ -222,8 +179,8 @@ impl Relay {
             (desk_in self.old.desk) (desk_in self.new.desk)) }
         ensures kept { OnOk result (posts_in self.new.applications
             ≡ posts_in self.old.applications) }
-        ensures moves { OnOk result (Moved (Application key) (hall_in self.old)
-            (hall_in self.new)) }
+        ensures moves { OnOk result (IfOpen IsBegun (end_at (ends_in self.old.applications) key)
+            → Moved (Application key) (hall_in self.old) (hall_in self.new)) }
         ensures underway { (whole : Bool) → waits_of (get self.old.applications key) ≡ Some whole
             → OnOk result (IsUnderway whole self.new.links.items key (hall_in self.new)) }
         ensures read { OnOk result (Stays self.old.links.items self.new.links.items) }
@@ -236,78 +193,12 @@ impl Relay {
             (IsSome (find_key key (desk_in self.old.desk).holds)))
             (register_in self.old) (register_in self.new)) }
         ensures seated { IsSeated self.old → OnOk result (IsSeated self.new) }
+        ensures others { IsReached (desk_in self.old.desk)
+            → OnOk result (OthersRest key self.old self.new) }
     {
         match self.desk.hold_of(key) {
             Some(_) => self.start_kept(key),
             None => self.wait(key),
-        }
-    }
-
-    /// The application lets its connection go, and waits for one like who has come.
-    #[tactic(auto, using(crate::proofs::steps::Reaching::reaches_turn, crate::proofs::steps::Reaching::reaches_left))]
-    fn change(&mut self, key: usize) -> Result<(), NoMemory>
-        ensures goes { OnOk result (Goes (Application key)
-            (desk_in self.old.desk) (desk_in self.new.desk)) }
-        ensures kept { OnOk result (posts_in self.new.applications
-            ≡ posts_in self.old.applications) }
-        ensures moves { OnOk result (AsksToPart (hall_in self.old) key
-            → Moved (Application key) (hall_in self.old) (hall_in self.new)) }
-        ensures underway { OnOk result ((whole : Bool)
-            → IsUnderway whole self.new.links.items key (hall_in self.new)) }
-        ensures read { OnOk result (Stays self.old.links.items self.new.links.items) }
-        ensures stand { OnOk result (AllStand self.old.desk.service
-            self.new.desk.service) }
-        ensures body { (whole : Bool) → waits_of (get self.old.applications key) ≡ Some whole
-            → OnOk result (Starts (body_of key self.old) (body_of key self.new)) }
-        ensures closes { OnOk result (ClosesOnly (ItselfFor key (CannotPart key
-            (end_at (ends_in self.old.applications) key) self.old.desk))
-            (register_in self.old) (register_in self.new)) }
-        ensures seated { IsSeated self.old → OnOk result (IsSeated self.new) }
-    {
-        if !self.has_nothing_out(key) {
-            return self.expel(key);
-        }
-        self.release(key)?;
-        if self.desk.hold_of(key).is_some() {
-            return self.expel(key);
-        }
-        self.wait(key)
-    }
-
-    /// The application keeps its connection with its transaction, and its next request resets the rest.
-    #[tactic(auto, using(crate::proofs::steps::Reaching::reaches_turn, crate::proofs::steps::Reaching::reaches_left))]
-    fn renew(&mut self, key: usize) -> Result<(), NoMemory>
-        ensures goes { OnOk result (Goes (Application key)
-            (desk_in self.old.desk) (desk_in self.new.desk)) }
-        ensures kept { OnOk result (posts_in self.new.applications
-            ≡ posts_in self.old.applications) }
-        ensures moves { OnOk result (AsksFor KeepTransaction
-            (end_at (ends_in self.old.applications) key)
-            → Moved (Application key) (hall_in self.old) (hall_in self.new)) }
-        ensures underway { (whole : Bool) → waits_of (get self.old.applications key) ≡ Some whole
-            → OnOk result (IsUnderway whole self.new.links.items key (hall_in self.new)) }
-        ensures read { OnOk result (Stays self.old.links.items self.new.links.items) }
-        ensures stand { OnOk result (AllStand self.old.desk.service
-            self.new.desk.service) }
-        ensures body { (whole : Bool) → waits_of (get self.old.applications key) ≡ Some whole
-            → OnOk result (Starts (body_of key self.old) (body_of key self.new)) }
-        ensures closes { OnOk result (ClosesOnly (Itself key)
-            (register_in self.old) (register_in self.new)) }
-        ensures seated { IsSeated self.old → OnOk result (IsSeated self.new) }
-    {
-        match self.desk.renew(key)? {
-            Renewed::Kept(hold) => {
-                self.restart(hold.number);
-                self.start_kept(key)
-            }
-            Renewed::NotKept => {
-                if self.has_transaction(key) {
-                    self.expel(key)
-                } else {
-                    self.change(key)
-                }
-            }
-            Renewed::Closed(number) => self.close(number, Some(key)),
         }
     }
 
@@ -335,6 +226,8 @@ impl Relay {
             (CannotGoOnAt whole bytes.now key self.old)) (register_in self.old)
             (register_in self.new)) }
         ensures seated { IsSeated self.old → OnOk result (IsSeated self.new) }
+        ensures others { IsReached (desk_in self.old.desk)
+            → OnOk result (OthersRest key self.old self.new) }
     {
         let Some(application) = self.applications.get_mut(key) else {
             return Ok(());
@@ -342,6 +235,9 @@ impl Relay {
         match application.asking {
             Asking::Nothing => self.expel(key),
             Asking::Waits { kind, .. } => {
+                if !application.may_put(false) {
+                    return self.expel(key);
+                }
                 if !application.keep(bytes)? {
                     return self.expel(key);
                 }
@@ -370,20 +266,5 @@ fn last(bytes: &[u8], count: usize) -> &[u8]
     match bytes.get(bytes.len().saturating_sub(count)..) {
         Some(last) => last,
         None => &[],
-    }
-}
-
-/// The request that packets of this type are.
-fn message_kind(kind: Kind) -> Option<MessageKind>
-    ensures is { IfSome result (λ message. packets_are message ≡ kind) }
-    ensures none { IfNone result (IsNoRequest kind) }
-{
-    match kind {
-        Kind::Batch => Some(MessageKind::Batch),
-        Kind::Procedure => Some(MessageKind::Procedure),
-        Kind::BulkLoad => Some(MessageKind::BulkLoad),
-        Kind::Transaction => Some(MessageKind::Transaction),
-        Kind::Answer => None,
-        Kind::Attention => None,
     }
 }

@@ -1,5 +1,5 @@
 //! Connections that are lent to those who wait, opened, and asked.
-ghost use Rattle.std.specs.Prelude.{◌≡◌, ◌≢◌, ◌⊎◌, ◌++◌, [], ℕ, Bool, IfOk, IsSome, List, None, OnOk, Some};
+ghost use Rattle.std.specs.Prelude.{◌≡◌, ◌≢◌, ◌⊎◌, ◌++◌, [], ℕ, Bool, IfOk, List, None, OnOk, Some};
 ghost use Rattle.std.specs.Prelude.{false, option_map, true};
 ghost use Rattle.slab.specs.Slab.{get};
 ghost use Rattle.tds_relay.specs.Apart.{Alone, UnlessServed};
@@ -18,7 +18,7 @@ ghost use Rattle.tds_relay.specs.Reads.{Opens, OpensOne, Stays, named_seen, open
 ghost use Rattle.tds_relay.specs.Cutting.{at_its_beginning};
 ghost use Rattle.tds_relay.specs.Reads.{answer_at, bytes_on, link_at, opened_at, opened_seen, seen_at, waits_on};
 ghost use Rattle.tds_relay.specs.Ordering.{StayOrdered};
-ghost use Rattle.tds_relay.specs.Reasons.{HasNoRoom};
+ghost use Rattle.tds_relay.specs.Reasons.{CannotPut, CannotStartAt, HasNoRoom, ItselfFor};
 ghost use Rattle.tds_relay.specs.Sending.{IsToWrite, called_at};
 ghost use Rattle.tds_relay.specs.Coming.{MayBeginAny};
 ghost use Rattle.tds_relay.specs.Sparing.{AllGo, AllRest, IsHeldBack, IsUnkept, OthersRest};
@@ -30,11 +30,12 @@ ghost use Rattle.tds_relay.specs.Waiting.{GoesOrWaits};
 ghost use Rattle.tds_relay.specs.Walkers.{AllStand};
 
 use super::Relay;
+use super::putting::unless_memory;
 use crate::NoMemory;
 use crate::application::Asking;
 use crate::desk::Served;
 use crate::link::Link;
-use crate::links::{append_to, link_in, restart, set_open, set_tag};
+use crate::links::{append_to, restart, set_open, set_tag};
 use crate::order::Order;
 
 impl Relay {
@@ -258,7 +259,7 @@ impl Relay {
         ensures ordered { OnOk result (StayOrdered self.old.orders.items self.new.orders.items) }
         ensures placed { OnOk result (GoesOrWaits key self.new) }
         ensures answers { OnOk result (KeepsAnswers self.old.links.items self.new.links.items) }
-        ensures closes { OnOk result (ClosesOnly (Itself key)
+        ensures closes { OnOk result (ClosesOnly (ItselfFor key (CannotStartAt key self.old))
             (register_in self.old) (register_in self.new)) }
         ensures lasts { OnOk result (LastBut (Itself key)
             (register_in self.old) (register_in self.new)) }
@@ -284,7 +285,10 @@ impl Relay {
         }
         match self.desk.ask(key, kind) {
             Ok(_) => self.put_held(key, whole),
-            Err(_) => self.fail(key, hold.number),
+            Err(refusal) => {
+                unless_memory(refusal)?;
+                self.fail(key, hold.number)
+            }
         }
     }
 
@@ -331,7 +335,9 @@ impl Relay {
         ensures alone { OnOk result (Alone key (hall_in self.old) (hall_in self.new)) }
         ensures ordered { OnOk result (StayOrdered self.old.orders.items self.new.orders.items) }
         ensures answers { OnOk result (KeepsAnswers self.old.links.items self.new.links.items) }
-        ensures closes { OnOk result (ClosesOnly (Itself key)
+        ensures closes { OnOk result (ClosesOnly (ItselfFor key (CannotPut whole
+            (held_of (get self.old.applications key)) key
+            (end_at (ends_in self.old.applications) key) self.old.desk self.old.links.items))
             (register_in self.old) (register_in self.new)) }
         ensures lasts { OnOk result (LastOrDeaf key self.old.links.items self.new) }
         ensures seated { IsSeated self.old → OnOk result (IsSeated self.new) }
@@ -380,16 +386,5 @@ impl Relay {
         }
         self.order_write_on(number)?;
         Ok(true)
-    }
-
-    /// Whether the connection of this number is open.
-    pub(super) fn is_open(&self, number: u64) -> bool
-        ensures shut { result ≡ false → open_at number self.now.links.items ≡ None }
-        ensures there { result ≡ true → IsSome (waits_on number self.now.links.items) }
-    {
-        match link_in(&self.links, number) {
-            Some(link) => link.is_open,
-            None => false,
-        }
     }
 }

@@ -1,9 +1,11 @@
 //! What goes on of requests, to the connections that their applications hold.
-ghost use Rattle.std.specs.Prelude.{◌≡◌, IfOk, OnOk, false, true};
+ghost use Rattle.std.specs.Prelude.{◌≡◌, IfOk, OnOk, Some, false, true};
 ghost use Rattle.tds_relay.specs.Apart.{Alone};
 ghost use Rattle.tds_relay.specs.Asking.{IsUnderway, SendsOn};
 ghost use Rattle.tds_relay.specs.Bodies.{AskAsBefore, ClientPuts, PutsOn};
 ghost use Rattle.tds_relay.specs.Closings.{ClosesOnly, Nobody, register_in};
+ghost use Rattle.tds_relay.specs.Desk.{find_key};
+ghost use Rattle.tds_relay.specs.declared.desk.Hold.{Hold};
 ghost use Rattle.tds_relay.specs.Fronts.{MayPut, MovedOn, ends_in, goes_by, hall_in, puts};
 ghost use Rattle.tds_relay.specs.Hall.{IfOpen, change_end, end_at};
 ghost use Rattle.tds_relay.specs.Lent.{KeepsAnswers, LastOrDeaf};
@@ -119,7 +121,9 @@ fn put_on(
         out.old.items out.new.items) }
     ensures others { OnOk result (OthersHold key desk.old desk.new) }
     ensures line { OnOk result ((desk_in desk.new).line ≡ (desk_in desk.old).line) }
-    ensures untaken { IfOk result (λ is. is ≡ false → IsUntaken whole bytes.now key desk.old) }
+    ensures untaken { IfOk result (λ is. is ≡ false → (hold : Hold)
+        → find_key key (desk_in desk.old).holds ≡ Some hold
+        → IsUntaken whole bytes.now key desk.old) }
     ensures seats { OnOk result (KeepsSeats (desk_in desk.old).service (desk_in desk.new).service) }
 {
     match desk.put(key, bytes, out) {

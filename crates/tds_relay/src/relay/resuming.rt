@@ -6,7 +6,7 @@ ghost use Rattle.tds_relay.specs.Asking.{IsUnderway};
 ghost use Rattle.tds_relay.specs.Closings.{Anybody, ClosesOnly, register_in};
 ghost use Rattle.tds_relay.specs.Coming.{AllAlong, MayBeginAny};
 ghost use Rattle.tds_relay.specs.Fronts.{Moved, ends_in, hall_in};
-ghost use Rattle.tds_relay.specs.Hall.{AsksFor, IfWhose, MayPart, end_at, holder};
+ghost use Rattle.tds_relay.specs.Hall.{AsksFor, IfOpen, IfWhose, IsBegun, MayPart, end_at, holder};
 ghost use Rattle.tds_relay.specs.Ordering.{StayOrdered};
 ghost use Rattle.tds_relay.specs.Posts.{posts_in};
 ghost use Rattle.tds_relay.specs.Reads.{Stays};
@@ -151,7 +151,10 @@ impl Relay {
 
     /// Whether who holds the connection of this number may be parted from it.
     fn may_replace(&self, number: u64) -> bool
-        ensures { result ≡ true → IfWhose (MayPart (hall_in self.now))
+        ensures parts { result ≡ true → IfWhose (MayPart (hall_in self.now))
+            (holder (desk_in self.now.desk) number) }
+        ensures begun { result ≡ true → IfWhose
+            (λ key. IfOpen IsBegun (end_at (ends_in self.now.applications) key))
             (holder (desk_in self.now.desk) number) }
     {
         match self.desk.key_on(number) {

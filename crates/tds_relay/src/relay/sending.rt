@@ -1,11 +1,13 @@
 //! What waits for applications and on connections, and is sent.
-ghost use Rattle.std.specs.Prelude.{◌≡◌, ◌≢◌, ◌+◌, ◌≤◌, ℕ, None, OnOk, drop, if◌then◌else◌, length, option_map, false};
+ghost use Rattle.std.specs.Prelude.{◌≡◌, ◌≢◌, ◌+◌, ◌≤◌, ℕ, None, OnOk, Some, drop, if◌then◌else◌, length};
+ghost use Rattle.std.specs.Prelude.{false, option_map};
 ghost use Rattle.slab.specs.Slab.{get};
 ghost use Rattle.tds_relay.specs.Apart.{Alone, SparesOthers};
 ghost use Rattle.tds_relay.specs.Bodies.{AskAsBefore, AskOn};
 ghost use Rattle.tds_relay.specs.Bounds.{most_for};
 ghost use Rattle.tds_relay.specs.Closings.{ClosesOnly, IsWho, Nobody, register_in};
-ghost use Rattle.tds_relay.specs.Desk.{find_number};
+ghost use Rattle.tds_relay.specs.Desk.{find_key, find_number};
+ghost use Rattle.tds_relay.specs.declared.desk.Hold.{Hold};
 ghost use Rattle.tds_relay.specs.Fronts.{MovedOn, ends_in, hall_in, house_in};
 ghost use Rattle.tds_relay.specs.Hall.{holder};
 ghost use Rattle.tds_relay.specs.House.{Steps};
@@ -16,7 +18,7 @@ ghost use Rattle.tds_relay.specs.Reasons.{HasNoRoom, IsOverfull, ItselfFor};
 ghost use Rattle.tds_relay.specs.Law.{waiting_on};
 ghost use Rattle.tds_relay.specs.Reads.{FillsBy, Sees, Stays, waits_on};
 ghost use Rattle.tds_relay.specs.Sending.{IsToWrite, called_at};
-ghost use Rattle.tds_relay.specs.Sparing.{AllRest, SendsOn};
+ghost use Rattle.tds_relay.specs.Sparing.{AllRest, OthersRest, SendsOn};
 ghost use Rattle.tds_relay.specs.Ties.{GoesOn, IsReached, Neither, desk_in};
 ghost use Rattle.tds_relay.specs.Told.{TellsTheSame, held_name, holder_name, is_there};
 ghost use Rattle.tds_relay.specs.Waking.{IsWoken};
@@ -163,6 +165,9 @@ impl Relay {
             (HasNoRoom number self.old.outbox.items self.old.links.items))
             (register_in self.old) (register_in self.new)) }
         ensures seated { IsSeated self.old → OnOk result (IsSeated self.new) }
+        ensures others { IsReached (desk_in self.old.desk) → (hold : Hold)
+            → find_key key (desk_in self.old.desk).holds ≡ Some hold → hold.number ≡ number
+            → OnOk result (OthersRest key self.old self.new) }
     {
         let fits = self.fits_on(number)?;
         if fits {

@@ -1,5 +1,5 @@
 //! Requests that have waited: a reset that one asks for is done with it.
-ghost use Rattle.std.specs.Prelude.{◌≡◌, ◌⊎◌, ℕ, Bool, OnOk, Some, false, true};
+ghost use Rattle.std.specs.Prelude.{◌≡◌, ◌⊎◌, ℕ, Bool, IsSome, None, OnOk, Some, false, true};
 ghost use Rattle.slab.specs.Slab.{get};
 ghost use Rattle.tds_relay.specs.Apart.{Alone};
 ghost use Rattle.tds_relay.specs.Asking.{IsUnderway, waits_of};
@@ -7,11 +7,12 @@ ghost use Rattle.tds_relay.specs.Bodies.{Starts, body_of};
 ghost use Rattle.tds_relay.specs.Closings.{ClosesOnly, Itself, open_name, register_in};
 ghost use Rattle.tds_relay.specs.Desk.{find_key};
 ghost use Rattle.tds_relay.specs.Fronts.{MovedOn, ends_in, hall_in};
-ghost use Rattle.tds_relay.specs.Hall.{IsReset, end_at};
+ghost use Rattle.tds_relay.specs.Anew.{ResetsFor};
+ghost use Rattle.tds_relay.specs.Hall.{IfOpenAsks, IsReset, end_at};
 ghost use Rattle.tds_relay.specs.Lent.{KeepsAnswers, LastBut};
 ghost use Rattle.tds_relay.specs.Ordering.{StayOrdered};
 ghost use Rattle.tds_relay.specs.Posts.{posts_in};
-ghost use Rattle.tds_relay.specs.Reads.{Stays};
+ghost use Rattle.tds_relay.specs.Reads.{Stays, open_at, waits_on};
 ghost use Rattle.tds_relay.specs.Sparing.{IsHeldBack, IsUnkept, OthersRest};
 ghost use Rattle.tds_relay.specs.Ties.{GoesOn, IsReached, desk_in};
 ghost use Rattle.tds_relay.specs.Waiting.{GoesOrWaits};
@@ -21,6 +22,7 @@ ghost use Rattle.tds_relay.specs.Few.{IsSeated};
 use super::Relay;
 use crate::NoMemory;
 use crate::desk::Hold;
+use crate::links::link_in;
 
 impl Relay {
     /// Asks what was kept of an application's request. Where its connection is open, and what it took back is
@@ -94,8 +96,11 @@ impl Relay {
     /// Whether the reset that an application's request asks for, if it does, is done with that on the
     /// connection that it holds.
     fn is_reset(&self, key: usize, hold: Hold) -> bool
-        ensures { find_key key (desk_in self.now.desk).holds ≡ Some hold → result ≡ true
+        ensures reset { find_key key (desk_in self.now.desk).holds ≡ Some hold → result ≡ true
             → IsReset (desk_in self.now.desk) key (end_at (ends_in self.now.applications) key) }
+        ensures not_reset { result ≡ false → IfOpenAsks
+            (λ asks. ¬ ResetsFor asks (Some hold) (desk_in self.now.desk))
+            (end_at (ends_in self.now.applications) key) }
     {
         let Some(application) = self.applications.get(key) else {
             return true;
@@ -103,6 +108,18 @@ impl Relay {
         match application.reset {
             Some(reset) => self.desk.resets_on(hold.number, reset),
             None => true,
+        }
+    }
+
+    /// Whether the connection of this number is open.
+    pub(super) fn is_open(&self, number: u64) -> bool
+        ensures shut { result ≡ false → open_at number self.now.links.items ≡ None }
+        ensures open { result ≡ true → IsSome (open_at number self.now.links.items) }
+        ensures there { result ≡ true → IsSome (waits_on number self.now.links.items) }
+    {
+        match link_in(&self.links, number) {
+            Some(link) => link.is_open,
+            None => false,
         }
     }
 }

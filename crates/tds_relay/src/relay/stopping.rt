@@ -1,19 +1,22 @@
 //! What applications take back: requests that are forgotten, and attentions.
 ghost use Rattle.slab.specs.Slab.{get};
-ghost use Rattle.std.specs.Prelude.{◌≡◌, [], ℕ, IfNone, IfOk, IfSome, List, OnOk, false, true};
+ghost use Rattle.std.specs.Prelude.{◌≡◌, ◌⊎◌, [], ℕ, IfNone, IfOk, IfSome, List, OnOk, Some, false};
+ghost use Rattle.std.specs.Prelude.{true};
 ghost use Rattle.tds_front.specs.declared.front.Said.TheVariants.{Forget, HandOn};
 ghost use Rattle.tds_relay.specs.Anew.{AsksNothing};
-ghost use Rattle.tds_relay.specs.Bodies.{AskAsBefore, AskOn, Body, Halts, IsHalting, Nowhere, Starts};
+ghost use Rattle.tds_relay.specs.Bodies.{AskAsBefore, AskOn, Body, Halts, IsHalting, Nowhere, Spared, Starts};
 ghost use Rattle.tds_relay.specs.Bodies.{StopsOn, body_in, body_of};
 ghost use Rattle.tds_relay.specs.Closings.{ClosesOnly, Nobody, register_in};
-ghost use Rattle.tds_relay.specs.Desk.{Does, Stops, Unwaits};
+ghost use Rattle.tds_relay.specs.Desk.{Does, Stops, Unwaits, find_key};
+ghost use Rattle.tds_relay.specs.declared.desk.Hold.{Hold};
 ghost use Rattle.tds_relay.specs.Fronts.{FedOn, Moved, MovedOn, ends_in, hall_in, hall_of_ends, withdraws};
 ghost use Rattle.tds_relay.specs.Hall.{Ends, IfOpen, IsHere, change_end, end_at};
 ghost use Rattle.tds_relay.specs.Posts.{acknowledgement, give, post_at, posts_in};
 ghost use Rattle.tds_relay.specs.Reads.{Stays};
 ghost use Rattle.tds_relay.specs.Reasons.{CannotForget, CannotStop, CannotUnask, HasNoRoom};
-ghost use Rattle.tds_relay.specs.Reasons.{IsOverfull, IsUnstopped, ItselfFor};
-ghost use Rattle.tds_relay.specs.Ties.{Application, Goes, GoesOn, Turns, desk_in};
+ghost use Rattle.tds_relay.specs.Reasons.{IsOverfull, IsUnheld, IsUnstopped, ItselfFor};
+ghost use Rattle.tds_relay.specs.Sparing.{OthersRest};
+ghost use Rattle.tds_relay.specs.Ties.{Application, Goes, GoesOn, IsReached, Turns, desk_in};
 ghost use Rattle.tds_relay.specs.Walkers.{AllStand};
 ghost use Rattle.tds_relay.specs.Few.{IsSeated};
 
@@ -43,8 +46,10 @@ impl Relay {
         ensures body { OnOk result ((goes : Body)
             → Starts Nowhere (body_in (get self.new.applications key) goes)) }
         ensures closes { OnOk result (ClosesOnly (ItselfFor key (CannotForget false key
-            (end_at (ends_in self.old.applications) key) self.old.desk self.old.links.items))
-            (register_in self.old) (register_in self.new)) }
+            (end_at (ends_in self.old.applications) key) self.old.desk self.old.links.items
+            (body_of key self.old))) (register_in self.old) (register_in self.new)) }
+        ensures others { IsReached (desk_in self.old.desk)
+            → OnOk result (OthersRest key self.old self.new) }
         ensures seated { IsSeated self.old → OnOk result (IsSeated self.new) }
     {
         let was_asked = self.forget_request(key);
@@ -63,6 +68,9 @@ impl Relay {
         ensures stand { AllStand self.old.desk.service self.new.desk.service }
         ensures body { (goes : Body) → Starts Nowhere (body_in (get self.new.applications key) goes) }
         ensures closes { ClosesOnly Nobody (register_in self.old) (register_in self.new) }
+        ensures others { OthersRest key self.old self.new }
+        ensures asked { result ≡ true
+            → (goes : Body) → Spared goes (body_in (get self.old.applications key) goes) }
     {
         self.desk.unwait(key);
         let Some(application) = self.applications.get_mut(key) else {
@@ -86,9 +94,11 @@ impl Relay {
         ensures stand { OnOk result (AllStand self.old.desk.service
             self.new.desk.service) }
         ensures asks { OnOk result (AskOn self.old.applications self.new.applications) }
-        ensures closes { OnOk result (ClosesOnly (ItselfFor key (CannotUnask key
-            (end_at (ends_in self.old.applications) key) self.old.desk self.old.links.items))
-            (register_in self.old) (register_in self.new)) }
+        ensures closes { OnOk result (ClosesOnly (ItselfFor key (IsUnheld key self.old.desk
+            ⊎ CannotUnask key (end_at (ends_in self.old.applications) key) self.old.desk
+            self.old.links.items)) (register_in self.old) (register_in self.new)) }
+        ensures others { IsReached (desk_in self.old.desk)
+            → OnOk result (OthersRest key self.old self.new) }
         ensures seated { IsSeated self.old → OnOk result (IsSeated self.new) }
     {
         if !self.has_nothing_out(key) {
@@ -120,8 +130,10 @@ impl Relay {
         ensures body { OnOk result ((goes : Body)
             → Starts Nowhere (body_in (get self.new.applications key) goes)) }
         ensures closes { OnOk result (ClosesOnly (ItselfFor key (CannotForget true key
-            (end_at (ends_in self.old.applications) key) self.old.desk self.old.links.items))
-            (register_in self.old) (register_in self.new)) }
+            (end_at (ends_in self.old.applications) key) self.old.desk self.old.links.items
+            (body_of key self.old))) (register_in self.old) (register_in self.new)) }
+        ensures others { IsReached (desk_in self.old.desk)
+            → OnOk result (OthersRest key self.old self.new) }
         ensures seated { IsSeated self.old → OnOk result (IsSeated self.new) }
     {
         let _ = self.forget_request(key);
@@ -153,6 +165,8 @@ impl Relay {
         ensures none { IfOk result (λ stopped. IfNone stopped
             (IsUnstopped key self.old.desk)) }
         ensures closes { ClosesOnly Nobody (register_in self.old) (register_in self.new) }
+        ensures others { IsReached (desk_in self.old.desk)
+            → OthersRest key self.old self.new }
         ensures seated { IsSeated self.old → IsSeated self.new }
     {
         self.outbox.clear();
@@ -224,6 +238,8 @@ impl Relay {
         ensures closes { OnOk result (ClosesOnly (ItselfFor key
             (CannotStop key self.old.desk self.old.links.items))
             (register_in self.old) (register_in self.new)) }
+        ensures others { IsReached (desk_in self.old.desk)
+            → OnOk result (OthersRest key self.old self.new) }
         ensures seated { IsSeated self.old → OnOk result (IsSeated self.new) }
     {
         match self.stop(key)? {
@@ -246,6 +262,9 @@ impl Relay {
         ensures closes { OnOk result (ClosesOnly (ItselfFor key
             (HasNoRoom number self.old.outbox.items self.old.links.items))
             (register_in self.old) (register_in self.new)) }
+        ensures others { IsReached (desk_in self.old.desk) → (hold : Hold)
+            → find_key key (desk_in self.old.desk).holds ≡ Some hold → hold.number ≡ number
+            → OnOk result (OthersRest key self.old self.new) }
         ensures seated { IsSeated self.old → OnOk result (IsSeated self.new) }
     {
         let fits = self.fits_on(number)?;

@@ -7,6 +7,10 @@ use Rattle.tds_relay.proofs.bytes.Walking.{keeps_stand}
 use Rattle.tds_relay.proofs.spared.Held.{deed_others, deed_same}
 use Rattle.tds_relay.specs.declared.desk.Figures.{Figures}
 use Rattle.tds_relay.proofs.steps.Made.{turns_asked}
+use Rattle.std.proofs.Common.{◌≡◌, ◌∙◌, Some, subst, sym}
+use Rattle.tds_service.specs.Table.{Refuses}
+use Rattle.tds_relay.specs.declared.desk.Hold.{Hold}
+use Rattle.tds_relay.specs.Desk.{find_key}
 use Rattle.tds_relay.proofs.desk.Desk.ask.Goals as goal
 
 pub returns-in-Ok-clause-sends : goal.returns-in-Ok-clause-sends
@@ -28,3 +32,9 @@ returns-in-Ok-clause-ok c =
     let d = desk_in c.args.self.now in
     turns_asked d c.args.key c.in-Some.hold (service_in c.ask.new.self) _ calls.Did _ _ c.in-Ok.ensures.names.0 (search rules) c.in-Ok.ensures.ok c.in-Ok.ensures.names.1
     (ap (λ (n : ℕ). let f : Figures = record { requests = n; cancels = d.figures.cancels } in f) c.saturating_add-self.ensures)
+
+pub returns-in-Err-clause-refused : goal.returns-in-Err-clause-refused
+returns-in-Err-clause-refused c = λ hold its.
+    let mine : find_key c.args.key (desk_in c.args.self.now).holds ≡ Some c.in-Some.hold = search rules in
+    let same : c.in-Some.hold ≡ hold = (let u : Some c.in-Some.hold ≡ Some hold = sym mine ∙ its in cc) in
+    subst (λ (h : Hold). Refuses (calls.Ask h.lease) (service_in c.args.self.now.service) c.in-Err.refusal) same c.in-Err.ensures.refused

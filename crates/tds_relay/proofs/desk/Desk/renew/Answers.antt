@@ -13,6 +13,11 @@ use Rattle.tds_relay.proofs.bytes.Walking.{led_on}
 use Rattle.tds_relay.proofs.seats.Desks.{both_keep}
 use Rattle.tds_relay.proofs.seats.Rests.{call_keeps, kept_stays, same_keeps, then_forgot}
 use Rattle.tds_relay.proofs.spared.Aside.{led_at}
+use Rattle.std.proofs.Common.{refl}
+use Rattle.tds_relay.proofs.spared.Aside.{led_kept, renewed_others, unkept_others}
+use Rattle.tds_relay.proofs.spared.Held.{deed_others, deed_refl}
+use Rattle.std.proofs.lemmas.Bool.{eqb-true}
+use Rattle.tds_relay.proofs.held.Lists.{found_key}
 use Rattle.tds_relay.proofs.desk.Desk.renew.Goals as goal
 
 pub returns-clause-turns : goal.returns-clause-turns
@@ -54,3 +59,26 @@ returns-clause-seats c = λ reached.
     both_keep (service_in c.args.self.now.service) (service_in c.keep.new.self) (service_in c.resume.new.self)
     (call_keeps (service_in c.args.self.now.service) (service_in c.keep.new.self) (calls.Keep c.in-Some.hold.lease) tt c.in-Ok.ensures.ok.1.service_is)
     (call_keeps (service_in c.keep.new.self) (service_in c.resume.new.self) (calls.Resume c.in-Ok.ticket) tt c.in-Ok-resume.ensures.ok.service_is)
+
+pub returns-in_default-clause-others : goal.returns-in_default-clause-others
+returns-in_default-clause-others c = deed_refl c.args.self.now c.args.key
+
+pub returns-in-Err-clause-others : goal.returns-in-Err-clause-others
+returns-in-Err-clause-others c = deed_others c.args.self.now _ c.args.key c.in-Some.hold (search rules) refl c.in-Err.ensures.clients
+
+pub returns-in_default-resume-clause-others : goal.returns-in_default-resume-clause-others
+returns-in_default-resume-clause-others c =
+    unkept_others c.args.self.now _ c.args.key c.in-Some.hold c.keep.new.self c.resume.new.self (search rules) (search rules) c.in-Ok.ensures.ok.1.service_is c.in-Ok.ensures.clients c.in_default-resume.ensures.err c.in_default-resume.ensures.clients c.in_ok-forget.ensures.clients
+
+pub returns-clause-others : goal.returns-clause-others
+returns-clause-others c =
+    renewed_others c.args.self.now _ c.args.key c.in-Some.hold (holding c.in-Some.hold.key c.in-Ok-resume.lent.lease c.in-Ok-resume.lent.number) c.keep.new.self (search rules) (search rules) c.in-Ok.ensures.ok.1.service_is c.in-Ok.ensures.clients c.in-Ok-resume.ensures.clients
+
+pub returns-in_default-resume-clause-is : goal.returns-in_default-resume-clause-is
+returns-in_default-resume-clause-is c =
+    (c.in-Some.hold, search rules, refl, λ led. c.in_ok-forget.ensures.gone (led_kept c.args.self.now.service c.keep.new.self c.resume.new.self c.in-Some.hold.lease c.in-Ok.ensures.ok.1.service_is c.in_default-resume.ensures.err led))
+
+pub returns-clause-is : goal.returns-clause-is
+returns-clause-is c =
+    let its : find_key c.args.key c.args.self.now.holds.items ≡ Some c.in-Some.hold = search rules in
+    (c.in-Some.hold, its, eqb-true c.in-Some.hold.key c.args.key (found_key c.args.key c.in-Some.hold c.args.self.now.holds.items its), search rules)

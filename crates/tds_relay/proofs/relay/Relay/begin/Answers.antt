@@ -22,6 +22,12 @@ use Rattle.tds_relay.proofs.spared.Reasons.{for_reason, for_that, no_request}
 use Rattle.tds_relay.proofs.spared.Closings.{closes_both, closes_nobody, closes_on}
 use Rattle.tds_relay.proofs.spared.Sending.{kept_refl}
 use Rattle.tds_relay.proofs.spared.Shutting.{closes_kept, unclosed}
+use Rattle.tds_relay.proofs.spared.Speaking.{written_waited}
+use Rattle.tds_relay.proofs.spared.Resting.{others_on, others_refl, written_rest}
+use Rattle.tds_relay.proofs.spared.Reasons.{begun_asks}
+use Rattle.tds_relay.specs.Reasons.{CannotAsk}
+use Rattle.std.proofs.Common.{[]}
+use Rattle.tds_relay.specs.Hall.{IfOpen, IsBegun}
 use Rattle.tds_relay.proofs.relay.Relay.begin.Goals as goal
 
 pub returns-in-false-default-clause-goes : goal.returns-in-false-default-clause-goes
@@ -29,7 +35,7 @@ returns-in-false-default-clause-goes c = ok_more c.wait.result _ _ (λ g from h.
 
 pub returns-in-false-default-clause-moves : goal.returns-in-false-default-clause-moves
 returns-in-false-default-clause-moves c =
-    ok_more c.wait.result _ _ (λ m asks from h. m (Application c.args.key) refl from (moves_same (Application c.args.key) from _ _ _ _ refl (ends_kept c.args.self.now.applications c.args.key c.in-Some.application.now _ c.in-Some.ensures.value c.forget.ensures.end) h)) c.wait.ensures.moves
+    ok_more c.wait.result _ _ (λ m asks begun from h. m (Application c.args.key) refl (subst (λ (es : Ends). IfOpen IsBegun (end_at es c.args.key)) (sym (ends_kept c.args.self.now.applications c.args.key c.in-Some.application.now c.forget.new.self c.in-Some.ensures.value c.forget.ensures.end)) begun) from (moves_same (Application c.args.key) from _ _ _ _ refl (ends_kept c.args.self.now.applications c.args.key c.in-Some.application.now _ c.in-Some.ensures.value c.forget.ensures.end) h)) c.wait.ensures.moves
 
 pub returns-in-false-default-clause-read : goal.returns-in-false-default-clause-read
 returns-in-false-default-clause-read c = stays_same c.wait.result _ _ _ (stays_refl c.args.self.now.links.items) (ok_if c.wait.result _ c.wait.ensures.links)
@@ -39,7 +45,7 @@ returns-in-true-None-clause-moves c =
     let kept = ends_kept c.args.self.now.applications c.args.key c.in-Some.application.now c.forget.new.self c.in-Some.ensures.value c.forget.ensures.end in
     let none : c.args.reset ≡ None = search rules in
     ok_more c.start.result _ _
-    (λ m asks from h. m (subst (λ (es : Ends). IsReset (desk_in c.args.self.now.desk) c.args.key (end_at es c.args.key)) (sym kept)
+    (λ m asks begun from h. m (subst (λ (es : Ends). IsReset (desk_in c.args.self.now.desk) c.args.key (end_at es c.args.key)) (sym kept)
     (none_reset (desk_in c.args.self.now.desk) c.args.key _ (subst (λ (r : Option Reset). IfAsked r (end_at (ends_in c.args.self.now.applications) c.args.key)) none asks)))
     (Application c.args.key) from (moves_same (Application c.args.key) from _ _ _ _ refl kept h))
     c.start.ensures.moves
@@ -49,7 +55,7 @@ returns-in-true-Some-Full-clause-moves c =
     let kept = ends_kept c.args.self.now.applications c.args.key c.in-Some.application.now c.forget.new.self c.in-Some.ensures.value c.forget.ensures.end in
     let full : c.args.reset ≡ Some Full = search rules in
     ok_more c.change.result _ _
-    (λ m asks from h. m (subst (λ (es : Ends). AsksToPart (hall_of_ends (desk_in c.args.self.now.desk) es) c.args.key) (sym kept) (inl (subst (λ (r : Option Reset). IfAsked r (end_at (ends_in c.args.self.now.applications) c.args.key)) full asks))) from (moves_same (Application c.args.key) from _ _ _ _ refl kept h))
+    (λ m asks begun from h. m (subst (λ (es : Ends). AsksToPart (hall_of_ends (desk_in c.args.self.now.desk) es) c.args.key) (sym kept) (inl (subst (λ (r : Option Reset). IfAsked r (end_at (ends_in c.args.self.now.applications) c.args.key)) full asks))) (subst (λ (es : Ends). IfOpen IsBegun (end_at es c.args.key)) (sym kept) begun) from (moves_same (Application c.args.key) from _ _ _ _ refl kept h))
     c.change.ensures.moves
 
 pub returns-else-may_keep_later-clause-moves : goal.returns-else-may_keep_later-clause-moves
@@ -57,13 +63,13 @@ returns-else-may_keep_later-clause-moves c =
     let kept = ends_kept c.args.self.now.applications c.args.key c.in-Some.application.now c.forget.new.self c.in-Some.ensures.value c.forget.ensures.end in
     let keeps : c.args.reset ≡ Some KeepTransaction = search rules in
     ok_more c.renew.result _ _
-    (λ m asks from h. m (subst (λ (es : Ends). AsksFor KeepTransaction (end_at es c.args.key)) (sym kept) (subst (λ (r : Option Reset). IfAsked r (end_at (ends_in c.args.self.now.applications) c.args.key)) keeps asks)) from (moves_same (Application c.args.key) from _ _ _ _ refl kept h))
+    (λ m asks begun from h. m (subst (λ (es : Ends). AsksFor KeepTransaction (end_at es c.args.key)) (sym kept) (subst (λ (r : Option Reset). IfAsked r (end_at (ends_in c.args.self.now.applications) c.args.key)) keeps asks)) (subst (λ (es : Ends). IfOpen IsBegun (end_at es c.args.key)) (sym kept) begun) from (moves_same (Application c.args.key) from _ _ _ _ refl kept h))
     c.renew.ensures.moves
 
 pub returns-in_default-message_kind-clause-moves : goal.returns-in_default-message_kind-clause-moves
 returns-in_default-message_kind-clause-moves c =
     ok_more c.expel.result _ _
-    (λ m asks from h. m from (moves_closes (Application c.args.key) from _ _ _ _ c.args.key refl
+    (λ m asks begun from h. m from (moves_closes (Application c.args.key) from _ _ _ _ c.args.key refl
     (ap (change_end c.args.key closes) (ends_kept c.args.self.now.applications c.args.key c.in-Some.application.now _ c.in-Some.ensures.value refl)) h))
     c.expel.ensures.moves
 
@@ -100,19 +106,12 @@ returns-in-false-default-clause-body c = ok_if c.wait.result _ (_, begun (get (w
 pub returns-in_default-message_kind-clause-closes : goal.returns-in_default-message_kind-clause-closes
 returns-in_default-message_kind-clause-closes c =
     let none : IsNoRequest c.args.kind = search rules in
-    closes_on c.expel.result (ItselfFor c.args.key (CannotBegin c.args.kind c.args.reset c.args.key (end_at (ends_in c.args.self.now.applications) c.args.key) c.args.self.now.desk)) _ _ _ (for_reason c.expel.result c.args.key _ _ _ (no_request c.args.kind c.args.reset c.args.key _ c.args.self.now.desk none) c.expel.ensures.closes)
+    closes_on c.expel.result (ItselfFor c.args.key (CannotBegin c.args.kind c.args.reset c.args.key (end_at (ends_in c.args.self.now.applications) c.args.key) c.args.self.now.desk c.args.self.now.links.items)) _ _ _ (for_reason c.expel.result c.args.key _ _ _ (no_request c.args.kind c.args.reset c.args.key _ c.args.self.now.desk c.args.self.now.links.items none) c.expel.ensures.closes)
     (closes_kept _ _ _ (ends_kept c.args.self.now.applications c.args.key c.in-Some.application.now c.in-Some.application.now c.in-Some.ensures.value refl) (posts_kept c.args.self.now.applications c.args.key c.in-Some.application.now c.in-Some.application.now c.in-Some.ensures.value refl) refl (kept_refl c.args.self.now.links.items) (unclosed _ _ refl))
 
 pub returns-in-false-default-clause-closes : goal.returns-in-false-default-clause-closes
-returns-in-false-default-clause-closes c = ok_if c.wait.result _ (closes_both (ItselfFor c.args.key (CannotBegin c.args.kind c.args.reset c.args.key (end_at (ends_in c.args.self.now.applications) c.args.key) c.args.self.now.desk)) _ _ _
+returns-in-false-default-clause-closes c = ok_if c.wait.result _ (closes_both (ItselfFor c.args.key (CannotBegin c.args.kind c.args.reset c.args.key (end_at (ends_in c.args.self.now.applications) c.args.key) c.args.self.now.desk c.args.self.now.links.items)) _ _ _
     (closes_kept _ _ _ (ends_kept c.args.self.now.applications c.args.key c.in-Some.application.now c.forget.new.self c.in-Some.ensures.value c.forget.ensures.end) (posts_kept c.args.self.now.applications c.args.key c.in-Some.application.now c.forget.new.self c.in-Some.ensures.value c.forget.ensures.post) refl (kept_refl c.args.self.now.links.items) (unclosed _ _ refl)) (closes_nobody _ _ _ c.wait.ensures.closes))
-
-pub returns-in-true-None-clause-closes : goal.returns-in-true-None-clause-closes
-returns-in-true-None-clause-closes c =
-    let none : c.args.reset ≡ None = search rules in
-    let held : IsSome (find_key c.args.key (desk_in c.args.self.now.desk).holds) = search rules in
-    closes_on c.start.result (ItselfFor c.args.key (CannotBegin c.args.kind c.args.reset c.args.key (end_at (ends_in c.args.self.now.applications) c.args.key) c.args.self.now.desk)) _ _ _ (for_reason c.start.result c.args.key _ _ _ (subst (λ (r : Option Reset). CannotBegin c.args.kind r c.args.key (end_at (ends_in c.args.self.now.applications) c.args.key) c.args.self.now.desk) (sym none) (inr held)) c.start.ensures.closes)
-    (closes_kept _ _ _ (ends_kept c.args.self.now.applications c.args.key c.in-Some.application.now c.forget.new.self c.in-Some.ensures.value c.forget.ensures.end) (posts_kept c.args.self.now.applications c.args.key c.in-Some.application.now c.forget.new.self c.in-Some.ensures.value c.forget.ensures.post) refl (kept_refl c.args.self.now.links.items) (unclosed _ _ refl))
 
 pub returns-then-may_keep_later-clause-closes : goal.returns-then-may_keep_later-clause-closes
 returns-then-may_keep_later-clause-closes c = (closes_kept _ _ _ (ends_kept c.args.self.now.applications c.args.key c.in-Some.application.now c.forget.new.self c.in-Some.ensures.value c.forget.ensures.end) (posts_kept c.args.self.now.applications c.args.key c.in-Some.application.now c.forget.new.self c.in-Some.ensures.value c.forget.ensures.post) refl (kept_refl c.args.self.now.links.items) (unclosed _ _ refl))
@@ -121,13 +120,52 @@ pub returns-else-may_keep_later-clause-closes : goal.returns-else-may_keep_later
 returns-else-may_keep_later-clause-closes c =
     let keeps : c.args.reset ≡ Some KeepTransaction = search rules in
     let held : IsSome (find_key c.args.key (desk_in c.args.self.now.desk).holds) = search rules in
-    closes_on c.renew.result (ItselfFor c.args.key (CannotBegin c.args.kind c.args.reset c.args.key (end_at (ends_in c.args.self.now.applications) c.args.key) c.args.self.now.desk)) _ _ _ (for_reason c.renew.result c.args.key _ _ _ (subst (λ (r : Option Reset). CannotBegin c.args.kind r c.args.key (end_at (ends_in c.args.self.now.applications) c.args.key) c.args.self.now.desk) (sym keeps) (inr held)) c.renew.ensures.closes)
+    closes_on c.renew.result (ItselfFor c.args.key (CannotBegin c.args.kind c.args.reset c.args.key (end_at (ends_in c.args.self.now.applications) c.args.key) c.args.self.now.desk c.args.self.now.links.items)) _ _ _ (for_reason c.renew.result c.args.key _ _ _ (subst (λ (r : Option Reset). CannotBegin c.args.kind r c.args.key (end_at (ends_in c.args.self.now.applications) c.args.key) c.args.self.now.desk c.args.self.now.links.items) (sym keeps) (inr held)) c.renew.ensures.closes)
     (closes_kept _ _ _ (ends_kept c.args.self.now.applications c.args.key c.in-Some.application.now c.forget.new.self c.in-Some.ensures.value c.forget.ensures.end) (posts_kept c.args.self.now.applications c.args.key c.in-Some.application.now c.forget.new.self c.in-Some.ensures.value c.forget.ensures.post) refl (kept_refl c.args.self.now.links.items) (unclosed _ _ refl))
 
 pub returns-in-true-Some-Full-clause-closes : goal.returns-in-true-Some-Full-clause-closes
 returns-in-true-Some-Full-clause-closes c =
     let full : c.args.reset ≡ Some Full = search rules in
     let same = ends_kept c.args.self.now.applications c.args.key c.in-Some.application.now c.forget.new.self c.in-Some.ensures.value c.forget.ensures.end in
-    closes_on c.change.result (ItselfFor c.args.key (CannotBegin c.args.kind c.args.reset c.args.key (end_at (ends_in c.args.self.now.applications) c.args.key) c.args.self.now.desk)) _ _ _
-    (for_that c.change.result c.args.key _ _ _ _ (λ why. subst (λ (r : Option Reset). CannotBegin c.args.kind r c.args.key (end_at (ends_in c.args.self.now.applications) c.args.key) c.args.self.now.desk) (sym full) (inr (subst (λ (es : Ends). CannotPart c.args.key (end_at es c.args.key) c.args.self.now.desk) same why))) c.change.ensures.closes)
+    closes_on c.change.result (ItselfFor c.args.key (CannotBegin c.args.kind c.args.reset c.args.key (end_at (ends_in c.args.self.now.applications) c.args.key) c.args.self.now.desk c.args.self.now.links.items)) _ _ _
+    (for_that c.change.result c.args.key _ _ _ _ (λ why. subst (λ (r : Option Reset). CannotBegin c.args.kind r c.args.key (end_at (ends_in c.args.self.now.applications) c.args.key) c.args.self.now.desk c.args.self.now.links.items) (sym full) (inr (subst (λ (es : Ends). CannotPart c.args.key (end_at es c.args.key) c.args.self.now.desk) same why))) c.change.ensures.closes)
     (closes_kept _ _ _ (ends_kept c.args.self.now.applications c.args.key c.in-Some.application.now c.forget.new.self c.in-Some.ensures.value c.forget.ensures.end) (posts_kept c.args.self.now.applications c.args.key c.in-Some.application.now c.forget.new.self c.in-Some.ensures.value c.forget.ensures.post) refl (kept_refl c.args.self.now.links.items) (unclosed _ _ refl))
+
+pub returns-in_default-clause-others : goal.returns-in_default-clause-others
+returns-in_default-clause-others c = λ reached. others_refl c.args.key c.args.self.now
+
+pub returns-in_default-message_kind-clause-others : goal.returns-in_default-message_kind-clause-others
+returns-in_default-message_kind-clause-others c = λ reached. others_on c.expel.result c.args.key c.args.self.now _ c.expel.new.self (c.expel.ensures.others reached) (written_rest c.args.key _ c.args.self.now _ refl refl refl)
+
+pub returns-in-false-default-clause-others : goal.returns-in-false-default-clause-others
+returns-in-false-default-clause-others c = λ reached. ok_if c.wait.result _ (written_waited c.args.key c.forget.new.self c.args.self.now c.wait.new.self c.wait.ensures.body)
+
+pub returns-in-true-None-clause-others : goal.returns-in-true-None-clause-others
+returns-in-true-None-clause-others c = λ reached. others_on c.start.result c.args.key c.args.self.now _ c.start.new.self (c.start.ensures.others reached) (written_rest c.args.key _ c.args.self.now _ refl refl refl)
+
+pub returns-then-may_keep_later-clause-others : goal.returns-then-may_keep_later-clause-others
+returns-then-may_keep_later-clause-others c = λ reached. written_rest c.args.key _ c.args.self.now _ refl refl refl
+
+pub returns-else-may_keep_later-clause-others : goal.returns-else-may_keep_later-clause-others
+returns-else-may_keep_later-clause-others c = λ reached. others_on c.renew.result c.args.key c.args.self.now _ c.renew.new.self (c.renew.ensures.others reached) (written_rest c.args.key _ c.args.self.now _ refl refl refl)
+
+pub returns-in-true-Some-Full-clause-others : goal.returns-in-true-Some-Full-clause-others
+returns-in-true-Some-Full-clause-others c = λ reached. others_on c.change.result c.args.key c.args.self.now _ c.change.new.self (c.change.ensures.others reached) (written_rest c.args.key _ c.args.self.now _ refl refl refl)
+
+pub returns-in-true-None-clause-closes : goal.returns-in-true-None-clause-closes
+returns-in-true-None-clause-closes c =
+    let none : c.args.reset ≡ None = search rules in
+    let s = c.args.self.now.applications in
+    let a = c.in-Some.application.now in
+    let b = c.forget.new.self in
+    let same = ends_kept s c.args.key a b c.in-Some.ensures.value c.forget.ensures.end in
+    closes_on c.start.result (ItselfFor c.args.key (CannotBegin c.args.kind c.args.reset c.args.key (end_at (ends_in c.args.self.now.applications) c.args.key) c.args.self.now.desk c.args.self.now.links.items)) _ _ _
+    (for_that c.start.result c.args.key _ _ _ _
+    (λ why. subst (λ (r : Option Reset). CannotBegin c.args.kind r c.args.key (end_at (ends_in c.args.self.now.applications) c.args.key) c.args.self.now.desk c.args.self.now.links.items) (sym none)
+    (inr (
+      c.in-Some-message_kind.kind,
+      search rules,
+      subst (λ (es : Ends). CannotAsk c.in-Some-message_kind.kind [] false c.args.key (end_at es c.args.key) c.args.self.now.desk c.args.self.now.links.items) same
+          (begun_asks c.args.key _ c.args.self.now.desk c.args.self.now.links.items (get (with_value s c.args.key b) c.args.key) _ b c.in-Some-message_kind.kind (written_there s c.args.key a b c.in-Some.ensures.value) c.forget.ensures.asking c.forget.ensures.body.1 why),
+    ))) c.start.ensures.closes)
+    (closes_kept _ _ _ same (posts_kept s c.args.key a b c.in-Some.ensures.value c.forget.ensures.post) refl (kept_refl c.args.self.now.links.items) (unclosed _ _ refl))

@@ -13,10 +13,16 @@ use Rattle.tds_relay.specs.Closings.{Itself, Nobody}
 use Rattle.tds_relay.specs.Reasons.{Held, Out}
 use Rattle.tds_relay.proofs.spared.Reasons.{for_reason}
 use Rattle.tds_relay.proofs.spared.Closings.{closes_both, closes_first, closes_nobody}
+use Rattle.tds_relay.proofs.spared.Speaking.{reached_left, waited_rest}
+use Rattle.tds_relay.proofs.spared.Resting.{others_both, others_on}
+use Rattle.tds_relay.specs.Hall.{Ends, IfOpen, IsBegun, end_at}
+use Rattle.tds_relay.specs.Fronts.{ends_in}
+use Rattle.tds_relay.proofs.steps.Quieting.{open_lets_go}
+use Rattle.std.proofs.Common.{subst, sym}
 use Rattle.tds_relay.proofs.relay.Relay.change.Goals as goal
 
 pub returns-then-not-has_nothing_out-clause-moves : goal.returns-then-not-has_nothing_out-clause-moves
-returns-then-not-has_nothing_out-clause-moves c = ok_more c.expel.result _ _ (λ m asks from h. m from (moves_closes (Application c.args.key) from _ _ _ _ c.args.key refl refl h)) c.expel.ensures.moves
+returns-then-not-has_nothing_out-clause-moves c = ok_more c.expel.result _ _ (λ m asks begun from h. m from (moves_closes (Application c.args.key) from _ _ _ _ c.args.key refl refl h)) c.expel.ensures.moves
 
 pub returns-clause-goes : goal.returns-clause-goes
 returns-clause-goes c = ok_more c.wait.result _ _ (λ g from h. g (Application c.args.key) refl from (reaches_left c.args.key from _ _ c.in_ok-release.ensures.leaving h)) c.wait.ensures.goes
@@ -24,7 +30,8 @@ returns-clause-goes c = ok_more c.wait.result _ _ (λ g from h. g (Application c
 pub returns-clause-moves : goal.returns-clause-moves
 returns-clause-moves c =
     ok_more c.wait.result _ _
-    (λ m asks from h. m (Application c.args.key) refl from (moves_lets_go c.args.key from _ _ _ (c.has_nothing_out.ensures.here (search rules), asks) c.in_ok-release.ensures.lets_go h))
+    (λ m asks begun from h. m (Application c.args.key) refl
+    (subst (λ (es : Ends). IfOpen IsBegun (end_at es c.args.key)) (sym c.in_ok-release.ensures.fronts) (open_lets_go IsBegun (ends_in c.args.self.now.applications) c.args.key begun)) from (moves_lets_go c.args.key from _ _ _ (c.has_nothing_out.ensures.here (search rules), asks) c.in_ok-release.ensures.lets_go h))
     c.wait.ensures.moves
 
 pub returns-clause-read : goal.returns-clause-read
@@ -39,7 +46,7 @@ returns-then-is_some-clause-goes c = ok_more c.expel-then-is_some.result _ _ (λ
 pub returns-then-is_some-clause-moves : goal.returns-then-is_some-clause-moves
 returns-then-is_some-clause-moves c =
     ok_more c.expel-then-is_some.result _ _
-    (λ m asks from h. m from (moves_closes (Application c.args.key) from _ _ _ _ c.args.key refl refl (moves_lets_go c.args.key from _ _ _ (c.has_nothing_out.ensures.here (search rules), asks) c.in_ok-release.ensures.lets_go h)))
+    (λ m asks begun from h. m from (moves_closes (Application c.args.key) from _ _ _ _ c.args.key refl refl (moves_lets_go c.args.key from _ _ _ (c.has_nothing_out.ensures.here (search rules), asks) c.in_ok-release.ensures.lets_go h)))
     c.expel-then-is_some.ensures.moves
 
 pub returns-then-is_some-clause-underway : goal.returns-then-is_some-clause-underway
@@ -83,3 +90,14 @@ returns-clause-seated c = λ s. c.wait.ensures.seated (c.in_ok-release.ensures.s
 
 pub returns-then-is_some-clause-seated : goal.returns-then-is_some-clause-seated
 returns-then-is_some-clause-seated c = λ s. c.expel-then-is_some.ensures.seated (c.in_ok-release.ensures.seated s)
+
+pub returns-then-not-has_nothing_out-clause-others : goal.returns-then-not-has_nothing_out-clause-others
+returns-then-not-has_nothing_out-clause-others c = c.expel.ensures.others
+
+pub returns-then-is_some-clause-others : goal.returns-then-is_some-clause-others
+returns-then-is_some-clause-others c = λ reached.
+    others_on c.expel-then-is_some.result c.args.key c.args.self.now c.release.new.self c.expel-then-is_some.new.self (c.expel-then-is_some.ensures.others (reached_left c.args.key c.args.self.now.desk c.release.new.self.desk c.in_ok-release.ensures.leaving reached)) (c.in_ok-release.ensures.others reached)
+
+pub returns-clause-others : goal.returns-clause-others
+returns-clause-others c = λ reached.
+    ok_if c.wait.result _ (others_both c.args.key c.args.self.now c.release.new.self c.wait.new.self (c.in_ok-release.ensures.others reached) (waited_rest c.args.key c.release.new.self c.wait.new.self c.wait.ensures.body))

@@ -1,4 +1,4 @@
-use Rattle.std.proofs.Common.{List, refl, subst}
+use Rattle.std.proofs.Common.{List, refl, rules, subst}
 use Rattle.tds_relay.specs.Ties.{Application}
 use Rattle.tds_relay.proofs.steps.Fronts.{moves_does}
 use Rattle.tds_relay.proofs.steps.Reaching.{ok_more}
@@ -12,6 +12,12 @@ use Rattle.tds_relay.specs.Reasons.{CannotUnask}
 use Rattle.tds_relay.proofs.spared.Reasons.{for_that}
 use Rattle.tds_relay.proofs.spared.Closings.{closes_first, closes_nobody}
 use Rattle.tds_relay.proofs.seats.Relays.{unwaited}
+use Rattle.tds_relay.proofs.spared.Speaking.{reached_by}
+use Rattle.tds_relay.proofs.spared.Resting.{others_on}
+use Rattle.tds_relay.proofs.spared.Reasons.{forgotten}
+use Rattle.std.proofs.Common.{◌⊎◌}
+use Rattle.slab.specs.Slab.{get}
+use Rattle.tds_relay.specs.Reasons.{IsUnheld}
 use Rattle.tds_relay.proofs.relay.Relay.forget.Goals as goal
 
 pub returns-then-was_asked-clause-moves : goal.returns-then-was_asked-clause-moves
@@ -39,19 +45,25 @@ returns-else-was_asked-clause-body c = c.forget_request-was_asked.ensures.body
 pub returns-then-was_asked-clause-body : goal.returns-then-was_asked-clause-body
 returns-then-was_asked-clause-body c = forgot_on c.unask.result c.forget_request-was_asked.new.self.applications c.unask.new.self.applications c.args.key c.forget_request-was_asked.ensures.body c.unask.ensures.asks
 
+pub returns-else-was_asked-clause-closes : goal.returns-else-was_asked-clause-closes
+returns-else-was_asked-clause-closes c = closes_nobody _ _ _ c.forget_request-was_asked.ensures.closes
+
+pub returns-then-was_asked-clause-others : goal.returns-then-was_asked-clause-others
+returns-then-was_asked-clause-others c = λ reached.
+    others_on c.unask.result c.args.key c.args.self.now c.forget_request-was_asked.new.self c.unask.new.self (c.unask.ensures.others (reached_by c.args.key c.args.self.now.desk c.forget_request-was_asked.new.self.desk c.forget_request-was_asked.ensures.goes reached)) c.forget_request-was_asked.ensures.others
+
+pub returns-else-was_asked-clause-others : goal.returns-else-was_asked-clause-others
+returns-else-was_asked-clause-others c = λ reached. c.forget_request-was_asked.ensures.others
+
 pub returns-then-was_asked-clause-closes : goal.returns-then-was_asked-clause-closes
 returns-then-was_asked-clause-closes c =
     let mid = c.forget_request-was_asked.new.self in
+    let end = (end_at (ends_in c.args.self.now.applications) c.args.key) in
     closes_first c.unask.result _ _ _ _
     (for_that c.unask.result c.args.key _ _ _ _
-    (λ why. record {
-      mid = mid.desk;
-      holds = c.forget_request-was_asked.ensures.holds;
-      service = c.forget_request-was_asked.ensures.service;
-      cannot =
-          subst (λ (ls : List Link). CannotUnask c.args.key (end_at (ends_in c.args.self.now.applications) c.args.key) mid.desk ls) c.forget_request-was_asked.ensures.links
-          (subst (λ (es : Ends). CannotUnask c.args.key (end_at es c.args.key) mid.desk mid.links.items) c.forget_request-was_asked.ensures.ends why);
-    })
+    (λ why. forgotten c.args.key end c.args.self.now.desk mid.desk c.args.self.now.links.items (get c.args.self.now.applications c.args.key) (c.forget_request-was_asked.ensures.asked (search rules)) c.forget_request-was_asked.ensures.holds c.forget_request-was_asked.ensures.service
+    (subst (λ (ls : List Link). IsUnheld c.args.key mid.desk ⊎ CannotUnask c.args.key end mid.desk ls) c.forget_request-was_asked.ensures.links
+    (subst (λ (es : Ends). IsUnheld c.args.key mid.desk ⊎ CannotUnask c.args.key (end_at es c.args.key) mid.desk mid.links.items) c.forget_request-was_asked.ensures.ends why)))
     c.unask.ensures.closes)
     c.forget_request-was_asked.ensures.closes
 

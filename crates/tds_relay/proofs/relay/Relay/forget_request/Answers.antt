@@ -7,6 +7,11 @@ use Rattle.tds_relay.proofs.steps.Bodied.{none_starts, nothing_starts}
 use Rattle.tds_relay.specs.Closings.{Nobody}
 use Rattle.tds_relay.proofs.spared.Sending.{kept_refl}
 use Rattle.tds_relay.proofs.spared.Shutting.{closes_kept, unclosed}
+use Rattle.tds_relay.proofs.spared.Speaking.{forgotten_rest, unwaited_rest}
+use Rattle.tds_relay.proofs.spared.Reasons.{asked_goes}
+use Rattle.std.proofs.Common.{◌≡◌}
+use Rattle.tds_relay.specs.declared.application.Asking.TheVariants as asking
+use Rattle.slab.specs.Slab.{get}
 use Rattle.tds_relay.proofs.relay.Relay.forget_request.Goals as goal
 
 pub returns-in_default-clause-goes : goal.returns-in_default-clause-goes
@@ -29,3 +34,14 @@ returns-clause-body c = λ goes. nothing_starts c.args.self.now.applications c.a
 
 pub returns-clause-closes : goal.returns-clause-closes
 returns-clause-closes c = closes_kept Nobody _ _ (ends_kept c.args.self.now.applications c.args.key c.in-Some.application.now _ c.in-Some.ensures.value c.forget.ensures.end) (posts_kept c.args.self.now.applications c.args.key c.in-Some.application.now _ c.in-Some.ensures.value c.forget.ensures.post) refl (kept_refl c.args.self.now.links.items) (unclosed _ _ refl)
+
+pub returns-in_default-clause-others : goal.returns-in_default-clause-others
+returns-in_default-clause-others c = unwaited_rest c.args.key c.args.self.now _ (search rules) c.unwait.ensures.service refl refl
+
+pub returns-clause-others : goal.returns-clause-others
+returns-clause-others c = forgotten_rest c.args.key _ c.args.self.now _ (search rules) c.unwait.ensures.service refl refl
+
+pub returns-clause-asked : goal.returns-clause-asked
+returns-clause-asked c = λ e goes.
+    let asks : c.in-Some.application.now.asking ≡ asking.Goes = search rules in
+    asked_goes (get c.args.self.now.applications c.args.key) c.in-Some.application.now goes c.in-Some.ensures.value asks

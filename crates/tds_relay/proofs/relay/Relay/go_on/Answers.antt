@@ -20,6 +20,14 @@ use Rattle.tds_relay.proofs.spared.Shutting.{closes_kept, unclosed}
 use Rattle.tds_relay.specs.declared.application.Application.{Application as AnApplication}
 use Rattle.tds_relay.specs.Waiting.{KeepsInLine}
 use Rattle.tds_relay.proofs.spared.Lined.{fits_not, goes_waits, kept_more, no_application, nothing_waits}
+use Rattle.tds_relay.proofs.spared.Resting.{others_on, others_refl, written_rest}
+use Rattle.tds_relay.proofs.steps.Fed.{end_there}
+use Rattle.tds_relay.proofs.steps.Fronts.{moves_same}
+use Rattle.tds_relay.specs.Hall.{IfOpen, IsBegun}
+use Rattle.tds_relay.specs.Reasons.{IsUnbegun}
+use Rattle.tds_relay.proofs.spared.Reasons.{unbegun_goes}
+use Rattle.std.proofs.Common.{sym, false}
+use Rattle.tds_relay.proofs.spared.Lined.{begun_not}
 use Rattle.tds_relay.proofs.relay.Relay.go_on.Goals as goal
 
 pub returns-then-not-branch-clause-moves : goal.returns-then-not-branch-clause-moves
@@ -77,19 +85,19 @@ pub returns-in-Nothing-clause-keeps : goal.returns-in-Nothing-clause-keeps
 returns-in-Nothing-clause-keeps c = λ none.
     ok_if c.expel.result _
     (subst (λ (o : Option AnApplication). KeepsInLine c.args.whole c.args.bytes.now o (body_of c.args.key c.expel.new.self)) c.in-Some.ensures.value
-    (λ here fits kind was asks. absurd (nothing_waits c.in-Some.application.now.asking kind was (search rules) asks)))
+    (λ here fits kind was asks begun. absurd (nothing_waits c.in-Some.application.now.asking kind was (search rules) asks)))
 
 pub returns-in-Goes-clause-keeps : goal.returns-in-Goes-clause-keeps
 returns-in-Goes-clause-keeps c = λ none.
     ok_if c.put.result _
     (subst (λ (o : Option AnApplication). KeepsInLine c.args.whole c.args.bytes.now o (body_of c.args.key c.put.new.self)) c.in-Some.ensures.value
-    (λ here fits kind was asks. absurd (goes_waits c.in-Some.application.now.asking kind was (search rules) asks)))
+    (λ here fits kind was asks begun. absurd (goes_waits c.in-Some.application.now.asking kind was (search rules) asks)))
 
 pub returns-then-not-branch-clause-keeps : goal.returns-then-not-branch-clause-keeps
 returns-then-not-branch-clause-keeps c = λ none.
     ok_if c.expel-then-not-branch.result _
     (subst (λ (o : Option AnApplication). KeepsInLine c.args.whole c.args.bytes.now o (body_of c.args.key c.expel-then-not-branch.new.self)) c.in-Some.ensures.value
-    (λ here fits kind was asks. absurd (fits_not _ _ (c.in_ok-keep-in-Waits.ensures.long (search rules)) fits)))
+    (λ here fits kind was asks begun. absurd (fits_not _ _ (c.in_ok-keep-in-Waits.ensures.long (search rules)) fits)))
 
 pub returns-else-not-branch-clause-keeps : goal.returns-else-not-branch-clause-keeps
 returns-else-not-branch-clause-keeps c = λ none.
@@ -99,7 +107,7 @@ returns-else-not-branch-clause-keeps c = λ none.
     let kept = c.in_ok-keep-in-Waits.ensures.body (search rules) in
     ok_more c.seek.result _ _
     (λ same. subst (λ (o : Option AnApplication). KeepsInLine c.args.whole c.args.bytes.now o (body_of c.args.key c.seek.new.self)) there
-    (λ here fits kind was asks. same ∙ kept_more _ a _ _ c.in-Waits.kind kind _ was c.args.whole c.args.bytes.now (written_there s c.args.key a _ there) here c.in-Waits.is asks refl kept.0 kept.1))
+    (λ here fits kind was asks begun. same ∙ kept_more _ a _ _ c.in-Waits.kind kind _ was c.args.whole c.args.bytes.now (written_there s c.args.key a _ there) here c.in-Waits.is asks refl kept.0 kept.1))
     (c.seek.ensures.stays none)
 
 pub returns-in-Nothing-clause-closes : goal.returns-in-Nothing-clause-closes
@@ -134,3 +142,50 @@ returns-in-Goes-clause-closes c =
     (λ why. put_goes whole c.args.bytes.now c.args.key _ _ c.args.self.now.desk c.args.self.now.links.items (get s c.args.key) a c.in-Some.ensures.value (search rules)
     (subst (λ (es : Ends). CannotPut whole c.args.bytes.now c.args.key (end_at es c.args.key) c.args.self.now.desk c.args.self.now.links.items) same why)) c.put.ensures.closes)
     (closes_kept _ _ _ (ends_kept c.args.self.now.applications c.args.key c.in-Some.application.now c.in-Some.application.now c.in-Some.ensures.value refl) (posts_kept c.args.self.now.applications c.args.key c.in-Some.application.now c.in-Some.application.now c.in-Some.ensures.value refl) refl (kept_refl c.args.self.now.links.items) (unclosed _ _ refl))
+
+pub returns-in_default-clause-others : goal.returns-in_default-clause-others
+returns-in_default-clause-others c = λ reached. others_refl c.args.key c.args.self.now
+
+pub returns-in-Nothing-clause-others : goal.returns-in-Nothing-clause-others
+returns-in-Nothing-clause-others c = λ reached. others_on c.expel.result c.args.key c.args.self.now _ c.expel.new.self (c.expel.ensures.others reached) (written_rest c.args.key _ c.args.self.now _ refl refl refl)
+
+pub returns-then-not-branch-clause-others : goal.returns-then-not-branch-clause-others
+returns-then-not-branch-clause-others c = λ reached. others_on c.expel-then-not-branch.result c.args.key c.args.self.now _ c.expel-then-not-branch.new.self (c.expel-then-not-branch.ensures.others reached) (written_rest c.args.key _ c.args.self.now _ refl refl refl)
+
+pub returns-else-not-branch-clause-others : goal.returns-else-not-branch-clause-others
+returns-else-not-branch-clause-others c = λ reached. others_on c.seek.result c.args.key c.args.self.now _ c.seek.new.self (c.seek.ensures.others reached) (written_rest c.args.key _ c.args.self.now _ refl refl refl)
+
+pub returns-in-Goes-clause-others : goal.returns-in-Goes-clause-others
+returns-in-Goes-clause-others c = λ reached. others_on c.put.result c.args.key c.args.self.now _ c.put.new.self (c.put.ensures.others reached) (written_rest c.args.key _ c.args.self.now _ refl refl refl)
+
+pub returns-then-not-may_put-clause-moves : goal.returns-then-not-may_put-clause-moves
+returns-then-not-may_put-clause-moves c =
+    ok_more c.expel-then-not-may_put.result _ _
+    (λ m from h. m from (moves_closes (Application c.args.key) from _ _ _ _ c.args.key refl
+    (ap (change_end c.args.key closes) (ends_kept c.args.self.now.applications c.args.key c.in-Some.application.now _ c.in-Some.ensures.value refl)) h))
+    c.expel-then-not-may_put.ensures.moves
+
+pub returns-else-not-branch-clause-moves : goal.returns-else-not-branch-clause-moves
+returns-else-not-branch-clause-moves c =
+    let kept = ends_kept c.args.self.now.applications c.args.key c.in-Some.application.now _ c.in-Some.ensures.value c.keep.ensures.end in
+    let begun : IfOpen IsBegun (end_at (ends_in c.args.self.now.applications) c.args.key) = subst (IfOpen IsBegun) (sym (end_there c.args.self.now.applications c.args.key c.in-Some.application.now c.in-Some.ensures.value)) (c.may_put.ensures.begun (search rules)) in
+    ok_more c.seek.result _ _ (λ m from h. m (subst (λ (es : Ends). IfOpen IsBegun (end_at es c.args.key)) (sym kept) begun) from (moves_same (Application c.args.key) from _ _ _ _ refl kept h)) c.seek.ensures.moves
+
+pub returns-then-not-may_put-clause-body : goal.returns-then-not-may_put-clause-body
+returns-then-not-may_put-clause-body c = ok_more c.expel-then-not-may_put.result _ _ (λ d. (Closed, Shuts, shut_starts c.expel-then-not-may_put.new.self.applications c.args.key Closed (going_of c.args.key c.expel-then-not-may_put.new.self) d)) c.expel-then-not-may_put.ensures.over
+
+pub returns-then-not-may_put-clause-others : goal.returns-then-not-may_put-clause-others
+returns-then-not-may_put-clause-others c = λ reached. others_on c.expel-then-not-may_put.result c.args.key c.args.self.now _ c.expel-then-not-may_put.new.self (c.expel-then-not-may_put.ensures.others reached) (written_rest c.args.key _ c.args.self.now _ refl refl refl)
+
+pub returns-then-not-may_put-clause-closes : goal.returns-then-not-may_put-clause-closes
+returns-then-not-may_put-clause-closes c = for_reason c.expel-then-not-may_put.result c.args.key _ _ _
+    (unbegun_goes c.args.whole c.args.bytes.now c.args.key _ _ c.args.self.now.desk c.args.self.now.links.items (get c.args.self.now.applications c.args.key) c.in-Some.application.now (going_of c.args.key c.args.self.now) c.in-Waits.kind _ c.in-Some.ensures.value c.in-Waits.is
+    (subst (IfOpen (IsUnbegun false)) (sym (end_there c.args.self.now.applications c.args.key c.in-Some.application.now c.in-Some.ensures.value)) (c.may_put.ensures.unbegun (search rules))))
+    (closes_on c.expel-then-not-may_put.result (Itself c.args.key) _ _ _ c.expel-then-not-may_put.ensures.closes
+    (closes_kept (Itself c.args.key) _ _ (ends_kept c.args.self.now.applications c.args.key c.in-Some.application.now c.in-Some.application.now c.in-Some.ensures.value refl) (posts_kept c.args.self.now.applications c.args.key c.in-Some.application.now c.in-Some.application.now c.in-Some.ensures.value refl) refl (kept_refl c.args.self.now.links.items) (unclosed _ _ refl)))
+
+pub returns-then-not-may_put-clause-keeps : goal.returns-then-not-may_put-clause-keeps
+returns-then-not-may_put-clause-keeps c = λ none.
+    ok_if c.expel-then-not-may_put.result _
+    (subst (λ (o : Option AnApplication). KeepsInLine c.args.whole c.args.bytes.now o (body_of c.args.key c.expel-then-not-may_put.new.self)) c.in-Some.ensures.value
+    (λ here fits kind was asks begun. absurd (begun_not c.in-Some.application.now here begun (c.may_put.ensures.unbegun (search rules)))))

@@ -16,6 +16,8 @@ use Rattle.tds_relay.specs.Closings.{Itself}
 use Rattle.tds_relay.proofs.spared.Closings.{closes_first}
 use Rattle.tds_relay.specs.Reasons.{HasNoRoom}
 use Rattle.tds_relay.proofs.spared.Reasons.{for_reason, for_that, halts_unfit, none_of, some_of}
+use Rattle.tds_relay.proofs.spared.Speaking.{halting_held, reached_by}
+use Rattle.tds_relay.proofs.spared.Resting.{others_on}
 use Rattle.tds_relay.proofs.relay.Relay.hand_on.Goals as goal
 
 pub returns-in-Some-clause-moves : goal.returns-in-Some-clause-moves
@@ -90,3 +92,15 @@ returns-in-Some-clause-seated c = λ s. c.send_stop.ensures.seated (c.stop.ensur
 
 pub returns-in-None-clause-seated : goal.returns-in-None-clause-seated
 returns-in-None-clause-seated c = λ s. c.expel.ensures.seated (c.stop.ensures.seated s)
+
+pub returns-in-Some-clause-others : goal.returns-in-Some-clause-others
+returns-in-Some-clause-others c = λ reached.
+    let a = c.args.self.now in
+    let d = c.stop.new.self in
+    let halts = some_of _ c.in-Some.number _ c.in-Some.is c.in_ok-number.ensures.stops in
+    others_on c.send_stop.result c.args.key a d c.send_stop.new.self
+    (c.send_stop.ensures.others (reached_by c.args.key a.desk d.desk c.stop.ensures.goes reached) halts.hold (halting_held c.in-Some.number c.args.key a d halts) (sym halts.number_is)) (c.stop.ensures.others reached)
+
+pub returns-in-None-clause-others : goal.returns-in-None-clause-others
+returns-in-None-clause-others c = λ reached.
+    others_on c.expel.result c.args.key c.args.self.now c.stop.new.self c.expel.new.self (c.expel.ensures.others (reached_by c.args.key c.args.self.now.desk c.stop.new.self.desk c.stop.ensures.goes reached)) (c.stop.ensures.others reached)

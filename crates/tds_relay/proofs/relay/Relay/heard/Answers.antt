@@ -28,93 +28,64 @@ use Rattle.std.proofs.Common.{◌≡◌, false}
 use Rattle.tds_relay.proofs.relay.Relay.heard.Goals as goal
 
 pub returns-in_default-clause-moves : goal.returns-in_default-clause-moves
-returns-in_default-clause-moves c =
-    ok_more c.lose.result _ _ (λ m from h. m (Connection c.args.number) from (moves_same (Connection c.args.number) from _ _ _ _ refl (told_none c.args.heard _ c.in_default.is) h)) c.lose.ensures.moves
+returns-in_default-clause-moves c = ok_more c.lose.result _ _ (λ m from h. m (Connection c.args.number) from (moves_same (Connection c.args.number) from _ _ _ _ refl (told_none c.args.heard _ c.in_default.is) h)) c.lose.ensures.moves
 
 pub returns-in-Goes-Some-clause-moves : goal.returns-in-Goes-Some-clause-moves
-returns-in-Goes-Some-clause-moves c =
-    ok_more c.order_write.result _ _ (λ m from h. m (Connection c.args.number) from (c.in_ok-send_on.ensures.moves (Connection c.args.number) from
-    (moves_same (Connection c.args.number) from _ _ _ _ (ap desk_in c.in_ok-resumes.ensures.desk) (c.in_ok-resumes.ensures.ends ∙ told_some c.args.heard c.in-Some.heard _ c.in-Some.is) h))) c.order_write.ensures.moves
+returns-in-Goes-Some-clause-moves c = ok_more c.order_write.result _ _ (λ m from h. m (Connection c.args.number) from (c.in_ok-send_on.ensures.moves (Connection c.args.number) from (moves_same (Connection c.args.number) from _ _ _ _ (ap desk_in c.in_ok-resumes.ensures.desk) (c.in_ok-resumes.ensures.ends ∙ told_some c.args.heard c.in-Some.heard _ c.in-Some.is) h))) c.order_write.ensures.moves
 
 pub returns-in-Goes-None-clause-moves : goal.returns-in-Goes-None-clause-moves
-returns-in-Goes-None-clause-moves c =
-    λ from h. (c.in_ok-send_on.ensures.moves (Connection c.args.number) from
-    (moves_same (Connection c.args.number) from _ _ _ _ (ap desk_in c.in_ok-resumes.ensures.desk) (c.in_ok-resumes.ensures.ends ∙ told_some c.args.heard c.in-Some.heard _ c.in-Some.is) h))
+returns-in-Goes-None-clause-moves c = λ from h. (c.in_ok-send_on.ensures.moves (Connection c.args.number) from (moves_same (Connection c.args.number) from _ _ _ _ (ap desk_in c.in_ok-resumes.ensures.desk) (c.in_ok-resumes.ensures.ends ∙ told_some c.args.heard c.in-Some.heard _ c.in-Some.is) h))
 
 pub returns-in-Finished-Some-clause-moves : goal.returns-in-Finished-Some-clause-moves
-returns-in-Finished-Some-clause-moves c =
-    ok_more c.order_write-in-Finished-Some.result _ _ (λ m from h. m (Connection c.args.number) from (c.in_ok-send_on.ensures.moves (Connection c.args.number) from
-    (moves_same (Connection c.args.number) from _ _ _ _ (ap desk_in c.in_ok-resumes.ensures.desk) (c.in_ok-resumes.ensures.ends ∙ told_some c.args.heard c.in-Some.heard _ c.in-Some.is) h))) c.order_write-in-Finished-Some.ensures.moves
+returns-in-Finished-Some-clause-moves c = ok_more c.order_write-in-Finished-Some.result _ _ (λ m from h. m (Connection c.args.number) from (c.in_ok-send_on.ensures.moves (Connection c.args.number) from (moves_same (Connection c.args.number) from _ _ _ _ (ap desk_in c.in_ok-resumes.ensures.desk) (c.in_ok-resumes.ensures.ends ∙ told_some c.args.heard c.in-Some.heard _ c.in-Some.is) h))) c.order_write-in-Finished-Some.ensures.moves
 
 pub returns-in-Finished-None-clause-moves : goal.returns-in-Finished-None-clause-moves
-returns-in-Finished-None-clause-moves c =
-    λ from h. (c.in_ok-send_on.ensures.moves (Connection c.args.number) from
-    (moves_same (Connection c.args.number) from _ _ _ _ (ap desk_in c.in_ok-resumes.ensures.desk) (c.in_ok-resumes.ensures.ends ∙ told_some c.args.heard c.in-Some.heard _ c.in-Some.is) h))
+returns-in-Finished-None-clause-moves c = λ from h. (c.in_ok-send_on.ensures.moves (Connection c.args.number) from (moves_same (Connection c.args.number) from _ _ _ _ (ap desk_in c.in_ok-resumes.ensures.desk) (c.in_ok-resumes.ensures.ends ∙ told_some c.args.heard c.in-Some.heard _ c.in-Some.is) h))
 
 pub returns-then-resumes-clause-moves : goal.returns-then-resumes-clause-moves
-returns-then-resumes-clause-moves c =
-    ok_more c.resume.result _ _ (λ m from h. m from (c.in_ok-send_on.ensures.moves (Connection c.args.number) from
-    (moves_same (Connection c.args.number) from _ _ _ _ (ap desk_in c.in_ok-resumes.ensures.desk) (c.in_ok-resumes.ensures.ends ∙ told_some c.args.heard c.in-Some.heard _ c.in-Some.is) h))) c.resume.ensures.moves
+returns-then-resumes-clause-moves c = ok_more c.resume.result _ _ (λ m from h. m from (c.in_ok-send_on.ensures.moves (Connection c.args.number) from (moves_same (Connection c.args.number) from _ _ _ _ (ap desk_in c.in_ok-resumes.ensures.desk) (c.in_ok-resumes.ensures.ends ∙ told_some c.args.heard c.in-Some.heard _ c.in-Some.is) h))) c.resume.ensures.moves
 
 pub returns-else-resumes-clause-moves : goal.returns-else-resumes-clause-moves
-returns-else-resumes-clause-moves c =
-    ok_more c.order_write-else-resumes.result _ _ (λ m from h. m (Connection c.args.number) from (c.in_ok-send_on.ensures.moves (Connection c.args.number) from
-    (moves_same (Connection c.args.number) from _ _ _ _ (ap desk_in c.in_ok-resumes.ensures.desk) (c.in_ok-resumes.ensures.ends ∙ told_some c.args.heard c.in-Some.heard _ c.in-Some.is) h))) c.order_write-else-resumes.ensures.moves
+returns-else-resumes-clause-moves c = ok_more c.order_write-else-resumes.result _ _ (λ m from h. m (Connection c.args.number) from (c.in_ok-send_on.ensures.moves (Connection c.args.number) from (moves_same (Connection c.args.number) from _ _ _ _ (ap desk_in c.in_ok-resumes.ensures.desk) (c.in_ok-resumes.ensures.ends ∙ told_some c.args.heard c.in-Some.heard _ c.in-Some.is) h))) c.order_write-else-resumes.ensures.moves
 
 pub returns-in-Acknowledged-None-clause-moves : goal.returns-in-Acknowledged-None-clause-moves
-returns-in-Acknowledged-None-clause-moves c =
-    λ from h. (c.in_ok-send_on.ensures.moves (Connection c.args.number) from
-    (moves_same (Connection c.args.number) from _ _ _ _ (ap desk_in c.in_ok-resumes.ensures.desk) (c.in_ok-resumes.ensures.ends ∙ told_some c.args.heard c.in-Some.heard _ c.in-Some.is) h))
+returns-in-Acknowledged-None-clause-moves c = λ from h. (c.in_ok-send_on.ensures.moves (Connection c.args.number) from (moves_same (Connection c.args.number) from _ _ _ _ (ap desk_in c.in_ok-resumes.ensures.desk) (c.in_ok-resumes.ensures.ends ∙ told_some c.args.heard c.in-Some.heard _ c.in-Some.is) h))
 
 pub returns-in-Closed-Some-clause-moves : goal.returns-in-Closed-Some-clause-moves
-returns-in-Closed-Some-clause-moves c =
-    ok_more c.close_link.result _ _ (λ e from h. moves_same (Connection c.args.number) from _ _ _ _ (ap desk_in c.close_link.ensures.desk) e (c.in_ok-send_on.ensures.moves (Connection c.args.number) from
-    (moves_same (Connection c.args.number) from _ _ _ _ (ap desk_in c.in_ok-resumes.ensures.desk) (c.in_ok-resumes.ensures.ends ∙ told_some c.args.heard c.in-Some.heard _ c.in-Some.is) h))) c.close_link.ensures.ends
+returns-in-Closed-Some-clause-moves c = ok_more c.close_link.result _ _ (λ e from h. moves_same (Connection c.args.number) from _ _ _ _ (ap desk_in c.close_link.ensures.desk) e (c.in_ok-send_on.ensures.moves (Connection c.args.number) from (moves_same (Connection c.args.number) from _ _ _ _ (ap desk_in c.in_ok-resumes.ensures.desk) (c.in_ok-resumes.ensures.ends ∙ told_some c.args.heard c.in-Some.heard _ c.in-Some.is) h))) c.close_link.ensures.ends
 
 pub returns-in-Closed-None-clause-moves : goal.returns-in-Closed-None-clause-moves
-returns-in-Closed-None-clause-moves c =
-    ok_more c.close_link-in-Closed-None.result _ _ (λ e from h. moves_same (Connection c.args.number) from _ _ _ _ (ap desk_in c.close_link-in-Closed-None.ensures.desk) e (c.in_ok-send_on.ensures.moves (Connection c.args.number) from
-    (moves_same (Connection c.args.number) from _ _ _ _ (ap desk_in c.in_ok-resumes.ensures.desk) (c.in_ok-resumes.ensures.ends ∙ told_some c.args.heard c.in-Some.heard _ c.in-Some.is) h))) c.close_link-in-Closed-None.ensures.ends
+returns-in-Closed-None-clause-moves c = ok_more c.close_link-in-Closed-None.result _ _ (λ e from h. moves_same (Connection c.args.number) from _ _ _ _ (ap desk_in c.close_link-in-Closed-None.ensures.desk) e (c.in_ok-send_on.ensures.moves (Connection c.args.number) from (moves_same (Connection c.args.number) from _ _ _ _ (ap desk_in c.in_ok-resumes.ensures.desk) (c.in_ok-resumes.ensures.ends ∙ told_some c.args.heard c.in-Some.heard _ c.in-Some.is) h))) c.close_link-in-Closed-None.ensures.ends
 
 pub returns-in_default-clause-read : goal.returns-in_default-clause-read
-returns-in_default-clause-read c =
-    c.lose.ensures.read
+returns-in_default-clause-read c = c.lose.ensures.read
 
 pub returns-in-Goes-Some-clause-read : goal.returns-in-Goes-Some-clause-read
-returns-in-Goes-Some-clause-read c =
-    stays_same c.order_write.result _ _ _ (stays_both _ _ _ c.in_ok-resumes.ensures.read c.in_ok-send_on.ensures.read) c.order_write.ensures.links
+returns-in-Goes-Some-clause-read c = stays_same c.order_write.result _ _ _ (stays_both _ _ _ c.in_ok-resumes.ensures.read c.in_ok-send_on.ensures.read) c.order_write.ensures.links
 
 pub returns-in-Goes-None-clause-read : goal.returns-in-Goes-None-clause-read
-returns-in-Goes-None-clause-read c =
-    (stays_both _ _ _ c.in_ok-resumes.ensures.read c.in_ok-send_on.ensures.read)
+returns-in-Goes-None-clause-read c = (stays_both _ _ _ c.in_ok-resumes.ensures.read c.in_ok-send_on.ensures.read)
 
 pub returns-in-Finished-Some-clause-read : goal.returns-in-Finished-Some-clause-read
-returns-in-Finished-Some-clause-read c =
-    stays_same c.order_write-in-Finished-Some.result _ _ _ (stays_both _ _ _ c.in_ok-resumes.ensures.read c.in_ok-send_on.ensures.read) c.order_write-in-Finished-Some.ensures.links
+returns-in-Finished-Some-clause-read c = stays_same c.order_write-in-Finished-Some.result _ _ _ (stays_both _ _ _ c.in_ok-resumes.ensures.read c.in_ok-send_on.ensures.read) c.order_write-in-Finished-Some.ensures.links
 
 pub returns-in-Finished-None-clause-read : goal.returns-in-Finished-None-clause-read
-returns-in-Finished-None-clause-read c =
-    (stays_both _ _ _ c.in_ok-resumes.ensures.read c.in_ok-send_on.ensures.read)
+returns-in-Finished-None-clause-read c = (stays_both _ _ _ c.in_ok-resumes.ensures.read c.in_ok-send_on.ensures.read)
 
 pub returns-then-resumes-clause-read : goal.returns-then-resumes-clause-read
-returns-then-resumes-clause-read c =
-    stays_on c.resume.result _ _ _ (stays_both _ _ _ c.in_ok-resumes.ensures.read c.in_ok-send_on.ensures.read) c.resume.ensures.read
+returns-then-resumes-clause-read c = stays_on c.resume.result _ _ _ (stays_both _ _ _ c.in_ok-resumes.ensures.read c.in_ok-send_on.ensures.read) c.resume.ensures.read
 
 pub returns-else-resumes-clause-read : goal.returns-else-resumes-clause-read
-returns-else-resumes-clause-read c =
-    stays_same c.order_write-else-resumes.result _ _ _ (stays_both _ _ _ c.in_ok-resumes.ensures.read c.in_ok-send_on.ensures.read) c.order_write-else-resumes.ensures.links
+returns-else-resumes-clause-read c = stays_same c.order_write-else-resumes.result _ _ _ (stays_both _ _ _ c.in_ok-resumes.ensures.read c.in_ok-send_on.ensures.read) c.order_write-else-resumes.ensures.links
 
 pub returns-in-Acknowledged-None-clause-read : goal.returns-in-Acknowledged-None-clause-read
-returns-in-Acknowledged-None-clause-read c =
-    (stays_both _ _ _ c.in_ok-resumes.ensures.read c.in_ok-send_on.ensures.read)
+returns-in-Acknowledged-None-clause-read c = (stays_both _ _ _ c.in_ok-resumes.ensures.read c.in_ok-send_on.ensures.read)
 
 pub returns-in-Closed-Some-clause-read : goal.returns-in-Closed-Some-clause-read
-returns-in-Closed-Some-clause-read c =
-    stays_on c.close_link.result _ _ _ (stays_both _ _ _ c.in_ok-resumes.ensures.read c.in_ok-send_on.ensures.read) c.close_link.ensures.read
+returns-in-Closed-Some-clause-read c = stays_on c.close_link.result _ _ _ (stays_both _ _ _ c.in_ok-resumes.ensures.read c.in_ok-send_on.ensures.read) c.close_link.ensures.read
 
 pub returns-in-Closed-None-clause-read : goal.returns-in-Closed-None-clause-read
-returns-in-Closed-None-clause-read c =
-    stays_on c.close_link-in-Closed-None.result _ _ _ (stays_both _ _ _ c.in_ok-resumes.ensures.read c.in_ok-send_on.ensures.read) c.close_link-in-Closed-None.ensures.read
+returns-in-Closed-None-clause-read c = stays_on c.close_link-in-Closed-None.result _ _ _ (stays_both _ _ _ c.in_ok-resumes.ensures.read c.in_ok-send_on.ensures.read) c.close_link-in-Closed-None.ensures.read
 
 pub returns-in-Goes-Some-clause-stand : goal.returns-in-Goes-Some-clause-stand
 returns-in-Goes-Some-clause-stand c = ok_if c.order_write.result _ (stand_at _ _ _ (stand_back _ _ _ c.in_ok-resumes.ensures.desk c.in_ok-send_on.ensures.stand) c.order_write.ensures.desk)
@@ -172,16 +143,13 @@ returns-in-Closed-None-clause-bodies c = λ reached.
     along_on c.close_link-in-Closed-None.result c.args.self.now c.send_on.new.self c.close_link-in-Closed-None.new.self sent (same_along_on c.close_link-in-Closed-None.result c.send_on.new.self c.close_link-in-Closed-None.new.self c.close_link-in-Closed-None.ensures.asks)
 
 pub returns-in-Goes-None-clause-bodies : goal.returns-in-Goes-None-clause-bodies
-returns-in-Goes-None-clause-bodies c = λ reached.
-    along_both c.args.self.now c.tell.new.self c.send_on.new.self (done_along c.args.self.now c.tell.new.self c.in_ok-resumes.ensures.asks) (asks_along c.tell.new.self c.send_on.new.self c.in_ok-send_on.ensures.asks)
+returns-in-Goes-None-clause-bodies c = λ reached. along_both c.args.self.now c.tell.new.self c.send_on.new.self (done_along c.args.self.now c.tell.new.self c.in_ok-resumes.ensures.asks) (asks_along c.tell.new.self c.send_on.new.self c.in_ok-send_on.ensures.asks)
 
 pub returns-in-Finished-None-clause-bodies : goal.returns-in-Finished-None-clause-bodies
-returns-in-Finished-None-clause-bodies c = λ reached.
-    along_both c.args.self.now c.tell.new.self c.send_on.new.self (done_along c.args.self.now c.tell.new.self c.in_ok-resumes.ensures.asks) (asks_along c.tell.new.self c.send_on.new.self c.in_ok-send_on.ensures.asks)
+returns-in-Finished-None-clause-bodies c = λ reached. along_both c.args.self.now c.tell.new.self c.send_on.new.self (done_along c.args.self.now c.tell.new.self c.in_ok-resumes.ensures.asks) (asks_along c.tell.new.self c.send_on.new.self c.in_ok-send_on.ensures.asks)
 
 pub returns-in-Acknowledged-None-clause-bodies : goal.returns-in-Acknowledged-None-clause-bodies
-returns-in-Acknowledged-None-clause-bodies c = λ reached.
-    along_both c.args.self.now c.tell.new.self c.send_on.new.self (done_along c.args.self.now c.tell.new.self c.in_ok-resumes.ensures.asks) (asks_along c.tell.new.self c.send_on.new.self c.in_ok-send_on.ensures.asks)
+returns-in-Acknowledged-None-clause-bodies c = λ reached. along_both c.args.self.now c.tell.new.self c.send_on.new.self (done_along c.args.self.now c.tell.new.self c.in_ok-resumes.ensures.asks) (asks_along c.tell.new.self c.send_on.new.self c.in_ok-send_on.ensures.asks)
 
 pub returns-then-resumes-clause-bodies : goal.returns-then-resumes-clause-bodies
 returns-then-resumes-clause-bodies c = λ reached.
@@ -218,19 +186,13 @@ pub returns-in-Acknowledged-None-clause-ordered : goal.returns-in-Acknowledged-N
 returns-in-Acknowledged-None-clause-ordered c = ordered_both _ _ _ c.in_ok-resumes.ensures.ordered c.in_ok-send_on.ensures.ordered
 
 pub returns-in-Goes-Some-clause-wakes : goal.returns-in-Goes-Some-clause-wakes
-returns-in-Goes-Some-clause-wakes c =
-    ok_more c.order_write.result _ _
-    (λ w key h. woken_mine c.in-Some.heard c.in-Goes-Some.key key (ends_in c.args.self.now.applications) c.order_write.new.self.applications c.order_write.new.self.orders.items (search rules) w (hands_as c.args.heard c.in-Some.heard key _ c.in-Some.is h)) c.order_write.ensures.wakes
+returns-in-Goes-Some-clause-wakes c = ok_more c.order_write.result _ _ (λ w key h. woken_mine c.in-Some.heard c.in-Goes-Some.key key (ends_in c.args.self.now.applications) c.order_write.new.self.applications c.order_write.new.self.orders.items (search rules) w (hands_as c.args.heard c.in-Some.heard key _ c.in-Some.is h)) c.order_write.ensures.wakes
 
 pub returns-in-Finished-Some-clause-wakes : goal.returns-in-Finished-Some-clause-wakes
-returns-in-Finished-Some-clause-wakes c =
-    ok_more c.order_write-in-Finished-Some.result _ _
-    (λ w key h. woken_mine c.in-Some.heard c.in-Finished-Some.key key (ends_in c.args.self.now.applications) c.order_write-in-Finished-Some.new.self.applications c.order_write-in-Finished-Some.new.self.orders.items (search rules) w (hands_as c.args.heard c.in-Some.heard key _ c.in-Some.is h)) c.order_write-in-Finished-Some.ensures.wakes
+returns-in-Finished-Some-clause-wakes c = ok_more c.order_write-in-Finished-Some.result _ _ (λ w key h. woken_mine c.in-Some.heard c.in-Finished-Some.key key (ends_in c.args.self.now.applications) c.order_write-in-Finished-Some.new.self.applications c.order_write-in-Finished-Some.new.self.orders.items (search rules) w (hands_as c.args.heard c.in-Some.heard key _ c.in-Some.is h)) c.order_write-in-Finished-Some.ensures.wakes
 
 pub returns-else-resumes-clause-wakes : goal.returns-else-resumes-clause-wakes
-returns-else-resumes-clause-wakes c =
-    ok_more c.order_write-else-resumes.result _ _
-    (λ w key h. woken_mine c.in-Some.heard c.in-Acknowledged-Some.key key (ends_in c.args.self.now.applications) c.order_write-else-resumes.new.self.applications c.order_write-else-resumes.new.self.orders.items (search rules) w (hands_as c.args.heard c.in-Some.heard key _ c.in-Some.is h)) c.order_write-else-resumes.ensures.wakes
+returns-else-resumes-clause-wakes c = ok_more c.order_write-else-resumes.result _ _ (λ w key h. woken_mine c.in-Some.heard c.in-Acknowledged-Some.key key (ends_in c.args.self.now.applications) c.order_write-else-resumes.new.self.applications c.order_write-else-resumes.new.self.orders.items (search rules) w (hands_as c.args.heard c.in-Some.heard key _ c.in-Some.is h)) c.order_write-else-resumes.ensures.wakes
 
 pub returns-in_default-clause-wakes : goal.returns-in_default-clause-wakes
 returns-in_default-clause-wakes c = ok_if c.lose.result _ (λ key h. absurd (hands_nobody c.args.heard key _ c.in_default.is h))
@@ -277,26 +239,19 @@ returns-then-resumes-clause-closes c =
     (sent_closes c.args.number c.args.heard c.in-Some.heard c.args.self.now c.tell.new.self c.send_on.new.self c.in-Some.is c.tell.ensures.outbox c.in_ok-resumes.ensures.links c.in_ok-resumes.ensures.closes c.in_ok-send_on.ensures.closes)
 
 pub returns-in-Closed-Some-clause-closes : goal.returns-in-Closed-Some-clause-closes
-returns-in-Closed-Some-clause-closes c =
-    closes_behind c.close_link.result (LosesAt c.args.number c.args.heard c.args.self.now) _ _ _ c.close_link.ensures.closes
-    (sent_closes c.args.number c.args.heard c.in-Some.heard c.args.self.now c.tell.new.self c.send_on.new.self c.in-Some.is c.tell.ensures.outbox c.in_ok-resumes.ensures.links c.in_ok-resumes.ensures.closes c.in_ok-send_on.ensures.closes)
+returns-in-Closed-Some-clause-closes c = closes_behind c.close_link.result (LosesAt c.args.number c.args.heard c.args.self.now) _ _ _ c.close_link.ensures.closes (sent_closes c.args.number c.args.heard c.in-Some.heard c.args.self.now c.tell.new.self c.send_on.new.self c.in-Some.is c.tell.ensures.outbox c.in_ok-resumes.ensures.links c.in_ok-resumes.ensures.closes c.in_ok-send_on.ensures.closes)
 
 pub returns-in-Closed-None-clause-closes : goal.returns-in-Closed-None-clause-closes
-returns-in-Closed-None-clause-closes c =
-    closes_behind c.close_link-in-Closed-None.result (LosesAt c.args.number c.args.heard c.args.self.now) _ _ _ c.close_link-in-Closed-None.ensures.closes
-    (sent_closes c.args.number c.args.heard c.in-Some.heard c.args.self.now c.tell.new.self c.send_on.new.self c.in-Some.is c.tell.ensures.outbox c.in_ok-resumes.ensures.links c.in_ok-resumes.ensures.closes c.in_ok-send_on.ensures.closes)
+returns-in-Closed-None-clause-closes c = closes_behind c.close_link-in-Closed-None.result (LosesAt c.args.number c.args.heard c.args.self.now) _ _ _ c.close_link-in-Closed-None.ensures.closes (sent_closes c.args.number c.args.heard c.in-Some.heard c.args.self.now c.tell.new.self c.send_on.new.self c.in-Some.is c.tell.ensures.outbox c.in_ok-resumes.ensures.links c.in_ok-resumes.ensures.closes c.in_ok-send_on.ensures.closes)
 
 pub returns-in-Goes-None-clause-closes : goal.returns-in-Goes-None-clause-closes
-returns-in-Goes-None-clause-closes c =
-    sent_closes c.args.number c.args.heard c.in-Some.heard c.args.self.now c.tell.new.self c.send_on.new.self c.in-Some.is c.tell.ensures.outbox c.in_ok-resumes.ensures.links c.in_ok-resumes.ensures.closes c.in_ok-send_on.ensures.closes
+returns-in-Goes-None-clause-closes c = sent_closes c.args.number c.args.heard c.in-Some.heard c.args.self.now c.tell.new.self c.send_on.new.self c.in-Some.is c.tell.ensures.outbox c.in_ok-resumes.ensures.links c.in_ok-resumes.ensures.closes c.in_ok-send_on.ensures.closes
 
 pub returns-in-Finished-None-clause-closes : goal.returns-in-Finished-None-clause-closes
-returns-in-Finished-None-clause-closes c =
-    sent_closes c.args.number c.args.heard c.in-Some.heard c.args.self.now c.tell.new.self c.send_on.new.self c.in-Some.is c.tell.ensures.outbox c.in_ok-resumes.ensures.links c.in_ok-resumes.ensures.closes c.in_ok-send_on.ensures.closes
+returns-in-Finished-None-clause-closes c = sent_closes c.args.number c.args.heard c.in-Some.heard c.args.self.now c.tell.new.self c.send_on.new.self c.in-Some.is c.tell.ensures.outbox c.in_ok-resumes.ensures.links c.in_ok-resumes.ensures.closes c.in_ok-send_on.ensures.closes
 
 pub returns-in-Acknowledged-None-clause-closes : goal.returns-in-Acknowledged-None-clause-closes
-returns-in-Acknowledged-None-clause-closes c =
-    sent_closes c.args.number c.args.heard c.in-Some.heard c.args.self.now c.tell.new.self c.send_on.new.self c.in-Some.is c.tell.ensures.outbox c.in_ok-resumes.ensures.links c.in_ok-resumes.ensures.closes c.in_ok-send_on.ensures.closes
+returns-in-Acknowledged-None-clause-closes c = sent_closes c.args.number c.args.heard c.in-Some.heard c.args.self.now c.tell.new.self c.send_on.new.self c.in-Some.is c.tell.ensures.outbox c.in_ok-resumes.ensures.links c.in_ok-resumes.ensures.closes c.in_ok-send_on.ensures.closes
 
 pub returns-in-Goes-Some-clause-others : goal.returns-in-Goes-Some-clause-others
 returns-in-Goes-Some-clause-others c = λ not. ok_more c.order_write.result _ _ (λ same other differs. ap (waits_on other) same ∙ c.in_ok-send_on.ensures.others other differs ∙ ap (waits_on other) c.in_ok-resumes.ensures.links) c.order_write.ensures.links
@@ -320,34 +275,25 @@ pub returns-in-Acknowledged-None-clause-others : goal.returns-in-Acknowledged-No
 returns-in-Acknowledged-None-clause-others c = λ not. absurd (acknowledges c.args.heard c.in-Some.heard c.in-Some.is (search rules) not)
 
 pub returns-in-Closed-Some-clause-others : goal.returns-in-Closed-Some-clause-others
-returns-in-Closed-Some-clause-others c = λ not.
-    ok_more c.close_link.result _ _ (λ o other differs. o other differs ∙ c.in_ok-send_on.ensures.others other differs ∙ ap (waits_on other) c.in_ok-resumes.ensures.links) c.close_link.ensures.others
+returns-in-Closed-Some-clause-others c = λ not. ok_more c.close_link.result _ _ (λ o other differs. o other differs ∙ c.in_ok-send_on.ensures.others other differs ∙ ap (waits_on other) c.in_ok-resumes.ensures.links) c.close_link.ensures.others
 
 pub returns-in-Closed-None-clause-others : goal.returns-in-Closed-None-clause-others
-returns-in-Closed-None-clause-others c = λ not.
-    ok_more c.close_link-in-Closed-None.result _ _ (λ o other differs. o other differs ∙ c.in_ok-send_on.ensures.others other differs ∙ ap (waits_on other) c.in_ok-resumes.ensures.links) c.close_link-in-Closed-None.ensures.others
+returns-in-Closed-None-clause-others c = λ not. ok_more c.close_link-in-Closed-None.result _ _ (λ o other differs. o other differs ∙ c.in_ok-send_on.ensures.others other differs ∙ ap (waits_on other) c.in_ok-resumes.ensures.links) c.close_link-in-Closed-None.ensures.others
 
 pub returns-then-resumes-clause-goes : goal.returns-then-resumes-clause-goes
-returns-then-resumes-clause-goes c =
-    ok_more c.resume.result _ _
-    (λ g from h. g from (c.in_ok-send_on.ensures.goes (Connection c.args.number) from (subst (λ (d : desks.Desk). Reaches (Connection c.args.number) from (desk_in d)) (sym c.in_ok-resumes.ensures.desk) h))) c.resume.ensures.goes
+returns-then-resumes-clause-goes c = ok_more c.resume.result _ _ (λ g from h. g from (c.in_ok-send_on.ensures.goes (Connection c.args.number) from (subst (λ (d : desks.Desk). Reaches (Connection c.args.number) from (desk_in d)) (sym c.in_ok-resumes.ensures.desk) h))) c.resume.ensures.goes
 
 pub returns-in_default-clause-spares : goal.returns-in_default-clause-spares
-returns-in_default-clause-spares c = λ reached.
-    ok_more c.lose.result _ _ (λ h. spares_none c.args.number _ (hall_in c.args.self.now) (hall_in c.lose.new.self) h)
-    (spares_lost_on c.lose.result c.args.number (hall_in c.args.self.now) (hall_in c.lose.new.self) c.lose.ensures.ends c.lose.ensures.line c.lose.ensures.moves)
+returns-in_default-clause-spares c = λ reached. ok_more c.lose.result _ _ (λ h. spares_none c.args.number _ (hall_in c.args.self.now) (hall_in c.lose.new.self) h) (spares_lost_on c.lose.result c.args.number (hall_in c.args.self.now) (hall_in c.lose.new.self) c.lose.ensures.ends c.lose.ensures.line c.lose.ensures.moves)
 
 pub returns-in-Goes-Some-clause-spares : goal.returns-in-Goes-Some-clause-spares
-returns-in-Goes-Some-clause-spares c = λ reached.
-    spares_wrote c.order_write.result c.args.number c.args.heard c.in-Some.heard c.in-Goes-Some.key c.args.self.now c.tell.new.self c.send_on.new.self c.order_write.new.self c.in-Some.is (search rules) c.in_ok-resumes.ensures.desk c.in_ok-resumes.ensures.ends c.in_ok-send_on.ensures.spares c.order_write.ensures.alone c.order_write.ensures.moves
+returns-in-Goes-Some-clause-spares c = λ reached. spares_wrote c.order_write.result c.args.number c.args.heard c.in-Some.heard c.in-Goes-Some.key c.args.self.now c.tell.new.self c.send_on.new.self c.order_write.new.self c.in-Some.is (search rules) c.in_ok-resumes.ensures.desk c.in_ok-resumes.ensures.ends c.in_ok-send_on.ensures.spares c.order_write.ensures.alone c.order_write.ensures.moves
 
 pub returns-in-Finished-Some-clause-spares : goal.returns-in-Finished-Some-clause-spares
-returns-in-Finished-Some-clause-spares c = λ reached.
-    spares_wrote c.order_write-in-Finished-Some.result c.args.number c.args.heard c.in-Some.heard c.in-Finished-Some.key c.args.self.now c.tell.new.self c.send_on.new.self c.order_write-in-Finished-Some.new.self c.in-Some.is (search rules) c.in_ok-resumes.ensures.desk c.in_ok-resumes.ensures.ends c.in_ok-send_on.ensures.spares c.order_write-in-Finished-Some.ensures.alone c.order_write-in-Finished-Some.ensures.moves
+returns-in-Finished-Some-clause-spares c = λ reached. spares_wrote c.order_write-in-Finished-Some.result c.args.number c.args.heard c.in-Some.heard c.in-Finished-Some.key c.args.self.now c.tell.new.self c.send_on.new.self c.order_write-in-Finished-Some.new.self c.in-Some.is (search rules) c.in_ok-resumes.ensures.desk c.in_ok-resumes.ensures.ends c.in_ok-send_on.ensures.spares c.order_write-in-Finished-Some.ensures.alone c.order_write-in-Finished-Some.ensures.moves
 
 pub returns-else-resumes-clause-spares : goal.returns-else-resumes-clause-spares
-returns-else-resumes-clause-spares c = λ reached.
-    spares_wrote c.order_write-else-resumes.result c.args.number c.args.heard c.in-Some.heard c.in-Acknowledged-Some.key c.args.self.now c.tell.new.self c.send_on.new.self c.order_write-else-resumes.new.self c.in-Some.is (search rules) c.in_ok-resumes.ensures.desk c.in_ok-resumes.ensures.ends c.in_ok-send_on.ensures.spares c.order_write-else-resumes.ensures.alone c.order_write-else-resumes.ensures.moves
+returns-else-resumes-clause-spares c = λ reached. spares_wrote c.order_write-else-resumes.result c.args.number c.args.heard c.in-Some.heard c.in-Acknowledged-Some.key c.args.self.now c.tell.new.self c.send_on.new.self c.order_write-else-resumes.new.self c.in-Some.is (search rules) c.in_ok-resumes.ensures.desk c.in_ok-resumes.ensures.ends c.in_ok-send_on.ensures.spares c.order_write-else-resumes.ensures.alone c.order_write-else-resumes.ensures.moves
 
 pub returns-then-resumes-clause-spares : goal.returns-then-resumes-clause-spares
 returns-then-resumes-clause-spares c = λ reached.
@@ -366,12 +312,10 @@ pub returns-in-Acknowledged-None-clause-spares : goal.returns-in-Acknowledged-No
 returns-in-Acknowledged-None-clause-spares c = λ reached. spares_sent c.args.number c.args.heard c.in-Some.heard c.args.self.now c.tell.new.self c.send_on.new.self c.in-Some.is c.in_ok-resumes.ensures.desk c.in_ok-resumes.ensures.ends c.in_ok-send_on.ensures.spares
 
 pub returns-in-Closed-Some-clause-spares : goal.returns-in-Closed-Some-clause-spares
-returns-in-Closed-Some-clause-spares c = λ reached.
-    spares_shut c.close_link.result c.args.number c.args.heard c.in-Some.heard c.args.self.now c.tell.new.self c.send_on.new.self c.close_link.new.self c.in-Some.is c.in_ok-resumes.ensures.desk c.in_ok-resumes.ensures.ends c.in_ok-send_on.ensures.spares c.close_link.ensures.desk c.close_link.ensures.ends
+returns-in-Closed-Some-clause-spares c = λ reached. spares_shut c.close_link.result c.args.number c.args.heard c.in-Some.heard c.args.self.now c.tell.new.self c.send_on.new.self c.close_link.new.self c.in-Some.is c.in_ok-resumes.ensures.desk c.in_ok-resumes.ensures.ends c.in_ok-send_on.ensures.spares c.close_link.ensures.desk c.close_link.ensures.ends
 
 pub returns-in-Closed-None-clause-spares : goal.returns-in-Closed-None-clause-spares
-returns-in-Closed-None-clause-spares c = λ reached.
-    spares_shut c.close_link-in-Closed-None.result c.args.number c.args.heard c.in-Some.heard c.args.self.now c.tell.new.self c.send_on.new.self c.close_link-in-Closed-None.new.self c.in-Some.is c.in_ok-resumes.ensures.desk c.in_ok-resumes.ensures.ends c.in_ok-send_on.ensures.spares c.close_link-in-Closed-None.ensures.desk c.close_link-in-Closed-None.ensures.ends
+returns-in-Closed-None-clause-spares c = λ reached. spares_shut c.close_link-in-Closed-None.result c.args.number c.args.heard c.in-Some.heard c.args.self.now c.tell.new.self c.send_on.new.self c.close_link-in-Closed-None.new.self c.in-Some.is c.in_ok-resumes.ensures.desk c.in_ok-resumes.ensures.ends c.in_ok-send_on.ensures.spares c.close_link-in-Closed-None.ensures.desk c.close_link-in-Closed-None.ensures.ends
 
 pub returns-in_default-clause-begins : goal.returns-in_default-clause-begins
 returns-in_default-clause-begins c = any_kept c.lose.result _ _ _ (any_refl c.args.self.now.links.items) c.lose.ensures.answers
@@ -407,15 +351,10 @@ pub returns-in_default-clause-seated : goal.returns-in_default-clause-seated
 returns-in_default-clause-seated c = λ s. c.lose.ensures.seated (off_of c.args.number (desk_in c.args.self.now.desk) c.args.self.now.links.items (behind_none c.args.heard c.args.number c.args.self.now c.in_default.is s))
 
 pub returns-in-Goes-Some-clause-seated : goal.returns-in-Goes-Some-clause-seated
-returns-in-Goes-Some-clause-seated c = λ s.
-    kept_end c.order_write.result c.send_on.new.self c.order_write.new.self c.order_write.ensures.desk c.order_write.ensures.links
-    (c.in_ok-send_on.ensures.seated (kept_seated c.args.self.now c.tell.new.self c.in_ok-resumes.ensures.desk c.in_ok-resumes.ensures.links
-    (behind_stays c.args.heard c.in-Some.heard c.args.number c.args.self.now c.in-Some.is (ap is_left (let w : c.in-Some.heard.what ≡ whats.Goes = search rules in w)) s)))
+returns-in-Goes-Some-clause-seated c = λ s. kept_end c.order_write.result c.send_on.new.self c.order_write.new.self c.order_write.ensures.desk c.order_write.ensures.links (c.in_ok-send_on.ensures.seated (kept_seated c.args.self.now c.tell.new.self c.in_ok-resumes.ensures.desk c.in_ok-resumes.ensures.links (behind_stays c.args.heard c.in-Some.heard c.args.number c.args.self.now c.in-Some.is (ap is_left (let w : c.in-Some.heard.what ≡ whats.Goes = search rules in w)) s)))
 
 pub returns-in-Goes-None-clause-seated : goal.returns-in-Goes-None-clause-seated
-returns-in-Goes-None-clause-seated c = λ s.
-    c.in_ok-send_on.ensures.seated (kept_seated c.args.self.now c.tell.new.self c.in_ok-resumes.ensures.desk c.in_ok-resumes.ensures.links
-    (behind_stays c.args.heard c.in-Some.heard c.args.number c.args.self.now c.in-Some.is (ap is_left (let w : c.in-Some.heard.what ≡ whats.Goes = search rules in w)) s))
+returns-in-Goes-None-clause-seated c = λ s. c.in_ok-send_on.ensures.seated (kept_seated c.args.self.now c.tell.new.self c.in_ok-resumes.ensures.desk c.in_ok-resumes.ensures.links (behind_stays c.args.heard c.in-Some.heard c.args.number c.args.self.now c.in-Some.is (ap is_left (let w : c.in-Some.heard.what ≡ whats.Goes = search rules in w)) s))
 
 pub returns-in-Finished-Some-clause-seated : goal.returns-in-Finished-Some-clause-seated
 returns-in-Finished-Some-clause-seated c = λ s.
@@ -424,14 +363,10 @@ returns-in-Finished-Some-clause-seated c = λ s.
     (behind_stays c.args.heard c.in-Some.heard c.args.number c.args.self.now c.in-Some.is (ap is_left (let w : c.in-Some.heard.what ≡ whats.Finished = search rules in w)) s)))
 
 pub returns-in-Finished-None-clause-seated : goal.returns-in-Finished-None-clause-seated
-returns-in-Finished-None-clause-seated c = λ s.
-    c.in_ok-send_on.ensures.seated (kept_seated c.args.self.now c.tell.new.self c.in_ok-resumes.ensures.desk c.in_ok-resumes.ensures.links
-    (behind_stays c.args.heard c.in-Some.heard c.args.number c.args.self.now c.in-Some.is (ap is_left (let w : c.in-Some.heard.what ≡ whats.Finished = search rules in w)) s))
+returns-in-Finished-None-clause-seated c = λ s. c.in_ok-send_on.ensures.seated (kept_seated c.args.self.now c.tell.new.self c.in_ok-resumes.ensures.desk c.in_ok-resumes.ensures.links (behind_stays c.args.heard c.in-Some.heard c.args.number c.args.self.now c.in-Some.is (ap is_left (let w : c.in-Some.heard.what ≡ whats.Finished = search rules in w)) s))
 
 pub returns-then-resumes-clause-seated : goal.returns-then-resumes-clause-seated
-returns-then-resumes-clause-seated c = λ s.
-    c.resume.ensures.seated (c.in_ok-send_on.ensures.seated (kept_seated c.args.self.now c.tell.new.self c.in_ok-resumes.ensures.desk c.in_ok-resumes.ensures.links
-    (behind_stays c.args.heard c.in-Some.heard c.args.number c.args.self.now c.in-Some.is (ap is_left (let w : c.in-Some.heard.what ≡ whats.Acknowledged = search rules in w)) s)))
+returns-then-resumes-clause-seated c = λ s. c.resume.ensures.seated (c.in_ok-send_on.ensures.seated (kept_seated c.args.self.now c.tell.new.self c.in_ok-resumes.ensures.desk c.in_ok-resumes.ensures.links (behind_stays c.args.heard c.in-Some.heard c.args.number c.args.self.now c.in-Some.is (ap is_left (let w : c.in-Some.heard.what ≡ whats.Acknowledged = search rules in w)) s)))
 
 pub returns-else-resumes-clause-seated : goal.returns-else-resumes-clause-seated
 returns-else-resumes-clause-seated c = λ s.
@@ -440,9 +375,7 @@ returns-else-resumes-clause-seated c = λ s.
     (behind_stays c.args.heard c.in-Some.heard c.args.number c.args.self.now c.in-Some.is (ap is_left (let w : c.in-Some.heard.what ≡ whats.Acknowledged = search rules in w)) s)))
 
 pub returns-in-Acknowledged-None-clause-seated : goal.returns-in-Acknowledged-None-clause-seated
-returns-in-Acknowledged-None-clause-seated c = λ s.
-    c.in_ok-send_on.ensures.seated (kept_seated c.args.self.now c.tell.new.self c.in_ok-resumes.ensures.desk c.in_ok-resumes.ensures.links
-    (behind_stays c.args.heard c.in-Some.heard c.args.number c.args.self.now c.in-Some.is (ap is_left (let w : c.in-Some.heard.what ≡ whats.Acknowledged = search rules in w)) s))
+returns-in-Acknowledged-None-clause-seated c = λ s. c.in_ok-send_on.ensures.seated (kept_seated c.args.self.now c.tell.new.self c.in_ok-resumes.ensures.desk c.in_ok-resumes.ensures.links (behind_stays c.args.heard c.in-Some.heard c.args.number c.args.self.now c.in-Some.is (ap is_left (let w : c.in-Some.heard.what ≡ whats.Acknowledged = search rules in w)) s))
 
 pub returns-in-Closed-Some-clause-seated : goal.returns-in-Closed-Some-clause-seated
 returns-in-Closed-Some-clause-seated c = λ s.

@@ -3,6 +3,7 @@ use Rattle.std.specs.Prelude.{IsSome, option_copied}
 use Rattle.tds_relay.specs.declared.link.Link.{Link}
 use Rattle.tds_relay.specs.Reads.{bytes_on, link_at, open_of, seen_of}
 use Rattle.tds_relay.proofs.steps.Placed.{is_shut_at}
+use Rattle.std.proofs.Common.{Bool, if◌then◌else◌}
 use Rattle.tds_relay.proofs.relay.Relay.is_open.Goals as goal
 
 pub returns-in-Some-clause-shut : goal.returns-in-Some-clause-shut
@@ -18,3 +19,9 @@ pub returns-in-Some-clause-there : goal.returns-in-Some-clause-there
 returns-in-Some-clause-there c = λ e.
     let here : link_at c.args.number c.args.self.now.links.items ≡ Some c.in-Some.link.now = sym c.link_in.ensures ∙ ap option_copied c.in-Some.is in
     subst IsSome (sym (ap (option_map bytes_on) here)) refl
+
+pub returns-in-Some-clause-open : goal.returns-in-Some-clause-open
+returns-in-Some-clause-open c = λ e.
+    let link = c.in-Some.link.now in
+    let here : link_at c.args.number c.args.self.now.links.items ≡ Some link = sym c.link_in.ensures ∙ ap option_copied c.in-Some.is in
+    subst IsSome (sym (ap (λ (o : Option Link). open_of (option_map seen_of o)) here ∙ ap (λ (b : Bool). if b then Some link.reader else None) e)) refl

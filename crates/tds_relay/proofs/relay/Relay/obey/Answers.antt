@@ -14,14 +14,14 @@ use Rattle.tds_relay.specs.Asking.{IfAsks, IsUnderway}
 use Rattle.tds_relay.proofs.bytes.Calls.{stand_at}
 use Rattle.tds_relay.specs.Bodies.{Grows, Nowhere, Obeys, Stays, body_of, going_of}
 use Rattle.tds_relay.proofs.steps.Bodied.{forgot_on}
-use Rattle.tds_relay.proofs.steps.Quieting.{Drops, quiet_fed}
+use Rattle.tds_relay.proofs.steps.Quieting.{Drops, Opens, begun_fed, quiet_fed}
 use Rattle.tds_relay.proofs.spared.Closings.{closes_more, closes_on, closes_refl}
 use Rattle.tds_relay.proofs.spared.Reasons.{for_that}
 use Rattle.tds_relay.specs.Reasons.{CannotGoOn, IsOverfull, MayCloseAt, room_left}
-use Rattle.tds_relay.specs.Hall.{End}
 use Rattle.slab.specs.Slab.{get}
 use Rattle.tds_relay.specs.Waiting.{KeepsInLine, KeepsSaid}
 use Rattle.tds_relay.proofs.seats.Relays.{kept_end}
+use Rattle.tds_relay.proofs.spared.Resting.{others_all, others_refl, same_on}
 use Rattle.tds_relay.proofs.relay.Relay.obey.Goals as goal
 
 pub returns-in-Begin-clause-given : goal.returns-in-Begin-clause-given
@@ -62,7 +62,8 @@ pub returns-in-Begin-clause-moves : goal.returns-in-Begin-clause-moves
 returns-in-Begin-clause-moves c =
     ok_more c.begin.result _ _
     (λ m before bytes f. fed_then c.args.key _ before _ bytes c.args.said _ (ap takes_back c.in-Begin.is) (ap hands_on c.in-Begin.is) f
-    (m (subst (λ (es : Ends). IfAsked c.in-Begin.reset (end_at es c.args.key)) (sym (f.is ∙ ap (λ (s : Said). slice_set before c.args.key (Some (Open (fed f.front bytes).front f.withdrawn (asks_by s f.asks)))) c.in-Begin.is)) (asks_begun c.in-Begin.reset before c.args.key _ _))))
+    (m (subst (λ (es : Ends). IfAsked c.in-Begin.reset (end_at es c.args.key)) (sym (f.is ∙ ap (λ (s : Said). slice_set before c.args.key (Some (Open (fed f.front bytes).front f.withdrawn (asks_by s f.asks)))) c.in-Begin.is)) (asks_begun c.in-Begin.reset before c.args.key _ _))
+    (begun_fed c.args.key before _ bytes c.args.said c.bytes_are_packets.ensures.stage c.bytes_are_packets.ensures.says (subst Opens (sym c.in-Begin.is) tt) f)))
     c.begin.ensures.moves
 
 pub returns-in-Body-clause-moves : goal.returns-in-Body-clause-moves
@@ -225,3 +226,11 @@ returns-in-End-clause-keeps c = λ none.
 
 pub returns-in_ok-forget-in-Acknowledge-clause-seated : goal.returns-in_ok-forget-in-Acknowledge-clause-seated
 returns-in_ok-forget-in-Acknowledge-clause-seated c = λ s. kept_end c.acknowledge.result c.forget-in-Acknowledge.new.self c.acknowledge.new.self c.acknowledge.ensures.desk c.acknowledge.ensures.links (c.in_ok-forget-in-Acknowledge.ensures.seated s)
+
+pub returns-in-Nothing-clause-others : goal.returns-in-Nothing-clause-others
+returns-in-Nothing-clause-others c = λ reached. others_refl c.args.key c.args.self.now
+
+pub returns-in_ok-forget-in-Acknowledge-clause-others : goal.returns-in_ok-forget-in-Acknowledge-clause-others
+returns-in_ok-forget-in-Acknowledge-clause-others c = λ reached.
+    others_all c.acknowledge.result c.args.key c.args.self.now c.forget-in-Acknowledge.new.self c.acknowledge.new.self
+    (same_on c.acknowledge.result c.forget-in-Acknowledge.new.self c.acknowledge.new.self c.acknowledge.ensures.desk c.acknowledge.ensures.links c.acknowledge.ensures.asks) (c.in_ok-forget-in-Acknowledge.ensures.others reached)

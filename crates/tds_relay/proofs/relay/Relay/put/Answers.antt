@@ -216,7 +216,7 @@ pub returns-then-not-may_put-clause-closes : goal.returns-then-not-may_put-claus
 returns-then-not-may_put-clause-closes c = for_reason c.fail.result c.args.key _ _ _ (Unbegun (c.may_put.ensures.unbegun (search rules))) c.fail.ensures.closes
 
 pub returns-then-not-is_put-clause-closes : goal.returns-then-not-is_put-clause-closes
-returns-then-not-is_put-clause-closes c = for_reason c.fail-then-not-is_put.result c.args.key _ _ _ (Untaken (c.in_ok-is_put.ensures.untaken (search rules)))
+returns-then-not-is_put-clause-closes c = for_reason c.fail-then-not-is_put.result c.args.key _ _ _ (Untaken (c.in_ok-is_put.ensures.untaken (search rules) c.in-Some.hold (sym c.hold_of.ensures ∙ c.in-Some.is)))
     (closes_first c.fail-then-not-is_put.result (Itself c.args.key) _ _ _ c.fail-then-not-is_put.ensures.closes c.note_went_on.ensures.closes)
 
 pub returns-then-fits-clause-closes : goal.returns-then-fits-clause-closes

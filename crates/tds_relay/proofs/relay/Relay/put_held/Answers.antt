@@ -12,13 +12,14 @@ use Rattle.tds_relay.specs.Ties.{desk_in}
 use Rattle.tds_relay.proofs.steps.Fronts.{ends_kept}
 use Rattle.tds_relay.proofs.spared.Apart.{alone_on, alone_same}
 use Rattle.tds_relay.proofs.steps.Posting.{posts_kept}
-use Rattle.tds_relay.specs.Closings.{Itself}
 use Rattle.tds_relay.proofs.spared.Closings.{closes_on}
-use Rattle.tds_relay.proofs.spared.Reasons.{for_any}
 use Rattle.tds_relay.proofs.spared.Sending.{kept_refl}
 use Rattle.tds_relay.proofs.spared.Shutting.{closes_kept, unclosed}
 use Rattle.tds_relay.proofs.spared.Begun.{answers_refl}
 use Rattle.tds_relay.proofs.spared.Lasting.{last_refl}
+use Rattle.tds_relay.proofs.spared.Reasons.{for_that}
+use Rattle.tds_relay.specs.Reasons.{CannotPut, ItselfFor}
+use Rattle.tds_relay.specs.Hall.{Ends, end_at}
 use Rattle.tds_relay.proofs.relay.Relay.put_held.Goals as goal
 
 pub returns-in_default-clause-body : goal.returns-in_default-clause-body
@@ -51,10 +52,6 @@ returns-clause-alone c =
     alone_on c.put.result c.args.key (hall_in c.args.self.now) (hall_of_ends (desk_in c.args.self.now.desk) (ends_in (with_value c.args.self.now.applications c.args.key c.forget.new.self))) _ c.put.ensures.alone
     (alone_same c.args.key (hall_in c.args.self.now) (hall_of_ends (desk_in c.args.self.now.desk) (ends_in (with_value c.args.self.now.applications c.args.key c.forget.new.self))) kept refl)
 
-pub returns-clause-closes : goal.returns-clause-closes
-returns-clause-closes c = closes_on c.put.result (Itself c.args.key) _ _ _ (for_any c.put.result c.args.key _ _ _ c.put.ensures.closes)
-    (closes_kept (Itself c.args.key) _ _ (ends_kept c.args.self.now.applications c.args.key c.in-Some.application.now _ c.in-Some.ensures.value c.forget.ensures.end) (posts_kept c.args.self.now.applications c.args.key c.in-Some.application.now _ c.in-Some.ensures.value c.forget.ensures.post) refl (kept_refl c.args.self.now.links.items) (unclosed _ _ refl))
-
 pub returns-in_default-clause-answers : goal.returns-in_default-clause-answers
 returns-in_default-clause-answers c = answers_refl c.args.self.now.links.items
 
@@ -63,3 +60,15 @@ returns-in_default-clause-lasts c = inl (last_refl c.args.self.now.links.items)
 
 pub returns-clause-lasts : goal.returns-clause-lasts
 returns-clause-lasts c = c.put.ensures.lasts
+
+pub returns-clause-closes : goal.returns-clause-closes
+returns-clause-closes c =
+    let s = c.args.self.now.applications in
+    let a = c.in-Some.application.now in
+    let same = ends_kept s c.args.key a c.forget.new.self c.in-Some.ensures.value c.forget.ensures.end in
+    let bytes : c.deref.result.now ≡ a.held.items = search rules in
+    closes_on c.put.result (ItselfFor c.args.key (CannotPut c.args.whole (held_of (get s c.args.key)) c.args.key (end_at (ends_in c.args.self.now.applications) c.args.key) c.args.self.now.desk c.args.self.now.links.items)) _ _ _
+    (for_that c.put.result c.args.key _ _ _ _
+    (λ why. subst (λ (xs : List ℕ). CannotPut c.args.whole xs c.args.key (end_at (ends_in c.args.self.now.applications) c.args.key) c.args.self.now.desk c.args.self.now.links.items) (bytes ∙ ap held_of c.in-Some.ensures.value)
+    (subst (λ (es : Ends). CannotPut c.args.whole c.deref.result.now c.args.key (end_at es c.args.key) c.args.self.now.desk c.args.self.now.links.items) same why)) c.put.ensures.closes)
+    (closes_kept _ _ _ same (posts_kept s c.args.key a _ c.in-Some.ensures.value c.forget.ensures.post) refl (kept_refl c.args.self.now.links.items) (unclosed _ _ refl))

@@ -1,6 +1,6 @@
 use Rattle.std.proofs.Common.{ap, inr, refl, rules, subst, sym, ◌≡◌, Some}
 use Rattle.tds_relay.specs.declared.desk.Desk as code
-use Rattle.tds_relay.specs.Ties.{Application, Reaches, desk_in}
+use Rattle.tds_relay.specs.Ties.{Application, IsReached, Reaches, desk_in}
 use Rattle.tds_relay.proofs.steps.Fronts.{moves_closes, moves_does, moves_same}
 use Rattle.tds_relay.proofs.steps.Reaching.{ok_if, ok_more, reaches_turn}
 use Rattle.tds_relay.proofs.steps.Staying.{stays_on}
@@ -16,6 +16,12 @@ use Rattle.tds_relay.proofs.spared.Closings.{closes_first, closes_more_on}
 use Rattle.tds_relay.proofs.spared.Reasons.{for_any}
 use Rattle.tds_relay.proofs.seats.Relays.{closed_end, desk_lasting, renewed_on, renewed_out, renews_keep}
 use Rattle.tds_relay.specs.declared.desk.leaving.Renewed.TheVariants as renewals
+use Rattle.tds_relay.proofs.spared.Speaking.{done_as}
+use Rattle.tds_relay.proofs.spared.Resting.{all_others, others_both, others_on}
+use Rattle.tds_relay.proofs.steps.Reaching.{reached_turn}
+use Rattle.tds_relay.proofs.spared.Speaking.{closed_rest}
+use Rattle.tds_relay.specs.declared.desk.leaving.Renewed.{Renewed}
+use Rattle.tds_relay.specs.Sparing.{IsRenewed}
 use Rattle.tds_relay.proofs.relay.Relay.renew.Goals as goal
 
 pub returns-in-Kept-clause-goes : goal.returns-in-Kept-clause-goes
@@ -33,16 +39,16 @@ returns-in-Closed-clause-goes c = ok_if c.close.result _ (λ from h. subst (λ (
 pub returns-in-Kept-clause-moves : goal.returns-in-Kept-clause-moves
 returns-in-Kept-clause-moves c =
     ok_more c.start_kept.result _ _
-    (λ m asks from h. m (Application c.args.key) from (moves_same (Application c.args.key) from _ _ _ _ (ap desk_in c.restart.ensures.desk) c.restart.ensures.ends
+    (λ m asks begun from h. m (Application c.args.key) from (moves_same (Application c.args.key) from _ _ _ _ (ap desk_in c.restart.ensures.desk) c.restart.ensures.ends
     (moves_does (Application c.args.key) from _ _ _ _ _ _ _ c.in_ok-hold.ensures.turns.1 asks refl refl h)))
     c.start_kept.ensures.moves
 
 pub returns-else-has_transaction-clause-moves : goal.returns-else-has_transaction-clause-moves
-returns-else-has_transaction-clause-moves c = ok_more c.change.result _ _ (λ m asks from h. m (inr (asks, c.has_transaction.ensures (search rules))) from (moves_does (Application c.args.key) from _ _ _ _ _ _ _ c.in_ok-hold.ensures.turns.1 asks refl refl h)) c.change.ensures.moves
+returns-else-has_transaction-clause-moves c = ok_more c.change.result _ _ (λ m asks begun from h. m (inr (asks, c.has_transaction.ensures (search rules))) begun from (moves_does (Application c.args.key) from _ _ _ _ _ _ _ c.in_ok-hold.ensures.turns.1 asks refl refl h)) c.change.ensures.moves
 
 pub returns-in-Closed-clause-moves : goal.returns-in-Closed-clause-moves
 returns-in-Closed-clause-moves c =
-    ok_more c.close.result _ _ (λ e asks from h. moves_closes (Application c.args.key) from _ _ _ _ c.args.key (ap desk_in c.close.ensures.desk) e (moves_does (Application c.args.key) from _ _ _ _ _ _ _ c.in_ok-hold.ensures.turns.1 asks refl refl h)) c.close.ensures.ends
+    ok_more c.close.result _ _ (λ e asks begun from h. moves_closes (Application c.args.key) from _ _ _ _ c.args.key (ap desk_in c.close.ensures.desk) e (moves_does (Application c.args.key) from _ _ _ _ _ _ _ c.in_ok-hold.ensures.turns.1 asks refl refl h)) c.close.ensures.ends
 
 pub returns-in-Kept-clause-read : goal.returns-in-Kept-clause-read
 returns-in-Kept-clause-read c = stays_on c.start_kept.result _ _ _ c.restart.ensures.read c.start_kept.ensures.read
@@ -77,7 +83,7 @@ returns-then-has_transaction-clause-goes c = ok_more c.expel.result _ _ (λ g fr
 pub returns-then-has_transaction-clause-moves : goal.returns-then-has_transaction-clause-moves
 returns-then-has_transaction-clause-moves c =
     ok_more c.expel.result _ _
-    (λ m asks from h. m from (moves_closes (Application c.args.key) from _ _ _ _ c.args.key refl refl (moves_does (Application c.args.key) from _ _ _ _ _ _ _ c.in_ok-hold.ensures.turns.1 asks refl refl h)))
+    (λ m asks begun from h. m from (moves_closes (Application c.args.key) from _ _ _ _ c.args.key refl refl (moves_does (Application c.args.key) from _ _ _ _ _ _ _ c.in_ok-hold.ensures.turns.1 asks refl refl h)))
     c.expel.ensures.moves
 
 pub returns-then-has_transaction-clause-underway : goal.returns-then-has_transaction-clause-underway
@@ -114,3 +120,24 @@ pub returns-in-Closed-clause-seated : goal.returns-in-Closed-clause-seated
 returns-in-Closed-clause-seated c = λ s.
     closed_end c.close.result c.in-Closed.number c.renew.new.self c.args.self.now.links.items c.close.new.self c.close.ensures.desk c.close.ensures.gone c.close.ensures.others
     (renewed_out c.args.key c.in_ok-hold.ensures.turns.0 c.args.self.now.desk c.renew.new.self _ _ c.args.self.now.links.items c.in_ok-hold.ensures.turns.1 s c.in-Closed.number (renews_keep _ (renewals.Closed c.in-Closed.number) _ _ c.in-Closed.is (c.in_ok-hold.ensures.seats s.reached)))
+
+pub returns-in-Kept-clause-others : goal.returns-in-Kept-clause-others
+returns-in-Kept-clause-others c = λ reached.
+    let led = reached_turn _ _ _ _ _ c.in_ok-hold.ensures.turns.1 reached in
+    others_on c.start_kept.result c.args.key c.args.self.now c.restart.new.self c.start_kept.new.self (c.start_kept.ensures.others (subst (λ (d : code.Desk). IsReached (desk_in d)) (sym c.restart.ensures.desk) led))
+    (others_both c.args.key c.args.self.now _ c.restart.new.self (done_as c.args.key c.args.self.now _ reached c.in_ok-hold.ensures.others refl (λ k goes. refl)) (all_others c.args.key _ c.restart.new.self c.restart.ensures.rests))
+
+pub returns-then-has_transaction-clause-others : goal.returns-then-has_transaction-clause-others
+returns-then-has_transaction-clause-others c = λ reached.
+    others_on c.expel.result c.args.key c.args.self.now _ c.expel.new.self (c.expel.ensures.others (reached_turn _ _ _ _ _ c.in_ok-hold.ensures.turns.1 reached))
+    (done_as c.args.key c.args.self.now _ reached c.in_ok-hold.ensures.others refl (λ k goes. refl))
+
+pub returns-else-has_transaction-clause-others : goal.returns-else-has_transaction-clause-others
+returns-else-has_transaction-clause-others c = λ reached.
+    others_on c.change.result c.args.key c.args.self.now _ c.change.new.self (c.change.ensures.others (reached_turn _ _ _ _ _ c.in_ok-hold.ensures.turns.1 reached))
+    (done_as c.args.key c.args.self.now _ reached c.in_ok-hold.ensures.others refl (λ k goes. refl))
+
+pub returns-in-Closed-clause-others : goal.returns-in-Closed-clause-others
+returns-in-Closed-clause-others c = λ reached.
+    let is = subst (λ (r : Renewed). IsRenewed r c.args.key c.args.self.now.desk c.renew.new.self) c.in-Closed.is c.in_ok-hold.ensures.is in
+    closed_rest c.close.result c.args.key c.in-Closed.number is.0 c.args.self.now c.close.new.self _ reached is.1 is.2 c.in_ok-hold.ensures.others c.close.ensures.desk c.close.ensures.others c.close.ensures.asks

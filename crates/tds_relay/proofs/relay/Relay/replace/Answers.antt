@@ -24,6 +24,9 @@ use Rattle.tds_relay.specs.Lent.{KeepsAnswers}
 use Rattle.tds_relay.specs.Coming.{MayBeginAny}
 use Rattle.tds_relay.proofs.seats.Relays.{closed_end, closed_seated, desk_but}
 use Rattle.tds_relay.proofs.seats.Desks.{lost_seated, off_of}
+use Rattle.tds_relay.specs.Hall.{Ends, IfOpen, IsBegun, end_at, holder}
+use Rattle.tds_relay.specs.Fronts.{ends_in}
+use Rattle.tds_relay.proofs.steps.Quieting.{open_lets_go, whose_is}
 use Rattle.tds_relay.proofs.relay.Relay.replace.Goals as goal
 
 pub returns-in_default-clause-goes : goal.returns-in_default-clause-goes
@@ -47,9 +50,11 @@ returns-clause-goes c =
 pub returns-clause-moves : goal.returns-clause-moves
 returns-clause-moves c =
     ok_more c.wait.result _ _
-    (λ m from h. m (Connection c.args.number) tt from
+    (λ m from h. m (Connection c.args.number) tt
+    (subst (λ (es : Ends). IfOpen IsBegun (end_at es c.in-Some.key)) (sym (c.in_ok-close_link.ensures.ends ∙ c.let_go.ensures.ends)) (open_lets_go IsBegun (ends_in c.args.self.now.applications) c.in-Some.key
+    (whose_is (λ (k : ℕ). IfOpen IsBegun (end_at (ends_in c.args.self.now.applications) k)) (holder (desk_in c.args.self.now.desk) c.args.number) c.in-Some.key (sym c.in_ok-holder.ensures.whose ∙ c.in-Some.is) (c.may_replace.ensures.begun (search rules))))) from
     (moves_same (Connection c.args.number) from _ _ _ _ (ap desk_in (c.in_ok-close_link.ensures.desk ∙ c.let_go.ensures.desk)) c.in_ok-close_link.ensures.ends
-    (moves_replaces c.args.number c.in-Some.key from _ _ _ _ _ _ c.in_ok-holder.ensures.turns (sym c.in-Some.is ∙ c.in_ok-holder.ensures.whose) (c.may_replace.ensures (search rules)) c.let_go.ensures.ends h)))
+    (moves_replaces c.args.number c.in-Some.key from _ _ _ _ _ _ c.in_ok-holder.ensures.turns (sym c.in-Some.is ∙ c.in_ok-holder.ensures.whose) (c.may_replace.ensures.parts (search rules)) c.let_go.ensures.ends h)))
     c.wait.ensures.moves
 
 pub returns-clause-read : goal.returns-clause-read

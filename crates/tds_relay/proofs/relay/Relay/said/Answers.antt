@@ -16,6 +16,7 @@ use Rattle.std.proofs.Common.{inl}
 use Rattle.tds_relay.proofs.spared.Closings.{closes_more, closes_with}
 use Rattle.tds_relay.proofs.spared.Reasons.{lent_behind}
 use Rattle.tds_relay.proofs.spared.Few.{few_behind, most_kept, none_stays}
+use Rattle.tds_relay.proofs.spared.Speaking.{others_served}
 use Rattle.tds_relay.proofs.relay.Relay.said.Goals as goal
 
 pub returns-clause-steps : goal.returns-clause-steps
@@ -59,3 +60,6 @@ returns-clause-seated c = λ s. c.serve_line.ensures.seated (c.in_ok-take_all.en
 
 pub returns-clause-goes : goal.returns-clause-goes
 returns-clause-goes c = ok_more c.serve_line.result _ _ (λ g from h. g (Application c.args.key) from (c.in_ok-take_all.ensures.goes from h)) c.serve_line.ensures.goes
+
+pub returns-clause-others : goal.returns-clause-others
+returns-clause-others c = others_served c.serve_line.result c.args.key c.args.self.now c.take_all.new.self c.serve_line.new.self c.in_ok-take_all.ensures.goes c.in_ok-take_all.ensures.others c.serve_line.ensures.goes_on

@@ -10,13 +10,14 @@ use Rattle.tds_relay.proofs.spared.Lined.{has_some}
 use Rattle.tds_relay.proofs.spared.Reasons.{for_reason}
 use Rattle.tds_relay.proofs.spared.Closings.{closes_nobody}
 use Rattle.tds_relay.proofs.spared.Cleaned.{not_both}
+use Rattle.tds_relay.proofs.spared.Speaking.{waited_rest}
 use Rattle.tds_relay.proofs.relay.Relay.seek.Goals as goal
 
 pub returns-in-None-clause-goes : goal.returns-in-None-clause-goes
 returns-in-None-clause-goes c = ok_more c.wait.result _ _ (λ g from h. g (Application c.args.key) refl from h) c.wait.ensures.goes
 
 pub returns-in-None-clause-moves : goal.returns-in-None-clause-moves
-returns-in-None-clause-moves c = ok_more c.wait.result _ _ (λ m from h. m (Application c.args.key) refl from h) c.wait.ensures.moves
+returns-in-None-clause-moves c = ok_more c.wait.result _ _ (λ m begun from h. m (Application c.args.key) refl begun from h) c.wait.ensures.moves
 
 pub returns-in-None-clause-underway : goal.returns-in-None-clause-underway
 returns-in-None-clause-underway c = λ whole waits. ok_more c.wait.result _ _ (λ u. u whole) (c.wait.ensures.underway (search rules))
@@ -38,3 +39,12 @@ returns-in-None-clause-stays c = λ none. ok_if c.wait.result _ (c.wait.ensures.
 
 pub returns-in-Some-clause-closes : goal.returns-in-Some-clause-closes
 returns-in-Some-clause-closes c = for_reason c.start_kept.result c.args.key _ _ _ (has_some (find_key c.args.key (desk_in c.args.self.now.desk).holds) _ (sym c.hold_of.ensures ∙ c.in-Some.is)) c.start_kept.ensures.closes
+
+pub returns-in-Some-clause-others : goal.returns-in-Some-clause-others
+returns-in-Some-clause-others c = c.start_kept.ensures.others
+
+pub returns-in-None-clause-others : goal.returns-in-None-clause-others
+returns-in-None-clause-others c = λ reached. ok_if c.wait.result _ (waited_rest c.args.key c.args.self.now c.wait.new.self c.wait.ensures.body)
+
+pub returns-in-Some-clause-moves : goal.returns-in-Some-clause-moves
+returns-in-Some-clause-moves c = ok_more c.start_kept.result _ _ (λ m begun from h. m (Application c.args.key) from h) c.start_kept.ensures.moves

@@ -8,6 +8,8 @@ use Rattle.tds_relay.specs.Closings.{Itself}
 use Rattle.tds_relay.proofs.spared.Closings.{closes_first, closes_nobody}
 use Rattle.tds_relay.proofs.spared.Reasons.{for_reason}
 use Rattle.tds_relay.proofs.seats.Relays.{lasting_seated}
+use Rattle.tds_relay.proofs.spared.Speaking.{filled_at, filled_rest}
+use Rattle.tds_relay.proofs.spared.Resting.{others_all}
 use Rattle.tds_relay.proofs.relay.Relay.send_for.Goals as goal
 
 pub returns-else-fits-clause-read : goal.returns-else-fits-clause-read
@@ -34,3 +36,11 @@ returns-then-fits-clause-seated c = λ s. lasting_seated c.args.self.now c.fits_
 
 pub returns-else-fits-clause-seated : goal.returns-else-fits-clause-seated
 returns-else-fits-clause-seated c = λ s. c.lose_own.ensures.seated (lasting_seated c.args.self.now c.fits_on.new.self c.fits_on.ensures.desk c.in_ok-fits.ensures.lasts c.in_ok-fits.ensures.read s)
+
+pub returns-then-fits-clause-others : goal.returns-then-fits-clause-others
+returns-then-fits-clause-others c = λ reached hold its same. filled_rest c.args.key c.args.number hold c.args.self.now c.fits_on.new.self reached its same c.fits_on.ensures.desk c.in_ok-fits.ensures.others c.in_ok-fits.ensures.asks
+
+pub returns-else-fits-clause-others : goal.returns-else-fits-clause-others
+returns-else-fits-clause-others c = λ reached hold its same.
+    others_all c.lose_own.result c.args.key c.args.self.now c.fits_on.new.self c.lose_own.new.self (c.lose_own.ensures.rests (filled_at c.args.self.now c.fits_on.new.self c.fits_on.ensures.desk reached))
+    (filled_rest c.args.key c.args.number hold c.args.self.now c.fits_on.new.self reached its same c.fits_on.ensures.desk c.in_ok-fits.ensures.others c.in_ok-fits.ensures.asks)

@@ -25,6 +25,10 @@ use Rattle.tds_relay.proofs.spared.Ended.{its_name}
 use Rattle.tds_relay.proofs.spared.Lasting.{last_closed, last_named, last_start, same_but}
 use Rattle.tds_relay.proofs.seats.Relays.{kept_end, desk_seated}
 use Rattle.tds_relay.proofs.seats.Desks.{deed_seated}
+use Rattle.tds_relay.proofs.spared.Reasons.{for_reason, for_that}
+use Rattle.tds_relay.specs.Reasons.{CannotStart, Unasked, Unkept, Unput}
+use Rattle.tds_relay.specs.Hall.{end_at}
+use Rattle.std.proofs.Common.{◌≡◌, None}
 use Rattle.tds_relay.proofs.relay.Relay.start.Goals as goal
 
 pub returns-in-Ok-clause-goes : goal.returns-in-Ok-clause-goes
@@ -33,8 +37,8 @@ returns-in-Ok-clause-goes c = ok_more c.put_held.result _ _ (λ g by from h. g b
 pub returns-in-Ok-clause-moves : goal.returns-in-Ok-clause-moves
 returns-in-Ok-clause-moves c = ok_more c.put_held.result _ _ (λ m may by from h. m by from (moves_does by from _ _ _ _ _ _ _ c.in-Ok.ensures.ok (tt, tt, may) tt refl h)) c.put_held.ensures.moves
 
-pub returns-in-Err-clause-moves : goal.returns-in-Err-clause-moves
-returns-in-Err-clause-moves c = ok_more c.fail.result _ _ (λ m may by from h. m by from (moves_same by from _ _ _ _ c.in-Err.ensures.err refl h)) c.fail.ensures.moves
+pub returns-in_ok-unless_memory-in-Err-clause-moves : goal.returns-in_ok-unless_memory-in-Err-clause-moves
+returns-in_ok-unless_memory-in-Err-clause-moves c = ok_more c.fail.result _ _ (λ m may by from h. m by from (moves_same by from _ _ _ _ c.in-Err.ensures.err refl h)) c.fail.ensures.moves
 
 pub returns-in_default-hold_of-clause-moves : goal.returns-in_default-hold_of-clause-moves
 returns-in_default-hold_of-clause-moves c = ok_more c.end.result _ _ (λ e may by from h. moves_closes by from _ _ _ _ c.args.key (ap desk_in c.end.ensures.desk) e h) c.end.ensures.ends
@@ -68,8 +72,8 @@ returns-then-not-is_open-clause-body c = Stays
 pub returns-in_default-hold_of-clause-body : goal.returns-in_default-hold_of-clause-body
 returns-in_default-hold_of-clause-body c = ok_more c.end.result _ _ (λ e. closed_starts (body_of c.args.key c.args.self.now) (body_of c.args.key c.end.new.self) (closed_body c.args.key c.end.new.self.applications _ (going_of c.args.key c.end.new.self) e)) c.end.ensures.ends
 
-pub returns-in-Err-clause-body : goal.returns-in-Err-clause-body
-returns-in-Err-clause-body c = ok_more c.fail.result _ _ (λ d. shut_starts c.fail.new.self.applications c.args.key (body_of c.args.key c.args.self.now) (going_of c.args.key c.fail.new.self) d) c.fail.ensures.over
+pub returns-in_ok-unless_memory-in-Err-clause-body : goal.returns-in_ok-unless_memory-in-Err-clause-body
+returns-in_ok-unless_memory-in-Err-clause-body c = ok_more c.fail.result _ _ (λ d. shut_starts c.fail.new.self.applications c.args.key (body_of c.args.key c.args.self.now) (going_of c.args.key c.fail.new.self) d) c.fail.ensures.over
 
 pub returns-in-Ok-clause-body : goal.returns-in-Ok-clause-body
 returns-in-Ok-clause-body c =
@@ -86,8 +90,8 @@ returns-in-Ok-clause-others c = λ reached.
     (c.put_held.ensures.others (reached_does (desk_in c.args.self.now.desk) (desk_in c.ask.new.self) c.args.key Asks _ _ c.in-Ok.ensures.ok tt reached))
     (put_rest c.args.key c.in-Some-hold_of.hold c.args.self.now _ c.ask.new.self reached (sym c.hold_of.ensures ∙ c.in-Some-hold_of.is) c.ask.ensures.others refl refl (λ k goes. refl))
 
-pub returns-in-Err-clause-others : goal.returns-in-Err-clause-others
-returns-in-Err-clause-others c = λ reached.
+pub returns-in_ok-unless_memory-in-Err-clause-others : goal.returns-in_ok-unless_memory-in-Err-clause-others
+returns-in_ok-unless_memory-in-Err-clause-others c = λ reached.
     others_all c.fail.result c.args.key c.args.self.now _ c.fail.new.self (c.fail.ensures.rests (subst (λ (d : Desk). IsReached d) (sym c.in-Err.ensures.err) reached))
     (put_rest c.args.key c.in-Some-hold_of.hold c.args.self.now _ c.ask.new.self reached (sym c.hold_of.ensures ∙ c.in-Some-hold_of.is) c.ask.ensures.others refl refl (λ k goes. refl))
 
@@ -117,8 +121,8 @@ returns-then-not-is_open-clause-waits c = inr (sparing.Opens c.in-Some-hold_of.h
 pub returns-in-Ok-clause-waits : goal.returns-in-Ok-clause-waits
 returns-in-Ok-clause-waits c = ok_more c.put_held.result _ _ (λ g. inl g) c.put_held.ensures.gone
 
-pub returns-in-Err-clause-waits : goal.returns-in-Err-clause-waits
-returns-in-Err-clause-waits c = ok_more c.fail.result _ _ (λ d. inl (unkept_closed _ (shut c.fail.new.self.applications c.args.key _ d))) c.fail.ensures.over
+pub returns-in_ok-unless_memory-in-Err-clause-waits : goal.returns-in_ok-unless_memory-in-Err-clause-waits
+returns-in_ok-unless_memory-in-Err-clause-waits c = ok_more c.fail.result _ _ (λ d. inl (unkept_closed _ (shut c.fail.new.self.applications c.args.key _ d))) c.fail.ensures.over
 
 pub returns-in_default-hold_of-clause-alone : goal.returns-in_default-hold_of-clause-alone
 returns-in_default-hold_of-clause-alone c = ok_more c.end.result _ _ (λ e. alone_changed c.args.key closes (hall_in c.args.self.now) (hall_in c.end.new.self) e (ap (λ (d : desks.Desk). (desk_in d).line) c.end.ensures.desk)) c.end.ensures.ends
@@ -128,19 +132,13 @@ returns-in-Ok-clause-alone c =
     alone_on c.put_held.result c.args.key (hall_in c.args.self.now) (hall_of_ends (desk_in c.ask.new.self) (ends_in c.args.self.now.applications)) _ c.put_held.ensures.alone
     (alone_same c.args.key (hall_in c.args.self.now) (hall_of_ends (desk_in c.ask.new.self) (ends_in c.args.self.now.applications)) refl (line_does c.args.key _ _ _ _ _ c.in-Ok.ensures.ok))
 
-pub returns-in-Err-clause-alone : goal.returns-in-Err-clause-alone
-returns-in-Err-clause-alone c =
+pub returns-in_ok-unless_memory-in-Err-clause-alone : goal.returns-in_ok-unless_memory-in-Err-clause-alone
+returns-in_ok-unless_memory-in-Err-clause-alone c =
     alone_on c.fail.result c.args.key (hall_in c.args.self.now) (hall_of_ends (desk_in c.ask.new.self) (ends_in c.args.self.now.applications)) _ c.fail.ensures.alone
     (alone_same c.args.key (hall_in c.args.self.now) (hall_of_ends (desk_in c.ask.new.self) (ends_in c.args.self.now.applications)) refl (ap (λ (d : Desk). d.line) c.in-Err.ensures.err))
 
 pub returns-in_default-hold_of-clause-ordered : goal.returns-in_default-hold_of-clause-ordered
 returns-in_default-hold_of-clause-ordered c = ordered_closing c.end.result _ _ _ _ c.end.ensures.ordered (ordered_refl _)
-
-pub returns-in-Ok-clause-closes : goal.returns-in-Ok-clause-closes
-returns-in-Ok-clause-closes c = c.put_held.ensures.closes
-
-pub returns-in-Err-clause-closes : goal.returns-in-Err-clause-closes
-returns-in-Err-clause-closes c = c.fail.ensures.closes
 
 pub returns-in_default-clause-placed : goal.returns-in_default-clause-placed
 returns-in_default-clause-placed c = inl (unkept_none c.args.self.now.applications c.args.key _ (search rules))
@@ -163,8 +161,8 @@ returns-then-not-is_open-clause-placed c = inr (sparing.Opens c.in-Some-hold_of.
 pub returns-in-Ok-clause-placed : goal.returns-in-Ok-clause-placed
 returns-in-Ok-clause-placed c = ok_more c.put_held.result _ _ (λ g. inl g) c.put_held.ensures.gone
 
-pub returns-in-Err-clause-placed : goal.returns-in-Err-clause-placed
-returns-in-Err-clause-placed c = ok_more c.fail.result _ _ (λ d. inl (unkept_closed _ (shut c.fail.new.self.applications c.args.key _ d))) c.fail.ensures.over
+pub returns-in_ok-unless_memory-in-Err-clause-placed : goal.returns-in_ok-unless_memory-in-Err-clause-placed
+returns-in_ok-unless_memory-in-Err-clause-placed c = ok_more c.fail.result _ _ (λ d. inl (unkept_closed _ (shut c.fail.new.self.applications c.args.key _ d))) c.fail.ensures.over
 
 pub returns-in_default-clause-answers : goal.returns-in_default-clause-answers
 returns-in_default-clause-answers c = answers_refl c.args.self.now.links.items
@@ -206,8 +204,8 @@ pub returns-in-Ok-clause-lasts : goal.returns-in-Ok-clause-lasts
 returns-in-Ok-clause-lasts c =
     last_named c.put_held.result c.args.key c.in-Some.application.now.tag (register_in c.args.self.now) c.put_held.new.self (its_name c.args.self.now c.args.key c.in-Some.application.now c.in-Some.ensures c.if-application.false) c.put_held.ensures.lasts
 
-pub returns-in-Err-clause-lasts : goal.returns-in-Err-clause-lasts
-returns-in-Err-clause-lasts c =
+pub returns-in_ok-unless_memory-in-Err-clause-lasts : goal.returns-in_ok-unless_memory-in-Err-clause-lasts
+returns-in_ok-unless_memory-in-Err-clause-lasts c =
     last_closed c.fail.result c.args.key c.in-Some.application.now.tag (register_in c.args.self.now) (register_in c.fail.new.self) (its_name c.args.self.now c.args.key c.in-Some.application.now c.in-Some.ensures c.if-application.false) c.fail.ensures.over
 
 pub returns-in-Ok-clause-seated : goal.returns-in-Ok-clause-seated
@@ -218,3 +216,19 @@ returns-in-Err-clause-seated c = λ s. c.fail.ensures.seated (desk_seated (desk_
 
 pub returns-in_default-hold_of-clause-seated : goal.returns-in_default-hold_of-clause-seated
 returns-in_default-hold_of-clause-seated c = λ s. kept_end c.end.result c.args.self.now c.end.new.self c.end.ensures.desk c.end.ensures.links s
+
+pub returns-in-Ok-clause-closes : goal.returns-in-Ok-clause-closes
+returns-in-Ok-clause-closes c =
+    for_that c.put_held.result c.args.key _ _ _ _ (λ why. subst (λ (b : Body). CannotStart c.args.key (end_at (ends_in c.args.self.now.applications) c.args.key) c.args.self.now.desk c.args.self.now.links.items b) (sym (kept_at (get c.args.self.now.applications c.args.key) (going_of c.args.key c.args.self.now) c.in-Some.application.now c.in-Waits.kind c.in-Waits.whole c.in-Some.ensures c.if-application.false c.in-Waits.is)) (Unput _ c.in-Ok.ensures.whose c.ask.new.self c.in-Ok.ensures.ok c.in-Ok.ensures.opened why)) c.put_held.ensures.closes
+
+pub returns-in_ok-unless_memory-in-Err-clause-closes : goal.returns-in_ok-unless_memory-in-Err-clause-closes
+returns-in_ok-unless_memory-in-Err-clause-closes c =
+    let its = sym c.hold_of.ensures ∙ c.in-Some-hold_of.is in
+    for_reason c.fail.result c.args.key _ _ _
+    (subst (λ (b : Body). CannotStart c.args.key (end_at (ends_in c.args.self.now.applications) c.args.key) c.args.self.now.desk c.args.self.now.links.items b) (sym (kept_at (get c.args.self.now.applications c.args.key) (going_of c.args.key c.args.self.now) c.in-Some.application.now c.in-Waits.kind c.in-Waits.whole c.in-Some.ensures c.if-application.false c.in-Waits.is))
+    (Unasked (record { hold = c.in-Some-hold_of.hold; its = its; refusal = c.in-Err.refusal; reason = c.in_ok-unless_memory-in-Err.ensures; refuses = λ count. c.in-Err.ensures.refused c.in-Some-hold_of.hold its }))) c.fail.ensures.closes
+
+pub returns-in_default-hold_of-clause-closes : goal.returns-in_default-hold_of-clause-closes
+returns-in_default-hold_of-clause-closes c =
+    let none : c.hold_of.result ≡ None = search rules in
+    for_reason c.end.result c.args.key _ _ _ (subst (λ (b : Body). CannotStart c.args.key (end_at (ends_in c.args.self.now.applications) c.args.key) c.args.self.now.desk c.args.self.now.links.items b) (sym (kept_at (get c.args.self.now.applications c.args.key) (going_of c.args.key c.args.self.now) c.in-Some.application.now c.in-Waits.kind c.in-Waits.whole c.in-Some.ensures c.if-application.false c.in-Waits.is)) (Unkept (sym c.hold_of.ensures ∙ none))) c.end.ensures.closes

@@ -13,6 +13,7 @@ use Rattle.tds_relay.proofs.spared.Starting.{unkept_closed}
 use Rattle.tds_relay.proofs.spared.Begun.{answers_refl}
 use Rattle.tds_relay.specs.Closings.{Itself, register_in}
 use Rattle.tds_relay.proofs.spared.Lasting.{last_closed, last_start}
+use Rattle.tds_relay.proofs.spared.Reasons.{for_any}
 use Rattle.tds_relay.proofs.relay.Relay.start_kept.Goals as goal
 
 pub returns-in_default-clause-moves : goal.returns-in_default-clause-moves
@@ -21,7 +22,7 @@ returns-in_default-clause-moves c =
     ok_more c.start.result _ _ (λ m. m (unheld_reset (desk_in c.args.self.now.desk) c.args.key _ (sym c.hold_of.ensures ∙ none))) c.start.ensures.moves
 
 pub returns-then-is_reset-clause-moves : goal.returns-then-is_reset-clause-moves
-returns-then-is_reset-clause-moves c = ok_more c.start-then-is_reset.result _ _ (λ m. m (c.is_reset.ensures (sym c.hold_of.ensures ∙ c.in-Some.is) (search rules))) c.start-then-is_reset.ensures.moves
+returns-then-is_reset-clause-moves c = ok_more c.start-then-is_reset.result _ _ (λ m. m (c.is_reset.ensures.reset (sym c.hold_of.ensures ∙ c.in-Some.is) (search rules))) c.start-then-is_reset.ensures.moves
 
 pub returns-then-is_held_back-clause-read : goal.returns-then-is_held_back-clause-read
 returns-then-is_held_back-clause-read c = stays_refl c.args.self.now.links.items
@@ -75,3 +76,9 @@ pub returns-clause-lasts : goal.returns-clause-lasts
 returns-clause-lasts c =
     let named = c.is_held_back.ensures.named (search rules) in
     last_closed c.fail.result c.args.key named.0 (register_in c.args.self.now) (register_in c.fail.new.self) named.1 c.fail.ensures.over
+
+pub returns-in_default-clause-closes : goal.returns-in_default-clause-closes
+returns-in_default-clause-closes c = for_any c.start.result c.args.key _ _ _ c.start.ensures.closes
+
+pub returns-then-is_reset-clause-closes : goal.returns-then-is_reset-clause-closes
+returns-then-is_reset-clause-closes c = for_any c.start-then-is_reset.result c.args.key _ _ _ c.start-then-is_reset.ensures.closes

@@ -1,4 +1,4 @@
-use Rattle.std.proofs.Common.{◌≡◌, List, false, inl, inr, ℕ, refl, rules, subst}
+use Rattle.std.proofs.Common.{◌≡◌, List, false, inr, ℕ, refl, rules, subst}
 use Rattle.tds_relay.specs.Bodies.{ClientStops}
 use Rattle.tds_relay.specs.Ties.{Application}
 use Rattle.tds_relay.proofs.steps.Fronts.{moves_does, moves_same}
@@ -8,6 +8,9 @@ use Rattle.tds_relay.proofs.seats.Relays.{desk_seated}
 use Rattle.tds_relay.proofs.seats.Desks.{deed_seated}
 use Rattle.tds_relay.specs.Ties.{desk_in}
 use Rattle.tds_relay.specs.Desk.{Stops}
+use Rattle.tds_relay.proofs.spared.Speaking.{done_as}
+use Rattle.tds_relay.proofs.spared.Reasons.{refused_there, unstopped}
+use Rattle.tds_service.specs.Service as calls
 use Rattle.tds_relay.proofs.relay.Relay.stop.Goals as goal
 
 pub returns-then-matches-clause-goes : goal.returns-then-matches-clause-goes
@@ -40,12 +43,13 @@ returns-then-matches-clause-stops c = record {
 }
 
 pub returns-in_ok-unless_memory-in-Err-clause-none : goal.returns-in_ok-unless_memory-in-Err-clause-none
-returns-in_ok-unless_memory-in-Err-clause-none c = inl (record { refusal = c.in-Err.refusal; reason = c.in_ok-unless_memory-in-Err.ensures; refuses = λ hold its count. c.in-Err.ensures.refused hold its })
+returns-in_ok-unless_memory-in-Err-clause-none c =
+    unstopped c.args.key c.args.self.now.desk (refused_there (λ lease count. calls.Cancel lease) c.args.key c.args.self.now.desk c.in-Err.refusal c.in_ok-unless_memory-in-Err.ensures (λ hold its count. c.in-Err.ensures.refused hold its))
 
 pub returns-else-matches-clause-none : goal.returns-else-matches-clause-none
 returns-else-matches-clause-none c =
     let not : is_asked c.in-Ok.how ≡ false = search rules in
-    inr (record {
+    inr (inr (record {
       hold = c.in-Ok.hold;
       its = c.in-Ok.ensures.whose;
       request = c.in-Ok.ensures.how.0;
@@ -65,3 +69,16 @@ returns-in_ok-unless_memory-in-Err-clause-seated c = λ s. desk_seated (desk_in 
 
 pub returns-in_err-unless_memory-in-Err-clause-seated : goal.returns-in_err-unless_memory-in-Err-clause-seated
 returns-in_err-unless_memory-in-Err-clause-seated c = λ s. desk_seated (desk_in c.args.self.now.desk) (desk_in c.cancel.new.self) c.args.self.now.links.items c.in-Err.ensures.err s
+    }))
+
+pub returns-then-matches-clause-others : goal.returns-then-matches-clause-others
+returns-then-matches-clause-others c = λ reached. done_as c.args.key c.args.self.now _ reached c.cancel.ensures.others refl (λ k goes. refl)
+
+pub returns-else-matches-clause-others : goal.returns-else-matches-clause-others
+returns-else-matches-clause-others c = λ reached. done_as c.args.key c.args.self.now _ reached c.cancel.ensures.others refl (λ k goes. refl)
+
+pub returns-in_ok-unless_memory-in-Err-clause-others : goal.returns-in_ok-unless_memory-in-Err-clause-others
+returns-in_ok-unless_memory-in-Err-clause-others c = λ reached. done_as c.args.key c.args.self.now _ reached c.cancel.ensures.others refl (λ k goes. refl)
+
+pub returns-in_err-unless_memory-in-Err-clause-others : goal.returns-in_err-unless_memory-in-Err-clause-others
+returns-in_err-unless_memory-in-Err-clause-others c = λ reached. done_as c.args.key c.args.self.now _ reached c.cancel.ensures.others refl (λ k goes. refl)

@@ -30,6 +30,7 @@ use Rattle.tds_relay.specs.Reasons.{GivesReason, ItselfFor, ReasonBy, ReasonWith
 use Rattle.tds_relay.proofs.steps.Fronts.{end_is}
 use Rattle.tds_relay.proofs.steps.Underway.{written_there}
 use Rattle.tds_relay.proofs.spared.Reasons.{may_before}
+use Rattle.tds_relay.proofs.spared.Resting.{others_both, others_refl, written_rest}
 use Rattle.tds_relay.proofs.relay.Relay.take.Goals as goal
 
 pub returns-in-Err-clause-tells : goal.returns-in-Err-clause-tells
@@ -197,3 +198,15 @@ returns-clause-closes c =
           (may_before said (take c.in-Ok.fed.count piece) c.args.key _ _ _ _ r.desk r.links.items _ _ _ _ now rooms (posts_kept slab c.args.key a b c.in-Some.ensures.value c.feed.ensures.post) same x.1))),
     ))
     c.in_ok-obey.ensures.closes)
+
+pub returns-in_default-clause-others : goal.returns-in_default-clause-others
+returns-in_default-clause-others c = λ reached. others_refl c.args.key c.args.self.now
+
+pub returns-then-application-clause-others : goal.returns-then-application-clause-others
+returns-then-application-clause-others c = λ reached. written_rest c.args.key _ c.args.self.now _ refl refl refl
+
+pub returns-in-Err-clause-others : goal.returns-in-Err-clause-others
+returns-in-Err-clause-others c = λ reached. others_both c.args.key c.args.self.now _ c.expel_for.new.self (written_rest c.args.key _ c.args.self.now _ refl refl refl) (c.in_ok-expel_for-in-Err.ensures.others reached)
+
+pub returns-clause-others : goal.returns-clause-others
+returns-clause-others c = λ reached. others_both c.args.key c.args.self.now _ c.obey.new.self (written_rest c.args.key _ c.args.self.now _ refl refl refl) (c.in_ok-obey.ensures.others reached)

@@ -1,23 +1,16 @@
-use Rattle.std.proofs.Common.{◌≡◌, ◌∙◌, List, [], length, refl, rules, sym, ℕ}
-use Rattle.tds_relay.specs.declared.relay.Relay.{Relay}
+use Rattle.std.proofs.Common.{◌∙◌, length, refl, rules, sym}
 use Rattle.tds_relay.specs.Fronts.{house_in}
-use Rattle.tds_relay.specs.Posts.{names_in}
-use Rattle.tds_relay.specs.Reads.{Stays}
-use Rattle.tds_relay.specs.Taking.{Tells}
-use Rattle.tds_relay.specs.Walkers.{AllStand}
-use Rattle.tds_relay.proofs.steps.Reaching.{ok_more}
-use Rattle.tds_relay.proofs.steps.Renaming.{names_on}
-use Rattle.tds_relay.proofs.steps.Staying.{stays_both, stays_on, stays_refl}
+use Rattle.tds_relay.proofs.steps.Staying.{stays_both, stays_refl}
 use Rattle.tds_relay.proofs.steps.Told.{tells_begin, tells_left}
 use Rattle.tds_relay.proofs.bytes.Turns.{each_end, few, some_is, turned_each}
 use Rattle.tds_relay.specs.Reasons.{ByPiece, HasReason, ItselfFor}
-use Rattle.tds_relay.specs.Asking.{Asks}
 use Rattle.tds_relay.proofs.steps.Asked.{asks_begin, asks_left, empty_is}
-use Rattle.tds_relay.specs.Bodies.{Carries, body_of, going_of}
-use Rattle.tds_relay.proofs.steps.Bodied.{shut_starts}
+use Rattle.tds_relay.specs.Bodies.{body_of}
 use Rattle.tds_relay.proofs.steps.Carried.{carries_begin, carries_left}
-use Rattle.tds_relay.specs.Closings.{ClosesOnly, register_in}
+use Rattle.tds_relay.specs.Closings.{register_in}
 use Rattle.tds_relay.proofs.spared.Closings.{closes_both, closes_more, closes_refl}
+use Rattle.tds_relay.proofs.spared.Resting.{others_both, others_refl}
+use Rattle.tds_relay.proofs.spared.Speaking.{reached_by}
 use Rattle.tds_relay.proofs.relay.Relay.take_all.Goals as goal
 
 pub taking-init : goal.taking-init
@@ -32,6 +25,7 @@ taking-init c = record {
   carries = carries_begin c.args.key (house_in c.args.self.now) c.args.piece.now (body_of c.args.key c.args.self.now);
   stand = λ n r h. h;
   seated = λ s. s;
+  others = λ reached. others_refl c.args.key c.args.self.now;
 }
 
 pub taking-preserved : goal.taking-preserved
@@ -47,6 +41,7 @@ taking-preserved c = record {
   carries = carries_left c.args.key _ _ _ _ _ _ _ c.behind-rest.ensures (c.in_ok-count.ensures.carries (house_in c.args.self.now) c.args.piece.now (body_of c.args.key c.args.self.now) c.taking.invariant.carries);
   stand = λ n r h. c.in_ok-count.ensures.stand n r (c.taking.invariant.stand n r h);
   seated = λ s. c.in_ok-count.ensures.seated (c.taking.invariant.seated s);
+  others = λ reached. others_both c.args.key c.args.self.now c.taking.self c.take.new.self (c.taking.invariant.others reached) (c.in_ok-count.ensures.others (reached_by c.args.key c.args.self.now.desk c.taking.self.desk c.taking.invariant.goes reached));
 }
 
 pub returns-clause-tells : goal.returns-clause-tells

@@ -6,7 +6,8 @@ use Rattle.tds_relay.specs.Posts.{names_in}
 use Rattle.tds_relay.specs.Reads.{Stays}
 use Rattle.tds_relay.specs.Reasons.{HasReason, ItselfFor}
 use Rattle.tds_relay.specs.Taking.{Tells}
-use Rattle.tds_relay.specs.Ties.{Application, Goes, desk_in}
+use Rattle.tds_relay.specs.Sparing.{OthersRest}
+use Rattle.tds_relay.specs.Ties.{Application, Goes, IsReached, desk_in}
 use Rattle.tds_relay.specs.Walkers.{AllStand}
 use Rattle.tds_relay.specs.Closings.{ClosesOnly, register_in}
 use Rattle.tds_relay.specs.Few.{IsSeated}
@@ -24,4 +25,5 @@ invariant-taking l = record {
   stand : AllStand l.fn.self.desk.service l.self.desk.service;
   closes : ClosesOnly (ItselfFor l.fn.key (HasReason l.fn.key l.fn.piece l.fn.self)) (register_in l.fn.self) (register_in l.self);
   seated : IsSeated l.fn.self → IsSeated l.self;
+  others : IsReached (desk_in l.fn.self.desk) → OthersRest l.fn.key l.fn.self l.self;
 }

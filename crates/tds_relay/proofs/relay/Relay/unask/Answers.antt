@@ -9,6 +9,17 @@ use Rattle.tds_relay.proofs.seats.Relays.{desk_seated}
 use Rattle.tds_relay.proofs.seats.Desks.{deed_seated}
 use Rattle.tds_relay.specs.Ties.{desk_in}
 use Rattle.tds_relay.specs.Desk.{Stops}
+use Rattle.tds_relay.proofs.spared.Speaking.{done_as, stopped_held}
+use Rattle.tds_relay.proofs.spared.Resting.{others_on}
+use Rattle.tds_relay.proofs.steps.Reaching.{reached_turn}
+use Rattle.tds_relay.specs.Ties.{IsReached}
+use Rattle.tds_relay.specs.Desk.{Desk, Stops}
+use Rattle.tds_relay.specs.Desk as desk
+use Rattle.std.proofs.Common.{sym}
+use Rattle.tds_relay.proofs.spared.Reasons.{refused_there, uncancelled}
+use Rattle.tds_service.specs.Service as calls
+use Rattle.tds_relay.specs.Hall.{end_at}
+use Rattle.tds_relay.specs.Fronts.{ends_in}
 use Rattle.tds_relay.proofs.relay.Relay.unask.Goals as goal
 
 pub returns-then-not-has_nothing_out-clause-moves : goal.returns-then-not-has_nothing_out-clause-moves
@@ -36,11 +47,12 @@ returns-in_ok-unless_memory-in-Err-clause-stand c = stand_on c.expel-in-Err.resu
 pub returns-in-Ok-clause-closes : goal.returns-in-Ok-clause-closes
 returns-in-Ok-clause-closes c =
     let stops = subst (λ (xs : List ℕ). ClientStops c.args.key c.args.self.now.desk c.cancel.new.self xs c.cancel.new.out.items) (search rules) c.in-Ok.ensures.stops in
-    for_that c.send_for.result c.args.key _ _ _ _ (λ none. inr (inr (stops_unfit c.args.key c.args.self.now.desk c.cancel.new.self c.cancel.new.out.items c.args.self.now.links.items c.in-Ok.hold stops c.in-Ok.ensures.whose none))) c.send_for.ensures.closes
+    for_that c.send_for.result c.args.key _ _ _ _ (λ none. inr (inr (inr (stops_unfit c.args.key c.args.self.now.desk c.cancel.new.self c.cancel.new.out.items c.args.self.now.links.items c.in-Ok.hold stops c.in-Ok.ensures.whose none)))) c.send_for.ensures.closes
 
 pub returns-in_ok-unless_memory-in-Err-clause-closes : goal.returns-in_ok-unless_memory-in-Err-clause-closes
 returns-in_ok-unless_memory-in-Err-clause-closes c =
-    for_reason c.expel-in-Err.result c.args.key _ _ _ (inr (inl (record { refusal = c.in-Err.refusal; reason = c.in_ok-unless_memory-in-Err.ensures; refuses = λ hold its count. c.in-Err.ensures.refused hold its }))) c.expel-in-Err.ensures.closes
+    for_reason c.expel-in-Err.result c.args.key _ _ _
+    (uncancelled c.args.key (end_at (ends_in c.args.self.now.applications) c.args.key) c.args.self.now.desk c.args.self.now.links.items (refused_there (λ lease count. calls.Cancel lease) c.args.key c.args.self.now.desk c.in-Err.refusal c.in_ok-unless_memory-in-Err.ensures (λ hold its count. c.in-Err.ensures.refused hold its))) c.expel-in-Err.ensures.closes
 
 pub returns-then-not-has_nothing_out-clause-closes : goal.returns-then-not-has_nothing_out-clause-closes
 returns-then-not-has_nothing_out-clause-closes c = for_reason c.expel.result c.args.key _ _ _ (inl (c.has_nothing_out.ensures.out (search rules))) c.expel.ensures.closes
@@ -50,3 +62,18 @@ returns-in-Ok-clause-seated c = λ s. c.send_for.ensures.seated (deed_seated c.a
 
 pub returns-in_ok-unless_memory-in-Err-clause-seated : goal.returns-in_ok-unless_memory-in-Err-clause-seated
 returns-in_ok-unless_memory-in-Err-clause-seated c = λ s. c.expel-in-Err.ensures.seated (desk_seated (desk_in c.args.self.now.desk) (desk_in c.cancel.new.self) c.args.self.now.links.items c.in-Err.ensures.err s)
+returns-then-not-has_nothing_out-clause-closes c = for_reason c.expel.result c.args.key _ _ _ (inr (inl (c.has_nothing_out.ensures.out (search rules)))) c.expel.ensures.closes
+
+pub returns-then-not-has_nothing_out-clause-others : goal.returns-then-not-has_nothing_out-clause-others
+returns-then-not-has_nothing_out-clause-others c = c.expel.ensures.others
+
+pub returns-in-Ok-clause-others : goal.returns-in-Ok-clause-others
+returns-in-Ok-clause-others c = λ reached.
+    others_on c.send_for.result c.args.key c.args.self.now _ c.send_for.new.self
+    (c.send_for.ensures.others (reached_turn _ _ (desk.Does c.args.key Stops) _ _ c.in-Ok.ensures.ok reached) c.in-Ok.hold (stopped_held c.args.key c.args.self.now.desk c.cancel.new.self c.in-Ok.hold _ _ c.in-Ok.ensures.stops c.in-Ok.ensures.whose) refl)
+    (done_as c.args.key c.args.self.now _ reached c.cancel.ensures.others refl (λ k goes. refl))
+
+pub returns-in_ok-unless_memory-in-Err-clause-others : goal.returns-in_ok-unless_memory-in-Err-clause-others
+returns-in_ok-unless_memory-in-Err-clause-others c = λ reached.
+    others_on c.expel-in-Err.result c.args.key c.args.self.now _ c.expel-in-Err.new.self (c.expel-in-Err.ensures.others (subst (λ (d : Desk). IsReached d) (sym c.in-Err.ensures.err) reached))
+    (done_as c.args.key c.args.self.now _ reached c.cancel.ensures.others refl (λ k goes. refl))

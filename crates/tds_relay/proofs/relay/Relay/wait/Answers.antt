@@ -14,7 +14,7 @@ returns-then-is_away-clause-goes c = ok_more c.wait.result _ _ (λ t by cause fr
 
 pub returns-then-is_away-clause-moves : goal.returns-then-is_away-clause-moves
 returns-then-is_away-clause-moves c =
-    ok_more c.wait.result _ _ (λ t by cause from h. moves_does by from _ _ _ _ _ _ _ t (c.is_away.ensures.away (search rules)) cause refl h) c.wait.ensures.ok
+    ok_more c.wait.result _ _ (λ t by cause begun from h. moves_does by from _ _ _ _ _ _ _ t (c.is_away.ensures.away (search rules), begun) cause refl h) c.wait.ensures.ok
 
 pub returns-then-is_away-clause-underway : goal.returns-then-is_away-clause-underway
 returns-then-is_away-clause-underway c = λ none. ok_more c.wait.result _ _ (λ t whole. in_line whole _ c.args.key _ _ _ t.desk_is) c.wait.ensures.ok

@@ -11,6 +11,7 @@ use Rattle.tds_relay.proofs.spared.Apart.{line_does}
 use Rattle.tds_relay.specs.Reasons.{OfBytes, OfEnd}
 use Rattle.tds_relay.proofs.seats.Desks.{both_keep, deed_keeps, desk_keeps}
 use Rattle.tds_relay.specs.Desk.{Ends}
+use Rattle.tds_relay.specs.Desk.{find_key}
 use Rattle.tds_relay.proofs.relay.putting.put_on.Goals as goal
 
 pub returns-then-not-whole-clause-goes : goal.returns-then-not-whole-clause-goes
@@ -86,10 +87,13 @@ pub returns-in_ok-unless_memory-in-Err-finish-clause-line : goal.returns-in_ok-u
 returns-in_ok-unless_memory-in-Err-finish-clause-line c = ap (λ (d : Desk). d.line) c.in-Err-finish.ensures.err ∙ line_does c.args.key _ _ _ _ _ c.in-Ok.ensures.ok.1
 
 pub returns-in-Err-clause-untaken : goal.returns-in-Err-clause-untaken
-returns-in-Err-clause-untaken c = λ e. OfBytes (record { refusal = c.in-Err.refusal; reason = c.in_ok-unless_memory-in-Err.ensures; refuses = c.in-Err.ensures.refused })
+returns-in-Err-clause-untaken c = λ e hold its.
+    OfBytes (record { hold = hold; its = its; refusal = c.in-Err.refusal; reason = c.in_ok-unless_memory-in-Err.ensures; refuses = c.in-Err.ensures.refused hold its })
 
 pub returns-in_ok-unless_memory-in-Err-finish-clause-untaken : goal.returns-in_ok-unless_memory-in-Err-finish-clause-untaken
-returns-in_ok-unless_memory-in-Err-finish-clause-untaken c = λ e.
+returns-in_ok-unless_memory-in-Err-finish-clause-untaken c = λ e hold its.
+    let stays = holds_stay c.args.key _ (desk_in c.args.desk.now) (desk_in c.put.new.self) _ _ c.in-Ok.ensures.ok.1 in
+    let later = ap (find_key c.args.key) stays ∙ its in
     OfEnd (search rules) c.put.new.self c.args.out.now.items c.put.new.out.items
     (puts_part c.args.bytes.now c.args.key c.args.desk.now c.put.new.self _ _ _ c.in-Ok.ensures.whose (holds_stay c.args.key _ (desk_in c.args.desk.now) (desk_in c.put.new.self) _ _ c.in-Ok.ensures.ok.1) c.in-Ok.ensures.puts)
     (record { refusal = c.in-Err-finish.refusal; reason = c.in_ok-unless_memory-in-Err-finish.ensures; refuses = c.in-Err-finish.ensures.refused })
@@ -109,3 +113,4 @@ returns-in_ok-unless_memory-in-Err-finish-clause-seats c = both_keep (desk_in c.
 
 pub returns-in-Err-clause-seats : goal.returns-in-Err-clause-seats
 returns-in-Err-clause-seats c = desk_keeps (desk_in c.args.desk.now) (desk_in c.put.new.self) c.in-Err.ensures.err
+    (record { hold = hold; its = later; refusal = c.in-Err-finish.refusal; reason = c.in_ok-unless_memory-in-Err-finish.ensures; refuses = c.in-Err-finish.ensures.refused hold later })

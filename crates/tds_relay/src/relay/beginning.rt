@@ -1,0 +1,191 @@
+//! Requests that begin: asked, or kept for a connection.
+ghost use Rattle.std.specs.Prelude.{◌≡◌, Bool, IfNone, None, IfSome, OnOk, Some};
+ghost use Rattle.std.specs.Prelude.{false, true};
+ghost use Rattle.slab.specs.Slab.{get};
+ghost use Rattle.tds_relay.specs.Asking.{IsUnderway, waits_of};
+ghost use Rattle.tds_client.specs.Streams.{packets_are};
+ghost use Rattle.tds_packet.specs.declared.status.Reset.TheVariants.{KeepTransaction};
+ghost use Rattle.tds_relay.specs.Bodies.{Begins, Body, Starts};
+ghost use Rattle.tds_relay.specs.Bodies.{body_of};
+ghost use Rattle.tds_relay.specs.Closings.{ClosesOnly, IsNoRequest, Itself, register_in};
+ghost use Rattle.tds_relay.specs.Few.{IsSeated};
+ghost use Rattle.tds_relay.specs.Fronts.{Moved, ends_in, hall_in};
+ghost use Rattle.tds_relay.specs.Hall.{AsksFor, AsksToPart, IfAsked, IfOpen, IsBegun, end_at};
+ghost use Rattle.tds_relay.specs.Posts.{posts_in};
+ghost use Rattle.tds_relay.specs.Reads.{Stays};
+ghost use Rattle.tds_relay.specs.Reasons.{CannotBegin, CannotPart};
+ghost use Rattle.tds_relay.specs.Reasons.{ItselfFor};
+ghost use Rattle.tds_relay.specs.Ties.{Application, Goes, IsReached, desk_in};
+ghost use Rattle.tds_relay.specs.Walkers.{AllStand};
+ghost use Rattle.tds_relay.specs.Sparing.{OthersRest};
+
+use super::Relay;
+use crate::NoMemory;
+use crate::application::Asking;
+use crate::desk::Renewed;
+use tds_client::MessageKind;
+use tds_packet::{Kind, Reset};
+
+impl Relay {
+    /// A request begins. Where it asks for a reset itself, its application gives back what it holds; but
+    /// where the transaction is to stay, its connection stays too: whether there is one is known once the
+    /// server has acknowledged what was taken back before.
+    #[tactic(auto, using(crate::proofs::steps::Reaching::reaches_turn, crate::proofs::steps::Reaching::reaches_left, crate::proofs::steps::Posting::kept_more, crate::proofs::steps::Posting::posts_kept, crate::proofs::steps::Fronts::ends_more, crate::proofs::steps::Fronts::ends_kept, crate::proofs::steps::Staying::stays_refl, crate::proofs::steps::Underway::of_none))]
+    pub(super) fn begin(
+        &mut self,
+        key: usize,
+        kind: Kind,
+        reset: Option<Reset>,
+    ) -> Result<(), NoMemory>
+        ensures goes { OnOk result (Goes (Application key)
+            (desk_in self.old.desk) (desk_in self.new.desk)) }
+        ensures kept { OnOk result (posts_in self.new.applications
+            ≡ posts_in self.old.applications) }
+        ensures moves { OnOk result (IfAsked reset (end_at (ends_in self.old.applications) key)
+            → IfOpen IsBegun (end_at (ends_in self.old.applications) key)
+            → Moved (Application key) (hall_in self.old) (hall_in self.new)) }
+        ensures underway { OnOk result (IsUnderway false self.new.links.items key
+            (hall_in self.new)) }
+        ensures read { OnOk result (Stays self.old.links.items self.new.links.items) }
+        ensures stand { OnOk result (AllStand self.old.desk.service
+            self.new.desk.service) }
+        ensures body { OnOk result ((mid : Body) × Begins kind mid
+            × Starts mid (body_of key self.new)) }
+        ensures closes { OnOk result (ClosesOnly (ItselfFor key (CannotBegin kind reset key
+            (end_at (ends_in self.old.applications) key) self.old.desk self.old.links.items))
+            (register_in self.old) (register_in self.new)) }
+        ensures others { IsReached (desk_in self.old.desk)
+            → OnOk result (OthersRest key self.old self.new) }
+        ensures seated { IsSeated self.old → OnOk result (IsSeated self.new) }
+    {
+        let Some(application) = self.applications.get_mut(key) else {
+            return Ok(());
+        };
+        let Some(kind) = message_kind(kind) else {
+            return self.expel(key);
+        };
+        application.asking = Asking::Waits { kind, whole: false };
+        application.forget();
+        let holds = self.desk.hold_of(key).is_some();
+        match (holds, reset) {
+            (false, _) => self.wait(key),
+            (true, None) => self.start(key),
+            (true, Some(Reset::KeepTransaction)) => {
+                if self.may_keep_later(key) {
+                    Ok(())
+                } else {
+                    self.renew(key)
+                }
+            }
+            (true, Some(Reset::Full)) => self.change(key),
+        }
+    }
+
+    /// Whether an application holds a connection with an open transaction, on which the server hasn't
+    /// acknowledged yet that its last request was taken back.
+    #[tactic(auto, using(crate::proofs::steps::Underway::drains))]
+    fn may_keep_later(&self, key: usize) -> bool
+        ensures { result ≡ true
+            → IsUnderway false self.now.links.items key (hall_in self.now) }
+    {
+        let Some(hold) = self.desk.hold_of(key) else {
+            return false;
+        };
+        let Some(application) = self.applications.get(key) else {
+            return false;
+        };
+        if !application.is_withdrawn {
+            return false;
+        }
+        self.desk.is_open_on(hold.number) == Some(true)
+    }
+
+    /// The application lets its connection go, and waits for one like who has come.
+    #[tactic(auto, using(crate::proofs::steps::Reaching::reaches_turn, crate::proofs::steps::Reaching::reaches_left))]
+    fn change(&mut self, key: usize) -> Result<(), NoMemory>
+        ensures goes { OnOk result (Goes (Application key)
+            (desk_in self.old.desk) (desk_in self.new.desk)) }
+        ensures kept { OnOk result (posts_in self.new.applications
+            ≡ posts_in self.old.applications) }
+        ensures moves { OnOk result (AsksToPart (hall_in self.old) key
+            → IfOpen IsBegun (end_at (ends_in self.old.applications) key)
+            → Moved (Application key) (hall_in self.old) (hall_in self.new)) }
+        ensures underway { OnOk result ((whole : Bool)
+            → IsUnderway whole self.new.links.items key (hall_in self.new)) }
+        ensures read { OnOk result (Stays self.old.links.items self.new.links.items) }
+        ensures stand { OnOk result (AllStand self.old.desk.service
+            self.new.desk.service) }
+        ensures body { (whole : Bool) → waits_of (get self.old.applications key) ≡ Some whole
+            → OnOk result (Starts (body_of key self.old) (body_of key self.new)) }
+        ensures closes { OnOk result (ClosesOnly (ItselfFor key (CannotPart key
+            (end_at (ends_in self.old.applications) key) self.old.desk))
+            (register_in self.old) (register_in self.new)) }
+        ensures others { IsReached (desk_in self.old.desk)
+            → OnOk result (OthersRest key self.old self.new) }
+        ensures seated { IsSeated self.old → OnOk result (IsSeated self.new) }
+    {
+        if !self.has_nothing_out(key) {
+            return self.expel(key);
+        }
+        self.release(key)?;
+        if self.desk.hold_of(key).is_some() {
+            return self.expel(key);
+        }
+        self.wait(key)
+    }
+
+    /// The application keeps its connection with its transaction, and its next request resets the rest.
+    #[tactic(auto, using(crate::proofs::steps::Reaching::reaches_turn, crate::proofs::steps::Reaching::reaches_left))]
+    fn renew(&mut self, key: usize) -> Result<(), NoMemory>
+        ensures goes { OnOk result (Goes (Application key)
+            (desk_in self.old.desk) (desk_in self.new.desk)) }
+        ensures kept { OnOk result (posts_in self.new.applications
+            ≡ posts_in self.old.applications) }
+        ensures moves { OnOk result (AsksFor KeepTransaction
+            (end_at (ends_in self.old.applications) key)
+            → IfOpen IsBegun (end_at (ends_in self.old.applications) key)
+            → Moved (Application key) (hall_in self.old) (hall_in self.new)) }
+        ensures underway { (whole : Bool) → waits_of (get self.old.applications key) ≡ Some whole
+            → OnOk result (IsUnderway whole self.new.links.items key (hall_in self.new)) }
+        ensures read { OnOk result (Stays self.old.links.items self.new.links.items) }
+        ensures stand { OnOk result (AllStand self.old.desk.service
+            self.new.desk.service) }
+        ensures body { (whole : Bool) → waits_of (get self.old.applications key) ≡ Some whole
+            → OnOk result (Starts (body_of key self.old) (body_of key self.new)) }
+        ensures closes { OnOk result (ClosesOnly (Itself key)
+            (register_in self.old) (register_in self.new)) }
+        ensures others { IsReached (desk_in self.old.desk)
+            → OnOk result (OthersRest key self.old self.new) }
+        ensures seated { IsSeated self.old → OnOk result (IsSeated self.new) }
+    {
+        match self.desk.renew(key)? {
+            Renewed::Kept(hold) => {
+                self.restart(hold.number);
+                self.start_kept(key)
+            }
+            Renewed::NotKept => {
+                if self.has_transaction(key) {
+                    self.expel(key)
+                } else {
+                    self.change(key)
+                }
+            }
+            Renewed::Closed(number) => self.close(number, Some(key)),
+        }
+    }
+}
+
+/// The request that packets of this type are.
+fn message_kind(kind: Kind) -> Option<MessageKind>
+    ensures is { IfSome result (λ message. packets_are message ≡ kind) }
+    ensures none { IfNone result (IsNoRequest kind) }
+{
+    match kind {
+        Kind::Batch => Some(MessageKind::Batch),
+        Kind::Procedure => Some(MessageKind::Procedure),
+        Kind::BulkLoad => Some(MessageKind::BulkLoad),
+        Kind::Transaction => Some(MessageKind::Transaction),
+        Kind::Answer => None,
+        Kind::Attention => None,
+    }
+}
