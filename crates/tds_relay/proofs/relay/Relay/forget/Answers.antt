@@ -1,4 +1,3 @@
-use Rattle.std.proofs.Common.{List, refl, rules, subst}
 use Rattle.tds_relay.specs.Ties.{Application}
 use Rattle.tds_relay.proofs.steps.Fronts.{moves_does}
 use Rattle.tds_relay.proofs.steps.Reaching.{ok_more}
@@ -12,6 +11,7 @@ use Rattle.tds_relay.specs.Reasons.{CannotUnask}
 use Rattle.tds_relay.proofs.spared.Reasons.{for_that}
 use Rattle.tds_relay.proofs.spared.Closings.{closes_first, closes_nobody}
 use Rattle.tds_relay.proofs.seats.Relays.{unwaited}
+use Rattle.std.proofs.Common.{List, refl, rules, subst}
 use Rattle.tds_relay.proofs.spared.Speaking.{reached_by}
 use Rattle.tds_relay.proofs.spared.Resting.{others_on}
 use Rattle.tds_relay.proofs.spared.Reasons.{forgotten}
@@ -45,16 +45,6 @@ returns-else-was_asked-clause-body c = c.forget_request-was_asked.ensures.body
 pub returns-then-was_asked-clause-body : goal.returns-then-was_asked-clause-body
 returns-then-was_asked-clause-body c = forgot_on c.unask.result c.forget_request-was_asked.new.self.applications c.unask.new.self.applications c.args.key c.forget_request-was_asked.ensures.body c.unask.ensures.asks
 
-pub returns-else-was_asked-clause-closes : goal.returns-else-was_asked-clause-closes
-returns-else-was_asked-clause-closes c = closes_nobody _ _ _ c.forget_request-was_asked.ensures.closes
-
-pub returns-then-was_asked-clause-others : goal.returns-then-was_asked-clause-others
-returns-then-was_asked-clause-others c = λ reached.
-    others_on c.unask.result c.args.key c.args.self.now c.forget_request-was_asked.new.self c.unask.new.self (c.unask.ensures.others (reached_by c.args.key c.args.self.now.desk c.forget_request-was_asked.new.self.desk c.forget_request-was_asked.ensures.goes reached)) c.forget_request-was_asked.ensures.others
-
-pub returns-else-was_asked-clause-others : goal.returns-else-was_asked-clause-others
-returns-else-was_asked-clause-others c = λ reached. c.forget_request-was_asked.ensures.others
-
 pub returns-then-was_asked-clause-closes : goal.returns-then-was_asked-clause-closes
 returns-then-was_asked-clause-closes c =
     let mid = c.forget_request-was_asked.new.self in
@@ -75,3 +65,10 @@ returns-then-was_asked-clause-seated c = λ s. c.unask.ensures.seated (unwaited 
 
 pub returns-else-was_asked-clause-seated : goal.returns-else-was_asked-clause-seated
 returns-else-was_asked-clause-seated c = λ s. unwaited c.args.key c.args.self.now.desk c.forget_request-was_asked.new.self c.args.self.now.links.items c.forget_request-was_asked.ensures.turns c.forget_request-was_asked.ensures.service c.forget_request-was_asked.ensures.links s
+
+pub returns-then-was_asked-clause-others : goal.returns-then-was_asked-clause-others
+returns-then-was_asked-clause-others c = λ reached.
+    others_on c.unask.result c.args.key c.args.self.now c.forget_request-was_asked.new.self c.unask.new.self (c.unask.ensures.others (reached_by c.args.key c.args.self.now.desk c.forget_request-was_asked.new.self.desk c.forget_request-was_asked.ensures.goes reached)) c.forget_request-was_asked.ensures.others
+
+pub returns-else-was_asked-clause-others : goal.returns-else-was_asked-clause-others
+returns-else-was_asked-clause-others c = λ reached. c.forget_request-was_asked.ensures.others

@@ -14,13 +14,13 @@ use Rattle.tds_relay.specs.Asking.{IfAsks, IsUnderway}
 use Rattle.tds_relay.proofs.bytes.Calls.{stand_at}
 use Rattle.tds_relay.specs.Bodies.{Grows, Nowhere, Obeys, Stays, body_of, going_of}
 use Rattle.tds_relay.proofs.steps.Bodied.{forgot_on}
-use Rattle.tds_relay.proofs.steps.Quieting.{Drops, Opens, begun_fed, quiet_fed}
 use Rattle.tds_relay.proofs.spared.Closings.{closes_more, closes_on, closes_refl}
 use Rattle.tds_relay.proofs.spared.Reasons.{for_that}
 use Rattle.tds_relay.specs.Reasons.{CannotGoOn, IsOverfull, MayCloseAt, room_left}
 use Rattle.slab.specs.Slab.{get}
 use Rattle.tds_relay.specs.Waiting.{KeepsInLine, KeepsSaid}
 use Rattle.tds_relay.proofs.seats.Relays.{kept_end}
+use Rattle.tds_relay.proofs.steps.Quieting.{Drops, Opens, begun_fed, quiet_fed}
 use Rattle.tds_relay.proofs.spared.Resting.{others_all, others_refl, same_on}
 use Rattle.tds_relay.proofs.relay.Relay.obey.Goals as goal
 

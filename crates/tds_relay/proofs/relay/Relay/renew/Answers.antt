@@ -1,6 +1,5 @@
 use Rattle.std.proofs.Common.{ap, inr, refl, rules, subst, sym, ◌≡◌, Some}
 use Rattle.tds_relay.specs.declared.desk.Desk as code
-use Rattle.tds_relay.specs.Ties.{Application, IsReached, Reaches, desk_in}
 use Rattle.tds_relay.proofs.steps.Fronts.{moves_closes, moves_does, moves_same}
 use Rattle.tds_relay.proofs.steps.Reaching.{ok_if, ok_more, reaches_turn}
 use Rattle.tds_relay.proofs.steps.Staying.{stays_on}
@@ -16,6 +15,7 @@ use Rattle.tds_relay.proofs.spared.Closings.{closes_first, closes_more_on}
 use Rattle.tds_relay.proofs.spared.Reasons.{for_any}
 use Rattle.tds_relay.proofs.seats.Relays.{closed_end, desk_lasting, renewed_on, renewed_out, renews_keep}
 use Rattle.tds_relay.specs.declared.desk.leaving.Renewed.TheVariants as renewals
+use Rattle.tds_relay.specs.Ties.{Application, IsReached, Reaches, desk_in}
 use Rattle.tds_relay.proofs.spared.Speaking.{done_as}
 use Rattle.tds_relay.proofs.spared.Resting.{all_others, others_both, others_on}
 use Rattle.tds_relay.proofs.steps.Reaching.{reached_turn}

@@ -37,9 +37,6 @@ returns-in-Ok-clause-goes c = ok_more c.put_held.result _ _ (λ g by from h. g b
 pub returns-in-Ok-clause-moves : goal.returns-in-Ok-clause-moves
 returns-in-Ok-clause-moves c = ok_more c.put_held.result _ _ (λ m may by from h. m by from (moves_does by from _ _ _ _ _ _ _ c.in-Ok.ensures.ok (tt, tt, may) tt refl h)) c.put_held.ensures.moves
 
-pub returns-in_ok-unless_memory-in-Err-clause-moves : goal.returns-in_ok-unless_memory-in-Err-clause-moves
-returns-in_ok-unless_memory-in-Err-clause-moves c = ok_more c.fail.result _ _ (λ m may by from h. m by from (moves_same by from _ _ _ _ c.in-Err.ensures.err refl h)) c.fail.ensures.moves
-
 pub returns-in_default-hold_of-clause-moves : goal.returns-in_default-hold_of-clause-moves
 returns-in_default-hold_of-clause-moves c = ok_more c.end.result _ _ (λ e may by from h. moves_closes by from _ _ _ _ c.args.key (ap desk_in c.end.ensures.desk) e h) c.end.ensures.ends
 
@@ -72,9 +69,6 @@ returns-then-not-is_open-clause-body c = Stays
 pub returns-in_default-hold_of-clause-body : goal.returns-in_default-hold_of-clause-body
 returns-in_default-hold_of-clause-body c = ok_more c.end.result _ _ (λ e. closed_starts (body_of c.args.key c.args.self.now) (body_of c.args.key c.end.new.self) (closed_body c.args.key c.end.new.self.applications _ (going_of c.args.key c.end.new.self) e)) c.end.ensures.ends
 
-pub returns-in_ok-unless_memory-in-Err-clause-body : goal.returns-in_ok-unless_memory-in-Err-clause-body
-returns-in_ok-unless_memory-in-Err-clause-body c = ok_more c.fail.result _ _ (λ d. shut_starts c.fail.new.self.applications c.args.key (body_of c.args.key c.args.self.now) (going_of c.args.key c.fail.new.self) d) c.fail.ensures.over
-
 pub returns-in-Ok-clause-body : goal.returns-in-Ok-clause-body
 returns-in-Ok-clause-body c =
     let kept = kept_at (get c.args.self.now.applications c.args.key) (going_of c.args.key c.args.self.now) c.in-Some.application.now c.in-Waits.kind c.in-Waits.whole c.in-Some.ensures c.if-application.false c.in-Waits.is in
@@ -88,11 +82,6 @@ pub returns-in-Ok-clause-others : goal.returns-in-Ok-clause-others
 returns-in-Ok-clause-others c = λ reached.
     others_on c.put_held.result c.args.key c.args.self.now _ c.put_held.new.self
     (c.put_held.ensures.others (reached_does (desk_in c.args.self.now.desk) (desk_in c.ask.new.self) c.args.key Asks _ _ c.in-Ok.ensures.ok tt reached))
-    (put_rest c.args.key c.in-Some-hold_of.hold c.args.self.now _ c.ask.new.self reached (sym c.hold_of.ensures ∙ c.in-Some-hold_of.is) c.ask.ensures.others refl refl (λ k goes. refl))
-
-pub returns-in_ok-unless_memory-in-Err-clause-others : goal.returns-in_ok-unless_memory-in-Err-clause-others
-returns-in_ok-unless_memory-in-Err-clause-others c = λ reached.
-    others_all c.fail.result c.args.key c.args.self.now _ c.fail.new.self (c.fail.ensures.rests (subst (λ (d : Desk). IsReached d) (sym c.in-Err.ensures.err) reached))
     (put_rest c.args.key c.in-Some-hold_of.hold c.args.self.now _ c.ask.new.self reached (sym c.hold_of.ensures ∙ c.in-Some-hold_of.is) c.ask.ensures.others refl refl (λ k goes. refl))
 
 pub returns-in_default-hold_of-clause-others : goal.returns-in_default-hold_of-clause-others
@@ -121,9 +110,6 @@ returns-then-not-is_open-clause-waits c = inr (sparing.Opens c.in-Some-hold_of.h
 pub returns-in-Ok-clause-waits : goal.returns-in-Ok-clause-waits
 returns-in-Ok-clause-waits c = ok_more c.put_held.result _ _ (λ g. inl g) c.put_held.ensures.gone
 
-pub returns-in_ok-unless_memory-in-Err-clause-waits : goal.returns-in_ok-unless_memory-in-Err-clause-waits
-returns-in_ok-unless_memory-in-Err-clause-waits c = ok_more c.fail.result _ _ (λ d. inl (unkept_closed _ (shut c.fail.new.self.applications c.args.key _ d))) c.fail.ensures.over
-
 pub returns-in_default-hold_of-clause-alone : goal.returns-in_default-hold_of-clause-alone
 returns-in_default-hold_of-clause-alone c = ok_more c.end.result _ _ (λ e. alone_changed c.args.key closes (hall_in c.args.self.now) (hall_in c.end.new.self) e (ap (λ (d : desks.Desk). (desk_in d).line) c.end.ensures.desk)) c.end.ensures.ends
 
@@ -132,13 +118,12 @@ returns-in-Ok-clause-alone c =
     alone_on c.put_held.result c.args.key (hall_in c.args.self.now) (hall_of_ends (desk_in c.ask.new.self) (ends_in c.args.self.now.applications)) _ c.put_held.ensures.alone
     (alone_same c.args.key (hall_in c.args.self.now) (hall_of_ends (desk_in c.ask.new.self) (ends_in c.args.self.now.applications)) refl (line_does c.args.key _ _ _ _ _ c.in-Ok.ensures.ok))
 
-pub returns-in_ok-unless_memory-in-Err-clause-alone : goal.returns-in_ok-unless_memory-in-Err-clause-alone
-returns-in_ok-unless_memory-in-Err-clause-alone c =
-    alone_on c.fail.result c.args.key (hall_in c.args.self.now) (hall_of_ends (desk_in c.ask.new.self) (ends_in c.args.self.now.applications)) _ c.fail.ensures.alone
-    (alone_same c.args.key (hall_in c.args.self.now) (hall_of_ends (desk_in c.ask.new.self) (ends_in c.args.self.now.applications)) refl (ap (λ (d : Desk). d.line) c.in-Err.ensures.err))
-
 pub returns-in_default-hold_of-clause-ordered : goal.returns-in_default-hold_of-clause-ordered
 returns-in_default-hold_of-clause-ordered c = ordered_closing c.end.result _ _ _ _ c.end.ensures.ordered (ordered_refl _)
+
+pub returns-in-Ok-clause-closes : goal.returns-in-Ok-clause-closes
+returns-in-Ok-clause-closes c =
+    for_that c.put_held.result c.args.key _ _ _ _ (λ why. subst (λ (b : Body). CannotStart c.args.key (end_at (ends_in c.args.self.now.applications) c.args.key) c.args.self.now.desk c.args.self.now.links.items b) (sym (kept_at (get c.args.self.now.applications c.args.key) (going_of c.args.key c.args.self.now) c.in-Some.application.now c.in-Waits.kind c.in-Waits.whole c.in-Some.ensures c.if-application.false c.in-Waits.is)) (Unput _ c.in-Ok.ensures.whose c.ask.new.self c.in-Ok.ensures.ok c.in-Ok.ensures.opened why)) c.put_held.ensures.closes
 
 pub returns-in_default-clause-placed : goal.returns-in_default-clause-placed
 returns-in_default-clause-placed c = inl (unkept_none c.args.self.now.applications c.args.key _ (search rules))
@@ -160,9 +145,6 @@ returns-then-not-is_open-clause-placed c = inr (sparing.Opens c.in-Some-hold_of.
 
 pub returns-in-Ok-clause-placed : goal.returns-in-Ok-clause-placed
 returns-in-Ok-clause-placed c = ok_more c.put_held.result _ _ (λ g. inl g) c.put_held.ensures.gone
-
-pub returns-in_ok-unless_memory-in-Err-clause-placed : goal.returns-in_ok-unless_memory-in-Err-clause-placed
-returns-in_ok-unless_memory-in-Err-clause-placed c = ok_more c.fail.result _ _ (λ d. inl (unkept_closed _ (shut c.fail.new.self.applications c.args.key _ d))) c.fail.ensures.over
 
 pub returns-in_default-clause-answers : goal.returns-in_default-clause-answers
 returns-in_default-clause-answers c = answers_refl c.args.self.now.links.items
@@ -204,10 +186,6 @@ pub returns-in-Ok-clause-lasts : goal.returns-in-Ok-clause-lasts
 returns-in-Ok-clause-lasts c =
     last_named c.put_held.result c.args.key c.in-Some.application.now.tag (register_in c.args.self.now) c.put_held.new.self (its_name c.args.self.now c.args.key c.in-Some.application.now c.in-Some.ensures c.if-application.false) c.put_held.ensures.lasts
 
-pub returns-in_ok-unless_memory-in-Err-clause-lasts : goal.returns-in_ok-unless_memory-in-Err-clause-lasts
-returns-in_ok-unless_memory-in-Err-clause-lasts c =
-    last_closed c.fail.result c.args.key c.in-Some.application.now.tag (register_in c.args.self.now) (register_in c.fail.new.self) (its_name c.args.self.now c.args.key c.in-Some.application.now c.in-Some.ensures c.if-application.false) c.fail.ensures.over
-
 pub returns-in-Ok-clause-seated : goal.returns-in-Ok-clause-seated
 returns-in-Ok-clause-seated c = λ s. c.put_held.ensures.seated (deed_seated c.args.key Asks (desk_in c.args.self.now.desk) (desk_in c.ask.new.self) _ _ c.args.self.now.links.items c.in-Ok.ensures.ok s)
 
@@ -217,9 +195,31 @@ returns-in-Err-clause-seated c = λ s. c.fail.ensures.seated (desk_seated (desk_
 pub returns-in_default-hold_of-clause-seated : goal.returns-in_default-hold_of-clause-seated
 returns-in_default-hold_of-clause-seated c = λ s. kept_end c.end.result c.args.self.now c.end.new.self c.end.ensures.desk c.end.ensures.links s
 
-pub returns-in-Ok-clause-closes : goal.returns-in-Ok-clause-closes
-returns-in-Ok-clause-closes c =
-    for_that c.put_held.result c.args.key _ _ _ _ (λ why. subst (λ (b : Body). CannotStart c.args.key (end_at (ends_in c.args.self.now.applications) c.args.key) c.args.self.now.desk c.args.self.now.links.items b) (sym (kept_at (get c.args.self.now.applications c.args.key) (going_of c.args.key c.args.self.now) c.in-Some.application.now c.in-Waits.kind c.in-Waits.whole c.in-Some.ensures c.if-application.false c.in-Waits.is)) (Unput _ c.in-Ok.ensures.whose c.ask.new.self c.in-Ok.ensures.ok c.in-Ok.ensures.opened why)) c.put_held.ensures.closes
+pub returns-in_ok-unless_memory-in-Err-clause-moves : goal.returns-in_ok-unless_memory-in-Err-clause-moves
+returns-in_ok-unless_memory-in-Err-clause-moves c = ok_more c.fail.result _ _ (λ m may by from h. m by from (moves_same by from _ _ _ _ c.in-Err.ensures.err refl h)) c.fail.ensures.moves
+
+pub returns-in_ok-unless_memory-in-Err-clause-body : goal.returns-in_ok-unless_memory-in-Err-clause-body
+returns-in_ok-unless_memory-in-Err-clause-body c = ok_more c.fail.result _ _ (λ d. shut_starts c.fail.new.self.applications c.args.key (body_of c.args.key c.args.self.now) (going_of c.args.key c.fail.new.self) d) c.fail.ensures.over
+
+pub returns-in_ok-unless_memory-in-Err-clause-others : goal.returns-in_ok-unless_memory-in-Err-clause-others
+returns-in_ok-unless_memory-in-Err-clause-others c = λ reached.
+    others_all c.fail.result c.args.key c.args.self.now _ c.fail.new.self (c.fail.ensures.rests (subst (λ (d : Desk). IsReached d) (sym c.in-Err.ensures.err) reached))
+    (put_rest c.args.key c.in-Some-hold_of.hold c.args.self.now _ c.ask.new.self reached (sym c.hold_of.ensures ∙ c.in-Some-hold_of.is) c.ask.ensures.others refl refl (λ k goes. refl))
+
+pub returns-in_ok-unless_memory-in-Err-clause-waits : goal.returns-in_ok-unless_memory-in-Err-clause-waits
+returns-in_ok-unless_memory-in-Err-clause-waits c = ok_more c.fail.result _ _ (λ d. inl (unkept_closed _ (shut c.fail.new.self.applications c.args.key _ d))) c.fail.ensures.over
+
+pub returns-in_ok-unless_memory-in-Err-clause-alone : goal.returns-in_ok-unless_memory-in-Err-clause-alone
+returns-in_ok-unless_memory-in-Err-clause-alone c =
+    alone_on c.fail.result c.args.key (hall_in c.args.self.now) (hall_of_ends (desk_in c.ask.new.self) (ends_in c.args.self.now.applications)) _ c.fail.ensures.alone
+    (alone_same c.args.key (hall_in c.args.self.now) (hall_of_ends (desk_in c.ask.new.self) (ends_in c.args.self.now.applications)) refl (ap (λ (d : Desk). d.line) c.in-Err.ensures.err))
+
+pub returns-in_ok-unless_memory-in-Err-clause-placed : goal.returns-in_ok-unless_memory-in-Err-clause-placed
+returns-in_ok-unless_memory-in-Err-clause-placed c = ok_more c.fail.result _ _ (λ d. inl (unkept_closed _ (shut c.fail.new.self.applications c.args.key _ d))) c.fail.ensures.over
+
+pub returns-in_ok-unless_memory-in-Err-clause-lasts : goal.returns-in_ok-unless_memory-in-Err-clause-lasts
+returns-in_ok-unless_memory-in-Err-clause-lasts c =
+    last_closed c.fail.result c.args.key c.in-Some.application.now.tag (register_in c.args.self.now) (register_in c.fail.new.self) (its_name c.args.self.now c.args.key c.in-Some.application.now c.in-Some.ensures c.if-application.false) c.fail.ensures.over
 
 pub returns-in_ok-unless_memory-in-Err-clause-closes : goal.returns-in_ok-unless_memory-in-Err-clause-closes
 returns-in_ok-unless_memory-in-Err-clause-closes c =

@@ -1,4 +1,3 @@
-use Rattle.std.proofs.Common.{◌≡◌, List, false, inr, ℕ, refl, rules, subst}
 use Rattle.tds_relay.specs.Bodies.{ClientStops}
 use Rattle.tds_relay.specs.Ties.{Application}
 use Rattle.tds_relay.proofs.steps.Fronts.{moves_does, moves_same}
@@ -8,6 +7,7 @@ use Rattle.tds_relay.proofs.seats.Relays.{desk_seated}
 use Rattle.tds_relay.proofs.seats.Desks.{deed_seated}
 use Rattle.tds_relay.specs.Ties.{desk_in}
 use Rattle.tds_relay.specs.Desk.{Stops}
+use Rattle.std.proofs.Common.{◌≡◌, List, false, inr, ℕ, refl, rules, subst}
 use Rattle.tds_relay.proofs.spared.Speaking.{done_as}
 use Rattle.tds_relay.proofs.spared.Reasons.{refused_there, unstopped}
 use Rattle.tds_service.specs.Service as calls
@@ -56,7 +56,7 @@ returns-else-matches-clause-none c =
       how = c.in-Ok.how;
       answers = c.in-Ok.ensures.how.1;
       not_asked = asked_not c.in-Ok.how not;
-    })
+    }))
 
 pub returns-then-matches-clause-seated : goal.returns-then-matches-clause-seated
 returns-then-matches-clause-seated c = λ s. deed_seated c.args.key Stops (desk_in c.args.self.now.desk) (desk_in c.cancel.new.self) _ _ c.args.self.now.links.items c.in-Ok.ensures.ok s
@@ -69,7 +69,6 @@ returns-in_ok-unless_memory-in-Err-clause-seated c = λ s. desk_seated (desk_in 
 
 pub returns-in_err-unless_memory-in-Err-clause-seated : goal.returns-in_err-unless_memory-in-Err-clause-seated
 returns-in_err-unless_memory-in-Err-clause-seated c = λ s. desk_seated (desk_in c.args.self.now.desk) (desk_in c.cancel.new.self) c.args.self.now.links.items c.in-Err.ensures.err s
-    }))
 
 pub returns-then-matches-clause-others : goal.returns-then-matches-clause-others
 returns-then-matches-clause-others c = λ reached. done_as c.args.key c.args.self.now _ reached c.cancel.ensures.others refl (λ k goes. refl)

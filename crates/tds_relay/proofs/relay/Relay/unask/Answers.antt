@@ -55,14 +55,13 @@ returns-in_ok-unless_memory-in-Err-clause-closes c =
     (uncancelled c.args.key (end_at (ends_in c.args.self.now.applications) c.args.key) c.args.self.now.desk c.args.self.now.links.items (refused_there (λ lease count. calls.Cancel lease) c.args.key c.args.self.now.desk c.in-Err.refusal c.in_ok-unless_memory-in-Err.ensures (λ hold its count. c.in-Err.ensures.refused hold its))) c.expel-in-Err.ensures.closes
 
 pub returns-then-not-has_nothing_out-clause-closes : goal.returns-then-not-has_nothing_out-clause-closes
-returns-then-not-has_nothing_out-clause-closes c = for_reason c.expel.result c.args.key _ _ _ (inl (c.has_nothing_out.ensures.out (search rules))) c.expel.ensures.closes
+returns-then-not-has_nothing_out-clause-closes c = for_reason c.expel.result c.args.key _ _ _ (inr (inl (c.has_nothing_out.ensures.out (search rules)))) c.expel.ensures.closes
 
 pub returns-in-Ok-clause-seated : goal.returns-in-Ok-clause-seated
 returns-in-Ok-clause-seated c = λ s. c.send_for.ensures.seated (deed_seated c.args.key Stops (desk_in c.args.self.now.desk) (desk_in c.cancel.new.self) _ _ c.args.self.now.links.items c.in-Ok.ensures.ok s)
 
 pub returns-in_ok-unless_memory-in-Err-clause-seated : goal.returns-in_ok-unless_memory-in-Err-clause-seated
 returns-in_ok-unless_memory-in-Err-clause-seated c = λ s. c.expel-in-Err.ensures.seated (desk_seated (desk_in c.args.self.now.desk) (desk_in c.cancel.new.self) c.args.self.now.links.items c.in-Err.ensures.err s)
-returns-then-not-has_nothing_out-clause-closes c = for_reason c.expel.result c.args.key _ _ _ (inr (inl (c.has_nothing_out.ensures.out (search rules)))) c.expel.ensures.closes
 
 pub returns-then-not-has_nothing_out-clause-others : goal.returns-then-not-has_nothing_out-clause-others
 returns-then-not-has_nothing_out-clause-others c = c.expel.ensures.others

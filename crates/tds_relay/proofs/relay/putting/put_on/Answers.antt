@@ -96,7 +96,7 @@ returns-in_ok-unless_memory-in-Err-finish-clause-untaken c = λ e hold its.
     let later = ap (find_key c.args.key) stays ∙ its in
     OfEnd (search rules) c.put.new.self c.args.out.now.items c.put.new.out.items
     (puts_part c.args.bytes.now c.args.key c.args.desk.now c.put.new.self _ _ _ c.in-Ok.ensures.whose (holds_stay c.args.key _ (desk_in c.args.desk.now) (desk_in c.put.new.self) _ _ c.in-Ok.ensures.ok.1) c.in-Ok.ensures.puts)
-    (record { refusal = c.in-Err-finish.refusal; reason = c.in_ok-unless_memory-in-Err-finish.ensures; refuses = c.in-Err-finish.ensures.refused })
+    (record { hold = hold; its = later; refusal = c.in-Err-finish.refusal; reason = c.in_ok-unless_memory-in-Err-finish.ensures; refuses = c.in-Err-finish.ensures.refused hold later })
 
 pub returns-then-not-whole-clause-seats : goal.returns-then-not-whole-clause-seats
 returns-then-not-whole-clause-seats c = deed_keeps c.args.key (Puts c.in-Ok.ensures.ok.0) (desk_in c.args.desk.now) (desk_in c.put.new.self) _ _ c.in-Ok.ensures.ok.1
@@ -113,4 +113,3 @@ returns-in_ok-unless_memory-in-Err-finish-clause-seats c = both_keep (desk_in c.
 
 pub returns-in-Err-clause-seats : goal.returns-in-Err-clause-seats
 returns-in-Err-clause-seats c = desk_keeps (desk_in c.args.desk.now) (desk_in c.put.new.self) c.in-Err.ensures.err
-    (record { hold = hold; its = later; refusal = c.in-Err-finish.refusal; reason = c.in_ok-unless_memory-in-Err-finish.ensures; refuses = c.in-Err-finish.ensures.refused hold later })
