@@ -1,8 +1,7 @@
 //! What an application that took its request back asks next, once the server has acknowledged that.
-ghost use Rattle.std.specs.Prelude.{◌≡◌, ℕ, true, false, None, OnOk, Some};
+ghost use Rattle.std.specs.Prelude.{◌≡◌, ℕ, true, None, OnOk, Some};
 ghost use Rattle.tds_packet.specs.declared.status.Reset.TheVariants.{KeepTransaction};
 ghost use Rattle.tds_relay.specs.Apart.{SparesOthers};
-ghost use Rattle.tds_relay.specs.Asking.{IsUnderway};
 ghost use Rattle.tds_relay.specs.Closings.{Anybody, ClosesOnly, register_in};
 ghost use Rattle.tds_relay.specs.Coming.{AllAlong, MayBeginAny};
 ghost use Rattle.tds_relay.specs.Fronts.{Moved, ends_in, hall_in};
@@ -58,25 +57,6 @@ impl Relay {
             Some(application) => application.asks_to_keep(),
             None => false,
         }
-    }
-
-    /// Whether an application holds a connection with an open transaction, on which the server hasn't
-    /// acknowledged yet that its last request was taken back.
-    #[tactic(auto, using(crate::proofs::steps::Underway::drains))]
-    pub(super) fn may_keep_later(&self, key: usize) -> bool
-        ensures { result ≡ true
-            → IsUnderway false self.now.links.items key (hall_in self.now) }
-    {
-        let Some(hold) = self.desk.hold_of(key) else {
-            return false;
-        };
-        let Some(application) = self.applications.get(key) else {
-            return false;
-        };
-        if !application.is_withdrawn {
-            return false;
-        }
-        self.desk.is_open_on(hold.number) == Some(true)
     }
 
     /// The application keeps its connection with its transaction, for a request that has waited.
