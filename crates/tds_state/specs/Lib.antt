@@ -9,3 +9,4 @@ pub mod Sessions
 pub mod Tracking
 pub mod Pasts
 pub mod Exchanges
+pub mod Watching

@@ -2,6 +2,7 @@
 //! a header.
 
 ghost use Rattle.std.specs.Prelude.{◌≡◌, ◌≤◌, length};
+ghost use Rattle.tds_state.specs.Watching.{are_whole};
 
 /// Of a packet's header what is read: its type, its status, and its length, in which it is counted.
 #[derive(Clone, Copy, Debug, PartialEq, Eq)]
@@ -91,6 +92,13 @@ impl Packets {
             Some(byte) => (1, self.take_byte(*byte)),
             None => (0, Brought::Part),
         }
+    }
+
+    /// Whether a packet has ended, or none has begun.
+    pub(crate) fn is_between(&self) -> bool
+        ensures { result ≡ are_whole self.now }
+    {
+        self.came == 0 && self.left == 0
     }
 
     fn take_byte(&mut self, byte: u8) -> Brought {

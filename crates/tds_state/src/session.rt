@@ -112,7 +112,7 @@ fn note_all(values: &mut Values, is_recoverable: bool, states: &[u8]) -> bool
     rest.is_empty()
 }
 
-fn is_quiet(flight: Flight) -> bool
+pub(crate) fn is_quiet(flight: Flight) -> bool
     ensures { result ≡ is_quiet flight }
 {
     match flight {

@@ -1,14 +1,16 @@
 //! A watch over both directions of a connection's wire, from the login's answer on.
 
-ghost use Rattle.std.specs.Prelude.{◌≡◌, ◌≤◌, ◌&&◌, ◌||◌, not, IfOk, length, true};
+ghost use Rattle.std.specs.Prelude.{◌≡◌, ◌≤◌, ◌&&◌, ◌||◌, not, get_or, IfOk, length, true};
 ghost use Rattle.tds_state.specs.Pasts.{HasPast};
 ghost use Rattle.tds_state.specs.Sessions.{session_rests};
+ghost use Rattle.tds_state.specs.Watching.{watch_lost, watch_settled};
 
 use crate::NoMemory;
 use crate::asked::Request;
 use crate::kept::{behind, first_of};
 use crate::packets::{Brought, Head, Packets};
 use crate::prefix::Prefix;
+use crate::session::is_quiet;
 use crate::tracker::Tracker;
 use std::alloc::Global;
 use tds_packet::{Direction, Status};
@@ -101,6 +103,35 @@ impl Watch {
         ensures { result ≡ (not self.now.is_lost && session_rests self.now.tracker.session) }
     {
         !self.is_lost && self.tracker.rests()
+    }
+
+    /// Whether something couldn't be read or kept: it never rests any more.
+    pub fn is_lost(&self) -> bool
+        ensures { result ≡ watch_lost self.now }
+    {
+        self.is_lost || self.tracker.session.is_lost
+    }
+
+    /// Whether all that went out and came is whole: no answer is due, and none has begun to come.
+    pub fn is_settled(&self) -> bool
+        ensures { result ≡ watch_settled self.now }
+    {
+        is_quiet(self.tracker.session.flight)
+            && (!self.is_within && (self.back.is_between() && self.walker.is_between()))
+    }
+
+    /// The descriptor of the transaction that is open, or 0.
+    pub fn transaction(&self) -> u64
+        ensures { result ≡ self.now.tracker.session.transaction }
+    {
+        self.tracker.session.transaction
+    }
+
+    /// The prepared handle that has the first place, or 0.
+    pub fn handle(&self) -> u32
+        ensures { result ≡ get_or self.now.tracker.session.handles.places 0 0 }
+    {
+        self.tracker.session.handles.places[0]
     }
 
     /// Where something can't be read, nothing is read any more.

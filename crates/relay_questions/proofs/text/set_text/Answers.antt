@@ -1,0 +1,7 @@
+use Rattle.std.proofs.Common.{refl}
+use Rattle.relay_questions.specs.Requests.{set_text, two_bytes_each}
+use Rattle.relay_questions.proofs.text.set_text.Goals as goal
+
+pub returns-clause-is : goal.returns-clause-is
+unfolding set_text two_bytes_each
+returns-clause-is c = refl

@@ -1,0 +1,3 @@
+pub mod Steps
+pub mod Requests
+pub mod Asking
