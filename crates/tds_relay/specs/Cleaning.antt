@@ -15,7 +15,7 @@ use Rattle.tds_relay.specs.declared.link.Link.{Link}
 use Rattle.tds_relay.specs.declared.relay.Relay as code
 use Rattle.tds_relay.specs.Bodies.{ArePut}
 use Rattle.tds_relay.specs.Closings.{Settings}
-use Rattle.tds_relay.specs.Desk.{Brings, Desk, Way, find_key, turn}
+use Rattle.tds_relay.specs.Desk.{Brings, Desk, Way, find_key, next, turn}
 use Rattle.tds_relay.specs.Lent.{IsMade}
 use Rattle.tds_relay.specs.Reads.{bytes_on, waits_on}
 
@@ -78,6 +78,17 @@ pub data WaitsBehindEnd (client : Option ClientSession) (old : Option (List ℕ)
 -- where an application held one
 abbrev pub OfItsHold : (Option ClientSession → Option (List ℕ) → Option (List ℕ) → Type 0) → ℕ → code.Relay → (ℕ → Option (List ℕ)) → Type 0
 OfItsHold Left key old now = (hold : Hold) → find_key key old.desk.holds.items ≡ Some hold → Left (client_of hold.lease old.desk.service) (waits_on hold.number old.links.items) (now hold.number)
+
+-- ---- How often
+
+-- how many connections that were let go are cleaned, and how many were closed instead
+abbrev pub cleaned_in : code.Relay → ℕ × ℕ
+cleaned_in r = (r.cleanings, r.failed)
+
+-- Where one was held it is counted so, once, as far as it is counted.
+abbrev pub CountsHold : Option Hold → ℕ × ℕ → ℕ × ℕ → Type 0
+CountsHold None old new = new ≡ old
+CountsHold (Some hold) old new = (new ≡ (next old.0, old.1)) ⊎ (new ≡ (old.0, next old.1))
 
 -- ---- One that has come before any application asked is cleaned first
 

@@ -47,6 +47,13 @@ pub record HasClosed (May : ℕ → Type 0) (old new : Register) : Type 0 where
 abbrev pub LastBut : (ℕ → Type 0) → Register → Register → Type 0
 LastBut May old new = AllLast old.links new.links ⊎ HasClosed May old new
 
+-- So is each but these, which may be there no more.
+abbrev pub AllLastBut : (ℕ → Type 0) → List Link → List Link → Type 0
+AllLastBut But old new = (number : ℕ) → waits_on number new ≡ None → (waits_on number old ≡ None) ⊎ But number
+
+abbrev pub LastBesides : (ℕ → Type 0) → (ℕ → Type 0) → Register → Register → Type 0
+LastBesides But May old new = AllLastBut But old.links new.links ⊎ HasClosed May old new
+
 -- ---- As the code has it
 
 -- Or this application is to be closed.

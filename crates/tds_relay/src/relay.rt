@@ -16,7 +16,7 @@ ghost use Rattle.tds_relay.specs.Hall.{Open, lets_go};
 ghost use Rattle.tds_relay.specs.House.{Steps, new_house};
 ghost use Rattle.tds_relay.specs.Places.{HasNoTransaction, begun_in, holder};
 ghost use Rattle.tds_relay.specs.Posts.{Enters, posts_in};
-ghost use Rattle.tds_relay.specs.Reads.{link_at, waits_on};
+ghost use Rattle.tds_relay.specs.Reads.{link_at, open_at, waits_on};
 ghost use Rattle.tds_relay.specs.Reasons.{HasGoneOut};
 ghost use Rattle.tds_relay.specs.Sparing.{OthersRest};
 ghost use Rattle.tds_relay.specs.Ties.{Cause, CausesRequest, Goes, Neither, desk_in};
@@ -27,6 +27,7 @@ ghost use Rattle.tds_relay.specs.declared.application.Application.{Application};
 ghost use Rattle.tds_relay.specs.declared.link.TheConstants.{COLUMNS};
 ghost use Rattle.tds_relay.specs.declared.outgoing.TheConstants.{PIECE};
 ghost use Rattle.tds_relay.specs.Few.{IsSeated};
+ghost use Rattle.tds_relay.specs.Cleaning.{cleaned_in};
 
 mod asking;
 mod beginning;
@@ -263,6 +264,7 @@ impl Relay {
         ensures orders { self.new.orders.items ≡ self.old.orders.items }
         ensures closes { ClosesOnly Nobody (register_in self.old) (register_in self.new) }
         ensures outbox { self.new.outbox.items ≡ self.old.outbox.items }
+        ensures counts { cleaned_in self.new ≡ cleaned_in self.old }
     {
         match self.applications.get_mut(key) {
             Some(application) => application.let_go(),
@@ -356,6 +358,17 @@ impl Relay {
         match self.desk.hold_of(key) {
             Some(_) => false,
             None => !self.desk.waits(key),
+        }
+    }
+
+    /// Whether the connection of this number is open.
+    pub(super) fn is_open(&self, number: u64) -> bool
+        ensures shut { result ≡ false → open_at number self.now.links.items ≡ None }
+        ensures there { result ≡ true → IsSome (waits_on number self.now.links.items) }
+    {
+        match link_in(&self.links, number) {
+            Some(link) => link.is_open,
+            None => false,
         }
     }
 

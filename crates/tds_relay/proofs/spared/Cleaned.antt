@@ -1,6 +1,6 @@
 -- What a cleaning puts, and what goes out where a connection is let go.
 use Rattle.std.proofs.Common.{◌≡◌, ◌∙◌, ◌==◌, ◌++◌, ℕ, Bool, true, false, not, List, [], ◌∷◌, Option, Some, None, inl, inr, refl, sym, ap, subst, append_assoc, option_map, if◌then◌else◌}
-use Rattle.std.specs.Prelude.{OnOk, Result, Ok, Err}
+use Rattle.std.specs.Prelude.{OnOk, Result, Ok, Err, ◌⊎◌}
 use Rattle.std.proofs.lemmas.Bool.{eqb-true, eq-eqb}
 use Rattle.tds_client.specs.declared.message.MessageKind.TheVariants.{Batch}
 use Rattle.tds_client.specs.Session.{ClientSession}
@@ -14,10 +14,10 @@ use Rattle.tds_relay.specs.declared.desk.Hold.{Hold}
 use Rattle.tds_relay.specs.declared.desk.leaving.Left.{Left}
 use Rattle.tds_relay.specs.declared.link.Link.{Link}
 use Rattle.tds_relay.specs.declared.relay.Relay as code
-use Rattle.tds_relay.specs.Cleaning.{GoesOutAtEnd, GoesOutAtAny, GoesOutBy, IsBatch, WaitsAtEnd, WaitsBehindEnd, OfItsHold, MayClean, IsPutBehind}
+use Rattle.tds_relay.specs.Cleaning.{GoesOutAtEnd, GoesOutAtAny, GoesOutBy, IsBatch, WaitsAtEnd, WaitsBehindEnd, OfItsHold, MayClean, IsPutBehind, CountsHold}
 use Rattle.tds_relay.specs.Cleaning as cleaning
 use Rattle.tds_relay.specs.Desk as desk
-use Rattle.tds_relay.specs.Desk.{Desk, find_key, find_lease, find_number, without_lease}
+use Rattle.tds_relay.specs.Desk.{Desk, find_key, find_lease, find_number, without_lease, next}
 use Rattle.tds_relay.specs.Promises.{Each}
 use Rattle.tds_relay.specs.Reads.{FillsAt, FillsBy, Opens as OpensLinks, bytes_on, if_open, link_at, open_at, open_waits, reader_at, reader_of, waits_on}
 use Rattle.tds_relay.specs.Ties.{IsNumberOf, IsReached, Turns, desk_in}
@@ -177,3 +177,27 @@ pub left_served : {A E : Type 0} (r : Result A E) (key : ℕ) (old mid new : cod
 left_served (Ok x) key old mid new left opens = λ hold its.
     left_then (client_of hold.lease old.desk.service) (waits_on hold.number old.links.items) (waits_on hold.number mid.links.items) (open_at hold.number mid.links.items) (open_waits hold.number mid.links.items) (open_waits hold.number new.links.items) (left hold its) refl (opens.fills hold.number)
 left_served (Err x) key old mid new left opens = tt
+
+-- ---- How often
+
+pub counts_none : (o : Option Hold) (p q : ℕ × ℕ) → IsNumberOf o None → q ≡ p → CountsHold o p q
+counts_none None p q is e = e
+counts_none (Some hold) p q is e = absurd is
+
+pub counts_some : (o : Option Hold) (left : Left) (p q : ℕ × ℕ) → IsNumberOf o (Some left) → (q ≡ (next p.0, p.1)) ⊎ (q ≡ (p.0, next p.1)) → CountsHold o p q
+counts_some None left p q is e = absurd is
+counts_some (Some hold) left p q is e = e
+
+pub counts_on : {A E : Type 0} (r : Result A E) (o : Option Hold) (p q u : ℕ × ℕ) → CountsHold o p q → u ≡ q → OnOk r (CountsHold o p u)
+counts_on (Ok x) o p q u h e = subst (CountsHold o p) (sym e) h
+counts_on (Err x) o p q u h e = tt
+
+pub one_more : (p q u : ℕ × ℕ) (n : ℕ) → q ≡ p → n ≡ next q.0 → u ≡ (n, q.1) → (u ≡ (next p.0, p.1)) ⊎ (u ≡ (p.0, next p.1))
+one_more p q u n same is e =
+    let one : u ≡ (next q.0, q.1) = e ∙ ap (λ (k : ℕ). (k, q.1)) is in
+    inl (one ∙ ap (λ (x : ℕ × ℕ). (next x.0, x.1)) same)
+
+pub one_failed : (p q u : ℕ × ℕ) (n : ℕ) → q ≡ p → n ≡ next q.1 → u ≡ (q.0, n) → (u ≡ (next p.0, p.1)) ⊎ (u ≡ (p.0, next p.1))
+one_failed p q u n same is e =
+    let one : u ≡ (q.0, next q.1) = e ∙ ap (λ (k : ℕ). (q.0, k)) is in
+    inr (one ∙ ap (λ (x : ℕ × ℕ). (x.0, next x.1)) same)

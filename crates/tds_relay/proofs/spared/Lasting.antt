@@ -7,9 +7,13 @@ use Rattle.tds_relay.specs.declared.relay.Relay as code
 use Rattle.tds_relay.specs.Closings.{ClosesOnly, Itself, Register, name_with, open_name, register_in}
 use Rattle.tds_relay.specs.Fronts.{ends_in}
 use Rattle.tds_relay.specs.Hall.{End, Open, Over, end_at}
-use Rattle.tds_relay.specs.Lent.{AllLast, LastBut, LastOrDeaf}
+use Rattle.tds_relay.specs.Lent.{AllLast, AllLastBut, LastBesides, LastBut, LastOrDeaf}
 use Rattle.tds_relay.specs.Reads.{bytes_on, link_at, waits_on}
 use Rattle.tds_relay.specs.Taking.{IsDeaf}
+use Rattle.tds_relay.specs.Ties.{IsNumberOf}
+use Rattle.tds_relay.specs.declared.desk.Hold.{Hold}
+use Rattle.tds_relay.specs.declared.desk.leaving.Left.{Left}
+use Rattle.tds_relay.proofs.spared.Closings.{closes_more}
 use Rattle.tds_relay.proofs.spared.Sending.{Comes, Pushed, Same, pushed}
 
 pub last_refl : (a : List Link) → AllLast a a
@@ -121,3 +125,60 @@ deaf_last (Err e) key a new d = tt
 pub same_last : {A E : Type 0} (r : Result A E) (key : ℕ) (a : List Link) (new : code.Relay) → OnOk r (new.links.items ≡ a) → OnOk r (LastOrDeaf key a new)
 same_last (Ok x) key a new same = inl (last_links a new.links.items same)
 same_last (Err e) key a new same = tt
+
+-- ---- But for these
+
+pub but_refl : (But : ℕ → Type 0) (a : List Link) → AllLastBut But a a
+but_refl But a = λ number e. inl e
+
+pub but_same : (But : ℕ → Type 0) (a b : List Link) → b ≡ a → AllLastBut But a b
+but_same But a b same = λ number e. inl (sym (ap (waits_on number) same) ∙ e)
+
+other_by : (number other : ℕ) (a b : List Link) → ((n : ℕ) → n ≢ number → waits_on n b ≡ waits_on n a) → (other ≡ number) ⊎ (other ≢ number) → waits_on other b ≡ None → (waits_on other a ≡ None) ⊎ (other ≡ number)
+other_by number other a b others (inl same) e = inr same
+other_by number other a b others (inr differs) e = inl (sym (others other differs) ∙ e)
+
+-- all others than this one are as they were
+pub but_others : (number : ℕ) (a b : List Link) → ((n : ℕ) → n ≢ number → waits_on n b ≡ waits_on n a) → AllLastBut (λ (n : ℕ). n ≡ number) a b
+but_others number a b others = λ other e. other_by number other a b others (cases_eq other number) e
+
+but_by : (But More : ℕ → Type 0) (n : ℕ) (P : Type 0) → (But n → More n) → P ⊎ But n → P ⊎ More n
+but_by But More n P f (inl h) = inl h
+but_by But More n P f (inr h) = inr (f h)
+
+pub but_more : (But More : ℕ → Type 0) (a b : List Link) → ((n : ℕ) → But n → More n) → AllLastBut But a b → AllLastBut More a b
+but_more But More a b f h = λ number e. but_by But More number (waits_on number a ≡ None) (f number) (h number e)
+
+-- of the one that was held
+pub held_but : {A E : Type 0} (r : Result A E) (o : Option ℕ) (number : ℕ) (a b c : List Link) → o ≡ Some number → b ≡ a → OnOk r ((n : ℕ) → n ≢ number → waits_on n c ≡ waits_on n b) → OnOk r (AllLastBut (λ (n : ℕ). o ≡ Some n) a c)
+held_but (Ok x) o number a b c is same others =
+    but_more (λ (n : ℕ). n ≡ number) (λ (n : ℕ). o ≡ Some n) a c (λ n e. is ∙ ap (λ (k : ℕ). Some k) (sym e))
+    (but_others number a c (λ n differs. others n differs ∙ ap (waits_on n) same))
+held_but (Err e) o number a b c is same others = tt
+
+pub held_number : (o : Option Hold) (left : Left) → IsNumberOf o (Some left) → option_map (λ (h : Hold). h.number) o ≡ Some left.number
+held_number None left is = absurd is
+held_number (Some h) left is = ap (λ (n : ℕ). Some n) (sym is)
+
+-- and then those who wait are served
+pub besides : (But May : ℕ → Type 0) (Closes : ℕ → Type 0) (a b c : Register) → ClosesOnly Closes a b → AllLastBut But a.links b.links → LastBut May b c → LastBesides But May a c
+besides But May Closes a b c h first (inl all) = inl (λ number e. first number (all number e))
+besides But May Closes a b c h first (inr y) = inr (record { key = y.key; may = y.may; tag = y.tag; was = h.were_open y.key y.tag y.was; closed = y.closed })
+
+pub besides_on : {A E : Type 0} (r : Result A E) (But May More Closes : ℕ → Type 0) (a b c : Register) → ((key : ℕ) → More key → May key) → ClosesOnly Closes a b → AllLastBut But a.links b.links → OnOk r (LastBut More b c) → OnOk r (LastBesides But May a c)
+besides_on (Ok x) But May More Closes a b c f h first k = besides But May Closes a b c h first (last_more More May b c f k)
+besides_on (Err e) But May More Closes a b c f h first k = tt
+
+-- ---- What opens goes on, and those who wait are served
+
+pub last_then : {A E : Type 0} (r : Result A E) (May More : ℕ → Type 0) (a b c : Register) → ClosesOnly May a b → LastBut May a b → ((key : ℕ) → More key → May key) → OnOk r (ClosesOnly More b c) → OnOk r (LastBut More b c) → OnOk r (LastBut May a c)
+last_then (Ok x) May More a b c h first f k then = last_both May a b c h (closes_more More May b c f k) first (last_more More May b c f then)
+last_then (Err e) May More a b c h first f k then = tt
+
+pub last_from : (May More Closes : ℕ → Type 0) (a b c : Register) → ClosesOnly Closes a b → AllLast a.links b.links → ((key : ℕ) → More key → May key) → LastBut More b c → LastBut May a c
+last_from May More Closes a b c h first f (inl all) = inl (last_all a.links b.links c.links first all)
+last_from May More Closes a b c h first f (inr y) = inr (record { key = y.key; may = f y.key y.may; tag = y.tag; was = h.were_open y.key y.tag y.was; closed = y.closed })
+
+pub last_more_on : {A E : Type 0} (r : Result A E) (May More : ℕ → Type 0) (a b : Register) → ((key : ℕ) → May key → More key) → OnOk r (LastBut May a b) → OnOk r (LastBut More a b)
+last_more_on (Ok x) May More a b f h = last_more May More a b f h
+last_more_on (Err e) May More a b f h = tt

@@ -3,8 +3,8 @@ ghost use Rattle.std.specs.Prelude.{◌≡◌, ◌≢◌, ℕ, None, OnOk, Some,
 ghost use Rattle.slab.specs.Slab.{get};
 ghost use Rattle.tds_relay.specs.Apart.{Alone, LosesOnly};
 ghost use Rattle.tds_relay.specs.Bodies.{AskAsBefore, AskOn, Body, Closed, body_in};
-ghost use Rattle.tds_relay.specs.Cleaning.{OfItsHold, WaitsAtEnd, WaitsBehindEnd};
-ghost use Rattle.tds_relay.specs.Desk.{Loses, find_number, key_of, turn};
+ghost use Rattle.tds_relay.specs.Cleaning.{CountsHold, OfItsHold, WaitsAtEnd, WaitsBehindEnd, cleaned_in};
+ghost use Rattle.tds_relay.specs.Desk.{Loses, find_key, find_number, key_of, turn};
 ghost use Rattle.tds_relay.specs.Few.{Few, IsSeated, IsSeatedOff, NobodyWaits};
 ghost use Rattle.tds_relay.specs.Fronts.{LetsGoFirst, Moved, MovedOn, ends_in, hall_in, hall_of_ends};
 ghost use Rattle.tds_relay.specs.Fronts.{house_in};
@@ -13,8 +13,9 @@ ghost use Rattle.tds_relay.specs.Hall.{lets_go};
 ghost use Rattle.tds_relay.specs.House.{Steps, StepsOn};
 ghost use Rattle.tds_relay.specs.Closings.{ClosesOnly, IsWaiting, IsWho, Itself, Nobody, WhoOrWaiting};
 ghost use Rattle.tds_relay.specs.Closings.{register_in, without_key};
-ghost use Rattle.tds_relay.specs.Lent.{KeepsAnswers};
+ghost use Rattle.tds_relay.specs.Lent.{AllLastBut, KeepsAnswers, LastBesides};
 ghost use Rattle.tds_relay.specs.Law.{closing};
+ghost use Rattle.tds_relay.specs.Places.{held_by};
 ghost use Rattle.tds_relay.specs.Posts.{names_in, posts_in};
 ghost use Rattle.tds_relay.specs.Ordering.{StayOrdered};
 ghost use Rattle.tds_relay.specs.Reads.{Opens, Stays, open_waits, reader_at, waits_on};
@@ -53,6 +54,12 @@ impl Relay {
         ensures ends { IsReached (desk_in self.old.desk) → OnOk result (OfItsHold WaitsBehindEnd key
             self.old (λ number. open_waits number self.new.links.items)) }
         ensures seated { IsSeated self.old → OnOk result (IsSeated self.new) }
+        ensures lasts { OnOk result (LastBesides
+            (λ number. held_by (desk_in self.old.desk) key ≡ Some number)
+            (IsWaiting (desk_in self.old.desk).line) (without_key key (register_in self.old))
+            (register_in self.new)) }
+        ensures counts { OnOk result (CountsHold (find_key key (desk_in self.old.desk).holds)
+            (cleaned_in self.old) (cleaned_in self.new)) }
     {
         let _ = self.applications.try_remove(key).is_some();
         self.release(key)?;
@@ -80,6 +87,9 @@ impl Relay {
             (WhoOrWaiting (holder (desk_in self.old.desk) number) (desk_in self.old.desk).line)
             (register_in self.old) (register_in self.new)) }
         ensures seated { IsSeated self.old → OnOk result (IsSeated self.new) }
+        ensures lasts { OnOk result (LastBesides (λ other. other ≡ number)
+            (IsWaiting (desk_in self.old.desk).line) (register_in self.old)
+            (register_in self.new)) }
     {
         self.lose(number)?;
         self.serve_line()
@@ -147,6 +157,7 @@ impl Relay {
             ≡ closing (get self.old.applications key) self.old.orders.items) }
         ensures closes { OnOk result (ClosesOnly (Itself key)
             (register_in self.old) (register_in self.new)) }
+        ensures counts { cleaned_in self.new ≡ cleaned_in self.old }
     {
         self.end_for(key, None)
     }
@@ -166,6 +177,7 @@ impl Relay {
             ≡ closing (get self.old.applications key) self.old.orders.items) }
         ensures closes { OnOk result (ClosesOnly (Itself key)
             (register_in self.old) (register_in self.new)) }
+        ensures counts { cleaned_in self.new ≡ cleaned_in self.old }
     {
         match self.applications.get_mut(key) {
             Some(application) => {
@@ -202,6 +214,11 @@ impl Relay {
         ensures ends { IsReached (desk_in self.old.desk) → OnOk result (OfItsHold WaitsAtEnd key
             self.old (λ number. waits_on number self.new.links.items)) }
         ensures seated { IsSeated self.old → OnOk result (IsSeated self.new) }
+        ensures lasts { OnOk result (AllLastBut
+            (λ number. held_by (desk_in self.old.desk) key ≡ Some number)
+            self.old.links.items self.new.links.items) }
+        ensures counts { OnOk result (CountsHold (find_key key (desk_in self.old.desk).holds)
+            (cleaned_in self.old) (cleaned_in self.new)) }
     {
         self.outbox.clear();
         let left = self.desk.leave(key, &mut self.outbox)?;
@@ -248,6 +265,7 @@ impl Relay {
         ensures closes { OnOk result (ClosesOnly (IsWho (holder (desk_in self.old.desk) number))
             (register_in self.old) (register_in self.new)) }
         ensures seated { IsSeatedOff number self.old → OnOk result (IsSeated self.new) }
+        ensures counts { cleaned_in self.new ≡ cleaned_in self.old }
     {
         let key = self.desk.lose(number)?;
         self.close(number, key)
@@ -272,6 +290,7 @@ impl Relay {
         ensures closes { OnOk result (ClosesOnly (Itself key)
             (register_in self.old) (register_in self.new)) }
         ensures seated { IsSeated self.old → OnOk result (IsSeated self.new) }
+        ensures counts { cleaned_in self.new ≡ cleaned_in self.old }
     {
         match self.desk.key_on(number) {
             Some(holder) => {
@@ -301,6 +320,7 @@ impl Relay {
         ensures answers { OnOk result (KeepsAnswers self.old.links.items self.new.links.items) }
         ensures closes { OnOk result (ClosesOnly Nobody
             (register_in self.old) (register_in self.new)) }
+        ensures counts { cleaned_in self.new ≡ cleaned_in self.old }
     {
         let tag = self.tag_on(number);
         remove_link(&mut self.links, number);
@@ -331,6 +351,7 @@ impl Relay {
         ensures answers { OnOk result (KeepsAnswers self.old.links.items self.new.links.items) }
         ensures closes { OnOk result (ClosesOnly (IsWho key)
             (register_in self.old) (register_in self.new)) }
+        ensures counts { cleaned_in self.new ≡ cleaned_in self.old }
     {
         self.close_link(number)?;
         match key {

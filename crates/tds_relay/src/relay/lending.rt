@@ -1,12 +1,10 @@
 //! Connections that are lent to those who wait, opened, and asked.
-ghost use Rattle.std.specs.Prelude.{◌≡◌, ◌≢◌, ◌⊎◌, ◌++◌, [], ℕ, Bool, IfOk, List, None, OnOk, Some};
-ghost use Rattle.std.specs.Prelude.{false, option_map, true};
+ghost use Rattle.std.specs.Prelude.{◌≡◌, ◌≢◌, ◌⊎◌, ◌++◌, [], ℕ, Bool, IfOk, List, None, OnOk, Some, false, option_map, true};
 ghost use Rattle.slab.specs.Slab.{get};
 ghost use Rattle.tds_relay.specs.Apart.{Alone, UnlessServed};
 ghost use Rattle.tds_relay.specs.Asking.{IsUnderway, waits_of};
 ghost use Rattle.tds_relay.specs.Bodies.{AskAsBefore, Grows, Starts, body_of, going_of, held_of};
-ghost use Rattle.tds_relay.specs.Closings.{ClosesOnly, IsWaiting, IsWho, Itself, Nobody, WhoOrWaiting};
-ghost use Rattle.tds_relay.specs.Closings.{register_in};
+ghost use Rattle.tds_relay.specs.Closings.{ClosesOnly, IsWaiting, IsWho, Itself, Nobody, WhoOrWaiting, register_in};
 ghost use Rattle.tds_relay.specs.Desk.{find_number, key_of};
 ghost use Rattle.tds_relay.specs.Few.{Few, FewBy, IsSeated, IsSeatedIf, NobodyWaits};
 ghost use Rattle.tds_relay.specs.Fronts.{MovedOn, ends_in, hall_in, house_in};
@@ -14,20 +12,19 @@ ghost use Rattle.tds_relay.specs.Hall.{IsReset, end_at, holder};
 ghost use Rattle.tds_relay.specs.House.{StepsOn};
 ghost use Rattle.tds_relay.specs.Lent.{AllLast, BeginsOn, IsMade, IsMadeOn, KeepsAnswers, LastBut, LastOrDeaf};
 ghost use Rattle.tds_relay.specs.Posts.{names_in, posts_in};
-ghost use Rattle.tds_relay.specs.Reads.{Opens, OpensOne, Stays, named_seen, open_at};
 ghost use Rattle.tds_relay.specs.Cutting.{at_its_beginning};
-ghost use Rattle.tds_relay.specs.Reads.{answer_at, bytes_on, link_at, opened_at, opened_seen, seen_at, waits_on};
+ghost use Rattle.tds_relay.specs.Reads.{Opens, OpensOne, Stays, answer_at, named_seen, open_at, bytes_on, link_at, opened_at, opened_seen, seen_at, waits_on};
 ghost use Rattle.tds_relay.specs.Ordering.{StayOrdered};
 ghost use Rattle.tds_relay.specs.Reasons.{CannotPut, CannotStartAt, HasNoRoom, ItselfFor};
 ghost use Rattle.tds_relay.specs.Sending.{IsToWrite, called_at};
 ghost use Rattle.tds_relay.specs.Coming.{MayBeginAny};
-ghost use Rattle.tds_relay.specs.Sparing.{AllGo, AllRest, IsHeldBack, IsUnkept, OthersRest};
-ghost use Rattle.tds_relay.specs.Sparing.{StartsOn};
+ghost use Rattle.tds_relay.specs.Sparing.{AllGo, AllRest, IsHeldBack, IsUnkept, OthersRest, StartsOn};
 ghost use Rattle.tds_relay.specs.Taking.{IsDeaf};
 ghost use Rattle.tds_relay.specs.Ties.{Goes, GoesOn, IsReached, desk_in};
 ghost use Rattle.tds_relay.specs.Told.{TellsTheSame};
 ghost use Rattle.tds_relay.specs.Waiting.{GoesOrWaits};
 ghost use Rattle.tds_relay.specs.Walkers.{AllStand};
+ghost use Rattle.tds_relay.specs.Cleaning.{cleaned_in};
 
 use super::Relay;
 use super::putting::unless_memory;
@@ -89,6 +86,9 @@ impl Relay {
             (WhoOrWaiting (holder (desk_in self.old.desk) number) (desk_in self.old.desk).line)
             (register_in self.old) (register_in self.new)) }
         ensures seated { IsSeated self.old → OnOk result (IsSeated self.new) }
+        ensures lasts { OnOk result (LastBut
+            (WhoOrWaiting (holder (desk_in self.old.desk) number) (desk_in self.old.desk).line)
+            (register_in self.old) (register_in self.new)) }
     {
         self.set_open(number);
         self.order_write_on(number)?;
@@ -131,6 +131,8 @@ impl Relay {
         ensures closes { OnOk result (ClosesOnly (IsWho (holder (desk_in self.old.desk) number))
             (register_in self.old) (register_in self.new)) }
         ensures seated { IsSeated self.old → OnOk result (IsSeated self.new) }
+        ensures lasts { OnOk result (LastBut (IsWho (holder (desk_in self.old.desk) number))
+            (register_in self.old) (register_in self.new)) }
     {
         match self.desk.key_on(number) {
             Some(key) => self.start_kept(key),
@@ -159,6 +161,7 @@ impl Relay {
         ensures lasts { OnOk result (LastBut (IsWaiting (desk_in self.old.desk).line)
             (register_in self.old) (register_in self.new)) }
         ensures seated { IsSeated self.old → OnOk result (IsSeated self.new) }
+        ensures counts { cleaned_in self.new ≡ cleaned_in self.old }
     {
         let waiting = self.desk.waiting();
         'line: for turn in 0..waiting {
@@ -204,6 +207,7 @@ impl Relay {
             (register_in self.old) (register_in self.new)) }
         ensures seated { IsSeatedIf served.had served.hold.number true self.old
             → OnOk result (IsSeated self.new) }
+        ensures counts { cleaned_in self.new ≡ cleaned_in self.old }
     {
         let number = served.hold.number;
         if served.had {
@@ -231,6 +235,7 @@ impl Relay {
         ensures orders { self.new.orders.items ≡ self.old.orders.items }
         ensures closes { ClosesOnly Nobody (register_in self.old) (register_in self.new) }
         ensures lasts { AllLast self.old.links.items self.new.links.items }
+        ensures counts { cleaned_in self.new ≡ cleaned_in self.old }
     {
         restart(&mut self.links, number);
     }
@@ -264,6 +269,7 @@ impl Relay {
         ensures lasts { OnOk result (LastBut (Itself key)
             (register_in self.old) (register_in self.new)) }
         ensures seated { IsSeated self.old → OnOk result (IsSeated self.new) }
+        ensures counts { cleaned_in self.new ≡ cleaned_in self.old }
     {
         let Some(application) = self.applications.get(key) else {
             return Ok(());
@@ -310,6 +316,7 @@ impl Relay {
         ensures closes { OnOk result (ClosesOnly (Itself key)
             (register_in self.old) (register_in self.new)) }
         ensures seated { IsSeated self.old → OnOk result (IsSeated self.new) }
+        ensures counts { cleaned_in self.new ≡ cleaned_in self.old }
     {
         self.lose_own(key, number)?;
         self.end(key)
@@ -341,6 +348,7 @@ impl Relay {
             (register_in self.old) (register_in self.new)) }
         ensures lasts { OnOk result (LastOrDeaf key self.old.links.items self.new) }
         ensures seated { IsSeated self.old → OnOk result (IsSeated self.new) }
+        ensures counts { cleaned_in self.new ≡ cleaned_in self.old }
     {
         let Some(application) = self.applications.get_mut(key) else {
             return Ok(());
@@ -374,6 +382,7 @@ impl Relay {
         ensures closes { OnOk result (ClosesOnly Nobody
             (register_in self.old) (register_in self.new)) }
         ensures lasts { OnOk result (AllLast self.old.links.items self.new.links.items) }
+        ensures counts { cleaned_in self.new ≡ cleaned_in self.old }
     {
         // Of most packets of an answer nothing is: then no write is ordered, each of which costs a look.
         if self.outbox.is_empty() {

@@ -1,15 +1,17 @@
 //! Applications that are parked: each is parted from its connection at rest, for those who wait.
-ghost use Rattle.std.specs.Prelude.{◌≡◌, OnOk, IfOk, false, true};
+ghost use Rattle.std.specs.Prelude.{◌≡◌, OnOk, IfOk, false, true, Some};
 ghost use Rattle.tds_relay.specs.Apart.{UnlessServed};
-ghost use Rattle.tds_relay.specs.Cleaning.{OfItsHold, WaitsBehindEnd};
+ghost use Rattle.tds_relay.specs.Cleaning.{CountsHold, OfItsHold, WaitsBehindEnd, cleaned_in};
 ghost use Rattle.tds_relay.specs.Closings.{ClosesOnly, IsWaiting, register_in};
-ghost use Rattle.tds_relay.specs.Desk.{Sharing};
+ghost use Rattle.tds_relay.specs.Desk.{Sharing, find_key};
 ghost use Rattle.tds_relay.specs.Few.{Few, IsSeated, NobodyWaits};
 ghost use Rattle.tds_relay.specs.Fronts.{hall_in, house_in};
 ghost use Rattle.tds_relay.specs.Hall.{IsAway};
 ghost use Rattle.tds_relay.specs.House.{IsLedTo, Steps};
+ghost use Rattle.tds_relay.specs.Lent.{LastBesides};
 ghost use Rattle.tds_relay.specs.Ordering.{StayOrdered};
 ghost use Rattle.tds_relay.specs.Parking.{may_park_in};
+ghost use Rattle.tds_relay.specs.Places.{held_by};
 ghost use Rattle.tds_relay.specs.Posts.{posts_in};
 ghost use Rattle.tds_relay.specs.Reads.{Opens, open_waits};
 ghost use Rattle.tds_relay.specs.Sparing.{AllGo};
@@ -57,6 +59,13 @@ impl Relay {
             → OfItsHold WaitsBehindEnd key self.old
             (λ number. open_waits number self.new.links.items)) }
         ensures seated { IsSeated self.old → OnOk result (IsSeated self.new) }
+        ensures lasts { OnOk result (LastBesides
+            (λ number. held_by (desk_in self.old.desk) key ≡ Some number)
+            (IsWaiting (desk_in self.old.desk).line) (register_in self.old)
+            (register_in self.new)) }
+        ensures counts { IfOk result (λ is. is ≡ true
+            → CountsHold (find_key key (desk_in self.old.desk).holds)
+            (cleaned_in self.old) (cleaned_in self.new)) }
     {
         if !self.may_park(key) {
             return Ok(false);

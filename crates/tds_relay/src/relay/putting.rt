@@ -17,6 +17,7 @@ ghost use Rattle.tds_relay.specs.Sparing.{OthersHold, OthersRest};
 ghost use Rattle.tds_relay.specs.Ties.{GoesOn, IsReached, desk_in};
 ghost use Rattle.tds_relay.specs.Walkers.{AllStand};
 ghost use Rattle.tds_relay.specs.Few.{IsSeated, KeepsSeats};
+ghost use Rattle.tds_relay.specs.Cleaning.{cleaned_in};
 
 use super::Relay;
 use crate::NoMemory;
@@ -48,6 +49,7 @@ impl Relay {
             (register_in self.old) (register_in self.new)) }
         ensures lasts { OnOk result (LastOrDeaf key self.old.links.items self.new) }
         ensures seated { IsSeated self.old → OnOk result (IsSeated self.new) }
+        ensures counts { cleaned_in self.new ≡ cleaned_in self.old }
     {
         let Some(hold) = self.desk.hold_of(key) else {
             return self.end(key);
@@ -93,6 +95,7 @@ impl Relay {
         ensures outbox { self.new.outbox.items ≡ self.old.outbox.items }
         ensures orders { self.new.orders.items ≡ self.old.orders.items }
         ensures closes { ClosesOnly Nobody (register_in self.old) (register_in self.new) }
+        ensures counts { cleaned_in self.new ≡ cleaned_in self.old }
     {
         if self.outbox.is_empty() {
             return;

@@ -25,6 +25,7 @@ ghost use Rattle.tds_relay.specs.Waking.{IsWoken};
 ghost use Rattle.tds_relay.specs.Walkers.{AllStand};
 ghost use Rattle.tds_relay.specs.declared.outgoing.TheConstants.{PIECE};
 ghost use Rattle.tds_relay.specs.Few.{IsSeated, IsSeatedBut};
+ghost use Rattle.tds_relay.specs.Cleaning.{cleaned_in};
 
 use super::Relay;
 use crate::NoMemory;
@@ -198,6 +199,9 @@ impl Relay {
         ensures closes { OnOk result (ClosesOnly Nobody
             (register_in self.old) (register_in self.new)) }
         ensures seated { IsSeated self.old → OnOk result (IsSeated self.new) }
+        ensures others { OnOk result ((other : ℕ) → other ≢ number
+            → waits_on other self.new.links.items ≡ waits_on other self.old.links.items) }
+        ensures counts { cleaned_in self.new ≡ cleaned_in self.old }
     {
         let fits = self.fits_on(number)?;
         if fits {
@@ -249,6 +253,7 @@ impl Relay {
             self.new.orders.items) }
         ensures closes { OnOk result (ClosesOnly Nobody
             (register_in self.old) (register_in self.new)) }
+        ensures counts { cleaned_in self.new ≡ cleaned_in self.old }
     {
         match self.tag_on(number) {
             Some(tag) => {

@@ -18,6 +18,7 @@ ghost use Rattle.tds_relay.specs.Ties.{GoesOn, IsReached, desk_in};
 ghost use Rattle.tds_relay.specs.Waiting.{GoesOrWaits};
 ghost use Rattle.tds_relay.specs.Walkers.{AllStand};
 ghost use Rattle.tds_relay.specs.Few.{IsSeated};
+ghost use Rattle.tds_relay.specs.Cleaning.{cleaned_in};
 
 use super::Relay;
 use crate::NoMemory;
@@ -52,6 +53,7 @@ impl Relay {
         ensures lasts { OnOk result (LastBut (Itself key)
             (register_in self.old) (register_in self.new)) }
         ensures seated { IsSeated self.old → OnOk result (IsSeated self.new) }
+        ensures counts { cleaned_in self.new ≡ cleaned_in self.old }
     {
         let Some(hold) = self.desk.hold_of(key) else {
             return self.start(key);

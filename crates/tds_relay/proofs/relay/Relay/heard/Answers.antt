@@ -219,24 +219,16 @@ pub returns-in_default-clause-closes : goal.returns-in_default-clause-closes
 returns-in_default-clause-closes c = closes_more_on c.lose.result _ (LosesAt c.args.number c.args.heard c.args.self.now) _ _ (λ other who. nothing_loses c.args.number c.args.heard c.args.self.now c.in_default.is other) c.lose.ensures.closes
 
 pub returns-in-Goes-Some-clause-closes : goal.returns-in-Goes-Some-clause-closes
-returns-in-Goes-Some-clause-closes c =
-    closes_with c.order_write.result _ (LosesAt c.args.number c.args.heard c.args.self.now) _ _ _ (write_loses c.args.number c.args.heard c.in-Some.heard c.in-Goes-Some.key c.args.self.now (posts_in c.send_on.new.self.applications) c.in-Some.is (search rules) (c.in_ok-send_on.ensures.kept ∙ c.in_ok-resumes.ensures.kept)) c.order_write.ensures.closes
-    (sent_closes c.args.number c.args.heard c.in-Some.heard c.args.self.now c.tell.new.self c.send_on.new.self c.in-Some.is c.tell.ensures.outbox c.in_ok-resumes.ensures.links c.in_ok-resumes.ensures.closes c.in_ok-send_on.ensures.closes)
+returns-in-Goes-Some-clause-closes c = closes_with c.order_write.result _ (LosesAt c.args.number c.args.heard c.args.self.now) _ _ _ (write_loses c.args.number c.args.heard c.in-Some.heard c.in-Goes-Some.key c.args.self.now (posts_in c.send_on.new.self.applications) c.in-Some.is (search rules) (c.in_ok-send_on.ensures.kept ∙ c.in_ok-resumes.ensures.kept)) c.order_write.ensures.closes (sent_closes c.args.number c.args.heard c.in-Some.heard c.args.self.now c.tell.new.self c.send_on.new.self c.in-Some.is c.tell.ensures.outbox c.in_ok-resumes.ensures.links c.in_ok-resumes.ensures.closes c.in_ok-send_on.ensures.closes)
 
 pub returns-in-Finished-Some-clause-closes : goal.returns-in-Finished-Some-clause-closes
-returns-in-Finished-Some-clause-closes c =
-    closes_with c.order_write-in-Finished-Some.result _ (LosesAt c.args.number c.args.heard c.args.self.now) _ _ _ (write_loses c.args.number c.args.heard c.in-Some.heard c.in-Finished-Some.key c.args.self.now (posts_in c.send_on.new.self.applications) c.in-Some.is (search rules) (c.in_ok-send_on.ensures.kept ∙ c.in_ok-resumes.ensures.kept)) c.order_write-in-Finished-Some.ensures.closes
-    (sent_closes c.args.number c.args.heard c.in-Some.heard c.args.self.now c.tell.new.self c.send_on.new.self c.in-Some.is c.tell.ensures.outbox c.in_ok-resumes.ensures.links c.in_ok-resumes.ensures.closes c.in_ok-send_on.ensures.closes)
+returns-in-Finished-Some-clause-closes c = closes_with c.order_write-in-Finished-Some.result _ (LosesAt c.args.number c.args.heard c.args.self.now) _ _ _ (write_loses c.args.number c.args.heard c.in-Some.heard c.in-Finished-Some.key c.args.self.now (posts_in c.send_on.new.self.applications) c.in-Some.is (search rules) (c.in_ok-send_on.ensures.kept ∙ c.in_ok-resumes.ensures.kept)) c.order_write-in-Finished-Some.ensures.closes (sent_closes c.args.number c.args.heard c.in-Some.heard c.args.self.now c.tell.new.self c.send_on.new.self c.in-Some.is c.tell.ensures.outbox c.in_ok-resumes.ensures.links c.in_ok-resumes.ensures.closes c.in_ok-send_on.ensures.closes)
 
 pub returns-else-resumes-clause-closes : goal.returns-else-resumes-clause-closes
-returns-else-resumes-clause-closes c =
-    closes_with c.order_write-else-resumes.result _ (LosesAt c.args.number c.args.heard c.args.self.now) _ _ _ (write_loses c.args.number c.args.heard c.in-Some.heard c.in-Acknowledged-Some.key c.args.self.now (posts_in c.send_on.new.self.applications) c.in-Some.is (search rules) (c.in_ok-send_on.ensures.kept ∙ c.in_ok-resumes.ensures.kept)) c.order_write-else-resumes.ensures.closes
-    (sent_closes c.args.number c.args.heard c.in-Some.heard c.args.self.now c.tell.new.self c.send_on.new.self c.in-Some.is c.tell.ensures.outbox c.in_ok-resumes.ensures.links c.in_ok-resumes.ensures.closes c.in_ok-send_on.ensures.closes)
+returns-else-resumes-clause-closes c = closes_with c.order_write-else-resumes.result _ (LosesAt c.args.number c.args.heard c.args.self.now) _ _ _ (write_loses c.args.number c.args.heard c.in-Some.heard c.in-Acknowledged-Some.key c.args.self.now (posts_in c.send_on.new.self.applications) c.in-Some.is (search rules) (c.in_ok-send_on.ensures.kept ∙ c.in_ok-resumes.ensures.kept)) c.order_write-else-resumes.ensures.closes (sent_closes c.args.number c.args.heard c.in-Some.heard c.args.self.now c.tell.new.self c.send_on.new.self c.in-Some.is c.tell.ensures.outbox c.in_ok-resumes.ensures.links c.in_ok-resumes.ensures.closes c.in_ok-send_on.ensures.closes)
 
 pub returns-then-resumes-clause-closes : goal.returns-then-resumes-clause-closes
-returns-then-resumes-clause-closes c =
-    closes_with c.resume.result Anybody (LosesAt c.args.number c.args.heard c.args.self.now) _ _ _ (λ other any. resumes_loses c.args.number c.args.heard c.in-Some.heard c.args.self.now c.in-Some.is (search rules) (c.in_ok-resumes.ensures.resumes (search rules)) other) c.resume.ensures.closes
-    (sent_closes c.args.number c.args.heard c.in-Some.heard c.args.self.now c.tell.new.self c.send_on.new.self c.in-Some.is c.tell.ensures.outbox c.in_ok-resumes.ensures.links c.in_ok-resumes.ensures.closes c.in_ok-send_on.ensures.closes)
+returns-then-resumes-clause-closes c = closes_with c.resume.result Anybody (LosesAt c.args.number c.args.heard c.args.self.now) _ _ _ (λ other any. resumes_loses c.args.number c.args.heard c.in-Some.heard c.args.self.now c.in-Some.is (search rules) (c.in_ok-resumes.ensures.resumes (search rules)) other) c.resume.ensures.closes (sent_closes c.args.number c.args.heard c.in-Some.heard c.args.self.now c.tell.new.self c.send_on.new.self c.in-Some.is c.tell.ensures.outbox c.in_ok-resumes.ensures.links c.in_ok-resumes.ensures.closes c.in_ok-send_on.ensures.closes)
 
 pub returns-in-Closed-Some-clause-closes : goal.returns-in-Closed-Some-clause-closes
 returns-in-Closed-Some-clause-closes c = closes_behind c.close_link.result (LosesAt c.args.number c.args.heard c.args.self.now) _ _ _ c.close_link.ensures.closes (sent_closes c.args.number c.args.heard c.in-Some.heard c.args.self.now c.tell.new.self c.send_on.new.self c.in-Some.is c.tell.ensures.outbox c.in_ok-resumes.ensures.links c.in_ok-resumes.ensures.closes c.in_ok-send_on.ensures.closes)
@@ -357,10 +349,7 @@ pub returns-in-Goes-None-clause-seated : goal.returns-in-Goes-None-clause-seated
 returns-in-Goes-None-clause-seated c = λ s. c.in_ok-send_on.ensures.seated (kept_seated c.args.self.now c.tell.new.self c.in_ok-resumes.ensures.desk c.in_ok-resumes.ensures.links (behind_stays c.args.heard c.in-Some.heard c.args.number c.args.self.now c.in-Some.is (ap is_left (let w : c.in-Some.heard.what ≡ whats.Goes = search rules in w)) s))
 
 pub returns-in-Finished-Some-clause-seated : goal.returns-in-Finished-Some-clause-seated
-returns-in-Finished-Some-clause-seated c = λ s.
-    kept_end c.order_write-in-Finished-Some.result c.send_on.new.self c.order_write-in-Finished-Some.new.self c.order_write-in-Finished-Some.ensures.desk c.order_write-in-Finished-Some.ensures.links
-    (c.in_ok-send_on.ensures.seated (kept_seated c.args.self.now c.tell.new.self c.in_ok-resumes.ensures.desk c.in_ok-resumes.ensures.links
-    (behind_stays c.args.heard c.in-Some.heard c.args.number c.args.self.now c.in-Some.is (ap is_left (let w : c.in-Some.heard.what ≡ whats.Finished = search rules in w)) s)))
+returns-in-Finished-Some-clause-seated c = λ s. kept_end c.order_write-in-Finished-Some.result c.send_on.new.self c.order_write-in-Finished-Some.new.self c.order_write-in-Finished-Some.ensures.desk c.order_write-in-Finished-Some.ensures.links (c.in_ok-send_on.ensures.seated (kept_seated c.args.self.now c.tell.new.self c.in_ok-resumes.ensures.desk c.in_ok-resumes.ensures.links (behind_stays c.args.heard c.in-Some.heard c.args.number c.args.self.now c.in-Some.is (ap is_left (let w : c.in-Some.heard.what ≡ whats.Finished = search rules in w)) s)))
 
 pub returns-in-Finished-None-clause-seated : goal.returns-in-Finished-None-clause-seated
 returns-in-Finished-None-clause-seated c = λ s. c.in_ok-send_on.ensures.seated (kept_seated c.args.self.now c.tell.new.self c.in_ok-resumes.ensures.desk c.in_ok-resumes.ensures.links (behind_stays c.args.heard c.in-Some.heard c.args.number c.args.self.now c.in-Some.is (ap is_left (let w : c.in-Some.heard.what ≡ whats.Finished = search rules in w)) s))
@@ -369,22 +358,13 @@ pub returns-then-resumes-clause-seated : goal.returns-then-resumes-clause-seated
 returns-then-resumes-clause-seated c = λ s. c.resume.ensures.seated (c.in_ok-send_on.ensures.seated (kept_seated c.args.self.now c.tell.new.self c.in_ok-resumes.ensures.desk c.in_ok-resumes.ensures.links (behind_stays c.args.heard c.in-Some.heard c.args.number c.args.self.now c.in-Some.is (ap is_left (let w : c.in-Some.heard.what ≡ whats.Acknowledged = search rules in w)) s)))
 
 pub returns-else-resumes-clause-seated : goal.returns-else-resumes-clause-seated
-returns-else-resumes-clause-seated c = λ s.
-    kept_end c.order_write-else-resumes.result c.send_on.new.self c.order_write-else-resumes.new.self c.order_write-else-resumes.ensures.desk c.order_write-else-resumes.ensures.links
-    (c.in_ok-send_on.ensures.seated (kept_seated c.args.self.now c.tell.new.self c.in_ok-resumes.ensures.desk c.in_ok-resumes.ensures.links
-    (behind_stays c.args.heard c.in-Some.heard c.args.number c.args.self.now c.in-Some.is (ap is_left (let w : c.in-Some.heard.what ≡ whats.Acknowledged = search rules in w)) s)))
+returns-else-resumes-clause-seated c = λ s. kept_end c.order_write-else-resumes.result c.send_on.new.self c.order_write-else-resumes.new.self c.order_write-else-resumes.ensures.desk c.order_write-else-resumes.ensures.links (c.in_ok-send_on.ensures.seated (kept_seated c.args.self.now c.tell.new.self c.in_ok-resumes.ensures.desk c.in_ok-resumes.ensures.links (behind_stays c.args.heard c.in-Some.heard c.args.number c.args.self.now c.in-Some.is (ap is_left (let w : c.in-Some.heard.what ≡ whats.Acknowledged = search rules in w)) s)))
 
 pub returns-in-Acknowledged-None-clause-seated : goal.returns-in-Acknowledged-None-clause-seated
 returns-in-Acknowledged-None-clause-seated c = λ s. c.in_ok-send_on.ensures.seated (kept_seated c.args.self.now c.tell.new.self c.in_ok-resumes.ensures.desk c.in_ok-resumes.ensures.links (behind_stays c.args.heard c.in-Some.heard c.args.number c.args.self.now c.in-Some.is (ap is_left (let w : c.in-Some.heard.what ≡ whats.Acknowledged = search rules in w)) s))
 
 pub returns-in-Closed-Some-clause-seated : goal.returns-in-Closed-Some-clause-seated
-returns-in-Closed-Some-clause-seated c = λ s.
-    closed_end c.close_link.result c.args.number c.send_on.new.self.desk c.send_on.new.self.links.items c.close_link.new.self c.close_link.ensures.desk c.close_link.ensures.gone c.close_link.ensures.others
-    (c.in_ok-send_on.ensures.gone (but_kept c.args.number false c.args.self.now c.tell.new.self c.in_ok-resumes.ensures.desk (links_there c.args.self.now.links.items c.tell.new.self.links.items c.in_ok-resumes.ensures.links)
-    (behind_out c.args.heard c.in-Some.heard c.args.number c.args.self.now c.in-Some.is (ap is_left (let w : c.in-Some.heard.what ≡ whats.Closed = search rules in w)) s)))
+returns-in-Closed-Some-clause-seated c = λ s. closed_end c.close_link.result c.args.number c.send_on.new.self.desk c.send_on.new.self.links.items c.close_link.new.self c.close_link.ensures.desk c.close_link.ensures.gone c.close_link.ensures.others (c.in_ok-send_on.ensures.gone (but_kept c.args.number false c.args.self.now c.tell.new.self c.in_ok-resumes.ensures.desk (links_there c.args.self.now.links.items c.tell.new.self.links.items c.in_ok-resumes.ensures.links) (behind_out c.args.heard c.in-Some.heard c.args.number c.args.self.now c.in-Some.is (ap is_left (let w : c.in-Some.heard.what ≡ whats.Closed = search rules in w)) s)))
 
 pub returns-in-Closed-None-clause-seated : goal.returns-in-Closed-None-clause-seated
-returns-in-Closed-None-clause-seated c = λ s.
-    closed_end c.close_link-in-Closed-None.result c.args.number c.send_on.new.self.desk c.send_on.new.self.links.items c.close_link-in-Closed-None.new.self c.close_link-in-Closed-None.ensures.desk c.close_link-in-Closed-None.ensures.gone c.close_link-in-Closed-None.ensures.others
-    (c.in_ok-send_on.ensures.gone (but_kept c.args.number false c.args.self.now c.tell.new.self c.in_ok-resumes.ensures.desk (links_there c.args.self.now.links.items c.tell.new.self.links.items c.in_ok-resumes.ensures.links)
-    (behind_out c.args.heard c.in-Some.heard c.args.number c.args.self.now c.in-Some.is (ap is_left (let w : c.in-Some.heard.what ≡ whats.Closed = search rules in w)) s)))
+returns-in-Closed-None-clause-seated c = λ s. closed_end c.close_link-in-Closed-None.result c.args.number c.send_on.new.self.desk c.send_on.new.self.links.items c.close_link-in-Closed-None.new.self c.close_link-in-Closed-None.ensures.desk c.close_link-in-Closed-None.ensures.gone c.close_link-in-Closed-None.ensures.others (c.in_ok-send_on.ensures.gone (but_kept c.args.number false c.args.self.now c.tell.new.self c.in_ok-resumes.ensures.desk (links_there c.args.self.now.links.items c.tell.new.self.links.items c.in_ok-resumes.ensures.links) (behind_out c.args.heard c.in-Some.heard c.args.number c.args.self.now c.in-Some.is (ap is_left (let w : c.in-Some.heard.what ≡ whats.Closed = search rules in w)) s)))

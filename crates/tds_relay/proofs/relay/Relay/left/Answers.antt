@@ -22,6 +22,12 @@ use Rattle.tds_relay.proofs.spared.Sending.{kept_refl}
 use Rattle.tds_relay.proofs.spared.Shutting.{closes_kept, unclosed}
 use Rattle.tds_relay.proofs.spared.Cleaned.{left_served}
 use Rattle.tds_relay.proofs.spared.Few.{few_behind, most_kept, none_stays}
+use Rattle.tds_relay.proofs.spared.Lasting.{besides_on}
+use Rattle.std.proofs.Common.{Some, ◌≡◌, ℕ}
+use Rattle.tds_relay.specs.Places.{held_by}
+use Rattle.tds_relay.proofs.spared.Cleaned.{counts_on}
+use Rattle.tds_relay.specs.Cleaning.{cleaned_in}
+use Rattle.tds_relay.specs.Desk.{find_key}
 use Rattle.tds_relay.proofs.relay.Relay.left.Goals as goal
 
 pub returns-clause-left : goal.returns-clause-left
@@ -79,3 +85,16 @@ returns-clause-few c = few_behind c.serve_line.result _ _ _ _ _ (most_kept _ _ (
 
 pub returns-clause-seated : goal.returns-clause-seated
 returns-clause-seated c = λ s. c.serve_line.ensures.seated (c.in_ok-release.ensures.seated s)
+
+pub returns-clause-lasts : goal.returns-clause-lasts
+returns-clause-lasts c =
+    let old = c.args.self.now in
+    let quit = ends_quit old.applications c.try_remove.new.self c.args.key c.try_remove.result c.try_remove.ensures.value c.try_remove.ensures.slots c.try_remove.ensures.absent in
+    let gone = quits_is old.applications c.try_remove.new.self c.args.key c.try_remove.result c.try_remove.ensures.value c.try_remove.ensures.slots c.try_remove.ensures.absent in
+    besides_on c.serve_line.result (λ (number : ℕ). held_by (desk_in old.desk) c.args.key ≡ Some number) (IsWaiting (desk_in old.desk).line) (IsWaiting (desk_in c.release.new.self.desk).line) Nobody
+    (without_key c.args.key (register_in old)) (register_in c.release.new.self) (register_in c.serve_line.new.self) (waited_left c.args.key (desk_in old.desk) (desk_in c.release.new.self.desk) c.in_ok-release.ensures.leaving)
+    (closes_both Nobody _ _ _ (closes_kept Nobody (without_key c.args.key (register_in old)) _ quit gone refl (kept_refl old.links.items) (unclosed _ _ refl)) c.in_ok-release.ensures.closes)
+    c.in_ok-release.ensures.lasts c.serve_line.ensures.lasts
+
+pub returns-clause-counts : goal.returns-clause-counts
+returns-clause-counts c = counts_on c.serve_line.result (find_key c.args.key c.args.self.now.desk.holds.items) (cleaned_in c.args.self.now) (cleaned_in c.release.new.self) (cleaned_in c.serve_line.new.self) c.in_ok-release.ensures.counts c.serve_line.ensures.counts

@@ -15,6 +15,9 @@ use Rattle.tds_relay.specs.Hall.{holder, is_in}
 use Rattle.tds_relay.proofs.spared.Closings.{closes_more, closes_with}
 use Rattle.tds_relay.proofs.spared.Few.{few_behind, most_kept, none_stays}
 use Rattle.tds_relay.proofs.seats.Desks.{off_of}
+use Rattle.tds_relay.proofs.spared.Lasting.{besides_on, but_others}
+use Rattle.tds_relay.specs.Closings.{register_in}
+use Rattle.std.proofs.Common.{◌≡◌, ℕ}
 use Rattle.tds_relay.proofs.relay.Relay.lost.Goals as goal
 
 pub returns-clause-steps : goal.returns-clause-steps
@@ -55,3 +58,9 @@ returns-clause-few c = few_behind c.serve_line.result _ _ _ _ _ (most_kept _ _ (
 
 pub returns-clause-seated : goal.returns-clause-seated
 returns-clause-seated c = λ s. c.serve_line.ensures.seated (c.in_ok-lose.ensures.seated (off_of c.args.number (desk_in c.args.self.now.desk) c.args.self.now.links.items s))
+
+pub returns-clause-lasts : goal.returns-clause-lasts
+returns-clause-lasts c =
+    besides_on c.serve_line.result (λ (other : ℕ). other ≡ c.args.number) (IsWaiting (desk_in c.args.self.now.desk).line) (IsWaiting (desk_in c.lose.new.self.desk).line) (IsWho (holder (desk_in c.args.self.now.desk) c.args.number))
+    (register_in c.args.self.now) (register_in c.lose.new.self) (register_in c.serve_line.new.self) (λ key e. ap (is_in key) (sym c.in_ok-lose.ensures.line) ∙ e) c.in_ok-lose.ensures.closes
+    (but_others c.args.number c.args.self.now.links.items c.lose.new.self.links.items c.in_ok-lose.ensures.others) c.serve_line.ensures.lasts

@@ -21,6 +21,7 @@ use Rattle.tds_relay.proofs.seats.Relays.{kept_seated, kept_there}
 use Rattle.tds_relay.proofs.seats.Linked.{all_there}
 use Rattle.tds_relay.specs.Ties.{Reaches}
 use Rattle.tds_relay.proofs.steps.Reaching.{ok_more}
+use Rattle.tds_relay.proofs.spared.Lasting.{last_all, last_from, last_links, last_same, last_then}
 use Rattle.tds_relay.proofs.relay.Relay.opened.Goals as goal
 
 pub returns-clause-steps : goal.returns-clause-steps
@@ -102,3 +103,16 @@ pub returns-clause-goes : goal.returns-clause-goes
 returns-clause-goes c =
     ok_more c.serve_line.result _ _ (λ g by from h. g by from (c.in_ok-start_on.ensures.goes by from
     (subst (λ (d : code.Desk). Reaches by from (desk_in d)) (sym (c.order_write_on.ensures.desk ∙ c.set_open.ensures.desk)) h))) c.serve_line.ensures.goes
+
+pub returns-clause-lasts : goal.returns-clause-lasts
+returns-clause-lasts c =
+    let same = c.order_write_on.ensures.desk ∙ c.set_open.ensures.desk in
+    let may = WhoOrWaiting (holder (desk_in c.args.self.now.desk) c.args.number) (desk_in c.args.self.now.desk).line in
+    let first = closes_both Nobody _ _ _ c.set_open.ensures.closes c.in_ok-order_write_on.ensures.closes in
+    last_then c.serve_line.result may (IsWaiting (desk_in c.start_on.new.self.desk).line) (register_in c.args.self.now) (register_in c.start_on.new.self) (register_in c.serve_line.new.self)
+    (closes_both may _ _ _ (closes_nobody may _ _ first) (closes_more (IsWho (holder (desk_in c.order_write_on.new.self.desk) c.args.number)) may _ _ (λ key e. inl (ap (λ (d : code.Desk). holder (desk_in d) c.args.number) (sym same) ∙ e)) c.in_ok-start_on.ensures.closes))
+    (last_from may (IsWho (holder (desk_in c.order_write_on.new.self.desk) c.args.number)) Nobody (register_in c.args.self.now) (register_in c.order_write_on.new.self) (register_in c.start_on.new.self) first
+    (last_all c.args.self.now.links.items c.set_open.new.self.links.items c.order_write_on.new.self.links.items (last_same c.args.self.now.links.items c.set_open.new.self.links.items c.set_open.ensures.waits) (last_links c.set_open.new.self.links.items c.order_write_on.new.self.links.items c.in_ok-order_write_on.ensures.links))
+    (λ key e. inl (ap (λ (d : code.Desk). holder (desk_in d) c.args.number) (sym same) ∙ e)) c.in_ok-start_on.ensures.lasts)
+    (λ key e. inr (ap (λ (d : code.Desk). is_in key (desk_in d).line) (sym same) ∙ waited_on (desk_in c.order_write_on.new.self.desk) (desk_in c.start_on.new.self.desk) c.in_ok-start_on.ensures.goes key e))
+    c.serve_line.ensures.closes c.serve_line.ensures.lasts

@@ -15,6 +15,13 @@ use Rattle.tds_relay.proofs.steps.Reaching.{reached_on, reaches_left}
 use Rattle.tds_relay.proofs.steps.Staying.{opens_both, stays_opens}
 use Rattle.tds_relay.proofs.steps.Stepping.{no_steps, steps_moved, steps_moves}
 use Rattle.tds_relay.proofs.visits.Parking.{parked_away}
+use Rattle.tds_relay.proofs.spared.Lasting.{besides, but_refl, last_more}
+use Rattle.std.proofs.Common.{Some, ℕ, inl}
+use Rattle.tds_relay.specs.Places.{held_by}
+use Rattle.tds_relay.specs.Closings.{Nobody, register_in}
+use Rattle.tds_relay.specs.Cleaning.{CountsHold, cleaned_in}
+use Rattle.tds_relay.specs.Desk.{find_key}
+use Rattle.std.proofs.Common.{subst}
 use Rattle.tds_relay.proofs.relay.Relay.park.Goals as goal
 
 pub returns-clause-left : goal.returns-clause-left
@@ -85,3 +92,17 @@ returns-clause-ends c = λ reached yes. parked_ends c.args.key c.args.self.now c
 
 pub returns-clause-seated : goal.returns-clause-seated
 returns-clause-seated c = λ s. c.in_ok-serve_line.ensures.seated (c.in_ok-release.ensures.seated s)
+
+pub returns-then-not-may_park-clause-lasts : goal.returns-then-not-may_park-clause-lasts
+returns-then-not-may_park-clause-lasts c = inl (but_refl _ c.args.self.now.links.items)
+
+pub returns-clause-lasts : goal.returns-clause-lasts
+returns-clause-lasts c =
+    let old = c.args.self.now in
+    let mid = c.release.new.self in
+    besides (λ (number : ℕ). held_by (desk_in old.desk) c.args.key ≡ Some number) (IsWaiting (desk_in old.desk).line) Nobody (register_in old) (register_in mid) (register_in c.serve_line.new.self) c.in_ok-release.ensures.closes
+    c.in_ok-release.ensures.lasts
+    (last_more (IsWaiting (desk_in mid.desk).line) (IsWaiting (desk_in old.desk).line) _ _ (waited_left c.args.key (desk_in old.desk) (desk_in mid.desk) c.in_ok-release.ensures.leaving) c.in_ok-serve_line.ensures.lasts)
+
+pub returns-clause-counts : goal.returns-clause-counts
+returns-clause-counts c = λ yes. subst (CountsHold (find_key c.args.key c.args.self.now.desk.holds.items) (cleaned_in c.args.self.now)) (sym c.serve_line.ensures.counts) c.in_ok-release.ensures.counts

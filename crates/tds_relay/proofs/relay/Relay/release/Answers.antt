@@ -12,6 +12,11 @@ use Rattle.tds_relay.specs.Closings.{IsWho, Nobody}
 use Rattle.tds_relay.proofs.spared.Closings.{closes_on, closes_with}
 use Rattle.tds_relay.proofs.spared.Cleaned.{left_by, nobody_left, shut_by, waits_none}
 use Rattle.tds_relay.proofs.seats.Relays.{closed_end, left_gone, left_none, left_there}
+use Rattle.tds_relay.proofs.spared.Lasting.{but_same, held_but, held_number}
+use Rattle.std.proofs.Common.{Some, ◌≡◌, ℕ}
+use Rattle.tds_relay.specs.Places.{held_by}
+use Rattle.tds_relay.proofs.spared.Cleaned.{counts_none, counts_on, counts_some, one_failed, one_more}
+use Rattle.tds_relay.specs.Cleaning.{cleaned_in}
 use Rattle.tds_relay.proofs.relay.Relay.release.Goals as goal
 
 pub returns-in_default-clause-lets_go : goal.returns-in_default-clause-lets_go
@@ -113,3 +118,29 @@ pub returns-else-left-clause-seated : goal.returns-else-left-clause-seated
 returns-else-left-clause-seated c = λ s.
     closed_end c.close.result c.in-Some.left.number c.let_go.new.self.desk c.let_go.new.self.links.items c.close.new.self c.close.ensures.desk c.close.ensures.gone c.close.ensures.others
     (left_gone c.args.key c.in_ok-left.ensures.turns.0 c.in_ok-left.ensures.turns.1 c.args.self.now c.let_go.new.self c.leave.new.self c.in_ok-left.left _ _ c.in_ok-left.ensures.turns.2 c.in_ok-left.ensures.seats c.let_go.ensures.desk c.let_go.ensures.links s c.in-Some.left c.in-Some.is (search rules))
+
+pub returns-in_default-clause-lasts : goal.returns-in_default-clause-lasts
+returns-in_default-clause-lasts c = but_same _ c.args.self.now.links.items c.let_go.new.self.links.items c.let_go.ensures.links
+
+pub returns-then-left-clause-lasts : goal.returns-then-left-clause-lasts
+returns-then-left-clause-lasts c =
+    held_but c.send_unheld.result (held_by (desk_in c.args.self.now.desk) c.args.key) c.in-Some.left.number c.args.self.now.links.items c.let_go.new.self.links.items c.send_unheld.new.self.links.items
+    (held_number (find_key c.args.key c.args.self.now.desk.holds.items) c.in-Some.left (search rules)) c.let_go.ensures.links c.send_unheld.ensures.others
+
+pub returns-else-left-clause-lasts : goal.returns-else-left-clause-lasts
+returns-else-left-clause-lasts c =
+    held_but c.close.result (held_by (desk_in c.args.self.now.desk) c.args.key) c.in-Some.left.number c.args.self.now.links.items c.let_go.new.self.links.items c.close.new.self.links.items
+    (held_number (find_key c.args.key c.args.self.now.desk.holds.items) c.in-Some.left (search rules)) c.let_go.ensures.links c.close.ensures.others
+
+pub returns-in_default-clause-counts : goal.returns-in_default-clause-counts
+returns-in_default-clause-counts c = counts_none (find_key c.args.key c.args.self.now.desk.holds.items) _ _ (search rules) c.let_go.ensures.counts
+
+pub returns-then-left-clause-counts : goal.returns-then-left-clause-counts
+returns-then-left-clause-counts c =
+    counts_on c.send_unheld.result (find_key c.args.key c.args.self.now.desk.holds.items) (cleaned_in c.args.self.now) (c.saturating_add-self.result, c.let_go.new.self.failed) (cleaned_in c.send_unheld.new.self)
+    (counts_some (find_key c.args.key c.args.self.now.desk.holds.items) c.in-Some.left _ _ (search rules) (one_more (cleaned_in c.args.self.now) (cleaned_in c.let_go.new.self) (c.saturating_add-self.result, c.let_go.new.self.failed) c.saturating_add-self.result c.let_go.ensures.counts c.saturating_add-self.ensures refl)) c.send_unheld.ensures.counts
+
+pub returns-else-left-clause-counts : goal.returns-else-left-clause-counts
+returns-else-left-clause-counts c =
+    counts_on c.close.result (find_key c.args.key c.args.self.now.desk.holds.items) (cleaned_in c.args.self.now) (c.let_go.new.self.cleanings, c.saturating_add-self-else-left.result) (cleaned_in c.close.new.self)
+    (counts_some (find_key c.args.key c.args.self.now.desk.holds.items) c.in-Some.left _ _ (search rules) (one_failed (cleaned_in c.args.self.now) (cleaned_in c.let_go.new.self) (c.let_go.new.self.cleanings, c.saturating_add-self-else-left.result) c.saturating_add-self-else-left.result c.let_go.ensures.counts c.saturating_add-self-else-left.ensures refl)) c.close.ensures.counts

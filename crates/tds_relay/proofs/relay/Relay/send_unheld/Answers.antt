@@ -74,3 +74,12 @@ returns-in-Some-clause-seated c = λ s. lasting_seated c.args.self.now c.fits_on
 
 pub returns-in-None-clause-seated : goal.returns-in-None-clause-seated
 returns-in-None-clause-seated c = λ s. c.lose.ensures.seated (off_of c.args.number (desk_in c.fits_on.new.self.desk) c.fits_on.new.self.links.items (lasting_seated c.args.self.now c.fits_on.new.self c.fits_on.ensures.desk c.in_ok-fits.ensures.lasts c.in_ok-fits.ensures.read s))
+
+pub returns-then-fits-clause-others : goal.returns-then-fits-clause-others
+returns-then-fits-clause-others c = c.in_ok-fits.ensures.others
+
+pub returns-in-Some-clause-others : goal.returns-in-Some-clause-others
+returns-in-Some-clause-others c = c.in_ok-fits.ensures.others
+
+pub returns-in-None-clause-others : goal.returns-in-None-clause-others
+returns-in-None-clause-others c = ok_more c.lose.result _ _ (λ h other differs. h other differs ∙ c.in_ok-fits.ensures.others other differs) c.lose.ensures.others

@@ -36,6 +36,7 @@ line-init c =
       shorter = zero-add (length old.desk.line.items);
       lasting = last_start may (register_in old);
       seated = λ s. s;
+      counts = refl;
       closes = closes_refl may (register_in old);
     }
 
@@ -72,6 +73,7 @@ line-preserved c = record {
   seated = λ s.
       c.in_ok-lend-in-Some.ensures.seated
       (lent_if c.line.self.desk c.serve.new.self c.in-Some.served c.in-Some.served.had _ _ _ refl refl c.in_ok-served.ensures.ok.0 (subst (Serving (desk_in c.line.self.desk)) c.in-Some.is c.in_ok-served.ensures.ok.1) (c.line.invariant.seated s));
+  counts = c.lend.ensures.counts ∙ c.line.invariant.counts;
 }
 
 pub returns-in-None-clause-apart : goal.returns-in-None-clause-apart

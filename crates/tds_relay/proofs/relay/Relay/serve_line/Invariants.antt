@@ -11,6 +11,7 @@ use Rattle.tds_relay.specs.Walkers.{AllStand}
 use Rattle.tds_relay.proofs.spared.Apart.{Unserved}
 use Rattle.tds_relay.specs.Closings.{ClosesOnly, IsWaiting, register_in}
 use Rattle.tds_relay.specs.Few.{IsSeated}
+use Rattle.tds_relay.specs.Cleaning.{cleaned_in}
 use Rattle.tds_relay.proofs.relay.Relay.serve_line.Given as goal
 
 abbrev pub invariant-line : goal.invariant-line
@@ -28,4 +29,5 @@ invariant-line l = record {
   lasting : LastBut (IsWaiting (desk_in l.fn.self.desk).line) (register_in l.fn.self) (register_in l.self);
   closes : ClosesOnly (IsWaiting (desk_in l.fn.self.desk).line) (register_in l.fn.self) (register_in l.self);
   seated : IsSeated l.fn.self → IsSeated l.self;
+  counts : cleaned_in l.self ≡ cleaned_in l.fn.self;
 }

@@ -7,6 +7,8 @@ use Rattle.tds_relay.specs.Closings.{IsWho, Itself}
 use Rattle.tds_relay.specs.Hall.{holder}
 use Rattle.tds_relay.specs.Ties.{desk_in}
 use Rattle.tds_relay.proofs.spared.Closings.{closes_more_on}
+use Rattle.tds_relay.proofs.spared.Lasting.{last_more_on, last_start}
+use Rattle.tds_relay.specs.Closings.{register_in}
 use Rattle.tds_relay.proofs.relay.Relay.start_on.Goals as goal
 
 pub returns-in-Some-clause-goes_on : goal.returns-in-Some-clause-goes_on
@@ -23,3 +25,9 @@ returns-in-None-clause-waits c = none_own _ (λ (k : ℕ). IsUnkept (body_of k c
 
 pub returns-in-Some-clause-closes : goal.returns-in-Some-clause-closes
 returns-in-Some-clause-closes c = closes_more_on c.start_kept.result (Itself c.in-Some.key) (IsWho (holder (desk_in c.args.self.now.desk) c.args.number)) _ _ (λ key e. sym c.key_on.ensures ∙ c.in-Some.is ∙ ap (λ (k : ℕ). Some k) (sym e)) c.start_kept.ensures.closes
+
+pub returns-in-Some-clause-lasts : goal.returns-in-Some-clause-lasts
+returns-in-Some-clause-lasts c = last_more_on c.start_kept.result (Itself c.in-Some.key) (IsWho (holder (desk_in c.args.self.now.desk) c.args.number)) _ _ (λ key e. sym c.key_on.ensures ∙ c.in-Some.is ∙ ap (λ (k : ℕ). Some k) (sym e)) c.start_kept.ensures.lasts
+
+pub returns-in-None-clause-lasts : goal.returns-in-None-clause-lasts
+returns-in-None-clause-lasts c = last_start (IsWho (holder (desk_in c.args.self.now.desk) c.args.number)) (register_in c.args.self.now)
