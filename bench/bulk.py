@@ -5,6 +5,7 @@ import contextlib
 import os
 import signal
 import socket
+import statistics
 import struct
 import subprocess
 import sys
@@ -105,17 +106,29 @@ def read_bytes(port):
     return best
 
 
-def through(program):
-    """Prints what comes to who only reads bytes."""
-    print("| Answers of 100 MB | direct, MB/s | tdsrelay, MB/s | of direct | most memory, MB | processor, s |\n|---|---|---|---|---|---|")
+def relays_of(program, beside, place, stack):
+    """The relay that is measured, and the one that takes turns with it."""
+    named = {"tdsrelay": program, **({"the other relay": beside} if beside else {})}
+    return {name: stack.enter_context(Relay(it, place, 16)) for name, it in named.items()}
+
+
+def through(program, beside, turns):
+    """Prints what comes to who only reads bytes: the medians of turns."""
+    print("| Answers of 100 MB | through | direct, MB/s | relay, MB/s | of direct | most memory, MB | processor, s |\n|---|---|---|---|---|---|---|")
     for what, width in ROWS:
-        with server(width) as (place, _), Relay(program, place, 16) as relay:
-            direct = read_bytes(place.port)
-            before = processor(relay.child.pid)
-            rate = read_bytes(relay.port)
-            took = (processor(relay.child.pid) - before) / 5
-            print(f"| {what} | {direct:.0f} | {rate:.0f} | {rate / direct:.2f} "
-                  f"| {memory(relay.child.pid, 'VmHWM') / 1024:.1f} | {took:.2f} |", flush=True)
+        with server(width) as (place, _), contextlib.ExitStack() as stack:
+            relays = relays_of(program, beside, place, stack)
+            direct, got, took = [], {name: [] for name in relays}, dict.fromkeys(relays, 0)
+            for turn in range(turns):
+                direct.append(read_bytes(place.port))
+                for name in list(relays)[::-1 if turn % 2 else 1]:
+                    before = processor(relays[name].child.pid)
+                    got[name].append(read_bytes(relays[name].port))
+                    took[name] += (processor(relays[name].child.pid) - before) / 5 / turns
+            for name, relay in relays.items():
+                part = statistics.median(here / there for here, there in zip(got[name], direct))
+                print(f"| {what} | {name} | {statistics.median(direct):.0f} | {statistics.median(got[name]):.0f} | {part:.2f} "
+                      f"| {memory(relay.child.pid, 'VmHWM') / 1024:.1f} | {took[name]:.2f} |", flush=True)
 
 
 def pymssql_of(_room, port):
@@ -141,21 +154,23 @@ def seconds(made, times, count):
     return took
 
 
-def drivers(program, turns):
+def drivers(program, beside, turns):
     """Prints what drivers get, which read row by row. A row that is lost ends it."""
-    print("| Answers | of MB | read by | direct, MB/s | tdsrelay, MB/s | of direct |\n|---|---|---|---|---|---|")
+    print("| Answers | of MB | read by | through | direct, MB/s | relay, MB/s | of direct |\n|---|---|---|---|---|---|---|")
     left_out = set()
     for what, width in ROWS:
         for name, make in DRIVERS.items():
             total = LESS if name in SLOW else TOTAL
-            with (server(width, total) as (place, count), Relay(program, place, 16) as relay,
+            with (server(width, total) as (place, count), contextlib.ExitStack() as stack,
                   tempfile.TemporaryDirectory() as room):
-                made = [make(tempfile.mkdtemp(dir=room), port) for port in (place.port, relay.port)]
+                relays = relays_of(program, beside, place, stack)
+                made = [make(tempfile.mkdtemp(dir=room), it.port) for it in (place, *relays.values())]
                 if None in made:
                     left_out.add(name)
                     continue
-                direct, rate = rates(made, turns, count, total)
-                print(f"| {what} | {total / 1e6:.0f} | {name} | {direct:.1f} | {rate:.1f} | {rate / direct:.2f} |", flush=True)
+                direct, *found = rates(made, turns, count, total)
+                for through_it, rate in zip(relays, found):
+                    print(f"| {what} | {total / 1e6:.0f} | {name} | {through_it} | {direct:.1f} | {rate:.1f} | {rate / direct:.2f} |", flush=True)
     for name in sorted(left_out):
         print(f"\n{name} is left out: it isn't installed.")
 
