@@ -15,8 +15,10 @@ from relay_told import Relay, closes, error_packet, let_in, rows
 REFUSED = 50100
 # Of no machine (RFC 5737).
 NOBODYS = "203.0.113.77"
-SETTINGS = ("most, alone, total, kinds, least, any-application, share, stats, log, log-json, judge, login, wait, cancel, idle, life, hold, "
+SETTINGS = ("most, alone, total, kinds, least, group, share, stats, log, log-json, judge, login, wait, cancel, idle, life, hold, "
             "transaction, request, drain, check, away, judge-again, half-closed, spin, keepalive, unacknowledged")
+FIELDS = ("application, library, library-version, time-zone, user, password, database, language, locale, server, flags, packet-size, "
+          "tds-version")
 
 
 def told_at_login(relay):
@@ -191,20 +193,26 @@ def beginnings(program, cases, room):
     path = f"{room}/begins.toml"
     with open(path, "w", encoding="ascii") as file:
         file.write("most = 8\nlief = 5\n")
+    fields = f"{room}/fields.toml"
+    with open(fields, "w", encoding="ascii") as file:
+        file.write("most = 8\ngroup = \"application,usr\"\n")
     with socket.create_server(("127.0.0.1", 0)) as taken:
         port = taken.getsockname()[1]
         names = "isn't an IP address, a colon and a port, as 127.0.0.1:1433 (`getent ahosts NAME` says an address)"
         nearest = ", ".join(["life", *(it for it in SETTINGS.split(", ") if it != "life")])
+        users = ", ".join(["user", *(it for it in FIELDS.split(", ") if it != "user")])
         for words, status, told in (
                 (["--wait", "x"], 2, '--wait takes seconds, 0 to 604800, and not "x"'),
                 (["--alone", "4097"], 2, '--alone takes 0 to 4096 connections, and not "4097"'),
                 (["--most", "0"], 2, '--most takes 1 to 1024 connections, and not "0"'),
+                (["--group", "user, aplication"], 2, f'--group: there is no field "aplication" of a login; those that are: {FIELDS}'),
                 (["--share", "statement"], 2, '--share takes session or transaction, and not "statement"'),
                 (["--spin", "1001"], 2, '--spin takes 0 to 1000 microseconds, and not "1001"'),
                 ([f"127.0.0.1:{it}" for it in range(1, 9)], 2, "there are more than 8 servers: leave some out"),
                 (["sql.example:1433"], 2, 'SERVER "sql.example" is a name: --names unix:PATH says where `tdstls names` answers (docs/RELAY.md)'),
                 (["--stats", "here"], 2, f'--stats "here" {names}'),
                 (["--config", path], 2, f"{path}:2:1: lief: there is no such setting; those that are: {nearest}"),
+                (["--config", fields], 2, f'{fields}:2:1: group: there is no field "usr" of a login; those that are: {users}'),
                 (["--config", f"{path}x"], 2, f"{path}x (--config): ENOENT: No such file or directory (os error 2)"),
                 (["--stats", f"127.0.0.1:{port}"], 1,
                  f"127.0.0.1:{port}: another program listens there (EADDRINUSE); `ss -ltnp` shows which, and port 0 is one that is free"),

@@ -127,26 +127,6 @@ def kept(program, cases, server):
         cases.same("one stays", (found["total_limits_idle"], found["connections_free"]), (2, 1))
 
 
-def joined(program, cases, server):
-    """Logins that differ in the application's name alone share; the server is told the relay's."""
-    for words, count in (((), 2), (("--any-application",), 1)):
-        with Before(server) as before, Relay(program, before.port, *words) as relay:
-            one, two = let_in(relay, "web-1", "billing", "anna", "sales"), let_in(relay, "", "a longer name", "anna", "sales")
-            cases.check(f"rows of two applications {words}", rows(one, 1) and rows(two, 2))
-            found = relay.json()
-            cases.same(f"the groups of two applications {words}", found["groups_shared"], count)
-            told = {name_in(it, 48) for it in before.logins}
-            cases.same(f"what the server is told {words}", told, {"tdsrelay"} if words else {"billing", "a longer name"})
-            cases.same(f"and of all else {words}", {(name_in(it, 40), name_in(it, 68)) for it in before.logins}, {("anna", "sales")})
-            cases.same(f"each LOGIN7 says its length {words}", [struct.unpack_from("<I", it)[0] for it in before.logins],
-                       [len(it) for it in before.logins])
-            names = {it["program"] for it in found["sockets"] if it["kind"] == "application"}
-            cases.same(f"who is who {words}", names, {"billing", "a longer name"})
-            other = let_in(relay, "", "billing", "otto", "sales")
-            cases.same(f"another user has a group of his own {words}", relay.json()["groups_shared"], count + 1)
-            other.close()
-
-
 def recovered(program, cases, server):
     """Session recovery is asked for where the application asks, with nothing to be recovered, and the setting says so: a
     group of its own. Its server doesn't acknowledge it, so nobody is parted."""
@@ -185,12 +165,6 @@ def lost(program, cases, server):
         three.sendall(batch("rows 5 1"))
         cases.same("who asks nothing is told at its next request", all_of(three), error_packet(
             LOST, f"The server 127.0.0.1:{before.port} has closed the connection."))
-
-
-def name_in(login, place):
-    """A text of LOGIN7, by the place of its place (MS-TDS 2.2.6.4)."""
-    start, count = struct.unpack_from("<HH", login, place)
-    return login[start:start + 2 * count].decode("utf-16le")
 
 
 def pieces(program, cases, server):

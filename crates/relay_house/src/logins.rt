@@ -145,10 +145,10 @@ impl House {
     }
 
     /// It joins the group whose login is equal, or begins it.
-    fn share<R: Net>(&mut self, rt: &R, key: usize, mut login: SharedLogin) -> io::Result<()> {
-        if self.asked.joins_applications {
-            login.name_relay()?;
-        }
+    fn share<R: Net>(&mut self, rt: &R, key: usize, login: SharedLogin) -> io::Result<()> {
+        let Some(login) = login.for_group(self.alloc, self.asked.group)? else {
+            return self.refuse(rt, key, "The login has no room for the relay's name.");
+        };
         match self.groups.join(&login) {
             Some(group) => self.join(rt, key, group),
             None => self.begin_group(rt, key, login),

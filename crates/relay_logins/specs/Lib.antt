@@ -1,3 +1,4 @@
 pub mod Groups
 pub mod Keys
 pub mod Session
+pub mod Telling

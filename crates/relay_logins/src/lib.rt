@@ -6,17 +6,18 @@ mod dial;
 mod features;
 mod gate;
 mod groups;
+mod keys;
 mod leg;
 mod login7;
 mod notice;
 mod notices;
-mod program;
 mod table;
 
 pub use dial::{Dial, Dialed, FEATURES, Target, Unfit, Way};
 pub use features::{Keeping, leave_out_features};
 pub use gate::{Gate, Passed};
 pub use groups::{Group, Groups};
+pub use keys::Keys;
 pub use leg::{Leg, Taken};
 pub use login7::{Kind, SharedLogin, Who, kind_of, who_of};
 pub use notice::{

@@ -25,19 +25,19 @@ const NEW_PASSWORD: u8 = 0x01;
 pub const FEATURES: u8 = 0x10;
 
 /// The places of the texts that make a session.
-const USER: usize = 40;
+pub const USER: usize = 40;
 
-const PASSWORD: usize = 44;
+pub const PASSWORD: usize = 44;
 
 pub const PROGRAM: usize = 48;
 
-const SERVER: usize = 52;
+pub const SERVER: usize = 52;
 
-const LIBRARY: usize = 60;
+pub const LIBRARY: usize = 60;
 
-const LANGUAGE: usize = 64;
+pub const LANGUAGE: usize = 64;
 
-const DATABASE: usize = 68;
+pub const DATABASE: usize = 68;
 
 /// The place of the host's name, which may differ.
 const HOST: usize = 36;
@@ -103,7 +103,7 @@ fn has_equal_fields(one: &[u8], other: &[u8]) -> bool
         && has_equal_part(one, other, 32, 36)
 }
 
-fn has_equal_part(one: &[u8], other: &[u8], from: usize, to: usize) -> bool
+pub(crate) fn has_equal_part(one: &[u8], other: &[u8], from: usize, to: usize) -> bool
     ensures equal { IsTrue result → part_at one.now from to ≡ part_at other.now from to }
     ensures all { part_at one.now from to ≡ part_at other.now from to → IsTrue result }
 {
@@ -135,7 +135,7 @@ fn has_equal_texts(one: &[u8], other: &[u8]) -> bool
         && has_equal_text(one, other, DATABASE)
 }
 
-fn has_equal_text(one: &[u8], other: &[u8], place: usize) -> bool
+pub(crate) fn has_equal_text(one: &[u8], other: &[u8], place: usize) -> bool
     requires { place < 65535 }
     ensures equal { IsTrue result → text_at one.now place ≡ text_at other.now place }
     ensures all { text_at one.now place ≡ text_at other.now place → IsTrue result }
@@ -214,7 +214,7 @@ fn is_whole(message: &[u8]) -> bool
 
 /// The text whose place and count of units stand here.
 #[tactic(auto, unfolding(crate::specs::Session::text_at))]
-fn text_at(message: &[u8], place: usize) -> Option<&[u8]>
+pub(crate) fn text_at(message: &[u8], place: usize) -> Option<&[u8]>
     requires { place < 65535 }
     ensures { option_copied result ≡ text_at message.now place }
 {

@@ -18,7 +18,7 @@ const NAMES: [&str; 27] = [
     "total",
     "kinds",
     "least",
-    "any-application",
+    "group",
     "share",
     "stats",
     "log",

@@ -38,6 +38,9 @@ pub enum RelayFault {
     /// As what is given for how long a connection is kept.
     #[error("error: --share takes session or transaction, and not {0:?}")]
     Share(String),
+    /// What is wrong with the fields that part groups.
+    #[error("error: --group: {0}")]
+    Group(String),
     #[error("error: there are more than 8 servers: leave some out")]
     Servers,
     /// As what the addresses of proxies are given.

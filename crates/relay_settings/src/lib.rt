@@ -4,6 +4,7 @@
 mod config;
 mod counts;
 mod fault;
+mod keys;
 mod limits;
 mod named;
 mod near;

@@ -1,7 +1,7 @@
 //! The settings: each word and what it is.
 
 /// The words that take a value: the name, and what it is.
-pub const SETTINGS: [(&str, &str); 26] = [
+pub const SETTINGS: [(&str, &str); 27] = [
     (
         "most",
         "CONNECTIONS at most for equal logins, 1 to 1024 [16]",
@@ -21,6 +21,11 @@ pub const SETTINGS: [(&str, &str); 26] = [
     (
         "least",
         "CONNECTIONS of equal logins that are kept however idle they are, 0 to 1024 [0]",
+    ),
+    (
+        "group",
+        "FIELDS of logins that part groups, with commas; where application, library, library-version or time-zone is \
+         left out the server is told the relay's, and all others part in any case [all]",
     ),
     (
         "share",
@@ -106,7 +111,7 @@ pub const SETTINGS: [(&str, &str); 26] = [
 ];
 
 /// The words that take none.
-pub const FLAGS: [(&str, &str); 5] = [
+pub const FLAGS: [(&str, &str); 4] = [
     (
         "until-input-ends",
         "ends in order once its standard input, a pipe, has ended",
@@ -118,10 +123,6 @@ pub const FLAGS: [(&str, &str); 5] = [
     (
         "log",
         "a line for each application and each connection, on standard error",
-    ),
-    (
-        "any-application",
-        "logins share that differ in the application's name alone; the server is told the relay's",
     ),
     ("log-json", "the same, each line as an object of JSON"),
 ];

@@ -5,6 +5,7 @@ use crate::counts::{
     COUNT_ALONE, COUNT_KINDS, COUNT_LEAST, COUNT_MOST, COUNT_SPIN, COUNT_TOTAL, Count,
 };
 use crate::fault::RelayFault;
+use crate::keys::keys_of;
 use crate::limits::{Limits, MOST as MOST_SECONDS, USUAL as USUAL_LIMITS};
 use crate::named::{Named, named_by};
 use crate::proxies::Proxies;
@@ -12,6 +13,7 @@ use crate::servers::Servers;
 use crate::share::Share;
 use crate::table::{FLAGS, SETTINGS};
 use clap::{Arg, ArgAction, ArgMatches, Command};
+use relay_logins::Keys;
 use socket_places::{Keeping, Place, USUAL as USUAL_KEEPING};
 use std::alloc::{AllocError, Global};
 use std::fs::Files;
@@ -33,8 +35,8 @@ pub struct Asked {
     pub kinds: usize,
     /// So many connections of equal logins are kept however idle they are.
     pub least: usize,
-    /// Whether logins share connections that differ in the application's name.
-    pub joins_applications: bool,
+    /// Which fields of a login part groups.
+    pub group: Keys,
     /// For how long an application keeps the connection that it is lent.
     pub share: Share,
     pub limits: Limits,
@@ -119,7 +121,7 @@ fn asked_by(
         total: count_of(alloc, matches, config, &COUNT_TOTAL)?,
         kinds: count_of(alloc, matches, config, &COUNT_KINDS)?,
         least: count_of(alloc, matches, config, &COUNT_LEAST)?,
-        joins_applications: is_set(matches, config, "any-application")?,
+        group: keys_of(alloc, matches, config)?,
         share: share_of(alloc, matches, config)?,
         spin: count_of(alloc, matches, config, &COUNT_SPIN)? as u64,
         keeping: keeping_of(alloc, matches, config)?,
