@@ -361,17 +361,6 @@ impl Relay {
         }
     }
 
-    /// Whether the connection of this number is open.
-    pub(super) fn is_open(&self, number: u64) -> bool
-        ensures shut { result ≡ false → open_at number self.now.links.items ≡ None }
-        ensures there { result ≡ true → IsSome (waits_on number self.now.links.items) }
-    {
-        match link_in(&self.links, number) {
-            Some(link) => link.is_open,
-            None => false,
-        }
-    }
-
     fn link(&self, number: u64) -> Option<&Link>
         ensures { option_copied result ≡ link_at number self.now.links.items }
     {

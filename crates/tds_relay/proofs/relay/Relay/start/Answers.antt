@@ -189,8 +189,8 @@ returns-in-Ok-clause-lasts c =
 pub returns-in-Ok-clause-seated : goal.returns-in-Ok-clause-seated
 returns-in-Ok-clause-seated c = λ s. c.put_held.ensures.seated (deed_seated c.args.key Asks (desk_in c.args.self.now.desk) (desk_in c.ask.new.self) _ _ c.args.self.now.links.items c.in-Ok.ensures.ok s)
 
-pub returns-in-Err-clause-seated : goal.returns-in-Err-clause-seated
-returns-in-Err-clause-seated c = λ s. c.fail.ensures.seated (desk_seated (desk_in c.args.self.now.desk) (desk_in c.ask.new.self) c.args.self.now.links.items c.in-Err.ensures.err s)
+pub returns-in_ok-unless_memory-in-Err-clause-seated : goal.returns-in_ok-unless_memory-in-Err-clause-seated
+returns-in_ok-unless_memory-in-Err-clause-seated c = λ s. c.fail.ensures.seated (desk_seated (desk_in c.args.self.now.desk) (desk_in c.ask.new.self) c.args.self.now.links.items c.in-Err.ensures.err s)
 
 pub returns-in_default-hold_of-clause-seated : goal.returns-in_default-hold_of-clause-seated
 returns-in_default-hold_of-clause-seated c = λ s. kept_end c.end.result c.args.self.now c.end.new.self c.end.ensures.desk c.end.ensures.links s

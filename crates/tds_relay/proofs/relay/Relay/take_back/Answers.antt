@@ -21,7 +21,6 @@ use Rattle.tds_relay.specs.declared.desk.Desk as code
 use Rattle.tds_relay.proofs.spared.Speaking.{filled_at, halting_held, reached_by}
 use Rattle.tds_relay.proofs.spared.Resting.{all_others, all_rest, asks_on, others_both, others_on}
 use Rattle.tds_relay.specs.Desk.{find_key}
-use Rattle.tds_relay.specs.declared.desk.Desk as desks
 use Rattle.std.proofs.Common.{◌≡◌, Some}
 use Rattle.tds_relay.specs.Ties.{Reaches}
 use Rattle.tds_relay.proofs.relay.Relay.take_back.Goals as goal
@@ -139,7 +138,7 @@ returns-in-Some-clause-others c = λ reached.
     let halts = some_of _ c.in-Some.number _ c.in-Some.is c.in_ok-number.ensures.stops in
     others_on c.send_for.result c.args.key a e c.send_for.new.self
     (c.send_for.ensures.others (filled_at d e c.withdraw.ensures.desk stopped) halts.hold
-    (subst (λ (x : desks.Desk). find_key c.args.key x.holds.items ≡ Some halts.hold) (sym c.withdraw.ensures.desk) (halting_held c.in-Some.number c.args.key b d halts)) (sym halts.number_is))
+    (subst (λ (x : code.Desk). find_key c.args.key x.holds.items ≡ Some halts.hold) (sym c.withdraw.ensures.desk) (halting_held c.in-Some.number c.args.key b d halts)) (sym halts.number_is))
     (others_both c.args.key a b e c.forget_request.ensures.others
     (others_both c.args.key b d e (c.stop.ensures.others led) (all_others c.args.key d e (all_rest d e c.withdraw.ensures.desk c.withdraw.ensures.links (asks_on d e c.withdraw.ensures.asks)))))
 
@@ -151,9 +150,3 @@ returns-in-None-clause-others c = λ reached.
     let led = reached_by c.args.key a.desk b.desk c.forget_request.ensures.goes reached in
     others_on c.expel.result c.args.key a d c.expel.new.self (c.expel.ensures.others (reached_by c.args.key b.desk d.desk c.stop.ensures.goes led))
     (others_both c.args.key a b d c.forget_request.ensures.others (c.stop.ensures.others led))
-
-pub returns-in-Some-clause-goes : goal.returns-in-Some-clause-goes
-returns-in-Some-clause-goes c =
-    ok_more c.send_for.result _ _
-    (λ g from h. g (Application c.args.key) from (subst (λ (d : desks.Desk). Reaches (Application c.args.key) from (desk_in d)) (sym c.withdraw.ensures.desk) (c.stop.ensures.goes from (c.forget_request.ensures.goes from h))))
-    c.send_for.ensures.goes
