@@ -44,9 +44,9 @@ pub record IsPutBehind (Is : List ℕ → Type 0) (before after : List ℕ) : Ty
   pub is : Is out
   pub appended : after ≡ before ++ out
 
--- A cleaning was, or nothing.
-abbrev pub MayClean : List ℕ → List ℕ → Type 0
-MayClean before after = (after ≡ before) ⊎ IsPutBehind (IsBatch text_of_cleaning) before after
+-- A cleaning was, where this is nobody; or nothing.
+abbrev pub MayClean : Option ℕ → List ℕ → List ℕ → Type 0
+MayClean who before after = (after ≡ before) ⊎ ((who ≡ None) × IsPutBehind (IsBatch text_of_cleaning) before after)
 
 -- What goes out where a client's connection is let go: what cancels its request, if one is out; and behind that a batch of this text, or none
 -- yet, while something is still to come there.

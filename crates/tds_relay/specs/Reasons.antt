@@ -33,7 +33,7 @@ use Rattle.tds_relay.specs.declared.link.Link.{Link}
 use Rattle.tds_relay.specs.declared.relay.Relay as code
 use Rattle.tds_relay.specs.Asking.{IsTakenBack}
 use Rattle.tds_relay.specs.Bodies.{Astray, Body, Carries, ClientPuts, ClientStops, Closed, Going, Kept, Nowhere, body_of, last_of}
-use Rattle.tds_relay.specs.Cleaning.{MayClean}
+use Rattle.tds_relay.specs.Cleaning.{IsBatch, IsPutBehind, MayClean, text_of_cleaning}
 use Rattle.tds_relay.specs.Closings.{IsNoRequest, IsWaiting}
 use Rattle.tds_relay.specs.Desk as desk
 use Rattle.tds_relay.specs.Desk.{find_key}
@@ -42,7 +42,8 @@ use Rattle.tds_relay.specs.Hall.{End, Ends, IfOpen, Open, Over, asks_by, end_at}
 use Rattle.tds_relay.specs.Handing.{HearsBy, IsNothing}
 use Rattle.tds_relay.specs.House.{House}
 use Rattle.tds_relay.specs.Posts.{Post, Posts, acknowledgement, fits, give, post_at, post_in, posts_in}
-use Rattle.tds_relay.specs.Reads.{Streams, StreamsAll, link_at, open_at}
+use Rattle.tds_relay.specs.Coming.{StreamsAnew}
+use Rattle.tds_relay.specs.Reads.{StreamsAll, answer_at, link_at, open_at}
 use Rattle.tds_relay.specs.Taking.{IsDeaf}
 use Rattle.tds_relay.specs.Ties.{Leaving, Turns, desk_in}
 use Rattle.tds_relay.specs.Told.{room_to_keep}
@@ -277,14 +278,14 @@ abbrev pub LosesFor : Option Heard → Ends → Posts → ℕ → Type 0
 LosesFor None ends posts other = Unit {0}
 LosesFor (Some heard) ends posts other = LosesBy heard.what heard.key ends posts other
 
--- What goes out there by it is nothing, or a cleaning, where the connection stays.
+-- What goes out there by it is nothing, or a cleaning of what is nobody's, where the connection stays.
 abbrev pub Cleans : Option Heard → List ℕ → List ℕ → Type 0
 Cleans None before after = Unit {0}
-Cleans (Some heard) before after = heard.what ≢ whats.Closed → MayClean before after
+Cleans (Some heard) before after = heard.what ≢ whats.Closed → MayClean heard.key before after
 
--- It doesn't fit behind what waits.
+-- A cleaning doesn't fit behind what waits.
 abbrev pub IsUnsendable : ℕ → List ℕ → List Link → Type 0
-IsUnsendable number out links = MayClean [] out × HasNoRoom number out links
+IsUnsendable number out links = IsPutBehind (IsBatch text_of_cleaning) [] out × HasNoRoom number out links
 
 -- ---- By bytes that come
 
@@ -301,15 +302,20 @@ abbrev pub HearsNothing : Option Heard → Type 0
 HearsNothing None = ⊥
 HearsNothing (Some heard) = IsNothing heard
 
--- It closes this one; or what goes out by it does.
+-- The desk is as it was, and has nothing to send.
+abbrev pub IsIdle : code.Relay → code.Relay → Type 0
+IsIdle old new = (new.desk ≡ old.desk) × (new.outbox.items ≡ [])
+
+-- It closes this one; or a cleaning does that goes out by one that is nobody's.
 pub data LosesOn (number : ℕ) (left : List ℕ) (r : code.Relay) (other : ℕ) : Type 0 where
   OfPacket : (heard : Option Heard) (new : House) → IsHeardAs number left heard r new → LosesFor heard (ends_in r.applications) new.posts other → LosesOn number left r other
-  OfSending : (out : List ℕ) → IsUnsendable number out r.links.items → LosesOn number left r other
+  OfSending : (heard : Heard) (new : House) → IsHeardAs number left (Some heard) r new → heard.key ≡ None → (out : List ℕ) → IsUnsendable number out r.links.items → LosesOn number left r other
 
 -- They come behind others. Or all have come, and one that waits may be lent a connection that doesn't take its request.
 pub data HeardFor (number : ℕ) (bytes : List ℕ) (r : code.Relay) (other : ℕ) : Type 0 where
   ByPacket : (mid : code.Relay) (left : List ℕ)
-      → Streams number (open_at number r.links.items) (house_in r) r.desk.service bytes left (open_at number mid.links.items) (house_in mid) mid.desk.service → LosesOn number left mid other → HeardFor number bytes r other
+      → StreamsAnew number (answer_at number r.links.items) (open_at number r.links.items) (house_in r) r.desk.service bytes left (answer_at number mid.links.items) (open_at number mid.links.items) (house_in mid) mid.desk.service
+      → LosesOn number left mid other → HeardFor number bytes r other
   InLine : (mid : code.Relay)
       → StreamsAll number (open_at number r.links.items) (house_in r) r.desk.service bytes (open_at number mid.links.items) (house_in mid) mid.desk.service → IsWaiting (desk_in mid.desk).line other → HeardFor number bytes r other
 
@@ -319,4 +325,5 @@ post_on number links = option_map (λ (l : Link). post_in l.out) (link_at number
 
 -- by a packet that has been handed on
 abbrev pub LosesAt : ℕ → Option Heard → code.Relay → ℕ → Type 0
-LosesAt number heard r other = LosesFor heard (ends_in r.applications) (posts_in r.applications) other ⊎ HasNoRoom number r.outbox.items r.links.items
+LosesAt number heard r other =
+    LosesFor heard (ends_in r.applications) (posts_in r.applications) other ⊎ ((r.outbox.items ≢ []) × HasNoRoom number r.outbox.items r.links.items)

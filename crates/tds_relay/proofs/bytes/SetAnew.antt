@@ -1,6 +1,6 @@
 -- Packets that are set anew, one behind the other.
-use Rattle.std.proofs.Common.{◌≡◌, ◌≢◌, ◌⊎◌, ◌∙◌, ◌==◌, ◌≤◌, ℕ, true, false, List, [], ◌∷◌, ◌++◌, Option, Some, None, inl, inr, refl, sym, ap, subst, arith, drop, length, option_map, slice_index_or, slice_set}
-use Rattle.std.proofs.lemmas.Bool.{cases_eq, eqb-true}
+use Rattle.std.proofs.Common.{◌≡◌, ◌≢◌, ◌⊎◌, ◌∙◌, ℕ, true, false, List, [], ◌∷◌, ◌++◌, Option, Some, None, inl, inr, refl, sym, ap, subst, drop, option_map, slice_index_or, slice_set}
+use Rattle.std.proofs.lemmas.Bool.{cases_eq}
 use Rattle.std.specs.Prelude.{Result, Ok, Err, IfOk, IsNone, OnOk}
 use Rattle.tds_packet.specs.Reading as packets
 use Rattle.tds_packet.specs.declared.header.Header.{Header}
@@ -240,12 +240,6 @@ comes_anew (Ok x) number bytes old mid new s on kept opens stand =
       anew = s.anew;
     }
 comes_anew (Err e) number bytes old mid new s on kept opens stand = tt
-
-pub none_is : (bytes : List ℕ) → (length bytes == 0) ≡ true → bytes ≡ []
-none_is [] e = refl
-none_is (byte ∷ bytes) e =
-    let zero_is : length (byte ∷ bytes) ≡ 0 = eqb-true (length (byte ∷ bytes)) 0 e in
-    absurd (let u : ⊥ = omega (arith, zero_is) in u)
 
 pub anew_all : (number : ℕ) (first last : Option Answer) (had now : Option packets.Reading) (old h : House) (from to : Service) (bytes left : List ℕ) → left ≡ []
     → StreamsAnew number first had old from bytes left last now h to → StreamsAnew number first had old from bytes [] last now h to

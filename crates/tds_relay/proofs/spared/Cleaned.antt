@@ -17,7 +17,7 @@ use Rattle.tds_relay.specs.declared.relay.Relay as code
 use Rattle.tds_relay.specs.Cleaning.{GoesOutAtEnd, GoesOutAtAny, GoesOutBy, IsBatch, WaitsAtEnd, WaitsBehindEnd, OfItsHold, MayClean, IsPutBehind, CountsHold}
 use Rattle.tds_relay.specs.Cleaning as cleaning
 use Rattle.tds_relay.specs.Desk as desk
-use Rattle.tds_relay.specs.Desk.{Desk, find_key, find_lease, find_number, without_lease, next}
+use Rattle.tds_relay.specs.Desk.{Desk, find_key, find_lease, find_number, whose_by, without_lease, next}
 use Rattle.tds_relay.specs.Promises.{Each}
 use Rattle.tds_relay.specs.Reads.{FillsAt, FillsBy, Opens as OpensLinks, bytes_on, if_open, link_at, open_at, open_waits, reader_at, reader_of, waits_on}
 use Rattle.tds_relay.specs.Ties.{IsNumberOf, IsReached, Turns, desk_in}
@@ -62,8 +62,11 @@ text_is text client before after same p = subst (λ (t : List ℕ). IsPutBehind 
 pub any_text : (text : List ℕ) (client : Option ClientSession) (before after : List ℕ) → text ≡ text_of_cleaning → IsPutBehind (GoesOutAtEnd text client) before after → (c : Option ClientSession) × IsPutBehind (GoesOutAtEnd text_of_cleaning c) before after
 any_text text client before after same p = (client, text_is text client before after same p)
 
-pub batch_is : (text before after : List ℕ) → text ≡ text_of_cleaning → IsPutBehind (IsBatch text) before after → MayClean before after
-batch_is text before after same p = inr (subst (λ (t : List ℕ). IsPutBehind (IsBatch t) before after) same p)
+-- ---- A packet that is nobody's
+
+pub nobodys : (lease who : Option ℕ) (holds : List Hold) (before after : List ℕ) → who ≡ whose_by lease holds → MayClean lease before after → MayClean who before after
+nobodys lease who holds before after is (inl same) = inl same
+nobodys lease who holds before after is (inr x) = inr (is ∙ ap (λ (o : Option ℕ). whose_by o holds) x.0, x.1)
 
 pub ends_none : (s : services.Service) (o : Option Hold) (before after : List ℕ) → GoesOutBy s o None before after
 ends_none s None before after = tt

@@ -1,5 +1,5 @@
 -- Why an application is closed by what comes: a packet behind the other.
-use Rattle.std.proofs.Common.{◌≡◌, ◌≢◌, ◌⊎◌, ◌∙◌, ℕ, Bool, true, false, List, [], Option, Some, None, inl, inr, refl, sym, ap, subst, option_map, if◌then◌else◌, slice_index_or, slice_set}
+use Rattle.std.proofs.Common.{◌≡◌, ◌≢◌, ◌⊎◌, ◌∙◌, ◌==◌, length, ℕ, Bool, true, false, List, [], Option, Some, None, inl, inr, refl, sym, ap, subst, option_map, if◌then◌else◌, slice_index_or, slice_set}
 use Rattle.std.specs.Prelude.{IfOk, Result, Ok, Err}
 use Rattle.slab.specs.Slab.{Slab, get}
 use Rattle.tds_front.specs.declared.fault.FrontFault.{FrontFault}
@@ -14,6 +14,7 @@ use Rattle.tds_relay.specs.declared.link.Link.{Link}
 use Rattle.tds_relay.specs.declared.outgoing.Outgoing.{Outgoing}
 use Rattle.tds_relay.specs.declared.relay.Relay as code
 use Rattle.tds_relay.specs.Asking.{IsTakenBack}
+use Rattle.tds_relay.specs.Cleaning.{MayClean}
 use Rattle.tds_relay.specs.Closings.{ClosesOnly, IsWho, register_in}
 use Rattle.tds_relay.specs.Fronts.{end_of, ends_in, house_in, house_with, told_by}
 use Rattle.tds_relay.specs.Hall.{End, Ends, Open, Over, end_at, holder}
@@ -21,7 +22,7 @@ use Rattle.tds_relay.specs.Handing.{HearsBy}
 use Rattle.tds_relay.specs.House.{House}
 use Rattle.tds_relay.specs.Posts.{Post, Posts, fits, post_at, post_in, posts_in}
 use Rattle.tds_relay.specs.Reads.{link_at, place_of}
-use Rattle.tds_relay.specs.Reasons.{Cleans, HasNoRoom, HasTakenBack, HearsNothing, IsHeardAs, IsOverfull, ItselfFor, LosesAt, LosesBy, LosesFor, LosesOn, OfPacket, OfSending, post_on}
+use Rattle.tds_relay.specs.Reasons.{Cleans, HasNoRoom, HasTakenBack, HearsNothing, IsHeardAs, IsIdle, IsOverfull, ItselfFor, LosesAt, LosesBy, LosesFor, LosesOn, OfPacket, OfSending, post_on}
 use Rattle.tds_relay.specs.Taking.{IsDeaf}
 use Rattle.tds_relay.specs.Ties.{desk_in}
 use Rattle.tds_relay.proofs.spared.Closings.{closes_both, closes_more}
@@ -99,28 +100,25 @@ is_closed whats.Closed = inl refl
 
 -- what goes out doesn't fit
 unsent_loses : (number : ℕ) (o : Option Heard) (h : Heard) (old told : code.Relay) → o ≡ Some h → told.links.items ≡ old.links.items → (h.what ≢ whats.Closed → told.outbox.items ≡ old.outbox.items) → (other : ℕ)
-    → (h.what ≡ whats.Closed) ⊎ (h.what ≢ whats.Closed) → HasNoRoom number told.outbox.items told.links.items → LosesAt number o old other
-unsent_loses number o h old told is links out other (inl closed) none = closed_loses number o h old is closed other
-unsent_loses number o h old told is links out other (inr lasts) none =
-    inr (subst (λ (xs : List ℕ). HasNoRoom number xs old.links.items) (out lasts) (subst (λ (ls : List Link). HasNoRoom number told.outbox.items ls) links none))
+    → (h.what ≡ whats.Closed) ⊎ (h.what ≢ whats.Closed) → HasNoRoom number told.outbox.items told.links.items → told.outbox.items ≢ [] → LosesAt number o old other
+unsent_loses number o h old told is links out other (inl closed) none some = closed_loses number o h old is closed other
+unsent_loses number o h old told is links out other (inr lasts) none some = inr (
+  (λ e. some (out lasts ∙ e)),
+  subst (λ (xs : List ℕ). HasNoRoom number xs old.links.items) (out lasts) (subst (λ (ls : List Link). HasNoRoom number told.outbox.items ls) links none),
+)
 
 -- it is told, and what goes out is sent
 pub sent_closes : (number : ℕ) (o : Option Heard) (h : Heard) (old told sent : code.Relay) → o ≡ Some h → (h.what ≢ whats.Closed → told.outbox.items ≡ old.outbox.items) → told.links.items ≡ old.links.items
     → ClosesOnly (λ other. h.what ≡ whats.Closed) (register_in old) (register_in told)
-    → ClosesOnly (λ other. IsWho (holder (desk_in told.desk) number) other × HasNoRoom number told.outbox.items told.links.items) (register_in told) (register_in sent)
+    → ClosesOnly (λ other. IsWho (holder (desk_in told.desk) number) other × HasNoRoom number told.outbox.items told.links.items × (told.outbox.items ≢ [])) (register_in told) (register_in sent)
     → ClosesOnly (LosesAt number o old) (register_in old) (register_in sent)
 sent_closes number o h old told sent is out links tells sends =
     closes_both (LosesAt number o old) (register_in old) (register_in told) (register_in sent)
     (closes_more (λ other. h.what ≡ whats.Closed) (LosesAt number o old) (register_in old) (register_in told) (λ other closed. closed_loses number o h old is closed other) tells)
-    (closes_more (λ other. IsWho (holder (desk_in told.desk) number) other × HasNoRoom number told.outbox.items told.links.items) (LosesAt number o old) (register_in told) (register_in sent)
-    (λ other x. unsent_loses number o h old told is links (λ lasts. out lasts) other (is_closed h.what) x.1) sends)
+    (closes_more (λ other. IsWho (holder (desk_in told.desk) number) other × HasNoRoom number told.outbox.items told.links.items × (told.outbox.items ≢ [])) (LosesAt number o old) (register_in told) (register_in sent)
+    (λ other x. unsent_loses number o h old told is links (λ lasts. out lasts) other (is_closed h.what) x.1 x.2) sends)
 
 -- ---- In a call
-
-loses_closed : (what : What) (key : Option ℕ) (ends : Ends) (posts : Posts) (other : ℕ) → (what ≡ whats.Closed) ⊎ (what ≢ whats.Closed)
-    → LosesBy what key ends posts other ⊎ (what ≢ whats.Closed)
-loses_closed what key ends posts other (inl e) = inl (subst (λ (w : What). LosesBy w key ends posts other) (sym e) tt)
-loses_closed what key ends posts other (inr lasts) = inr lasts
 
 nothing_key : (key : Option ℕ) (what : What) (ends : Ends) (posts : Posts) (other : ℕ) → key ≡ None → what ≡ whats.Goes → LosesBy what key ends posts other → ⊥
 nothing_key key what ends posts other none goes loses =
@@ -132,33 +130,43 @@ of_nothing : (number : ℕ) (left : List ℕ) (o : Option Heard) (mid : code.Rel
 of_nothing number left None mid ends posts other none loses = absurd none
 of_nothing number left (Some h) mid ends posts other none loses = absurd (nothing_key h.key h.what ends posts other none.0 none.1 loses)
 
-by_packet : (number : ℕ) (left : List ℕ) (o : Option Heard) (mid : code.Relay) (new : House) (other : ℕ) → HearsNothing o ⊎ IsHeardAs number left o mid new → LosesFor o (ends_in mid.applications) new.posts other → LosesOn number left mid other
-by_packet number left o mid new other (inl none) loses = of_nothing number left o mid (ends_in mid.applications) new.posts other none loses
-by_packet number left o mid new other (inr heard) loses = OfPacket o new heard loses
+by_packet : (number : ℕ) (left : List ℕ) (o : Option Heard) (mid : code.Relay) (new : House) (other : ℕ) (Idle : Type 0) → (HearsNothing o × Idle) ⊎ IsHeardAs number left o mid new → LosesFor o (ends_in mid.applications) new.posts other → LosesOn number left mid other
+by_packet number left o mid new other Idle (inl none) loses = of_nothing number left o mid (ends_in mid.applications) new.posts other none.0 loses
+by_packet number left o mid new other Idle (inr heard) loses = OfPacket o new heard loses
 
-sends_or : (number : ℕ) (left out : List ℕ) (h : Heard) (mid : code.Relay) (new : House) (other : ℕ) → HearsNothing (Some h) ⊎ IsHeardAs number left (Some h) mid new → Cleans (Some h) [] out → HasNoRoom number out mid.links.items
-    → LosesBy h.what h.key (ends_in mid.applications) new.posts other ⊎ (h.what ≢ whats.Closed) → LosesOn number left mid other
-sends_or number left out h mid new other heard cleans none (inl loses) = by_packet number left (Some h) mid new other heard loses
-sends_or number left out h mid new other heard cleans none (inr lasts) = OfSending out (cleans lasts, none)
+sends_by : (number : ℕ) (left out : List ℕ) (h : Heard) (mid : code.Relay) (new : House) (other : ℕ) → IsHeardAs number left (Some h) mid new → MayClean h.key [] out → out ≢ [] → HasNoRoom number out mid.links.items → LosesOn number left mid other
+sends_by number left out h mid new other heard (inl same) some none = absurd (some same)
+sends_by number left out h mid new other heard (inr cleans) some none = OfSending h new heard cleans.0 out (cleans.1, none)
 
-by_sending : (number : ℕ) (left out : List ℕ) (o : Option Heard) (mid : code.Relay) (new : House) (other : ℕ) → HearsNothing o ⊎ IsHeardAs number left o mid new → Cleans o [] out → HasNoRoom number out mid.links.items → LosesOn number left mid other
-by_sending number left out None mid new other heard cleans none = by_packet number left None mid new other heard tt
-by_sending number left out (Some h) mid new other heard cleans none =
-    sends_or number left out h mid new other heard cleans none (loses_closed h.what h.key (ends_in mid.applications) new.posts other (is_closed h.what))
+sends_or : (number : ℕ) (left out : List ℕ) (h : Heard) (mid : code.Relay) (new : House) (other : ℕ) → IsHeardAs number left (Some h) mid new → Cleans (Some h) [] out → out ≢ [] → HasNoRoom number out mid.links.items
+    → (h.what ≡ whats.Closed) ⊎ (h.what ≢ whats.Closed) → LosesOn number left mid other
+sends_or number left out h mid new other heard cleans some none (inl closed) =
+    OfPacket (Some h) new heard (subst (λ (w : What). LosesBy w h.key (ends_in mid.applications) new.posts other) (sym closed) tt)
+sends_or number left out h mid new other heard cleans some none (inr lasts) = sends_by number left out h mid new other heard (cleans lasts) some none
 
-loses_or : (number : ℕ) (left : List ℕ) (o : Option Heard) (mid next : code.Relay) (new : House) (other : ℕ) → HearsNothing o ⊎ IsHeardAs number left o mid new → ends_in next.applications ≡ ends_in mid.applications
+by_sending : (number : ℕ) (left out : List ℕ) (o : Option Heard) (mid : code.Relay) (new : House) (other : ℕ) → IsHeardAs number left o mid new → Cleans o [] out → out ≢ [] → HasNoRoom number out mid.links.items → LosesOn number left mid other
+by_sending number left out None mid new other heard cleans some none = OfPacket None new heard tt
+by_sending number left out (Some h) mid new other heard cleans some none = sends_or number left out h mid new other heard cleans some none (is_closed h.what)
+
+sending_or : (number : ℕ) (left : List ℕ) (o : Option Heard) (mid next : code.Relay) (new : House) (other : ℕ) → (HearsNothing o × IsIdle mid next) ⊎ IsHeardAs number left o mid new → Cleans o [] next.outbox.items → next.outbox.items ≢ []
+    → HasNoRoom number next.outbox.items mid.links.items → LosesOn number left mid other
+sending_or number left o mid next new other (inl idle) cleans some none = absurd (some idle.1.1)
+sending_or number left o mid next new other (inr heard) cleans some none = by_sending number left next.outbox.items o mid new other heard cleans some none
+
+loses_or : (number : ℕ) (left : List ℕ) (o : Option Heard) (mid next : code.Relay) (new : House) (other : ℕ) → (HearsNothing o × IsIdle mid next) ⊎ IsHeardAs number left o mid new → ends_in next.applications ≡ ends_in mid.applications
     → posts_in next.applications ≡ new.posts → Cleans o [] next.outbox.items → post_on number next.links.items ≡ post_on number mid.links.items → LosesAt number o next other → LosesOn number left mid other
 loses_or number left o mid next new other heard ends posts cleans same (inl loses) =
-    by_packet number left o mid new other heard
+    by_packet number left o mid new other (IsIdle mid next) heard
     (subst (λ (ps : Posts). LosesFor o (ends_in mid.applications) ps other) posts (subst (λ (es : Ends). LosesFor o es (posts_in next.applications) other) ends loses))
-loses_or number left o mid next new other heard ends posts cleans same (inr none) =
-    by_sending number left next.outbox.items o mid new other heard cleans (room_as number next.outbox.items mid.links.items next.links.items same none)
+loses_or number left o mid next new other heard ends posts cleans same (inr x) =
+    sending_or number left o mid next new other heard cleans x.0 (room_as number next.outbox.items mid.links.items next.links.items same x.1)
 
-unless_idle : {A B C : Type 0} → (A × B) ⊎ C → A ⊎ C
-unless_idle (inl x) = inl x.0
-unless_idle (inr y) = inr y
-
-pub loses_by : (number : ℕ) (left : List ℕ) (o : Option Heard) (mid next : code.Relay) (es : Ends) (other : ℕ) → (HearsNothing o × (next.desk ≡ mid.desk)) ⊎ IsHeardAs number left o mid (house_with (desk_in next.desk) (told_by o es) (posts_in next.applications))
+pub loses_by : (number : ℕ) (left : List ℕ) (o : Option Heard) (mid next : code.Relay) (es : Ends) (other : ℕ) → (HearsNothing o × IsIdle mid next) ⊎ IsHeardAs number left o mid (house_with (desk_in next.desk) (told_by o es) (posts_in next.applications))
     → ends_in next.applications ≡ ends_in mid.applications → Cleans o [] next.outbox.items → post_on number next.links.items ≡ post_on number mid.links.items → LosesAt number o next other → LosesOn number left mid other
 loses_by number left o mid next es other heard ends cleans same why =
-    loses_or number left o mid next (house_with (desk_in next.desk) (told_by o es) (posts_in next.applications)) other (unless_idle heard) ends refl cleans same why
+    loses_or number left o mid next (house_with (desk_in next.desk) (told_by o es) (posts_in next.applications)) other heard ends refl cleans same why
+
+-- ---- Something is to be sent
+
+pub is_some_waiting : (bytes : List ℕ) → (length bytes == 0) ≡ false → bytes ≢ []
+is_some_waiting bytes e = λ none. (let u : true ≡ false = sym (ap (λ (xs : List ℕ). length xs == 0) none) ∙ e in cc)

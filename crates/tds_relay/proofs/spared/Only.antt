@@ -21,7 +21,7 @@ use Rattle.tds_relay.specs.Hall.{End, Ends, Hall, change_whose, closes, end_at, 
 use Rattle.tds_relay.specs.Handing.{Hears, HearsBy, heard_key}
 use Rattle.tds_relay.specs.House.{House}
 use Rattle.tds_relay.specs.Posts.{posts_in}
-use Rattle.tds_relay.specs.Reasons.{HearsNothing, IsHeardAs}
+use Rattle.tds_relay.specs.Reasons.{HearsNothing, IsHeardAs, IsIdle}
 use Rattle.tds_relay.specs.Ties.{Connection, Goes, IsReached, Neither, desk_in, part_on}
 use Rattle.tds_relay.proofs.held.Fewer.{HoldsFewer, comes_fewer, fewer_moved, loses_fewer, renewed_but, whose_holds}
 use Rattle.tds_relay.proofs.spared.Apart.{set_apart}
@@ -206,9 +206,9 @@ none_key : (o : Option Heard) → HearsNothing o → heard_key o ≡ None
 none_key None none = absurd none
 none_key (Some h) none = none.0
 
-apart_or : (number : ℕ) (left : List ℕ) (o : Option Heard) (a b : code.Relay) (new : House) → IsReached (desk_in a.desk) → (HearsNothing o × (b.desk ≡ a.desk)) ⊎ IsHeardAs number left o a new → new.hall.desk ≡ desk_in b.desk
+apart_or : (number : ℕ) (left : List ℕ) (o : Option Heard) (a b : code.Relay) (new : House) → IsReached (desk_in a.desk) → (HearsNothing o × IsIdle a b) ⊎ IsHeardAs number left o a new → new.hall.desk ≡ desk_in b.desk
     → HeardApart number o (desk_in a.desk) (desk_in b.desk)
-apart_or number left o a b new reached (inl none) same = apart_same number o (desk_in a.desk) (desk_in b.desk) (ap desk_in none.1) (none_key o none.0)
+apart_or number left o a b new reached (inl none) same = apart_same number o (desk_in a.desk) (desk_in b.desk) (ap desk_in none.1.0) (none_key o none.0)
 apart_or number left o a b new reached (inr h) same =
     subst (λ (d : Desk). HeardApart number o (desk_in a.desk) d) same (apart_by number (reading_on number a.desk.service) h.link h.next left h.count o (house_in a) new reached h.hears)
 
@@ -219,7 +219,7 @@ spares_heard number o a b c h ends k = λ key w none l.
 
 -- one behind the others
 pub one_spares : (number : ℕ) (left : List ℕ) (o : Option Heard) (first : Hall) (a b c : code.Relay) (es : Ends) → IsReached (desk_in a.desk) → SparesOthers number None first (hall_in a)
-    → (HearsNothing o × (b.desk ≡ a.desk)) ⊎ IsHeardAs number left o a (house_with (desk_in b.desk) (told_by o es) (posts_in b.applications)) → ends_in b.applications ≡ ends_in a.applications
+    → (HearsNothing o × IsIdle a b) ⊎ IsHeardAs number left o a (house_with (desk_in b.desk) (told_by o es) (posts_in b.applications)) → ends_in b.applications ≡ ends_in a.applications
     → Goes (Connection number) (desk_in a.desk) (desk_in b.desk) → (IsReached (desk_in b.desk) → SparesOthers number (heard_key o) (hall_in b) (hall_in c)) → SparesOthers number None first (hall_in c)
 one_spares number left o first a b c es reached had hears ends goes done =
     let there : IsReached (desk_in b.desk) = reached_on (Connection number) (desk_in a.desk) (desk_in b.desk) goes reached in

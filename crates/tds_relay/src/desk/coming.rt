@@ -113,7 +113,7 @@ impl Desk {
         ensures read { OnOk result (AllRead number ends bytes.now self.old.service
             self.new.service) }
         ensures cleans { IfOk result (λ heard. heard.what ≢ Closed
-            → MayClean out.old.items out.new.items) }
+            → MayClean heard.key out.old.items out.new.items) }
         ensures seats { IsReached (desk_in self.old) → IfOk result (λ heard. HearsSeat (Some heard)
             number (desk_in self.old).service (desk_in self.new).service) }
     {
@@ -164,7 +164,7 @@ impl Desk {
             → whose_by lease (desk_in self.old).holds ≡ Some key → heard ≡ what) }
         ensures stand { OnOk result (AllStand self.old.service self.new.service) }
         ensures cleans { IfOk result (λ heard. heard ≢ Closed
-            → MayClean out.old.items out.new.items) }
+            → MayClean lease out.old.items out.new.items) }
         ensures seats { IsLed (desk_in self.old).service → ((l : ℕ) → lease ≡ Some l
             → HasNumber l number (desk_in self.old).service) → is_left what ≡ true
             → IfOk result (λ heard. SeatStays (is_left heard) number (desk_in self.old).service

@@ -14,7 +14,7 @@ ghost use Rattle.tds_relay.specs.Fronts.{house_with};
 ghost use Rattle.tds_relay.specs.Hall.{told};
 ghost use Rattle.tds_relay.specs.Handing.{Brings, HearsBy, IsKnown, KnowsOn, Passes, heard_key, news_for, fed};
 ghost use Rattle.tds_relay.specs.House.{Steps};
-ghost use Rattle.tds_relay.specs.Reasons.{Cleans, HeardFor, IsHeardAs, HearsNothing, LosesAt, post_on};
+ghost use Rattle.tds_relay.specs.Reasons.{Cleans, HeardFor, IsHeardAs, IsIdle, HearsNothing, LosesAt, post_on};
 ghost use Rattle.tds_relay.specs.Posts.{names_in, post_of, posts_in};
 ghost use Rattle.tds_packet.specs.Stream.{IsLess};
 ghost use Rattle.tds_relay.specs.Reads.{Comes, IsLessAt, OpensOthers, Stays, StreamsAll};
@@ -150,7 +150,7 @@ impl Relay {
         ensures cleans { IfOk result (λ heard. Cleans heard.1 [] self.new.outbox.items) }
         ensures refused { OnOk result (IsRefusedOn number self.old.refused self.new.refused) }
         ensures hears { IfOk result (λ heard.
-            (HearsNothing heard.1 × (self.new.desk ≡ self.old.desk))
+            (HearsNothing heard.1 × IsIdle self.old self.new)
             ⊎ IsHeardAs number piece.now heard.1 self.old (house_with (desk_in self.new.desk)
             (told_by heard.1 (ends_in self.old.applications)) (posts_in self.new.applications))) }
         ensures seated { IsSeated self.old → IfOk result (λ heard.

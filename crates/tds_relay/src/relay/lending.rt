@@ -220,8 +220,7 @@ impl Relay {
         Ok(())
     }
 
-    /// What comes next on a connection is a message's first packet. Who held it before may have left in the
-    /// middle of one.
+    /// What comes next there is a message's first packet. Who held it may have left in the middle of one.
     pub(super) fn restart(&mut self, number: u64)
         ensures desk { self.new.desk ≡ self.old.desk }
         ensures same { self.new.applications ≡ self.old.applications }
@@ -375,6 +374,7 @@ impl Relay {
             (waits_on number self.old.links.items)) }
         ensures no_room { IfOk result (λ fits. fits ≡ false
             → HasNoRoom number self.old.outbox.items self.old.links.items) }
+        ensures some { IfOk result (λ fits. fits ≡ false → self.old.outbox.items ≢ []) }
         ensures others { OnOk result ((other : ℕ) → other ≢ number
             → waits_on other self.new.links.items ≡ waits_on other self.old.links.items) }
         ensures ordered { OnOk result (StayOrdered self.old.orders.items self.new.orders.items) }

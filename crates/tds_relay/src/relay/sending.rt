@@ -1,5 +1,5 @@
 //! What waits for applications and on connections, and is sent.
-ghost use Rattle.std.specs.Prelude.{◌≡◌, ◌≢◌, ◌+◌, ◌≤◌, ℕ, None, OnOk, Some, drop, if◌then◌else◌, length};
+ghost use Rattle.std.specs.Prelude.{◌≡◌, ◌≢◌, ◌+◌, ◌≤◌, [], ℕ, None, OnOk, Some, drop, if◌then◌else◌, length};
 ghost use Rattle.std.specs.Prelude.{false, option_map};
 ghost use Rattle.slab.specs.Slab.{get};
 ghost use Rattle.tds_relay.specs.Apart.{Alone, SparesOthers};
@@ -142,7 +142,8 @@ impl Relay {
             (hall_in self.new)) }
         ensures closes { OnOk result (ClosesOnly (λ other.
             IsWho (holder (desk_in self.old.desk) number) other
-            × HasNoRoom number self.old.outbox.items self.old.links.items)
+            × HasNoRoom number self.old.outbox.items self.old.links.items
+            × (self.old.outbox.items ≢ []))
             (register_in self.old) (register_in self.new)) }
         ensures seated { IsSeated self.old → OnOk result (IsSeated self.new) }
         ensures gone { IsSeatedBut number false self.old

@@ -25,6 +25,7 @@ use Rattle.tds_relay.proofs.seats.Counting.{unknown_stays}
 use Rattle.tds_relay.proofs.seats.Desks.{lost_at}
 use Rattle.tds_relay.proofs.seats.Rests.{came_on, heard_stays, kept_stays}
 use Rattle.tds_relay.proofs.spared.Aside.{led_at}
+use Rattle.tds_relay.proofs.spared.Cleaned.{nobodys}
 use Rattle.tds_relay.proofs.desk.Desk.came.Goals as goal
 
 pub returns-in_ok-what-in-Finished-clause-ok : goal.returns-in_ok-what-in-Finished-clause-ok
@@ -193,3 +194,11 @@ returns-in-Err-clause-seats c = λ reached.
     subst (λ (x : services.Service). SeatStays (is_left heard.what) c.args.number (service_in c.args.self.now.service) (service_in x)) (sym same)
     (unknown_stays (is_left heard.what) c.args.number (service_in c.args.self.now.service) (unread c.args.self.now.service c.args.number c.args.bytes.now c.args.ends c.in-Err.refusal c.in-Err.ensures.refused never)))
     c.unheard.ensures.unknown c.unheard.ensures.nobody
+
+pub returns-in_ok-what-in-Finished-clause-cleans : goal.returns-in_ok-what-in-Finished-clause-cleans
+returns-in_ok-what-in-Finished-clause-cleans c = λ lasts.
+    nobodys c.in-Ok.came.lease c.key_by-key.result (desk_in c.args.self.now).holds c.args.out.now.items _ c.key_by-key.ensures (c.in_ok-what-in-Finished.ensures.cleans lasts)
+
+pub returns-in_ok-what-in-Acknowledged-clause-cleans : goal.returns-in_ok-what-in-Acknowledged-clause-cleans
+returns-in_ok-what-in-Acknowledged-clause-cleans c = λ lasts.
+    nobodys c.in-Ok.came.lease c.key_by-key.result (desk_in c.args.self.now).holds c.args.out.now.items _ c.key_by-key.ensures (c.in_ok-what-in-Acknowledged.ensures.cleans lasts)

@@ -1,9 +1,10 @@
-use Rattle.std.proofs.Common.{refl, rules}
+use Rattle.std.proofs.Common.{length, refl, rules, sym, ◌∙◌, ◌==◌, ◌≡◌}
 use Rattle.tds_relay.specs.Closings.{Nobody, register_in}
 use Rattle.tds_relay.proofs.steps.Staying.{stays_then}
 use Rattle.tds_relay.proofs.spared.Shutting.{closes_filled_on, closes_kept, unclosed, unfit_kept}
 use Rattle.tds_relay.proofs.spared.Begun.{answers_same, answers_both}
 use Rattle.tds_relay.proofs.spared.Lasting.{last_put, last_unfit}
+use Rattle.tds_relay.proofs.spared.Losing.{is_some_waiting}
 use Rattle.tds_relay.proofs.relay.Relay.fits_on.Goals as goal
 
 pub returns-clause-read : goal.returns-clause-read
@@ -25,3 +26,8 @@ returns-then-not-fits-clause-lasts c = last_unfit c.args.number _ _ c.append_to.
 
 pub returns-clause-lasts : goal.returns-clause-lasts
 returns-clause-lasts c = last_put c.args.number c.deref.result.now _ _ _ c.append_to.ensures.others (c.in_ok-fits.ensures.appends (search rules)) c.in_ok-order_write_on.ensures.links
+
+pub returns-then-not-fits-clause-some : goal.returns-then-not-fits-clause-some
+returns-then-not-fits-clause-some c = λ no none.
+    let same : c.is_empty.result ≡ (length c.args.self.now.outbox.items == 0) = search rules in
+    is_some_waiting c.args.self.now.outbox.items (sym same ∙ c.if-is_empty.false) none

@@ -123,10 +123,10 @@ returns-clause-takes c = rw (← c.links.view_is) (
     c.index_mut-link.ensures.value (search rules) c.hear_on.ensures.takes)
 
 pub returns-in_default-clause-hears : goal.returns-in_default-clause-hears
-returns-in_default-clause-hears c = inl ((refl, refl), refl)
+returns-in_default-clause-hears c = inl ((refl, refl), (refl, search rules))
 
 pub returns-then-not-link-clause-hears : goal.returns-then-not-link-clause-hears
-returns-then-not-link-clause-hears c = inl ((refl, refl), refl)
+returns-then-not-link-clause-hears c = inl ((refl, refl), (refl, search rules))
 
 pub returns-in_default-clause-cleans : goal.returns-in_default-clause-cleans
 returns-in_default-clause-cleans c = λ not. inl (search rules)
@@ -156,7 +156,7 @@ returns-clause-posts c = rw (← c.links.view_is) (
 
 pub returns-clause-hears : goal.returns-clause-hears
 returns-clause-hears c =
-    heard_as c.hear_on.result (c.hear_on.new.desk ≡ c.args.self.now.desk) c.args.number c.args.piece.now c.in-Some.place c.index_mut-link.result.now c.hear_on.new.link c.args.self.now
+    heard_as c.hear_on.result _ c.args.number c.args.piece.now c.in-Some.place c.index_mut-link.result.now c.hear_on.new.link c.args.self.now
     (λ (heard : Option Heard). house_with (desk_in c.hear_on.new.desk) (told_by heard (ends_in c.args.self.now.applications)) (posts_in c.hear_on.new.applications))
     (sym c.place_in.ensures.is ∙ c.in-Some.is)
     (subst (λ (v : Linked). c.index_mut-link.result.now ≡ slice_index_or v.items c.in-Some.place c.index_mut-link.result.now) c.links.view_is c.index_mut-link.ensures.value) c.hear_on.ensures.hears

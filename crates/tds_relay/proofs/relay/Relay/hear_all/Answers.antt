@@ -17,7 +17,8 @@ use Rattle.tds_relay.proofs.steps.Fronts.{moved_same}
 use Rattle.tds_relay.proofs.steps.Reaching.{ok_more, reached_on}
 use Rattle.tds_relay.proofs.steps.Renaming.{names_on}
 use Rattle.tds_relay.proofs.steps.Staying.{gone_open, opens_refl, others_both, others_open, others_stay, others_stay_on}
-use Rattle.tds_relay.proofs.bytes.SetAnew.{anew_all, anew_begin, anew_left, anew_on, none_is}
+use Rattle.tds_relay.proofs.bytes.SetAnew.{anew_all, anew_begin, anew_left, anew_on}
+use Rattle.tds_relay.proofs.steps.Asked.{empty_is}
 use Rattle.tds_relay.proofs.bytes.Streaming.{heard_stays}
 use Rattle.tds_relay.proofs.bytes.Turns.{some_is, streams_all, turned, turns_begin, turns_end}
 use Rattle.tds_relay.specs.Closings.{ClosesOnly, but_told, register_in}
@@ -64,7 +65,7 @@ taking-preserved c = record {
       one_along c.args.number c.args.self.now c.taking.self c.hear.new.self c.heard.new.self reached (c.taking.invariant.bodies reached) c.taking.invariant.goes c.in_ok-count.ensures.goes c.in_ok-count.ensures.asks c.in_ok-heard.ensures.bodies;
   closes =
       one_closes (LosesAt c.args.number c.in_ok-count.heard c.hear.new.self) (HeardFor c.args.number c.args.piece.now c.args.self.now) (register_in c.args.self.now) (register_in c.taking.self) (register_in c.hear.new.self) (register_in c.heard.new.self)
-      (λ key why. ByPacket c.taking.self c.taking.rest.now c.taking.invariant.anew.streams
+      (λ key why. ByPacket c.taking.self c.taking.rest.now c.taking.invariant.anew
       (loses_by c.args.number c.taking.rest.now _ c.taking.self c.hear.new.self _ key c.in_ok-count.ensures.hears c.in_ok-count.ensures.ends c.in_ok-count.ensures.cleans c.in_ok-count.ensures.posts why))
       c.taking.invariant.closes c.in_ok-count.ensures.ends c.in_ok-count.ensures.names c.in_ok-count.ensures.same c.hear.ensures.orders c.hear.ensures.settings c.in_ok-heard.ensures.closes c.in_ok-heard.ensures.kept;
   spares = λ reached.
@@ -97,5 +98,5 @@ returns-clause-anew c =
 
 pub returns-then-is_empty-clause-anew : goal.returns-then-is_empty-clause-anew
 returns-then-is_empty-clause-anew c =
-    let none : c.taking.rest.now ≡ [] = none_is c.taking.rest.now (sym c.is_empty.ensures ∙ c.if-is_empty.true) in
+    let none : c.taking.rest.now ≡ [] = sym (empty_is c.taking.rest.now (sym c.is_empty.ensures ∙ c.if-is_empty.true)) in
     anew_all c.args.number _ _ _ (open_at c.args.number c.taking.self.links.items) _ _ _ _ c.args.piece.now c.taking.rest.now none c.taking.invariant.anew

@@ -53,7 +53,7 @@ pub returns-then-fits-clause-closes : goal.returns-then-fits-clause-closes
 returns-then-fits-clause-closes c = closes_nobody _ _ _ c.in_ok-fits.ensures.closes
 
 pub returns-else-fits-clause-closes : goal.returns-else-fits-clause-closes
-returns-else-fits-clause-closes c = closes_next c.lose.result (IsWho (holder (desk_in c.fits_on.new.self.desk) c.args.number)) _ _ _ _ (λ key e. (ap (λ (d : code.Desk). holder (desk_in d) c.args.number) (sym c.fits_on.ensures.desk) ∙ e, c.in_ok-fits.ensures.no_room (search rules))) c.lose.ensures.closes c.in_ok-fits.ensures.closes
+returns-else-fits-clause-closes c = closes_next c.lose.result (IsWho (holder (desk_in c.fits_on.new.self.desk) c.args.number)) _ _ _ _ (λ key e. (ap (λ (d : code.Desk). holder (desk_in d) c.args.number) (sym c.fits_on.ensures.desk) ∙ e, c.in_ok-fits.ensures.no_room (search rules), c.in_ok-fits.ensures.some (search rules))) c.lose.ensures.closes c.in_ok-fits.ensures.closes
 
 pub returns-else-fits-clause-others : goal.returns-else-fits-clause-others
 returns-else-fits-clause-others c = ok_more c.lose.result _ _ (λ o other differs. o other differs ∙ c.in_ok-fits.ensures.others other differs) c.lose.ensures.others
