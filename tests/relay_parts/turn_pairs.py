@@ -6,6 +6,7 @@ What is wanted is written by hand.
 
 import asyncio
 import concurrent.futures
+import re
 import time
 
 from peers import PATIENCE
@@ -19,6 +20,26 @@ SHARES = ("--share", "transaction")
 CLEANING = (9, "set transaction isolation level read committed")
 # So often the relay and the server come round for somebody else, before it is said that nobody is served meanwhile.
 ROUNDS = 6
+# What is counted where somebody comes to wait: a word, and how often.
+WAITED = re.compile(r"(?m)^tdsrelay_waits_behind_(\w+)_total (\d+)$")
+# What the page says to a reader of each word for why, with the number of a state or of a change (ENVCHANGE's type).
+SAID = {
+    "recovery": "the server doesn't tell its state",
+    "unread": "something couldn't be read or kept",
+    "unrecoverable 9": "what the server calls unrecoverable, as #t (StateId 9)",
+    "unrecoverable 10": "what the server calls unrecoverable, as #t (StateId 10)",
+    "state 1": "a setting or #t (StateId 1)",
+    "state 5": "a setting or #t (StateId 5)",
+    "state 9": "a setting or #t (StateId 9)",
+    "change 1": "another database (ENVCHANGE 1)",
+    "change 2": "another language (ENVCHANGE 2)",
+    "transaction": "an open transaction",
+    "untold": "what its server may not tell",
+    "handle": "a prepared handle",
+    "answer": "an answer that is due",
+    "cancel": "a cancel, up to one more answer",
+    "bulk": "a bulk load that may come",
+}
 # So many scenes are played at once.
 AT_ONCE = 8
 
@@ -43,7 +64,7 @@ class Pair:
         self.clock = Application(relay.port, server.vices, asks=False, locale=1)
         # A request of its own has begun, of which nothing has gone out.
         self.is_only_kept = False
-        self.found = self.task = None
+        self.found = self.task = self.waits_behind = None
 
     async def begin(self):
         for it in (self.a, self.b, self.clock):
@@ -56,9 +77,17 @@ class Pair:
         """How often the first one's connection was cleaned."""
         return self.server.asked_on(self.a.process).count(CLEANING)
 
-    def rests(self):
-        """Whether the relay says so of the first one's connection."""
-        return any(it.get("rests") for it in self.relay.json()["sockets"] if it.get("spid") == self.a.process)
+    def told(self):
+        """Whether the relay says that the first one's connection rests; why it doesn't, a word and which state; and what its
+        page says of that to a reader."""
+        found = next((it for it in self.relay.json()["sockets"] if it.get("spid") == self.a.process), {})
+        why = " ".join(str(found[name]) for name in ("why", "which") if name in found)
+        said = re.search(rf" and doesn't rest, since: (.*), \d+ s.* \(SPID {self.a.process}, ", self.relay.ask("/")[1].decode())
+        return bool(found.get("rests")), why, said and said[1]
+
+    def waited(self):
+        """How often the relay says that somebody came to wait, by the words for why."""
+        return {word: int(count) for word, count in WAITED.findall(self.relay.ask("/metrics")[1].decode()) if count != "0"}
 
     async def rounds(self):
         for _ in range(ROUNDS):
@@ -68,13 +97,14 @@ class Pair:
         """The second one asks. Whether it is served (`shared`), or waits and the first one's connection stays its own
         while others are served (`kept`)."""
         before = self.cleanings()
-        self.is_told_to_rest = self.rests()
+        self.is_told_to_rest, *self.why = self.told()
         self.task = asyncio.ensure_future(self.b.ask(EVERYTHING))
         await until(lambda: self.task.done() or self.relay.json()["applications_waiting"] or self.cleanings() > before,
                     "the second one's request")
         await self.rounds()
         if not self.task.done() and self.cleanings() == before:
             self.found = "kept"
+            self.waits_behind = self.waited()
         else:
             self.found = "shared"
             await self.served()
@@ -108,10 +138,11 @@ class Pair:
 CASES = []
 
 
-def case(wanted, vices=Vices(), words=SHARES, **who):
-    """A deed of the first one, and what is wanted to be found where the second one asks."""
+def case(wanted, vices=Vices(), words=SHARES, why=None, **who):
+    """A deed of the first one, and what is wanted to be found where the second one asks; of one that is kept, the relay's
+    word for why."""
     def add(deed):
-        CASES.append((deed, wanted, vices, words, who))
+        CASES.append((deed, wanted, vices, words, why, who))
         return deed
     return add
 
@@ -136,7 +167,7 @@ async def played(pair, deed):
             pair.task.exception()
 
 
-def play(program, cases, deed, wanted, vices, words, who):
+def play(program, cases, deed, wanted, vices, words, why, who):
     """One case, at a relay and a server of its own."""
     with Server(vices) as server, Relay(program, server.port, "--most", "1", *words) as relay:
         pair = Pair(relay, server, **who)
@@ -145,6 +176,9 @@ def play(program, cases, deed, wanted, vices, words, who):
         cases.check(f"{deed.__name__}: its connection is {wanted or 'kept or shared'}", is_so, pair.found)
         rests = pair.found == "shared" or pair.is_only_kept
         cases.same(f"{deed.__name__}: the relay says whether it rests", pair.is_told_to_rest, rests)
+        if why:
+            cases.same(f"{deed.__name__}: the relay says why", pair.why, [why, SAID[why]])
+            cases.same(f"{deed.__name__}: and counts it", pair.waits_behind, {why.split()[0]: 1})
 
 
 def beside(cases, scenes):

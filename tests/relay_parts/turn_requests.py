@@ -13,7 +13,7 @@ from turn_tokens import (
 # ---- Transactions
 
 
-@kept()
+@kept(why="transaction")
 async def transaction(pair):
     await pair.a.ask("begin")
     await pair.other()
@@ -22,7 +22,7 @@ async def transaction(pair):
     await pair.a.ask("open")
 
 
-@kept()
+@kept(why="untold")
 async def transaction_that_a_reset_keeps(pair):
     """What a full reset would clear may be there still."""
     await pair.a.ask("begin")
@@ -45,7 +45,7 @@ async def transactions_that_ended(pair):
 # ---- Calls
 
 
-@kept()
+@kept(why="handle")
 async def prepared(pair):
     await pair.a.call((PREPARE, "get b"))
     await pair.other()
@@ -89,7 +89,7 @@ async def prepared_until_it_is_unprepared(pair):
     await pair.served()
 
 
-@kept()
+@kept(why="handle")
 async def one_of_two_unprepared(pair):
     await pair.a.call((PREPARE, "get b"))
     await pair.a.call((PREPARE, "get c"))
@@ -98,7 +98,7 @@ async def one_of_two_unprepared(pair):
     await pair.a.call((EXECUTE, 2))
 
 
-@kept()
+@kept(why="handle")
 async def unprepared_what_is_not_open(pair):
     """It closes none, and what it may have meant isn't clear."""
     await pair.a.call((UNPREPARE, 1))
@@ -148,7 +148,7 @@ async def unprepared_in_one_request(pair):
     await pair.other()
 
 
-@kept()
+@kept(why="untold")
 async def prepare_that_is_cancelled(pair):
     """Its handle may have been made."""
     pair.a.send(CALL, calls_body([(PREPARE_AND_EXECUTE, "rows 1 20;wait")]))
@@ -207,7 +207,7 @@ async def plain_name(pair):
     await pair.a.call(("dbo.echo", 6))
 
 
-@kept()
+@kept(why="untold")
 async def name_of_the_system(pair):
     await pair.a.call(("sys.sp_other", 5))
     await pair.other()
@@ -216,7 +216,7 @@ async def name_of_the_system(pair):
 # ---- Bulk loads
 
 
-@kept()
+@kept(why="bulk")
 async def load_to_come(pair):
     await pair.a.ask("insert bulk t")
     await pair.other()
@@ -240,7 +240,7 @@ async def cancelled(pair):
     return await pair.a.cancelled("set a 1;rows 1 20;wait;set a 0", pair.waits())
 
 
-@kept()
+@kept(why="state 1")
 async def cancelled_behind_a_setting(pair):
     possible = await cancelled(pair)
     await pair.other()
@@ -266,7 +266,7 @@ async def cancelled_and_asked_where_it_is_told_late(pair):
     await pair.a.ask("get a")
 
 
-@kept()
+@kept(why="cancel")
 async def cancelled_until_it_is_asked(pair):
     """One whole answer more is awaited, though nothing was changed."""
     possible = await pair.a.cancelled("rows 1 20;wait", pair.waits())
@@ -303,7 +303,7 @@ async def cancel_of_nothing(pair):
 # ---- What is underway
 
 
-@kept()
+@kept(why="answer")
 async def answer_to_come(pair):
     pair.a.send(BATCH, text_of("wait;get a"))
     await pair.waits()

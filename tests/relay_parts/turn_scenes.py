@@ -14,6 +14,8 @@ from turn_tokens import ACKNOWLEDGED, BATCH, END, RESET, done, text_of, tokens
 
 # It holds a connection for long; its connection has ended.
 LATE_HOLD, LOST = 50102, 50109
+# More seconds than pass at least from one count of those that wait to the next.
+APART = 0.05
 SCENES = []
 
 
@@ -71,6 +73,28 @@ async def on_the_wire(cases, server, relay, one, two):
     cases.same("what it was asked to recover", server.logins, [(one.process, b"")])
     found = relay.json()
     cases.same("each turn is counted", (found["groups"][0]["partings"], found["total_done_partings"]), (2, 2))
+
+
+@scene(count=4)
+async def counts_who_comes_to_wait(cases, server, relay, one, two, three, four):
+    """Each that comes to wait while a setting keeps the connection is counted, and who comes to wait while one rests isn't."""
+    def counted():
+        return {name: count for name, count in relay.json().items() if "waits_behind" in name and count}
+
+    await one.ask("get a")
+    await two.ask("set a 1")
+    cases.same("none where it rests", counted(), {})
+    late = []
+    for it in (one, three, four):
+        late.append(asyncio.ensure_future(it.ask(EVERYTHING)))
+        await waits(relay, len(late))
+        await asyncio.sleep(APART)
+    cases.same("each is counted", counted(), {"total_waits_behind_state": 3})
+    await two.ask("get a")
+    cases.same("nobody comes meanwhile", counted(), {"total_waits_behind_state": 3})
+    await two.ask("set a 0")
+    await served(*late)
+    cases.same("nor while they are served", counted(), {"total_waits_behind_state": 3})
 
 
 @scene(most=2)

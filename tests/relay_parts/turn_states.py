@@ -20,7 +20,7 @@ async def state_that_is_not_told(pair):
     await pair.other()
 
 
-@kept()
+@kept(why="state 1")
 async def setting(pair):
     await pair.a.ask("set a 1")
     await pair.other()
@@ -44,7 +44,7 @@ async def setting_that_is_back(pair):
     await pair.a.ask("get a")
 
 
-@kept()
+@kept(why="state 5")
 async def isolation_level(pair):
     await pair.a.ask("set level 1")
     await pair.other()
@@ -65,14 +65,14 @@ async def long_value(pair):
     await pair.a.ask("get text")
 
 
-@kept()
+@kept(why="unrecoverable 9")
 async def table(pair):
     await pair.a.ask("create b;put b 7")
     await pair.other()
     await pair.a.ask("sum b")
 
 
-@kept()
+@kept(why="state 9")
 async def table_and_then_another_state(pair):
     """The newest SESSIONSTATE can be recovered, and the table's can't."""
     await pair.a.ask("create b;put b 7")
@@ -89,7 +89,7 @@ async def table_that_is_dropped(pair):
     await pair.a.ask("sum b")
 
 
-@kept()
+@kept(why="unrecoverable 10")
 async def lock(pair):
     await pair.a.ask("lock")
     await pair.other()
@@ -97,14 +97,14 @@ async def lock(pair):
     await pair.served()
 
 
-@kept()
+@kept(why="change 1")
 async def database(pair):
     await pair.a.ask("use d2")
     await pair.other()
     await pair.a.ask("where")
 
 
-@kept()
+@kept(why="change 2")
 async def language(pair):
     await pair.a.ask("speak l2")
     await pair.other()
@@ -122,12 +122,12 @@ async def database_and_language_that_are_back(pair):
 # ---- Servers and applications by sessions
 
 
-@kept(vices=Vices(is_silent=True))
+@kept(vices=Vices(is_silent=True), why="recovery")
 async def no_acknowledgement(pair):
     await pair.other()
 
 
-@kept(vices=Vices(is_unreadable=True))
+@kept(vices=Vices(is_unreadable=True), why="unread")
 async def state_that_cannot_be_read(pair):
     await pair.a.ask("set a 1")
     await pair.a.ask("set a 0")
@@ -150,7 +150,7 @@ async def flag_of_the_whole_session(pair):
     await pair.a.ask("sum b")
 
 
-@kept(vices=Vices(first=LAST))
+@kept(vices=Vices(first=LAST), why="unread")
 async def last_number(pair):
     await pair.a.ask("set a 1;set b 1")
     await pair.a.ask("set a 0;set b 0")

@@ -95,9 +95,15 @@ impl House {
 
     /// A connection's login was answered so: where its group's applications are parted from theirs, it is watched.
     pub(crate) fn watch_in(&mut self, key: usize, group: usize, answer: &[u8]) -> io::Result<()> {
-        match self.groups.get(group) {
+        let House {
+            sockets,
+            groups,
+            ..
+        } = self;
+        match groups.get_mut(group) {
             Some(group) if group.mode == Mode::Transactions => {
-                Ok(self.sockets.begin_watching(key, answer)?)
+                group.keeping.add(sockets, key)?;
+                Ok(sockets.begin_watching(key, answer)?)
             }
             _ => Ok(()),
         }

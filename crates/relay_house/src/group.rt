@@ -1,5 +1,6 @@
 //! Applications whose logins are equal, or one that is alone, and their relay.
 
+use crate::keeping::Keeping;
 use crate::resting::Resting;
 use relay_logins::{FEATURES, Who};
 use relay_status::{Done, NOTHING};
@@ -61,6 +62,8 @@ pub struct Group {
     pub resting: Resting,
     pub parted: Vec<u64>,
     pub partings: u64,
+    /// Its connections that are watched.
+    pub keeping: Keeping,
 }
 
 impl Pair {
@@ -103,6 +106,7 @@ impl Group {
             resting: Resting::new(alloc),
             parted: Vec::new(alloc),
             partings: 0,
+            keeping: Keeping::new(alloc),
         }
     }
 

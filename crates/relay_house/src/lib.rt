@@ -12,6 +12,7 @@ mod group;
 mod holding;
 mod house;
 mod judging;
+mod keeping;
 mod limiting;
 mod logins;
 mod names;

@@ -16,9 +16,13 @@ impl House {
         if self.follow_first(rt, group)? {
             self.follow_orders(rt, group)?;
         }
-        match self.groups.get(group) {
+        match self.groups.get_mut(group) {
             Some(group) if !group.is_settled() => {}
-            _ => return Ok(()),
+            Some(group) => {
+                group.keeping.forget_line();
+                return Ok(());
+            }
+            None => return Ok(()),
         }
         self.part_those_at_rest(rt, group)?;
         self.end_beginning(group)?;

@@ -3,6 +3,7 @@
 
 use crate::group::Group;
 use crate::house::{House, relay_of};
+use crate::keeping::is_held;
 use relay_logins::Groups;
 use relay_sockets::{Sockets, Whose};
 use std::alloc::AllocError;
@@ -44,10 +45,14 @@ impl House {
     /// parted from theirs.
     pub(crate) fn part_those_at_rest<R: Net>(&mut self, rt: &R, group: usize) -> io::Result<()> {
         for _ in 0..TRIED {
-            if !self.is_short(group) || !self.part_next(rt, group)? {
+            if !self.is_short(group) {
+                return Ok(());
+            }
+            if !self.part_next(rt, group)? {
                 break;
             }
         }
+        self.count_kept(group);
         Ok(())
     }
 
@@ -186,14 +191,6 @@ impl House {
             socket.rest = group.resting.add(key)?;
         }
         Ok(())
-    }
-}
-
-/// Whether an application holds the connection of this number.
-fn is_held(group: &mut Group, number: u64) -> bool {
-    match group.relay() {
-        Some(relay) => matches!(relay.place_on(number), Some(PlaceOn::Held(_))),
-        None => false,
     }
 }
 

@@ -4,7 +4,7 @@ use crate::socket::Socket;
 use crate::sockets::Sockets;
 use relay_logins::FEATURES;
 use std::alloc::AllocError;
-use tds_state::Watch;
+use tds_state::{Reason, Watch};
 
 impl Sockets {
     /// A connection's login was answered so: it is watched from now on.
@@ -35,6 +35,14 @@ impl Socket {
     pub fn rests(&self) -> Option<bool> {
         match &self.watch {
             Some(watch) => Some(watch.rests()),
+            None => None,
+        }
+    }
+
+    /// Why it doesn't rest. None where it does, or isn't watched.
+    pub fn why(&self) -> Option<Reason> {
+        match &self.watch {
+            Some(watch) => watch.why(),
             None => None,
         }
     }

@@ -1,6 +1,7 @@
 //! What the relay has done since it began.
 
 use crate::judged::Found;
+use crate::reasons::Kept;
 
 /// What the relays of groups have done.
 #[derive(Clone, Copy)]
@@ -53,6 +54,8 @@ pub struct Counts {
     pub left_out: u64,
     /// What a judge has found.
     pub found: Found,
+    /// Why connections were held while somebody waited.
+    pub kept: Kept,
     /// What groups that are gone had done.
     pub gone: Done,
 }
@@ -78,6 +81,7 @@ impl Counts {
             routed: 0,
             left_out: 0,
             found: Found::none(),
+            kept: Kept::none(),
             gone: NOTHING,
         }
     }

@@ -33,7 +33,7 @@ pub struct Figures {
 }
 
 /// A figure: what it is of, its name, and how many.
-type Figure = (&'static str, &'static str, u64);
+pub(crate) type Figure = (&'static str, &'static str, u64);
 
 impl Figures {
     pub fn new(seconds: u64, counts: Counts) -> Figures {
@@ -165,6 +165,9 @@ pub fn put_text_figures(body: &mut Vec<u8>, figures: &Figures) -> io::Result<()>
     for (of, name, count) in figures.counted().iter() {
         write!(body, "  {of} {name} {count}\n")?;
     }
+    for (of, name, count) in figures.counts.kept.figures().iter() {
+        write!(body, "  {of} {name} {count}\n")?;
+    }
     Ok(())
 }
 
@@ -179,6 +182,9 @@ pub fn put_json_figures(body: &mut Vec<u8>, figures: &Figures) -> io::Result<()>
         write!(body, ",\"{of}_{name}\":{count}")?;
     }
     for (of, name, count) in figures.counted().iter() {
+        write!(body, ",\"total_{of}_{name}\":{count}")?;
+    }
+    for (of, name, count) in figures.counts.kept.figures().iter() {
         write!(body, ",\"total_{of}_{name}\":{count}")?;
     }
     Ok(())
@@ -196,7 +202,12 @@ pub fn put_metrics(body: &mut Vec<u8>, figures: &Figures) -> io::Result<()> {
         write!(body, "# TYPE {full}_{of}_{name} gauge\n")?;
         write!(body, "{full}_{of}_{name} {count}\n")?;
     }
-    for (of, name, count) in figures.counted().iter() {
+    put_counters(body, &figures.counted())?;
+    put_counters(body, &figures.counts.kept.figures())
+}
+
+fn put_counters(body: &mut Vec<u8>, figures: &[Figure]) -> io::Result<()> {
+    for (of, name, count) in figures.iter() {
         let full = "tdsrelay";
         write!(body, "# TYPE {full}_{of}_{name}_total counter\n")?;
         write!(body, "{full}_{of}_{name}_total {count}\n")?;

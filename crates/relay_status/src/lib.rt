@@ -14,6 +14,7 @@ mod lines;
 mod objects;
 mod outbox;
 mod page;
+mod reasons;
 mod whom;
 
 pub use at::{At, Role};
@@ -26,4 +27,5 @@ pub use lines::{GroupLine, Names, SocketLine, put_group, put_server, put_socket}
 pub use objects::{put_json_group, put_json_socket};
 pub use outbox::Outbox;
 pub use page::{Asker, Door, FAR, NO_HTTP, PAGES, Page, STRANGE, UNMEANT, put_answer};
+pub use reasons::Kept;
 pub use whom::{NOBODY, Whom};

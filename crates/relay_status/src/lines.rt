@@ -1,8 +1,10 @@
 //! What is told of a server, a group and a socket, as lines for a reader.
 
 use crate::at::{At, Role};
+use crate::reasons::put_reason;
 use std::io::{self, Write};
 use std::net::SocketAddr;
+use tds_state::Reason;
 
 /// A group: applications whose logins are equal, or one that is alone.
 #[derive(Clone, Copy)]
@@ -48,6 +50,8 @@ pub struct SocketLine<'a> {
     pub server: usize,
     /// Whether a connection rests, where that is known.
     pub rests: Option<bool>,
+    /// Why it doesn't.
+    pub why: Option<Reason>,
 }
 
 /// A server's place and address, and whether it has failed lately.
@@ -132,8 +136,18 @@ pub fn put_socket(body: &mut Vec<u8>, socket: &SocketLine<'_>) -> io::Result<()>
 fn put_rest(body: &mut Vec<u8>, socket: &SocketLine<'_>) -> io::Result<()> {
     match (socket.rests, socket.partner) {
         (Some(true), Some(_)) => write!(body, " and rests"),
-        (Some(false), Some(_)) => write!(body, " and doesn't rest"),
+        (Some(false), Some(_)) => {
+            write!(body, " and doesn't rest")?;
+            put_why(body, socket)
+        }
         _ => Ok(()),
+    }
+}
+
+fn put_why(body: &mut Vec<u8>, socket: &SocketLine<'_>) -> io::Result<()> {
+    match socket.why {
+        Some(reason) => put_reason(body, reason),
+        None => Ok(()),
     }
 }
 

@@ -2,6 +2,7 @@
 
 use crate::at::Role;
 use crate::lines::{GroupLine, SocketLine};
+use crate::reasons::put_json_reason;
 use std::io::{self, Write};
 
 /// A socket's object.
@@ -39,8 +40,16 @@ fn put_process(body: &mut Vec<u8>, socket: &SocketLine<'_>) -> io::Result<()> {
         let (spid, server) = (socket.spid, socket.server);
         write!(body, ",\"spid\":{spid},\"server\":{server}")?;
     }
-    match socket.rests {
-        Some(rests) => write!(body, ",\"rests\":{rests}"),
+    put_rest(body, socket)
+}
+
+/// Whether it rests, and why it doesn't.
+fn put_rest(body: &mut Vec<u8>, socket: &SocketLine<'_>) -> io::Result<()> {
+    if let Some(rests) = socket.rests {
+        write!(body, ",\"rests\":{rests}")?;
+    }
+    match socket.why {
+        Some(reason) => put_json_reason(body, reason),
         None => Ok(()),
     }
 }

@@ -16,3 +16,5 @@ pub mod Counting
 pub mod Keeping
 pub mod Exchanged
 mod Saying
+pub mod Causes
+pub mod Firsts

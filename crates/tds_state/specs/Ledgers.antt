@@ -1,5 +1,5 @@
 -- Values by their numbers: those that a login began with, and of which of them the newest telling is another one.
-use Rattle.std.specs.Prelude.{ℕ, ◌+◌, ◌≡◌, ◌&&◌, not, Bool, true, false, List, ◌∷◌, ◌++◌, length, replicate, set, if◌then◌else◌}
+use Rattle.std.specs.Prelude.{ℕ, ◌+◌, ◌≡◌, ◌&&◌, not, Bool, true, false, List, [], ◌∷◌, ◌++◌, length, replicate, set, Option, Some, None, if◌then◌else◌}
 use Rattle.std.specs.Int.{w32, to_le_bytes}
 use Rattle.std.specs.List.{list_any}
 use Rattle.tds_state.specs.declared.values.Values.TheInside.{Inside}
@@ -60,6 +60,14 @@ all_back l = record l { astray = none_astray }
 abbrev pub back_if : Bool → Ledger → Ledger
 back_if true l = all_back l
 back_if false l = l
+
+-- the place of the first one that is set, counted from this one on
+unfoldable pub first_set : ℕ → List Bool → Option ℕ
+first_set n [] = None
+first_set n (is ∷ others) = if is then Some n else first_set (n + 1) others
+
+abbrev pub first_astray : Ledger → Option ℕ
+first_astray l = first_set 0 l.astray
 
 abbrev pub is_home : Ledger → Bool
 is_home l = not (list_any (λ (b : Bool). b) l.astray)

@@ -6,6 +6,7 @@ pub mod Handles
 pub mod Ledgers
 pub mod Hearing
 pub mod Sessions
+pub mod Reasons
 pub mod Tracking
 pub mod Pasts
 pub mod Exchanges

@@ -1,12 +1,14 @@
 //! A tracker of one connection.
 
 ghost use Rattle.std.specs.Prelude.{◌≡◌, ◌++◌, get_or, IfOk};
+ghost use Rattle.tds_state.specs.Reasons.{is_no_reason, session_reason};
 ghost use Rattle.tds_state.specs.Sessions.{session_asked, session_cancelled, session_ended, session_rests, session_sent};
 ghost use Rattle.tds_state.specs.Tracking.{is_needed, needed, new_tracker, tracks, with_bytes};
 
 use crate::NoMemory;
 use crate::asked::Request;
 use crate::kept::{Kept, first_of};
+use crate::reasons::Reason;
 use crate::session::Session;
 use std::alloc::Global;
 use tds_packet::Reset;
@@ -122,5 +124,13 @@ impl Tracker {
         ensures { result ≡ session_rests self.now.session }
     {
         self.session.rests()
+    }
+
+    /// Why it doesn't rest; None where it does.
+    pub fn why(&self) -> Option<Reason>
+        ensures reason { result ≡ session_reason self.now.session }
+        ensures rests { session_rests self.now.session ≡ is_no_reason result }
+    {
+        self.session.why()
     }
 }

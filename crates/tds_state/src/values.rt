@@ -2,7 +2,7 @@
 
 ghost use Rattle.std.specs.Prelude.{◌≡◌, ◌≤◌, ◌&&◌, not, Bool, true, IfOk, length};
 ghost use Rattle.std.specs.List.{list_any};
-ghost use Rattle.tds_state.specs.Ledgers.{back_if, begun_if, is_home, may_add, may_begin, no_values, value_noted, value_taken_in};
+ghost use Rattle.tds_state.specs.Ledgers.{back_if, begun_if, first_astray, first_set, is_home, may_add, may_begin, no_values, value_noted, value_taken_in};
 ghost use Rattle.tds_state.specs.States.{states_listed};
 
 use crate::NoMemory;
@@ -54,6 +54,20 @@ fn has_any(flags: &[bool]) -> bool
         rest = behind;
     }
     false
+}
+
+/// The place of the first one of these that is set.
+fn first_set(flags: &[bool]) -> Option<usize>
+    ensures { result ≡ first_set 0 flags.now }
+{
+    let mut at = 0;
+    'flags: while at < flags.len() {
+        if flags[at] {
+            return Some(at);
+        }
+        at += 1;
+    }
+    None
 }
 
 impl Values {
@@ -137,5 +151,12 @@ impl Values {
             return true;
         }
         !has_any(&self.astray)
+    }
+
+    /// The lowest number that was told and hasn't.
+    pub(crate) fn first_astray(&self) -> Option<usize>
+        ensures { result ≡ first_astray self.now }
+    {
+        first_set(&self.astray)
     }
 }

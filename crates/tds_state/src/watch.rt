@@ -2,6 +2,7 @@
 
 ghost use Rattle.std.specs.Prelude.{◌≡◌, ◌≤◌, ◌&&◌, ◌||◌, not, get_or, IfOk, length, true};
 ghost use Rattle.tds_state.specs.Pasts.{HasPast};
+ghost use Rattle.tds_state.specs.Reasons.{is_no_reason, reason_watched};
 ghost use Rattle.tds_state.specs.Sessions.{session_rests};
 ghost use Rattle.tds_state.specs.Watching.{watch_lost, watch_settled};
 
@@ -10,6 +11,7 @@ use crate::asked::Request;
 use crate::kept::{behind, first_of};
 use crate::packets::{Brought, Head, Packets};
 use crate::prefix::Prefix;
+use crate::reasons::Reason;
 use crate::session::is_quiet;
 use crate::tracker::Tracker;
 use std::alloc::Global;
@@ -132,6 +134,19 @@ impl Watch {
         ensures { result ≡ get_or self.now.tracker.session.handles.places 0 0 }
     {
         self.tracker.session.handles.places[0]
+    }
+
+    /// Why it doesn't rest; None where it does.
+    pub fn why(&self) -> Option<Reason>
+        ensures reason { result ≡ reason_watched self.now.is_lost self.now.tracker.session }
+        ensures rests { (not self.now.is_lost && session_rests self.now.tracker.session)
+            ≡ is_no_reason result }
+    {
+        if self.is_lost {
+            Some(Reason::Unread)
+        } else {
+            self.tracker.why()
+        }
     }
 
     /// Where something can't be read, nothing is read any more.

@@ -115,6 +115,7 @@ impl Program {
             spid: socket.spid,
             server: server_of(socket.server),
             rests: socket.rests(),
+            why: socket.why(),
         }
     }
 

@@ -2,7 +2,7 @@
 
 use std::alloc::{AllocError, Global};
 use tds_packet::Reset;
-use tds_state::{Request, Tracker, Watch};
+use tds_state::{Reason, Request, Tracker, Watch};
 use tds_wire::{Features, Walker};
 
 /// A step that can't be read, or whose bytes are no answer.
@@ -36,6 +36,15 @@ impl Follower {
             self.watch.rests()
         } else {
             self.tracker.rests()
+        }
+    }
+
+    /// Why it doesn't rest.
+    pub(crate) fn why(&self) -> Option<Reason> {
+        if self.is_watched {
+            self.watch.why()
+        } else {
+            self.tracker.why()
         }
     }
 

@@ -4,9 +4,10 @@
 
 mod follower;
 
-use follower::{Follower, StepFault};
+use follower::Follower;
 use std::process::ExitCode;
 use std::{fs, io};
+use tds_state::Reason;
 
 /// How many bytes a piece has.
 const SIZES: [usize; 4] = [1, 3, 7, 4096];
@@ -43,6 +44,24 @@ fn step_of<'a>(line: &'a str, greeting: &'a str) -> Option<&'a str> {
     Some(if line == "greeted" { greeting } else { line })
 }
 
+/// Whether this is the word for why a connection doesn't rest.
+fn is_said(rt: &HostRuntime, reason: Option<Reason>, word: &str) -> io::Result<bool> {
+    match reason {
+        Some(reason) => Ok(format!(in rt.alloc(); "{reason:?}")?.as_str() == word),
+        None => Ok(false),
+    }
+}
+
+/// Does a step, or asks. Whether it can be done, or the answer is the one that is written.
+fn is_as_written(rt: &HostRuntime, follower: &mut Follower, line: &str, size: usize) -> io::Result<bool> {
+    match (line, line.strip_prefix("because ")) {
+        ("rests", _) => Ok(follower.rests()),
+        ("holds", _) => Ok(!follower.rests()),
+        (_, Some(word)) => is_said(rt, follower.why(), word),
+        (step, None) => Ok(follower.step(rt.alloc(), step, size)?.is_ok()),
+    }
+}
+
 /// Follows all cases in pieces of this size, and prints how many there are and how often they ask whether the
 /// connection rests. Whether each answer is the one that is written.
 fn follow(rt: &HostRuntime, text: &str, size: usize) -> io::Result<bool> {
@@ -63,19 +82,10 @@ fn follow(rt: &HostRuntime, text: &str, size: usize) -> io::Result<bool> {
         let Some(line) = step_of(line, greeting) else {
             continue;
         };
-        let wanted = match line {
-            "rests" => true,
-            "holds" => false,
-            step => {
-                if let Err(StepFault) = follower.step(rt.alloc(), step, size)? {
-                    eprintln!(rt; "{name}: {step}")?;
-                    is_well = false;
-                }
-                continue;
-            }
-        };
-        questions = questions.saturating_add(1);
-        if follower.rests() != wanted {
+        if let "rests" | "holds" = line {
+            questions = questions.saturating_add(1);
+        }
+        if !is_as_written(rt, &mut follower, line, size)? {
             eprintln!(rt; "{name}, in pieces of {size}, question {questions}: not {line}")?;
             is_well = false;
         }
