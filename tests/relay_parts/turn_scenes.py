@@ -75,26 +75,40 @@ async def on_the_wire(cases, server, relay, one, two):
     cases.same("each turn is counted", (found["groups"][0]["partings"], found["total_done_partings"]), (2, 2))
 
 
+def counted(relay):
+    """For what connections were held as somebody came to wait, and how many."""
+    return {name: count for name, count in relay.json().items() if "waits_behind" in name and count}
+
+
 @scene(count=4)
 async def counts_who_comes_to_wait(cases, server, relay, one, two, three, four):
     """Each that comes to wait while a setting keeps the connection is counted, and who comes to wait while one rests isn't."""
-    def counted():
-        return {name: count for name, count in relay.json().items() if "waits_behind" in name and count}
-
     await one.ask("get a")
     await two.ask("set a 1")
-    cases.same("none where it rests", counted(), {})
+    cases.same("none where it rests", counted(relay), {})
     late = []
     for it in (one, three, four):
         late.append(asyncio.ensure_future(it.ask(EVERYTHING)))
         await waits(relay, len(late))
         await asyncio.sleep(APART)
-    cases.same("each is counted", counted(), {"total_waits_behind_state": 3})
+    cases.same("each is counted", counted(relay), {"total_waits_behind_state": 3})
     await two.ask("get a")
-    cases.same("nobody comes meanwhile", counted(), {"total_waits_behind_state": 3})
+    cases.same("nobody comes meanwhile", counted(relay), {"total_waits_behind_state": 3})
     await two.ask("set a 0")
     await served(*late)
-    cases.same("nor while they are served", counted(), {"total_waits_behind_state": 3})
+    cases.same("nor while they are served", counted(relay), {"total_waits_behind_state": 3})
+
+
+@scene(most=2, count=3)
+async def counts_each_connection(cases, server, relay, one, two, three):
+    """Whoever comes to wait does so for either connection."""
+    await one.ask("set a 1")
+    await two.ask("begin")
+    late = asyncio.ensure_future(three.ask(EVERYTHING))
+    await waits(relay)
+    cases.same("each is counted", counted(relay), {"total_waits_behind_state": 1, "total_waits_behind_transaction": 1})
+    await two.ask("commit")
+    await served(late)
 
 
 @scene(most=2)

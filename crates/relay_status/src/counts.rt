@@ -54,7 +54,7 @@ pub struct Counts {
     pub left_out: u64,
     /// What a judge has found.
     pub found: Found,
-    /// Why connections were held while somebody waited.
+    /// Why connections were held as somebody came to wait.
     pub kept: Kept,
     /// What groups that are gone had done.
     pub gone: Done,

@@ -1,11 +1,11 @@
-//! Why a connection that is held doesn't rest: in a word, in words, and how often somebody came to wait meanwhile.
+//! Why a connection that is held doesn't rest: in a word, in words, and how many were held for it as somebody came to wait.
 
 use crate::counts::raise;
 use crate::figures::Figure;
 use std::io::{self, Write};
 use tds_state::Reason;
 
-/// For each reason, how often somebody came to wait where a connection was held for it.
+/// For each reason, how many connections were held for it as somebody came to wait.
 #[derive(Clone, Copy)]
 pub struct Kept {
     recovery: u64,
@@ -40,7 +40,7 @@ impl Kept {
         }
     }
 
-    /// Once more for this.
+    /// One more was held for this.
     pub fn add(&mut self, reason: Reason) {
         raise(match reason {
             Reason::NoRecovery => &mut self.recovery,
