@@ -8,46 +8,46 @@ use Rattle.std.proofs.lemmas.List.{length-take, length-take-le, length-drop, tak
 use Rattle.tds_packet.specs.declared.passing.Passed.TheVariants.{Part, Begins, Data, Wrong}
 use Rattle.tds_packet.specs.Faults.{length_field}
 use Rattle.tds_packet.specs.declared.passing.HeaderReader.TheInside.{Inside}
-use Rattle.tds_packet.specs.Passing.{Passing, next_run, behind, brought, head_of}
+use Rattle.tds_packet.specs.Passing.{PacketPlace, next_run, behind_run, run_brings, head_in}
 use Rattle.tds_packet.specs.Passages.{passing_of}
 
 -- within data
-pub next_run-data : (p : Passing) → 0 < p.due → next_run p ≡ p.due
+pub next_run-data : (p : PacketPlace) → 0 < p.due → next_run p ≡ p.due
 unfolding next_run
 next_run-data p h = grind (arith, nat_tests)
 
-pub behind-data : (p : Passing) (bytes : List ℕ) → 0 < p.due → behind p bytes ≡ record { came = []; due = p.due - length bytes }
-unfolding behind
-behind-data p bytes h = grind (arith, nat_tests)
+pub behind_run-data : (p : PacketPlace) (bytes : List ℕ) → 0 < p.due → behind_run p bytes ≡ record { came = []; due = p.due - length bytes }
+unfolding behind_run
+behind_run-data p bytes h = grind (arith, nat_tests)
 
-pub brought-data : (p : Passing) (bytes : List ℕ) → 0 < p.due → brought p bytes ≡ Data (nat_eq (p.due - length bytes) 0)
-unfolding brought
-brought-data p bytes h = grind (arith, nat_tests)
+pub run_brings-data : (p : PacketPlace) (bytes : List ℕ) → 0 < p.due → run_brings p bytes ≡ Data (nat_eq (p.due - length bytes) 0)
+unfolding run_brings
+run_brings-data p bytes h = grind (arith, nat_tests)
 
 -- within a header
-pub next_run-header : (p : Passing) → p.due ≡ 0 → next_run p ≡ 8 - length p.came
+pub next_run-header : (p : PacketPlace) → p.due ≡ 0 → next_run p ≡ 8 - length p.came
 unfolding next_run
 next_run-header p h = grind (arith, nat_tests)
 
-pub behind-part : (p : Passing) (bytes : List ℕ) → p.due ≡ 0 → length p.came + length bytes < 8 → behind p bytes ≡ record { came = p.came ++ bytes; due = 0 }
-unfolding behind
-behind-part p bytes h short = grind (arith, nat_tests)
+pub behind_run-part : (p : PacketPlace) (bytes : List ℕ) → p.due ≡ 0 → length p.came + length bytes < 8 → behind_run p bytes ≡ record { came = p.came ++ bytes; due = 0 }
+unfolding behind_run
+behind_run-part p bytes h short = grind (arith, nat_tests)
 
-pub brought-part : (p : Passing) (bytes : List ℕ) → p.due ≡ 0 → length p.came + length bytes < 8 → brought p bytes ≡ Part
-unfolding brought
-brought-part p bytes h short = grind (arith, nat_tests)
+pub run_brings-part : (p : PacketPlace) (bytes : List ℕ) → p.due ≡ 0 → length p.came + length bytes < 8 → run_brings p bytes ≡ Part
+unfolding run_brings
+run_brings-part p bytes h short = grind (arith, nat_tests)
 
-pub behind-whole : (p : Passing) (bytes : List ℕ) → p.due ≡ 0 → 8 ≤ length p.came + length bytes → behind p bytes ≡ record { came = []; due = length_field (p.came ++ bytes) - 8 }
-unfolding behind
-behind-whole p bytes h long = grind (arith, nat_tests)
+pub behind_run-whole : (p : PacketPlace) (bytes : List ℕ) → p.due ≡ 0 → 8 ≤ length p.came + length bytes → behind_run p bytes ≡ record { came = []; due = length_field (p.came ++ bytes) - 8 }
+unfolding behind_run
+behind_run-whole p bytes h long = grind (arith, nat_tests)
 
-pub brought-wrong : (p : Passing) (bytes : List ℕ) → p.due ≡ 0 → 8 ≤ length p.came + length bytes → length_field (p.came ++ bytes) < 8 → brought p bytes ≡ Wrong
-unfolding brought
-brought-wrong p bytes h long short = grind (arith, nat_tests)
+pub run_brings-wrong : (p : PacketPlace) (bytes : List ℕ) → p.due ≡ 0 → 8 ≤ length p.came + length bytes → length_field (p.came ++ bytes) < 8 → run_brings p bytes ≡ Wrong
+unfolding run_brings
+run_brings-wrong p bytes h long short = grind (arith, nat_tests)
 
-pub brought-whole : (p : Passing) (bytes : List ℕ) → p.due ≡ 0 → 8 ≤ length p.came + length bytes → 8 ≤ length_field (p.came ++ bytes) → brought p bytes ≡ Begins (head_of (p.came ++ bytes))
-unfolding brought
-brought-whole p bytes h long lawful = grind (arith, nat_tests)
+pub run_brings-whole : (p : PacketPlace) (bytes : List ℕ) → p.due ≡ 0 → 8 ≤ length p.came + length bytes → 8 ≤ length_field (p.came ++ bytes) → run_brings p bytes ≡ Begins (head_in (p.came ++ bytes))
+unfolding run_brings
+run_brings-whole p bytes h long lawful = grind (arith, nat_tests)
 
 -- how many bytes are taken, by the fields
 pub data_count : (a : Inside) (n : ℕ) (piece : List ℕ) → 0 < a.due → n ≡ min a.due (length piece) → n ≡ min (next_run (passing_of a)) (length piece)
@@ -58,14 +58,14 @@ left_due : (a : Inside) (n : ℕ) (piece : List ℕ) → n ≡ min a.due (length
 left_due a n piece e = rw (e, length-take a.due piece) refl
 
 pub data_place : (a : Inside) (n : ℕ) (piece : List ℕ) → 0 < a.due → a.came ≡ 0 → n ≡ min a.due (length piece)
-    → passing_of (record { bytes = a.bytes; came = a.came; due = a.due - n }) ≡ behind (passing_of a) (take (next_run (passing_of a)) piece)
+    → passing_of (record { bytes = a.bytes; came = a.came; due = a.due - n }) ≡ behind_run (passing_of a) (take (next_run (passing_of a)) piece)
 data_place a n piece h none e =
-    rw (next_run-data (passing_of a) h, behind-data (passing_of a) (take a.due piece) h, none, left_due a n piece e) refl
+    rw (next_run-data (passing_of a) h, behind_run-data (passing_of a) (take a.due piece) h, none, left_due a n piece e) refl
 
 pub data_says : (a : Inside) (n : ℕ) (piece : List ℕ) → 0 < a.due → n ≡ min a.due (length piece)
-    → Data (nat_eq (a.due - n) 0) ≡ brought (passing_of a) (take (next_run (passing_of a)) piece)
+    → Data (nat_eq (a.due - n) 0) ≡ run_brings (passing_of a) (take (next_run (passing_of a)) piece)
 data_says a n piece h e =
-    rw (next_run-data (passing_of a) h, brought-data (passing_of a) (take a.due piece) h, left_due a n piece e) refl
+    rw (next_run-data (passing_of a) h, run_brings-data (passing_of a) (take a.due piece) h, left_due a n piece e) refl
 
 -- the same within a header: so many bytes are put behind those that came
 pub header_count : (a : Inside) (n : ℕ) (piece : List ℕ) → a.due ≡ 0 → a.came ≤ length a.bytes → n ≡ min (8 - a.came) (length piece) → n ≡ min (next_run (passing_of a)) (length piece)
@@ -121,14 +121,14 @@ long_of a n piece bytes j =
     rw (l, m) (grind (arith))
 
 pub part_place : (a : Inside) (n : ℕ) (piece bytes : List ℕ) → Joins a n piece bytes → a.came + n < 8
-    → passing_of (record { bytes = bytes; came = a.came + n; due = a.due }) ≡ behind (passing_of a) (take (next_run (passing_of a)) piece)
+    → passing_of (record { bytes = bytes; came = a.came + n; due = a.due }) ≡ behind_run (passing_of a) (take (next_run (passing_of a)) piece)
 part_place a n piece bytes j short =
-    rw (run_of a n piece bytes j) rw (behind-part (passing_of a) (take n piece) j.none (rw (long_of a n piece bytes j) short)) rw (j.put, j.none) refl
+    rw (run_of a n piece bytes j) rw (behind_run-part (passing_of a) (take n piece) j.none (rw (long_of a n piece bytes j) short)) rw (j.put, j.none) refl
 
 pub part_says : (a : Inside) (n : ℕ) (piece bytes : List ℕ) → Joins a n piece bytes → a.came + n < 8
-    → Part ≡ brought (passing_of a) (take (next_run (passing_of a)) piece)
+    → Part ≡ run_brings (passing_of a) (take (next_run (passing_of a)) piece)
 part_says a n piece bytes j short =
-    rw (run_of a n piece bytes j) (sym (brought-part (passing_of a) (take n piece) j.none (rw (long_of a n piece bytes j) short)))
+    rw (run_of a n piece bytes j) (sym (run_brings-part (passing_of a) (take n piece) j.none (rw (long_of a n piece bytes j) short)))
 
 -- once it is whole
 whole_of : (a : Inside) (n : ℕ) (piece bytes : List ℕ) → Joins a n piece bytes → 8 ≤ a.came + n → take a.came a.bytes ++ take n piece ≡ bytes
@@ -136,16 +136,16 @@ whole_of a n piece bytes j long = sym j.put ∙ take_all (a.came + n) bytes (ome
 
 pub whole_place : (a : Inside) (n : ℕ) (piece bytes : List ℕ) → Joins a n piece bytes → 8 ≤ a.came + n
     → (due : ℕ) → due ≡ length_field bytes - 8
-    → passing_of (record { bytes = bytes; came = 0; due = due }) ≡ behind (passing_of a) (take (next_run (passing_of a)) piece)
+    → passing_of (record { bytes = bytes; came = 0; due = due }) ≡ behind_run (passing_of a) (take (next_run (passing_of a)) piece)
 whole_place a n piece bytes j long due e =
-    rw (run_of a n piece bytes j) rw (behind-whole (passing_of a) (take n piece) j.none (rw (long_of a n piece bytes j) long)) rw (whole_of a n piece bytes j long, e) refl
+    rw (run_of a n piece bytes j) rw (behind_run-whole (passing_of a) (take n piece) j.none (rw (long_of a n piece bytes j) long)) rw (whole_of a n piece bytes j long, e) refl
 
 pub wrong_says : (a : Inside) (n : ℕ) (piece bytes : List ℕ) → Joins a n piece bytes → 8 ≤ a.came + n → length_field bytes < 8
-    → Wrong ≡ brought (passing_of a) (take (next_run (passing_of a)) piece)
+    → Wrong ≡ run_brings (passing_of a) (take (next_run (passing_of a)) piece)
 wrong_says a n piece bytes j long short =
-    rw (run_of a n piece bytes j) (sym (brought-wrong (passing_of a) (take n piece) j.none (rw (long_of a n piece bytes j) long) (rw (whole_of a n piece bytes j long) short)))
+    rw (run_of a n piece bytes j) (sym (run_brings-wrong (passing_of a) (take n piece) j.none (rw (long_of a n piece bytes j) long) (rw (whole_of a n piece bytes j long) short)))
 
 pub whole_says : (a : Inside) (n : ℕ) (piece bytes : List ℕ) → Joins a n piece bytes → 8 ≤ a.came + n → 8 ≤ length_field bytes
-    → Begins (head_of bytes) ≡ brought (passing_of a) (take (next_run (passing_of a)) piece)
+    → Begins (head_in bytes) ≡ run_brings (passing_of a) (take (next_run (passing_of a)) piece)
 whole_says a n piece bytes j long lawful =
-    rw (run_of a n piece bytes j) rw (brought-whole (passing_of a) (take n piece) j.none (rw (long_of a n piece bytes j) long) (rw (whole_of a n piece bytes j long) lawful)) rw (whole_of a n piece bytes j long) refl
+    rw (run_of a n piece bytes j) rw (run_brings-whole (passing_of a) (take n piece) j.none (rw (long_of a n piece bytes j) long) (rw (whole_of a n piece bytes j long) lawful)) rw (whole_of a n piece bytes j long) refl

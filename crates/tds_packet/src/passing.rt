@@ -1,7 +1,7 @@
 //! Packets that only pass (MS-TDS 2.2.3.1): where each begins and ends, by its header's length, in any cutting.
 
 ghost use Rattle.std.specs.Prelude.{◌≡◌, ◌<◌, [], min, length, take};
-ghost use Rattle.tds_packet.specs.Passing.{next_run, behind, brought};
+ghost use Rattle.tds_packet.specs.Passing.{next_run, behind_run, run_brings, is_apart};
 
 use std::marker::Model;
 
@@ -30,7 +30,7 @@ pub enum Passed {
 }
 
 /// Reads headers alone, of any types, and counts the data behind each. It takes no memory.
-#[derive(Debug)]
+#[derive(Debug, Drop)]
 pub struct HeaderReader {
     /// The header that comes.
     bytes: [u8; 8],
@@ -41,9 +41,9 @@ pub struct HeaderReader {
 }
 
 impl Model for HeaderReader {
-    ghost use Rattle.tds_packet.specs.Passing.{Passing};
+    ghost use Rattle.tds_packet.specs.Passing.{PacketPlace};
 
-    ghost Value = { Passing };
+    ghost Value = { PacketPlace };
 
     ghost use Rattle.tds_packet.specs.Passages.{passing_of, IsHeaderReader};
 
@@ -64,12 +64,26 @@ impl HeaderReader {
         }
     }
 
+    /// Whether a packet has ended, or none has begun.
+    pub fn is_between(&self) -> bool
+        ensures { result ≡ is_apart self.now }
+    {
+        self.came == 0 && self.due == 0
+    }
+
+    /// How many bytes of data are due behind the last header: none while a header comes.
+    pub fn due(&self) -> u16
+        ensures { result ≡ self.now.due }
+    {
+        self.due
+    }
+
     /// Takes the rest of a header, or of a packet's data, as far as it has come. How many bytes, and what they
     /// bring. Behind a wrong header it goes on as behind a packet without data.
     pub fn take(&mut self, piece: &[u8]) -> (usize, Passed)
         ensures count { result.0 ≡ min (next_run self.old) (length piece.now) }
-        ensures place { self.new ≡ behind self.old (take (next_run self.old) piece.now) }
-        ensures says { result.1 ≡ brought self.old (take (next_run self.old) piece.now) }
+        ensures place { self.new ≡ behind_run self.old (take (next_run self.old) piece.now) }
+        ensures says { result.1 ≡ run_brings self.old (take (next_run self.old) piece.now) }
     {
         if self.due > 0 {
             self.take_data(piece)
@@ -82,8 +96,8 @@ impl HeaderReader {
     fn take_data(&mut self, piece: &[u8]) -> (usize, Passed)
         requires { 0 < self.old.due }
         ensures count { result.0 ≡ min (next_run self.old) (length piece.now) }
-        ensures place { self.new ≡ behind self.old (take (next_run self.old) piece.now) }
-        ensures says { result.1 ≡ brought self.old (take (next_run self.old) piece.now) }
+        ensures place { self.new ≡ behind_run self.old (take (next_run self.old) piece.now) }
+        ensures says { result.1 ≡ run_brings self.old (take (next_run self.old) piece.now) }
     {
         let count = usize::from(self.due).min(piece.len());
         self.due -= count as u16;
@@ -99,8 +113,8 @@ impl HeaderReader {
     fn take_header(&mut self, piece: &[u8]) -> (usize, Passed)
         requires { self.old.due ≡ 0 }
         ensures count { result.0 ≡ min (next_run self.old) (length piece.now) }
-        ensures place { self.new ≡ behind self.old (take (next_run self.old) piece.now) }
-        ensures says { result.1 ≡ brought self.old (take (next_run self.old) piece.now) }
+        ensures place { self.new ≡ behind_run self.old (take (next_run self.old) piece.now) }
+        ensures says { result.1 ≡ run_brings self.old (take (next_run self.old) piece.now) }
     {
         let start = usize::from(self.came);
         let count = (8 - start).min(piece.len());
