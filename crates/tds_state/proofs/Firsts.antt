@@ -1,5 +1,5 @@
 -- The first place that is set.
-use Rattle.std.proofs.Common.{◌≡◌, ◌∙◌, ◌≤◌, ◌<◌, ℕ, ◌+◌, Bool, true, false, cond, List, length, drop, get_or, Option, Some, None, ap}
+use Rattle.std.proofs.Common.{◌≡◌, ◌∙◌, ◌≤◌, ◌<◌, ℕ, ◌+◌, Bool, true, false, cond, List, length, drop, get_or, Some, None, ap}
 use Rattle.std.proofs.lemmas.List.{drop_all, drop_more}
 use Rattle.tds_state.specs.Ledgers.{first_set}
 
