@@ -1,10 +1,11 @@
 //! An application's login, as it comes.
 
 use crate::notice::{put_refusal, words_of};
-use proxy_header::{HeaderReader, Taken};
+use proxy_header::{HeaderReader as ProxyReader, Taken};
 use std::alloc::{AllocError, Global};
 use std::net::SocketAddr;
 use tds_login::{Login, LoginAnswer, put_answer};
+use tds_packet::{HeaderReader, Passed as Brought};
 
 /// The most bytes of LOGIN7 (MS-TDS 2.2.6.4).
 const MOST: usize = 131_071;
@@ -24,14 +25,11 @@ pub enum Passed {
 pub struct Gate {
     alloc: Global,
     /// The header of the PROXY protocol, while it is due; and whom it named.
-    header: Option<HeaderReader>,
+    header: Option<ProxyReader>,
     pub source: Option<SocketAddr>,
     login: Login,
-    /// Which byte of a packet's header is due, 8 in its data.
-    place: u8,
-    high: u8,
-    /// How many bytes of data are due.
-    left: u16,
+    /// Where in its packets the login is.
+    packets: HeaderReader,
     message: Vec<u8>,
 }
 
@@ -43,9 +41,7 @@ impl Gate {
             header: header_of(alloc, is_proxy),
             source: None,
             login: Login::new(),
-            place: 0,
-            high: 0,
-            left: 0,
+            packets: HeaderReader::new(),
             message: Vec::new(alloc),
         }
     }
@@ -114,35 +110,33 @@ impl Gate {
 
     /// Keeps the data of packets.
     fn gather(&mut self, bytes: &[u8]) -> Result<(), AllocError> {
-        for byte in bytes {
-            match self.place {
-                2 => {
-                    self.high = *byte;
-                    self.place = 3;
-                }
-                3 => {
-                    self.left = (256 * u16::from(self.high) + u16::from(*byte)).saturating_sub(8);
-                    self.place = 4;
-                }
-                7 => self.place = if self.left > 0 { 8 } else { 0 },
-                8 => {
-                    if self.message.len() <= MOST {
-                        self.message.extend_from_slice(&[*byte])?;
-                    }
-                    self.left = self.left.saturating_sub(1);
-                    self.place = if self.left > 0 { 8 } else { 0 };
-                }
-                place => self.place = place.saturating_add(1),
+        let mut rest = bytes;
+        for _ in 0..bytes.len() {
+            if rest.is_empty() {
+                break;
             }
+            let (count, brought) = self.packets.take(rest);
+            let (taken, others) = rest.split_at(count);
+            if matches!(brought, Brought::Data { .. }) {
+                self.keep(taken)?;
+            }
+            rest = others;
         }
         Ok(())
+    }
+
+    /// Keeps data, and one byte more than a login may have.
+    fn keep(&mut self, data: &[u8]) -> Result<(), AllocError> {
+        let room = (MOST + 1).saturating_sub(self.message.len());
+        self.message
+            .extend_from_slice(&data[..room.min(data.len())])
     }
 }
 
 /// A header that is due of a proxy.
-fn header_of(alloc: Global, is_proxy: bool) -> Option<HeaderReader> {
+fn header_of(alloc: Global, is_proxy: bool) -> Option<ProxyReader> {
     if is_proxy {
-        Some(HeaderReader::new(alloc))
+        Some(ProxyReader::new(alloc))
     } else {
         None
     }

@@ -1,12 +1,14 @@
 //! A leg of a login by more than LOGIN7: a message of an application that goes on to the server as it comes.
 
+use tds_packet::{HeaderReader, Passed};
+
 /// The types of packets that it may have: SSPI (MS-TDS 2.2.6.8), and a federated login's token (2.2.6.3).
 const SSPI: u8 = 0x11;
 
 const FEDERATED: u8 = 0x08;
 
 /// The most bytes of a leg.
-const MOST: u32 = 131_072;
+const MOST: usize = 131_072;
 
 /// What came of bytes.
 #[derive(Clone, Copy)]
@@ -20,27 +22,25 @@ pub enum Taken {
 }
 
 /// A leg, as far as it has come.
-#[derive(Clone, Copy)]
+#[derive(Drop)]
 pub struct Leg {
-    /// Which byte of a packet's header is due, 8 in its data.
-    place: u8,
+    /// Where in its packets it is, and whether that is between two.
+    packets: HeaderReader,
+    is_between: bool,
+    /// The type of its first packet, and whether the newest one ends it.
     kind: u8,
     ends: bool,
-    high: u8,
-    /// How many bytes of data are due.
-    left: u16,
-    count: u32,
+    count: usize,
     is_whole: bool,
 }
 
 impl Leg {
     pub fn new() -> Leg {
         Leg {
-            place: 0,
+            packets: HeaderReader::new(),
+            is_between: true,
             kind: 0,
             ends: false,
-            high: 0,
-            left: 0,
             count: 0,
             is_whole: false,
         }
@@ -48,11 +48,20 @@ impl Leg {
 
     /// Takes bytes.
     pub fn take(&mut self, piece: &[u8]) -> Taken {
-        for byte in piece {
-            if self.is_whole || self.count >= MOST || !self.step(*byte) {
+        let mut rest = piece;
+        for _ in 0..piece.len() {
+            let Some(first) = rest.first() else {
+                break;
+            };
+            if self.is_whole || !self.is_of_leg(*first) {
                 return Taken::Wrong;
             }
-            self.count = self.count.saturating_add(1);
+            let (count, passed) = self.packets.take(rest);
+            self.count = self.count.saturating_add(count);
+            if self.count > MOST || !self.passes(passed) {
+                return Taken::Wrong;
+            }
+            rest = &rest[count..];
         }
         if self.is_whole {
             Taken::Whole
@@ -61,56 +70,41 @@ impl Leg {
         }
     }
 
-    /// Takes a byte. False where it stands in no packet of a leg.
-    fn step(&mut self, byte: u8) -> bool {
-        match self.place {
-            0 => {
-                let is_first = self.count == 0;
-                if is_first {
-                    self.kind = byte;
-                }
-                self.place = 1;
-                byte == self.kind && (byte == SSPI || byte == FEDERATED)
-            }
-            1 => {
-                self.ends = byte & 1 == 1;
-                self.place = 2;
+    /// Whether this byte may stand here: a packet's type is looked at before its header is whole, so that
+    /// nothing of another type goes on.
+    fn is_of_leg(&mut self, byte: u8) -> bool {
+        if !self.is_between {
+            return true;
+        }
+        if self.count == 0 {
+            self.kind = byte;
+        }
+        byte == self.kind && (byte == SSPI || byte == FEDERATED)
+    }
+
+    /// Goes on behind what bytes brought. False where that is no packet.
+    fn passes(&mut self, passed: Passed) -> bool {
+        match passed {
+            Passed::Part => {
+                self.is_between = false;
                 true
             }
-            2 => {
-                self.high = byte;
-                self.place = 3;
+            Passed::Begins(head) => {
+                self.ends = head.status & 1 == 1;
+                self.go_on(head.length == 8);
                 true
             }
-            3 => {
-                let length = 256 * u16::from(self.high) + u16::from(byte);
-                self.left = length.saturating_sub(8);
-                self.place = 4;
-                length >= 8
-            }
-            4 | 5 | 6 => {
-                self.place = self.place.saturating_add(1);
+            Passed::Data { ends } => {
+                self.go_on(ends);
                 true
             }
-            7 => {
-                self.end_if_done();
-                true
-            }
-            _ => {
-                self.left = self.left.saturating_sub(1);
-                self.end_if_done();
-                true
-            }
+            Passed::Wrong => false,
         }
     }
 
     /// Goes on to the packet's data, or to the next packet, or ends.
-    fn end_if_done(&mut self) {
-        if self.left > 0 {
-            self.place = 8;
-        } else {
-            self.place = 0;
-            self.is_whole = self.ends;
-        }
+    fn go_on(&mut self, packet_ends: bool) {
+        self.is_between = packet_ends;
+        self.is_whole = packet_ends && self.ends;
     }
 }

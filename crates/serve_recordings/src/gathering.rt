@@ -1,11 +1,11 @@
 //! The requests and answers of one connection, from the bytes that went both ways in their order.
 
-use crate::packets::{Front, Packet, front_of};
+use crate::packets::{Front, Packets};
 use crate::recording::{Exchange, Recorded, Recording, body_of};
 use serve_requests::MessageKind;
 use std::alloc::{AllocError, Global};
 use std::mem;
-use tds_packet::Reset;
+use tds_packet::{Head, Reset};
 
 /// The type of LOGIN7's packets (MS-TDS 2.2.3.1.1).
 const LOGIN: u8 = 0x10;
@@ -37,9 +37,9 @@ pub(crate) struct Gathering {
     /// The place of its first request.
     first: usize,
     login: Option<Vec<u8>>,
-    /// What came each way and is no whole packet yet.
-    to_server: Vec<u8>,
-    to_client: Vec<u8>,
+    /// What comes each way.
+    to_server: Packets,
+    to_client: Packets,
     /// The first packet's type and status, and the data, of the message that goes to the server.
     message: Option<(u8, u8)>,
     data: Vec<u8>,
@@ -57,8 +57,8 @@ impl Gathering {
             alloc,
             first: recording.exchanges.len(),
             login: None,
-            to_server: Vec::new(alloc),
-            to_client: Vec::new(alloc),
+            to_server: Packets::new(alloc),
+            to_client: Packets::new(alloc),
             message: None,
             data: Vec::new(alloc),
             asked: Asked::Nothing,
@@ -76,49 +76,41 @@ impl Gathering {
         way: Way,
         piece: &[u8],
     ) -> Result<bool, AllocError> {
-        let mut bytes = self.kept(way);
-        bytes.extend_from_slice(piece)?;
-        let mut rest = bytes.as_slice();
-        for _ in 0..bytes.len() {
-            match front_of(rest) {
-                Front::Whole(packet, behind) => {
-                    self.take_packet(recording, way, packet)?;
-                    rest = behind;
-                }
-                Front::Part => break,
+        let mut rest = piece;
+        for _ in 0..piece.len() {
+            if rest.is_empty() {
+                break;
+            }
+            let (count, front) = match way {
+                Way::ToServer => self.to_server.take(rest)?,
+                Way::ToClient => self.to_client.take(rest)?,
+            };
+            match front {
+                Front::Whole(head) => self.take_packet(recording, way, head)?,
+                Front::Part => {}
                 Front::Wrong => return Ok(false),
             }
+            rest = &rest[count..];
         }
-        self.keep(way, rest)?;
         Ok(true)
     }
 
-    /// What is kept of a way, of which nothing is kept any more.
-    fn kept(&mut self, way: Way) -> Vec<u8> {
-        let empty = Vec::new(self.alloc);
-        match way {
-            Way::ToServer => mem::replace(&mut self.to_server, empty),
-            Way::ToClient => mem::replace(&mut self.to_client, empty),
-        }
-    }
-
-    /// Keeps these bytes of a way.
-    fn keep(&mut self, way: Way, bytes: &[u8]) -> Result<(), AllocError> {
-        match way {
-            Way::ToServer => self.to_server.extend_from_slice(bytes),
-            Way::ToClient => self.to_client.extend_from_slice(bytes),
-        }
-    }
-
+    /// A packet of this way is whole.
     fn take_packet(
         &mut self,
         recording: &mut Recording,
         way: Way,
-        packet: Packet<'_>,
+        head: Head,
     ) -> Result<(), AllocError> {
         match way {
-            Way::ToServer => self.take_asked(recording, packet),
-            Way::ToClient => self.take_answer(recording, packet),
+            Way::ToServer => {
+                let data = self.to_server.take_data();
+                self.take_asked(recording, head, data.as_slice())
+            }
+            Way::ToClient => {
+                let data = self.to_client.take_data();
+                self.take_answer(recording, head, data.as_slice())
+            }
         }
     }
 
@@ -126,9 +118,10 @@ impl Gathering {
     fn take_asked(
         &mut self,
         recording: &mut Recording,
-        packet: Packet<'_>,
+        head: Head,
+        data: &[u8],
     ) -> Result<(), AllocError> {
-        if MessageKind::of(packet.kind) == Some(MessageKind::Attention) {
+        if MessageKind::of(head.kind) == Some(MessageKind::Attention) {
             self.message = None;
             self.data.clear();
             if self.held.is_none() {
@@ -136,16 +129,16 @@ impl Gathering {
             }
             return Ok(());
         }
-        let (kind, status) = self.message.unwrap_or((packet.kind, packet.status));
+        let (kind, status) = self.message.unwrap_or((head.kind, head.status));
         self.message = Some((kind, status));
-        self.data.extend_from_slice(packet.data)?;
-        if packet.status & 0x01 == 0 {
+        self.data.extend_from_slice(data)?;
+        if head.status & 0x01 == 0 {
             return Ok(());
         }
         self.message = None;
         let data = mem::replace(&mut self.data, Vec::new(self.alloc));
         // a message that is to be ignored is answered by nothing
-        if packet.status & 0x02 == 0 {
+        if head.status & 0x02 == 0 {
             self.end(recording, false)?;
             self.asked = self.asked_by(kind, status, data.as_slice())?;
         }
@@ -173,11 +166,12 @@ impl Gathering {
     fn take_answer(
         &mut self,
         recording: &mut Recording,
-        packet: Packet<'_>,
+        head: Head,
+        data: &[u8],
     ) -> Result<(), AllocError> {
-        self.answer.extend_from_slice(packet.data)?;
+        self.answer.extend_from_slice(data)?;
         self.ends.push(self.answer.len())?;
-        if packet.status & 0x01 == 0 {
+        if head.status & 0x01 == 0 {
             return Ok(());
         }
         self.end(recording, true)
@@ -186,10 +180,10 @@ impl Gathering {
     /// The server closed the connection.
     pub(crate) fn close(&mut self, recording: &mut Recording) -> Result<(), AllocError> {
         // what came of a packet that isn't whole
-        let part = self.kept(Way::ToClient);
-        if let Some(data) = part.as_slice().get(8..) {
-            self.answer.extend_from_slice(data)?;
-            self.missing = missing_of(part.as_slice());
+        let mut part = mem::replace(&mut self.to_client, Packets::new(self.alloc));
+        self.missing = part.missing();
+        if self.missing > 0 {
+            self.answer.extend_from_slice(part.take_data().as_slice())?;
             for _ in 0..self.missing {
                 self.answer.push(0)?;
             }
@@ -245,16 +239,6 @@ impl Gathering {
             login: self.login,
         })?;
         Ok(())
-    }
-}
-
-/// How many bytes are missing of the packet that these begin.
-fn missing_of(part: &[u8]) -> usize {
-    match part {
-        [_, _, high, low, ..] => {
-            usize::from(u16::from_be_bytes([*high, *low])).saturating_sub(part.len())
-        }
-        _ => 0,
     }
 }
 

@@ -1,40 +1,78 @@
 //! Packets of one direction (MS-TDS 2.2.3), from pieces of any size.
 
-/// What bytes begin with.
+ghost use Rattle.std.specs.Prelude.{◌≤◌, IfOk, length};
+
+use std::alloc::{AllocError, Global};
+use std::mem;
+use tds_packet::{Head, HeaderReader, Passed};
+
+/// What bytes bring.
 #[derive(Clone, Copy, Debug)]
-pub(crate) enum Front<'a> {
-    /// A packet; and what stands behind it.
-    Whole(Packet<'a>, &'a [u8]),
+pub(crate) enum Front {
+    /// The end of a packet with this header.
+    Whole(Head),
     /// A part of one, or nothing.
     Part,
     /// No packet: its length is less than its header's.
     Wrong,
 }
 
-/// A packet: its type, its status, and what stands behind its header.
-#[derive(Clone, Copy, Debug)]
-pub(crate) struct Packet<'a> {
-    pub kind: u8,
-    pub status: u8,
-    pub data: &'a [u8],
+/// The packet that comes, as far as it has come.
+#[derive(Drop)]
+pub(crate) struct Packets {
+    alloc: Global,
+    reader: HeaderReader,
+    head: Head,
+    data: Vec<u8>,
 }
 
-/// What these bytes begin with.
-pub(crate) fn front_of(bytes: &[u8]) -> Front<'_> {
-    let [kind, status, high, low, _, _, _, _, ..] = bytes else {
-        return Front::Part;
-    };
-    let length = usize::from(u16::from_be_bytes([*high, *low]));
-    if length < 8 {
-        return Front::Wrong;
+impl Packets {
+    /// Before the first packet.
+    pub(crate) fn new(alloc: Global) -> Packets {
+        Packets {
+            alloc,
+            reader: HeaderReader::new(),
+            head: Head {
+                kind: 0,
+                status: 0,
+                length: 0,
+            },
+            data: Vec::new(alloc),
+        }
     }
-    let Some((packet, behind)) = bytes.split_at_checked(length) else {
-        return Front::Part;
-    };
-    let packet = Packet {
-        kind: *kind,
-        status: *status,
-        data: packet.get(8..).unwrap_or(&[]),
-    };
-    Front::Whole(packet, behind)
+
+    /// Takes bytes of one packet at most: how many, and what they bring.
+    pub(crate) fn take(&mut self, piece: &[u8]) -> Result<(usize, Front), AllocError>
+        ensures within { IfOk result (λ x. x.0 ≤ length piece.now) }
+    {
+        let (count, passed) = self.reader.take(piece);
+        let is_whole = match passed {
+            Passed::Part => false,
+            Passed::Wrong => return Ok((count, Front::Wrong)),
+            Passed::Begins(head) => {
+                self.head = head;
+                head.length == 8
+            }
+            Passed::Data { ends } => {
+                self.data.extend_from_slice(&piece[..count])?;
+                ends
+            }
+        };
+        let front = if is_whole {
+            Front::Whole(self.head)
+        } else {
+            Front::Part
+        };
+        Ok((count, front))
+    }
+
+    /// The data that have come of the packet, which are kept no longer.
+    pub(crate) fn take_data(&mut self) -> Vec<u8> {
+        mem::replace(&mut self.data, Vec::new(self.alloc))
+    }
+
+    /// How many bytes are missing of a packet whose header has come.
+    pub(crate) fn missing(&self) -> usize {
+        usize::from(self.reader.due())
+    }
 }

@@ -2,6 +2,7 @@
 
 use serve_values::text::{units_in, units_of};
 use std::alloc::{AllocError, Global};
+use tds_packet::{HeaderReader, Passed};
 
 /// The most bytes of a login that are kept to look for the database.
 const KEPT: usize = 4608;
@@ -90,14 +91,17 @@ fn count_of(features: &[u8], wanted: u8) -> Option<usize> {
 /// What stands behind the headers of packets.
 fn data_of(alloc: Global, packets: &[u8]) -> Result<Vec<u8>, AllocError> {
     let mut data = Vec::new(alloc);
+    let mut reader = HeaderReader::new();
     let mut rest = packets;
     for _ in 0..packets.len() {
-        let [_, _, high, low, _, _, _, _, behind @ ..] = rest else {
+        if rest.is_empty() {
             break;
-        };
-        let count = usize::from(u16::from_be_bytes([*high, *low])).saturating_sub(8);
-        let (chunk, behind) = behind.split_at(count.min(behind.len()));
-        data.extend_from_slice(chunk)?;
+        }
+        let (count, passed) = reader.take(rest);
+        let (run, behind) = rest.split_at(count);
+        if matches!(passed, Passed::Data { .. }) {
+            data.extend_from_slice(run)?;
+        }
         rest = behind;
     }
     Ok(data)

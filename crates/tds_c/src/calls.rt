@@ -1,5 +1,9 @@
 //! The client's calls that write bytes, and those that change it alone.
 
+ghost use Rattle.std.specs.Prelude.{◌≡◌, [], Some, None, true};
+ghost use Rattle.tds_packet.specs.Resets.{strongest};
+ghost use Rattle.tds_client.specs.Parts.{stage_from};
+ghost use Rattle.tds_client.specs.Session.{unless_idle};
 ghost use Rattle.tds_request.specs.Values.{IsBatchText};
 ghost use Rattle.tds_request.specs.declared.request.Request.TheVariants.{Batch};
 ghost use Rattle.tds_c.specs.Calls.{Changes, Writes, cancels, loses, marks, none_out, out_of};
@@ -11,7 +15,7 @@ use crate::buffer::{behind, put, put_at};
 use crate::client::TdsClient;
 use crate::messages::{Asked, put_asked, put_batch};
 use std::alloc::Global;
-use tds_client::{Cancelled, Sent};
+use tds_client::{Cancelled, Sent, StageParts};
 use tds_packet::Reset;
 use tds_request::RequestKind;
 
@@ -132,8 +136,35 @@ pub(crate) fn start_asked(
     Ok(())
 }
 
+/// Of two marks the stronger one.
 #[inline(always)]
-pub(crate) fn mark_reset(alloc: Global, client: &mut TdsClient, reset: Reset) -> Result<(), Stop>
+fn stronger(mark: Option<Reset>, reset: Reset) -> Option<Reset>
+    ensures { result ≡ strongest (Some reset) mark }
+{
+    match mark {
+        None => Some(reset),
+        Some(Reset::Full) => Some(Reset::Full),
+        Some(Reset::KeepTransaction) => Some(reset),
+    }
+}
+
+#[inline(always)]
+fn is_idle(stage: &StageParts) -> bool
+    ensures { result ≡ true → unless_idle (stage_from stage.now []) ≡ None }
+{
+    match stage {
+        StageParts::Idle => true,
+        StageParts::Sending { .. } => false,
+        StageParts::Reading => false,
+        StageParts::Cancelling => false,
+        StageParts::Broken(_) => false,
+    }
+}
+
+/// The mark by the client's own call. A call of its own, since an idle client is what is met mostly.
+#[cold]
+#[inline(never)]
+fn mark_any(alloc: Global, client: &mut TdsClient, reset: Reset) -> Result<(), Stop>
     ensures { Changes (marks client.old reset) client.old client.new result }
 {
     let Some(mut held) = client.client(Vec::new(alloc)) else {
@@ -143,6 +174,25 @@ pub(crate) fn mark_reset(alloc: Global, client: &mut TdsClient, reset: Reset) ->
         return Err(Stop::Refused(refusal));
     }
     *client = TdsClient::new(&held, 0);
+    Ok(())
+}
+
+#[inline(always)]
+pub(crate) fn mark_reset(alloc: Global, client: &mut TdsClient, reset: Reset) -> Result<(), Stop>
+    ensures { Changes (marks client.old reset) client.old client.new result }
+{
+    // What follows needn't look at the stage then.
+    if client.stage != 0 {
+        return mark_any(alloc, client, reset);
+    }
+    let Some(mut parts) = client.held(&[]) else {
+        return Err(Stop::NoClient);
+    };
+    if !is_idle(&parts.stage) {
+        return mark_any(alloc, client, reset);
+    }
+    parts.heard.mark = stronger(parts.heard.mark, reset);
+    *client = TdsClient::of(&parts, 0);
     Ok(())
 }
 

@@ -7,7 +7,6 @@ mod handles;
 mod hearing;
 mod kept;
 pub mod laws;
-mod packets;
 mod prefix;
 mod reasons;
 mod resets;

@@ -9,13 +9,12 @@ ghost use Rattle.tds_state.specs.Watching.{watch_lost, watch_settled};
 use crate::NoMemory;
 use crate::asked::Request;
 use crate::kept::{behind, first_of};
-use crate::packets::{Brought, Head, Packets};
 use crate::prefix::Prefix;
 use crate::reasons::Reason;
 use crate::session::is_quiet;
 use crate::tracker::Tracker;
 use std::alloc::Global;
-use tds_packet::{Direction, Status};
+use tds_packet::{Direction, Head, HeaderReader, Passed, Status};
 use tds_wire::{Features, Walker};
 
 /// What drives a tracker by the bytes that go out and come in on a connection, in any cutting. What can't be
@@ -24,9 +23,10 @@ use tds_wire::{Features, Walker};
 pub struct Watch {
     tracker: Tracker,
     walker: Walker,
-    /// Where the client's packets are, and the server's.
-    out: Packets,
-    back: Packets,
+    /// Where the client's packets are, and the server's, with the status of the newest one.
+    out: HeaderReader,
+    back: HeaderReader,
+    status: u8,
     /// Where in the data of a request they are, its type, and whether packets of it are to come.
     prefix: Prefix,
     kind: u8,
@@ -80,8 +80,9 @@ impl Watch {
         Ok(Watch {
             tracker: Tracker::new(alloc)?,
             walker: Walker::new(alloc, 4_096, features)?,
-            out: Packets::new(),
-            back: Packets::new(),
+            out: HeaderReader::new(),
+            back: HeaderReader::new(),
+            status: 0,
             prefix: Prefix::Body,
             kind: 0,
             is_within: false,
@@ -181,12 +182,12 @@ impl Watch {
         ensures within { result ≤ length piece.now }
         ensures said { HasPast self.old.tracker.session → HasPast self.new.tracker.session }
     {
-        let (count, brought) = self.out.take(piece);
-        match brought {
-            Brought::Part => {}
-            Brought::Head(head) => self.send_head(head),
-            Brought::Data { .. } => self.send_data(first_of(count, piece)),
-            Brought::Wrong => self.lose_if(true),
+        let (count, passed) = self.out.take(piece);
+        match passed {
+            Passed::Part => {}
+            Passed::Begins(head) => self.send_head(head),
+            Passed::Data { .. } => self.send_data(first_of(count, piece)),
+            Passed::Wrong => self.lose_if(true),
         }
         count
     }
@@ -282,12 +283,12 @@ impl Watch {
         ensures within { result ≤ length piece.now }
         ensures said { HasPast self.old.tracker.session → HasPast self.new.tracker.session }
     {
-        let (count, brought) = self.back.take(piece);
-        match brought {
-            Brought::Part => {}
-            Brought::Head(head) => self.hear_head(head),
-            Brought::Data { ends } => self.hear_data(first_of(count, piece), ends),
-            Brought::Wrong => self.lose_if(true),
+        let (count, passed) = self.back.take(piece);
+        match passed {
+            Passed::Part => {}
+            Passed::Begins(head) => self.hear_head(head),
+            Passed::Data { ends } => self.hear_data(first_of(count, piece), ends),
+            Passed::Wrong => self.lose_if(true),
         }
         count
     }
@@ -296,6 +297,7 @@ impl Watch {
     fn hear_head(&mut self, head: Head)
         ensures said { HasPast self.old.tracker.session → HasPast self.new.tracker.session }
     {
+        self.status = head.status;
         let status = Status::read(head.status, Direction::ToClient);
         self.lose_if(head.kind != ANSWER || status.is_none());
         if head.length == 8 {
@@ -317,7 +319,7 @@ impl Watch {
     fn end_packet(&mut self)
         ensures said { HasPast self.old.tracker.session → HasPast self.new.tracker.session }
     {
-        if self.back.head.status == 1 {
+        if self.status == 1 {
             self.end();
         }
     }

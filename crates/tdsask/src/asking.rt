@@ -7,7 +7,7 @@ use anyhow::{Context, bail};
 use tds_client::Sent;
 use tds_ends::RequestStatus;
 use tds_login::{is_let_in, put_login};
-use tds_packet::{PacketSize, Reset};
+use tds_packet::{HeaderReader, PacketSize, Reset};
 use tds_request::Request;
 
 /// The packet size that is asked for.
@@ -150,8 +150,9 @@ fn log_in(rt: &HostRuntime, link: &mut Link, size: PacketSize) -> anyhow::Result
 fn login_answer(rt: &HostRuntime, link: &mut Link) -> anyhow::Result<Vec<u8>> {
     let mut header = [0u8; 8];
     link.fill(rt, &mut header)?;
-    let length = (usize::from(header[2]) << 8) | usize::from(header[3]);
-    let mut data = vec![in rt.alloc(); 0u8; length.saturating_sub(8)]?;
+    let mut reader = HeaderReader::new();
+    let _ = reader.take(&header);
+    let mut data = vec![in rt.alloc(); 0u8; usize::from(reader.due())]?;
     link.fill(rt, data.as_mut_slice())?;
     Ok(data)
 }

@@ -6,8 +6,8 @@
  * printed from what came out. So besides what libmouktelf.a trusts (the checker, the kit's backend, the middle of
  * LLVM) it trusts the printer and the layer at its end (scripts/release_parts), and your C compiler. Never edit it.
  *
- * sources aeaa10cb6649f73b53464da35b97fc86fdea6615c2c8da759a01256ec3c9b1dd of tds_c
- * module 8d9c707289bfdc3c1134e0d69f7bf30bab5d46a48f047ceb93e594328ee9fde4: logic=proved functions=159 sum=dac8208d650f15bf
+ * sources b463c7cd4e796544145e85997d7f784e1698b3bcf435cff0dbcf064959afd218 of tds_c
+ * module 99b94a8f7ac086c462f8d528a51fdc08988a66ba76db9d51fe8f339bf431e574: logic=proved functions=162 sum=dac8208d650f15bf
  * kit rattle-kit-13f logic dac8208d650f15bf
  *
  * It wants memcpy, memmove, memset and abort. There is no state here: two calls on different values may run at the same time. */
@@ -135,6 +135,7 @@ static uint8_t tds_c__wire__hearing__hear_any(one_pointer va0, one_pointer va1, 
 static uint64_t tds_c__wire__hearing__whole__hear_any_kind(one_pointer va0, one_pointer va1, one_pointer va2, uint64_t va3, one_pointer va4, one_pointer va6);
 static uint8_t tds_c__wire__hearing__hear_other(one_pointer va0, one_pointer va1, one_pointer va2, one_pointer va3, uint64_t va4, uint8_t va5, one_pointer va6, one_pointer va7, uint64_t va8, one_pointer va9);
 static void tds_c__wire__hearing__walked__hear_walked(one_pointer va0, one_pointer va1, one_pointer va2, one_pointer va3, one_pointer va4, one_pointer va5, uint64_t va6, uint8_t va7, one_pointer va8, one_pointer va9, uint64_t va10, one_pointer va11);
+static void tds_c__calls__mark_any(one_pointer va0, one_pointer va1, uint8_t va2);
 static void tds_client__walks__hear_packet(one_pointer va0, uint8_t va1, one_pointer va2, uint8_t va3, uint8_t va4, uint8_t va5, one_pointer va6, uint64_t va7);
 static uint8_t tds_c__asking__refused(one_pointer va0, uint8_t va1, uint64_t va3);
 static uint32_t core_mouktelf_version(void);
@@ -11981,6 +11982,142 @@ static void tds_c__wire__hearing__walked__hear_walked(one_pointer va0, one_point
     goto b122;
 }
 
+static void tds_c__calls__mark_any(one_pointer va0, one_pointer va1, uint8_t va2) {
+    one_pointer vr36_i_i;
+    uint16_t vr37_i_i;
+    uint8_t vor_cond_i;
+    one_pointer vr23_i2_i;
+    uint8_t vr24_i3_i;
+    one_pointer vr32_i_i;
+    uint8_t vr33_i_i;
+    one_pointer vr59_i31_i;
+    uint64_t vr60_i_i;
+    uint8_t v0;
+    one_pointer vr85_i_i;
+    uint8_t vr86_i5_i;
+    one_pointer vr87_i6_i;
+    uint8_t vr88_i_i;
+    uint8_t vr88_i_i_off;
+    uint8_t vswitch660;
+    uint8_t vr8_sroa_266_0_i_i_ph;
+    one_pointer vr83_i_i;
+    uint8_t vr84_i_i;
+    uint8_t v1;
+    uint8_t v2;
+    uint8_t vspec_select661;
+    one_pointer vr99_i_i;
+    uint8_t vr100_i_i;
+    uint8_t vswitch;
+    one_pointer vr120_i_i;
+    uint8_t vr121_i_i;
+    uint8_t vr3_i_i_i;
+    uint8_t vr9_i77;
+    uint8_t v3;
+    one_pointer vr12_sroa_3_0_a1_sroa_idx;
+    one_pointer vr12_sroa_7_0_a1_sroa_idx;
+    one_pointer vr12_sroa_8_0_a1_sroa_idx;
+    one_pointer vr12_sroa_9_0_a1_sroa_idx;
+    one_pointer vr12_sroa_13_0_a1_sroa_idx;
+    one_pointer vr24;
+    one_pointer vr26;
+    one_pointer vr28;
+    uint8_t vr0_sroa_4_0_i99_ph;
+    one_pointer vr45;
+    one_pointer vr47;
+    one_pointer vr49;
+    vr36_i_i = (va1 + 24);
+    vr37_i_i = one_read16(vr36_i_i);
+    vor_cond_i = (int16_t)vr37_i_i > (int16_t)511u;
+    if (vor_cond_i) { goto b1; } goto b17;
+    b1:;
+    vr23_i2_i = (va1 + 26);
+    vr24_i3_i = one_read8(vr23_i2_i);
+    switch (vr24_i3_i) { case 0u: vr8_sroa_266_0_i_i_ph = 0u; goto b6; case 1u: goto b2; case 2u: vr8_sroa_266_0_i_i_ph = 0u; goto b6; case 3u: vr8_sroa_266_0_i_i_ph = 0u; goto b6; case 4u: goto b4; default: goto b17; }
+    b2:;
+    vr32_i_i = (va1 + 27);
+    vr33_i_i = one_read8(vr32_i_i);
+    switch (vr33_i_i) { case 1u: goto b3; case 3u: goto b3; case 4u: goto b3; case 6u: goto b3; case 7u: goto b3; case 14u: goto b3; default: goto b17; }
+    b3:;
+    vr59_i31_i = (va1 + 16);
+    vr60_i_i = one_read64(vr59_i31_i);
+    v0 = (int64_t)vr60_i_i < (int64_t)(uint64_t)0;
+    vr8_sroa_266_0_i_i_ph = v0; goto b6;
+    b4:;
+    vr85_i_i = (va1 + 28);
+    vr86_i5_i = one_read8(vr85_i_i);
+    switch (vr86_i5_i) { case 1u: vr8_sroa_266_0_i_i_ph = 0u; goto b6; case 2u: vr8_sroa_266_0_i_i_ph = 0u; goto b6; case 3u: vr8_sroa_266_0_i_i_ph = 0u; goto b6; case 4u: vr8_sroa_266_0_i_i_ph = 0u; goto b6; case 5u: vr8_sroa_266_0_i_i_ph = 0u; goto b6; case 6u: vr8_sroa_266_0_i_i_ph = 0u; goto b6; case 7u: vr8_sroa_266_0_i_i_ph = 0u; goto b6; case 8u: goto b5; case 9u: vr8_sroa_266_0_i_i_ph = 0u; goto b6; default: goto b17; }
+    b5:;
+    vr87_i6_i = (va1 + 29);
+    vr88_i_i = one_read8(vr87_i6_i);
+    vr88_i_i_off = (uint8_t)(vr88_i_i + 255u);
+    vswitch660 = vr88_i_i_off < 7u;
+    if (vswitch660) { vr8_sroa_266_0_i_i_ph = 0u; goto b6; } goto b17;
+    b6:;
+    vr83_i_i = (va1 + 30);
+    vr84_i_i = one_read8(vr83_i_i);
+    switch (vr84_i_i) { case 0u: goto b7; case 1u: vspec_select661 = 1u; goto b8; case 2u: goto b7; default: goto b17; }
+    b7:;
+    v1 = va2 == 0u;
+    v2 = v1 ? 1u : 2u;
+    vspec_select661 = v2; goto b8;
+    b8:;
+    vr99_i_i = (va1 + 31);
+    vr100_i_i = one_read8(vr99_i_i);
+    vswitch = vr100_i_i < 3u;
+    if (vswitch) { goto b9; } goto b17;
+    b9:;
+    vr120_i_i = (va1 + 32);
+    vr121_i_i = one_read8(vr120_i_i);
+    vr3_i_i_i = vr121_i_i == 0u;
+    if (vr3_i_i_i) { v3 = 0u; goto b11; } goto b10;
+    b10:;
+    vr9_i77 = vr121_i_i < 17u;
+    if (vr9_i77) { v3 = vr121_i_i; goto b11; } goto b17;
+    b11:;
+    switch (vr24_i3_i) { case 4u: goto b14; case 1u: goto b12; case 0u: goto b15; case 2u: vr0_sroa_4_0_i99_ph = 0u; goto b18; case 3u: vr0_sroa_4_0_i99_ph = 0u; goto b18; default: goto b13; }
+    b12:;
+    if (vr8_sroa_266_0_i_i_ph) { goto b17; } vr0_sroa_4_0_i99_ph = 0u; goto b18;
+    b13:;
+    one_never();
+    b14:;
+    vr0_sroa_4_0_i99_ph = 2u; goto b18;
+    b15:;
+    vr12_sroa_3_0_a1_sroa_idx = (va1 + 8);
+    memset(ONE_AT(vr12_sroa_3_0_a1_sroa_idx), 0u, (size_t)((uint64_t)16));
+    vr12_sroa_7_0_a1_sroa_idx = (va1 + 27);
+    one_write8(vr12_sroa_7_0_a1_sroa_idx, 0u);
+    vr12_sroa_8_0_a1_sroa_idx = (va1 + 28);
+    one_write8(vr12_sroa_8_0_a1_sroa_idx, 0u);
+    vr12_sroa_9_0_a1_sroa_idx = (va1 + 29);
+    one_write8(vr12_sroa_9_0_a1_sroa_idx, 0u);
+    one_write8(vr83_i_i, vspec_select661);
+    one_write8(vr120_i_i, v3);
+    vr12_sroa_13_0_a1_sroa_idx = (va1 + 33);
+    memset(ONE_AT(vr12_sroa_13_0_a1_sroa_idx), 0u, (size_t)((uint64_t)7));
+    one_write32(va0, 0u);
+    goto b16;
+    b16:;
+    return;
+    b17:;
+    one_write8(va0, 1u);
+    vr24 = (va0 + 1);
+    one_write8(vr24, 0u);
+    vr26 = (va0 + 2);
+    one_write8(vr26, 0u);
+    vr28 = (va0 + 3);
+    one_write8(vr28, 0u);
+    goto b16;
+    b18:;
+    one_write8(va0, 1u);
+    vr45 = (va0 + 1);
+    one_write8(vr45, 6u);
+    vr47 = (va0 + 2);
+    one_write8(vr47, vr0_sroa_4_0_i99_ph);
+    vr49 = (va0 + 3);
+    one_write8(vr49, 0u);
+    goto b16;
+}
+
 static void tds_client__walks__hear_packet(one_pointer va0, uint8_t va1, one_pointer va2, uint8_t va3, uint8_t va4, uint8_t va5, one_pointer va6, uint64_t va7) {
     one_pointer vr20_i123_i;
     _Alignas(16) unsigned char at_vr20_i123_i[24];
@@ -17586,111 +17723,119 @@ static uint8_t core_tds_client_lost(one_pointer va0) {
 }
 
 static uint8_t core_tds_client_mark_reset(one_pointer va0, uint8_t va1) {
-    uint8_t va1_off;
-    uint8_t vswitch;
-    one_pointer vr36_i_i_i_i;
-    uint16_t vr37_i_i_i_i;
+    one_pointer vr0_i_i;
+    _Alignas(16) unsigned char at_vr0_i_i[4];
+    uint8_t vr1_sroa_10_0_i_i_ph_ph_i;
+    one_pointer vr20_i20_i;
+    uint8_t vr21_i21_i;
+    uint8_t vr23_not_i_i;
+    one_pointer vr36_i6_i_i;
+    uint16_t vr37_i7_i_i;
     uint8_t vor_cond_i_i;
-    one_pointer vr23_i2_i_i_i;
-    uint8_t vr24_i3_i_i_i;
-    one_pointer vr32_i_i_i_i;
-    uint8_t vr33_i_i_i_i;
-    one_pointer vr59_i31_i_i_i;
-    uint64_t vr60_i_i_i_i;
-    uint8_t v0;
-    uint8_t v1;
-    one_pointer vr85_i_i_i_i;
-    uint8_t vr86_i5_i_i_i;
-    one_pointer vr87_i6_i_i_i;
-    uint8_t vr88_i_i_i_i;
-    uint8_t vr88_i_i_i_off_i;
-    uint8_t vswitch706_i;
-    uint8_t vr8_sroa_266_0_i_i_i_ph_i;
-    one_pointer vr83_i_i_i_i;
-    uint8_t vr84_i_i_i_i;
-    uint8_t vspec_select707_i;
-    one_pointer vr99_i_i_i_i;
-    uint8_t vr100_i_i_i_i;
+    one_pointer vr83_i_i_i;
+    uint8_t vr84_i_i_i;
+    uint8_t v__i_i_i;
+    one_pointer vr99_i_i_i;
+    uint8_t vr100_i_i_i;
     uint8_t vswitch_i;
-    one_pointer vr120_i_i_i_i;
-    uint8_t vr121_i_i_i_i;
-    uint8_t vr9_i73_i;
-    one_pointer vr12_i19_sroa_5_0_a0_sroa_idx_i;
-    one_pointer vr12_i19_sroa_9_0_a0_sroa_idx_i;
-    one_pointer vr12_i19_sroa_10_0_a0_sroa_idx_i;
-    one_pointer vr12_i19_sroa_11_0_a0_sroa_idx_i;
-    one_pointer vr12_i19_sroa_15_0_a0_sroa_idx_i;
+    one_pointer vr120_i_i_i;
+    uint8_t vr121_i_i_i;
+    uint8_t vr9_i79_i;
+    one_pointer vr18_i19_sroa_5_0_a0_sroa_idx_i;
+    one_pointer vr18_i19_sroa_15_0_a0_sroa_idx_i;
+    uint8_t v0;
+    one_pointer vr30_i22_i;
+    uint8_t v1;
+    one_pointer vr32_i24_i;
+    uint8_t v2;
+    uint8_t v3;
+    uint8_t v4;
+    uint8_t vr17_i_i;
+    uint8_t vspec_select_i;
+    uint8_t vr22_i_i;
+    uint8_t vr27_i_i;
+    uint8_t vr32_i_i;
     uint8_t vr9_0_i_i;
-    va1_off = (uint8_t)(va1 + 255u);
-    vswitch = va1_off < 2u;
-    if (vswitch) { goto b1; } vr9_0_i_i = 23u; goto b16;
+    vr0_i_i = ONE_POINTER((uintptr_t)at_vr0_i_i);
+    switch (va1) { case 2u: goto b1; case 1u: vr1_sroa_10_0_i_i_ph_ph_i = 0u; goto b2; default: goto b13; }
     b1:;
-    vr36_i_i_i_i = (va0 + 24);
-    vr37_i_i_i_i = one_read16(vr36_i_i_i_i);
-    vor_cond_i_i = (int16_t)vr37_i_i_i_i > (int16_t)511u;
-    if (vor_cond_i_i) { goto b2; } vr9_0_i_i = 20u; goto b16;
+    vr1_sroa_10_0_i_i_ph_ph_i = 1u; goto b2;
     b2:;
-    vr23_i2_i_i_i = (va0 + 26);
-    vr24_i3_i_i_i = one_read8(vr23_i2_i_i_i);
-    switch (vr24_i3_i_i_i) { case 0u: vr8_sroa_266_0_i_i_i_ph_i = 31u; goto b7; case 1u: goto b3; case 2u: vr8_sroa_266_0_i_i_i_ph_i = 31u; goto b7; case 3u: vr8_sroa_266_0_i_i_i_ph_i = 31u; goto b7; case 4u: goto b5; default: vr9_0_i_i = 20u; goto b16; }
+    one_write32(vr0_i_i, 0u);
+    vr20_i20_i = (va0 + 26);
+    vr21_i21_i = one_read8(vr20_i20_i);
+    vr23_not_i_i = vr21_i21_i == 0u;
+    if (vr23_not_i_i) { goto b3; } goto b10;
     b3:;
-    vr32_i_i_i_i = (va0 + 27);
-    vr33_i_i_i_i = one_read8(vr32_i_i_i_i);
-    switch (vr33_i_i_i_i) { case 1u: goto b4; case 3u: goto b4; case 4u: goto b4; case 6u: goto b4; case 7u: goto b4; case 14u: goto b4; default: vr9_0_i_i = 20u; goto b16; }
+    vr36_i6_i_i = (va0 + 24);
+    vr37_i7_i_i = one_read16(vr36_i6_i_i);
+    vor_cond_i_i = (int16_t)vr37_i7_i_i > (int16_t)511u;
+    if (vor_cond_i_i) { goto b4; } goto b9;
     b4:;
-    vr59_i31_i_i_i = (va0 + 16);
-    vr60_i_i_i_i = one_read64(vr59_i31_i_i_i);
-    v0 = (int64_t)vr60_i_i_i_i < (int64_t)(uint64_t)0;
-    v1 = v0 ? 20u : 31u;
-    vr8_sroa_266_0_i_i_i_ph_i = v1; goto b7;
+    vr83_i_i_i = (va0 + 30);
+    vr84_i_i_i = one_read8(vr83_i_i_i);
+    switch (vr84_i_i_i) { case 0u: goto b5; case 1u: v__i_i_i = vr84_i_i_i; goto b6; case 2u: goto b5; default: goto b9; }
     b5:;
-    vr85_i_i_i_i = (va0 + 28);
-    vr86_i5_i_i_i = one_read8(vr85_i_i_i_i);
-    switch (vr86_i5_i_i_i) { case 1u: vr8_sroa_266_0_i_i_i_ph_i = 31u; goto b7; case 2u: vr8_sroa_266_0_i_i_i_ph_i = 31u; goto b7; case 3u: vr8_sroa_266_0_i_i_i_ph_i = 31u; goto b7; case 4u: vr8_sroa_266_0_i_i_i_ph_i = 31u; goto b7; case 5u: vr8_sroa_266_0_i_i_i_ph_i = 31u; goto b7; case 6u: vr8_sroa_266_0_i_i_i_ph_i = 31u; goto b7; case 7u: vr8_sroa_266_0_i_i_i_ph_i = 31u; goto b7; case 8u: goto b6; case 9u: vr8_sroa_266_0_i_i_i_ph_i = 31u; goto b7; default: vr9_0_i_i = 20u; goto b16; }
+    v__i_i_i = va1; goto b6;
     b6:;
-    vr87_i6_i_i_i = (va0 + 29);
-    vr88_i_i_i_i = one_read8(vr87_i6_i_i_i);
-    vr88_i_i_i_off_i = (uint8_t)(vr88_i_i_i_i + 255u);
-    vswitch706_i = vr88_i_i_i_off_i < 7u;
-    if (vswitch706_i) { vr8_sroa_266_0_i_i_i_ph_i = 31u; goto b7; } vr9_0_i_i = 20u; goto b16;
+    vr99_i_i_i = (va0 + 31);
+    vr100_i_i_i = one_read8(vr99_i_i_i);
+    vswitch_i = vr100_i_i_i < 3u;
+    if (vswitch_i) { goto b7; } goto b9;
     b7:;
-    vr83_i_i_i_i = (va0 + 30);
-    vr84_i_i_i_i = one_read8(vr83_i_i_i_i);
-    switch (vr84_i_i_i_i) { case 0u: goto b8; case 1u: vspec_select707_i = vr84_i_i_i_i; goto b9; case 2u: goto b8; default: vr9_0_i_i = 20u; goto b16; }
+    vr120_i_i_i = (va0 + 32);
+    vr121_i_i_i = one_read8(vr120_i_i_i);
+    vr9_i79_i = vr121_i_i_i < 17u;
+    if (vr9_i79_i) { goto b8; } goto b9;
     b8:;
-    vspec_select707_i = va1; goto b9;
+    vr18_i19_sroa_5_0_a0_sroa_idx_i = (va0 + 8);
+    memset(ONE_AT(vr18_i19_sroa_5_0_a0_sroa_idx_i), 0u, (size_t)((uint64_t)16));
+    one_write32(vr20_i20_i, 0u);
+    one_write8(vr83_i_i_i, v__i_i_i);
+    one_write8(vr120_i_i_i, vr121_i_i_i);
+    vr18_i19_sroa_15_0_a0_sroa_idx_i = (va0 + 33);
+    memset(ONE_AT(vr18_i19_sroa_15_0_a0_sroa_idx_i), 0u, (size_t)((uint64_t)7));
+    vr9_0_i_i = 0u; goto b22;
     b9:;
-    vr99_i_i_i_i = (va0 + 31);
-    vr100_i_i_i_i = one_read8(vr99_i_i_i_i);
-    vswitch_i = vr100_i_i_i_i < 3u;
-    if (vswitch_i) { goto b10; } vr9_0_i_i = 20u; goto b16;
+    vr9_0_i_i = 20u; goto b22;
     b10:;
-    vr120_i_i_i_i = (va0 + 32);
-    vr121_i_i_i_i = one_read8(vr120_i_i_i_i);
-    vr9_i73_i = vr121_i_i_i_i < 17u;
-    if (vr9_i73_i) { goto b11; } vr9_0_i_i = 20u; goto b16;
+    tds_c__calls__mark_any(vr0_i_i, va0, vr1_sroa_10_0_i_i_ph_ph_i);
+    v0 = one_read8(vr0_i_i);
+    vr30_i22_i = (vr0_i_i + 1);
+    v1 = one_read8(vr30_i22_i);
+    vr32_i24_i = (vr0_i_i + 2);
+    v2 = one_read8(vr32_i24_i);
+    v3 = v0 == 0u;
+    if (v3) { vr9_0_i_i = 0u; goto b22; } goto b11;
     b11:;
-    switch (vr24_i3_i_i_i) { case 4u: goto b14; case 1u: goto b12; case 0u: goto b15; case 2u: vr9_0_i_i = 31u; goto b16; case 3u: vr9_0_i_i = 31u; goto b16; default: goto b13; }
+    switch (v1) { case 0u: vr9_0_i_i = 20u; goto b22; case 1u: goto b12; case 2u: goto b13; case 3u: goto b14; case 4u: goto b15; case 5u: goto b16; case 6u: goto b17; case 7u: goto b18; case 8u: goto b19; case 9u: goto b20; default: goto b21; }
     b12:;
-    vr9_0_i_i = vr8_sroa_266_0_i_i_i_ph_i; goto b16;
+    vr9_0_i_i = 21u; goto b22;
     b13:;
-    one_never();
+    vr9_0_i_i = 23u; goto b22;
     b14:;
-    vr9_0_i_i = 33u; goto b16;
+    vr9_0_i_i = 24u; goto b22;
     b15:;
-    vr12_i19_sroa_5_0_a0_sroa_idx_i = (va0 + 8);
-    memset(ONE_AT(vr12_i19_sroa_5_0_a0_sroa_idx_i), 0u, (size_t)((uint64_t)16));
-    vr12_i19_sroa_9_0_a0_sroa_idx_i = (va0 + 27);
-    one_write8(vr12_i19_sroa_9_0_a0_sroa_idx_i, 0u);
-    vr12_i19_sroa_10_0_a0_sroa_idx_i = (va0 + 28);
-    one_write8(vr12_i19_sroa_10_0_a0_sroa_idx_i, 0u);
-    vr12_i19_sroa_11_0_a0_sroa_idx_i = (va0 + 29);
-    one_write8(vr12_i19_sroa_11_0_a0_sroa_idx_i, 0u);
-    one_write8(vr83_i_i_i_i, vspec_select707_i);
-    vr12_i19_sroa_15_0_a0_sroa_idx_i = (va0 + 33);
-    memset(ONE_AT(vr12_i19_sroa_15_0_a0_sroa_idx_i), 0u, (size_t)((uint64_t)7));
-    vr9_0_i_i = 0u; goto b16;
+    vr9_0_i_i = 25u; goto b22;
     b16:;
+    vr9_0_i_i = 26u; goto b22;
+    b17:;
+    v4 = v2 == 3u;
+    vr17_i_i = (uint8_t)(v2 + 31u);
+    vspec_select_i = v4 ? 22u : vr17_i_i;
+    vr9_0_i_i = vspec_select_i; goto b22;
+    b18:;
+    vr22_i_i = (uint8_t)(v2 + 41u);
+    vr9_0_i_i = vr22_i_i; goto b22;
+    b19:;
+    vr27_i_i = (uint8_t)(v2 + 51u);
+    vr9_0_i_i = vr27_i_i; goto b22;
+    b20:;
+    vr32_i_i = (uint8_t)(v2 + 61u);
+    vr9_0_i_i = vr32_i_i; goto b22;
+    b21:;
+    one_never();
+    b22:;
     return vr9_0_i_i;
 }
 

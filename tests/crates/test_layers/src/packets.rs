@@ -6,6 +6,7 @@
 //! each BYTES        hands them over one by one: how many are taken with no packet lent before
 //! packet            the packet that is lent: its kind, its status and its data; or none
 //! done              the packet is done with
+//! pass BYTES        what the reader of headers alone says of each part of them, behind how many it takes
 //! size N            the packet size, where it is lawful
 //! status BYTE       the reset that it asks a server for, and whether it ends a message
 //! header BYTES      the fields of a header to a server, and the bytes that are written of them
@@ -19,12 +20,16 @@ use crate::spelling::{reader, size_of};
 use crate::words::Words;
 use bitflags::Flags;
 use std::alloc::Global;
-use tds_packet::{Direction, Header, Kind, PacketReader, PacketSize, Reset, Status, put_packet};
+use tds_packet::{
+    Direction, Header, HeaderReader, Kind, PacketReader, PacketSize, Passed, Reset, Status,
+    put_packet,
+};
 
 #[derive(Drop)]
 struct Packets {
     alloc: Global,
     reader: PacketReader,
+    headers: HeaderReader,
     bytes: Vec<u8>,
 }
 
@@ -33,6 +38,7 @@ pub fn play(alloc: Global, case: &mut Case<'_>) -> Result<(), Stop> {
     let mut packets = Packets {
         alloc,
         reader: reader(alloc, Direction::ToClient)?,
+        headers: HeaderReader::new(),
         bytes: Vec::new(alloc),
     };
     case.play(alloc, &mut packets)
@@ -49,6 +55,7 @@ impl Layer for Packets {
                 self.reader.done();
                 Ok(())
             }
+            "pass" => self.pass(words, said),
             "size" => say_size(words, said),
             "status" => self.status(words, said),
             "header" => self.header(words, said),
@@ -100,6 +107,21 @@ impl Packets {
         Ok(())
     }
 
+    fn pass(&mut self, words: &mut Words<'_>, said: &mut Said) -> Result<(), Stop> {
+        words.bytes(&mut self.bytes)?;
+        let mut rest = self.bytes.as_slice();
+        for _ in 0..self.bytes.len() {
+            if rest.is_empty() {
+                break;
+            }
+            let (count, passed) = self.headers.take(rest);
+            said.number(count as u64)?;
+            say_passed(passed, said)?;
+            rest = rest.get(count..).unwrap_or(&[]);
+        }
+        Ok(())
+    }
+
     fn status(&mut self, words: &mut Words<'_>, said: &mut Said) -> Result<(), Stop> {
         words.bytes(&mut self.bytes)?;
         let [byte] = self.bytes.as_slice() else {
@@ -131,6 +153,21 @@ impl Packets {
         said.bytes(self.bytes.as_slice())?;
         Ok(())
     }
+}
+
+fn say_passed(passed: Passed, said: &mut Said) -> Result<(), Stop> {
+    match passed {
+        Passed::Part => said.word("part")?,
+        Passed::Begins(head) => {
+            said.word("begins")?;
+            said.byte(head.kind)?;
+            said.byte(head.status)?;
+            said.number(u64::from(head.length))?;
+        }
+        Passed::Data { ends } => said.word(if ends { "ends" } else { "data" })?,
+        Passed::Wrong => said.word("wrong")?,
+    }
+    Ok(())
 }
 
 fn say_header(header: Header, said: &mut Said) -> Result<(), Stop> {
