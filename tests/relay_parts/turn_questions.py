@@ -65,10 +65,13 @@ def group_of(relay):
 
 
 async def in_turn(relay, one, two, how):
-    """The second one asks while the first one, who has a connection, is there. Whether it is served then."""
+    """The second one asks while the first one, who has a connection, is there. Whether it is served then. Where the first one
+    was parted, it is answered behind the second one."""
     await one.ask("get a")
     late = asyncio.ensure_future(two.ask("get b"))
     await until(lambda: late.done() or relay.json()["applications_waiting"] and how == "kept", "the second one")
+    if how == "kept":
+        await one.ask("get a")
     found = "shared" if late.done() else "kept"
     await one.leave()
     await asyncio.wait_for(late, 2 * PATIENCE)
