@@ -11,7 +11,7 @@ import socket
 import struct
 import threading
 
-from turn_sessions import DATABASE, LANGUAGE, OTHER_TRANSACTION, Session, Vices, ends_with
+from turn_sessions import DATABASE, LANGUAGE, OTHER_TRANSACTION, QUESTIONS, Session, Vices, ends_with
 from turn_tokens import (
     ACKNOWLEDGED, ATTENTION, BATCH, CALL, END, IGNORED, LOAD, RESET, RESET_BUT_TRANSACTION,
     asks_recovery, behind_headers, calls_of, change, done, error, let_in)
@@ -32,8 +32,9 @@ class Peer(asyncio.Protocol):
         self.task, self.is_stopped = None, False
         # Whether it has logged in, and whether session recovery was acknowledged.
         self.is_in = self.tells = False
-        # What was asked here: status, and text of a batch, or the request's type.
-        self.asked = []
+        # What it was asked here: status, and text of a batch, or the request's type; and before that by a relay, of which the
+        # first request that isn't a question is the end.
+        self.asked, self.questions, self.is_asked = [], [], True
 
     def connection_made(self, transport):
         self.transport = transport
@@ -68,7 +69,12 @@ class Peer(asyncio.Protocol):
             self.whole(kind, whole)
 
     def attention(self):
-        self.server.cancels += 1
+        if self.is_asked:
+            self.questions.append((END, "cancel"))
+        else:
+            self.server.cancels += 1
+        if self.is_asked and self.server.silent_at == "cancel":
+            return
         if self.task:
             self.is_stopped = True
             self.server.goes_on.set()
@@ -76,6 +82,8 @@ class Peer(asyncio.Protocol):
             self.send(self.news(True) + done(ACKNOWLEDGED))
 
     def news(self, is_cancelled=False):
+        if is_cancelled and self.vices.hides == "cancel":
+            self.session.said = self.session.values()
         return b"" if not self.tells or self.vices.is_late and is_cancelled else self.session.news()
 
     def send(self, data, ends=True):
@@ -107,30 +115,45 @@ class Peer(asyncio.Protocol):
         self.is_in = True
         self.server.peers[self.process] = self
         self.server.logins.append((self.process, brought))
-        self.send(let_in(DATABASE, LANGUAGE, self.session.initial() if self.tells else None))
+        told = let_in(DATABASE, LANGUAGE, self.session.initial() if self.tells else None)
+        if self.process > FIRST_PROCESS and self.server.late:
+            self.server.loop.call_later(self.server.late, self.send, told)
+        else:
+            self.send(told)
 
     def request(self, kind, data):
         first = b""
         if self.status & (RESET | RESET_BUT_TRANSACTION):
+            hides = "behind" if self.session.descriptor else "reset"
             self.session.reset(bool(self.status & RESET))
-            first = change(18, b"")
+            first = b"" if self.vices.hides == hides else change(18, b"")
         if kind == LOAD:
-            self.asked.append((self.status, "load"))
+            self.note("load")
             return self.answer(first, self.session.load(data), ends_with("load", data))
         descriptor, data = behind_headers(data)
         text = data.decode("utf-16le") if kind == BATCH else "call"
-        self.asked.append((self.status, text))
+        self.note(text)
         if text == self.server.closes_at:
             self.server.closes_at = None
             return self.transport.abort()
+        if text == self.server.silent_at:
+            return None
         if descriptor != self.session.descriptor:
             return self.send(first + error(OTHER_TRANSACTION) + done(2))
         parts = self.session.batch(text) if kind == BATCH else self.session.calls(calls_of(data))
         end = ends_with("batch" if kind == BATCH else "calls")
-        if b"r\0o\0w\0s\0" in data or b"w\0a\0i\0t\0" in data:
+        is_held = text == self.server.held_at
+        if is_held:
+            self.server.held_at, parts = None, itertools.chain([b""], parts)
+        if is_held or b"r\0o\0w\0s\0" in data or b"w\0a\0i\0t\0" in data:
             self.task = asyncio.ensure_future(self.run(first, parts, end))
             return None
         return self.answer(first, parts, end)
+
+    def note(self, text):
+        """It is asked this, by a relay before anybody shares, or later."""
+        self.is_asked = self.is_asked and (text in QUESTIONS or text == "call")
+        (self.questions if self.is_asked else self.asked).append((self.status, text))
 
     def answer(self, first, parts, end):
         told = b"".join(parts)
@@ -167,6 +190,9 @@ class Server:
         self.peers, self.logins, self.cancels = {}, [], 0
         # Whether somebody waits in the middle of an answer; and a text at which a connection is closed, once.
         self.is_waited_at, self.closes_at = False, None
+        # A text that is never answered, or a relay's "cancel"; one whose answer waits for `go_on`, once; and how many seconds each
+        # login takes behind the first one.
+        self.silent_at, self.held_at, self.late = None, None, 0
 
     def __enter__(self):
         is_there = threading.Event()
@@ -203,6 +229,10 @@ class Server:
     def asked_on(self, process):
         """What it was asked there: status and text."""
         return list(self.peers[process].asked)
+
+    def questions_on(self, process):
+        """What it was asked there by a relay, before the connection was used."""
+        return list(self.peers[process].questions)
 
     def unsent_on(self, process):
         """How many bytes of its answers wait there, since nobody reads them."""

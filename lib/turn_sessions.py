@@ -12,12 +12,26 @@ import struct
 
 from turn_tokens import (
     BY_NAME, COUNTED, DONE, DONE_PROCEDURE, EXECUTE, EXECUTE_SQL, IN_BATCH, MORE, PREPARE, PREPARE_AND_EXECUTE, UNPREPARE,
-    change, done, error, return_status, returned_as, rows, session_state, state, text_of, wide_rows)
+    change, done, error, info, return_status, returned_as, rows, session_state, state, text_of, wide_rows)
 
 DATABASE, LANGUAGE = "d0", "l0"
 # The states by their numbers: settings, the isolation level, a text; tables and locks, which have no value.
 STATES = {1: "a", 2: "b", 3: "c", 4: "t", 5: "level", 6: "text"}
 LEVEL, TEXT, TABLES, LOCKS = 5, 6, 9, 10
+# What a relay asks before anybody shares: what its texts make, each a state of its own, which no application has; of these
+# can be recovered the first two. It prepares this text, by a handle that no application is given.
+MAKES = {
+    "set lock_timeout 5": "setting",
+    "set transaction isolation level serializable": "level",
+    "create table #tdsrelay (n int)": "table",
+    "declare tdsrelay cursor global for select 1": "cursor",
+    "exec sp_getapplock @Resource = 'tdsrelay', @LockMode = 'Shared', @LockOwner = 'Session'": "lock",
+}
+MADE = {name: 20 + place for place, name in enumerate(MAKES.values())}
+SELECT, BEGIN = "select 1", "begin transaction"
+WAIT = "set lock_timeout 5; raiserror('tdsrelay', 0, 1) with nowait; waitfor delay '00:00:00.900'"
+QUESTIONS = {*MAKES, SELECT, BEGIN, WAIT}
+ASKED_HANDLE = 900
 LAST = 0xFFFFFFFF
 # Errors as SQL Server numbers them: no column list of a bulk load, a table that is there or isn't, no lock, no handle,
 # no procedure, no memory, no transaction, one that is open, no statement; another transaction's descriptor.
@@ -42,6 +56,11 @@ class Vices:
     # The isolation level isn't told; a reset leaves it as it is.
     hides_level: bool = False
     keeps_level: bool = False
+    # What of a relay's questions isn't told (MADE, "transaction", "handle", "cancel", "reset", "behind"), is left by a reset,
+    # or is refused with an error.
+    hides: str = ""
+    leaves: str = ""
+    refuses: str = ""
     # The number of its first SESSIONSTATE: behind FFFFFFFF nothing can be recovered any more.
     first: int = 0
     # How it returns a handle (turn_tokens); and the first call that closes one fails.
@@ -60,6 +79,8 @@ class Session:
         self.descriptors = descriptors or itertools.count(1)
         self.given = 0
         self.settings = {}
+        # What a relay's questions have made.
+        self.made = set()
         self.sequence = vices.first
         self.descriptor = self.before = 0
         self.reset(True)
@@ -68,6 +89,7 @@ class Session:
         """Another one like it; descriptors are counted together."""
         other = copy.copy(self)
         other.settings, other.handles, other.said = dict(self.settings), dict(self.handles), dict(self.said)
+        other.made = set(self.made)
         other.tables = {name: list(values) for name, values in self.tables.items()}
         return other
 
@@ -81,6 +103,9 @@ class Session:
         values[LOCKS] = (b"", self.locks == 0)
         if self.vices.hides_level:
             del values[LEVEL]
+        for name, number in MADE.items():
+            if name != self.vices.hides:
+                values[number] = (bytes([name in self.made]), name in ("setting", "level") or name not in self.made)
         return values
 
     def initial(self):
@@ -109,6 +134,7 @@ class Session:
         kept = (self.descriptor, self.before, self.settings.get("t", 0))
         level = self.settings.get("level", 0) if self.vices.keeps_level else 0
         self.settings = dict.fromkeys(STATES.values(), 0) | {"level": level}
+        self.made &= {self.vices.leaves}
         self.tables, self.locks, self.database, self.language = {}, 0, DATABASE, LANGUAGE
         self.handles, self.hidden, self.awaits_load, self.has_failed = {}, 0, False, False
         self.descriptor = self.before = 0
@@ -121,7 +147,7 @@ class Session:
         settings = {name: value for name, value in self.settings.items()
                     if name != "level" or not self.vices.hides_level}
         return (sorted(settings.items()), self.database, self.language, sorted(self.tables.items()), self.locks,
-                self.descriptor > 0)
+                self.descriptor > 0, sorted(self.made))
 
     def digest(self):
         at = 17
@@ -131,8 +157,29 @@ class Session:
 
     # ---- What is asked
 
+    def question(self, text):
+        """What a relay asks before anybody shares."""
+        if text != SELECT and self.vices.refuses == ({WAIT: "cancel", BEGIN: "transaction"} | MAKES)[text]:
+            yield error(NO_STATEMENT)
+        elif text == WAIT:
+            self.made.add("setting")
+            yield info(50000)
+            yield b""
+        elif text == BEGIN:
+            told = b"".join(self.do_begin())
+            yield b"" if self.vices.hides == "transaction" else told
+        elif text == SELECT:
+            yield rows(1, 1)
+        elif MAKES[text] == "table" and "table" in self.made:
+            yield error(IS_THERE)
+        else:
+            self.made.add(MAKES[text])
+
     def batch(self, text):
         """The tokens of each statement."""
+        if text in QUESTIONS:
+            yield from self.question(text)
+            return
         if self.awaits_load:
             self.awaits_load = False
             yield error(NO_LOAD)
@@ -160,7 +207,12 @@ class Session:
 
     def call(self, name, value):
         name = BY_NAME.get(name, name)
-        if name in (PREPARE, PREPARE_AND_EXECUTE):
+        if name == PREPARE and value == SELECT and self.vices.refuses == "handle":
+            yield error(NO_MEMORY)
+        elif name == PREPARE and value == SELECT:
+            self.handles[ASKED_HANDLE] = value
+            yield b"" if self.vices.hides == "handle" else returned_as("one", ASKED_HANDLE)
+        elif name in (PREPARE, PREPARE_AND_EXECUTE):
             self.given += 1
             self.handles[self.given] = value
             if name == PREPARE_AND_EXECUTE:
@@ -170,7 +222,7 @@ class Session:
             yield error(NO_HANDLE)
         elif name == EXECUTE:
             yield from self.batch(self.handles[value])
-        elif name == UNPREPARE and self.vices.fails_to_close and not self.has_failed:
+        elif name == UNPREPARE and self.vices.fails_to_close and not self.has_failed and value != ASKED_HANDLE:
             self.has_failed = True
             yield error(NO_MEMORY)
         elif name == UNPREPARE:

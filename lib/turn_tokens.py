@@ -47,6 +47,11 @@ def error(number):
     return b"\xaa" + struct.pack("<H", len(body)) + body
 
 
+def info(number):
+    body = struct.pack("<IBBH", number, 1, 0, 1) + text_of("i") + b"\x00\x00" + struct.pack("<I", 1)
+    return b"\xab" + struct.pack("<H", len(body)) + body
+
+
 def change(kind, new, old=b""):
     """ENVCHANGE, whose values have a count of bytes, or of units (MS-TDS 2.2.7.9)."""
     unit = 2 if kind in (1, 2) else 1
@@ -209,15 +214,20 @@ def calls_of(body):
         at += 2
         if body[at:at + 5] == HANDLE:
             at += 5
-        at += 2
-        if body[at] == 0x26:
-            value, at = struct.unpack_from("<i", body, at + 3)[0], at + 7
-        else:
-            size = struct.unpack_from("<H", body, at + 8)[0]
-            value, at = body[at + 10:at + 10 + size].decode("utf-16le"), at + 10 + size
+        # Of several parameters the last one counts.
+        while at < len(body) and body[at] != 0xFF:
+            value, at = parameter_at(body, at + 2)
         calls.append((name, value))
         at += 1
     return calls
+
+
+def parameter_at(body, at):
+    """A parameter's value, whose type stands here, and where it ends."""
+    if body[at] == 0x26:
+        return struct.unpack_from("<i", body, at + 3)[0], at + 7
+    size = struct.unpack_from("<H", body, at + 8)[0]
+    return body[at + 10:at + 10 + size].decode("utf-16le"), at + 10 + size
 
 
 def asks_recovery(login):

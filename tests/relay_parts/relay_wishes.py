@@ -129,7 +129,7 @@ def kept(program, cases, server):
 
 def recovered(program, cases, server):
     """Session recovery is asked for where the application asks, with nothing to be recovered, and the setting says so: a
-    group of its own. Its server doesn't acknowledge it, so nobody is parted."""
+    group of its own. Its server doesn't acknowledge it, so it shares by sessions, as is told."""
     asks, bare = with_features((1, b"")), login()
     for words, told in (((), [bare]), (("--share", "transaction"), [bare, asks]), (("--share", "session"), [bare])):
         with Before(server) as before, Relay(program, before.port, "--most", "1", "--wait", "1", *words) as relay:
@@ -139,7 +139,8 @@ def recovered(program, cases, server):
                 links[-1].sendall(it)
                 message(links[-1])
             cases.same(f"what the server is told {words}", [it.hex() for it in before.logins], [it[8:].hex() for it in told])
-            cases.same(f"groups {words}", ["partings" in it for it in relay.json()["groups"]], [it == asks for it in told])
+            found = [it.get("shares_by_sessions") for it in relay.json()["groups"]]
+            cases.same(f"groups {words}", found, ["session recovery" if it == asks else None for it in told])
             cases.check(f"a row {words}", rows(links[1], 1))
             links[2].sendall(batch("rows 2 1"))
             cases.check(f"who waits isn't lent it {words}", error_of(links[2]) == 50101)

@@ -149,6 +149,11 @@ impl House {
         if let Some(address) = gone.dialed {
             self.upstream.fail(address, cause);
         }
+        if let (Whose::First(group), true) = (gone.whose, cause.is_failure()) {
+            if let Some(question) = self.question_of(group) {
+                return self.ask_no_more(rt, group, question);
+            }
+        }
         if cause.is_failure() && self.dial_again(rt, key, gone, cause)? {
             return Ok(());
         }

@@ -1,8 +1,10 @@
 //! Applications whose logins are equal, or one that is alone, and their relay.
 
+use crate::asking::Asked;
 use crate::keeping::Keeping;
 use crate::resting::Resting;
 use relay_logins::{FEATURES, Who};
+use relay_questions::Question;
 use relay_status::{Done, NOTHING};
 use std::alloc::{AllocError, Global};
 use std::net::IpAddr;
@@ -58,6 +60,10 @@ pub struct Group {
     pub is_over: bool,
     /// For how long its applications keep what they are lent.
     pub mode: Mode,
+    /// What the server of its first connection is asked before anybody shares, and the question because of which they
+    /// share by sessions.
+    pub asked: Option<Box<Asked>>,
+    pub question: Option<Question>,
     /// Its connections that rest, the numbers of those from which somebody was parted, and how often that was.
     pub resting: Resting,
     pub parted: Vec<u64>,
@@ -103,6 +109,8 @@ impl Group {
             judged: 0,
             is_over: false,
             mode,
+            asked: None,
+            question: None,
             resting: Resting::new(alloc),
             parted: Vec::new(alloc),
             partings: 0,
@@ -113,6 +121,24 @@ impl Group {
     /// Whether the server still judges its first login.
     pub fn is_judged(&self) -> bool {
         matches!(self.stage, Stage::Judged(_))
+    }
+
+    /// The question because of which it shares by sessions.
+    pub fn because(&self) -> Option<&'static str> {
+        match self.question {
+            Some(question) => Some(question.words()),
+            None => None,
+        }
+    }
+
+    /// How often a login's time passes at most before who waits for the judgement of its first one hears of it: once
+    /// for that; while its server is asked, once more; and once more where it is begun anew behind that.
+    pub fn login_times(&self) -> u64 {
+        match (&self.asked, self.question) {
+            (Some(_), _) => 2,
+            (None, Some(_)) => 3,
+            (None, None) => 1,
+        }
     }
 
     /// Whether no application of it is lent a connection for now.

@@ -18,6 +18,9 @@ impl House {
         group: usize,
         piece: &[u8],
     ) -> io::Result<()> {
+        if self.question_of(group).is_some() {
+            return self.hear_of_questions(rt, key, group, piece);
+        }
         let (rest, dialed) = self.dial(key, piece)?;
         match dialed {
             Dialed::More => self.send_or_close(rt, key),
@@ -28,7 +31,7 @@ impl House {
                 None => self.refused(rt, key, group, &answer, 0),
             },
             Dialed::Refused(answer, error) => self.refused(rt, key, group, &answer, error),
-            Dialed::In(size, answer) => self.let_in(rt, key, group, size, answer, rest),
+            Dialed::In(size, answer) => self.ask_or_let_in(rt, key, group, size, answer, rest),
         }
     }
 
@@ -50,7 +53,7 @@ impl House {
     }
 
     /// The first login of a group is let in: all who wait for that are.
-    fn let_in<R: Net>(
+    pub(crate) fn let_in<R: Net>(
         &mut self,
         rt: &R,
         key: usize,

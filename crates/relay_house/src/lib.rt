@@ -3,6 +3,7 @@
 #![tactic(auto)]
 
 mod again;
+mod asking;
 mod checking;
 mod crowd;
 mod dialing;

@@ -94,6 +94,7 @@ impl House {
             }
             Whose::First(group) => {
                 if let Some(group) = self.groups.get_mut(group) {
+                    group.asked = None;
                     if let Some(pair) = &mut group.pair {
                         pair.connection = key;
                     }

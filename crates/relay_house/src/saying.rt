@@ -146,6 +146,14 @@ pub(crate) fn put_name(journal: &mut Journal, host: &str, words: &str) {
     }
 }
 
+/// A line about a group.
+pub(crate) fn put_group(journal: &mut Journal, group: usize, words: &str, why: &str) {
+    if let Some(out) = journal.line() {
+        let _ = write!(out, "group {} {words} {why}", number_of(group));
+        journal.lines.end(&NOBODY);
+    }
+}
+
 /// A line about a server that has failed, behind which others are preferred.
 pub(crate) fn put_away(journal: &mut Journal, server: SocketAddr, cause: Cause) {
     if let Some(out) = journal.line() {

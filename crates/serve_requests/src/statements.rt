@@ -116,6 +116,9 @@ pub fn what_is(statement: &[u16]) -> Option<Known<'_>> {
     if is_word(word, b"waitfor") {
         return delay(rest);
     }
+    if is_word(word, b"raiserror") {
+        return message(rest);
+    }
     if is_word(word, b"use") {
         return database(rest);
     }
@@ -156,6 +159,19 @@ fn delay(rest: &[u16]) -> Option<Known<'_>> {
     match (first, next_piece(behind)) {
         (Piece::Word(word), (Piece::Quoted(time), _)) if is_word(word, b"delay") => {
             Some(Known::Wait(milliseconds_in(time)))
+        }
+        _ => None,
+    }
+}
+
+/// `raiserror('TEXT', 0, ..)`, which is no error.
+fn message(rest: &[u16]) -> Option<Known<'_>> {
+    let (bracket, rest) = next_piece(rest);
+    let (text, rest) = next_piece(rest);
+    let (comma, rest) = next_piece(rest);
+    match (bracket, text, comma, next_piece(rest)) {
+        (Piece::Sign(40), Piece::Quoted(_), Piece::Sign(44), (Piece::Word([48]), _)) => {
+            Some(Known::Silent)
         }
         _ => None,
     }

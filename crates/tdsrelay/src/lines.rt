@@ -19,6 +19,9 @@ impl Program {
             return Ok(());
         };
         put_group(body, &self.line_of_group(key, group))?;
+        if let Some(question) = group.because() {
+            writeln!(body, "  shares by sessions: {question}")?;
+        }
         for (_, entry) in self.house.sockets.iter() {
             if entry.value.group() == Some(key) {
                 put_socket(body, &self.line_of(&entry.value))?;
@@ -51,7 +54,11 @@ impl Program {
     pub fn put_json_group(&self, body: &mut Vec<u8>, key: usize, group: &Group) -> io::Result<()> {
         put_json_group(body, &self.line_of_group(key, group))?;
         self.put_numbers(body, key, group)?;
-        write!(body, "]}}")
+        write!(body, "]")?;
+        if let Some(question) = group.because() {
+            write!(body, ",\"shares_by_sessions\":\"{question}\"")?;
+        }
+        write!(body, "}}")
     }
 
     /// The numbers of those who wait in a group, the first one first.

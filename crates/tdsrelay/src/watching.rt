@@ -69,21 +69,21 @@ impl Program {
     }
 
     /// The limits of a socket that is this. A server's share of a login's time is the smaller the more servers there
-    /// are. Who waits for their judgement is told what becomes of it, so has all their shares, and the times
-    /// from one look at limits to the next. A connection that isn't shared may be idle as long as its
-    /// application is there.
+    /// are; what it is asked behind the login has the time of one more. Who waits for their judgement is told what
+    /// becomes of it, so has all their shares, that time, and the times from one look at limits to the next. A
+    /// connection that isn't shared may be idle as long as its application is there.
     pub fn limits_of(&self, whose: Whose) -> Limits {
         let mut limits = self.house.asked.limits;
+        let (login, servers) = (limits.login, self.house.asked.servers.count());
         match whose {
-            Whose::First(_) | Whose::Opening(..) | Whose::Again(_) => {
-                let count = self.house.asked.servers.count();
-                if limits.login > 0 && count > 1 {
-                    limits.login = (limits.login / count).max(1);
-                }
+            Whose::First(group) if self.house.question_of(group).is_some() => {
+                limits.login = share_of(login, servers).saturating_add(login);
             }
-            Whose::Judged(_) if limits.login > 0 => {
-                let count = self.house.asked.servers.count();
-                limits.login = limits.login.saturating_add(count);
+            Whose::First(_) => limits.login = share_of(login, servers),
+            Whose::Opening(..) | Whose::Again(_) => limits.login = share_of(login, servers),
+            Whose::Judged(group) if login > 0 => {
+                let times = self.login_times(group);
+                limits.login = login.saturating_mul(times).saturating_add(servers);
             }
             Whose::Connection(group, _) if self.house.pair_of(group).is_some() => {
                 limits.idle = 0;
@@ -93,6 +93,14 @@ impl Program {
             _ => {}
         }
         limits
+    }
+
+    /// How often a login's time passes at most before who waits for a group's judgement hears of it.
+    fn login_times(&self, group: usize) -> u64 {
+        match self.house.groups.get(group) {
+            Some(group) => group.login_times(),
+            None => 1,
+        }
     }
 
     /// Whether a group has no more connections than are kept however idle they are.
@@ -207,6 +215,15 @@ impl Program {
             Some(why) => self.house.tell_not_opened(key, why.as_str()),
             None => self.house.tell_not_opened(key, SILENT),
         }
+    }
+}
+
+/// Of the seconds of a login those that each of so many servers has.
+fn share_of(login: u64, servers: u64) -> u64 {
+    if login > 0 && servers > 1 {
+        (login / servers).max(1)
+    } else {
+        login
     }
 }
 
