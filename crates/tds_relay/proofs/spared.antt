@@ -13,6 +13,7 @@ pub mod Lines
 pub mod Lined
 pub mod Losing
 pub mod Only
+pub mod Opening
 pub mod Ordered
 pub mod Parks
 pub mod Resting

@@ -21,7 +21,7 @@ ghost use Rattle.tds_relay.specs.Reads.{Comes, IsLessAt, OpensOthers, Stays, Str
 ghost use Rattle.tds_relay.specs.Reads.{answer_at, if_heard, open_at};
 ghost use Rattle.tds_relay.specs.Reads.{reader_at, seen_at, waits_on};
 ghost use Rattle.tds_relay.specs.Bounds.{IsRoom};
-ghost use Rattle.tds_relay.specs.Ordering.{StayOrdered};
+ghost use Rattle.tds_relay.specs.Ordering.{OpensNew, StayOrdered, opens_in};
 ghost use Rattle.tds_relay.specs.Sending.{sending_at};
 ghost use Rattle.tds_relay.specs.Ties.{Connection, Goes, IsReached, desk_in};
 ghost use Rattle.tds_relay.specs.Waiting.{IsNotAcknowledged};
@@ -69,6 +69,7 @@ impl Relay {
         ensures closes { OnOk result (ClosesOnly (HeardFor number piece.now self.old)
             (but_told (register_in self.new) (register_in self.old)) (register_in self.new)) }
         ensures seated { IsSeated self.old → OnOk result (IsSeated self.new) }
+        ensures opening { OnOk result (OpensNew self.old self.new) }
     {
         self.hear_all(number, piece)?;
         self.serve_line()
@@ -101,6 +102,7 @@ impl Relay {
         ensures closes { OnOk result (ClosesOnly (HeardFor number piece.now self.old)
             (but_told (register_in self.new) (register_in self.old)) (register_in self.new)) }
         ensures seated { IsSeated self.old → OnOk result (IsSeated self.new) }
+        ensures opening { opens_in self.new.orders.items ≡ opens_in self.old.orders.items }
     {
         let mut rest = piece;
         'taking: for _ in 0..piece.len() + 1 {
@@ -202,6 +204,7 @@ impl Relay {
             (register_in self.old) (register_in self.new)) }
         ensures seated { IsSeatedBehind heard number self.old
             → OnOk result (IsSeated self.new) }
+        ensures opening { opens_in self.new.orders.items ≡ opens_in self.old.orders.items }
     {
         let Some(heard) = heard else {
             return self.lose(number);

@@ -17,7 +17,7 @@ ghost use Rattle.tds_relay.specs.Lent.{AllLastBut, KeepsAnswers, LastBesides};
 ghost use Rattle.tds_relay.specs.Law.{closing};
 ghost use Rattle.tds_relay.specs.Places.{held_by};
 ghost use Rattle.tds_relay.specs.Posts.{names_in, posts_in};
-ghost use Rattle.tds_relay.specs.Ordering.{StayOrdered};
+ghost use Rattle.tds_relay.specs.Ordering.{OpensNew, StayOrdered, opens_in};
 ghost use Rattle.tds_relay.specs.Reads.{Opens, Stays, open_waits, reader_at, waits_on};
 ghost use Rattle.tds_relay.specs.Sparing.{AllGo, AllRest, OthersRest};
 ghost use Rattle.tds_relay.specs.Taking.{IsDeaf};
@@ -60,6 +60,7 @@ impl Relay {
             (register_in self.new)) }
         ensures counts { OnOk result (CountsHold (find_key key (desk_in self.old.desk).holds)
             (cleaned_in self.old) (cleaned_in self.new)) }
+        ensures opening { OnOk result (OpensNew self.old self.new) }
     {
         let _ = self.applications.try_remove(key).is_some();
         self.release(key)?;
@@ -90,6 +91,7 @@ impl Relay {
         ensures lasts { OnOk result (LastBesides (λ other. other ≡ number)
             (IsWaiting (desk_in self.old.desk).line) (register_in self.old)
             (register_in self.new)) }
+        ensures opening { OnOk result (OpensNew self.old self.new) }
     {
         self.lose(number)?;
         self.serve_line()
@@ -113,6 +115,7 @@ impl Relay {
         ensures closes { OnOk result (ClosesOnly (Itself key)
             (register_in self.old) (register_in self.new)) }
         ensures seated { IsSeated self.old → OnOk result (IsSeated self.new) }
+        ensures opening { opens_in self.new.orders.items ≡ opens_in self.old.orders.items }
     {
         self.expel_for(key, None)
     }
@@ -137,6 +140,7 @@ impl Relay {
         ensures closes { OnOk result (ClosesOnly (Itself key)
             (register_in self.old) (register_in self.new)) }
         ensures seated { IsSeated self.old → OnOk result (IsSeated self.new) }
+        ensures opening { opens_in self.new.orders.items ≡ opens_in self.old.orders.items }
     {
         self.end_for(key, why)?;
         self.release(key)
@@ -158,6 +162,7 @@ impl Relay {
         ensures closes { OnOk result (ClosesOnly (Itself key)
             (register_in self.old) (register_in self.new)) }
         ensures counts { cleaned_in self.new ≡ cleaned_in self.old }
+        ensures opening { opens_in self.new.orders.items ≡ opens_in self.old.orders.items }
     {
         self.end_for(key, None)
     }
@@ -178,6 +183,7 @@ impl Relay {
         ensures closes { OnOk result (ClosesOnly (Itself key)
             (register_in self.old) (register_in self.new)) }
         ensures counts { cleaned_in self.new ≡ cleaned_in self.old }
+        ensures opening { opens_in self.new.orders.items ≡ opens_in self.old.orders.items }
     {
         match self.applications.get_mut(key) {
             Some(application) => {
@@ -219,6 +225,7 @@ impl Relay {
             self.old.links.items self.new.links.items) }
         ensures counts { OnOk result (CountsHold (find_key key (desk_in self.old.desk).holds)
             (cleaned_in self.old) (cleaned_in self.new)) }
+        ensures opening { opens_in self.new.orders.items ≡ opens_in self.old.orders.items }
     {
         self.outbox.clear();
         let left = self.desk.leave(key, &mut self.outbox)?;
@@ -266,6 +273,7 @@ impl Relay {
             (register_in self.old) (register_in self.new)) }
         ensures seated { IsSeatedOff number self.old → OnOk result (IsSeated self.new) }
         ensures counts { cleaned_in self.new ≡ cleaned_in self.old }
+        ensures opening { opens_in self.new.orders.items ≡ opens_in self.old.orders.items }
     {
         let key = self.desk.lose(number)?;
         self.close(number, key)
@@ -291,6 +299,7 @@ impl Relay {
             (register_in self.old) (register_in self.new)) }
         ensures seated { IsSeated self.old → OnOk result (IsSeated self.new) }
         ensures counts { cleaned_in self.new ≡ cleaned_in self.old }
+        ensures opening { opens_in self.new.orders.items ≡ opens_in self.old.orders.items }
     {
         match self.desk.key_on(number) {
             Some(holder) => {
@@ -321,6 +330,7 @@ impl Relay {
         ensures closes { OnOk result (ClosesOnly Nobody
             (register_in self.old) (register_in self.new)) }
         ensures counts { cleaned_in self.new ≡ cleaned_in self.old }
+        ensures opening { opens_in self.new.orders.items ≡ opens_in self.old.orders.items }
     {
         let tag = self.tag_on(number);
         remove_link(&mut self.links, number);
@@ -352,6 +362,7 @@ impl Relay {
         ensures closes { OnOk result (ClosesOnly (IsWho key)
             (register_in self.old) (register_in self.new)) }
         ensures counts { cleaned_in self.new ≡ cleaned_in self.old }
+        ensures opening { opens_in self.new.orders.items ≡ opens_in self.old.orders.items }
     {
         self.close_link(number)?;
         match key {

@@ -6,7 +6,7 @@ ghost use Rattle.tds_relay.specs.Closings.{register_in, with_most};
 ghost use Rattle.tds_relay.specs.Few.{Few, IsCrowded, IsSeated, MayServe, NobodyWaits};
 ghost use Rattle.tds_relay.specs.Fronts.{MovedOn, hall_in};
 ghost use Rattle.tds_relay.specs.Lent.{LastBut};
-ghost use Rattle.tds_relay.specs.Ordering.{StayOrdered};
+ghost use Rattle.tds_relay.specs.Ordering.{OpensNew, StayOrdered};
 ghost use Rattle.tds_relay.specs.Posts.{posts_in};
 ghost use Rattle.tds_relay.specs.Reads.{Opens};
 ghost use Rattle.tds_relay.specs.Sparing.{AllGo};
@@ -38,6 +38,7 @@ impl Relay {
         ensures lasts { OnOk result (LastBut (IsWaiting (desk_in self.old.desk).line)
             (with_most most (register_in self.old)) (register_in self.new)) }
         ensures seated { IsSeated self.old → OnOk result (IsSeated self.new) }
+        ensures opening { OnOk result (OpensNew self.old self.new) }
     {
         self.most = most;
         self.serve_line()

@@ -9,7 +9,7 @@ ghost use Rattle.tds_relay.specs.Fronts.{hall_in, house_in};
 ghost use Rattle.tds_relay.specs.Hall.{IsAway};
 ghost use Rattle.tds_relay.specs.House.{IsLedTo, Steps};
 ghost use Rattle.tds_relay.specs.Lent.{LastBesides};
-ghost use Rattle.tds_relay.specs.Ordering.{StayOrdered};
+ghost use Rattle.tds_relay.specs.Ordering.{OpensNew, StayOrdered};
 ghost use Rattle.tds_relay.specs.Parking.{may_park_in};
 ghost use Rattle.tds_relay.specs.Places.{held_by};
 ghost use Rattle.tds_relay.specs.Posts.{posts_in};
@@ -66,6 +66,7 @@ impl Relay {
         ensures counts { IfOk result (λ is. is ≡ true
             → CountsHold (find_key key (desk_in self.old.desk).holds)
             (cleaned_in self.old) (cleaned_in self.new)) }
+        ensures opening { OnOk result (OpensNew self.old self.new) }
     {
         if !self.may_park(key) {
             return Ok(false);

@@ -10,7 +10,7 @@ ghost use Rattle.tds_relay.specs.Fronts.{MovedOn, ends_in, hall_in};
 ghost use Rattle.tds_relay.specs.Anew.{ResetsFor};
 ghost use Rattle.tds_relay.specs.Hall.{IfOpenAsks, IsReset, end_at};
 ghost use Rattle.tds_relay.specs.Lent.{KeepsAnswers, LastBut};
-ghost use Rattle.tds_relay.specs.Ordering.{StayOrdered};
+ghost use Rattle.tds_relay.specs.Ordering.{StayOrdered, opens_in};
 ghost use Rattle.tds_relay.specs.Posts.{posts_in};
 ghost use Rattle.tds_relay.specs.Reads.{Stays, open_at, waits_on};
 ghost use Rattle.tds_relay.specs.Sparing.{IsHeldBack, IsUnkept, OthersRest};
@@ -54,6 +54,7 @@ impl Relay {
             (register_in self.old) (register_in self.new)) }
         ensures seated { IsSeated self.old → OnOk result (IsSeated self.new) }
         ensures counts { cleaned_in self.new ≡ cleaned_in self.old }
+        ensures opening { opens_in self.new.orders.items ≡ opens_in self.old.orders.items }
     {
         let Some(hold) = self.desk.hold_of(key) else {
             return self.start(key);

@@ -10,7 +10,7 @@ ghost use Rattle.tds_relay.specs.House.{is_said};
 ghost use Rattle.tds_relay.specs.Reasons.{HasTakenBack};
 ghost use Rattle.tds_relay.specs.Posts.{posts_in};
 ghost use Rattle.tds_relay.specs.Reads.{Stays};
-ghost use Rattle.tds_relay.specs.Ordering.{StayOrdered};
+ghost use Rattle.tds_relay.specs.Ordering.{StayOrdered, opens_in};
 ghost use Rattle.tds_relay.specs.Waking.{HandsTo};
 ghost use Rattle.tds_relay.specs.declared.desk.coming.What.TheVariants as whats;
 
@@ -39,6 +39,7 @@ impl Relay {
             → HasTakenBack heard.key (ends_in self.old.applications)) }
         ensures closes { OnOk result (ClosesOnly (λ other. heard.what ≡ whats.Closed)
             (register_in self.old) (register_in self.new)) }
+        ensures opening { opens_in self.new.orders.items ≡ opens_in self.old.orders.items }
     {
         let Some(key) = heard.key else {
             return Ok(false);

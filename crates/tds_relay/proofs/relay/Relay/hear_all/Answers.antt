@@ -3,7 +3,7 @@ use Rattle.tds_packet.specs.Reading.{Reading}
 use Rattle.tds_relay.specs.declared.relay.Relay.{Relay}
 use Rattle.tds_relay.specs.Coming.{AllAlong}
 use Rattle.tds_relay.specs.Fronts.{hall_in, house_in, told_by}
-use Rattle.tds_relay.specs.Ordering.{StayOrdered}
+use Rattle.tds_relay.specs.Ordering.{StayOrdered, opens_in}
 use Rattle.tds_relay.specs.Posts.{names_in, names_of, posts_in}
 use Rattle.tds_relay.specs.Reads.{OpensOthers, answer_at, open_at}
 use Rattle.tds_relay.specs.Ties.{Connection, Goes, IsReached, Neither, desk_in}
@@ -45,6 +45,7 @@ taking-init c = record {
   none = none_refl c.args.self.now.links.items;
   wakes = wakes_same (posts_in c.args.self.now.applications) c.args.self.now.applications c.args.self.now.orders.items refl;
   seated = λ s. s;
+  opening = refl;
 }
 
 pub taking-preserved : goal.taking-preserved
@@ -82,6 +83,7 @@ taking-preserved c = record {
       one_wakes c.args.number (posts_in c.args.self.now.applications) c.taking.self c.hear.new.self c.heard.new.self _ c.taking.invariant.wakes c.in_ok-count.ensures.ends c.in_ok-count.ensures.names c.in_ok-count.ensures.puts c.hear.ensures.orders
       c.in_ok-heard.ensures.kept c.in_ok-heard.ensures.ordered c.in_ok-heard.ensures.moves c.in_ok-heard.ensures.wakes;
   seated = λ s. c.in_ok-heard.ensures.seated (c.in_ok-count.ensures.seated (c.taking.invariant.seated s));
+  opening = c.heard.ensures.opening ∙ ap opens_in c.hear.ensures.orders ∙ c.taking.invariant.opening;
 }
 
 pub returns-clause-streams : goal.returns-clause-streams

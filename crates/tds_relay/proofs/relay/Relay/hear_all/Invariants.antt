@@ -7,7 +7,7 @@ use Rattle.tds_relay.specs.Few.{NoneNew}
 use Rattle.std.specs.Prelude.{None}
 use Rattle.tds_relay.specs.Apart.{SparesOthers}
 use Rattle.tds_relay.specs.Fronts.{hall_in, house_in}
-use Rattle.tds_relay.specs.Ordering.{StayOrdered}
+use Rattle.tds_relay.specs.Ordering.{StayOrdered, opens_in}
 use Rattle.tds_relay.specs.Posts.{names_in, posts_in}
 use Rattle.tds_relay.specs.Reads.{OpensOthers, answer_at, open_at}
 use Rattle.tds_relay.specs.Ties.{Connection, Goes, IsReached, desk_in}
@@ -32,4 +32,5 @@ invariant-taking l = record {
   none : NoneNew l.fn.self.links.items l.self.links.items;
   wakes : Wakes (posts_in l.fn.self.applications) l.self.applications l.self.orders.items;
   seated : IsSeated l.fn.self → IsSeated l.self;
+  opening : opens_in l.self.orders.items ≡ opens_in l.fn.self.orders.items;
 }

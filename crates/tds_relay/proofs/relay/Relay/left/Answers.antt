@@ -28,6 +28,7 @@ use Rattle.tds_relay.specs.Places.{held_by}
 use Rattle.tds_relay.proofs.spared.Cleaned.{counts_on}
 use Rattle.tds_relay.specs.Cleaning.{cleaned_in}
 use Rattle.tds_relay.specs.Desk.{find_key}
+use Rattle.tds_relay.proofs.spared.Opening.{left_last, opens_new_on, opens_same}
 use Rattle.tds_relay.proofs.relay.Relay.left.Goals as goal
 
 pub returns-clause-left : goal.returns-clause-left
@@ -98,3 +99,6 @@ returns-clause-lasts c =
 
 pub returns-clause-counts : goal.returns-clause-counts
 returns-clause-counts c = counts_on c.serve_line.result (find_key c.args.key c.args.self.now.desk.holds.items) (cleaned_in c.args.self.now) (cleaned_in c.release.new.self) (cleaned_in c.serve_line.new.self) c.in_ok-release.ensures.counts c.serve_line.ensures.counts
+
+pub returns-clause-opening : goal.returns-clause-opening
+returns-clause-opening c = opens_new_on c.serve_line.result c.args.self.now c.release.new.self c.serve_line.new.self (opens_same c.args.self.now c.release.new.self c.release.ensures.opening (left_last c.args.key (desk_in c.args.self.now.desk) (desk_in c.release.new.self.desk) c.in_ok-release.ensures.leaving)) c.serve_line.ensures.opening

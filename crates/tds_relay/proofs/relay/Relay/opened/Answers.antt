@@ -22,6 +22,9 @@ use Rattle.tds_relay.proofs.seats.Linked.{all_there}
 use Rattle.tds_relay.specs.Ties.{Reaches}
 use Rattle.tds_relay.proofs.steps.Reaching.{ok_more}
 use Rattle.tds_relay.proofs.spared.Lasting.{last_all, last_from, last_links, last_same, last_then}
+use Rattle.tds_relay.proofs.spared.Opening.{on_last, opens_new_on, opens_same}
+use Rattle.tds_relay.specs.Ordering.{opens_in}
+use Rattle.std.proofs.Common.{◌≤◌}
 use Rattle.tds_relay.proofs.relay.Relay.opened.Goals as goal
 
 pub returns-clause-steps : goal.returns-clause-steps
@@ -116,3 +119,11 @@ returns-clause-lasts c =
     (λ key e. inl (ap (λ (d : code.Desk). holder (desk_in d) c.args.number) (sym same) ∙ e)) c.in_ok-start_on.ensures.lasts)
     (λ key e. inr (ap (λ (d : code.Desk). is_in key (desk_in d).line) (sym same) ∙ waited_on (desk_in c.order_write_on.new.self.desk) (desk_in c.start_on.new.self.desk) c.in_ok-start_on.ensures.goes key e))
     c.serve_line.ensures.closes c.serve_line.ensures.lasts
+
+pub returns-clause-opening : goal.returns-clause-opening
+returns-clause-opening c =
+    let same = c.order_write_on.ensures.desk ∙ c.set_open.ensures.desk in
+    opens_new_on c.serve_line.result c.args.self.now c.start_on.new.self c.serve_line.new.self
+    (opens_same c.args.self.now c.start_on.new.self (c.start_on.ensures.opening ∙ c.order_write_on.ensures.opening ∙ ap opens_in c.set_open.ensures.orders)
+    (subst (λ (d : code.Desk). (desk_in d).service.last ≤ (desk_in c.start_on.new.self.desk).service.last) same (on_last (desk_in c.order_write_on.new.self.desk) (desk_in c.start_on.new.self.desk) c.in_ok-start_on.ensures.goes)))
+    c.serve_line.ensures.opening

@@ -17,6 +17,8 @@ use Rattle.std.proofs.Common.{subst}
 use Rattle.tds_relay.specs.Ties.{Serving}
 use Rattle.tds_relay.proofs.seats.Desks.{unserved}
 use Rattle.tds_relay.proofs.seats.Relays.{lent_if}
+use Rattle.tds_relay.proofs.spared.Opening.{lent_opens, on_last, opens_new_both, opens_none, opens_same, turn_last}
+use Rattle.tds_relay.specs.Desk.{Serves}
 use Rattle.tds_relay.proofs.relay.Relay.serve_line.Goals as goal
 
 pub line-init : goal.line-init
@@ -37,6 +39,7 @@ line-init c =
       lasting = last_start may (register_in old);
       seated = λ s. s;
       counts = refl;
+      opening = opens_none old;
       closes = closes_refl may (register_in old);
     }
 
@@ -74,6 +77,10 @@ line-preserved c = record {
       c.in_ok-lend-in-Some.ensures.seated
       (lent_if c.line.self.desk c.serve.new.self c.in-Some.served c.in-Some.served.had _ _ _ refl refl c.in_ok-served.ensures.ok.0 (subst (Serving (desk_in c.line.self.desk)) c.in-Some.is c.in_ok-served.ensures.ok.1) (c.line.invariant.seated s));
   counts = c.lend.ensures.counts ∙ c.line.invariant.counts;
+  opening =
+      opens_new_both c.args.self.now c.line.self c.lend.new.self c.line.invariant.opening
+      (lent_opens c.in-Some.served c.line.self c.lend.new.self (desk_in c.serve.new.self) _ _ c.in_ok-served.ensures.ok.0 (subst (Serving (desk_in c.line.self.desk)) c.in-Some.is c.in_ok-served.ensures.ok.1) c.in_ok-lend-in-Some.ensures.opening
+      (on_last (desk_in c.serve.new.self) (desk_in c.lend.new.self.desk) c.in_ok-lend-in-Some.ensures.goes));
 }
 
 pub returns-in-None-clause-apart : goal.returns-in-None-clause-apart
@@ -100,3 +107,6 @@ returns-then-is_full-clause-served c = inr (c.is_full.ensures.full (search rules
 pub returns-in-None-clause-seated : goal.returns-in-None-clause-seated
 returns-in-None-clause-seated c = λ s.
     unserved (desk_in c.line.self.desk) (desk_in c.serve.new.self) _ _ c.line.self.links.items c.in_ok-served.ensures.ok.0 (subst (Serving (desk_in c.line.self.desk)) c.in-None.is c.in_ok-served.ensures.ok.1) (c.line.invariant.seated s)
+
+pub returns-in-None-clause-opening : goal.returns-in-None-clause-opening
+returns-in-None-clause-opening c = opens_new_both c.args.self.now c.line.self _ c.line.invariant.opening (opens_same c.line.self _ refl (turn_last Serves (desk_in c.line.self.desk) (desk_in c.serve.new.self) _ _ c.in_ok-served.ensures.ok.0))

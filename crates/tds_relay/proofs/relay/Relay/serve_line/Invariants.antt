@@ -2,7 +2,7 @@ use Rattle.std.proofs.Common.{◌≡◌, ◌+◌, length}
 use Rattle.tds_relay.specs.Few.{Few}
 use Rattle.tds_relay.specs.Fronts.{MovedOn, hall_in}
 use Rattle.tds_relay.specs.Lent.{LastBut}
-use Rattle.tds_relay.specs.Ordering.{StayOrdered}
+use Rattle.tds_relay.specs.Ordering.{OpensNew, StayOrdered}
 use Rattle.tds_relay.specs.Posts.{posts_in}
 use Rattle.tds_relay.specs.Reads.{Opens}
 use Rattle.tds_relay.specs.Sparing.{AllGo}
@@ -30,4 +30,5 @@ invariant-line l = record {
   closes : ClosesOnly (IsWaiting (desk_in l.fn.self.desk).line) (register_in l.fn.self) (register_in l.self);
   seated : IsSeated l.fn.self → IsSeated l.self;
   counts : cleaned_in l.self ≡ cleaned_in l.fn.self;
+  opening : OpensNew l.fn.self l.self;
 }
