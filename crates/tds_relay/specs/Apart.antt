@@ -1,6 +1,6 @@
 -- What a call leaves as it was: the ends of all applications but one, or of all but those that wait for a connection.
-use Rattle.std.specs.Prelude.{◌≡◌, ◌≢◌, ℕ, false, Option, Some}
-use Rattle.tds_relay.specs.Hall.{Hall, end_at, holder, is_in}
+use Rattle.std.specs.Prelude.{◌≡◌, ◌≢◌, ◌++◌, ℕ, false, List, Option, Some}
+use Rattle.tds_relay.specs.Hall.{Ends, Hall, end_at, holder, is_in}
 
 -- The end of each other application is as it was, and whoever waited waits.
 pub record Alone (key : ℕ) (old new : Hall) : Type 0 where
@@ -10,6 +10,12 @@ pub record Alone (key : ℕ) (old new : Hall) : Type 0 where
 -- So is that of each that doesn't wait.
 abbrev pub UnlessServed : Hall → Hall → Type 0
 UnlessServed old new = (key : ℕ) → is_in key old.desk.line ≡ false → end_at new.ends key ≡ end_at old.ends key
+
+-- Of those who wait the first ones were lent a connection, and wait no more: the end of each other application is as it was.
+pub record LendsInTurn (line : List ℕ) (ends : Ends) (new : Hall) : Type 0 where
+  pub lent : List ℕ
+  pub are : line ≡ lent ++ new.desk.line
+  pub apart : (key : ℕ) → is_in key lent ≡ false → end_at new.ends key ≡ end_at ends key
 
 -- Of the connections that are held one alone is lost, that of this number: the end of each application that neither holds it nor waits is as
 -- it was.

@@ -132,11 +132,23 @@ pub data IsHeldBack (key : ℕ) (r : code.Relay) : Type 0 where
   Drains : IsTakenBack (end_at (ends_in r.applications) key) → IsHeldBack key r
   Opens : (hold : Hold) → find_key key r.desk.holds.items ≡ Some hold → open_at hold.number r.links.items ≡ None → IsHeldBack key r
 
--- One that was kept for the connection of this number goes on there now; but where what its application took back isn't acknowledged yet,
--- and where there is no such connection.
+-- As it starts, but what is put of it waits behind this, once, and nothing else does.
+pub data StartsBehind (waited : Option (List ℕ)) : Body → Body → Type 0 where
+  Stays : {b : Body} → StartsBehind waited b b
+  Closes : {b : Body} → StartsBehind waited b Closed
+  Goes : {kind : MessageKind} {bytes : List ℕ} {whole : Bool} {number : ℕ} {to : ClientSession} (was out : List ℕ) (from : ClientSession)
+      → waited ≡ Some was → ArePut whole bytes (opened from kind) to out → StartsBehind waited (Kept kind bytes whole) (Going number to (was ++ out))
+
+-- behind what waited on the connection that its application holds
+abbrev pub StartsThere : ℕ → code.Relay → code.Relay → Type 0
+StartsThere key old new =
+    (hold : Hold) → find_key key old.desk.holds.items ≡ Some hold → StartsBehind (waits_on hold.number old.links.items) (body_of key old) (body_of key new)
+
+-- One that was kept for the connection of this number goes on there now, behind what waited there; but where what its application took back
+-- isn't acknowledged yet, and where there is no such connection.
 pub record StartsOn (number : ℕ) (old new : code.Relay) : Type 0 where
   pub start : (key : ℕ) (client : ClientSession) → held_at key old.desk ≡ Some (number, client) → IsKept (body_of key old)
-      → HasGone (body_of key new) ⊎ (IsTakenBack (end_at (ends_in old.applications) key) ⊎ (reader_at number old.links.items ≡ None))
+      → (HasGone (body_of key new) × StartsBehind (waits_on number old.links.items) (body_of key old) (body_of key new)) ⊎ (IsTakenBack (end_at (ends_in old.applications) key) ⊎ (reader_at number old.links.items ≡ None))
 
 -- ---- Over calls
 

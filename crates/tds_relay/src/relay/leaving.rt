@@ -1,10 +1,10 @@
 //! Applications that leave, and connections that are lost.
 ghost use Rattle.std.specs.Prelude.{◌≡◌, ◌≢◌, ℕ, None, OnOk, Some, slice_set};
 ghost use Rattle.slab.specs.Slab.{get};
-ghost use Rattle.tds_relay.specs.Apart.{Alone, LosesOnly};
+ghost use Rattle.tds_relay.specs.Apart.{Alone, LendsInTurn, LosesOnly};
 ghost use Rattle.tds_relay.specs.Bodies.{AskAsBefore, AskOn, Body, Closed, body_in};
 ghost use Rattle.tds_relay.specs.Cleaning.{CountsHold, OfItsHold, WaitsAtEnd, WaitsBehindEnd, cleaned_in};
-ghost use Rattle.tds_relay.specs.Desk.{Loses, find_key, find_number, key_of, turn};
+ghost use Rattle.tds_relay.specs.Desk.{Loses, find_key, find_number, key_of, turn, without};
 ghost use Rattle.tds_relay.specs.Few.{Few, IsSeated, IsSeatedOff, NobodyWaits};
 ghost use Rattle.tds_relay.specs.Fronts.{LetsGoFirst, Moved, MovedOn, ends_in, hall_in, hall_of_ends};
 ghost use Rattle.tds_relay.specs.Fronts.{house_in};
@@ -42,6 +42,8 @@ impl Relay {
         ensures names { OnOk result (names_in self.new.applications
             ≡ slice_set (names_in self.old.applications) key None) }
         ensures served { OnOk result (NobodyWaits self.new) }
+        ensures lends { OnOk result (LendsInTurn (without key (desk_in self.old.desk).line)
+            (slice_set (ends_in self.old.applications) key None) (hall_in self.new)) }
         ensures few { OnOk result (Few self.old.most self.old.links.items
             self.new.links.items) }
         ensures opens { OnOk result (Opens self.old.links.items self.new.links.items) }
@@ -83,6 +85,9 @@ impl Relay {
             self.new.desk.service) }
         ensures goes_on { OnOk result (AllGo self.old self.new) }
         ensures only { OnOk result (LosesOnly number (hall_in self.old) (hall_in self.new)) }
+        ensures lends { OnOk result (LendsInTurn (desk_in self.old.desk).line (change_whose
+            (holder (desk_in self.old.desk) number) closes (ends_in self.old.applications))
+            (hall_in self.new)) }
         ensures ordered { OnOk result (StayOrdered self.old.orders.items self.new.orders.items) }
         ensures closes { OnOk result (ClosesOnly
             (WhoOrWaiting (holder (desk_in self.old.desk) number) (desk_in self.old.desk).line)
@@ -208,6 +213,8 @@ impl Relay {
         ensures lets_go { OnOk result (LetsGoFirst key (hall_in self.old) (hall_in self.new)) }
         ensures fronts { OnOk result (ends_in self.new.applications
             ≡ change_end key lets_go (ends_in self.old.applications)) }
+        ensures line { OnOk result ((desk_in self.new.desk).line
+            ≡ without key (desk_in self.old.desk).line) }
         ensures read { OnOk result (Stays self.old.links.items self.new.links.items) }
         ensures stand { OnOk result (AllStand self.old.desk.service
             self.new.desk.service) }

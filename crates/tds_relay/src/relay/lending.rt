@@ -1,8 +1,8 @@
 //! Connections that are lent to those who wait, opened, and asked.
 ghost use Rattle.std.specs.Prelude.{◌≡◌, ◌≢◌, ◌⊎◌, ◌++◌, [], ℕ, Bool, IfOk, List, None, OnOk, Some, false, option_map, true};
 ghost use Rattle.slab.specs.Slab.{get};
-ghost use Rattle.tds_relay.specs.Apart.{Alone, UnlessServed};
-ghost use Rattle.tds_relay.specs.Asking.{IsUnderway, waits_of};
+ghost use Rattle.tds_relay.specs.Apart.{Alone, LendsInTurn, UnlessServed};
+ghost use Rattle.tds_relay.specs.Asking.{HasBegun, IsUnderway, waits_of};
 ghost use Rattle.tds_relay.specs.Bodies.{AskAsBefore, Grows, Starts, body_of, going_of, held_of};
 ghost use Rattle.tds_relay.specs.Closings.{ClosesOnly, IsWaiting, IsWho, Itself, Nobody, WhoOrWaiting, register_in};
 ghost use Rattle.tds_relay.specs.Desk.{find_number, key_of};
@@ -18,7 +18,7 @@ ghost use Rattle.tds_relay.specs.Ordering.{OpensNew, StayOrdered, opens_if, open
 ghost use Rattle.tds_relay.specs.Reasons.{CannotPut, CannotStartAt, HasNoRoom, ItselfFor};
 ghost use Rattle.tds_relay.specs.Sending.{IsToWrite, called_at};
 ghost use Rattle.tds_relay.specs.Coming.{MayBeginAny};
-ghost use Rattle.tds_relay.specs.Sparing.{AllGo, AllRest, IsHeldBack, IsUnkept, OthersRest, StartsOn};
+ghost use Rattle.tds_relay.specs.Sparing.{AllGo, AllRest, IsHeldBack, IsUnkept, OthersRest, StartsOn, StartsThere};
 ghost use Rattle.tds_relay.specs.Taking.{IsDeaf};
 ghost use Rattle.tds_relay.specs.Ties.{Goes, GoesOn, IsReached, desk_in};
 ghost use Rattle.tds_relay.specs.Told.{TellsTheSame};
@@ -128,6 +128,9 @@ impl Relay {
         ensures waits { OnOk result ((key : ℕ)
             → key_of (find_number number (desk_in self.old.desk).holds) ≡ Some key
             → IsUnkept (body_of key self.new) ⊎ IsHeldBack key self.old) }
+        ensures behind { OnOk result ((key : ℕ)
+            → key_of (find_number number (desk_in self.old.desk).holds) ≡ Some key
+            → StartsThere key self.old self.new) }
         ensures ordered { OnOk result (StayOrdered self.old.orders.items self.new.orders.items) }
         ensures closes { OnOk result (ClosesOnly (IsWho (holder (desk_in self.old.desk) number))
             (register_in self.old) (register_in self.new)) }
@@ -157,6 +160,8 @@ impl Relay {
             self.new.desk.service) }
         ensures goes_on { OnOk result (AllGo self.old self.new) }
         ensures apart { OnOk result (UnlessServed (hall_in self.old) (hall_in self.new)) }
+        ensures lends { OnOk result (LendsInTurn (desk_in self.old.desk).line
+            (ends_in self.old.applications) (hall_in self.new)) }
         ensures ordered { OnOk result (StayOrdered self.old.orders.items self.new.orders.items) }
         ensures closes { OnOk result (ClosesOnly (IsWaiting (desk_in self.old.desk).line)
             (register_in self.old) (register_in self.new)) }
@@ -253,6 +258,7 @@ impl Relay {
             ≡ posts_in self.old.applications) }
         ensures moves { OnOk result (IsReset (desk_in self.old.desk) key
             (end_at (ends_in self.old.applications) key)
+            → HasBegun (desk_in self.old.desk) key (end_at (ends_in self.old.applications) key)
             → MovedOn (hall_in self.old) (hall_in self.new)) }
         ensures underway { (whole : Bool) → waits_of (get self.old.applications key) ≡ Some whole
             → OnOk result (IsUnderway whole self.new.links.items key (hall_in self.new)) }
@@ -267,6 +273,7 @@ impl Relay {
         ensures alone { OnOk result (Alone key (hall_in self.old) (hall_in self.new)) }
         ensures ordered { OnOk result (StayOrdered self.old.orders.items self.new.orders.items) }
         ensures placed { OnOk result (GoesOrWaits key self.new) }
+        ensures behind { OnOk result (StartsThere key self.old self.new) }
         ensures answers { OnOk result (KeepsAnswers self.old.links.items self.new.links.items) }
         ensures closes { OnOk result (ClosesOnly (ItselfFor key (CannotStartAt key self.old))
             (register_in self.old) (register_in self.new)) }

@@ -15,7 +15,7 @@ ghost use Rattle.tds_relay.specs.Places.{held_by};
 ghost use Rattle.tds_relay.specs.Posts.{posts_in};
 ghost use Rattle.tds_relay.specs.Reads.{Opens, open_waits};
 ghost use Rattle.tds_relay.specs.Sparing.{AllGo};
-ghost use Rattle.tds_relay.specs.Ties.{Application, Goes, IsReached, Leaving, desk_in};
+ghost use Rattle.tds_relay.specs.Ties.{Application, Goes, IsReached, Leaving, Parking, desk_in};
 ghost use Rattle.tds_relay.specs.Walkers.{AllStand};
 
 use super::Relay;
@@ -40,7 +40,7 @@ impl Relay {
             → IfOk result (λ is. is ≡ true → IsAway (hall_in self.new) key) }
         ensures goes { OnOk result (Goes (Application key)
             (desk_in self.old.desk) (desk_in self.new.desk)) }
-        ensures steps { OnOk result (Steps (Application key) (house_in self.old)
+        ensures steps { OnOk result (Steps (Parking key) (house_in self.old)
             (house_in self.new)) }
         ensures kept { OnOk result (posts_in self.new.applications
             ≡ posts_in self.old.applications) }

@@ -113,7 +113,7 @@ impl Relay {
     }
 
     /// Whether an application has begun a request, or all of one has come.
-    fn may_put(&self, key: usize, whole: bool) -> bool
+    pub(super) fn may_put(&self, key: usize, whole: bool) -> bool
         ensures begun { result ≡ true
             → IfOpen (puts whole) (end_at (ends_in self.now.applications) key) }
         ensures unbegun { result ≡ false

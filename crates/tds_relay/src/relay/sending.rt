@@ -195,6 +195,8 @@ impl Relay {
         ensures asks { OnOk result (AskOn self.old.applications self.new.applications) }
         ensures sends { IsReached (desk_in self.old.desk)
             → OnOk result (SendsOn number self.old self.new) }
+        ensures line { OnOk result ((desk_in self.new.desk).line
+            ≡ (desk_in self.old.desk).line) }
         ensures ordered { OnOk result (StayOrdered self.old.orders.items self.new.orders.items) }
         ensures puts { find_number number (desk_in self.old.desk).holds ≡ None
             → OnOk result (FillsBy self.old.outbox.items

@@ -1,5 +1,5 @@
 use Rattle.tds_relay.specs.Fronts.{hall_in, house_in}
-use Rattle.tds_relay.proofs.spared.Apart.{loses_only}
+use Rattle.tds_relay.proofs.spared.Apart.{lends_from, loses_only}
 use Rattle.tds_relay.specs.Ties.{desk_in}
 use Rattle.tds_relay.proofs.steps.Stepping.{no_steps, steps_moved, steps_whoever}
 use Rattle.tds_relay.proofs.steps.Staying.{opens_served}
@@ -68,3 +68,6 @@ returns-clause-lasts c =
 
 pub returns-clause-opening : goal.returns-clause-opening
 returns-clause-opening c = opens_new_on c.serve_line.result c.args.self.now c.lose.new.self c.serve_line.new.self (opens_same c.args.self.now c.lose.new.self c.lose.ensures.opening (on_last (desk_in c.args.self.now.desk) (desk_in c.lose.new.self.desk) c.in_ok-lose.ensures.goes)) c.serve_line.ensures.opening
+
+pub returns-clause-lends : goal.returns-clause-lends
+returns-clause-lends c = lends_from c.serve_line.result _ _ _ _ _ c.in_ok-lose.ensures.line c.in_ok-lose.ensures.ends c.serve_line.ensures.lends

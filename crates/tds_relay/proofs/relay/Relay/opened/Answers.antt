@@ -6,7 +6,7 @@ use Rattle.tds_relay.proofs.steps.Staying.{opens_one_served, stays_behind}
 use Rattle.tds_relay.proofs.bytes.Calls.{stand_back, stand_on}
 use Rattle.tds_relay.specs.declared.desk.Desk as code
 use Rattle.tds_relay.proofs.spared.Resting.{all_both, all_rest, asks_on, go_both, go_on, reached_on_does, rest_go}
-use Rattle.tds_relay.specs.Reads.{open_at}
+use Rattle.tds_relay.specs.Reads.{open_at, waits_on}
 use Rattle.tds_relay.proofs.spared.Starting.{started_on}
 use Rattle.tds_relay.proofs.steps.Renaming.{names_on}
 use Rattle.tds_relay.specs.Posts.{names_in, names_of}
@@ -65,12 +65,13 @@ returns-clause-starts c = λ reached.
     started_on c.serve_line.result c.args.number c.args.self.now c.order_write_on.new.self c.start_on.new.self c.serve_line.new.self reached same
     (c.in_ok-order_write_on.ensures.ends ∙ c.set_open.ensures.ends)
     (λ other. ap (open_at other) c.in_ok-order_write_on.ensures.links ∙ c.set_open.ensures.opens other)
-    (rest_go c.args.self.now c.order_write_on.new.self (λ r. all_both c.args.self.now c.set_open.new.self c.order_write_on.new.self c.set_open.ensures.same
+    (λ other. ap (waits_on other) c.in_ok-order_write_on.ensures.links ∙ c.set_open.ensures.waits other)
+    (all_both c.args.self.now c.set_open.new.self c.order_write_on.new.self c.set_open.ensures.same
     (all_rest c.set_open.new.self c.order_write_on.new.self c.order_write_on.ensures.desk c.in_ok-order_write_on.ensures.links
-    (asks_on c.set_open.new.self c.order_write_on.new.self c.in_ok-order_write_on.ensures.asks))))
+    (asks_on c.set_open.new.self c.order_write_on.new.self c.in_ok-order_write_on.ensures.asks)))
     c.in_ok-start_on.ensures.goes_on c.serve_line.ensures.goes_on
     (λ r. reached_on_does (desk_in c.order_write_on.new.self.desk) (desk_in c.start_on.new.self.desk) c.in_ok-start_on.ensures.goes r)
-    c.in_ok-start_on.ensures.waits
+    c.in_ok-start_on.ensures.waits c.in_ok-start_on.ensures.behind
 
 pub returns-clause-names : goal.returns-clause-names
 returns-clause-names c =

@@ -3,7 +3,7 @@ use Rattle.tds_relay.specs.Closings.{IsWaiting}
 use Rattle.tds_relay.specs.Fronts.{ends_in, hall_in, house_in}
 use Rattle.tds_relay.specs.Parking.{may_park_in}
 use Rattle.tds_relay.specs.Posts.{posts_in}
-use Rattle.tds_relay.specs.Ties.{Application, desk_in}
+use Rattle.tds_relay.specs.Ties.{Application, Parking, desk_in}
 use Rattle.tds_relay.proofs.spared.Closings.{closes_both, closes_more, closes_nobody}
 use Rattle.tds_relay.proofs.spared.Few.{most_kept, none_stays}
 use Rattle.tds_relay.proofs.spared.Lines.{waited_left}
@@ -44,11 +44,11 @@ returns-clause-steps c =
     let old = c.args.self.now in
     let mid = c.release.new.self in
     let rests : may_park_in old c.args.key ≡ true = sym c.may_park.ensures ∙ (search rules) in
-    steps_moved (Application c.args.key) (house_in old) (hall_in mid) (hall_in c.serve_line.new.self) (posts_in mid.applications) (posts_in c.serve_line.new.self.applications)
-    (c.in_ok-serve_line.ensures.moves (Application c.args.key)) c.in_ok-serve_line.ensures.kept
-    (steps_moves (Application c.args.key) (house_in old) (hall_in old) (hall_in mid) (posts_in old.applications) (posts_in mid.applications)
-    (moves_parks c.args.key (hall_in old) (desk_in old.desk) (ends_in old.applications) (hall_in mid) (parks old c.args.key rests) c.in_ok-release.ensures.lets_go (no_moves (Application c.args.key) (hall_in old)))
-    c.in_ok-release.ensures.kept (no_steps (Application c.args.key) (house_in old)))
+    steps_moved (Parking c.args.key) (house_in old) (hall_in mid) (hall_in c.serve_line.new.self) (posts_in mid.applications) (posts_in c.serve_line.new.self.applications)
+    (c.in_ok-serve_line.ensures.moves (Parking c.args.key)) c.in_ok-serve_line.ensures.kept
+    (steps_moves (Parking c.args.key) (house_in old) (hall_in old) (hall_in mid) (posts_in old.applications) (posts_in mid.applications)
+    (moves_parks c.args.key (hall_in old) (desk_in old.desk) (ends_in old.applications) (hall_in mid) (parks old c.args.key rests) c.in_ok-release.ensures.lets_go (no_moves (Parking c.args.key) (hall_in old)))
+    c.in_ok-release.ensures.kept (no_steps (Parking c.args.key) (house_in old)))
 
 pub returns-clause-kept : goal.returns-clause-kept
 returns-clause-kept c = c.in_ok-serve_line.ensures.kept ∙ c.in_ok-release.ensures.kept

@@ -1,6 +1,6 @@
 use Rattle.std.proofs.Common.{◌≡◌, ℕ, suc, length, ap, arith, refl, ◌∙◌, inl, inr, rules}
 use Rattle.std.proofs.Math.Nat.{zero-add}
-use Rattle.tds_relay.proofs.spared.Apart.{served_shorter, unserved_on, unserved_refl}
+use Rattle.tds_relay.proofs.spared.Apart.{lends_nobody, lends_none, lends_on, served_shorter, unserved_on, unserved_refl}
 use Rattle.tds_relay.proofs.spared.Ordered.{ordered_both, ordered_refl}
 use Rattle.tds_relay.proofs.steps.Fronts.{moves_does}
 use Rattle.tds_relay.proofs.steps.Reaching.{reaches_turn}
@@ -34,6 +34,7 @@ line-init c =
       going = go_refl old;
       ordered = ordered_refl old.orders.items;
       unserved = unserved_refl (hall_in old);
+      lends = lends_none (hall_in old);
       few = inl (none_refl old.links.items);
       shorter = zero-add (length old.desk.line.items);
       lasting = last_start may (register_in old);
@@ -71,6 +72,8 @@ line-preserved c = record {
       c.line.invariant.lasting
       (last_more (Itself c.in-Some.served.hold.key) (IsWaiting (desk_in c.args.self.now.desk).line) _ _
       (served_waited (hall_in c.args.self.now) (hall_in c.line.self) _ c.in-Some.served c.line.invariant.unserved c.in_ok-served.ensures.ok.1 c.in-Some.is) c.in_ok-lend-in-Some.ensures.lasts);
+  lends =
+      lends_on _ _ _ _ _ _ c.in-Some.served _ _ c.line.invariant.lends c.in_ok-served.ensures.ok.1 c.in-Some.is c.in_ok-served.ensures.ok.0 refl c.in_ok-lend-in-Some.ensures.alone;
   unserved =
       unserved_on _ _ _ _ _ c.in-Some.served _ _ c.line.invariant.unserved c.in_ok-served.ensures.ok.1 c.in-Some.is c.in_ok-served.ensures.ok.0 refl c.in_ok-lend-in-Some.ensures.alone;
   seated = λ s.
@@ -110,3 +113,9 @@ returns-in-None-clause-seated c = λ s.
 
 pub returns-in-None-clause-opening : goal.returns-in-None-clause-opening
 returns-in-None-clause-opening c = opens_new_both c.args.self.now c.line.self _ c.line.invariant.opening (opens_same c.line.self _ refl (turn_last Serves (desk_in c.line.self.desk) (desk_in c.serve.new.self) _ _ c.in_ok-served.ensures.ok.0))
+
+pub returns-in-None-clause-lends : goal.returns-in-None-clause-lends
+returns-in-None-clause-lends c = lends_nobody _ _ _ _ _ _ _ c.line.invariant.lends c.in_ok-served.ensures.ok.1 c.in-None.is c.in_ok-served.ensures.ok.0 refl
+
+pub returns-then-is_full-clause-lends : goal.returns-then-is_full-clause-lends
+returns-then-is_full-clause-lends c = c.line.invariant.lends
