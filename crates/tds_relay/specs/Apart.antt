@@ -23,9 +23,9 @@ abbrev pub LosesOnly : ℕ → Hall → Hall → Type 0
 LosesOnly number old new =
     (key : ℕ) → holder old.desk number ≢ Some key → is_in key old.desk.line ≡ false → end_at new.ends key ≡ end_at old.ends key
 
--- So is that of each but this one, if there is one, who neither holds the connection of this number nor waits; and it holds that and waits no
--- more than before.
+-- Each but this one, if there is one, who doesn't hold the connection of this number holds it no more than before; and where he doesn't wait
+-- either, he waits no more, and his end is as it was.
 abbrev pub SparesOthers : ℕ → Option ℕ → Hall → Hall → Type 0
 SparesOthers number who old new =
-    (key : ℕ) → who ≢ Some key → holder old.desk number ≢ Some key → is_in key old.desk.line ≡ false
-    → (holder new.desk number ≢ Some key) × (is_in key new.desk.line ≡ false) × (end_at new.ends key ≡ end_at old.ends key)
+    (key : ℕ) → who ≢ Some key → holder old.desk number ≢ Some key → (holder new.desk number ≢ Some key)
+    × (is_in key old.desk.line ≡ false → (is_in key new.desk.line ≡ false) × (end_at new.ends key ≡ end_at old.ends key))

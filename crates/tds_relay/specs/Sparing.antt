@@ -13,9 +13,9 @@ use Rattle.tds_relay.specs.declared.desk.leaving.Renewed.TheVariants as renewals
 use Rattle.tds_relay.specs.declared.relay.Relay as code
 use Rattle.tds_relay.specs.Asking.{IsTakenBack}
 use Rattle.tds_relay.specs.Bodies.{ArePut, Astray, Body, Closed, Going, Kept, Nowhere, Spared, Starts, body_of}
-use Rattle.tds_relay.specs.Desk.{find_key, without_lease}
+use Rattle.tds_relay.specs.Desk.{find_key, find_lease, without_lease}
 use Rattle.tds_relay.specs.Fronts.{ends_in}
-use Rattle.tds_relay.specs.Hall.{end_at}
+use Rattle.tds_relay.specs.Hall.{end_at, holder}
 use Rattle.tds_relay.specs.Promises.{Each}
 use Rattle.tds_relay.specs.Reads.{open_at, reader_at, waits_on}
 use Rattle.tds_relay.specs.Ties.{IsReached, desk_in}
@@ -67,6 +67,12 @@ AsideStay but number old new =
     (lease : ℕ) (client : ClientSession) → lease ≢ but → IsAside lease number (service_in old) → client_of lease old ≡ Some client
     → client_of lease new ≡ Some client
 
+-- Of each lease by which one is held the client stays, where no connection of this number has it.
+abbrev pub AsideHeld : ℕ → List Hold → services.Service → services.Service → Type 0
+AsideHeld number holds old new =
+    (h : Hold) (client : ClientSession) → find_lease h.lease holds ≡ Some h → IsAside h.lease number (service_in old) → client_of h.lease old ≡ Some client
+    → client_of h.lease new ≡ Some client
+
 -- An application keeps its connection by another lease, the last one that is held; or nothing has changed; or that connection is there no
 -- more.
 abbrev pub IsRenewed : Renewed → ℕ → desks.Desk → desks.Desk → Type 0
@@ -102,6 +108,10 @@ pub record AllGo (old new : code.Relay) : Type 0 where
 -- or each but that of one application
 pub record OthersGo (key : ℕ) (old new : code.Relay) : Type 0 where
   pub go : IsReached (desk_in old.desk) → (other : ℕ) → other ≢ key → Starts (body_of other old) (body_of other new)
+
+-- or each but this one, if there is one, that doesn't hold the connection of this number
+pub record OffGo (number : ℕ) (who : Option ℕ) (old new : code.Relay) : Type 0 where
+  pub go : IsReached (desk_in old.desk) → (key : ℕ) → who ≢ Some key → holder (desk_in old.desk) number ≢ Some key → Starts (body_of key old) (body_of key new)
 
 -- ---- A request that has waited
 

@@ -3,7 +3,7 @@ ghost use Rattle.std.specs.Prelude.{◌≡◌, [], ℕ, Bool, IfOk, IfSome, None
 ghost use Rattle.tds_service.specs.Table.{KeepsClientsOff, client_of, reading_on, service_in};
 ghost use Rattle.tds_relay.specs.Cleaning.{GoesOutAtEnd, GoesOutAtAny, GoesOutBy, IsBatch, IsLentBy, IsPutBehind};
 ghost use Rattle.tds_relay.specs.Desk.{Brings, Leaves, Loses, Renews, Way, cleaning, find_key, find_number};
-ghost use Rattle.tds_relay.specs.Desk.{key_of, releasing};
+ghost use Rattle.tds_relay.specs.Desk.{key_of, releasing, without_number};
 ghost use Rattle.tds_relay.specs.Sparing.{AsideStay, IsRenewed, OffHold, OthersHold};
 ghost use Rattle.tds_relay.specs.Ties.{IsNumberOf, IsReached, Makes, Turns, desk_in, is_sent, lost_by};
 ghost use Rattle.tds_relay.specs.Walkers.{AllStand, IsLed};
@@ -225,6 +225,10 @@ impl Desk {
         ensures gone { OnOk result (IsLed (desk_in self.old).service
             → reading_on number self.new.service ≡ None) }
         ensures off { OnOk result (OffHold number self.old self.new) }
+        ensures holds { OnOk result (self.new.holds.items
+            ≡ without_number number self.old.holds.items) }
+        ensures clients { OnOk result (KeepsClientsOff number self.old.service
+            self.new.service) }
     {
         let hold = find_number(&self.holds, number);
         forget(&mut self.service, number)?;

@@ -9,6 +9,7 @@ ghost use Rattle.tds_relay.specs.Hall.{AsksFor, IfOpen, IfWhose, IsBegun, MayPar
 ghost use Rattle.tds_relay.specs.Ordering.{StayOrdered, opens_in};
 ghost use Rattle.tds_relay.specs.Posts.{posts_in};
 ghost use Rattle.tds_relay.specs.Reads.{Stays};
+ghost use Rattle.tds_relay.specs.Sparing.{OffGo};
 ghost use Rattle.tds_relay.specs.Ties.{Connection, Goes, IsReached, desk_in};
 ghost use Rattle.tds_relay.specs.Waiting.{Resumes, StandsInLine};
 ghost use Rattle.tds_relay.specs.Walkers.{AllStand};
@@ -41,6 +42,7 @@ impl Relay {
             (register_in self.old) (register_in self.new)) }
         ensures seated { IsSeated self.old → OnOk result (IsSeated self.new) }
         ensures opening { opens_in self.new.orders.items ≡ opens_in self.old.orders.items }
+        ensures apart { OnOk result (OffGo number (Some key) self.old self.new) }
     {
         if self.asks_to_keep(key) {
             self.keep(number, key)
@@ -83,6 +85,7 @@ impl Relay {
             (register_in self.old) (register_in self.new)) }
         ensures seated { IsSeated self.old → OnOk result (IsSeated self.new) }
         ensures opening { opens_in self.new.orders.items ≡ opens_in self.old.orders.items }
+        ensures apart { OnOk result (OffGo number (Some key) self.old self.new) }
     {
         match self.desk.renew(key)? {
             Renewed::Kept(hold) => {
@@ -119,6 +122,7 @@ impl Relay {
             (register_in self.old) (register_in self.new)) }
         ensures seated { IsSeated self.old → OnOk result (IsSeated self.new) }
         ensures opening { opens_in self.new.orders.items ≡ opens_in self.old.orders.items }
+        ensures apart { OnOk result (OffGo number None self.old self.new) }
     {
         if !self.may_replace(number) {
             return self.lose(number);
