@@ -57,7 +57,7 @@ quiet_event key h (desk.Loses number) may = refl
 nothing_by : (key : ℕ) (h : Hall) (move : Move) → MayMove h move → IsQuiet move → along key h.desk (events_of h move) ≡ []
 nothing_by key h (hall.Does event) may quiet = ap (λ (xs : List (Item Token)). xs ++ []) (quiet_event key h event may)
 nothing_by key h (hall.Sends k deed) may quiet = refl
-nothing_by key h (hall.LetsGo k gives way) may quiet = refl
+nothing_by key h (hall.LetsGo k parks gives way) may quiet = refl
 nothing_by key h (hall.Loses number) may quiet = refl
 nothing_by key h (hall.Replaces number) may quiet = refl
 nothing_by key h (hall.Comes number part way) may quiet = absurd quiet

@@ -78,7 +78,7 @@ quiet_at : (key : ℕ) (h : Hall) (move : Move) → IsQuiet move → (o : Option
 quiet_at key h (hall.Does event) quiet o begun past at = at
 quiet_at key h (hall.Sends k deed) quiet o begun past at =
     if_keeps (goes_on (sent_by h.desk (desk.Does k deed))) (goes_keeps (sent_by h.desk (desk.Does k deed))) (k == key) o begun past at
-quiet_at key h (hall.LetsGo k gives way) quiet o begun past at = if_keeps lets_go lets_keeps (k == key) o begun past at
+quiet_at key h (hall.LetsGo k parks gives way) quiet o begun past at = if_keeps lets_go lets_keeps (k == key) o begun past at
 quiet_at key h (hall.Loses number) quiet o begun past at = whose_keeps closes closes_keeps key (holder h.desk number) o begun past at
 quiet_at key h (hall.Replaces number) quiet o begun past at = whose_keeps lets_go lets_keeps key (holder h.desk number) o begun past at
 quiet_at key h (hall.Comes number part way) quiet o begun past at = absurd quiet

@@ -12,7 +12,10 @@ pub mod Letting
 pub mod Lines
 pub mod Lined
 pub mod Losing
+pub mod Marking
+pub mod Off
 pub mod Only
+pub mod Opening
 pub mod Ordered
 pub mod Parks
 pub mod Resting

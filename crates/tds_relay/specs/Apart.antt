@@ -1,6 +1,6 @@
 -- What a call leaves as it was: the ends of all applications but one, or of all but those that wait for a connection.
-use Rattle.std.specs.Prelude.{◌≡◌, ◌≢◌, ℕ, false, Option, Some}
-use Rattle.tds_relay.specs.Hall.{Hall, end_at, holder, is_in}
+use Rattle.std.specs.Prelude.{◌≡◌, ◌≢◌, ◌++◌, ℕ, false, List, Option, Some}
+use Rattle.tds_relay.specs.Hall.{Ends, Hall, end_at, holder, is_in}
 
 -- The end of each other application is as it was, and whoever waited waits.
 pub record Alone (key : ℕ) (old new : Hall) : Type 0 where
@@ -11,15 +11,21 @@ pub record Alone (key : ℕ) (old new : Hall) : Type 0 where
 abbrev pub UnlessServed : Hall → Hall → Type 0
 UnlessServed old new = (key : ℕ) → is_in key old.desk.line ≡ false → end_at new.ends key ≡ end_at old.ends key
 
+-- Of those who wait the first ones were lent a connection, and wait no more: the end of each other application is as it was.
+pub record LendsInTurn (line : List ℕ) (ends : Ends) (new : Hall) : Type 0 where
+  pub lent : List ℕ
+  pub are : line ≡ lent ++ new.desk.line
+  pub apart : (key : ℕ) → is_in key lent ≡ false → end_at new.ends key ≡ end_at ends key
+
 -- Of the connections that are held one alone is lost, that of this number: the end of each application that neither holds it nor waits is as
 -- it was.
 abbrev pub LosesOnly : ℕ → Hall → Hall → Type 0
 LosesOnly number old new =
     (key : ℕ) → holder old.desk number ≢ Some key → is_in key old.desk.line ≡ false → end_at new.ends key ≡ end_at old.ends key
 
--- So is that of each but this one, if there is one, who neither holds the connection of this number nor waits; and it holds that and waits no
--- more than before.
+-- Each but this one, if there is one, who doesn't hold the connection of this number holds it no more than before; and where he doesn't wait
+-- either, he waits no more, and his end is as it was.
 abbrev pub SparesOthers : ℕ → Option ℕ → Hall → Hall → Type 0
 SparesOthers number who old new =
-    (key : ℕ) → who ≢ Some key → holder old.desk number ≢ Some key → is_in key old.desk.line ≡ false
-    → (holder new.desk number ≢ Some key) × (is_in key new.desk.line ≡ false) × (end_at new.ends key ≡ end_at old.ends key)
+    (key : ℕ) → who ≢ Some key → holder old.desk number ≢ Some key → (holder new.desk number ≢ Some key)
+    × (is_in key old.desk.line ≡ false → (is_in key new.desk.line ≡ false) × (end_at new.ends key ≡ end_at old.ends key))

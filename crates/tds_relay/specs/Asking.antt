@@ -13,7 +13,7 @@ use Rattle.tds_relay.specs.declared.application.Asking.TheVariants as asking
 use Rattle.tds_relay.specs.declared.desk.Hold.{Hold}
 use Rattle.tds_relay.specs.declared.link.Link.{Link}
 use Rattle.tds_relay.specs.Desk.{Desk, find_key}
-use Rattle.tds_relay.specs.Hall.{End, Hall, Open, Over, end_at, is_in}
+use Rattle.tds_relay.specs.Hall.{End, Hall, IfOpen, IsBegun, Open, Over, end_at, is_in}
 use Rattle.tds_relay.specs.House.{House, Step, Makes, Takes, after}
 use Rattle.tds_relay.specs.Reads.{open_at}
 use Rattle.tds_relay.specs.Taking.{IsDeaf, Tells}
@@ -37,6 +37,10 @@ pub record SendsOn (whole : Bool) (d : Desk) (key : ℕ) : Type 0 where
   pub hold : Hold
   pub its : find_key key d.holds ≡ Some hold
   pub sent : IsSent whole (stage_by d.service hold.lease)
+
+-- Its application has begun it, where this holds a connection.
+abbrev pub HasBegun : Desk → ℕ → Option End → Type 0
+HasBegun d key end = (hold : Hold) → find_key key d.holds ≡ Some hold → IfOpen IsBegun end
 
 -- ---- Where a request is
 

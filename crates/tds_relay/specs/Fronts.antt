@@ -113,7 +113,7 @@ MovedOn old new = (by : Cause) → Moved by old new
 
 -- An application let its connection go first.
 abbrev pub LetsGoFirst : ℕ → Hall → Hall → Type 0
-LetsGoFirst key old new = (gives : Bool) × (way : Way) × MovedOn (moved old (LetsGo key gives way)) new
+LetsGoFirst key old new = (gives : Bool) × (way : Way) × MovedOn (moved old (LetsGo key false gives way)) new
 
 -- what an application is given by what is said of its bytes
 abbrev pub given_by : ℕ → Said → Posts → Posts

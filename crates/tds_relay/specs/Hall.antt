@@ -163,8 +163,8 @@ pub data Move : Type 0 where
   Does : (event : Event) → Move
   -- bytes of a request, or its end, are put where an application holds a connection
   Sends : (key : ℕ) (deed : Deed) → Move
-  -- an application lets its connection go, and stays
-  LetsGo : (key : ℕ) (gives : Bool) (way : Way) → Move
+  -- an application lets its connection go, and stays: it is parked, or its request asks for that
+  LetsGo : (key : ℕ) (parks gives : Bool) (way : Way) → Move
   -- a connection is lost, and whoever holds it is closed; or that one stays, and has none
   Loses : (number : ℕ) → Move
   Replaces : (number : ℕ) → Move
@@ -185,7 +185,7 @@ event_if b event = if b then event ∷ [] else []
 abbrev pub events_of : Hall → Move → List Event
 events_of h (Does event) = event ∷ []
 events_of h (Sends key deed) = desk.Does key deed ∷ []
-events_of h (LetsGo key gives way) = desk.Leaves key gives way ∷ []
+events_of h (LetsGo key parks gives way) = desk.Leaves key gives way ∷ []
 events_of h (Loses number) = desk.Loses number ∷ []
 events_of h (Replaces number) = desk.Loses number ∷ []
 events_of h (Comes number part way) = desk.Comes number part way ∷ []
@@ -205,7 +205,7 @@ holder d number = key_of (find_number number d.holds)
 abbrev pub ends_behind : Hall → Move → Ends
 ends_behind h (Does event) = h.ends
 ends_behind h (Sends key deed) = change_end key (goes_on (sent_by h.desk (desk.Does key deed))) h.ends
-ends_behind h (LetsGo key gives way) = change_end key lets_go h.ends
+ends_behind h (LetsGo key parks gives way) = change_end key lets_go h.ends
 ends_behind h (Loses number) = change_whose (holder h.desk number) closes h.ends
 ends_behind h (Replaces number) = change_whose (holder h.desk number) lets_go h.ends
 ends_behind h (Comes number part way) = change_whose (whose h.desk number) (told (what_in (done_by h.desk number part))) h.ends
@@ -300,10 +300,9 @@ pub record IsAway (h : Hall) (key : ℕ) : Type 0 where
   pub holds : find_key key h.desk.holds ≡ None
   pub waits : is_in key h.desk.line ≡ false
 
--- Bytes are put of a request that has begun, and its end where all of it has come; what is asked may be taken back where nothing of it has
--- gone on.
+-- A request is asked, and put, where it has begun, its end where all of it has come; it may be taken back where nothing of it has gone on.
 abbrev pub MayDo : Deed → Option End → Type 0
-MayDo desk.Asks end = Unit {0}
+MayDo desk.Asks end = IfOpen IsBegun end
 MayDo (desk.Puts count) end = IfOpen IsBegun end
 MayDo (desk.Ends count) end = IfOpen IsWhole end
 MayDo desk.Stops end = IfOpen IsHere end
@@ -349,7 +348,8 @@ pub record HasEntered (key : ℕ) (old new : Ends) : Type 0 where
 abbrev pub MayMove : Hall → Move → Type 0
 MayMove h (Does event) = MayDoAlone h event
 MayMove h (Sends key deed) = IsPut deed × MayDo deed (end_at h.ends key)
-MayMove h (LetsGo key gives way) = MayPart h key ⊎ (may_park h key ≡ true)
+MayMove h (LetsGo key true gives way) = may_park h key ≡ true
+MayMove h (LetsGo key false gives way) = MayPart h key
 MayMove h (Loses number) = Unit {0}
 MayMove h (Replaces number) = IfWhose (MayPart h) (holder h.desk number)
 MayMove h (Comes number part way) = Unit {0}
@@ -364,11 +364,11 @@ MayMoveAll h (move ∷ moves) = MayMove h move × MayMoveAll (moved h move) move
 
 -- ---- Who causes each
 
--- Its bytes, and its end, are an application's own; a packet is its connection's. The rest is as at the desk.
+-- Its bytes, and its end, are an application's own, which is parked by that call alone; a packet is its connection's. The rest is as at the desk.
 abbrev pub CausesMove : Cause → Move → Type 0
 CausesMove by (Does event) = Causes by event
 CausesMove by (Sends key deed) = Unit {0}
-CausesMove by (LetsGo key gives way) = by ≡ causes.Application key
+CausesMove by (LetsGo key parks gives way) = by ≡ causes.parting parks key
 CausesMove by (Loses number) = Unit {0}
 CausesMove by (Replaces number) = by ≡ causes.Connection number
 CausesMove by (Comes number part way) = by ≡ causes.Connection number
@@ -381,7 +381,7 @@ CausesMove by (Quits key gives way) = by ≡ causes.Application key
 abbrev pub IsQuiet : Move → Type 0
 IsQuiet (Does event) = Unit {0}
 IsQuiet (Sends key deed) = Unit {0}
-IsQuiet (LetsGo key gives way) = Unit {0}
+IsQuiet (LetsGo key parks gives way) = Unit {0}
 IsQuiet (Loses number) = Unit {0}
 IsQuiet (Replaces number) = Unit {0}
 IsQuiet (Comes number part way) = ⊥

@@ -1,5 +1,5 @@
 -- What a user of a relay is promised, in its own words.
-use Rattle.std.specs.Prelude.{◌≡◌, ◌⊎◌, ℕ, false, List, [], ◌∷◌, ◌++◌, drop, take, Option, Some, None, if◌then◌else◌}
+use Rattle.std.specs.Prelude.{◌≡◌, true, ◌⊎◌, ℕ, false, List, [], ◌∷◌, ◌++◌, drop, take, Option, Some, None, if◌then◌else◌}
 use Rattle.tds_packet.specs.declared.status.Reset.{Reset}
 use Rattle.tds_packet.specs.declared.status.Reset.TheVariants.{Full, KeepTransaction}
 use Rattle.tds_relay.specs.House.{after_all}
@@ -40,7 +40,7 @@ PartsFor Asks key h = IfOpen IsHere (end_at h.ends key) × (Asks Full ⊎ (Asks 
 -- what no server may.
 abbrev pub Parts : (Reset → Type 0) → ℕ → Hold → Hall → Move → Type 0
 Parts Asks key hold h (Does (desk.Renews other resumes)) = (other ≡ key) × Asks KeepTransaction
-Parts Asks key hold h (LetsGo other gives way) = (other ≡ key) × PartsFor Asks key h
+Parts Asks key hold h (LetsGo other parks gives way) = (other ≡ key) × PartsFor Asks key h
 Parts Asks key hold h (Replaces number) = (number ≡ hold.number) × PartsFor Asks key h
 Parts Asks key hold h (Quits other gives way) = other ≡ key
 Parts Asks key hold h (Loses number) = number ≡ hold.number
@@ -67,7 +67,7 @@ pub record Rested (h : Hall) (key : ℕ) : Type 0 where
 
 -- It is parked where it rested.
 abbrev pub IsParked : ℕ → Hall → Move → Type 0
-IsParked key h (LetsGo other gives way) = (other ≡ key) × Rested h key
+IsParked key h (LetsGo other true gives way) = (other ≡ key) × Rested h key
 IsParked key h move = ⊥
 
 -- Or it is parked: that is all.

@@ -13,9 +13,9 @@ use Rattle.tds_relay.specs.declared.desk.leaving.Renewed.TheVariants as renewals
 use Rattle.tds_relay.specs.declared.relay.Relay as code
 use Rattle.tds_relay.specs.Asking.{IsTakenBack}
 use Rattle.tds_relay.specs.Bodies.{ArePut, Astray, Body, Closed, Going, Kept, Nowhere, Spared, Starts, body_of}
-use Rattle.tds_relay.specs.Desk.{find_key, without_lease}
+use Rattle.tds_relay.specs.Desk.{find_key, find_lease, without_lease}
 use Rattle.tds_relay.specs.Fronts.{ends_in}
-use Rattle.tds_relay.specs.Hall.{end_at}
+use Rattle.tds_relay.specs.Hall.{end_at, holder}
 use Rattle.tds_relay.specs.Promises.{Each}
 use Rattle.tds_relay.specs.Reads.{open_at, reader_at, waits_on}
 use Rattle.tds_relay.specs.Ties.{IsReached, desk_in}
@@ -67,6 +67,12 @@ AsideStay but number old new =
     (lease : ℕ) (client : ClientSession) → lease ≢ but → IsAside lease number (service_in old) → client_of lease old ≡ Some client
     → client_of lease new ≡ Some client
 
+-- Of each lease by which one is held the client stays, where no connection of this number has it.
+abbrev pub AsideHeld : ℕ → List Hold → services.Service → services.Service → Type 0
+AsideHeld number holds old new =
+    (h : Hold) (client : ClientSession) → find_lease h.lease holds ≡ Some h → IsAside h.lease number (service_in old) → client_of h.lease old ≡ Some client
+    → client_of h.lease new ≡ Some client
+
 -- An application keeps its connection by another lease, the last one that is held; or nothing has changed; or that connection is there no
 -- more.
 abbrev pub IsRenewed : Renewed → ℕ → desks.Desk → desks.Desk → Type 0
@@ -103,6 +109,10 @@ pub record AllGo (old new : code.Relay) : Type 0 where
 pub record OthersGo (key : ℕ) (old new : code.Relay) : Type 0 where
   pub go : IsReached (desk_in old.desk) → (other : ℕ) → other ≢ key → Starts (body_of other old) (body_of other new)
 
+-- or each but this one, if there is one, that doesn't hold the connection of this number
+pub record OffGo (number : ℕ) (who : Option ℕ) (old new : code.Relay) : Type 0 where
+  pub go : IsReached (desk_in old.desk) → (key : ℕ) → who ≢ Some key → holder (desk_in old.desk) number ≢ Some key → Starts (body_of key old) (body_of key new)
+
 -- ---- A request that has waited
 
 abbrev pub IsKept : Body → Type 0
@@ -132,11 +142,23 @@ pub data IsHeldBack (key : ℕ) (r : code.Relay) : Type 0 where
   Drains : IsTakenBack (end_at (ends_in r.applications) key) → IsHeldBack key r
   Opens : (hold : Hold) → find_key key r.desk.holds.items ≡ Some hold → open_at hold.number r.links.items ≡ None → IsHeldBack key r
 
--- One that was kept for the connection of this number goes on there now; but where what its application took back isn't acknowledged yet,
--- and where there is no such connection.
+-- As it starts, but what is put of it waits behind this, once, and nothing else does.
+pub data StartsBehind (waited : Option (List ℕ)) : Body → Body → Type 0 where
+  Stays : {b : Body} → StartsBehind waited b b
+  Closes : {b : Body} → StartsBehind waited b Closed
+  Goes : {kind : MessageKind} {bytes : List ℕ} {whole : Bool} {number : ℕ} {to : ClientSession} (was out : List ℕ) (from : ClientSession)
+      → waited ≡ Some was → ArePut whole bytes (opened from kind) to out → StartsBehind waited (Kept kind bytes whole) (Going number to (was ++ out))
+
+-- behind what waited on the connection that its application holds
+abbrev pub StartsThere : ℕ → code.Relay → code.Relay → Type 0
+StartsThere key old new =
+    (hold : Hold) → find_key key old.desk.holds.items ≡ Some hold → StartsBehind (waits_on hold.number old.links.items) (body_of key old) (body_of key new)
+
+-- One that was kept for the connection of this number goes on there now, behind what waited there; but where what its application took back
+-- isn't acknowledged yet, and where there is no such connection.
 pub record StartsOn (number : ℕ) (old new : code.Relay) : Type 0 where
   pub start : (key : ℕ) (client : ClientSession) → held_at key old.desk ≡ Some (number, client) → IsKept (body_of key old)
-      → HasGone (body_of key new) ⊎ (IsTakenBack (end_at (ends_in old.applications) key) ⊎ (reader_at number old.links.items ≡ None))
+      → (HasGone (body_of key new) × StartsBehind (waits_on number old.links.items) (body_of key old) (body_of key new)) ⊎ (IsTakenBack (end_at (ends_in old.applications) key) ⊎ (reader_at number old.links.items ≡ None))
 
 -- ---- Over calls
 

@@ -47,15 +47,22 @@ IsNumberOf None (Some left) = ⊥
 IsNumberOf (Some hold) None = ⊥
 IsNumberOf (Some hold) (Some left) = left.number ≡ hold.number
 
--- Who causes what is done: an application that says something or leaves, what comes on a connection, or neither.
+-- Who causes what is done: an application that says something or leaves, one that is parked, what comes on a connection, or neither.
 pub data Cause : Type 0 where
   Application : (key : ℕ) → Cause
+  Parking : (key : ℕ) → Cause
   Connection : (number : ℕ) → Cause
   Neither : Cause
+
+-- who lets a connection go, and stays: one that is parked, or says something
+abbrev pub parting : Bool → ℕ → Cause
+parting true key = Parking key
+parting false key = Application key
 
 -- Nothing comes on a connection by it.
 abbrev pub IsNoConnection : Cause → Type 0
 IsNoConnection (Application key) = Unit {0}
+IsNoConnection (Parking key) = Unit {0}
 IsNoConnection (Connection number) = ⊥
 IsNoConnection Neither = Unit {0}
 
@@ -70,6 +77,7 @@ CausesDeed by key Stops = by ≡ Application key
 -- waited for that.
 abbrev pub CausesRequest : Cause → ℕ → Type 0
 CausesRequest (Application other) key = other ≡ key
+CausesRequest (Parking other) key = ⊥
 CausesRequest (Connection number) key = Unit {0}
 CausesRequest Neither key = ⊥
 

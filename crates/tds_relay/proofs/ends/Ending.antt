@@ -21,7 +21,7 @@ whose_at ends (Some other) key by = changed_at End ends other key by
 abbrev pub end_by : ℕ → Hall → Move → Option End → Option End
 end_by key h (hall.Does event) o = o
 end_by key h (hall.Sends k deed) o = if k == key then option_map (goes_on (sent_by h.desk (desk.Does k deed))) o else o
-end_by key h (hall.LetsGo k gives way) o = if k == key then option_map lets_go o else o
+end_by key h (hall.LetsGo k parks gives way) o = if k == key then option_map lets_go o else o
 end_by key h (hall.Loses number) o = whose_by key (holder h.desk number) closes o
 end_by key h (hall.Replaces number) o = whose_by key (holder h.desk number) lets_go o
 end_by key h (hall.Comes number part way) o = whose_by key (whose h.desk number) (told (what_in (done_by h.desk number part))) o
@@ -33,7 +33,7 @@ end_by key h (hall.Quits k gives way) o = if k == key then None else o
 pub end_behind_is : (key : ℕ) (h : Hall) (move : Move) → end_at (ends_behind h move) key ≡ end_by key h move (end_at h.ends key)
 end_behind_is key h (hall.Does event) = refl
 end_behind_is key h (hall.Sends k deed) = changed_at End h.ends k key (goes_on (sent_by h.desk (desk.Does k deed)))
-end_behind_is key h (hall.LetsGo k gives way) = changed_at End h.ends k key lets_go
+end_behind_is key h (hall.LetsGo k parks gives way) = changed_at End h.ends k key lets_go
 end_behind_is key h (hall.Loses number) = whose_at h.ends (holder h.desk number) key closes
 end_behind_is key h (hall.Replaces number) = whose_at h.ends (holder h.desk number) key lets_go
 end_behind_is key h (hall.Comes number part way) = whose_at h.ends (whose h.desk number) key (told (what_in (done_by h.desk number part)))

@@ -68,7 +68,7 @@ whose_keeps by keeps key (Some other) o = if_keeps by keeps (other == key) o
 quiet_why : (key : ℕ) (h : Hall) (move : Move) → IsQuiet move → (o : Option End) → why_of (end_by key h move o) ≡ why_of o
 quiet_why key h (hall.Does event) quiet o = refl
 quiet_why key h (hall.Sends k deed) quiet o = if_keeps (goes_on (sent_by h.desk (desk.Does k deed))) (goes_keeps (sent_by h.desk (desk.Does k deed))) (k == key) o
-quiet_why key h (hall.LetsGo k gives way) quiet o = if_keeps lets_go lets_keeps (k == key) o
+quiet_why key h (hall.LetsGo k parks gives way) quiet o = if_keeps lets_go lets_keeps (k == key) o
 quiet_why key h (hall.Loses number) quiet o = whose_keeps closes closes_keeps key (holder h.desk number) o
 quiet_why key h (hall.Replaces number) quiet o = whose_keeps lets_go lets_keeps key (holder h.desk number) o
 quiet_why key h (hall.Comes number part way) quiet o = absurd quiet
@@ -176,7 +176,7 @@ alone_no_packet h (desk.Loses number) may = tt
 quiet_on : (h : Hall) (move : Move) → MayMove h move → IsQuiet move → (moved h move).desk.broken ≡ h.desk.broken
 quiet_on h (hall.Does event) may quiet = broken_as h.desk event (alone_no_packet h event may)
 quiet_on h (hall.Sends k deed) may quiet = broken_as h.desk (desk.Does k deed) tt
-quiet_on h (hall.LetsGo k gives way) may quiet = broken_as h.desk (desk.Leaves k gives way) tt
+quiet_on h (hall.LetsGo k parks gives way) may quiet = broken_as h.desk (desk.Leaves k gives way) tt
 quiet_on h (hall.Loses number) may quiet = broken_as h.desk (desk.Loses number) tt
 quiet_on h (hall.Replaces number) may quiet = broken_as h.desk (desk.Loses number) tt
 quiet_on h (hall.Comes number part way) may quiet = absurd quiet

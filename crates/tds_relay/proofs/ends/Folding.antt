@@ -167,7 +167,7 @@ step_story outs d key p es (Some (Over was)) (Some (Over why)) s = (p, s)
 pub passes_is : (key : ℕ) (h : Hall) (move : Move) → passes_by key h move (end_at h.ends key) ≡ passes key h move
 passes_is key h (hall.Does event) = refl
 passes_is key h (hall.Sends k deed) = refl
-passes_is key h (hall.LetsGo k gives way) = refl
+passes_is key h (hall.LetsGo k parks gives way) = refl
 passes_is key h (hall.Loses n) = refl
 passes_is key h (hall.Replaces n) = refl
 passes_is key h (hall.Comes n part way) = refl
@@ -189,7 +189,7 @@ whose_nothing key (Some k) = if_nothing (k == key)
 over_passes : (why : Option FrontFault) (key : ℕ) (h : Hall) (move : Move) → passes_by key h move (Some (Over why)) ≡ []
 over_passes why key h (hall.Does event) = refl
 over_passes why key h (hall.Sends k deed) = if_nothing (k == key)
-over_passes why key h (hall.LetsGo k gives way) = refl
+over_passes why key h (hall.LetsGo k parks gives way) = refl
 over_passes why key h (hall.Loses n) = refl
 over_passes why key h (hall.Replaces n) = refl
 over_passes why key h (hall.Comes n part way) = whose_nothing key (whose h.desk n)
@@ -227,7 +227,7 @@ pub stays_over : (why : Option FrontFault) (key : ℕ) (h : Hall) (move : Move) 
 stays_over why key h (hall.Does event) may stays e = e
 stays_over why key h (hall.Sends k deed) may stays e =
     ap (λ (o : Option End). if k == key then option_map (goes_on (sent_by h.desk (desk.Does k deed))) o else o) e ∙ if_over why (k == key) (goes_on (sent_by h.desk (desk.Does k deed))) (goes_over why (sent_by h.desk (desk.Does k deed)))
-stays_over why key h (hall.LetsGo k gives way) may stays e = ap (λ (o : Option End). if k == key then option_map lets_go o else o) e ∙ if_over why (k == key) lets_go refl
+stays_over why key h (hall.LetsGo k parks gives way) may stays e = ap (λ (o : Option End). if k == key then option_map lets_go o else o) e ∙ if_over why (k == key) lets_go refl
 stays_over why key h (hall.Loses n) may stays e =
     ap (λ (o : Option End). whose_by key (holder h.desk n) closes o) e ∙ whose_over why key (holder h.desk n) closes refl
 stays_over why key h (hall.Replaces n) may stays e =
@@ -263,7 +263,7 @@ whose_there key (Some k) by o i = if_there (k == key) by o i
 pub stays_there : (key : ℕ) (h : Hall) (move : Move) → MayMove h move → StaysIn key move → Is (end_at h.ends key) → Is (end_by key h move (end_at h.ends key))
 stays_there key h (hall.Does event) may stays i = i
 stays_there key h (hall.Sends k deed) may stays i = if_there (k == key) (goes_on (sent_by h.desk (desk.Does k deed))) (end_at h.ends key) i
-stays_there key h (hall.LetsGo k gives way) may stays i = if_there (k == key) lets_go (end_at h.ends key) i
+stays_there key h (hall.LetsGo k parks gives way) may stays i = if_there (k == key) lets_go (end_at h.ends key) i
 stays_there key h (hall.Loses n) may stays i = whose_there key (holder h.desk n) closes (end_at h.ends key) i
 stays_there key h (hall.Replaces n) may stays i = whose_there key (holder h.desk n) lets_go (end_at h.ends key) i
 stays_there key h (hall.Comes n part way) may stays i = whose_there key (whose h.desk n) (told (what_in (done_by h.desk n part))) (end_at h.ends key) i
@@ -351,7 +351,7 @@ module _ (h : Hall) (key : ℕ) (outs outs2 : ℕ → Bool) (sound : Sound h.des
   lawful_by (hall.Does event) p front w asks e may s leaves once = (tt, tt)
   lawful_by (hall.Sends k deed) p front w asks e may s leaves once =
       sent_if k deed (k == key) p front w asks refl may.0 (λ is. subst (MayDo deed) e (subst (λ (x : ℕ). MayDo deed (end_at h.ends x)) is may.1)) s leaves
-  lawful_by (hall.LetsGo k gives way) p front w asks e may s leaves once = (tt, tt)
+  lawful_by (hall.LetsGo k parks gives way) p front w asks e may s leaves once = (tt, tt)
   lawful_by (hall.Loses n) p front w asks e may s leaves once = (tt, tt)
   lawful_by (hall.Replaces n) p front w asks e may s leaves once = (tt, tt)
   lawful_by (hall.Comes n part way) p front w asks e may s leaves once = heard_whose n part way (whose d n) p front w refl s (came_once d n part way (outs n) (once n))

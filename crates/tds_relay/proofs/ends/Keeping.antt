@@ -64,14 +64,14 @@ module _ (h : Hall) (key : ℕ) (sound : Sound h.desk) (sit : AllSit h.desk) (k 
       inr (inl (is, subst (λ (x : ℕ). AsksFor KeepTransaction (end_at h.ends x)) is may))
   renews other resumes false e may = inl (others (desk.Renews other resumes) e)
 
-  lets : (other : ℕ) (gives : Bool) (way : Way) (b : Bool) → (other == key) ≡ b → MayPart h other ⊎ (may_park h other ≡ true) → Keeps (hall.LetsGo other gives way)
-  lets other gives way true e (inl may) =
+  lets : (other : ℕ) (parks gives : Bool) (way : Way) (b : Bool) → (other == key) ≡ b → MayMove h (hall.LetsGo other parks gives way) → Keeps (hall.LetsGo other parks gives way)
+  lets other false gives way true e may =
       let is = eqb-true other key e in
       inr (inl (is, subst (MayPart h) is may))
-  lets other gives way true e (inr parks) =
+  lets other true gives way true e rests =
       let is = eqb-true other key e in
-      inr (inr (is, rested h key (subst (λ (x : ℕ). may_park h x ≡ true) is parks)))
-  lets other gives way false e may = inl (others (desk.Leaves other gives way) e)
+      inr (inr (is, rested h key (subst (λ (x : ℕ). may_park h x ≡ true) is rests)))
+  lets other parks gives way false e may = inl (others (desk.Leaves other gives way) e)
 
   quits : (other : ℕ) (gives : Bool) (way : Way) (b : Bool) → (other == key) ≡ b → Keeps (hall.Quits other gives way)
   quits other gives way true e = inr (inl (eqb-true other key e))
@@ -114,7 +114,7 @@ module _ (h : Hall) (key : ℕ) (sound : Sound h.desk) (sit : AllSit h.desk) (k 
   pub keeps : (move : Move) → MayMove h move → Keeps move
   keeps (hall.Does event) may = alone event may
   keeps (hall.Sends other deed) may = inl (does other deed (other == key) refl)
-  keeps (hall.LetsGo other gives way) may = lets other gives way (other == key) refl may
+  keeps (hall.LetsGo other parks gives way) may = lets other parks gives way (other == key) refl may
   keeps (hall.Loses n) may = loses n (k.hold.number == n) refl
   keeps (hall.Replaces n) may = replaces n (k.hold.number == n) refl may
   keeps (hall.Comes n part way) may = comes n part way (k.hold.number == n) refl
@@ -155,7 +155,7 @@ stops_next d key other sound sit at false = at
 next : (h : Hall) (key : ℕ) → Sound h.desk → AllSit h.desk → AtDesk key h.desk → (move : Move) → MayMove h move → AtDesk key (moved h move).desk
 next h key sound sit at (hall.Does event) may = desk_next h.desk key sound sit event at (once h key event may)
 next h key sound sit at (hall.Sends other deed) may = desk_next h.desk key sound sit (desk.Does other deed) at tt
-next h key sound sit at (hall.LetsGo other gives way) may = desk_next h.desk key sound sit (desk.Leaves other gives way) at tt
+next h key sound sit at (hall.LetsGo other parks gives way) may = desk_next h.desk key sound sit (desk.Leaves other gives way) at tt
 next h key sound sit at (hall.Loses n) may = desk_next h.desk key sound sit (desk.Loses n) at tt
 next h key sound sit at (hall.Replaces n) may = desk_next h.desk key sound sit (desk.Loses n) at tt
 next h key sound sit at (hall.Comes n part way) may = desk_next h.desk key sound sit (desk.Comes n part way) at tt
@@ -187,7 +187,8 @@ keeps_all sharing key moves move may m = along sharing key [] (new_hall sharing)
 not_parked : (key : ℕ) (h : Hall) (move : Move) → h.desk.mode ≡ Sessions → IsParked key h move → ⊥
 not_parked key h (hall.Does event) mode p = p
 not_parked key h (hall.Sends other deed) mode p = p
-not_parked key h (hall.LetsGo other gives way) mode p = let u : Sessions ≡ Transactions = sym mode ∙ p.1.mode in let v : ⊥ = cc in v
+not_parked key h (hall.LetsGo other true gives way) mode p = let u : Sessions ≡ Transactions = sym mode ∙ p.1.mode in let v : ⊥ = cc in v
+not_parked key h (hall.LetsGo other false gives way) mode p = p
 not_parked key h (hall.Loses number) mode p = p
 not_parked key h (hall.Replaces number) mode p = p
 not_parked key h (hall.Comes number part way) mode p = p

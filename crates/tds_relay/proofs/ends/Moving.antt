@@ -168,8 +168,11 @@ module _ (h : Hall) (key : ℕ) (outs outs2 : ℕ → Bool) (sound : Sound h.des
   step (hall.Sends k deed) p may s leaves =
       sends_if d key outs outs2 sound sit k deed (k == key) p o refl s may.0 (λ is. subst (λ (x : ℕ). MayDo deed (end_at h.ends x)) is may.1) known
       (left_of d key outs outs2 sound sit (desk.Does k deed) leaves)
-  step (hall.LetsGo k gives way) p may s leaves =
-      lets_if d key outs outs2 sound sit k gives way (k == key) p o refl s (λ is. subst (λ (x : ℕ). IfOpen IsHere (end_at h.ends x)) is (lets_here h k may))
+  step (hall.LetsGo k true gives way) p may s leaves =
+      lets_if d key outs outs2 sound sit k gives way (k == key) p o refl s (λ is. subst (λ (x : ℕ). IfOpen IsHere (end_at h.ends x)) is (lets_here h k (inr may)))
+      (left_of d key outs outs2 sound sit (desk.Leaves k gives way) leaves)
+  step (hall.LetsGo k false gives way) p may s leaves =
+      lets_if d key outs outs2 sound sit k gives way (k == key) p o refl s (λ is. subst (λ (x : ℕ). IfOpen IsHere (end_at h.ends x)) is (lets_here h k (inl may)))
       (left_of d key outs outs2 sound sit (desk.Leaves k gives way) leaves)
   step (hall.Loses n) p may s leaves =
       loses_whose d key outs outs2 sound sit n (holder d n) p o refl s (left_of d key outs outs2 sound sit (desk.Loses n) leaves)

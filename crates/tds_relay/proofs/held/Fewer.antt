@@ -12,7 +12,7 @@ use Rattle.tds_relay.specs.Desk.{Deed, Desk, Event, Hearing, Loan, Way, brings_b
 use Rattle.tds_relay.specs.Hall as hall
 use Rattle.tds_relay.specs.Hall.{CausesMove, Hall, IsQuiet, Move, Moves, holder, moved, moved_all}
 use Rattle.tds_relay.specs.Promises.{Each}
-use Rattle.tds_relay.specs.Ties.{Application, Causes, Connection, IsReached, Neither}
+use Rattle.tds_relay.specs.Ties.{Application, Causes, Connection, IsReached, Neither, Parking}
 use Rattle.tds_relay.proofs.ends.Standing.{cared_number}
 use Rattle.tds_relay.proofs.held.Lists.{found_key}
 use Rattle.tds_relay.proofs.held.Numbers.{Apart, apart_at}
@@ -127,7 +127,8 @@ event_thins d (desk.Loses m) cause = lost_thins d m
 move_thins : (h : Hall) (move : Move) → CausesMove Neither move → IsQuiet move → Thins h.desk (moved h move).desk
 move_thins h (hall.Does event) cause quiet = event_thins h.desk event cause
 move_thins h (hall.Sends key deed) cause quiet = does_thins h.desk deed (find_key key h.desk.holds)
-move_thins h (hall.LetsGo key gives way) cause quiet = absurd (let e : Neither ≡ Application key = cause in let u : ⊥ = cc in u)
+move_thins h (hall.LetsGo key true gives way) cause quiet = absurd (let e : Neither ≡ Parking key = cause in let u : ⊥ = cc in u)
+move_thins h (hall.LetsGo key false gives way) cause quiet = absurd (let e : Neither ≡ Application key = cause in let u : ⊥ = cc in u)
 move_thins h (hall.Loses m) cause quiet = lost_thins h.desk m
 move_thins h (hall.Replaces m) cause quiet = absurd (let e : Neither ≡ Connection m = cause in let u : ⊥ = cc in u)
 move_thins h (hall.Comes m part way) cause quiet = absurd quiet

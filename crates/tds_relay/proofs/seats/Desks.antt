@@ -91,7 +91,7 @@ lost_seated number d e before after ls t s =
 
 -- ---- One is lent
 
-serves_at : (d : Desk) (line : List ℕ) (key : ℕ) (others : List ℕ) (lease number : ℕ) (had : Bool) → line ≡ key ∷ others → (step {T = Token} d.service calls.Lease).reply ≡ calls.Lent lease number had
+pub serves_at : (d : Desk) (line : List ℕ) (key : ℕ) (others : List ℕ) (lease number : ℕ) (had : Bool) → line ≡ key ∷ others → (step {T = Token} d.service calls.Lease).reply ≡ calls.Lent lease number had
     → (desk.serves d line).desk.service ≡ (step {T = Token} d.service calls.Lease).service
 serves_at d line key others lease number had e reply =
     ap (λ (xs : List ℕ). (desk.serves d xs).desk.service) e

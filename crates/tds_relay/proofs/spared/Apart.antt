@@ -1,18 +1,18 @@
 -- The ends of others, and the line, behind what is done for one application.
-use Rattle.std.proofs.Common.{◌≡◌, ◌≢◌, ◌∙◌, ◌==◌, ◌||◌, ℕ, suc, Bool, true, false, List, ◌∷◌, length, Option, Some, None, refl, sym, ap, subst, option_map}
+use Rattle.std.proofs.Common.{◌≡◌, ◌≢◌, ◌∙◌, ◌==◌, ◌||◌, ◌++◌, ℕ, suc, Bool, true, false, List, [], ◌∷◌, append_assoc, length, Option, Some, None, refl, sym, ap, subst, option_map}
 use Rattle.std.specs.Prelude.{Result, Ok, Err, OnOk}
 use Rattle.std.proofs.lemmas.Bool.{eq-eqb}
 use Rattle.std.proofs.lemmas.List.{get_or-set_other}
 use Rattle.tds_wire.specs.declared.told.Token.{Token}
 use Rattle.tds_service.specs.Service as calls
 use Rattle.tds_service.specs.Service.{Lent, step}
-use Rattle.tds_relay.specs.Apart.{Alone, LosesOnly, UnlessServed}
+use Rattle.tds_relay.specs.Apart.{Alone, LendsInTurn, LosesOnly, UnlessServed}
 use Rattle.tds_relay.specs.declared.desk.Hold.{Hold}
 use Rattle.tds_relay.specs.declared.desk.Served.{Served}
 use Rattle.tds_relay.specs.Desk as desk
-use Rattle.tds_relay.specs.Desk.{Desk, Deed, does, find_key, lent_in, serves, serves_by, turn}
+use Rattle.tds_relay.specs.Desk.{Desk, Deed, does, find_key, leaves, lent_in, serves, serves_by, turn, without}
 use Rattle.tds_relay.specs.Hall.{End, Ends, Hall, change_end, change_whose, closes, end_at, holder, is_in}
-use Rattle.tds_relay.specs.Ties.{Serving, Turns}
+use Rattle.tds_relay.specs.Ties.{IsServed, Serving, Turns}
 
 -- ---- One after the other
 
@@ -64,6 +64,10 @@ line_loses number old new before after t = ap (λ (d : Desk). d.line) t.desk_is
 or_first : (a b : Bool) → (a || b) ≡ false → a ≡ false
 or_first true b e = absurd (let u : ⊥ = cc in u)
 or_first false b e = refl
+
+neither : (a b : Bool) → a ≡ false → b ≡ false → (a || b) ≡ false
+neither true b e f = absurd (let u : ⊥ = cc in u)
+neither false b e f = f
 
 or_second : (a b : Bool) → (a || b) ≡ false → b ≡ false
 or_second true b e = absurd (let u : ⊥ = cc in u)
@@ -125,3 +129,54 @@ pub loses_only : {A E : Type 0} (r : Result A E) (number : ℕ) (old mid new : H
 loses_only (Ok x) number old mid new ends line served = λ key apart e.
     served key (ap (is_in key) line ∙ e) ∙ ap (λ (es : Ends). end_at es key) ends ∙ whose_apart old.ends (holder old.desk number) key apart
 loses_only (Err e) number old mid new ends line served = tt
+
+-- ---- The first of them
+
+in_first : (key : ℕ) (xs ys : List ℕ) → is_in key (xs ++ ys) ≡ false → is_in key xs ≡ false
+in_first key [] ys e = refl
+in_first key (x ∷ xs) ys e = neither (x == key) (is_in key xs) (or_first (x == key) (is_in key (xs ++ ys)) e) (in_first key xs ys (or_second (x == key) (is_in key (xs ++ ys)) e))
+
+in_second : (key : ℕ) (xs ys : List ℕ) → is_in key (xs ++ ys) ≡ false → is_in key ys ≡ false
+in_second key [] ys e = e
+in_second key (x ∷ xs) ys e = in_second key xs ys (or_second (x == key) (is_in key (xs ++ ys)) e)
+
+pub lends_none : (h : Hall) → LendsInTurn h.desk.line h.ends h
+lends_none h = record { lent = []; are = refl; apart = λ key e. refl }
+
+-- one more
+pub lends_on : (line : List ℕ) (ends : Ends) (b m c : Hall) (o : Option Served) (served : Served) (before after : List ℕ) → LendsInTurn line ends b → Serving b.desk o → o ≡ Some served → Turns desk.Serves b.desk m.desk before after → m.ends ≡ b.ends
+    → Alone served.hold.key m c → LendsInTurn line ends c
+lends_on line ends b m c o served before after h s is t same alone =
+    let k = served.hold.key in
+    let lent = subst (Serving b.desk) is s in
+    let left : c.desk.line ≡ lent.0 = alone.line ∙ ap (λ (x : Desk). x.line) t.desk_is ∙ serves_line b.desk k lent.0 served.hold.lease served.hold.number served.had lent.1 lent.2 in
+    record {
+      lent = h.lent ++ k ∷ [];
+      are = h.are ∙ ap (λ (ks : List ℕ). h.lent ++ ks) lent.1 ∙ sym (append_assoc h.lent (k ∷ []) lent.0) ∙ ap (λ (ks : List ℕ). (h.lent ++ k ∷ []) ++ ks) (sym left);
+      apart = λ key e.
+          alone.ends key (differ k key (or_first (k == key) false (in_second key h.lent (k ∷ []) e))) ∙ ap (λ (es : Ends). end_at es key) same ∙ h.apart key (in_first key h.lent (k ∷ []) e);
+    }
+
+rests_line : (d : Desk) (ks : List ℕ) → IsServed ks d.service → (serves d ks).desk.line ≡ d.line
+rests_line d [] s = refl
+rests_line d (k ∷ ks) s = ap (λ (r : calls.Reply). (serves_by d k ks (lent_in r)).desk.line) s
+
+-- where nobody is lent one
+pub lends_nobody : (line : List ℕ) (ends : Ends) (b c : Hall) (o : Option Served) (before after : List ℕ) → LendsInTurn line ends b → Serving b.desk o → o ≡ None → Turns desk.Serves b.desk c.desk before after → c.ends ≡ b.ends → LendsInTurn line ends c
+lends_nobody line ends b c o before after h s is t same =
+    let rests : c.desk.line ≡ b.desk.line = ap (λ (x : Desk). x.line) t.desk_is ∙ rests_line b.desk b.desk.line (subst (Serving b.desk) is s) in
+    record {
+      lent = h.lent;
+      are = h.are ∙ ap (λ (ks : List ℕ). h.lent ++ ks) (sym rests);
+      apart = λ key e. ap (λ (es : Ends). end_at es key) same ∙ h.apart key e;
+    }
+
+pub lends_from : {A E : Type 0} (r : Result A E) (line line1 : List ℕ) (ends ends1 : Ends) (c : Hall) → line1 ≡ line → ends1 ≡ ends → OnOk r (LendsInTurn line1 ends1 c) → OnOk r (LendsInTurn line ends c)
+lends_from r line line1 ends ends1 c lines same h = subst (λ (es : Ends). OnOk r (LendsInTurn line es c)) same (subst (λ (ks : List ℕ). OnOk r (LendsInTurn ks ends1 c)) lines h)
+
+left_line : (d : Desk) (key : ℕ) (gives : Bool) (way : desk.Way) (o : Option Hold) → (leaves d key gives way o).desk.line ≡ without key d.line
+left_line d key gives way None = refl
+left_line d key gives way (Some hold) = refl
+
+pub line_leaves : (key : ℕ) (gives : Bool) (way : desk.Way) (old new : Desk) (before after : List ℕ) → Turns (desk.Leaves key gives way) old new before after → new.line ≡ without key old.line
+line_leaves key gives way old new before after t = ap (λ (d : Desk). d.line) t.desk_is ∙ left_line old key gives way (find_key key old.holds)

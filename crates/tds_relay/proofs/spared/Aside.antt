@@ -9,13 +9,14 @@ use Rattle.tds_service.specs.History.{line_after}
 use Rattle.tds_service.specs.Line as line
 use Rattle.tds_service.specs.Line.{Act, Line, Stage}
 use Rattle.tds_service.specs.Refusing.{packets, refusal_in}
+use Rattle.tds_service.specs.Parts.{Part}
 use Rattle.tds_service.specs.Service as calls
 use Rattle.tds_service.specs.Service.{Call, Cleaning, Draining, Free, Kept, Leased, Place, Reply, Seat, Service, Step, acts_unless, does, find_by, has_lease, has_number, is_lendable, nothing, rests, step}
 use Rattle.tds_service.specs.Table.{KeepsClients, KeepsClientsOff, client_of, service_in}
 use Rattle.tds_service.specs.declared.service.Service as services
 use Rattle.tds_relay.specs.Desk.{Desk, find_key, find_lease, new_desk, without_lease, without_number}
 use Rattle.tds_relay.specs.Promises.{Each, CaresFor, IsCaredFor}
-use Rattle.tds_relay.specs.Sparing.{AsideStay, Held, IsAside, OthersHold, held_by}
+use Rattle.tds_relay.specs.Sparing.{AsideHeld, AsideStay, Held, IsAside, OffHold, OthersHold, held_by}
 use Rattle.tds_relay.specs.Ties.{IsReached, desk_in}
 use Rattle.tds_relay.specs.Walkers.{IsLed}
 use Rattle.tds_relay.specs.declared.desk.Desk as desks
@@ -28,6 +29,35 @@ use Rattle.tds_relay.proofs.promises.Tidy.{Tidy, step_rises}
 use Rattle.tds_relay.proofs.spared.Held.{added_key, client_found, holds_on, is_held, kept_key, lease_apart, not_equal, off_others, sound_at}
 use Rattle.tds_relay.specs.Fronting.{calls_along}
 use Rattle.tds_relay.proofs.steps.Calling.{service_along}
+
+-- ---- Where a connection is that has been cleaned
+
+abbrev IsBare : Option (Option Place) → Type 0
+IsBare None = Unit {0}
+IsBare (Some None) = Unit {0}
+IsBare (Some (Some (Leased lease))) = ⊥
+IsBare (Some (Some (Cleaning lease))) = ⊥
+IsBare (Some (Some (Kept ticket))) = ⊥
+IsBare (Some (Some Free)) = Unit {0}
+IsBare (Some (Some Draining)) = ⊥
+
+bare_if : (clean : Bool) → IsBare (Some (if clean then Some Free else None))
+bare_if true = tt
+bare_if false = tt
+
+bare_clean : (clean : Bool) (stage : Stage) → IsBare (calls.rests_clean clean stage)
+bare_clean clean line.Idle = bare_if clean
+bare_clean clean (line.Sending begun) = tt
+bare_clean clean line.Reading = tt
+bare_clean clean line.Cancelling = tt
+bare_clean clean (line.Broken fault) = tt
+
+bare_place : (place : Place) (l : Line) → IsBare (calls.clean_place place l)
+bare_place (Leased lease) l = tt
+bare_place (Cleaning lease) l = bare_clean (calls.is_clean l.heard.mark l.heard.descriptor) l.stage
+bare_place (Kept ticket) l = tt
+bare_place Free l = tt
+bare_place Draining l = tt
 
 -- ---- Behind a call that lends nothing to this lease
 
@@ -79,6 +109,37 @@ module _ (lease number : ℕ) where
         each_if (calls.may_keep c) (does s (suc s.given) test c (Some (Kept (suc s.given))) [] (calls.Ticket (suc s.given))) (nothing s calls.NotNow)
         (each_does (suc s.given) test c (Some (Kept (suc s.given))) [] (calls.Ticket (suc s.given)) e (λ is. absurd (let u : false ≡ true = is in let v : ⊥ = cc in v))) apart
 
+    holds_if : (b : Bool) → calls.holds lease (if b then Free else Draining) ≡ true → calls.holds lease Draining ≡ true
+    holds_if true e = e
+    holds_if false e = e
+
+    holds_drained : (place : Place) (stage : Stage) → calls.holds lease (calls.drained place stage) ≡ true → calls.holds lease place ≡ true
+    holds_drained (Leased other) stage e = e
+    holds_drained (Cleaning other) stage e = e
+    holds_drained (Kept ticket) stage e = e
+    holds_drained Free stage e = e
+    holds_drained Draining stage e = holds_if (calls.is_idle stage) e
+
+    each_hears : (test : Seat → Bool) (part : Part Token) (o : Option Seat) → find_by test s.seats ≡ o → Each Apart (calls.hears s test part o).service.seats
+    each_hears test part None e = apart
+    each_hears test part (Some c) e =
+        let stage = (line_after c.line (line.Come part ∷ [])).stage in
+        let own : Apart c = each_found Apart test c s.seats apart e in
+        each_does s.given test c (Some (calls.drained c.place stage)) (line.Come part ∷ []) calls.Did e (λ is. own (holds_drained c.place stage is))
+
+    each_rests : (test : Seat → Bool) (c : Seat) (o : Option (Option Place)) → find_by test s.seats ≡ Some c → IsBare o → Each Apart (calls.rests_cleaned {T = Token} s test c o).service.seats
+    each_rests test c None e bare = apart
+    each_rests test c (Some None) e bare = each_does s.given test c None [] (calls.Back None) e tt
+    each_rests test c (Some (Some (Leased other))) e bare = absurd bare
+    each_rests test c (Some (Some (Cleaning other))) e bare = absurd bare
+    each_rests test c (Some (Some (Kept ticket))) e bare = absurd bare
+    each_rests test c (Some (Some Free)) e bare = each_does s.given test c (Some Free) [] (calls.Back (Some Free)) e (λ is. absurd (let u : false ≡ true = is in let v : ⊥ = cc in v))
+    each_rests test c (Some (Some Draining)) e bare = absurd bare
+
+    each_cleaned : (test : Seat → Bool) (o : Option Seat) → find_by test s.seats ≡ o → Each Apart (calls.cleaned {T = Token} s test o).service.seats
+    each_cleaned test None e = apart
+    each_cleaned test (Some c) e = each_rests test c (calls.clean_place c.place c.line) e (bare_place c.place c.line)
+
   -- such a call
   abbrev pub IsMild : Call Token → Type 0
   IsMild calls.Lease = ⊥
@@ -89,10 +150,10 @@ module _ (lease number : ℕ) where
   IsMild (calls.Cancel other) = ⊥
   IsMild (calls.GiveBack other) = Unit {0}
   IsMild (calls.Clean m) = Unit {0}
-  IsMild (calls.Cleaned other) = ⊥
+  IsMild (calls.Cleaned other) = Unit {0}
   IsMild (calls.Keep other) = Unit {0}
   IsMild (calls.Abandon ticket) = ⊥
-  IsMild (calls.Came m part) = ⊥
+  IsMild (calls.Came m part) = Unit {0}
   IsMild (calls.Lost m) = ⊥
   IsMild (calls.Without call) = ⊥
 
@@ -105,10 +166,10 @@ module _ (lease number : ℕ) where
   each_step s (calls.Cancel other) m tidy le h = absurd m
   each_step s (calls.GiveBack other) m tidy le h = each_gives s tidy le h (has_lease other) (find_by (has_lease other) s.seats) refl
   each_step s (calls.Clean n) m tidy le h = each_cleans s tidy le h (has_number n) (find_by (has_number n) s.seats) refl
-  each_step s (calls.Cleaned other) m tidy le h = absurd m
+  each_step s (calls.Cleaned other) m tidy le h = each_cleaned s tidy le h (has_lease other) (find_by (has_lease other) s.seats) refl
   each_step s (calls.Keep other) m tidy le h = each_keeps s tidy le h (has_lease other) (find_by (has_lease other) s.seats) refl
   each_step s (calls.Abandon ticket) m tidy le h = absurd m
-  each_step s (calls.Came n part) m tidy le h = absurd m
+  each_step s (calls.Came n part) m tidy le h = each_hears s tidy le h (has_number n) part (find_by (has_number n) s.seats) refl
   each_step s (calls.Lost n) m tidy le h = absurd m
   each_step s (calls.Without call) m tidy le h = absurd m
 
@@ -261,3 +322,62 @@ unkept_others d e key g t u its left is keeps same again cut =
 
 pub led_kept : (s t u : services.Service) (own : ℕ) → service_in t ≡ (step {T = Token} (service_in s) (calls.Keep own)).service → service_in u ≡ service_in t → IsLed (service_in s) → IsLed (service_in u)
 led_kept s t u own is same led = subst IsLed (sym same) (led_on (service_in s) (service_in t) (calls.Keep own) is led)
+
+-- ---- Behind what comes on a connection
+
+-- one that another holds is another's
+aside_at : (d : Desk) (key number : ℕ) (h : Hold) → Sound d → IsReached d → find_key key d.holds ≡ Some h → h.number ≢ number → IsAside h.lease number d.service
+aside_at d key number h sound reached its off =
+    let held : find_lease h.lease d.holds ≡ Some h = found_by_lease key 0 d.service.given h d.holds sound.rising its in
+    record {
+      led = led_at d reached;
+      given = within_by d h (cases_lt d.service.given h.lease) sound held;
+      apart = each_weaker (CaresFor d.holds) (λ (c : Seat). has_lease h.lease c ≡ true → c.number ≢ number) (λ c cared is. cared_apart d.holds h.lease number c.number h c.place c.line held off cared is) d.service.seats sound.cared;
+    }
+
+-- a packet is heard, and then something is done that leaves those aside
+pub came_off : (number : ℕ) (d e : desks.Desk) (t : services.Service) (part : Part Token) → service_in t ≡ (step (service_in d.service) (calls.Came number part)).service → KeepsClientsOff number d.service t
+    → AsideHeld number d.holds.items t e.service → ((key : ℕ) (h : Hold) → find_key key d.holds.items ≡ Some h → h.number ≢ number → find_key key e.holds.items ≡ Some h) → OffHold number d e
+came_off number d e t part is keeps later kept = record {
+  hold = λ reached key off.
+      holds_on d e key (λ h client its there.
+      let sound : Sound (desk_in d) = sound_at (desk_in d) reached in
+      let differs : h.number ≢ number = λ same. off client (is_held d key h client its there ∙ ap (λ (n : ℕ). let x : Held = (n, client) in Some x) same) in
+      let aside : IsAside h.lease number (desk_in d).service = aside_at (desk_in d) key number h sound reached its differs in
+      let held : find_lease h.lease d.holds.items ≡ Some h = found_by_lease key 0 (desk_in d).service.given h d.holds.items sound.rising its in
+      let behind : IsAside h.lease number (service_in t) = aside_step h.lease number (service_in d.service) (service_in t) (calls.Came number part) tt is aside in
+      let first : client_of h.lease t ≡ Some client = forgot_for h.lease number d.service t keeps client aside there in
+      (kept key h its differs, later h client held behind first ∙ sym there));
+}
+
+-- where it was lost, by the list of what is held
+pub kept_off : (number key : ℕ) (h : Hold) (hs : List Hold) → find_key key hs ≡ Some h → h.number ≢ number → find_key key (without_number number hs) ≡ Some h
+kept_off number key h hs its differs = kept_key (λ (x : Hold). not (x.number == number)) key h hs its (not_equal (h.number == number) h.number number refl differs)
+
+pub off_same : (number : ℕ) (d e : desks.Desk) → e.holds.items ≡ d.holds.items → e.service ≡ d.service → OffHold number d e
+off_same number d e holds service = record {
+  hold = λ reached key off.
+      inl (ap (λ (s : services.Service). held_by s (find_key key e.holds.items)) service ∙ ap (λ (hs : List Hold). held_by d.service (find_key key hs)) holds);
+}
+
+-- ---- Where a message has ended
+
+lease_given_up : (holds : List Hold) (l : ℕ) (h : Hold) → find_lease l holds ≡ None → find_lease h.lease holds ≡ Some h → h.lease ≢ l
+lease_given_up holds l h none held same =
+    let u : None ≡ Some h = sym (subst (λ (k : ℕ). find_lease k holds ≡ None) (sym same) none) ∙ held in
+    let v : ⊥ = cc in v
+
+-- a cleaning's, which nobody holds
+pub cleaned_held : (number l : ℕ) (holds : List Hold) (s t : services.Service) → find_lease l holds ≡ None → AsideStay l number s t → AsideHeld number holds s t
+cleaned_held number l holds s t none stay = λ h client held aside there. stay h.lease client (lease_given_up holds l h none held) aside there
+
+-- or a drained one's
+pub drained_held : (number : ℕ) (holds : List Hold) (s t : services.Service) → ((but : ℕ) → AsideStay but number s t) → AsideHeld number holds s t
+drained_held number holds s t stay = λ h client held aside there.
+    stay (suc h.lease) h.lease client (λ same. let u : ⊥ = omega (arith, same) in u) aside there
+
+pub held_same : (number : ℕ) (holds : List Hold) (s : services.Service) → AsideHeld number holds s s
+held_same number holds s = λ h client held aside there. there
+
+pub lost_held : (number : ℕ) (holds : List Hold) (s t : services.Service) → KeepsClientsOff number s t → AsideHeld number holds s t
+lost_held number holds s t keeps = λ h client held aside there. forgot_for h.lease number s t keeps client aside there

@@ -33,12 +33,17 @@ use Rattle.tds_relay.proofs.steps.Reaching.{reached_on}
 -- ---- One after the other
 
 pub spares_refl : (number : ℕ) (who : Option ℕ) (h : Hall) → SparesOthers number who h h
-spares_refl number who h = λ key w o l. (o, l, refl)
+spares_refl number who h = λ key w o. (o, λ l. (l, refl))
 
 pub spares_both : (number : ℕ) (who : Option ℕ) (a b c : Hall) → SparesOthers number who a b → SparesOthers number who b c → SparesOthers number who a c
-spares_both number who a b c h k = λ key w o l.
-    let x = h key w o l in
-    let y = k key w x.0 x.1 in (y.0, y.1, y.2 ∙ x.2)
+spares_both number who a b c h k = λ key w o.
+    let x = h key w o in
+    let y = k key w x.0 in (
+      y.0,
+      (λ l.
+          let one = x.1 l in
+          let two = y.1 one.0 in (two.0, two.1 ∙ one.1)),
+    )
 
 pub spares_on : {A E : Type 0} (r : Result A E) (number : ℕ) (who : Option ℕ) (a b c : Hall) → SparesOthers number who a b → OnOk r (SparesOthers number who b c) → OnOk r (SparesOthers number who a c)
 spares_on (Ok x) number who a b c h k = spares_both number who a b c h k
@@ -48,7 +53,7 @@ nobody : (key : ℕ) → None ≢ Some key
 nobody key = λ e. (let u : None ≡ Some key = e in cc)
 
 pub spares_none : (number : ℕ) (who : Option ℕ) (a b : Hall) → SparesOthers number None a b → SparesOthers number who a b
-spares_none number who a b h = λ key w o l. h key (nobody key) o l
+spares_none number who a b h = λ key w o. h key (nobody key) o
 
 -- ---- What is done
 
@@ -57,10 +62,9 @@ changed_apart es None by key differs = refl
 changed_apart es (Some k) by key differs = set_apart es k key (option_map by (end_at es k)) (λ same. differs (ap (λ (n : ℕ). Some n) (sym same)))
 
 pub spares_changed : (number : ℕ) (who : Option ℕ) (by : End → End) (a b : Hall) → b.desk ≡ a.desk → b.ends ≡ change_whose who by a.ends → SparesOthers number who a b
-spares_changed number who by a b same ends = λ key w o l. (
+spares_changed number who by a b same ends = λ key w o. (
   (λ is. o (ap (λ (d : Desk). holder d number) (sym same) ∙ is)),
-  ap (λ (d : Desk). is_in key d.line) same ∙ l,
-  ap (λ (es : Ends). end_at es key) ends ∙ changed_apart a.ends who by key w,
+  (λ l. (ap (λ (d : Desk). is_in key d.line) same ∙ l, ap (λ (es : Ends). end_at es key) ends ∙ changed_apart a.ends who by key w)),
 )
 
 pub spares_same : (number : ℕ) (who : Option ℕ) (a b : Hall) → b.desk ≡ a.desk → b.ends ≡ a.ends → SparesOthers number who a b
@@ -71,10 +75,9 @@ holds_fewer : (number key : ℕ) (a b : Hall) → MovedOn a b → b.desk.line �
 holds_fewer number key a b m line is = fewer_moved a b (m Neither a (no_moves Neither a)) line number key is
 
 pub spares_alone : (number key : ℕ) (a b : Hall) → Alone key a b → MovedOn a b → SparesOthers number (Some key) a b
-spares_alone number key a b h m = λ k w o l. (
+spares_alone number key a b h m = λ k w o. (
   (λ is. o (holds_fewer number k a b m h.line is)),
-  ap (is_in k) h.line ∙ l,
-  h.ends k (λ same. w (ap (λ (n : ℕ). Some n) (sym same))),
+  (λ l. (ap (is_in k) h.line ∙ l, h.ends k (λ same. w (ap (λ (n : ℕ). Some n) (sym same))))),
 )
 
 pub spares_alone_on : {A E : Type 0} (r : Result A E) (number key : ℕ) (a b : Hall) → OnOk r (Alone key a b) → OnOk r (MovedOn a b) → OnOk r (SparesOthers number (Some key) a b)
@@ -82,10 +85,9 @@ spares_alone_on (Ok x) number key a b h m = spares_alone number key a b h m
 spares_alone_on (Err e) number key a b h m = tt
 
 pub spares_lost : (number : ℕ) (a b : Hall) → b.ends ≡ change_whose (holder a.desk number) closes a.ends → b.desk.line ≡ a.desk.line → MovedOn a b → SparesOthers number None a b
-spares_lost number a b ends line m = λ key w o l. (
+spares_lost number a b ends line m = λ key w o. (
   (λ is. o (holds_fewer number key a b m line is)),
-  ap (is_in key) line ∙ l,
-  ap (λ (es : Ends). end_at es key) ends ∙ changed_apart a.ends (holder a.desk number) closes key o,
+  (λ l. (ap (is_in key) line ∙ l, ap (λ (es : Ends). end_at es key) ends ∙ changed_apart a.ends (holder a.desk number) closes key o)),
 )
 
 pub spares_lost_on : {A E : Type 0} (r : Result A E) (number : ℕ) (a b : Hall) → OnOk r (b.ends ≡ change_whose (holder a.desk number) closes a.ends) → OnOk r (b.desk.line ≡ a.desk.line) → OnOk r (MovedOn a b)
@@ -94,10 +96,12 @@ spares_lost_on (Ok x) number a b ends line m = spares_lost number a b ends line 
 spares_lost_on (Err e) number a b ends line m = tt
 
 pub spares_waits : (number key : ℕ) (a b : Hall) → b.desk ≡ (turn a.desk (desk.Waits key)).desk → b.ends ≡ a.ends → SparesOthers number (Some key) a b
-spares_waits number key a b is ends = λ k w o l. (
+spares_waits number key a b is ends = λ k w o. (
   (λ e. o (ap (λ (d : Desk). holder d number) (sym is) ∙ e)),
-  ap (λ (d : Desk). is_in k d.line) is ∙ out_behind k key a.desk.line l (differs_by (key == k) key k refl (λ same. w (ap (λ (n : ℕ). Some n) same))),
-  ap (λ (es : Ends). end_at es k) ends,
+  (λ l. (
+    ap (λ (d : Desk). is_in k d.line) is ∙ out_behind k key a.desk.line l (differs_by (key == k) key k refl (λ same. w (ap (λ (n : ℕ). Some n) same))),
+    ap (λ (es : Ends). end_at es k) ends,
+  )),
 )
 
 lost_holder : (number key : ℕ) (d e : Desk) → e ≡ (turn d (desk.Loses number)).desk → holder e number ≡ Some key → holder d number ≡ Some key
@@ -105,32 +109,29 @@ lost_holder number key d e is h = loses_fewer d number number key (ap (λ (x : D
 
 -- who held the connection lets it go, and stays
 pub spares_parted : (number key : ℕ) (by : End → End) (a b : Hall) → holder a.desk number ≡ Some key → b.desk ≡ (turn a.desk (desk.Loses number)).desk → b.ends ≡ change_whose (Some key) by a.ends → SparesOthers number None a b
-spares_parted number key by a b its is ends = λ k w o l. (
+spares_parted number key by a b its is ends = λ k w o. (
   (λ e. o (lost_holder number k a.desk b.desk is e)),
-  ap (λ (d : Desk). is_in k d.line) is ∙ l,
-  ap (λ (es : Ends). end_at es k) ends ∙ changed_apart a.ends (Some key) by k (λ same. o (its ∙ same)),
+  (λ l. (ap (λ (d : Desk). is_in k d.line) is ∙ l, ap (λ (es : Ends). end_at es k) ends ∙ changed_apart a.ends (Some key) by k (λ same. o (its ∙ same)))),
 )
 
 -- and waits
 pub spares_holder : (number key : ℕ) (a b : Hall) → holder a.desk number ≡ Some key → SparesOthers number (Some key) a b → SparesOthers number None a b
-spares_holder number key a b its h = λ k w o l. h k (λ same. o (its ∙ same)) o l
+spares_holder number key a b its h = λ k w o. h k (λ same. o (its ∙ same)) o
 
 or_held : (key k : ℕ) (o : Option ℕ) → Some key ≢ Some k → o ≢ Some k → (k ≡ key) ⊎ (o ≡ Some k) → ⊥
 or_held key k o w not (inl same) = w (ap (λ (n : ℕ). Some n) (sym same))
 or_held key k o w not (inr is) = not is
 
 pub spares_renewed : (number key : ℕ) (resumes : Bool) (a b : Hall) → IsReached a.desk → b.desk ≡ (turn a.desk (desk.Renews key resumes)).desk → b.ends ≡ a.ends → SparesOthers number (Some key) a b
-spares_renewed number key resumes a b reached is ends = λ k w o l. (
+spares_renewed number key resumes a b reached is ends = λ k w o. (
   (λ e. or_held key k (holder a.desk number) w o (renewed_but a.desk key resumes reached number k (ap (λ (d : Desk). holder d number) (sym is) ∙ e))),
-  ap (λ (d : Desk). is_in k d.line) is ∙ ap (is_in k) (renews_line a.desk resumes (find_key key a.desk.holds)) ∙ l,
-  ap (λ (es : Ends). end_at es k) ends,
+  (λ l. (ap (λ (d : Desk). is_in k d.line) is ∙ ap (is_in k) (renews_line a.desk resumes (find_key key a.desk.holds)) ∙ l, ap (λ (es : Ends). end_at es k) ends)),
 )
 
 pub spares_left : (number : ℕ) (a b : Hall) → b.desk ≡ (turn a.desk (desk.Loses number)).desk → b.ends ≡ a.ends → SparesOthers number None a b
-spares_left number a b is ends = λ k w o l. (
+spares_left number a b is ends = λ k w o. (
   (λ e. o (lost_holder number k a.desk b.desk is e)),
-  ap (λ (d : Desk). is_in k d.line) is ∙ l,
-  ap (λ (es : Ends). end_at es k) ends,
+  (λ l. (ap (λ (d : Desk). is_in k d.line) is ∙ l, ap (λ (es : Ends). end_at es k) ends)),
 )
 
 -- ---- A packet
@@ -165,10 +166,10 @@ spares_shut (Ok x) number o h a t b c is told_same ends sent same kept =
     spares_both number (heard_key o) (hall_in a) (hall_in b) (hall_in c) (spares_sent number o h a t b is told_same ends sent) (spares_same number (heard_key o) (hall_in b) (hall_in c) (ap desk_in same) kept)
 spares_shut (Err e) number o h a t b c is told_same ends sent same kept = tt
 
-record HeardApart (number : ℕ) (o : Option Heard) (d e : Desk) : Type 0 where
-  line : e.line ≡ d.line
-  fewer : HoldsFewer d e
-  whose : (key : ℕ) → heard_key o ≡ Some key → holder d number ≡ Some key
+pub record HeardApart (number : ℕ) (o : Option Heard) (d e : Desk) : Type 0 where
+  pub line : e.line ≡ d.line
+  pub fewer : HoldsFewer d e
+  pub whose : (key : ℕ) → heard_key o ≡ Some key → holder d number ≡ Some key
 
 apart_same : (number : ℕ) (o : Option Heard) (d e : Desk) → e ≡ d → heard_key o ≡ None → HeardApart number o d e
 apart_same number o d e same none = record {
@@ -206,16 +207,19 @@ none_key : (o : Option Heard) → HearsNothing o → heard_key o ≡ None
 none_key None none = absurd none
 none_key (Some h) none = none.0
 
-apart_or : (number : ℕ) (left : List ℕ) (o : Option Heard) (a b : code.Relay) (new : House) → IsReached (desk_in a.desk) → (HearsNothing o × IsIdle a b) ⊎ IsHeardAs number left o a new → new.hall.desk ≡ desk_in b.desk
+pub apart_or : (number : ℕ) (left : List ℕ) (o : Option Heard) (a b : code.Relay) (new : House) → IsReached (desk_in a.desk) → (HearsNothing o × IsIdle a b) ⊎ IsHeardAs number left o a new → new.hall.desk ≡ desk_in b.desk
     → HeardApart number o (desk_in a.desk) (desk_in b.desk)
 apart_or number left o a b new reached (inl none) same = apart_same number o (desk_in a.desk) (desk_in b.desk) (ap desk_in none.1.0) (none_key o none.0)
 apart_or number left o a b new reached (inr h) same =
     subst (λ (d : Desk). HeardApart number o (desk_in a.desk) d) same (apart_by number (reading_on number a.desk.service) h.link h.next left h.count o (house_in a) new reached h.hears)
 
 spares_heard : (number : ℕ) (o : Option Heard) (a b c : Hall) → HeardApart number o a.desk b.desk → b.ends ≡ a.ends → SparesOthers number (heard_key o) b c → SparesOthers number None a c
-spares_heard number o a b c h ends k = λ key w none l.
-    let x = k key (λ is. none (h.whose key is)) (λ is. none (h.fewer number key is)) (ap (is_in key) h.line ∙ l) in
-    (x.0, x.1, x.2 ∙ ap (λ (es : Ends). end_at es key) ends)
+spares_heard number o a b c h ends k = λ key w none.
+    let x = k key (λ is. none (h.whose key is)) (λ is. none (h.fewer number key is)) in (
+      x.0,
+      (λ l.
+          let y = x.1 (ap (is_in key) h.line ∙ l) in (y.0, y.1 ∙ ap (λ (es : Ends). end_at es key) ends)),
+    )
 
 -- one behind the others
 pub one_spares : (number : ℕ) (left : List ℕ) (o : Option Heard) (first : Hall) (a b c : code.Relay) (es : Ends) → IsReached (desk_in a.desk) → SparesOthers number None first (hall_in a)
@@ -229,5 +233,5 @@ one_spares number left o first a b c es reached had hears ends goes done =
 -- and those who wait are served
 pub only_on : {A E : Type 0} (r : Result A E) (number : ℕ) (a b c : Hall) → SparesOthers number None a b → OnOk r (UnlessServed b c) → OnOk r (LosesOnly number a c)
 only_on (Ok x) number a b c h served = λ key o l.
-    let x = h key (nobody key) o l in served key x.1 ∙ x.2
+    let x = (h key (nobody key) o).1 l in served key x.0 ∙ x.1
 only_on (Err e) number a b c h served = tt

@@ -19,7 +19,8 @@ use Rattle.tds_relay.specs.Desk.{find_key, find_number, key_of}
 use Rattle.tds_relay.specs.Fronts.{ends_in}
 use Rattle.tds_relay.specs.Hall.{Ends, end_at}
 use Rattle.tds_relay.specs.Reads.{open_at, opened_at, reader_at, waits_on}
-use Rattle.tds_relay.specs.Sparing.{AllGo, AreCalls, Drains, HasGone, Held, IsHeldBack, IsKept, IsLeft, IsUnkept, Opens, StartsOn, behind_all, held_at}
+use Rattle.tds_relay.specs.Sparing as sparing
+use Rattle.tds_relay.specs.Sparing.{AllGo, AllRest, AreCalls, Drains, HasGone, Held, IsHeldBack, IsKept, IsLeft, IsUnkept, Opens, Rests, StartsBehind, StartsOn, StartsThere, behind_all, held_at}
 use Rattle.tds_relay.specs.Ties.{IsReached, desk_in}
 use Rattle.tds_relay.proofs.spared.Held.{holder_is, holds}
 use Rattle.tds_relay.proofs.spared.Resting.{starts_both}
@@ -115,6 +116,34 @@ kept_rest Closes kept = inl tt
 kept_rest Strays kept = absurd kept
 kept_rest (Goes waits out from puts) kept = inl tt
 
+-- ---- Behind what waited there
+
+closed_on : {b : Body} → Starts Closed b → Closed ≡ b
+closed_on Stays = refl
+closed_on Closes = refl
+
+not_kept : (b : Body) → IsKept b → IsUnkept b → ⊥
+not_kept Closed kept un = kept
+not_kept Nowhere kept un = kept
+not_kept (Kept kind bytes whole) kept un = un
+not_kept Astray kept un = kept
+not_kept (Going number client waits) kept un = kept
+
+gone_behind : (waited : Option (List ℕ)) {a b c : Body} → StartsBehind waited a b → IsKept a → IsUnkept b → Starts b c → HasGone c × StartsBehind waited a c
+gone_behind waited {a} sparing.Stays kept un later = absurd (not_kept a kept un)
+gone_behind waited {a} sparing.Closes kept un later = subst (λ (c : Body). HasGone c × StartsBehind waited a c) (closed_on later) (tt, sparing.Closes)
+gone_behind waited (sparing.Goes was out from is puts) kept un Stays = (tt, sparing.Goes was out from is puts)
+gone_behind waited (sparing.Goes was out from is puts) kept un Closes = (tt, sparing.Closes)
+
+-- from where it was before
+rest_behind : (waited : Option (List ℕ)) (x a b c : Body) → Rests x a → StartsBehind waited a b → IsKept x → IsUnkept b → Starts a b → Starts b c → HasGone c × StartsBehind waited x c
+rest_behind waited x a b c (inl (inl same)) behind kept un first later =
+    subst (λ (y : Body). HasGone c × StartsBehind waited y c) same (gone_behind waited behind (subst IsKept (sym same) kept) un later)
+rest_behind waited x a b c (inl (inr shut)) behind kept un first later =
+    let over : Closed ≡ c = closed_on (subst (λ (y : Body). Starts y c) (sym (closed_on (subst (λ (y : Body). Starts y b) shut first))) later) in
+    subst (λ (y : Body). HasGone y × StartsBehind waited x y) over (tt, sparing.Closes)
+rest_behind waited x a b c (inr astray) behind kept un first later = absurd (subst IsKept astray kept)
+
 -- ---- Where its connection opens
 
 -- what it is held back by, before that
@@ -131,30 +160,37 @@ before_open number key old mid held e same at ends opens (Opens hold its closed)
     let here : (number == number) ≡ true = eq-eqb number number refl in
     inr (sym (ap (λ (b : Bool). if b then reader_at number old.links.items else open_at number old.links.items) here) ∙ shut)
 
-started_by : (number key : ℕ) (old mid next new : code.Relay) (held : Held) → held_at key old.desk ≡ Some held → held.0 ≡ number → mid.desk ≡ old.desk → ends_in mid.applications ≡ ends_in old.applications
-    → ((other : ℕ) → open_at other mid.links.items ≡ opened_at number other old.links.items) → Starts (body_of key mid) (body_of key next) → Starts (body_of key next) (body_of key new)
-    → IsUnkept (body_of key next) ⊎ IsHeldBack key mid → HasGone (body_of key mid) ⊎ IsKept (body_of key mid)
-    → HasGone (body_of key new) ⊎ (IsTakenBack (end_at (ends_in old.applications) key) ⊎ (reader_at number old.links.items ≡ None))
-started_by number key old mid next new held e same at ends opens first later h (inl gone) = inl (gone_on later (gone_on first gone))
-started_by number key old mid next new held e same at ends opens first later (inl un) (inr kept) = inl (gone_on later (gone_by first kept un))
-started_by number key old mid next new held e same at ends opens first later (inr back) (inr kept) = inr (before_open number key old mid held e same at ends opens back)
+-- what waited on the connection that it holds, before that
+there_before : (number key : ℕ) (old mid next : code.Relay) (held : Held) → held_at key old.desk ≡ Some held → held.0 ≡ number → mid.desk ≡ old.desk → ((other : ℕ) → waits_on other mid.links.items ≡ waits_on other old.links.items)
+    → StartsThere key mid next → StartsBehind (waits_on number old.links.items) (body_of key mid) (body_of key next)
+there_before number key old mid next held e same at waits behind =
+    let x = holds old.desk key held e in
+    let own : find_key key mid.desk.holds.items ≡ Some x.hold = subst (λ (d : desks.Desk). find_key key d.holds.items ≡ Some x.hold) (sym at) x.its in
+    subst (λ (n : ℕ). StartsBehind (waits_on n old.links.items) (body_of key mid) (body_of key next)) (x.number ∙ same)
+    (subst (λ (w : Option (List ℕ)). StartsBehind w (body_of key mid) (body_of key next)) (waits x.hold.number) (behind x.hold own))
 
 pub started : (number : ℕ) (old mid next new : code.Relay) → IsReached (desk_in old.desk) → mid.desk ≡ old.desk → ends_in mid.applications ≡ ends_in old.applications
-    → ((other : ℕ) → open_at other mid.links.items ≡ opened_at number other old.links.items) → AllGo old mid → AllGo mid next → AllGo next new → (IsReached (desk_in mid.desk) → IsReached (desk_in next.desk))
-    → ((key : ℕ) → key_of (find_number number (desk_in mid.desk).holds) ≡ Some key → IsUnkept (body_of key next) ⊎ IsHeldBack key mid) → StartsOn number old new
-started number old mid next new reached at ends opens zero first later led waits = record {
+    → ((other : ℕ) → open_at other mid.links.items ≡ opened_at number other old.links.items) → ((other : ℕ) → waits_on other mid.links.items ≡ waits_on other old.links.items) → AllRest old mid → AllGo mid next → AllGo next new
+    → (IsReached (desk_in mid.desk) → IsReached (desk_in next.desk)) → ((key : ℕ) → key_of (find_number number (desk_in mid.desk).holds) ≡ Some key → IsUnkept (body_of key next) ⊎ IsHeldBack key mid)
+    → ((key : ℕ) → key_of (find_number number (desk_in mid.desk).holds) ≡ Some key → StartsThere key mid next) → StartsOn number old new
+started number old mid next new reached at ends opens waits zero first later led unkept behind = record {
   start = λ key client e kept.
       let held : Held = (number, client) in
       let here : IsReached (desk_in mid.desk) = subst (λ (d : desks.Desk). IsReached (desk_in d)) (sym at) reached in
       let whose : key_of (find_number number (desk_in mid.desk).holds) ≡ Some key = ap (λ (d : desks.Desk). key_of (find_number number d.holds.items)) at ∙ holder_is old.desk key held reached e in
-      started_by number key old mid next new held e refl at ends opens (first.go here key) (later.go (led here) key) (waits key whose) (kept_rest (zero.go reached key) kept);
+      elim (unkept key whose) [
+        | inl un ↦ inl (rest_behind (waits_on number old.links.items) (body_of key old) (body_of key mid) (body_of key next) (body_of key new) (zero.rest key)
+            (there_before number key old mid next held e refl at waits (behind key whose)) kept un (first.go here key) (later.go (led here) key))
+        | inr back ↦ inr (before_open number key old mid held e refl at ends opens back)
+      ];
 }
 
 pub started_on : {A E : Type 0} (r : Result A E) (number : ℕ) (old mid next new : code.Relay) → IsReached (desk_in old.desk) → mid.desk ≡ old.desk → ends_in mid.applications ≡ ends_in old.applications
-    → ((other : ℕ) → open_at other mid.links.items ≡ opened_at number other old.links.items) → AllGo old mid → AllGo mid next → OnOk r (AllGo next new) → (IsReached (desk_in mid.desk) → IsReached (desk_in next.desk))
-    → ((key : ℕ) → key_of (find_number number (desk_in mid.desk).holds) ≡ Some key → IsUnkept (body_of key next) ⊎ IsHeldBack key mid) → OnOk r (StartsOn number old new)
-started_on (Ok x) number old mid next new reached at ends opens zero first later led waits = started number old mid next new reached at ends opens zero first later led waits
-started_on (Err e) number old mid next new reached at ends opens zero first later led waits = tt
+    → ((other : ℕ) → open_at other mid.links.items ≡ opened_at number other old.links.items) → ((other : ℕ) → waits_on other mid.links.items ≡ waits_on other old.links.items) → AllRest old mid → AllGo mid next → OnOk r (AllGo next new)
+    → (IsReached (desk_in mid.desk) → IsReached (desk_in next.desk)) → ((key : ℕ) → key_of (find_number number (desk_in mid.desk).holds) ≡ Some key → IsUnkept (body_of key next) ⊎ IsHeldBack key mid)
+    → ((key : ℕ) → key_of (find_number number (desk_in mid.desk).holds) ≡ Some key → StartsThere key mid next) → OnOk r (StartsOn number old new)
+started_on (Ok x) number old mid next new reached at ends opens waits zero first later led unkept behind = started number old mid next new reached at ends opens waits zero first later led unkept behind
+started_on (Err e) number old mid next new reached at ends opens waits zero first later led unkept behind = tt
 
 -- ---- Of whom a connection is
 

@@ -235,12 +235,12 @@ lets_go_first key d d1 es es1 new gives way before after t ends on = (
 pub moves_lets_go : (key : ℕ) (from : Hall) (d : Desk) (es : Ends) (new : Hall) → MayPart (hall_of_ends d es) key → LetsGoFirst key (hall_of_ends d es) new
     → Moves (causes.Application key) from (hall_of_ends d es) → Moves (causes.Application key) from new
 moves_lets_go key from d es new here l m =
-    l.2 (causes.Application key) from (moves_one (causes.Application key) from (hall_of_ends d es) (LetsGo key l.0 l.1) (inl here) refl tt m)
+    l.2 (causes.Application key) from (moves_one (causes.Application key) from (hall_of_ends d es) (LetsGo key false l.0 l.1) here refl tt m)
 
 pub moves_parks : (key : ℕ) (from : Hall) (d : Desk) (es : Ends) (new : Hall) → may_park (hall_of_ends d es) key ≡ true → LetsGoFirst key (hall_of_ends d es) new
-    → Moves (causes.Application key) from (hall_of_ends d es) → Moves (causes.Application key) from new
+    → Moves (causes.Parking key) from (hall_of_ends d es) → Moves (causes.Parking key) from new
 moves_parks key from d es new rests l m =
-    l.2 (causes.Application key) from (moves_one (causes.Application key) from (hall_of_ends d es) (LetsGo key l.0 l.1) (inr rests) refl tt m)
+    l.2 (causes.Parking key) from (moves_one (causes.Parking key) from (hall_of_ends d es) (LetsGo key true l.0 l.1) rests refl tt m)
 
 pub moves_replaces : (number key : ℕ) (from : Hall) (d d1 : Desk) (es es1 : Ends) (before after : List ℕ)
     → Turns (desk.Loses number) d d1 before after → Some key ≡ holder d number → IfWhose (MayPart (hall_of_ends d es)) (holder d number) → es1 ≡ change_end key lets_go es

@@ -17,6 +17,8 @@ use Rattle.tds_relay.specs.Asking.{waits_in, waits_of}
 use Rattle.tds_relay.specs.Bodies.{ArePut, Asks, Begins, Body, ClientPuts, Closed, Closes, Drifts, Going, Goes, Grows, Keeps, Kept, Refuses, Sends, Shuts, Spared, Starts, body_by, body_in, going, going_by, held_of}
 use Rattle.tds_relay.specs.Desk as desk
 use Rattle.tds_relay.specs.Desk.{Desk, Deed, does, find_key}
+use Rattle.tds_relay.specs.Sparing as sparing
+use Rattle.tds_relay.specs.Sparing.{StartsBehind}
 use Rattle.tds_relay.specs.Ties.{Turns}
 use Rattle.tds_relay.proofs.steps.Bodied.{spared_starts}
 
@@ -203,6 +205,33 @@ starts_there whole held kind key old new ls hold its b one two same o there g =
     let alike : its ≡ hold = (let u : Some its ≡ Some hold = sym two ∙ one in cc) in
     let waits = some_of (waits_on hold.number ls) (subst (λ (h : Hold). IsSome (waits_on h.number ls)) alike there) in
     starts_on whole held kind key old new ls hold waits.0 b one same o waits.1 g
+
+-- ---- Behind what waits there
+
+behind_as : (waited : Option (List ℕ)) (whole : Bool) (held : List ℕ) (kind : MessageKind) (number : ℕ) (from : ClientSession) (waits : List ℕ) (b : Body) → waited ≡ Some waits → Grows whole held (Going number (opened from kind) waits) b
+    → StartsBehind waited (Kept kind held whole) b
+behind_as waited whole held kind number from waits b is (Sends ws out client put) = sparing.Goes ws out from is put
+behind_as waited whole held kind number from waits b is Shuts = sparing.Closes
+
+behind_by : (whole : Bool) (held : List ℕ) (kind : MessageKind) (number : ℕ) (from : ClientSession) (had : Option (List ℕ)) (waits : List ℕ) (b : Body) → had ≡ Some waits
+    → Grows whole held (going_by number (Some (opened from kind)) had) b → StartsBehind had (Kept kind held whole) b
+behind_by whole held kind number from had waits b there g = behind_as had whole held kind number from waits b there (subst (λ (o : Option (List ℕ)). Grows whole held (going_by number (Some (opened from kind)) o) b) there g)
+
+pub behind_there : (whole : Bool) (held : List ℕ) (kind : MessageKind) (key : ℕ) (old new : desks.Desk) (ls : List Link) (hold its own : Hold) (b : Body) → find_key key old.holds.items ≡ Some hold → find_key key old.holds.items ≡ Some its
+    → find_key key old.holds.items ≡ Some own → new.holds.items ≡ old.holds.items → Opens kind hold.lease old.service new.service → IsSome (waits_on its.number ls)
+    → Grows whole held (going new.service ls (find_key key new.holds.items)) b → StartsBehind (waits_on own.number ls) (Kept kind held whole) b
+behind_there whole held kind key old new ls hold its own b one two three same o there g =
+    let proper : hold ≡ own = (let u : Some hold ≡ Some own = sym one ∙ three in cc) in
+    let alike : its ≡ hold = (let u : Some its ≡ Some hold = sym two ∙ one in cc) in
+    let waits = some_of (waits_on hold.number ls) (subst (λ (h : Hold). IsSome (waits_on h.number ls)) alike there) in
+    let is : going new.service ls (find_key key new.holds.items) ≡ going_by hold.number (Some (opened o.0 kind)) (waits_on hold.number ls) =
+    ap (λ (hs : List Hold). going new.service ls (find_key key hs)) same ∙ ap (going new.service ls) one ∙ ap (λ (c : Option ClientSession). going_by hold.number c (waits_on hold.number ls)) o.1.is in
+    subst (λ (h : Hold). StartsBehind (waits_on h.number ls) (Kept kind held whole) b) proper
+    (behind_by whole held kind hold.number o.0 (waits_on hold.number ls) waits.0 b waits.1 (subst (λ (x : Body). Grows whole held x b) is g))
+
+-- where it is to be closed
+pub behind_closed : (waited : Option (List ℕ)) (a b : Body) → b ≡ Closed → StartsBehind waited a b
+behind_closed waited a b shut = subst (StartsBehind waited a) (sym shut) sparing.Closes
 
 pub grows_then : (whole : Bool) (more : List ℕ) (old mid new : Body) → Starts mid new → Grows whole more old mid → (b : Body) × Grows whole more old b × Starts b new
 grows_then whole more old mid new s g = (mid, g, s)

@@ -72,7 +72,7 @@ over_told whats.Closed why = refl
 deaf_moved : (key : ℕ) (h : Hall) (move : Move) → IsQuiet move → IsDeaf (end_at h.ends key) → IsDeaf (end_at (ends_behind h move) key)
 deaf_moved key h (hall.Does event) quiet d = d
 deaf_moved key h (hall.Sends k deed) quiet d = deaf_changed h.ends k key (goes_on (sent_by h.desk (desk.Does k deed))) (over_goes (sent_by h.desk (desk.Does k deed))) d
-deaf_moved key h (hall.LetsGo k gives way) quiet d = deaf_changed h.ends k key lets_go (λ why. refl) d
+deaf_moved key h (hall.LetsGo k parks gives way) quiet d = deaf_changed h.ends k key lets_go (λ why. refl) d
 deaf_moved key h (hall.Loses number) quiet d = deaf_whose h.ends (holder h.desk number) key closes (λ why. refl) d
 deaf_moved key h (hall.Replaces number) quiet d = deaf_whose h.ends (holder h.desk number) key lets_go (λ why. refl) d
 deaf_moved key h (hall.Closes k) quiet d = deaf_changed h.ends k key closes (λ why. refl) d
@@ -106,7 +106,7 @@ deaf_told (Some heard) key es d = deaf_whose es heard.key key (told heard.what) 
 -- where it lets its connection go first
 pub lets_go_deaf : (key : ℕ) (d : Desk) (es : Ends) (new : Hall) → IsDeaf (end_at es key) → LetsGoFirst key (hall_of_ends d es) new → IsDeaf (end_at new.ends key)
 lets_go_deaf key d es new deaf l =
-    let mid : Hall = moved (hall_of_ends d es) (hall.LetsGo key l.0 l.1) in
+    let mid : Hall = moved (hall_of_ends d es) (hall.LetsGo key false l.0 l.1) in
     deaf_behind key mid new (l.2 (Application key) mid (no_moves (Application key) mid)) (deaf_changed es key key lets_go (λ why. refl) deaf)
 
 closed_deaf : (why : Option FrontFault) (b : Bool) (o : Option End) → b ≡ true → IsDeaf (if b then option_map (closes_for why) o else o)

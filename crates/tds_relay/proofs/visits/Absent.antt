@@ -50,7 +50,7 @@ stops_away key k d false = tt
 move_away : (key : ℕ) (h : Hall) (move : Move) → MayMove h move → WaitsAway key h.desk (events_of h move)
 move_away key h (hall.Does event) may = (does_away key h event may, tt)
 move_away key h (hall.Sends k deed) may = (no_wait key h.desk, tt)
-move_away key h (hall.LetsGo k gives way) may = (no_wait key h.desk, tt)
+move_away key h (hall.LetsGo k parks gives way) may = (no_wait key h.desk, tt)
 move_away key h (hall.Loses number) may = (no_wait key h.desk, tt)
 move_away key h (hall.Replaces number) may = (no_wait key h.desk, tt)
 move_away key h (hall.Comes number part way) may = (no_wait key h.desk, tt)

@@ -44,7 +44,7 @@ module _ (A B : Reset → Type 0) (leads : (reset : Reset) → A reset → B res
   parts_by (hall.Does (desk.Comes number part way)) p = absurd p
   parts_by (hall.Does (desk.Loses number)) p = absurd p
   parts_by (hall.Sends other deed) p = absurd p
-  parts_by (hall.LetsGo other gives way) p = (p.0, parts_for p.1)
+  parts_by (hall.LetsGo other parks gives way) p = (p.0, parts_for p.1)
   parts_by (hall.Loses number) p = p
   parts_by (hall.Replaces number) p = (p.0, parts_for p.1)
   parts_by (hall.Comes number part way) p = p

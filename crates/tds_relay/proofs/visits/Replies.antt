@@ -103,7 +103,7 @@ made_said key h (hall.Does event) stage quiet begun = refl
 made_said key h (hall.Sends other deed) stage quiet begun =
     let packets = sent_by h.desk (desk.Does other deed) in
     if_said (other == key) (if_open (end_at h.ends key) (λ front withdrawn. gone_on packets)) stage (open_said (end_at h.ends key) packets stage) begun
-made_said key h (hall.LetsGo other gives way) stage quiet begun = refl
+made_said key h (hall.LetsGo other parks gives way) stage quiet begun = refl
 made_said key h (hall.Loses number) stage quiet begun = refl
 made_said key h (hall.Replaces number) stage quiet begun = refl
 made_said key h (hall.Comes number part way) stage quiet begun = absurd quiet

@@ -55,7 +55,7 @@ may_moves h (step ∷ steps) may = may_both h.hall (moves_of step) (moves_in ste
 pub stays_move : (key : ℕ) (move : Move) → IsQuiet move → StaysIn key move
 stays_move key (hall.Does event) quiet = tt
 stays_move key (hall.Sends other deed) quiet = tt
-stays_move key (hall.LetsGo other gives way) quiet = tt
+stays_move key (hall.LetsGo other parks gives way) quiet = tt
 stays_move key (hall.Loses number) quiet = tt
 stays_move key (hall.Replaces number) quiet = tt
 stays_move key (hall.Comes number part way) quiet = absurd quiet

@@ -69,7 +69,7 @@ whose_keeps by keeps key (Some other) asks o at = if_keeps by keeps (other == ke
 quiet_at : (key : ℕ) (h : Hall) (move : Move) → IsQuiet move → (asks : Option Reset) (o : Option End) → AsksJust asks o → AsksJust asks (end_by key h move o)
 quiet_at key h (hall.Does event) quiet asks o at = at
 quiet_at key h (hall.Sends k deed) quiet asks o at = if_keeps (goes_on (sent_by h.desk (desk.Does k deed))) (goes_keeps (sent_by h.desk (desk.Does k deed))) (k == key) asks o at
-quiet_at key h (hall.LetsGo k gives way) quiet asks o at = if_keeps lets_go lets_keeps (k == key) asks o at
+quiet_at key h (hall.LetsGo k parks gives way) quiet asks o at = if_keeps lets_go lets_keeps (k == key) asks o at
 quiet_at key h (hall.Loses number) quiet asks o at = whose_keeps closes closes_keeps key (holder h.desk number) asks o at
 quiet_at key h (hall.Replaces number) quiet asks o at = whose_keeps lets_go lets_keeps key (holder h.desk number) asks o at
 quiet_at key h (hall.Comes number part way) quiet asks o at = absurd quiet

@@ -5,6 +5,7 @@ ghost use Rattle.tds_relay.specs.Cleaning.{MayClean};
 ghost use Rattle.tds_relay.specs.Desk.{Comes, Way, cleaned_by, settles, whose, whose_by};
 ghost use Rattle.tds_relay.specs.Fronts.{IsWhat};
 ghost use Rattle.tds_relay.specs.Hall.{done_by};
+ghost use Rattle.tds_relay.specs.Sparing.{AsideHeld, AsideStay, OffHold};
 ghost use Rattle.tds_relay.specs.Ties.{IsReached, Makes, Settles, Turns, desk_in, part_on};
 ghost use Rattle.tds_relay.specs.Walkers.{AllRead, AllStand, IsLed};
 ghost use Rattle.tds_relay.specs.declared.desk.coming.What.TheVariants.{Closed, Goes};
@@ -47,6 +48,7 @@ fn cleaned(service: &mut Service, number: u64, lease: u64) -> Result<bool, NoMem
     ensures seats { IsLed (service_in service.old) → HasNumber lease number (service_in service.old)
         → IfOk result (λ is_there. SeatStays is_there number (service_in service.old)
         (service_in service.new)) }
+    ensures aside { OnOk result (AsideStay lease number service.old service.new) }
 {
     match service.cleaned(lease) {
         Ok((_, Rest::Free)) => Ok(true),
@@ -116,6 +118,7 @@ impl Desk {
             → MayClean heard.key out.old.items out.new.items) }
         ensures seats { IsReached (desk_in self.old) → IfOk result (λ heard. HearsSeat (Some heard)
             number (desk_in self.old).service (desk_in self.new).service) }
+        ensures off { OnOk result (OffHold number self.old self.new) }
     {
         let came = match self.service.heard(number, bytes, ends) {
             Ok(came) => came,
@@ -169,6 +172,9 @@ impl Desk {
             → HasNumber l number (desk_in self.old).service) → is_left what ≡ true
             → IfOk result (λ heard. SeatStays (is_left heard) number (desk_in self.old).service
             (desk_in self.new).service) }
+        ensures aside { OnOk result (AsideHeld number self.old.holds.items self.old.service
+            self.new.service) }
+        ensures holds { self.new.holds ≡ self.old.holds }
     {
         match lease {
             Some(lease) => match find_lease(&self.holds, lease) {

@@ -19,6 +19,7 @@ ghost use Rattle.tds_relay.specs.Taking.{Tells, TellsOn};
 ghost use Rattle.tds_relay.specs.Ties.{Application, Goes, IsReached, desk_in};
 ghost use Rattle.tds_relay.specs.Waiting.{KeepsInLine, KeepsSaid};
 ghost use Rattle.tds_relay.specs.Walkers.{AllStand};
+ghost use Rattle.tds_relay.specs.Ordering.{OpensNew, opens_in};
 ghost use Rattle.tds_relay.specs.Sparing.{OthersGo, OthersRest};
 
 use super::Relay;
@@ -53,6 +54,7 @@ impl Relay {
             (register_in self.old) (register_in self.new)) }
         ensures seated { IsSeated self.old → OnOk result (IsSeated self.new) }
         ensures others { OnOk result (OthersGo key self.old self.new) }
+        ensures opening { OnOk result (OpensNew self.old self.new) }
     {
         self.take_all(key, piece)?;
         self.serve_line()
@@ -78,6 +80,7 @@ impl Relay {
         ensures seated { IsSeated self.old → OnOk result (IsSeated self.new) }
         ensures others { IsReached (desk_in self.old.desk)
             → OnOk result (OthersRest key self.old self.new) }
+        ensures opening { opens_in self.new.orders.items ≡ opens_in self.old.orders.items }
     {
         let mut rest = piece;
         'taking: for _ in 0..piece.len() {
@@ -112,6 +115,7 @@ impl Relay {
         ensures seated { IsSeated self.old → OnOk result (IsSeated self.new) }
         ensures others { IsReached (desk_in self.old.desk)
             → OnOk result (OthersRest key self.old self.new) }
+        ensures opening { opens_in self.new.orders.items ≡ opens_in self.old.orders.items }
     {
         let Some(application) = self.applications.get_mut(key) else {
             return Ok(piece.len());
@@ -155,6 +159,7 @@ impl Relay {
         ensures seated { IsSeated self.old → OnOk result (IsSeated self.new) }
         ensures others { IsReached (desk_in self.old.desk)
             → OnOk result (OthersRest key self.old self.new) }
+        ensures opening { opens_in self.new.orders.items ≡ opens_in self.old.orders.items }
     {
         bytes_are_packets();
         match said {
@@ -195,6 +200,7 @@ impl Relay {
         ensures seated { IsSeated self.old → OnOk result (IsSeated self.new) }
         ensures others { IsReached (desk_in self.old.desk)
             → OnOk result (OthersRest key self.old self.new) }
+        ensures opening { opens_in self.new.orders.items ≡ opens_in self.old.orders.items }
     {
         match self.desk.hold_of(key) {
             Some(_) => self.start_kept(key),
@@ -228,6 +234,7 @@ impl Relay {
         ensures seated { IsSeated self.old → OnOk result (IsSeated self.new) }
         ensures others { IsReached (desk_in self.old.desk)
             → OnOk result (OthersRest key self.old self.new) }
+        ensures opening { opens_in self.new.orders.items ≡ opens_in self.old.orders.items }
     {
         let Some(application) = self.applications.get_mut(key) else {
             return Ok(());

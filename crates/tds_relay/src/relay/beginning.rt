@@ -11,6 +11,7 @@ ghost use Rattle.tds_relay.specs.Closings.{ClosesOnly, IsNoRequest, Itself, regi
 ghost use Rattle.tds_relay.specs.Few.{IsSeated};
 ghost use Rattle.tds_relay.specs.Fronts.{Moved, ends_in, hall_in};
 ghost use Rattle.tds_relay.specs.Hall.{AsksFor, AsksToPart, IfAsked, IfOpen, IsBegun, end_at};
+ghost use Rattle.tds_relay.specs.Ordering.{opens_in};
 ghost use Rattle.tds_relay.specs.Posts.{posts_in};
 ghost use Rattle.tds_relay.specs.Reads.{Stays};
 ghost use Rattle.tds_relay.specs.Reasons.{CannotBegin, CannotPart};
@@ -57,6 +58,7 @@ impl Relay {
         ensures others { IsReached (desk_in self.old.desk)
             → OnOk result (OthersRest key self.old self.new) }
         ensures seated { IsSeated self.old → OnOk result (IsSeated self.new) }
+        ensures opening { opens_in self.new.orders.items ≡ opens_in self.old.orders.items }
     {
         let Some(application) = self.applications.get_mut(key) else {
             return Ok(());
@@ -123,6 +125,7 @@ impl Relay {
         ensures others { IsReached (desk_in self.old.desk)
             → OnOk result (OthersRest key self.old self.new) }
         ensures seated { IsSeated self.old → OnOk result (IsSeated self.new) }
+        ensures opening { opens_in self.new.orders.items ≡ opens_in self.old.orders.items }
     {
         if !self.has_nothing_out(key) {
             return self.expel(key);
@@ -157,6 +160,7 @@ impl Relay {
         ensures others { IsReached (desk_in self.old.desk)
             → OnOk result (OthersRest key self.old self.new) }
         ensures seated { IsSeated self.old → OnOk result (IsSeated self.new) }
+        ensures opening { opens_in self.new.orders.items ≡ opens_in self.old.orders.items }
     {
         match self.desk.renew(key)? {
             Renewed::Kept(hold) => {

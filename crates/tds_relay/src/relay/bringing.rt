@@ -9,7 +9,7 @@ ghost use Rattle.tds_relay.specs.House.{Steps};
 ghost use Rattle.tds_relay.specs.Posts.{names_in, posts_in};
 ghost use Rattle.tds_relay.specs.Reads.{IsCalled, OpensFirst};
 ghost use Rattle.tds_relay.specs.Reads.{seen_at};
-ghost use Rattle.tds_relay.specs.Ordering.{StayOrdered};
+ghost use Rattle.tds_relay.specs.Ordering.{OpensNew, StayOrdered};
 ghost use Rattle.tds_relay.specs.Sparing.{AllGo};
 ghost use Rattle.tds_relay.specs.Ties.{Goes, Neither};
 ghost use Rattle.tds_relay.specs.Ties.{desk_in};
@@ -48,6 +48,7 @@ impl Relay {
         ensures tries { IfOk result (λ brought. IfNone brought (IsNotBrought self.old.links.items
             (desk_in self.old.desk) (desk_in self.new.desk))) }
         ensures seated { IsSeated self.old → OnOk result (IsSeated self.new) }
+        ensures opening { OnOk result (OpensNew self.old self.new) }
     {
         if !self.links.is_empty() {
             return Ok(None);

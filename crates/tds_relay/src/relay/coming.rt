@@ -21,8 +21,9 @@ ghost use Rattle.tds_relay.specs.Reads.{Comes, IsLessAt, OpensOthers, Stays, Str
 ghost use Rattle.tds_relay.specs.Reads.{answer_at, if_heard, open_at};
 ghost use Rattle.tds_relay.specs.Reads.{reader_at, seen_at, waits_on};
 ghost use Rattle.tds_relay.specs.Bounds.{IsRoom};
-ghost use Rattle.tds_relay.specs.Ordering.{StayOrdered};
+ghost use Rattle.tds_relay.specs.Ordering.{OpensNew, StayOrdered, opens_in};
 ghost use Rattle.tds_relay.specs.Sending.{sending_at};
+ghost use Rattle.tds_relay.specs.Sparing.{OffGo, OffHold};
 ghost use Rattle.tds_relay.specs.Ties.{Connection, Goes, IsReached, desk_in};
 ghost use Rattle.tds_relay.specs.Waiting.{IsNotAcknowledged};
 ghost use Rattle.tds_relay.specs.Waking.{HandsTo, IsWoken, PutsFor, Wakes};
@@ -69,6 +70,8 @@ impl Relay {
         ensures closes { OnOk result (ClosesOnly (HeardFor number piece.now self.old)
             (but_told (register_in self.new) (register_in self.old)) (register_in self.new)) }
         ensures seated { IsSeated self.old → OnOk result (IsSeated self.new) }
+        ensures opening { OnOk result (OpensNew self.old self.new) }
+        ensures apart { OnOk result (OffGo number None self.old self.new) }
     {
         self.hear_all(number, piece)?;
         self.serve_line()
@@ -101,6 +104,8 @@ impl Relay {
         ensures closes { OnOk result (ClosesOnly (HeardFor number piece.now self.old)
             (but_told (register_in self.new) (register_in self.old)) (register_in self.new)) }
         ensures seated { IsSeated self.old → OnOk result (IsSeated self.new) }
+        ensures opening { opens_in self.new.orders.items ≡ opens_in self.old.orders.items }
+        ensures apart { OnOk result (OffGo number None self.old self.new) }
     {
         let mut rest = piece;
         'taking: for _ in 0..piece.len() + 1 {
@@ -155,6 +160,7 @@ impl Relay {
             (told_by heard.1 (ends_in self.old.applications)) (posts_in self.new.applications))) }
         ensures seated { IsSeated self.old → IfOk result (λ heard.
             IsSeatedBehind heard.1 number self.new) }
+        ensures off { OnOk result (OffHold number self.old.desk self.new.desk) }
     {
         let Relay {
             desk,
@@ -202,6 +208,8 @@ impl Relay {
             (register_in self.old) (register_in self.new)) }
         ensures seated { IsSeatedBehind heard number self.old
             → OnOk result (IsSeated self.new) }
+        ensures opening { opens_in self.new.orders.items ≡ opens_in self.old.orders.items }
+        ensures apart { OnOk result (OffGo number (heard_key heard) self.old self.new) }
     {
         let Some(heard) = heard else {
             return self.lose(number);
@@ -272,6 +280,7 @@ fn hear_on(
     ensures cleans { IfOk result (λ heard. Cleans heard.1 outbox.old.items outbox.new.items) }
     ensures seats { IsReached (desk_in desk.old) → IfOk result (λ heard. HearsSeat heard.1 number
         (desk_in desk.old).service (desk_in desk.new).service) }
+    ensures off { OnOk result (OffHold number desk.old desk.new) }
 {
     let count = match link.reader.feed(piece) {
         Ok(count) => count,
@@ -315,6 +324,7 @@ fn hear_packet(
         outbox.new.items) }
     ensures seats { IsReached (desk_in desk.old) → IfOk result (λ heard. HearsSeat (Some heard)
         number (desk_in desk.old).service (desk_in desk.new).service) }
+    ensures off { OnOk result (OffHold number desk.old desk.new) }
 {
     let Some(packet) = link.reader.packet() else {
         return Ok(NOTHING);

@@ -1,10 +1,10 @@
 //! Applications that leave, and connections that are lost.
 ghost use Rattle.std.specs.Prelude.{◌≡◌, ◌≢◌, ℕ, None, OnOk, Some, slice_set};
 ghost use Rattle.slab.specs.Slab.{get};
-ghost use Rattle.tds_relay.specs.Apart.{Alone, LosesOnly};
+ghost use Rattle.tds_relay.specs.Apart.{Alone, LendsInTurn, LosesOnly};
 ghost use Rattle.tds_relay.specs.Bodies.{AskAsBefore, AskOn, Body, Closed, body_in};
 ghost use Rattle.tds_relay.specs.Cleaning.{CountsHold, OfItsHold, WaitsAtEnd, WaitsBehindEnd, cleaned_in};
-ghost use Rattle.tds_relay.specs.Desk.{Loses, find_key, find_number, key_of, turn};
+ghost use Rattle.tds_relay.specs.Desk.{Loses, find_key, find_number, key_of, turn, without};
 ghost use Rattle.tds_relay.specs.Few.{Few, IsSeated, IsSeatedOff, NobodyWaits};
 ghost use Rattle.tds_relay.specs.Fronts.{LetsGoFirst, Moved, MovedOn, ends_in, hall_in, hall_of_ends};
 ghost use Rattle.tds_relay.specs.Fronts.{house_in};
@@ -17,7 +17,7 @@ ghost use Rattle.tds_relay.specs.Lent.{AllLastBut, KeepsAnswers, LastBesides};
 ghost use Rattle.tds_relay.specs.Law.{closing};
 ghost use Rattle.tds_relay.specs.Places.{held_by};
 ghost use Rattle.tds_relay.specs.Posts.{names_in, posts_in};
-ghost use Rattle.tds_relay.specs.Ordering.{StayOrdered};
+ghost use Rattle.tds_relay.specs.Ordering.{OpensNew, StayOrdered, opens_in};
 ghost use Rattle.tds_relay.specs.Reads.{Opens, Stays, open_waits, reader_at, waits_on};
 ghost use Rattle.tds_relay.specs.Sparing.{AllGo, AllRest, OthersRest};
 ghost use Rattle.tds_relay.specs.Taking.{IsDeaf};
@@ -42,6 +42,8 @@ impl Relay {
         ensures names { OnOk result (names_in self.new.applications
             ≡ slice_set (names_in self.old.applications) key None) }
         ensures served { OnOk result (NobodyWaits self.new) }
+        ensures lends { OnOk result (LendsInTurn (without key (desk_in self.old.desk).line)
+            (slice_set (ends_in self.old.applications) key None) (hall_in self.new)) }
         ensures few { OnOk result (Few self.old.most self.old.links.items
             self.new.links.items) }
         ensures opens { OnOk result (Opens self.old.links.items self.new.links.items) }
@@ -60,6 +62,7 @@ impl Relay {
             (register_in self.new)) }
         ensures counts { OnOk result (CountsHold (find_key key (desk_in self.old.desk).holds)
             (cleaned_in self.old) (cleaned_in self.new)) }
+        ensures opening { OnOk result (OpensNew self.old self.new) }
     {
         let _ = self.applications.try_remove(key).is_some();
         self.release(key)?;
@@ -82,6 +85,9 @@ impl Relay {
             self.new.desk.service) }
         ensures goes_on { OnOk result (AllGo self.old self.new) }
         ensures only { OnOk result (LosesOnly number (hall_in self.old) (hall_in self.new)) }
+        ensures lends { OnOk result (LendsInTurn (desk_in self.old.desk).line (change_whose
+            (holder (desk_in self.old.desk) number) closes (ends_in self.old.applications))
+            (hall_in self.new)) }
         ensures ordered { OnOk result (StayOrdered self.old.orders.items self.new.orders.items) }
         ensures closes { OnOk result (ClosesOnly
             (WhoOrWaiting (holder (desk_in self.old.desk) number) (desk_in self.old.desk).line)
@@ -90,6 +96,7 @@ impl Relay {
         ensures lasts { OnOk result (LastBesides (λ other. other ≡ number)
             (IsWaiting (desk_in self.old.desk).line) (register_in self.old)
             (register_in self.new)) }
+        ensures opening { OnOk result (OpensNew self.old self.new) }
     {
         self.lose(number)?;
         self.serve_line()
@@ -113,6 +120,7 @@ impl Relay {
         ensures closes { OnOk result (ClosesOnly (Itself key)
             (register_in self.old) (register_in self.new)) }
         ensures seated { IsSeated self.old → OnOk result (IsSeated self.new) }
+        ensures opening { opens_in self.new.orders.items ≡ opens_in self.old.orders.items }
     {
         self.expel_for(key, None)
     }
@@ -137,6 +145,7 @@ impl Relay {
         ensures closes { OnOk result (ClosesOnly (Itself key)
             (register_in self.old) (register_in self.new)) }
         ensures seated { IsSeated self.old → OnOk result (IsSeated self.new) }
+        ensures opening { opens_in self.new.orders.items ≡ opens_in self.old.orders.items }
     {
         self.end_for(key, why)?;
         self.release(key)
@@ -158,6 +167,7 @@ impl Relay {
         ensures closes { OnOk result (ClosesOnly (Itself key)
             (register_in self.old) (register_in self.new)) }
         ensures counts { cleaned_in self.new ≡ cleaned_in self.old }
+        ensures opening { opens_in self.new.orders.items ≡ opens_in self.old.orders.items }
     {
         self.end_for(key, None)
     }
@@ -178,6 +188,7 @@ impl Relay {
         ensures closes { OnOk result (ClosesOnly (Itself key)
             (register_in self.old) (register_in self.new)) }
         ensures counts { cleaned_in self.new ≡ cleaned_in self.old }
+        ensures opening { opens_in self.new.orders.items ≡ opens_in self.old.orders.items }
     {
         match self.applications.get_mut(key) {
             Some(application) => {
@@ -202,6 +213,8 @@ impl Relay {
         ensures lets_go { OnOk result (LetsGoFirst key (hall_in self.old) (hall_in self.new)) }
         ensures fronts { OnOk result (ends_in self.new.applications
             ≡ change_end key lets_go (ends_in self.old.applications)) }
+        ensures line { OnOk result ((desk_in self.new.desk).line
+            ≡ without key (desk_in self.old.desk).line) }
         ensures read { OnOk result (Stays self.old.links.items self.new.links.items) }
         ensures stand { OnOk result (AllStand self.old.desk.service
             self.new.desk.service) }
@@ -219,6 +232,7 @@ impl Relay {
             self.old.links.items self.new.links.items) }
         ensures counts { OnOk result (CountsHold (find_key key (desk_in self.old.desk).holds)
             (cleaned_in self.old) (cleaned_in self.new)) }
+        ensures opening { opens_in self.new.orders.items ≡ opens_in self.old.orders.items }
     {
         self.outbox.clear();
         let left = self.desk.leave(key, &mut self.outbox)?;
@@ -266,6 +280,7 @@ impl Relay {
             (register_in self.old) (register_in self.new)) }
         ensures seated { IsSeatedOff number self.old → OnOk result (IsSeated self.new) }
         ensures counts { cleaned_in self.new ≡ cleaned_in self.old }
+        ensures opening { opens_in self.new.orders.items ≡ opens_in self.old.orders.items }
     {
         let key = self.desk.lose(number)?;
         self.close(number, key)
@@ -291,6 +306,7 @@ impl Relay {
             (register_in self.old) (register_in self.new)) }
         ensures seated { IsSeated self.old → OnOk result (IsSeated self.new) }
         ensures counts { cleaned_in self.new ≡ cleaned_in self.old }
+        ensures opening { opens_in self.new.orders.items ≡ opens_in self.old.orders.items }
     {
         match self.desk.key_on(number) {
             Some(holder) => {
@@ -321,6 +337,7 @@ impl Relay {
         ensures closes { OnOk result (ClosesOnly Nobody
             (register_in self.old) (register_in self.new)) }
         ensures counts { cleaned_in self.new ≡ cleaned_in self.old }
+        ensures opening { opens_in self.new.orders.items ≡ opens_in self.old.orders.items }
     {
         let tag = self.tag_on(number);
         remove_link(&mut self.links, number);
@@ -352,6 +369,7 @@ impl Relay {
         ensures closes { OnOk result (ClosesOnly (IsWho key)
             (register_in self.old) (register_in self.new)) }
         ensures counts { cleaned_in self.new ≡ cleaned_in self.old }
+        ensures opening { opens_in self.new.orders.items ≡ opens_in self.old.orders.items }
     {
         self.close_link(number)?;
         match key {

@@ -1,8 +1,8 @@
 //! Connections that are lent to those who wait, opened, and asked.
 ghost use Rattle.std.specs.Prelude.{◌≡◌, ◌≢◌, ◌⊎◌, ◌++◌, [], ℕ, Bool, IfOk, List, None, OnOk, Some, false, option_map, true};
 ghost use Rattle.slab.specs.Slab.{get};
-ghost use Rattle.tds_relay.specs.Apart.{Alone, UnlessServed};
-ghost use Rattle.tds_relay.specs.Asking.{IsUnderway, waits_of};
+ghost use Rattle.tds_relay.specs.Apart.{Alone, LendsInTurn, UnlessServed};
+ghost use Rattle.tds_relay.specs.Asking.{HasBegun, IsUnderway, waits_of};
 ghost use Rattle.tds_relay.specs.Bodies.{AskAsBefore, Grows, Starts, body_of, going_of, held_of};
 ghost use Rattle.tds_relay.specs.Closings.{ClosesOnly, IsWaiting, IsWho, Itself, Nobody, WhoOrWaiting, register_in};
 ghost use Rattle.tds_relay.specs.Desk.{find_number, key_of};
@@ -14,11 +14,11 @@ ghost use Rattle.tds_relay.specs.Lent.{AllLast, BeginsOn, IsMade, IsMadeOn, Keep
 ghost use Rattle.tds_relay.specs.Posts.{names_in, posts_in};
 ghost use Rattle.tds_relay.specs.Cutting.{at_its_beginning};
 ghost use Rattle.tds_relay.specs.Reads.{Opens, OpensOne, Stays, answer_at, named_seen, open_at, bytes_on, link_at, opened_at, opened_seen, seen_at, waits_on};
-ghost use Rattle.tds_relay.specs.Ordering.{StayOrdered};
+ghost use Rattle.tds_relay.specs.Ordering.{OpensNew, StayOrdered, opens_if, opens_in};
 ghost use Rattle.tds_relay.specs.Reasons.{CannotPut, CannotStartAt, HasNoRoom, ItselfFor};
 ghost use Rattle.tds_relay.specs.Sending.{IsToWrite, called_at};
 ghost use Rattle.tds_relay.specs.Coming.{MayBeginAny};
-ghost use Rattle.tds_relay.specs.Sparing.{AllGo, AllRest, IsHeldBack, IsUnkept, OthersRest, StartsOn};
+ghost use Rattle.tds_relay.specs.Sparing.{AllGo, AllRest, IsHeldBack, IsUnkept, OthersRest, StartsOn, StartsThere};
 ghost use Rattle.tds_relay.specs.Taking.{IsDeaf};
 ghost use Rattle.tds_relay.specs.Ties.{Goes, GoesOn, IsReached, desk_in};
 ghost use Rattle.tds_relay.specs.Told.{TellsTheSame};
@@ -89,6 +89,7 @@ impl Relay {
         ensures lasts { OnOk result (LastBut
             (WhoOrWaiting (holder (desk_in self.old.desk) number) (desk_in self.old.desk).line)
             (register_in self.old) (register_in self.new)) }
+        ensures opening { OnOk result (OpensNew self.old self.new) }
     {
         self.set_open(number);
         self.order_write_on(number)?;
@@ -127,12 +128,16 @@ impl Relay {
         ensures waits { OnOk result ((key : ℕ)
             → key_of (find_number number (desk_in self.old.desk).holds) ≡ Some key
             → IsUnkept (body_of key self.new) ⊎ IsHeldBack key self.old) }
+        ensures behind { OnOk result ((key : ℕ)
+            → key_of (find_number number (desk_in self.old.desk).holds) ≡ Some key
+            → StartsThere key self.old self.new) }
         ensures ordered { OnOk result (StayOrdered self.old.orders.items self.new.orders.items) }
         ensures closes { OnOk result (ClosesOnly (IsWho (holder (desk_in self.old.desk) number))
             (register_in self.old) (register_in self.new)) }
         ensures seated { IsSeated self.old → OnOk result (IsSeated self.new) }
         ensures lasts { OnOk result (LastBut (IsWho (holder (desk_in self.old.desk) number))
             (register_in self.old) (register_in self.new)) }
+        ensures opening { opens_in self.new.orders.items ≡ opens_in self.old.orders.items }
     {
         match self.desk.key_on(number) {
             Some(key) => self.start_kept(key),
@@ -155,6 +160,8 @@ impl Relay {
             self.new.desk.service) }
         ensures goes_on { OnOk result (AllGo self.old self.new) }
         ensures apart { OnOk result (UnlessServed (hall_in self.old) (hall_in self.new)) }
+        ensures lends { OnOk result (LendsInTurn (desk_in self.old.desk).line
+            (ends_in self.old.applications) (hall_in self.new)) }
         ensures ordered { OnOk result (StayOrdered self.old.orders.items self.new.orders.items) }
         ensures closes { OnOk result (ClosesOnly (IsWaiting (desk_in self.old.desk).line)
             (register_in self.old) (register_in self.new)) }
@@ -162,6 +169,7 @@ impl Relay {
             (register_in self.old) (register_in self.new)) }
         ensures seated { IsSeated self.old → OnOk result (IsSeated self.new) }
         ensures counts { cleaned_in self.new ≡ cleaned_in self.old }
+        ensures opening { OnOk result (OpensNew self.old self.new) }
     {
         let waiting = self.desk.waiting();
         'line: for turn in 0..waiting {
@@ -208,6 +216,8 @@ impl Relay {
         ensures seated { IsSeatedIf served.had served.hold.number true self.old
             → OnOk result (IsSeated self.new) }
         ensures counts { cleaned_in self.new ≡ cleaned_in self.old }
+        ensures opening { OnOk result (opens_in self.new.orders.items
+            ≡ opens_in self.old.orders.items ++ opens_if served.had served.hold.number) }
     {
         let number = served.hold.number;
         if served.had {
@@ -248,6 +258,7 @@ impl Relay {
             ≡ posts_in self.old.applications) }
         ensures moves { OnOk result (IsReset (desk_in self.old.desk) key
             (end_at (ends_in self.old.applications) key)
+            → HasBegun (desk_in self.old.desk) key (end_at (ends_in self.old.applications) key)
             → MovedOn (hall_in self.old) (hall_in self.new)) }
         ensures underway { (whole : Bool) → waits_of (get self.old.applications key) ≡ Some whole
             → OnOk result (IsUnderway whole self.new.links.items key (hall_in self.new)) }
@@ -262,6 +273,7 @@ impl Relay {
         ensures alone { OnOk result (Alone key (hall_in self.old) (hall_in self.new)) }
         ensures ordered { OnOk result (StayOrdered self.old.orders.items self.new.orders.items) }
         ensures placed { OnOk result (GoesOrWaits key self.new) }
+        ensures behind { OnOk result (StartsThere key self.old self.new) }
         ensures answers { OnOk result (KeepsAnswers self.old.links.items self.new.links.items) }
         ensures closes { OnOk result (ClosesOnly (ItselfFor key (CannotStartAt key self.old))
             (register_in self.old) (register_in self.new)) }
@@ -269,6 +281,7 @@ impl Relay {
             (register_in self.old) (register_in self.new)) }
         ensures seated { IsSeated self.old → OnOk result (IsSeated self.new) }
         ensures counts { cleaned_in self.new ≡ cleaned_in self.old }
+        ensures opening { opens_in self.new.orders.items ≡ opens_in self.old.orders.items }
     {
         let Some(application) = self.applications.get(key) else {
             return Ok(());
@@ -316,46 +329,10 @@ impl Relay {
             (register_in self.old) (register_in self.new)) }
         ensures seated { IsSeated self.old → OnOk result (IsSeated self.new) }
         ensures counts { cleaned_in self.new ≡ cleaned_in self.old }
+        ensures opening { opens_in self.new.orders.items ≡ opens_in self.old.orders.items }
     {
         self.lose_own(key, number)?;
         self.end(key)
-    }
-
-    /// Puts what is kept of a request on its connection.
-    #[tactic(auto, using(crate::proofs::steps::Posting::kept_more, crate::proofs::steps::Posting::posts_kept, crate::proofs::steps::Fronts::ends_more, crate::proofs::steps::Fronts::ends_kept, crate::proofs::steps::Underway::of_none, crate::proofs::spared::Resting::others_refl, crate::proofs::spared::Ordered::ordered_refl, crate::proofs::spared::Apart::alone_refl))]
-    fn put_held(&mut self, key: usize, whole: bool) -> Result<(), NoMemory>
-        ensures goes { OnOk result (GoesOn (desk_in self.old.desk) (desk_in self.new.desk)) }
-        ensures kept { OnOk result (posts_in self.new.applications
-            ≡ posts_in self.old.applications) }
-        ensures moves { OnOk result (MovedOn (hall_in self.old) (hall_in self.new)) }
-        ensures underway { OnOk result (IsUnderway whole self.new.links.items key
-            (hall_in self.new)) }
-        ensures read { OnOk result (Stays self.old.links.items self.new.links.items) }
-        ensures stand { OnOk result (AllStand self.old.desk.service
-            self.new.desk.service) }
-        ensures body { OnOk result (Grows whole (held_of (get self.old.applications key))
-            (going_of key self.old) (body_of key self.new)) }
-        ensures others { IsReached (desk_in self.old.desk)
-            → OnOk result (OthersRest key self.old self.new) }
-        ensures gone { OnOk result (IsUnkept (body_of key self.new)) }
-        ensures alone { OnOk result (Alone key (hall_in self.old) (hall_in self.new)) }
-        ensures ordered { OnOk result (StayOrdered self.old.orders.items self.new.orders.items) }
-        ensures answers { OnOk result (KeepsAnswers self.old.links.items self.new.links.items) }
-        ensures closes { OnOk result (ClosesOnly (ItselfFor key (CannotPut whole
-            (held_of (get self.old.applications key)) key
-            (end_at (ends_in self.old.applications) key) self.old.desk self.old.links.items))
-            (register_in self.old) (register_in self.new)) }
-        ensures lasts { OnOk result (LastOrDeaf key self.old.links.items self.new) }
-        ensures seated { IsSeated self.old → OnOk result (IsSeated self.new) }
-        ensures counts { cleaned_in self.new ≡ cleaned_in self.old }
-    {
-        let Some(application) = self.applications.get_mut(key) else {
-            return Ok(());
-        };
-        application.asking = Asking::Goes;
-        let held = application.held().to_vec(self.alloc)?;
-        application.forget();
-        self.put(key, &held, whole)
     }
 
     /// What the desk has to send on a connection waits there. False where more would wait than may.
@@ -383,6 +360,7 @@ impl Relay {
             (register_in self.old) (register_in self.new)) }
         ensures lasts { OnOk result (AllLast self.old.links.items self.new.links.items) }
         ensures counts { cleaned_in self.new ≡ cleaned_in self.old }
+        ensures opening { opens_in self.new.orders.items ≡ opens_in self.old.orders.items }
     {
         // Of most packets of an answer nothing is: then no write is ordered, each of which costs a look.
         if self.outbox.is_empty() {

@@ -1,12 +1,12 @@
 //! How many connections there may be.
 ghost use Rattle.std.specs.Prelude.{◌≡◌, OnOk, false, true};
-ghost use Rattle.tds_relay.specs.Apart.{UnlessServed};
+ghost use Rattle.tds_relay.specs.Apart.{LendsInTurn, UnlessServed};
 ghost use Rattle.tds_relay.specs.Closings.{ClosesOnly, IsWaiting};
 ghost use Rattle.tds_relay.specs.Closings.{register_in, with_most};
 ghost use Rattle.tds_relay.specs.Few.{Few, IsCrowded, IsSeated, MayServe, NobodyWaits};
-ghost use Rattle.tds_relay.specs.Fronts.{MovedOn, hall_in};
+ghost use Rattle.tds_relay.specs.Fronts.{MovedOn, ends_in, hall_in};
 ghost use Rattle.tds_relay.specs.Lent.{LastBut};
-ghost use Rattle.tds_relay.specs.Ordering.{StayOrdered};
+ghost use Rattle.tds_relay.specs.Ordering.{OpensNew, StayOrdered};
 ghost use Rattle.tds_relay.specs.Posts.{posts_in};
 ghost use Rattle.tds_relay.specs.Reads.{Opens};
 ghost use Rattle.tds_relay.specs.Sparing.{AllGo};
@@ -32,12 +32,15 @@ impl Relay {
             self.new.desk.service) }
         ensures goes_on { OnOk result (AllGo self.old self.new) }
         ensures apart { OnOk result (UnlessServed (hall_in self.old) (hall_in self.new)) }
+        ensures lends { OnOk result (LendsInTurn (desk_in self.old.desk).line
+            (ends_in self.old.applications) (hall_in self.new)) }
         ensures ordered { OnOk result (StayOrdered self.old.orders.items self.new.orders.items) }
         ensures closes { OnOk result (ClosesOnly (IsWaiting (desk_in self.old.desk).line)
             (with_most most (register_in self.old)) (register_in self.new)) }
         ensures lasts { OnOk result (LastBut (IsWaiting (desk_in self.old.desk).line)
             (with_most most (register_in self.old)) (register_in self.new)) }
         ensures seated { IsSeated self.old → OnOk result (IsSeated self.new) }
+        ensures opening { OnOk result (OpensNew self.old self.new) }
     {
         self.most = most;
         self.serve_line()

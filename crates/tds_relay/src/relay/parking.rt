@@ -9,13 +9,13 @@ ghost use Rattle.tds_relay.specs.Fronts.{hall_in, house_in};
 ghost use Rattle.tds_relay.specs.Hall.{IsAway};
 ghost use Rattle.tds_relay.specs.House.{IsLedTo, Steps};
 ghost use Rattle.tds_relay.specs.Lent.{LastBesides};
-ghost use Rattle.tds_relay.specs.Ordering.{StayOrdered};
+ghost use Rattle.tds_relay.specs.Ordering.{OpensNew, StayOrdered};
 ghost use Rattle.tds_relay.specs.Parking.{may_park_in};
 ghost use Rattle.tds_relay.specs.Places.{held_by};
 ghost use Rattle.tds_relay.specs.Posts.{posts_in};
 ghost use Rattle.tds_relay.specs.Reads.{Opens, open_waits};
 ghost use Rattle.tds_relay.specs.Sparing.{AllGo};
-ghost use Rattle.tds_relay.specs.Ties.{Application, Goes, IsReached, Leaving, desk_in};
+ghost use Rattle.tds_relay.specs.Ties.{Application, Goes, IsReached, Leaving, Parking, desk_in};
 ghost use Rattle.tds_relay.specs.Walkers.{AllStand};
 
 use super::Relay;
@@ -40,7 +40,7 @@ impl Relay {
             → IfOk result (λ is. is ≡ true → IsAway (hall_in self.new) key) }
         ensures goes { OnOk result (Goes (Application key)
             (desk_in self.old.desk) (desk_in self.new.desk)) }
-        ensures steps { OnOk result (Steps (Application key) (house_in self.old)
+        ensures steps { OnOk result (Steps (Parking key) (house_in self.old)
             (house_in self.new)) }
         ensures kept { OnOk result (posts_in self.new.applications
             ≡ posts_in self.old.applications) }
@@ -66,6 +66,7 @@ impl Relay {
         ensures counts { IfOk result (λ is. is ≡ true
             → CountsHold (find_key key (desk_in self.old.desk).holds)
             (cleaned_in self.old) (cleaned_in self.new)) }
+        ensures opening { OnOk result (OpensNew self.old self.new) }
     {
         if !self.may_park(key) {
             return Ok(false);

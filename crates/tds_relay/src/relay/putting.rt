@@ -2,25 +2,27 @@
 ghost use Rattle.std.specs.Prelude.{◌≡◌, IfOk, OnOk, Some, false, true};
 ghost use Rattle.tds_relay.specs.Apart.{Alone};
 ghost use Rattle.tds_relay.specs.Asking.{IsUnderway, SendsOn};
-ghost use Rattle.tds_relay.specs.Bodies.{AskAsBefore, ClientPuts, PutsOn};
+ghost use Rattle.tds_relay.specs.Bodies.{AskAsBefore, ClientPuts, Grows, PutsOn, body_of, going_of, held_of};
 ghost use Rattle.tds_relay.specs.Closings.{ClosesOnly, Nobody, register_in};
 ghost use Rattle.tds_relay.specs.Desk.{find_key};
 ghost use Rattle.tds_relay.specs.declared.desk.Hold.{Hold};
 ghost use Rattle.tds_relay.specs.Fronts.{MayPut, MovedOn, ends_in, goes_by, hall_in, puts};
 ghost use Rattle.tds_relay.specs.Hall.{IfOpen, change_end, end_at};
 ghost use Rattle.tds_relay.specs.Lent.{KeepsAnswers, LastOrDeaf};
-ghost use Rattle.tds_relay.specs.Ordering.{StayOrdered};
+ghost use Rattle.tds_relay.specs.Ordering.{StayOrdered, opens_in};
 ghost use Rattle.tds_relay.specs.Posts.{posts_in};
 ghost use Rattle.tds_relay.specs.Reads.{Stays};
 ghost use Rattle.tds_relay.specs.Reasons.{CannotPut, IsReason, IsUnbegun, IsUntaken, ItselfFor};
-ghost use Rattle.tds_relay.specs.Sparing.{OthersHold, OthersRest};
+ghost use Rattle.tds_relay.specs.Sparing.{IsUnkept, OthersHold, OthersRest};
 ghost use Rattle.tds_relay.specs.Ties.{GoesOn, IsReached, desk_in};
 ghost use Rattle.tds_relay.specs.Walkers.{AllStand};
 ghost use Rattle.tds_relay.specs.Few.{IsSeated, KeepsSeats};
 ghost use Rattle.tds_relay.specs.Cleaning.{cleaned_in};
+ghost use Rattle.slab.specs.Slab.{get};
 
 use super::Relay;
 use crate::NoMemory;
+use crate::application::Asking;
 use crate::desk::Desk;
 use std::alloc::AllocError;
 use tds_service::Refusal;
@@ -50,6 +52,7 @@ impl Relay {
         ensures lasts { OnOk result (LastOrDeaf key self.old.links.items self.new) }
         ensures seated { IsSeated self.old → OnOk result (IsSeated self.new) }
         ensures counts { cleaned_in self.new ≡ cleaned_in self.old }
+        ensures opening { opens_in self.new.orders.items ≡ opens_in self.old.orders.items }
     {
         let Some(hold) = self.desk.hold_of(key) else {
             return self.end(key);
@@ -71,8 +74,46 @@ impl Relay {
         }
     }
 
+    /// Puts what is kept of a request on its connection.
+    #[tactic(auto, using(crate::proofs::steps::Posting::kept_more, crate::proofs::steps::Posting::posts_kept, crate::proofs::steps::Fronts::ends_more, crate::proofs::steps::Fronts::ends_kept, crate::proofs::steps::Underway::of_none, crate::proofs::spared::Resting::others_refl, crate::proofs::spared::Ordered::ordered_refl, crate::proofs::spared::Apart::alone_refl))]
+    pub(super) fn put_held(&mut self, key: usize, whole: bool) -> Result<(), NoMemory>
+        ensures goes { OnOk result (GoesOn (desk_in self.old.desk) (desk_in self.new.desk)) }
+        ensures kept { OnOk result (posts_in self.new.applications
+            ≡ posts_in self.old.applications) }
+        ensures moves { OnOk result (MovedOn (hall_in self.old) (hall_in self.new)) }
+        ensures underway { OnOk result (IsUnderway whole self.new.links.items key
+            (hall_in self.new)) }
+        ensures read { OnOk result (Stays self.old.links.items self.new.links.items) }
+        ensures stand { OnOk result (AllStand self.old.desk.service
+            self.new.desk.service) }
+        ensures body { OnOk result (Grows whole (held_of (get self.old.applications key))
+            (going_of key self.old) (body_of key self.new)) }
+        ensures others { IsReached (desk_in self.old.desk)
+            → OnOk result (OthersRest key self.old self.new) }
+        ensures gone { OnOk result (IsUnkept (body_of key self.new)) }
+        ensures alone { OnOk result (Alone key (hall_in self.old) (hall_in self.new)) }
+        ensures ordered { OnOk result (StayOrdered self.old.orders.items self.new.orders.items) }
+        ensures answers { OnOk result (KeepsAnswers self.old.links.items self.new.links.items) }
+        ensures closes { OnOk result (ClosesOnly (ItselfFor key (CannotPut whole
+            (held_of (get self.old.applications key)) key
+            (end_at (ends_in self.old.applications) key) self.old.desk self.old.links.items))
+            (register_in self.old) (register_in self.new)) }
+        ensures lasts { OnOk result (LastOrDeaf key self.old.links.items self.new) }
+        ensures seated { IsSeated self.old → OnOk result (IsSeated self.new) }
+        ensures counts { cleaned_in self.new ≡ cleaned_in self.old }
+        ensures opening { opens_in self.new.orders.items ≡ opens_in self.old.orders.items }
+    {
+        let Some(application) = self.applications.get_mut(key) else {
+            return Ok(());
+        };
+        application.asking = Asking::Goes;
+        let held = application.held().to_vec(self.alloc)?;
+        application.forget();
+        self.put(key, &held, whole)
+    }
+
     /// Whether an application has begun a request, or all of one has come.
-    fn may_put(&self, key: usize, whole: bool) -> bool
+    pub(super) fn may_put(&self, key: usize, whole: bool) -> bool
         ensures begun { result ≡ true
             → IfOpen (puts whole) (end_at (ends_in self.now.applications) key) }
         ensures unbegun { result ≡ false

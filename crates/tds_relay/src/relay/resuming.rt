@@ -6,9 +6,10 @@ ghost use Rattle.tds_relay.specs.Closings.{Anybody, ClosesOnly, register_in};
 ghost use Rattle.tds_relay.specs.Coming.{AllAlong, MayBeginAny};
 ghost use Rattle.tds_relay.specs.Fronts.{Moved, ends_in, hall_in};
 ghost use Rattle.tds_relay.specs.Hall.{AsksFor, IfOpen, IfWhose, IsBegun, MayPart, end_at, holder};
-ghost use Rattle.tds_relay.specs.Ordering.{StayOrdered};
+ghost use Rattle.tds_relay.specs.Ordering.{StayOrdered, opens_in};
 ghost use Rattle.tds_relay.specs.Posts.{posts_in};
 ghost use Rattle.tds_relay.specs.Reads.{Stays};
+ghost use Rattle.tds_relay.specs.Sparing.{OffGo};
 ghost use Rattle.tds_relay.specs.Ties.{Connection, Goes, IsReached, desk_in};
 ghost use Rattle.tds_relay.specs.Waiting.{Resumes, StandsInLine};
 ghost use Rattle.tds_relay.specs.Walkers.{AllStand};
@@ -40,6 +41,8 @@ impl Relay {
         ensures closes { OnOk result (ClosesOnly Anybody
             (register_in self.old) (register_in self.new)) }
         ensures seated { IsSeated self.old → OnOk result (IsSeated self.new) }
+        ensures opening { opens_in self.new.orders.items ≡ opens_in self.old.orders.items }
+        ensures apart { OnOk result (OffGo number (Some key) self.old self.new) }
     {
         if self.asks_to_keep(key) {
             self.keep(number, key)
@@ -81,6 +84,8 @@ impl Relay {
         ensures closes { OnOk result (ClosesOnly Anybody
             (register_in self.old) (register_in self.new)) }
         ensures seated { IsSeated self.old → OnOk result (IsSeated self.new) }
+        ensures opening { opens_in self.new.orders.items ≡ opens_in self.old.orders.items }
+        ensures apart { OnOk result (OffGo number (Some key) self.old self.new) }
     {
         match self.desk.renew(key)? {
             Renewed::Kept(hold) => {
@@ -116,6 +121,8 @@ impl Relay {
         ensures closes { OnOk result (ClosesOnly Anybody
             (register_in self.old) (register_in self.new)) }
         ensures seated { IsSeated self.old → OnOk result (IsSeated self.new) }
+        ensures opening { opens_in self.new.orders.items ≡ opens_in self.old.orders.items }
+        ensures apart { OnOk result (OffGo number None self.old self.new) }
     {
         if !self.may_replace(number) {
             return self.lose(number);

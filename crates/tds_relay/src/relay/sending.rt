@@ -12,7 +12,7 @@ ghost use Rattle.tds_relay.specs.Fronts.{MovedOn, ends_in, hall_in, house_in};
 ghost use Rattle.tds_relay.specs.Hall.{holder};
 ghost use Rattle.tds_relay.specs.House.{Steps};
 ghost use Rattle.tds_relay.specs.Lent.{KeepsAnswers};
-ghost use Rattle.tds_relay.specs.Ordering.{StayOrdered};
+ghost use Rattle.tds_relay.specs.Ordering.{StayOrdered, opens_in};
 ghost use Rattle.tds_relay.specs.Posts.{change, post_at, posts_in, unsent_of, without_first};
 ghost use Rattle.tds_relay.specs.Reasons.{HasNoRoom, IsOverfull, ItselfFor};
 ghost use Rattle.tds_relay.specs.Law.{waiting_on};
@@ -148,6 +148,7 @@ impl Relay {
         ensures seated { IsSeated self.old → OnOk result (IsSeated self.new) }
         ensures gone { IsSeatedBut number false self.old
             → OnOk result (IsSeatedBut number false self.new) }
+        ensures opening { opens_in self.new.orders.items ≡ opens_in self.old.orders.items }
     {
         let fits = self.fits_on(number)?;
         if fits { Ok(()) } else { self.lose(number) }
@@ -170,6 +171,7 @@ impl Relay {
         ensures others { IsReached (desk_in self.old.desk) → (hold : Hold)
             → find_key key (desk_in self.old.desk).holds ≡ Some hold → hold.number ≡ number
             → OnOk result (OthersRest key self.old self.new) }
+        ensures opening { opens_in self.new.orders.items ≡ opens_in self.old.orders.items }
     {
         let fits = self.fits_on(number)?;
         if fits {
@@ -193,6 +195,8 @@ impl Relay {
         ensures asks { OnOk result (AskOn self.old.applications self.new.applications) }
         ensures sends { IsReached (desk_in self.old.desk)
             → OnOk result (SendsOn number self.old self.new) }
+        ensures line { OnOk result ((desk_in self.new.desk).line
+            ≡ (desk_in self.old.desk).line) }
         ensures ordered { OnOk result (StayOrdered self.old.orders.items self.new.orders.items) }
         ensures puts { find_number number (desk_in self.old.desk).holds ≡ None
             → OnOk result (FillsBy self.old.outbox.items
@@ -203,6 +207,7 @@ impl Relay {
         ensures others { OnOk result ((other : ℕ) → other ≢ number
             → waits_on other self.new.links.items ≡ waits_on other self.old.links.items) }
         ensures counts { cleaned_in self.new ≡ cleaned_in self.old }
+        ensures opening { opens_in self.new.orders.items ≡ opens_in self.old.orders.items }
     {
         let fits = self.fits_on(number)?;
         if fits {
@@ -228,6 +233,7 @@ impl Relay {
         ensures closes { OnOk result (ClosesOnly (ItselfFor key
             (IsOverfull (post_at (posts_in self.old.applications) key)))
             (register_in self.old) (register_in self.new)) }
+        ensures opening { opens_in self.new.orders.items ≡ opens_in self.old.orders.items }
     {
         let Some(application) = self.applications.get(key) else {
             return Ok(());
@@ -255,6 +261,7 @@ impl Relay {
         ensures closes { OnOk result (ClosesOnly Nobody
             (register_in self.old) (register_in self.new)) }
         ensures counts { cleaned_in self.new ≡ cleaned_in self.old }
+        ensures opening { opens_in self.new.orders.items ≡ opens_in self.old.orders.items }
     {
         match self.tag_on(number) {
             Some(tag) => {

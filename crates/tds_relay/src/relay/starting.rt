@@ -8,12 +8,12 @@ ghost use Rattle.tds_relay.specs.Closings.{ClosesOnly, Itself, open_name, regist
 ghost use Rattle.tds_relay.specs.Desk.{find_key};
 ghost use Rattle.tds_relay.specs.Fronts.{MovedOn, ends_in, hall_in};
 ghost use Rattle.tds_relay.specs.Anew.{ResetsFor};
-ghost use Rattle.tds_relay.specs.Hall.{IfOpenAsks, IsReset, end_at};
+ghost use Rattle.tds_relay.specs.Hall.{IfOpen, IfOpenAsks, IsBegun, IsReset, end_at};
 ghost use Rattle.tds_relay.specs.Lent.{KeepsAnswers, LastBut};
-ghost use Rattle.tds_relay.specs.Ordering.{StayOrdered};
+ghost use Rattle.tds_relay.specs.Ordering.{StayOrdered, opens_in};
 ghost use Rattle.tds_relay.specs.Posts.{posts_in};
 ghost use Rattle.tds_relay.specs.Reads.{Stays, open_at, waits_on};
-ghost use Rattle.tds_relay.specs.Sparing.{IsHeldBack, IsUnkept, OthersRest};
+ghost use Rattle.tds_relay.specs.Sparing.{IsHeldBack, IsUnkept, OthersRest, StartsThere};
 ghost use Rattle.tds_relay.specs.Ties.{GoesOn, IsReached, desk_in};
 ghost use Rattle.tds_relay.specs.Waiting.{GoesOrWaits};
 ghost use Rattle.tds_relay.specs.Walkers.{AllStand};
@@ -47,6 +47,7 @@ impl Relay {
         ensures alone { OnOk result (Alone key (hall_in self.old) (hall_in self.new)) }
         ensures ordered { OnOk result (StayOrdered self.old.orders.items self.new.orders.items) }
         ensures placed { OnOk result (GoesOrWaits key self.new) }
+        ensures behind { OnOk result (StartsThere key self.old self.new) }
         ensures answers { OnOk result (KeepsAnswers self.old.links.items self.new.links.items) }
         ensures closes { OnOk result (ClosesOnly (Itself key)
             (register_in self.old) (register_in self.new)) }
@@ -54,11 +55,12 @@ impl Relay {
             (register_in self.old) (register_in self.new)) }
         ensures seated { IsSeated self.old → OnOk result (IsSeated self.new) }
         ensures counts { cleaned_in self.new ≡ cleaned_in self.old }
+        ensures opening { opens_in self.new.orders.items ≡ opens_in self.old.orders.items }
     {
         let Some(hold) = self.desk.hold_of(key) else {
             return self.start(key);
         };
-        if self.is_reset(key, hold) {
+        if self.may_ask(key, hold) {
             return self.start(key);
         }
         if self.is_held_back(key, hold) {
@@ -93,6 +95,20 @@ impl Relay {
             return true;
         }
         !self.is_open(hold.number)
+    }
+
+    /// Whether an application's request has begun, and the reset that it asks for is done with it on the connection
+    /// that it holds.
+    fn may_ask(&self, key: usize, hold: Hold) -> bool
+        ensures reset { find_key key (desk_in self.now.desk).holds ≡ Some hold → result ≡ true
+            → IsReset (desk_in self.now.desk) key (end_at (ends_in self.now.applications) key) }
+        ensures begun { result ≡ true
+            → IfOpen IsBegun (end_at (ends_in self.now.applications) key) }
+    {
+        if !self.may_put(key, false) {
+            return false;
+        }
+        self.is_reset(key, hold)
     }
 
     /// Whether the reset that an application's request asks for, if it does, is done with that on the

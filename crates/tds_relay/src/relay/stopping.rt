@@ -19,6 +19,7 @@ ghost use Rattle.tds_relay.specs.Sparing.{OthersRest};
 ghost use Rattle.tds_relay.specs.Ties.{Application, Goes, GoesOn, IsReached, Turns, desk_in};
 ghost use Rattle.tds_relay.specs.Walkers.{AllStand};
 ghost use Rattle.tds_relay.specs.Few.{IsSeated};
+ghost use Rattle.tds_relay.specs.Ordering.{opens_in};
 
 use super::Relay;
 use super::putting::unless_memory;
@@ -51,6 +52,7 @@ impl Relay {
         ensures others { IsReached (desk_in self.old.desk)
             → OnOk result (OthersRest key self.old self.new) }
         ensures seated { IsSeated self.old → OnOk result (IsSeated self.new) }
+        ensures opening { opens_in self.new.orders.items ≡ opens_in self.old.orders.items }
     {
         let was_asked = self.forget_request(key);
         if was_asked { self.unask(key) } else { Ok(()) }
@@ -71,6 +73,7 @@ impl Relay {
         ensures others { OthersRest key self.old self.new }
         ensures asked { result ≡ true
             → (goes : Body) → Spared goes (body_in (get self.old.applications key) goes) }
+        ensures opening { opens_in self.new.orders.items ≡ opens_in self.old.orders.items }
     {
         self.desk.unwait(key);
         let Some(application) = self.applications.get_mut(key) else {
@@ -100,6 +103,7 @@ impl Relay {
         ensures others { IsReached (desk_in self.old.desk)
             → OnOk result (OthersRest key self.old self.new) }
         ensures seated { IsSeated self.old → OnOk result (IsSeated self.new) }
+        ensures opening { opens_in self.new.orders.items ≡ opens_in self.old.orders.items }
     {
         if !self.has_nothing_out(key) {
             return self.expel(key);
@@ -135,6 +139,7 @@ impl Relay {
         ensures others { IsReached (desk_in self.old.desk)
             → OnOk result (OthersRest key self.old self.new) }
         ensures seated { IsSeated self.old → OnOk result (IsSeated self.new) }
+        ensures opening { opens_in self.new.orders.items ≡ opens_in self.old.orders.items }
     {
         let _ = self.forget_request(key);
         match self.stop(key)? {
@@ -168,6 +173,7 @@ impl Relay {
         ensures others { IsReached (desk_in self.old.desk)
             → OthersRest key self.old self.new }
         ensures seated { IsSeated self.old → IsSeated self.new }
+        ensures opening { opens_in self.new.orders.items ≡ opens_in self.old.orders.items }
     {
         self.outbox.clear();
         match self.desk.cancel(key, &mut self.outbox) {
@@ -195,6 +201,7 @@ impl Relay {
         ensures outbox { self.new.outbox.items ≡ self.old.outbox.items }
         ensures asks { AskAsBefore self.old.applications self.new.applications }
         ensures closes { ClosesOnly Nobody (register_in self.old) (register_in self.new) }
+        ensures opening { opens_in self.new.orders.items ≡ opens_in self.old.orders.items }
     {
         match self.applications.get_mut(key) {
             Some(application) => application.withdraw(),
@@ -213,6 +220,7 @@ impl Relay {
         ensures closes { OnOk result (ClosesOnly (ItselfFor key (IsOverfull
             (post_at (give key acknowledgement (posts_in self.old.applications)) key)))
             (register_in self.old) (register_in self.new)) }
+        ensures opening { opens_in self.new.orders.items ≡ opens_in self.old.orders.items }
     {
         match self.applications.get_mut(key) {
             Some(application) => {
@@ -241,6 +249,7 @@ impl Relay {
         ensures others { IsReached (desk_in self.old.desk)
             → OnOk result (OthersRest key self.old self.new) }
         ensures seated { IsSeated self.old → OnOk result (IsSeated self.new) }
+        ensures opening { opens_in self.new.orders.items ≡ opens_in self.old.orders.items }
     {
         match self.stop(key)? {
             Some(number) => self.send_stop(key, number),
@@ -266,6 +275,7 @@ impl Relay {
             → find_key key (desk_in self.old.desk).holds ≡ Some hold → hold.number ≡ number
             → OnOk result (OthersRest key self.old self.new) }
         ensures seated { IsSeated self.old → OnOk result (IsSeated self.new) }
+        ensures opening { opens_in self.new.orders.items ≡ opens_in self.old.orders.items }
     {
         let fits = self.fits_on(number)?;
         if fits { Ok(()) } else { self.fail(key, number) }

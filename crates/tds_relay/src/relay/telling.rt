@@ -1,7 +1,8 @@
 //! What is told to applications' ends of what comes.
 ghost use Rattle.std.specs.Prelude.{◌≡◌, ◌≢◌, ℕ, None, Some, false, true};
 ghost use Rattle.std.specs.Prelude.{IfOk, OnOk};
-ghost use Rattle.tds_relay.specs.Bodies.{AskAsBefore};
+ghost use Rattle.slab.specs.Slab.{get};
+ghost use Rattle.tds_relay.specs.Bodies.{AskAsBefore, Body, Spared, body_in};
 ghost use Rattle.tds_relay.specs.Closings.{ClosesOnly, Nobody, register_in};
 ghost use Rattle.tds_relay.specs.Coming.{MayBeDone};
 ghost use Rattle.tds_relay.specs.Fronts.{ends_in};
@@ -10,7 +11,7 @@ ghost use Rattle.tds_relay.specs.House.{is_said};
 ghost use Rattle.tds_relay.specs.Reasons.{HasTakenBack};
 ghost use Rattle.tds_relay.specs.Posts.{posts_in};
 ghost use Rattle.tds_relay.specs.Reads.{Stays};
-ghost use Rattle.tds_relay.specs.Ordering.{StayOrdered};
+ghost use Rattle.tds_relay.specs.Ordering.{StayOrdered, opens_in};
 ghost use Rattle.tds_relay.specs.Waking.{HandsTo};
 ghost use Rattle.tds_relay.specs.declared.desk.coming.What.TheVariants as whats;
 
@@ -39,6 +40,10 @@ impl Relay {
             → HasTakenBack heard.key (ends_in self.old.applications)) }
         ensures closes { OnOk result (ClosesOnly (λ other. heard.what ≡ whats.Closed)
             (register_in self.old) (register_in self.new)) }
+        ensures opening { opens_in self.new.orders.items ≡ opens_in self.old.orders.items }
+        ensures others { OnOk result ((key : ℕ) → heard.key ≢ Some key → (goes : Body)
+            → Spared (body_in (get self.old.applications key) goes)
+            (body_in (get self.new.applications key) goes)) }
     {
         let Some(key) = heard.key else {
             return Ok(false);
@@ -89,6 +94,8 @@ impl Relay {
         ensures outbox { self.new.outbox.items ≡ self.old.outbox.items }
         ensures asks { MayBeDone self.old.applications self.new.applications }
         ensures closes { ClosesOnly Nobody (register_in self.old) (register_in self.new) }
+        ensures others { (other : ℕ) → other ≢ key
+            → get self.new.applications other ≡ get self.old.applications other }
     {
         match self.applications.get_mut(key) {
             Some(application) => application.answered(),
@@ -111,6 +118,8 @@ impl Relay {
         ensures resumes { result ≡ true
             → HasTakenBack (Some key) (ends_in self.old.applications) }
         ensures closes { ClosesOnly Nobody (register_in self.old) (register_in self.new) }
+        ensures others { (other : ℕ) → other ≢ key
+            → get self.new.applications other ≡ get self.old.applications other }
     {
         match self.applications.get_mut(key) {
             Some(application) => application.acknowledged(),

@@ -24,8 +24,10 @@ use Rattle.tds_relay.specs.Few.{SeatStays, is_left}
 use Rattle.tds_relay.proofs.seats.Counting.{unknown_stays}
 use Rattle.tds_relay.proofs.seats.Desks.{lost_at}
 use Rattle.tds_relay.proofs.seats.Rests.{came_on, heard_stays, kept_stays}
-use Rattle.tds_relay.proofs.spared.Aside.{led_at}
+use Rattle.tds_relay.proofs.spared.Aside.{came_off, held_same, kept_off, led_at, lost_held}
 use Rattle.tds_relay.proofs.spared.Cleaned.{nobodys}
+use Rattle.tds_relay.specs.Desk.{find_key}
+use Rattle.tds_relay.specs.Holding.{Held as Holds}
 use Rattle.tds_relay.proofs.desk.Desk.came.Goals as goal
 
 pub returns-in_ok-what-in-Finished-clause-ok : goal.returns-in_ok-what-in-Finished-clause-ok
@@ -202,3 +204,28 @@ returns-in_ok-what-in-Finished-clause-cleans c = λ lasts.
 pub returns-in_ok-what-in-Acknowledged-clause-cleans : goal.returns-in_ok-what-in-Acknowledged-clause-cleans
 returns-in_ok-what-in-Acknowledged-clause-cleans c = λ lasts.
     nobodys c.in-Ok.came.lease c.key_by-key.result (desk_in c.args.self.now).holds c.args.out.now.items _ c.key_by-key.ensures (c.in_ok-what-in-Acknowledged.ensures.cleans lasts)
+
+pub returns-in-More-clause-off : goal.returns-in-More-clause-off
+returns-in-More-clause-off c =
+    let came = c.in-Ok.ensures.ok in
+    came_off c.args.number c.args.self.now _ c.heard.new.self (packet_part came.0 c.args.bytes.now c.args.ends) came.2.1.steps.service_is c.in-Ok.ensures.clients (held_same c.args.number c.args.self.now.holds.items c.heard.new.self)
+    (λ key h its differs. its)
+
+pub returns-in_ok-what-in-Finished-clause-off : goal.returns-in_ok-what-in-Finished-clause-off
+returns-in_ok-what-in-Finished-clause-off c =
+    let came = c.in-Ok.ensures.ok in
+    came_off c.args.number c.args.self.now c.settle.new.self c.heard.new.self (packet_part came.0 c.args.bytes.now c.args.ends) came.2.1.steps.service_is c.in-Ok.ensures.clients c.in_ok-what-in-Finished.ensures.aside
+    (λ key h its differs. ap (λ (hs : Holds). find_key key hs.items) c.settle.ensures.holds ∙ its)
+
+pub returns-in_ok-what-in-Acknowledged-clause-off : goal.returns-in_ok-what-in-Acknowledged-clause-off
+returns-in_ok-what-in-Acknowledged-clause-off c =
+    let came = c.in-Ok.ensures.ok in
+    came_off c.args.number c.args.self.now c.settle-in-Acknowledged.new.self c.heard.new.self (packet_part came.0 c.args.bytes.now c.args.ends) came.2.1.steps.service_is c.in-Ok.ensures.clients c.in_ok-what-in-Acknowledged.ensures.aside
+    (λ key h its differs. ap (λ (hs : Holds). find_key key hs.items) c.settle-in-Acknowledged.ensures.holds ∙ its)
+
+pub returns-in_ok-lose-in-Fault-clause-off : goal.returns-in_ok-lose-in-Fault-clause-off
+returns-in_ok-lose-in-Fault-clause-off c =
+    let came = c.in-Ok.ensures.ok in
+    came_off c.args.number c.args.self.now _ c.heard.new.self (packet_part came.0 c.args.bytes.now c.args.ends) came.2.1.steps.service_is c.in-Ok.ensures.clients
+    (lost_held c.args.number c.args.self.now.holds.items c.heard.new.self c.lose.new.self.service c.in_ok-lose-in-Fault.ensures.clients)
+    (λ key h its differs. ap (find_key key) c.in_ok-lose-in-Fault.ensures.holds ∙ kept_off c.args.number key h c.args.self.now.holds.items its differs)

@@ -10,6 +10,7 @@ use Rattle.std.proofs.lemmas.Result.{IfOk-weaker}
 use Rattle.tds_relay.specs.Few.{SeatStays, is_left}
 use Rattle.tds_relay.proofs.seats.Counting.{stays_refl}
 use Rattle.tds_relay.proofs.seats.Rests.{if_left, made_stays}
+use Rattle.tds_relay.proofs.spared.Aside.{drained_held}
 use Rattle.tds_relay.proofs.desk.Desk.settle.Goals as goal
 
 pub returns-in_ok-is_there-in-None-find_lease-clause-settles : goal.returns-in_ok-is_there-in-None-find_lease-clause-settles
@@ -37,3 +38,6 @@ returns-in_ok-is_there-in-None-clause-seats c = λ led on left.
     let made = c.in_ok-is_there-in-None.ensures.makes in
     if_left c.in_ok-is_there-in-None.is_there c.what_of-in-None.result c.args.number (service_in c.args.self.now.service) (service_in c.clean.new.service) c.what_of-in-None.ensures
     (made_stays (service_in c.args.self.now.service) (service_in c.clean.new.service) c.args.number c.in_ok-is_there-in-None.is_there made.0 _ _ led made.1 made.2)
+
+pub returns-in_ok-is_there-in-None-clause-aside : goal.returns-in_ok-is_there-in-None-clause-aside
+returns-in_ok-is_there-in-None-clause-aside c = drained_held c.args.number c.args.self.now.holds.items c.args.self.now.service c.clean.new.service c.in_ok-is_there-in-None.ensures.aside

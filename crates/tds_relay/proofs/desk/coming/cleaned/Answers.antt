@@ -9,6 +9,7 @@ use Rattle.tds_service.specs.Table.{rest_of, service_in}
 use Rattle.tds_relay.specs.Ties.{lost_by}
 use Rattle.tds_relay.proofs.bytes.Walking.{led_on}
 use Rattle.tds_relay.proofs.seats.Rests.{forgot_stays, rest_stays, then_forgot}
+use Rattle.tds_relay.proofs.spared.Aside.{called_for, forgot_for, refused_for}
 use Rattle.tds_relay.proofs.desk.coming.cleaned.Goals as goal
 
 pub returns-in-Ok-default-Free-clause-stand : goal.returns-in-Ok-default-Free-clause-stand
@@ -33,3 +34,13 @@ returns-in_ok-forget-in-Ok-default-Closed-clause-seats c = λ led on.
 pub returns-in_ok-forget-in-Err-clause-seats : goal.returns-in_ok-forget-in-Err-clause-seats
 returns-in_ok-forget-in-Err-clause-seats c = λ led on. forgot_stays c.args.number (service_in c.args.service.now) (service_in c.forget-in-Err.new.service) led
     (c.in_ok-forget-in-Err.ensures.lost ∙ ap (λ (s : Service). lost_by s c.args.number) c.in-Err.ensures.err)
+
+pub returns-in_ok-forget-in-Ok-default-Closed-clause-aside : goal.returns-in_ok-forget-in-Ok-default-Closed-clause-aside
+returns-in_ok-forget-in-Ok-default-Closed-clause-aside c = λ lease client differs aside there.
+    (called_for lease c.args.lease c.args.number c.args.service.now c.cleaned.new.self c.forget-in-Ok-default-Closed.new.service (calls.Cleaned c.args.lease) tt c.in-Ok-default-Closed.ensures.ok.service_is c.cleaned.ensures.clients differs
+    (forgot_for lease c.args.number c.cleaned.new.self c.forget-in-Ok-default-Closed.new.service c.in_ok-forget-in-Ok-default-Closed.ensures.clients)) client aside there
+
+pub returns-in_ok-forget-in-Err-clause-aside : goal.returns-in_ok-forget-in-Err-clause-aside
+returns-in_ok-forget-in-Err-clause-aside c = λ lease client differs aside there.
+    (refused_for lease c.args.lease c.args.number c.args.service.now c.cleaned.new.self c.forget-in-Err.new.service c.in-Err.ensures.err c.cleaned.ensures.clients differs
+    (forgot_for lease c.args.number c.cleaned.new.self c.forget-in-Err.new.service c.in_ok-forget-in-Err.ensures.clients)) client aside there

@@ -47,6 +47,7 @@ returns-in-true-None-clause-moves c =
     ok_more c.start.result _ _
     (λ m asks begun from h. m (subst (λ (es : Ends). IsReset (desk_in c.args.self.now.desk) c.args.key (end_at es c.args.key)) (sym kept)
     (none_reset (desk_in c.args.self.now.desk) c.args.key _ (subst (λ (r : Option Reset). IfAsked r (end_at (ends_in c.args.self.now.applications) c.args.key)) none asks)))
+    (λ hold its. subst (λ (es : Ends). IfOpen IsBegun (end_at es c.args.key)) (sym kept) begun)
     (Application c.args.key) from (moves_same (Application c.args.key) from _ _ _ _ refl kept h))
     c.start.ensures.moves
 

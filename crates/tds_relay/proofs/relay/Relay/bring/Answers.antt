@@ -14,6 +14,9 @@ use Rattle.tds_relay.specs.Closings.{IsWaiting, register_in}
 use Rattle.tds_relay.proofs.spared.Closings.{closes_both, closes_more, closes_nobody, closes_refl}
 use Rattle.tds_relay.proofs.seats.Linked.{seated_pushed}
 use Rattle.tds_relay.proofs.seats.Relays.{brought_none, brought_one, none_brought}
+use Rattle.tds_relay.proofs.spared.Opening.{on_last, opens_new_both, opens_none, opens_same, turn_last}
+use Rattle.tds_relay.specs.Desk.{Brings}
+use Rattle.std.proofs.Common.{arith, ◌≤◌}
 use Rattle.tds_relay.proofs.relay.Relay.bring.Goals as goal
 
 pub returns-in_default-clause-goes : goal.returns-in_default-clause-goes
@@ -132,3 +135,18 @@ returns-clause-seated c = λ s.
     c.in_ok-serve_line.ensures.seated (c.in_ok-send_unheld.ensures.seated
     (seated_pushed c.in-Some.left.number (desk_in c.bring.new.self) _ c.args.self.now.links.items c.push.new.self.items c.in_ok-push.ensures.items c.in_ok-link.ensures.number
     (brought_one c.in_ok-left.ensures.turns.0 c.in_ok-left.ensures.turns.1 c.args.self.now.desk c.bring.new.self _ _ c.args.self.now.links.items c.in_ok-left.field-0 c.in_ok-left.ensures.turns.2 c.in_ok-left.ensures.seats s c.in-Some.left true c.in-Some.is (search rules))))
+
+pub returns-then-not-is_empty-clause-opening : goal.returns-then-not-is_empty-clause-opening
+returns-then-not-is_empty-clause-opening c = opens_none c.args.self.now
+
+pub returns-in_default-clause-opening : goal.returns-in_default-clause-opening
+returns-in_default-clause-opening c = opens_same c.args.self.now _ refl (turn_last _ (desk_in c.args.self.now.desk) (desk_in c.bring.new.self) _ _ c.in_ok-left.ensures.turns.2)
+
+pub returns-then-not-left-clause-opening : goal.returns-then-not-left-clause-opening
+returns-then-not-left-clause-opening c = opens_same c.args.self.now _ refl (turn_last _ (desk_in c.args.self.now.desk) (desk_in c.bring.new.self) _ _ c.in_ok-left.ensures.turns.2)
+
+pub returns-clause-opening : goal.returns-clause-opening
+returns-clause-opening c =
+    let one : (desk_in c.args.self.now.desk).service.last ≤ (desk_in c.bring.new.self).service.last = turn_last _ (desk_in c.args.self.now.desk) (desk_in c.bring.new.self) _ _ c.in_ok-left.ensures.turns.2 in
+    let two : (desk_in c.bring.new.self).service.last ≤ (desk_in c.send_unheld.new.self.desk).service.last = on_last (desk_in c.bring.new.self) (desk_in c.send_unheld.new.self.desk) c.in_ok-send_unheld.ensures.goes in
+    opens_new_both c.args.self.now c.send_unheld.new.self c.serve_line.new.self (opens_same c.args.self.now c.send_unheld.new.self c.send_unheld.ensures.opening (omega (arith, one, two))) c.in_ok-serve_line.ensures.opening

@@ -20,6 +20,8 @@ use Rattle.tds_relay.proofs.spared.Closings.{closes_done_on}
 use Rattle.tds_relay.proofs.spared.Few.{few_behind, most_kept}
 use Rattle.tds_relay.proofs.spared.Only.{only_on}
 use Rattle.tds_relay.proofs.bytes.SetAnew.{comes_anew}
+use Rattle.tds_relay.proofs.spared.Opening.{goes_last, opens_new_on, opens_same}
+use Rattle.tds_relay.proofs.spared.Off.{served_off}
 use Rattle.tds_relay.proofs.relay.Relay.came.Goals as goal
 
 pub returns-clause-steps : goal.returns-clause-steps
@@ -75,3 +77,9 @@ returns-clause-anew c =
 
 pub returns-clause-seated : goal.returns-clause-seated
 returns-clause-seated c = λ s. c.serve_line.ensures.seated (c.in_ok-hear_all.ensures.seated s)
+
+pub returns-clause-opening : goal.returns-clause-opening
+returns-clause-opening c = opens_new_on c.serve_line.result c.args.self.now c.hear_all.new.self c.serve_line.new.self (opens_same c.args.self.now c.hear_all.new.self c.hear_all.ensures.opening (goes_last (Connection c.args.number) (desk_in c.args.self.now.desk) (desk_in c.hear_all.new.self.desk) c.in_ok-hear_all.ensures.goes)) c.serve_line.ensures.opening
+
+pub returns-clause-apart : goal.returns-clause-apart
+returns-clause-apart c = served_off c.serve_line.result c.args.number c.args.self.now c.hear_all.new.self c.serve_line.new.self c.in_ok-hear_all.ensures.goes c.in_ok-hear_all.ensures.apart c.serve_line.ensures.goes_on

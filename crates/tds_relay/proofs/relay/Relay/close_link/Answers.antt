@@ -7,6 +7,8 @@ use Rattle.tds_relay.specs.Sending.{called_at}
 use Rattle.tds_relay.specs.Closings.{Nobody}
 use Rattle.tds_relay.proofs.spared.Ended.{closes_removed, cutting}
 use Rattle.tds_relay.proofs.spared.Begun.{answers_without}
+use Rattle.tds_relay.proofs.spared.Opening.{opens_pushed}
+use Rattle.tds_relay.specs.declared.order.Order.TheVariants as orders
 use Rattle.tds_relay.proofs.relay.Relay.close_link.Goals as goal
 
 pub returns-in_ok-push-in-Some-clause-read : goal.returns-in_ok-push-in-Some-clause-read
@@ -42,3 +44,6 @@ returns-in_ok-push-in-Some-clause-answers c = answers_without c.args.number _ _ 
 
 pub returns-in-None-clause-answers : goal.returns-in-None-clause-answers
 returns-in-None-clause-answers c = answers_without c.args.number _ _ c.remove_link.ensures
+
+pub returns-in_ok-push-in-Some-clause-opening : goal.returns-in_ok-push-in-Some-clause-opening
+returns-in_ok-push-in-Some-clause-opening c = opens_pushed (orders.Close c.in-Some.tag) c.args.self.now.orders.items c.push.new.self.items c.in_ok-push-in-Some.ensures.items refl

@@ -8,6 +8,7 @@ use Rattle.tds_relay.specs.Closings.{Itself}
 use Rattle.tds_relay.proofs.spared.Ended.{closes_ended, its_end, its_name}
 use Rattle.tds_relay.proofs.spared.Sending.{kept_refl}
 use Rattle.tds_relay.proofs.spared.Shutting.{closes_kept, unclosed, over_closes}
+use Rattle.tds_relay.proofs.spared.Opening.{opens_pushed}
 use Rattle.tds_relay.proofs.relay.Relay.end_for.Goals as goal
 
 pub returns-in_ok-push-in-Some-clause-kept : goal.returns-in_ok-push-in-Some-clause-kept
@@ -26,3 +27,6 @@ returns-in_ok-push-in-Some-clause-closes c =
     closes_ended c.args.key a.tag (closes_for c.args.why) (register_in old) _ (over_closes c.args.why) (ends_moved old.applications c.args.key a c.close.new.self (closes_for c.args.why) c.in-Some.ensures.value c.close.ensures.end)
     (posts_kept old.applications c.args.key a c.close.new.self c.in-Some.ensures.value c.close.ensures.post) (its_name old c.args.key a c.in-Some.ensures.value (search rules)) (its_end old c.args.key a c.in-Some.ensures.value)
     (c.in_ok-push-in-Some.ensures.items ∙ ap (λ (n : ℕ). old.orders.items ++ orders.Close n ∷ []) c.close.ensures.tag) refl refl
+
+pub returns-in_ok-push-in-Some-clause-opening : goal.returns-in_ok-push-in-Some-clause-opening
+returns-in_ok-push-in-Some-clause-opening c = opens_pushed (orders.Close _) c.args.self.now.orders.items c.push.new.self.items c.in_ok-push-in-Some.ensures.items refl

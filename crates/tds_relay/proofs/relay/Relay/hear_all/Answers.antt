@@ -3,7 +3,7 @@ use Rattle.tds_packet.specs.Reading.{Reading}
 use Rattle.tds_relay.specs.declared.relay.Relay.{Relay}
 use Rattle.tds_relay.specs.Coming.{AllAlong}
 use Rattle.tds_relay.specs.Fronts.{hall_in, house_in, told_by}
-use Rattle.tds_relay.specs.Ordering.{StayOrdered}
+use Rattle.tds_relay.specs.Ordering.{StayOrdered, opens_in}
 use Rattle.tds_relay.specs.Posts.{names_in, names_of, posts_in}
 use Rattle.tds_relay.specs.Reads.{OpensOthers, answer_at, open_at}
 use Rattle.tds_relay.specs.Ties.{Connection, Goes, IsReached, Neither, desk_in}
@@ -28,6 +28,8 @@ use Rattle.tds_relay.proofs.spared.Closings.{closes_done_on, closes_refl, one_cl
 use Rattle.tds_relay.proofs.spared.Few.{none_both, none_heard, none_on, none_refl, none_stays}
 use Rattle.tds_relay.specs.Few.{NoneNew}
 use Rattle.tds_relay.proofs.spared.Only.{one_spares, spares_refl}
+use Rattle.tds_relay.proofs.spared.Off.{off_none, one_off}
+use Rattle.std.proofs.Common.{None}
 use Rattle.tds_relay.proofs.relay.Relay.hear_all.Goals as goal
 
 pub taking-init : goal.taking-init
@@ -45,6 +47,8 @@ taking-init c = record {
   none = none_refl c.args.self.now.links.items;
   wakes = wakes_same (posts_in c.args.self.now.applications) c.args.self.now.applications c.args.self.now.orders.items refl;
   seated = λ s. s;
+  opening = refl;
+  apart = off_none c.args.number None c.args.self.now;
 }
 
 pub taking-preserved : goal.taking-preserved
@@ -82,6 +86,10 @@ taking-preserved c = record {
       one_wakes c.args.number (posts_in c.args.self.now.applications) c.taking.self c.hear.new.self c.heard.new.self _ c.taking.invariant.wakes c.in_ok-count.ensures.ends c.in_ok-count.ensures.names c.in_ok-count.ensures.puts c.hear.ensures.orders
       c.in_ok-heard.ensures.kept c.in_ok-heard.ensures.ordered c.in_ok-heard.ensures.moves c.in_ok-heard.ensures.wakes;
   seated = λ s. c.in_ok-heard.ensures.seated (c.in_ok-count.ensures.seated (c.taking.invariant.seated s));
+  apart =
+      one_off c.args.number c.taking.rest.now _ c.args.self.now c.taking.self c.hear.new.self c.heard.new.self _ c.taking.invariant.goes c.taking.invariant.apart c.taking.invariant.spares
+      c.in_ok-count.ensures.hears c.in_ok-count.ensures.goes c.in_ok-count.ensures.off (λ other. (c.in_ok-count.ensures.same other).0) c.in_ok-count.ensures.asks c.in_ok-heard.ensures.apart;
+  opening = c.heard.ensures.opening ∙ ap opens_in c.hear.ensures.orders ∙ c.taking.invariant.opening;
 }
 
 pub returns-clause-streams : goal.returns-clause-streams

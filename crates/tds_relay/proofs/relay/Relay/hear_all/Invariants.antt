@@ -7,13 +7,14 @@ use Rattle.tds_relay.specs.Few.{NoneNew}
 use Rattle.std.specs.Prelude.{None}
 use Rattle.tds_relay.specs.Apart.{SparesOthers}
 use Rattle.tds_relay.specs.Fronts.{hall_in, house_in}
-use Rattle.tds_relay.specs.Ordering.{StayOrdered}
+use Rattle.tds_relay.specs.Ordering.{StayOrdered, opens_in}
 use Rattle.tds_relay.specs.Posts.{names_in, posts_in}
 use Rattle.tds_relay.specs.Reads.{OpensOthers, answer_at, open_at}
 use Rattle.tds_relay.specs.Ties.{Connection, Goes, IsReached, desk_in}
 use Rattle.tds_relay.specs.Waking.{Wakes}
 use Rattle.tds_relay.proofs.bytes.Turns.{InTurns}
 use Rattle.tds_relay.specs.Few.{IsSeated}
+use Rattle.tds_relay.specs.Sparing.{OffGo}
 use Rattle.tds_relay.proofs.relay.Relay.hear_all.Given as goal
 
 abbrev pub invariant-taking : goal.invariant-taking
@@ -32,4 +33,6 @@ invariant-taking l = record {
   none : NoneNew l.fn.self.links.items l.self.links.items;
   wakes : Wakes (posts_in l.fn.self.applications) l.self.applications l.self.orders.items;
   seated : IsSeated l.fn.self → IsSeated l.self;
+  apart : OffGo l.fn.number None l.fn.self l.self;
+  opening : opens_in l.self.orders.items ≡ opens_in l.fn.self.orders.items;
 }

@@ -1,5 +1,5 @@
-use Rattle.std.proofs.Common.{◌∙◌, ap, refl, rules, subst, sym}
-use Rattle.tds_relay.specs.Fronts.{ends_in}
+use Rattle.std.proofs.Common.{◌≡◌, ◌∙◌, ap, false, refl, rules, subst, sym}
+use Rattle.tds_relay.specs.Fronts.{ends_in, hall_in}
 use Rattle.tds_relay.specs.Ties.{Connection, IsReached, Reaches, desk_in}
 use Rattle.tds_relay.proofs.steps.Fronts.{moves_same, told_none, told_some}
 use Rattle.tds_relay.proofs.steps.Reaching.{ok_more, ok_if}
@@ -18,13 +18,12 @@ use Rattle.tds_relay.proofs.spared.Losing.{nothing_loses, resumes_loses, sent_cl
 use Rattle.tds_relay.specs.Reads.{waits_on}
 use Rattle.tds_relay.proofs.spared.Lined.{acknowledges}
 use Rattle.tds_relay.proofs.spared.Only.{spares_for, spares_lost_on, spares_none, spares_sent, spares_shut, spares_wrote}
-use Rattle.tds_relay.specs.Fronts.{hall_in}
 use Rattle.tds_relay.proofs.bytes.SetAnew.{any_kept, any_on, any_refl, any_same, any_sent}
 use Rattle.tds_relay.proofs.seats.Relays.{behind_none, behind_out, behind_stays, but_kept, closed_end, kept_end, kept_seated, links_there}
 use Rattle.tds_relay.proofs.seats.Desks.{off_of}
 use Rattle.tds_relay.specs.Few.{is_left}
 use Rattle.tds_relay.specs.declared.desk.coming.What.TheVariants as whats
-use Rattle.std.proofs.Common.{◌≡◌, false}
+use Rattle.tds_relay.proofs.spared.Off.{all_off, asks_more, behind_sent, link_off, same_off, sent_off, whose_off}
 use Rattle.tds_relay.proofs.relay.Relay.heard.Goals as goal
 
 pub returns-in_default-clause-moves : goal.returns-in_default-clause-moves
@@ -368,3 +367,33 @@ returns-in-Closed-Some-clause-seated c = λ s. closed_end c.close_link.result c.
 
 pub returns-in-Closed-None-clause-seated : goal.returns-in-Closed-None-clause-seated
 returns-in-Closed-None-clause-seated c = λ s. closed_end c.close_link-in-Closed-None.result c.args.number c.send_on.new.self.desk c.send_on.new.self.links.items c.close_link-in-Closed-None.new.self c.close_link-in-Closed-None.ensures.desk c.close_link-in-Closed-None.ensures.gone c.close_link-in-Closed-None.ensures.others (c.in_ok-send_on.ensures.gone (but_kept c.args.number false c.args.self.now c.tell.new.self c.in_ok-resumes.ensures.desk (links_there c.args.self.now.links.items c.tell.new.self.links.items c.in_ok-resumes.ensures.links) (behind_out c.args.heard c.in-Some.heard c.args.number c.args.self.now c.in-Some.is (ap is_left (let w : c.in-Some.heard.what ≡ whats.Closed = search rules in w)) s)))
+
+pub returns-in_default-clause-apart : goal.returns-in_default-clause-apart
+returns-in_default-clause-apart c = all_off c.lose.result c.args.number _ c.args.self.now c.lose.new.self c.lose.ensures.rests
+
+pub returns-in-Goes-Some-clause-apart : goal.returns-in-Goes-Some-clause-apart
+returns-in-Goes-Some-clause-apart c = behind_sent c.order_write.result c.args.number c.args.heard c.in-Some.heard c.args.self.now c.tell.new.self c.send_on.new.self c.order_write.new.self c.in-Some.is c.in_ok-resumes.ensures.desk c.in_ok-resumes.ensures.links c.in_ok-resumes.ensures.ends c.in_ok-resumes.ensures.others c.in_ok-send_on.ensures.sends c.in_ok-send_on.ensures.asks c.in_ok-send_on.ensures.goes c.in_ok-send_on.ensures.spares (same_off c.order_write.result c.args.number _ c.send_on.new.self c.order_write.new.self c.order_write.ensures.desk c.order_write.ensures.links c.order_write.ensures.asks)
+
+pub returns-in-Finished-Some-clause-apart : goal.returns-in-Finished-Some-clause-apart
+returns-in-Finished-Some-clause-apart c = behind_sent c.order_write-in-Finished-Some.result c.args.number c.args.heard c.in-Some.heard c.args.self.now c.tell.new.self c.send_on.new.self c.order_write-in-Finished-Some.new.self c.in-Some.is c.in_ok-resumes.ensures.desk c.in_ok-resumes.ensures.links c.in_ok-resumes.ensures.ends c.in_ok-resumes.ensures.others c.in_ok-send_on.ensures.sends c.in_ok-send_on.ensures.asks c.in_ok-send_on.ensures.goes c.in_ok-send_on.ensures.spares (same_off c.order_write-in-Finished-Some.result c.args.number _ c.send_on.new.self c.order_write-in-Finished-Some.new.self c.order_write-in-Finished-Some.ensures.desk c.order_write-in-Finished-Some.ensures.links c.order_write-in-Finished-Some.ensures.asks)
+
+pub returns-else-resumes-clause-apart : goal.returns-else-resumes-clause-apart
+returns-else-resumes-clause-apart c = behind_sent c.order_write-else-resumes.result c.args.number c.args.heard c.in-Some.heard c.args.self.now c.tell.new.self c.send_on.new.self c.order_write-else-resumes.new.self c.in-Some.is c.in_ok-resumes.ensures.desk c.in_ok-resumes.ensures.links c.in_ok-resumes.ensures.ends c.in_ok-resumes.ensures.others c.in_ok-send_on.ensures.sends c.in_ok-send_on.ensures.asks c.in_ok-send_on.ensures.goes c.in_ok-send_on.ensures.spares (same_off c.order_write-else-resumes.result c.args.number _ c.send_on.new.self c.order_write-else-resumes.new.self c.order_write-else-resumes.ensures.desk c.order_write-else-resumes.ensures.links c.order_write-else-resumes.ensures.asks)
+
+pub returns-in-Goes-None-clause-apart : goal.returns-in-Goes-None-clause-apart
+returns-in-Goes-None-clause-apart c = sent_off c.args.number c.args.heard c.in-Some.heard c.args.self.now c.tell.new.self c.send_on.new.self c.in-Some.is c.in_ok-resumes.ensures.desk c.in_ok-resumes.ensures.links c.in_ok-resumes.ensures.ends c.in_ok-resumes.ensures.others c.in_ok-send_on.ensures.sends c.in_ok-send_on.ensures.asks
+
+pub returns-in-Finished-None-clause-apart : goal.returns-in-Finished-None-clause-apart
+returns-in-Finished-None-clause-apart c = sent_off c.args.number c.args.heard c.in-Some.heard c.args.self.now c.tell.new.self c.send_on.new.self c.in-Some.is c.in_ok-resumes.ensures.desk c.in_ok-resumes.ensures.links c.in_ok-resumes.ensures.ends c.in_ok-resumes.ensures.others c.in_ok-send_on.ensures.sends c.in_ok-send_on.ensures.asks
+
+pub returns-in-Acknowledged-None-clause-apart : goal.returns-in-Acknowledged-None-clause-apart
+returns-in-Acknowledged-None-clause-apart c = sent_off c.args.number c.args.heard c.in-Some.heard c.args.self.now c.tell.new.self c.send_on.new.self c.in-Some.is c.in_ok-resumes.ensures.desk c.in_ok-resumes.ensures.links c.in_ok-resumes.ensures.ends c.in_ok-resumes.ensures.others c.in_ok-send_on.ensures.sends c.in_ok-send_on.ensures.asks
+
+pub returns-then-resumes-clause-apart : goal.returns-then-resumes-clause-apart
+returns-then-resumes-clause-apart c = behind_sent c.resume.result c.args.number c.args.heard c.in-Some.heard c.args.self.now c.tell.new.self c.send_on.new.self c.resume.new.self c.in-Some.is c.in_ok-resumes.ensures.desk c.in_ok-resumes.ensures.links c.in_ok-resumes.ensures.ends c.in_ok-resumes.ensures.others c.in_ok-send_on.ensures.sends c.in_ok-send_on.ensures.asks c.in_ok-send_on.ensures.goes c.in_ok-send_on.ensures.spares (whose_off c.resume.result c.args.number c.args.heard c.in-Some.heard c.in-Acknowledged-Some.key c.send_on.new.self c.resume.new.self c.in-Some.is (search rules) c.resume.ensures.apart)
+
+pub returns-in-Closed-Some-clause-apart : goal.returns-in-Closed-Some-clause-apart
+returns-in-Closed-Some-clause-apart c = behind_sent c.close_link.result c.args.number c.args.heard c.in-Some.heard c.args.self.now c.tell.new.self c.send_on.new.self c.close_link.new.self c.in-Some.is c.in_ok-resumes.ensures.desk c.in_ok-resumes.ensures.links c.in_ok-resumes.ensures.ends c.in_ok-resumes.ensures.others c.in_ok-send_on.ensures.sends c.in_ok-send_on.ensures.asks c.in_ok-send_on.ensures.goes c.in_ok-send_on.ensures.spares (link_off c.close_link.result c.args.number _ c.send_on.new.self c.close_link.new.self c.close_link.ensures.desk c.close_link.ensures.others (asks_more c.close_link.result c.send_on.new.self c.close_link.new.self c.close_link.ensures.asks))
+
+pub returns-in-Closed-None-clause-apart : goal.returns-in-Closed-None-clause-apart
+returns-in-Closed-None-clause-apart c = behind_sent c.close_link-in-Closed-None.result c.args.number c.args.heard c.in-Some.heard c.args.self.now c.tell.new.self c.send_on.new.self c.close_link-in-Closed-None.new.self c.in-Some.is c.in_ok-resumes.ensures.desk c.in_ok-resumes.ensures.links c.in_ok-resumes.ensures.ends c.in_ok-resumes.ensures.others c.in_ok-send_on.ensures.sends c.in_ok-send_on.ensures.asks c.in_ok-send_on.ensures.goes c.in_ok-send_on.ensures.spares (link_off c.close_link-in-Closed-None.result c.args.number _ c.send_on.new.self c.close_link-in-Closed-None.new.self c.close_link-in-Closed-None.ensures.desk c.close_link-in-Closed-None.ensures.others (asks_more c.close_link-in-Closed-None.result c.send_on.new.self c.close_link-in-Closed-None.new.self c.close_link-in-Closed-None.ensures.asks))

@@ -18,6 +18,12 @@ use Rattle.std.proofs.Common.{◌∙◌, Some}
 use Rattle.tds_relay.proofs.bytes.SetAnew.{any_kept, any_refl}
 use Rattle.tds_relay.proofs.seats.Relays.{closed_end, desk_lasting, renewed_on, renewed_out, renews_keep}
 use Rattle.tds_relay.specs.declared.desk.leaving.Renewed.TheVariants as renewals
+use Rattle.tds_relay.proofs.spared.Off.{off_more, others_off_on, renewed_off}
+use Rattle.tds_relay.proofs.spared.Resting.{all_others, others_both, others_on}
+use Rattle.tds_relay.proofs.spared.Speaking.{closed_rest, done_as}
+use Rattle.tds_relay.proofs.steps.Reaching.{reached_turn}
+use Rattle.tds_relay.specs.declared.desk.leaving.Renewed.{Renewed}
+use Rattle.tds_relay.specs.Sparing.{IsRenewed}
 use Rattle.tds_relay.proofs.relay.Relay.keep.Goals as goal
 
 pub returns-in-Kept-clause-goes : goal.returns-in-Kept-clause-goes
@@ -130,3 +136,23 @@ pub returns-in-Closed-clause-seated : goal.returns-in-Closed-clause-seated
 returns-in-Closed-clause-seated c = λ s.
     closed_end c.close.result c.in-Closed.number c.renew.new.self c.args.self.now.links.items c.close.new.self c.close.ensures.desk c.close.ensures.gone c.close.ensures.others
     (renewed_out c.args.key c.in_ok-hold.ensures.turns.0 c.args.self.now.desk c.renew.new.self _ _ c.args.self.now.links.items c.in_ok-hold.ensures.turns.1 s c.in-Closed.number (renews_keep _ (renewals.Closed c.in-Closed.number) _ _ c.in-Closed.is (c.in_ok-hold.ensures.seats s.reached)))
+
+pub returns-in-Kept-clause-apart : goal.returns-in-Kept-clause-apart
+returns-in-Kept-clause-apart c =
+    others_off_on c.start_kept.result c.args.number c.args.key c.args.self.now c.start_kept.new.self
+    (λ reached.
+    let led = reached_turn _ _ _ _ _ c.in_ok-hold.ensures.turns.1 reached in
+    others_on c.start_kept.result c.args.key c.args.self.now c.restart.new.self c.start_kept.new.self (c.start_kept.ensures.others (subst (λ (d : code.Desk). IsReached (desk_in d)) (sym c.restart.ensures.desk) led))
+    (others_both c.args.key c.args.self.now _ c.restart.new.self (done_as c.args.key c.args.self.now _ reached c.in_ok-hold.ensures.others refl (λ k goes. refl)) (all_others c.args.key _ c.restart.new.self c.restart.ensures.rests)))
+
+pub returns-in-NotKept-clause-apart : goal.returns-in-NotKept-clause-apart
+returns-in-NotKept-clause-apart c =
+    renewed_off c.replace.result c.args.number c.args.key c.in_ok-hold.ensures.turns.0 c.args.self.now _ c.replace.new.self (λ reached. done_as c.args.key c.args.self.now _ reached c.in_ok-hold.ensures.others refl (λ k goes. refl))
+    c.in_ok-hold.ensures.turns.1 refl (off_more c.replace.result c.args.number (Some c.args.key) _ c.replace.new.self c.replace.ensures.apart)
+
+pub returns-in-Closed-clause-apart : goal.returns-in-Closed-clause-apart
+returns-in-Closed-clause-apart c =
+    others_off_on c.close.result c.args.number c.args.key c.args.self.now c.close.new.self
+    (λ reached.
+    let is = subst (λ (r : Renewed). IsRenewed r c.args.key c.args.self.now.desk c.renew.new.self) c.in-Closed.is c.in_ok-hold.ensures.is in
+    closed_rest c.close.result c.args.key c.in-Closed.number is.0 c.args.self.now c.close.new.self _ reached is.1 is.2 c.in_ok-hold.ensures.others c.close.ensures.desk c.close.ensures.others c.close.ensures.asks)

@@ -2,7 +2,9 @@ use Rattle.std.proofs.Common.{◌∙◌, ap, refl, slice_set, None, Option}
 use Rattle.tds_relay.specs.Fronts.{ends_in, house_in}
 use Rattle.tds_relay.specs.Posts.{posts_in}
 use Rattle.tds_relay.specs.Ties.{Application, desk_in}
-use Rattle.tds_relay.proofs.steps.Fronts.{ends_quit}
+use Rattle.tds_relay.specs.Hall.{change_end, lets_go}
+use Rattle.tds_relay.proofs.spared.Apart.{lends_from}
+use Rattle.tds_relay.proofs.steps.Fronts.{ends_quit, gone_stays}
 use Rattle.tds_relay.proofs.steps.Posting.{quits_is}
 use Rattle.tds_relay.proofs.steps.Reaching.{ok_more, reached_on, reaches_left}
 use Rattle.tds_relay.proofs.steps.Stepping.{no_steps, steps_on_ok, steps_quits}
@@ -28,6 +30,7 @@ use Rattle.tds_relay.specs.Places.{held_by}
 use Rattle.tds_relay.proofs.spared.Cleaned.{counts_on}
 use Rattle.tds_relay.specs.Cleaning.{cleaned_in}
 use Rattle.tds_relay.specs.Desk.{find_key}
+use Rattle.tds_relay.proofs.spared.Opening.{left_last, opens_new_on, opens_same}
 use Rattle.tds_relay.proofs.relay.Relay.left.Goals as goal
 
 pub returns-clause-left : goal.returns-clause-left
@@ -98,3 +101,13 @@ returns-clause-lasts c =
 
 pub returns-clause-counts : goal.returns-clause-counts
 returns-clause-counts c = counts_on c.serve_line.result (find_key c.args.key c.args.self.now.desk.holds.items) (cleaned_in c.args.self.now) (cleaned_in c.release.new.self) (cleaned_in c.serve_line.new.self) c.in_ok-release.ensures.counts c.serve_line.ensures.counts
+
+pub returns-clause-opening : goal.returns-clause-opening
+returns-clause-opening c = opens_new_on c.serve_line.result c.args.self.now c.release.new.self c.serve_line.new.self (opens_same c.args.self.now c.release.new.self c.release.ensures.opening (left_last c.args.key (desk_in c.args.self.now.desk) (desk_in c.release.new.self.desk) c.in_ok-release.ensures.leaving)) c.serve_line.ensures.opening
+
+pub returns-clause-lends : goal.returns-clause-lends
+returns-clause-lends c =
+    let old = c.args.self.now in
+    let quit = ends_quit old.applications c.try_remove.new.self c.args.key c.try_remove.result c.try_remove.ensures.value c.try_remove.ensures.slots c.try_remove.ensures.absent in
+    lends_from c.serve_line.result _ _ _ _ _ c.in_ok-release.ensures.line
+    (c.in_ok-release.ensures.fronts ∙ ap (change_end c.args.key lets_go) quit ∙ gone_stays (ends_in old.applications) c.args.key lets_go) c.serve_line.ensures.lends

@@ -20,6 +20,10 @@ use Rattle.tds_relay.proofs.spared.Lasting.{last_first_on, last_pushed}
 use Rattle.tds_relay.proofs.seats.Relays.{if_had, lasting_seated}
 use Rattle.tds_relay.proofs.seats.Linked.{seated_pushed}
 use Rattle.std.proofs.Common.{false, true, ◌≡◌}
+use Rattle.tds_relay.proofs.spared.Opening.{opens_one}
+use Rattle.tds_relay.specs.Ordering.{opens_if, opens_in}
+use Rattle.tds_relay.proofs.steps.Reaching.{ok_if}
+use Rattle.std.proofs.Common.{◌++◌, ◌∙◌, append-nil, Bool, ℕ}
 use Rattle.tds_relay.proofs.relay.Relay.lend.Goals as goal
 
 pub returns-then-served-clause-opens : goal.returns-then-served-clause-opens
@@ -94,3 +98,15 @@ returns-clause-seated c = λ s.
     let had : c.args.served.had ≡ false = search rules in
     seated_pushed c.args.served.hold.number (desk_in c.args.self.now.desk) c.in_ok-link.link c.args.self.now.links.items c.push.new.self.items c.in_ok-push.ensures.items c.in_ok-link.ensures.number
     (if_had false c.args.served.had c.args.served.hold.number c.args.self.now had s)
+
+pub returns-then-served-clause-opening : goal.returns-then-served-clause-opening
+returns-then-served-clause-opening c =
+    let had : c.args.served.had ≡ true = search rules in
+    ok_if c.start_kept.result _
+    (c.start_kept.ensures.opening ∙ ap opens_in c.restart.ensures.orders ∙ sym (append-nil (opens_in c.args.self.now.orders.items))
+    ∙ ap (λ (b : Bool). opens_in c.args.self.now.orders.items ++ opens_if b c.args.served.hold.number) (sym had))
+
+pub returns-clause-opening : goal.returns-clause-opening
+returns-clause-opening c =
+    let had : c.args.served.had ≡ false = search rules in
+    opens_one c.args.served.hold.number c.args.self.now.orders.items _ c.in_ok-push-2.ensures.items ∙ ap (λ (b : Bool). opens_in c.args.self.now.orders.items ++ opens_if b c.args.served.hold.number) (sym had)

@@ -1,5 +1,5 @@
 use Rattle.tds_relay.specs.Fronts.{hall_in, house_in}
-use Rattle.tds_relay.proofs.spared.Apart.{loses_only}
+use Rattle.tds_relay.proofs.spared.Apart.{lends_from, loses_only}
 use Rattle.tds_relay.specs.Ties.{desk_in}
 use Rattle.tds_relay.proofs.steps.Stepping.{no_steps, steps_moved, steps_whoever}
 use Rattle.tds_relay.proofs.steps.Staying.{opens_served}
@@ -18,6 +18,7 @@ use Rattle.tds_relay.proofs.seats.Desks.{off_of}
 use Rattle.tds_relay.proofs.spared.Lasting.{besides_on, but_others}
 use Rattle.tds_relay.specs.Closings.{register_in}
 use Rattle.std.proofs.Common.{◌≡◌, ℕ}
+use Rattle.tds_relay.proofs.spared.Opening.{on_last, opens_new_on, opens_same}
 use Rattle.tds_relay.proofs.relay.Relay.lost.Goals as goal
 
 pub returns-clause-steps : goal.returns-clause-steps
@@ -64,3 +65,9 @@ returns-clause-lasts c =
     besides_on c.serve_line.result (λ (other : ℕ). other ≡ c.args.number) (IsWaiting (desk_in c.args.self.now.desk).line) (IsWaiting (desk_in c.lose.new.self.desk).line) (IsWho (holder (desk_in c.args.self.now.desk) c.args.number))
     (register_in c.args.self.now) (register_in c.lose.new.self) (register_in c.serve_line.new.self) (λ key e. ap (is_in key) (sym c.in_ok-lose.ensures.line) ∙ e) c.in_ok-lose.ensures.closes
     (but_others c.args.number c.args.self.now.links.items c.lose.new.self.links.items c.in_ok-lose.ensures.others) c.serve_line.ensures.lasts
+
+pub returns-clause-opening : goal.returns-clause-opening
+returns-clause-opening c = opens_new_on c.serve_line.result c.args.self.now c.lose.new.self c.serve_line.new.self (opens_same c.args.self.now c.lose.new.self c.lose.ensures.opening (on_last (desk_in c.args.self.now.desk) (desk_in c.lose.new.self.desk) c.in_ok-lose.ensures.goes)) c.serve_line.ensures.opening
+
+pub returns-clause-lends : goal.returns-clause-lends
+returns-clause-lends c = lends_from c.serve_line.result _ _ _ _ _ c.in_ok-lose.ensures.line c.in_ok-lose.ensures.ends c.serve_line.ensures.lends

@@ -6,7 +6,7 @@ use Rattle.tds_relay.proofs.steps.Staying.{opens_one_served, stays_behind}
 use Rattle.tds_relay.proofs.bytes.Calls.{stand_back, stand_on}
 use Rattle.tds_relay.specs.declared.desk.Desk as code
 use Rattle.tds_relay.proofs.spared.Resting.{all_both, all_rest, asks_on, go_both, go_on, reached_on_does, rest_go}
-use Rattle.tds_relay.specs.Reads.{open_at}
+use Rattle.tds_relay.specs.Reads.{open_at, waits_on}
 use Rattle.tds_relay.proofs.spared.Starting.{started_on}
 use Rattle.tds_relay.proofs.steps.Renaming.{names_on}
 use Rattle.tds_relay.specs.Posts.{names_in, names_of}
@@ -22,6 +22,9 @@ use Rattle.tds_relay.proofs.seats.Linked.{all_there}
 use Rattle.tds_relay.specs.Ties.{Reaches}
 use Rattle.tds_relay.proofs.steps.Reaching.{ok_more}
 use Rattle.tds_relay.proofs.spared.Lasting.{last_all, last_from, last_links, last_same, last_then}
+use Rattle.tds_relay.proofs.spared.Opening.{on_last, opens_new_on, opens_same}
+use Rattle.tds_relay.specs.Ordering.{opens_in}
+use Rattle.std.proofs.Common.{◌≤◌}
 use Rattle.tds_relay.proofs.relay.Relay.opened.Goals as goal
 
 pub returns-clause-steps : goal.returns-clause-steps
@@ -62,12 +65,13 @@ returns-clause-starts c = λ reached.
     started_on c.serve_line.result c.args.number c.args.self.now c.order_write_on.new.self c.start_on.new.self c.serve_line.new.self reached same
     (c.in_ok-order_write_on.ensures.ends ∙ c.set_open.ensures.ends)
     (λ other. ap (open_at other) c.in_ok-order_write_on.ensures.links ∙ c.set_open.ensures.opens other)
-    (rest_go c.args.self.now c.order_write_on.new.self (λ r. all_both c.args.self.now c.set_open.new.self c.order_write_on.new.self c.set_open.ensures.same
+    (λ other. ap (waits_on other) c.in_ok-order_write_on.ensures.links ∙ c.set_open.ensures.waits other)
+    (all_both c.args.self.now c.set_open.new.self c.order_write_on.new.self c.set_open.ensures.same
     (all_rest c.set_open.new.self c.order_write_on.new.self c.order_write_on.ensures.desk c.in_ok-order_write_on.ensures.links
-    (asks_on c.set_open.new.self c.order_write_on.new.self c.in_ok-order_write_on.ensures.asks))))
+    (asks_on c.set_open.new.self c.order_write_on.new.self c.in_ok-order_write_on.ensures.asks)))
     c.in_ok-start_on.ensures.goes_on c.serve_line.ensures.goes_on
     (λ r. reached_on_does (desk_in c.order_write_on.new.self.desk) (desk_in c.start_on.new.self.desk) c.in_ok-start_on.ensures.goes r)
-    c.in_ok-start_on.ensures.waits
+    c.in_ok-start_on.ensures.waits c.in_ok-start_on.ensures.behind
 
 pub returns-clause-names : goal.returns-clause-names
 returns-clause-names c =
@@ -116,3 +120,11 @@ returns-clause-lasts c =
     (λ key e. inl (ap (λ (d : code.Desk). holder (desk_in d) c.args.number) (sym same) ∙ e)) c.in_ok-start_on.ensures.lasts)
     (λ key e. inr (ap (λ (d : code.Desk). is_in key (desk_in d).line) (sym same) ∙ waited_on (desk_in c.order_write_on.new.self.desk) (desk_in c.start_on.new.self.desk) c.in_ok-start_on.ensures.goes key e))
     c.serve_line.ensures.closes c.serve_line.ensures.lasts
+
+pub returns-clause-opening : goal.returns-clause-opening
+returns-clause-opening c =
+    let same = c.order_write_on.ensures.desk ∙ c.set_open.ensures.desk in
+    opens_new_on c.serve_line.result c.args.self.now c.start_on.new.self c.serve_line.new.self
+    (opens_same c.args.self.now c.start_on.new.self (c.start_on.ensures.opening ∙ c.order_write_on.ensures.opening ∙ ap opens_in c.set_open.ensures.orders)
+    (subst (λ (d : code.Desk). (desk_in d).service.last ≤ (desk_in c.start_on.new.self.desk).service.last) same (on_last (desk_in c.order_write_on.new.self.desk) (desk_in c.start_on.new.self.desk) c.in_ok-start_on.ensures.goes)))
+    c.serve_line.ensures.opening

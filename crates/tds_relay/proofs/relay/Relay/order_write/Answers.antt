@@ -16,6 +16,7 @@ use Rattle.tds_relay.proofs.spared.Apart.{alone_changed, alone_refl}
 use Rattle.tds_relay.specs.Desk.{Desk}
 use Rattle.tds_relay.specs.Fronts.{hall_in}
 use Rattle.tds_relay.specs.Hall.{closes}
+use Rattle.tds_relay.proofs.spared.Opening.{opens_pushed}
 use Rattle.tds_relay.proofs.relay.Relay.order_write.Goals as goal
 
 pub returns-then-is_full-clause-moves : goal.returns-then-is_full-clause-moves
@@ -49,3 +50,6 @@ returns-clause-alone c = alone_refl c.args.key (hall_in c.args.self.now)
 pub returns-then-is_full-clause-alone : goal.returns-then-is_full-clause-alone
 returns-then-is_full-clause-alone c =
     ok_more c.end.result _ _ (λ e. alone_changed c.args.key closes (hall_in c.args.self.now) (hall_in c.end.new.self) e (ap (λ (d : Desk). d.line) (ap desk_in c.end.ensures.desk))) c.end.ensures.ends
+
+pub returns-clause-opening : goal.returns-clause-opening
+returns-clause-opening c = opens_pushed (orders.Write c.in-Some.application.now.tag) c.args.self.now.orders.items c.push.new.self.items c.in_ok-push.ensures.items refl

@@ -4,6 +4,7 @@ use Rattle.tds_relay.specs.Closings.{Nobody}
 use Rattle.tds_relay.specs.Sending.{IsToWrite, called_at}
 use Rattle.tds_relay.proofs.spared.Sending.{kept_refl, ordered_last}
 use Rattle.tds_relay.proofs.spared.Shutting.{closes_kept, write_closes}
+use Rattle.tds_relay.proofs.spared.Opening.{opens_pushed}
 use Rattle.tds_relay.proofs.relay.Relay.order_write_on.Goals as goal
 
 pub returns-in_ok-push-in-Some-clause-ordered : goal.returns-in_ok-push-in-Some-clause-ordered
@@ -21,3 +22,6 @@ returns-in-None-clause-writes c =
 
 pub returns-in_ok-push-in-Some-clause-closes : goal.returns-in_ok-push-in-Some-clause-closes
 returns-in_ok-push-in-Some-clause-closes c = closes_kept Nobody _ _ refl refl refl (kept_refl c.args.self.now.links.items) (write_closes _ _ _ c.in_ok-push-in-Some.ensures.items)
+
+pub returns-in_ok-push-in-Some-clause-opening : goal.returns-in_ok-push-in-Some-clause-opening
+returns-in_ok-push-in-Some-clause-opening c = opens_pushed (orders.Write c.in-Some.tag) c.args.self.now.orders.items c.push.new.self.items c.in_ok-push-in-Some.ensures.items refl

@@ -3,7 +3,7 @@ use Rattle.tds_relay.specs.Closings.{IsWaiting}
 use Rattle.tds_relay.specs.Fronts.{ends_in, hall_in, house_in}
 use Rattle.tds_relay.specs.Parking.{may_park_in}
 use Rattle.tds_relay.specs.Posts.{posts_in}
-use Rattle.tds_relay.specs.Ties.{Application, desk_in}
+use Rattle.tds_relay.specs.Ties.{Application, Parking, desk_in}
 use Rattle.tds_relay.proofs.spared.Closings.{closes_both, closes_more, closes_nobody}
 use Rattle.tds_relay.proofs.spared.Few.{most_kept, none_stays}
 use Rattle.tds_relay.proofs.spared.Lines.{waited_left}
@@ -22,6 +22,7 @@ use Rattle.tds_relay.specs.Closings.{Nobody, register_in}
 use Rattle.tds_relay.specs.Cleaning.{CountsHold, cleaned_in}
 use Rattle.tds_relay.specs.Desk.{find_key}
 use Rattle.std.proofs.Common.{subst}
+use Rattle.tds_relay.proofs.spared.Opening.{left_last, opens_new_both, opens_none, opens_same}
 use Rattle.tds_relay.proofs.relay.Relay.park.Goals as goal
 
 pub returns-clause-left : goal.returns-clause-left
@@ -43,11 +44,11 @@ returns-clause-steps c =
     let old = c.args.self.now in
     let mid = c.release.new.self in
     let rests : may_park_in old c.args.key ≡ true = sym c.may_park.ensures ∙ (search rules) in
-    steps_moved (Application c.args.key) (house_in old) (hall_in mid) (hall_in c.serve_line.new.self) (posts_in mid.applications) (posts_in c.serve_line.new.self.applications)
-    (c.in_ok-serve_line.ensures.moves (Application c.args.key)) c.in_ok-serve_line.ensures.kept
-    (steps_moves (Application c.args.key) (house_in old) (hall_in old) (hall_in mid) (posts_in old.applications) (posts_in mid.applications)
-    (moves_parks c.args.key (hall_in old) (desk_in old.desk) (ends_in old.applications) (hall_in mid) (parks old c.args.key rests) c.in_ok-release.ensures.lets_go (no_moves (Application c.args.key) (hall_in old)))
-    c.in_ok-release.ensures.kept (no_steps (Application c.args.key) (house_in old)))
+    steps_moved (Parking c.args.key) (house_in old) (hall_in mid) (hall_in c.serve_line.new.self) (posts_in mid.applications) (posts_in c.serve_line.new.self.applications)
+    (c.in_ok-serve_line.ensures.moves (Parking c.args.key)) c.in_ok-serve_line.ensures.kept
+    (steps_moves (Parking c.args.key) (house_in old) (hall_in old) (hall_in mid) (posts_in old.applications) (posts_in mid.applications)
+    (moves_parks c.args.key (hall_in old) (desk_in old.desk) (ends_in old.applications) (hall_in mid) (parks old c.args.key rests) c.in_ok-release.ensures.lets_go (no_moves (Parking c.args.key) (hall_in old)))
+    c.in_ok-release.ensures.kept (no_steps (Parking c.args.key) (house_in old)))
 
 pub returns-clause-kept : goal.returns-clause-kept
 returns-clause-kept c = c.in_ok-serve_line.ensures.kept ∙ c.in_ok-release.ensures.kept
@@ -106,3 +107,9 @@ returns-clause-lasts c =
 
 pub returns-clause-counts : goal.returns-clause-counts
 returns-clause-counts c = λ yes. subst (CountsHold (find_key c.args.key c.args.self.now.desk.holds.items) (cleaned_in c.args.self.now)) (sym c.serve_line.ensures.counts) c.in_ok-release.ensures.counts
+
+pub returns-then-not-may_park-clause-opening : goal.returns-then-not-may_park-clause-opening
+returns-then-not-may_park-clause-opening c = opens_none c.args.self.now
+
+pub returns-clause-opening : goal.returns-clause-opening
+returns-clause-opening c = opens_new_both c.args.self.now c.release.new.self c.serve_line.new.self (opens_same c.args.self.now c.release.new.self c.release.ensures.opening (left_last c.args.key (desk_in c.args.self.now.desk) (desk_in c.release.new.self.desk) c.in_ok-release.ensures.leaving)) c.in_ok-serve_line.ensures.opening

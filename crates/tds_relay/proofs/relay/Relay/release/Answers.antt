@@ -11,6 +11,7 @@ use Rattle.tds_relay.proofs.spared.Ordered.{ordered_on, ordered_same}
 use Rattle.tds_relay.specs.Closings.{IsWho, Nobody}
 use Rattle.tds_relay.proofs.spared.Closings.{closes_on, closes_with}
 use Rattle.tds_relay.proofs.spared.Cleaned.{left_by, nobody_left, shut_by, waits_none}
+use Rattle.tds_relay.proofs.spared.Apart.{line_leaves}
 use Rattle.tds_relay.proofs.seats.Relays.{closed_end, left_gone, left_none, left_there}
 use Rattle.tds_relay.proofs.spared.Lasting.{but_same, held_but, held_number}
 use Rattle.std.proofs.Common.{Some, ◌≡◌, ℕ}
@@ -95,7 +96,7 @@ returns-in_default-clause-ends c = λ reached. nobody_left c.args.key (find_key 
 pub returns-then-left-clause-ends : goal.returns-then-left-clause-ends
 returns-then-left-clause-ends c = λ reached.
     left_by c.send_unheld.result c.args.key c.in-Some.left (find_key c.args.key c.args.self.now.desk.holds.items) c.in_ok-left.ensures.turns.0 c.in_ok-left.ensures.turns.1 c.args.self.now c.let_go.new.self c.send_unheld.new.self c.leave.new.self _ _ c.let_go.new.self.outbox.items refl (search rules)
-    (search rules) reached (search rules) (search rules) c.let_go.ensures.outbox c.in_ok-left.ensures.turns.2 c.let_go.ensures.desk c.let_go.ensures.links c.send_unheld.ensures.puts
+    (search rules) reached (search rules) c.in_ok-left.left c.in-Some.is c.in_ok-left.ensures.ends c.let_go.ensures.outbox c.in_ok-left.ensures.turns.2 c.let_go.ensures.desk c.let_go.ensures.links c.send_unheld.ensures.puts
 
 pub returns-else-left-clause-ends : goal.returns-else-left-clause-ends
 returns-else-left-clause-ends c = λ reached.
@@ -144,3 +145,17 @@ pub returns-else-left-clause-counts : goal.returns-else-left-clause-counts
 returns-else-left-clause-counts c =
     counts_on c.close.result (find_key c.args.key c.args.self.now.desk.holds.items) (cleaned_in c.args.self.now) (c.let_go.new.self.cleanings, c.saturating_add-self-else-left.result) (cleaned_in c.close.new.self)
     (counts_some (find_key c.args.key c.args.self.now.desk.holds.items) c.in-Some.left _ _ (search rules) (one_failed (cleaned_in c.args.self.now) (cleaned_in c.let_go.new.self) (c.let_go.new.self.cleanings, c.saturating_add-self-else-left.result) c.saturating_add-self-else-left.result c.let_go.ensures.counts c.saturating_add-self-else-left.ensures refl)) c.close.ensures.counts
+
+pub returns-in_default-clause-line : goal.returns-in_default-clause-line
+returns-in_default-clause-line c =
+    ap (λ (d : code.Desk). (desk_in d).line) c.let_go.ensures.desk ∙ line_leaves c.args.key c.in_ok-left.ensures.turns.0 c.in_ok-left.ensures.turns.1 _ _ _ _ c.in_ok-left.ensures.turns.2
+
+pub returns-then-left-clause-line : goal.returns-then-left-clause-line
+returns-then-left-clause-line c =
+    ok_more c.send_unheld.result _ _
+    (λ l. l ∙ ap (λ (d : code.Desk). (desk_in d).line) c.let_go.ensures.desk ∙ line_leaves c.args.key c.in_ok-left.ensures.turns.0 c.in_ok-left.ensures.turns.1 _ _ _ _ c.in_ok-left.ensures.turns.2) c.send_unheld.ensures.line
+
+pub returns-else-left-clause-line : goal.returns-else-left-clause-line
+returns-else-left-clause-line c =
+    ok_if c.close.result _
+    (ap (λ (d : code.Desk). (desk_in d).line) (c.close.ensures.desk ∙ c.let_go.ensures.desk) ∙ line_leaves c.args.key c.in_ok-left.ensures.turns.0 c.in_ok-left.ensures.turns.1 _ _ _ _ c.in_ok-left.ensures.turns.2)

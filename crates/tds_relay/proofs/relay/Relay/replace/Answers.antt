@@ -15,7 +15,7 @@ use Rattle.tds_relay.specs.Waiting.{StandsInLine}
 use Rattle.tds_relay.specs.Waiting as waiting
 use Rattle.tds_relay.proofs.spared.Cleaned.{not_both}
 use Rattle.tds_relay.proofs.spared.Lined.{lost_deaf, same_key}
-use Rattle.std.proofs.Common.{Some}
+use Rattle.std.proofs.Common.{None, Some}
 use Rattle.tds_relay.proofs.spared.Only.{spares_both, spares_holder, spares_left, spares_lost_on, spares_none, spares_parted}
 use Rattle.tds_relay.specs.Fronts.{hall_in}
 use Rattle.tds_relay.specs.Hall.{lets_go}
@@ -27,6 +27,7 @@ use Rattle.tds_relay.proofs.seats.Desks.{lost_seated, off_of}
 use Rattle.tds_relay.specs.Hall.{Ends, IfOpen, IsBegun, end_at, holder}
 use Rattle.tds_relay.specs.Fronts.{ends_in}
 use Rattle.tds_relay.proofs.steps.Quieting.{open_lets_go, whose_is}
+use Rattle.tds_relay.proofs.spared.Off.{all_off, asks_more, lost_off, parted_off, waits_off}
 use Rattle.tds_relay.proofs.relay.Relay.replace.Goals as goal
 
 pub returns-in_default-clause-goes : goal.returns-in_default-clause-goes
@@ -146,3 +147,18 @@ pub returns-clause-seated : goal.returns-clause-seated
 returns-clause-seated c = λ s.
     c.wait.ensures.seated (closed_seated c.args.number c.let_go.new.self.desk c.let_go.new.self.links.items c.close_link-2.new.self c.close_link-2.ensures.desk c.in_ok-close_link.ensures.gone c.in_ok-close_link.ensures.others
     (desk_but c.args.number c.lose-2.new.self c.args.self.now.links.items c.let_go.new.self c.let_go.ensures.desk c.let_go.ensures.links (lost_seated c.args.number (desk_in c.args.self.now.desk) (desk_in c.lose-2.new.self) _ _ c.args.self.now.links.items c.in_ok-holder.ensures.turns (off_of c.args.number (desk_in c.args.self.now.desk) c.args.self.now.links.items s))))
+
+pub returns-then-not-may_replace-clause-apart : goal.returns-then-not-may_replace-clause-apart
+returns-then-not-may_replace-clause-apart c = all_off c.lose.result c.args.number _ c.args.self.now c.lose.new.self c.lose.ensures.rests
+
+pub returns-in_default-clause-apart : goal.returns-in_default-clause-apart
+returns-in_default-clause-apart c =
+    lost_off c.close_link.result c.args.number None c.args.self.now c.close_link.new.self _ c.in_ok-holder.ensures.off c.close_link.ensures.desk c.close_link.ensures.others (asks_more c.close_link.result c.args.self.now c.close_link.new.self c.close_link.ensures.asks)
+
+pub returns-clause-apart : goal.returns-clause-apart
+returns-clause-apart c =
+    ok_if c.wait.result _
+    (waits_off c.args.number None c.args.self.now c.close_link-2.new.self c.wait.new.self
+    (parted_off c.args.number None c.args.self.now c.let_go.new.self c.close_link-2.new.self c.lose-2.new.self c.in_ok-holder.ensures.off (c.in_ok-close_link.ensures.desk ∙ c.let_go.ensures.desk) c.in_ok-close_link.ensures.others c.let_go.ensures.links
+    c.let_go.ensures.asks c.in_ok-close_link.ensures.asks)
+    c.wait.ensures.body)

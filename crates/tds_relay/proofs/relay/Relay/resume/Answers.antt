@@ -5,6 +5,7 @@ use Rattle.tds_relay.proofs.spared.Closings.{anybody_then}
 use Rattle.tds_relay.proofs.spared.Only.{spares_alone_on}
 use Rattle.tds_relay.specs.Fronts.{hall_in}
 use Rattle.tds_relay.proofs.bytes.SetAnew.{any_kept, any_refl}
+use Rattle.tds_relay.proofs.spared.Off.{others_off_on}
 use Rattle.tds_relay.proofs.relay.Relay.resume.Goals as goal
 
 pub returns-then-asks_to_keep-clause-moves : goal.returns-then-asks_to_keep-clause-moves
@@ -29,3 +30,6 @@ returns-else-asks_to_keep-clause-spares c = λ reached.
 
 pub returns-else-asks_to_keep-clause-begins : goal.returns-else-asks_to_keep-clause-begins
 returns-else-asks_to_keep-clause-begins c = any_kept c.start_kept.result _ _ _ (any_refl c.args.self.now.links.items) c.start_kept.ensures.answers
+
+pub returns-else-asks_to_keep-clause-apart : goal.returns-else-asks_to_keep-clause-apart
+returns-else-asks_to_keep-clause-apart c = others_off_on c.start_kept.result c.args.number c.args.key c.args.self.now c.start_kept.new.self c.start_kept.ensures.others

@@ -16,6 +16,7 @@ use Rattle.std.proofs.Common.{inl}
 use Rattle.tds_relay.proofs.spared.Closings.{closes_more, closes_with}
 use Rattle.tds_relay.proofs.spared.Reasons.{lent_behind}
 use Rattle.tds_relay.proofs.spared.Few.{few_behind, most_kept, none_stays}
+use Rattle.tds_relay.proofs.spared.Opening.{goes_last, opens_new_on, opens_same}
 use Rattle.tds_relay.proofs.spared.Speaking.{others_served}
 use Rattle.tds_relay.proofs.relay.Relay.said.Goals as goal
 
@@ -63,3 +64,6 @@ returns-clause-goes c = ok_more c.serve_line.result _ _ (λ g from h. g (Applica
 
 pub returns-clause-others : goal.returns-clause-others
 returns-clause-others c = others_served c.serve_line.result c.args.key c.args.self.now c.take_all.new.self c.serve_line.new.self c.in_ok-take_all.ensures.goes c.in_ok-take_all.ensures.others c.serve_line.ensures.goes_on
+
+pub returns-clause-opening : goal.returns-clause-opening
+returns-clause-opening c = opens_new_on c.serve_line.result c.args.self.now c.take_all.new.self c.serve_line.new.self (opens_same c.args.self.now c.take_all.new.self c.take_all.ensures.opening (goes_last (Application c.args.key) (desk_in c.args.self.now.desk) (desk_in c.take_all.new.self.desk) c.in_ok-take_all.ensures.goes)) c.serve_line.ensures.opening

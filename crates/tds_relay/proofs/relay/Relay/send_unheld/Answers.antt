@@ -83,3 +83,12 @@ returns-in-Some-clause-others c = c.in_ok-fits.ensures.others
 
 pub returns-in-None-clause-others : goal.returns-in-None-clause-others
 returns-in-None-clause-others c = ok_more c.lose.result _ _ (λ h other differs. h other differs ∙ c.in_ok-fits.ensures.others other differs) c.lose.ensures.others
+
+pub returns-then-fits-clause-line : goal.returns-then-fits-clause-line
+returns-then-fits-clause-line c = ap (λ (d : code.Desk). (desk_in d).line) c.fits_on.ensures.desk
+
+pub returns-in-Some-clause-line : goal.returns-in-Some-clause-line
+returns-in-Some-clause-line c = ap (λ (d : code.Desk). (desk_in d).line) c.fits_on.ensures.desk
+
+pub returns-in-None-clause-line : goal.returns-in-None-clause-line
+returns-in-None-clause-line c = ok_more c.lose.result _ _ (λ l. l ∙ ap (λ (d : code.Desk). (desk_in d).line) c.fits_on.ensures.desk) c.lose.ensures.line

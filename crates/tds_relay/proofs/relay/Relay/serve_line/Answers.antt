@@ -1,6 +1,6 @@
 use Rattle.std.proofs.Common.{◌≡◌, ℕ, suc, length, ap, arith, refl, ◌∙◌, inl, inr, rules}
 use Rattle.std.proofs.Math.Nat.{zero-add}
-use Rattle.tds_relay.proofs.spared.Apart.{served_shorter, unserved_on, unserved_refl}
+use Rattle.tds_relay.proofs.spared.Apart.{lends_nobody, lends_none, lends_on, served_shorter, unserved_on, unserved_refl}
 use Rattle.tds_relay.proofs.spared.Ordered.{ordered_both, ordered_refl}
 use Rattle.tds_relay.proofs.steps.Fronts.{moves_does}
 use Rattle.tds_relay.proofs.steps.Reaching.{reaches_turn}
@@ -17,6 +17,8 @@ use Rattle.std.proofs.Common.{subst}
 use Rattle.tds_relay.specs.Ties.{Serving}
 use Rattle.tds_relay.proofs.seats.Desks.{unserved}
 use Rattle.tds_relay.proofs.seats.Relays.{lent_if}
+use Rattle.tds_relay.proofs.spared.Opening.{lent_opens, on_last, opens_new_both, opens_none, opens_same, turn_last}
+use Rattle.tds_relay.specs.Desk.{Serves}
 use Rattle.tds_relay.proofs.relay.Relay.serve_line.Goals as goal
 
 pub line-init : goal.line-init
@@ -32,11 +34,13 @@ line-init c =
       going = go_refl old;
       ordered = ordered_refl old.orders.items;
       unserved = unserved_refl (hall_in old);
+      lends = lends_none (hall_in old);
       few = inl (none_refl old.links.items);
       shorter = zero-add (length old.desk.line.items);
       lasting = last_start may (register_in old);
       seated = λ s. s;
       counts = refl;
+      opening = opens_none old;
       closes = closes_refl may (register_in old);
     }
 
@@ -68,12 +72,18 @@ line-preserved c = record {
       c.line.invariant.lasting
       (last_more (Itself c.in-Some.served.hold.key) (IsWaiting (desk_in c.args.self.now.desk).line) _ _
       (served_waited (hall_in c.args.self.now) (hall_in c.line.self) _ c.in-Some.served c.line.invariant.unserved c.in_ok-served.ensures.ok.1 c.in-Some.is) c.in_ok-lend-in-Some.ensures.lasts);
+  lends =
+      lends_on _ _ _ _ _ _ c.in-Some.served _ _ c.line.invariant.lends c.in_ok-served.ensures.ok.1 c.in-Some.is c.in_ok-served.ensures.ok.0 refl c.in_ok-lend-in-Some.ensures.alone;
   unserved =
       unserved_on _ _ _ _ _ c.in-Some.served _ _ c.line.invariant.unserved c.in_ok-served.ensures.ok.1 c.in-Some.is c.in_ok-served.ensures.ok.0 refl c.in_ok-lend-in-Some.ensures.alone;
   seated = λ s.
       c.in_ok-lend-in-Some.ensures.seated
       (lent_if c.line.self.desk c.serve.new.self c.in-Some.served c.in-Some.served.had _ _ _ refl refl c.in_ok-served.ensures.ok.0 (subst (Serving (desk_in c.line.self.desk)) c.in-Some.is c.in_ok-served.ensures.ok.1) (c.line.invariant.seated s));
   counts = c.lend.ensures.counts ∙ c.line.invariant.counts;
+  opening =
+      opens_new_both c.args.self.now c.line.self c.lend.new.self c.line.invariant.opening
+      (lent_opens c.in-Some.served c.line.self c.lend.new.self (desk_in c.serve.new.self) _ _ c.in_ok-served.ensures.ok.0 (subst (Serving (desk_in c.line.self.desk)) c.in-Some.is c.in_ok-served.ensures.ok.1) c.in_ok-lend-in-Some.ensures.opening
+      (on_last (desk_in c.serve.new.self) (desk_in c.lend.new.self.desk) c.in_ok-lend-in-Some.ensures.goes));
 }
 
 pub returns-in-None-clause-apart : goal.returns-in-None-clause-apart
@@ -100,3 +110,12 @@ returns-then-is_full-clause-served c = inr (c.is_full.ensures.full (search rules
 pub returns-in-None-clause-seated : goal.returns-in-None-clause-seated
 returns-in-None-clause-seated c = λ s.
     unserved (desk_in c.line.self.desk) (desk_in c.serve.new.self) _ _ c.line.self.links.items c.in_ok-served.ensures.ok.0 (subst (Serving (desk_in c.line.self.desk)) c.in-None.is c.in_ok-served.ensures.ok.1) (c.line.invariant.seated s)
+
+pub returns-in-None-clause-opening : goal.returns-in-None-clause-opening
+returns-in-None-clause-opening c = opens_new_both c.args.self.now c.line.self _ c.line.invariant.opening (opens_same c.line.self _ refl (turn_last Serves (desk_in c.line.self.desk) (desk_in c.serve.new.self) _ _ c.in_ok-served.ensures.ok.0))
+
+pub returns-in-None-clause-lends : goal.returns-in-None-clause-lends
+returns-in-None-clause-lends c = lends_nobody _ _ _ _ _ _ _ c.line.invariant.lends c.in_ok-served.ensures.ok.1 c.in-None.is c.in_ok-served.ensures.ok.0 refl
+
+pub returns-then-is_full-clause-lends : goal.returns-then-is_full-clause-lends
+returns-then-is_full-clause-lends c = c.line.invariant.lends

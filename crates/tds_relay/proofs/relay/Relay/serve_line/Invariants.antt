@@ -1,8 +1,9 @@
 use Rattle.std.proofs.Common.{◌≡◌, ◌+◌, length}
 use Rattle.tds_relay.specs.Few.{Few}
-use Rattle.tds_relay.specs.Fronts.{MovedOn, hall_in}
+use Rattle.tds_relay.specs.Apart.{LendsInTurn}
+use Rattle.tds_relay.specs.Fronts.{MovedOn, ends_in, hall_in}
 use Rattle.tds_relay.specs.Lent.{LastBut}
-use Rattle.tds_relay.specs.Ordering.{StayOrdered}
+use Rattle.tds_relay.specs.Ordering.{OpensNew, StayOrdered}
 use Rattle.tds_relay.specs.Posts.{posts_in}
 use Rattle.tds_relay.specs.Reads.{Opens}
 use Rattle.tds_relay.specs.Sparing.{AllGo}
@@ -24,10 +25,12 @@ invariant-line l = record {
   going : AllGo l.fn.self l.self;
   ordered : StayOrdered l.fn.self.orders.items l.self.orders.items;
   unserved : Unserved (hall_in l.fn.self) (hall_in l.self);
+  lends : LendsInTurn (desk_in l.fn.self.desk).line (ends_in l.fn.self.applications) (hall_in l.self);
   few : Few l.fn.self.most l.fn.self.links.items l.self.links.items;
   shorter : l.turn + length l.self.desk.line.items ≡ length l.fn.self.desk.line.items;
   lasting : LastBut (IsWaiting (desk_in l.fn.self.desk).line) (register_in l.fn.self) (register_in l.self);
   closes : ClosesOnly (IsWaiting (desk_in l.fn.self.desk).line) (register_in l.fn.self) (register_in l.self);
   seated : IsSeated l.fn.self → IsSeated l.self;
   counts : cleaned_in l.self ≡ cleaned_in l.fn.self;
+  opening : OpensNew l.fn.self l.self;
 }

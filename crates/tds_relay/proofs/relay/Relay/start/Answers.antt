@@ -7,8 +7,10 @@ use Rattle.tds_relay.proofs.steps.Underway.{drains}
 use Rattle.tds_relay.proofs.bytes.Calls.{stand_on}
 use Rattle.tds_relay.specs.Bodies.{Body, Stays, Starts, body_of, going_of, held_of}
 use Rattle.slab.specs.Slab.{get}
+use Rattle.tds_relay.specs.Reads.{waits_on}
+use Rattle.tds_relay.specs.Sparing.{StartsBehind}
 use Rattle.tds_relay.proofs.steps.Bodied.{closed_body, closed_starts, shut_starts, shut}
-use Rattle.tds_relay.proofs.steps.Going.{holds_stay, kept_at, starts_there}
+use Rattle.tds_relay.proofs.steps.Going.{behind_closed, behind_there, holds_stay, kept_at, starts_there}
 use Rattle.tds_relay.specs.Desk.{Desk, Asks}
 use Rattle.tds_relay.proofs.spared.Resting.{others_all, others_on, others_refl, put_rest, reached_does, same_on}
 use Rattle.tds_relay.specs.Sparing.{Drains}
@@ -35,10 +37,10 @@ pub returns-in-Ok-clause-goes : goal.returns-in-Ok-clause-goes
 returns-in-Ok-clause-goes c = ok_more c.put_held.result _ _ (λ g by from h. g by from (reaches_turn by from _ _ _ _ _ c.in-Ok.ensures.ok tt h)) c.put_held.ensures.goes
 
 pub returns-in-Ok-clause-moves : goal.returns-in-Ok-clause-moves
-returns-in-Ok-clause-moves c = ok_more c.put_held.result _ _ (λ m may by from h. m by from (moves_does by from _ _ _ _ _ _ _ c.in-Ok.ensures.ok (tt, tt, may) tt refl h)) c.put_held.ensures.moves
+returns-in-Ok-clause-moves c = ok_more c.put_held.result _ _ (λ m may begun by from h. m by from (moves_does by from _ _ _ _ _ _ _ c.in-Ok.ensures.ok (tt, begun c.in-Some-hold_of.hold (sym c.hold_of.ensures ∙ c.in-Some-hold_of.is), may) tt refl h)) c.put_held.ensures.moves
 
 pub returns-in_default-hold_of-clause-moves : goal.returns-in_default-hold_of-clause-moves
-returns-in_default-hold_of-clause-moves c = ok_more c.end.result _ _ (λ e may by from h. moves_closes by from _ _ _ _ c.args.key (ap desk_in c.end.ensures.desk) e h) c.end.ensures.ends
+returns-in_default-hold_of-clause-moves c = ok_more c.end.result _ _ (λ e may begun by from h. moves_closes by from _ _ _ _ c.args.key (ap desk_in c.end.ensures.desk) e h) c.end.ensures.ends
 
 pub returns-then-application-2-clause-underway : goal.returns-then-application-2-clause-underway
 returns-then-application-2-clause-underway c = λ whole waits.
@@ -196,7 +198,7 @@ pub returns-in_default-hold_of-clause-seated : goal.returns-in_default-hold_of-c
 returns-in_default-hold_of-clause-seated c = λ s. kept_end c.end.result c.args.self.now c.end.new.self c.end.ensures.desk c.end.ensures.links s
 
 pub returns-in_ok-unless_memory-in-Err-clause-moves : goal.returns-in_ok-unless_memory-in-Err-clause-moves
-returns-in_ok-unless_memory-in-Err-clause-moves c = ok_more c.fail.result _ _ (λ m may by from h. m by from (moves_same by from _ _ _ _ c.in-Err.ensures.err refl h)) c.fail.ensures.moves
+returns-in_ok-unless_memory-in-Err-clause-moves c = ok_more c.fail.result _ _ (λ m may begun by from h. m by from (moves_same by from _ _ _ _ c.in-Err.ensures.err refl h)) c.fail.ensures.moves
 
 pub returns-in_ok-unless_memory-in-Err-clause-body : goal.returns-in_ok-unless_memory-in-Err-clause-body
 returns-in_ok-unless_memory-in-Err-clause-body c = ok_more c.fail.result _ _ (λ d. shut_starts c.fail.new.self.applications c.args.key (body_of c.args.key c.args.self.now) (going_of c.args.key c.fail.new.self) d) c.fail.ensures.over
@@ -232,3 +234,33 @@ pub returns-in_default-hold_of-clause-closes : goal.returns-in_default-hold_of-c
 returns-in_default-hold_of-clause-closes c =
     let none : c.hold_of.result ≡ None = search rules in
     for_reason c.end.result c.args.key _ _ _ (subst (λ (b : Body). CannotStart c.args.key (end_at (ends_in c.args.self.now.applications) c.args.key) c.args.self.now.desk c.args.self.now.links.items b) (sym (kept_at (get c.args.self.now.applications c.args.key) (going_of c.args.key c.args.self.now) c.in-Some.application.now c.in-Waits.kind c.in-Waits.whole c.in-Some.ensures c.if-application.false c.in-Waits.is)) (Unkept (sym c.hold_of.ensures ∙ none))) c.end.ensures.closes
+
+pub returns-in_default-clause-behind : goal.returns-in_default-clause-behind
+returns-in_default-clause-behind c = λ hold its. sparing.Stays
+
+pub returns-then-application-clause-behind : goal.returns-then-application-clause-behind
+returns-then-application-clause-behind c = λ hold its. sparing.Stays
+
+pub returns-in_default-asking-clause-behind : goal.returns-in_default-asking-clause-behind
+returns-in_default-asking-clause-behind c = λ hold its. sparing.Stays
+
+pub returns-then-application-2-clause-behind : goal.returns-then-application-2-clause-behind
+returns-then-application-2-clause-behind c = λ hold its. sparing.Stays
+
+pub returns-then-not-is_open-clause-behind : goal.returns-then-not-is_open-clause-behind
+returns-then-not-is_open-clause-behind c = λ hold its. sparing.Stays
+
+pub returns-in_default-hold_of-clause-behind : goal.returns-in_default-hold_of-clause-behind
+returns-in_default-hold_of-clause-behind c = ok_more c.end.result _ _ (λ e hold its. behind_closed _ _ (body_of c.args.key c.end.new.self) (closed_body c.args.key c.end.new.self.applications _ (going_of c.args.key c.end.new.self) e)) c.end.ensures.ends
+
+pub returns-in_ok-unless_memory-in-Err-clause-behind : goal.returns-in_ok-unless_memory-in-Err-clause-behind
+returns-in_ok-unless_memory-in-Err-clause-behind c = ok_more c.fail.result _ _ (λ d hold its. behind_closed _ _ (body_of c.args.key c.fail.new.self) (shut c.fail.new.self.applications c.args.key (going_of c.args.key c.fail.new.self) d)) c.fail.ensures.over
+
+pub returns-in-Ok-clause-behind : goal.returns-in-Ok-clause-behind
+returns-in-Ok-clause-behind c =
+    let kept = kept_at (get c.args.self.now.applications c.args.key) (going_of c.args.key c.args.self.now) c.in-Some.application.now c.in-Waits.kind c.in-Waits.whole c.in-Some.ensures c.if-application.false c.in-Waits.is in
+    ok_more c.put_held.result _ _
+    (λ g hold its. subst (λ (b : Body). StartsBehind (waits_on hold.number c.args.self.now.links.items) b (body_of c.args.key c.put_held.new.self)) (sym kept)
+    (behind_there c.in-Waits.whole (held_of (get c.args.self.now.applications c.args.key)) c.in-Waits.kind c.args.key c.args.self.now.desk c.ask.new.self c.args.self.now.links.items _ c.in-Some-hold_of.hold hold (body_of c.args.key c.put_held.new.self) c.in-Ok.ensures.whose
+    (sym c.hold_of.ensures ∙ c.in-Some-hold_of.is) its (holds_stay c.args.key _ (desk_in c.args.self.now.desk) (desk_in c.ask.new.self) _ _ c.in-Ok.ensures.ok) c.in-Ok.ensures.opened (c.is_open.ensures.there (search rules)) g))
+    c.put_held.ensures.body

@@ -1,8 +1,10 @@
-use Rattle.std.proofs.Common.{◌≡◌, ◌∙◌, None, inl, rules, sym}
+use Rattle.std.proofs.Common.{◌≡◌, ◌∙◌, None, Some, inl, rules, sym}
 use Rattle.tds_relay.specs.Asking.{Closes}
 use Rattle.tds_relay.specs.Bodies.{Stays, body_of, going_of}
 use Rattle.tds_relay.specs.Fronts.{hall_in}
 use Rattle.tds_relay.specs.Ties.{desk_in}
+use Rattle.tds_relay.specs.Sparing as sparing
+use Rattle.tds_relay.proofs.steps.Going.{behind_closed}
 use Rattle.tds_relay.proofs.steps.Bodied.{shut, shut_starts}
 use Rattle.tds_relay.proofs.steps.Fronts.{unheld_reset}
 use Rattle.tds_relay.proofs.steps.Reaching.{ok_more}
@@ -19,10 +21,11 @@ use Rattle.tds_relay.proofs.relay.Relay.start_kept.Goals as goal
 pub returns-in_default-clause-moves : goal.returns-in_default-clause-moves
 returns-in_default-clause-moves c =
     let none : c.hold_of.result ≡ None = search rules in
-    ok_more c.start.result _ _ (λ m. m (unheld_reset (desk_in c.args.self.now.desk) c.args.key _ (sym c.hold_of.ensures ∙ none))) c.start.ensures.moves
+    let unheld = sym c.hold_of.ensures ∙ none in
+    ok_more c.start.result _ _ (λ m. m (unheld_reset (desk_in c.args.self.now.desk) c.args.key _ unheld) (λ hold its. absurd (let u : None ≡ Some hold = sym unheld ∙ its in let v : ⊥ = cc in v))) c.start.ensures.moves
 
-pub returns-then-is_reset-clause-moves : goal.returns-then-is_reset-clause-moves
-returns-then-is_reset-clause-moves c = ok_more c.start-then-is_reset.result _ _ (λ m. m (c.is_reset.ensures.reset (sym c.hold_of.ensures ∙ c.in-Some.is) (search rules))) c.start-then-is_reset.ensures.moves
+pub returns-then-may_ask-clause-moves : goal.returns-then-may_ask-clause-moves
+returns-then-may_ask-clause-moves c = ok_more c.start-then-may_ask.result _ _ (λ m. m (c.may_ask.ensures.reset (sym c.hold_of.ensures ∙ c.in-Some.is) (search rules)) (λ hold its. c.may_ask.ensures.begun (search rules))) c.start-then-may_ask.ensures.moves
 
 pub returns-then-is_held_back-clause-read : goal.returns-then-is_held_back-clause-read
 returns-then-is_held_back-clause-read c = stays_refl c.args.self.now.links.items
@@ -66,8 +69,8 @@ returns-then-is_held_back-clause-answers c = answers_refl c.args.self.now.links.
 pub returns-in_default-clause-lasts : goal.returns-in_default-clause-lasts
 returns-in_default-clause-lasts c = c.start.ensures.lasts
 
-pub returns-then-is_reset-clause-lasts : goal.returns-then-is_reset-clause-lasts
-returns-then-is_reset-clause-lasts c = c.start-then-is_reset.ensures.lasts
+pub returns-then-may_ask-clause-lasts : goal.returns-then-may_ask-clause-lasts
+returns-then-may_ask-clause-lasts c = c.start-then-may_ask.ensures.lasts
 
 pub returns-then-is_held_back-clause-lasts : goal.returns-then-is_held_back-clause-lasts
 returns-then-is_held_back-clause-lasts c = last_start (Itself c.args.key) (register_in c.args.self.now)
@@ -80,5 +83,11 @@ returns-clause-lasts c =
 pub returns-in_default-clause-closes : goal.returns-in_default-clause-closes
 returns-in_default-clause-closes c = for_any c.start.result c.args.key _ _ _ c.start.ensures.closes
 
-pub returns-then-is_reset-clause-closes : goal.returns-then-is_reset-clause-closes
-returns-then-is_reset-clause-closes c = for_any c.start-then-is_reset.result c.args.key _ _ _ c.start-then-is_reset.ensures.closes
+pub returns-then-may_ask-clause-closes : goal.returns-then-may_ask-clause-closes
+returns-then-may_ask-clause-closes c = for_any c.start-then-may_ask.result c.args.key _ _ _ c.start-then-may_ask.ensures.closes
+
+pub returns-then-is_held_back-clause-behind : goal.returns-then-is_held_back-clause-behind
+returns-then-is_held_back-clause-behind c = λ hold its. sparing.Stays
+
+pub returns-clause-behind : goal.returns-clause-behind
+returns-clause-behind c = ok_more c.fail.result _ _ (λ d hold its. behind_closed _ _ (body_of c.args.key c.fail.new.self) (shut c.fail.new.self.applications c.args.key (going_of c.args.key c.fail.new.self) d)) c.fail.ensures.over

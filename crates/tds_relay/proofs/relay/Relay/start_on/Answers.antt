@@ -1,7 +1,7 @@
 use Rattle.std.proofs.Common.{sym, ◌∙◌, ◌⊎◌, ℕ, ap, Some}
 use Rattle.tds_relay.proofs.spared.Resting.{go_on_one, go_refl}
 use Rattle.tds_relay.specs.Bodies.{body_of}
-use Rattle.tds_relay.specs.Sparing.{IsHeldBack, IsUnkept}
+use Rattle.tds_relay.specs.Sparing.{IsHeldBack, IsUnkept, StartsThere}
 use Rattle.tds_relay.proofs.spared.Starting.{none_own, own_on}
 use Rattle.tds_relay.specs.Closings.{IsWho, Itself}
 use Rattle.tds_relay.specs.Hall.{holder}
@@ -31,3 +31,9 @@ returns-in-Some-clause-lasts c = last_more_on c.start_kept.result (Itself c.in-S
 
 pub returns-in-None-clause-lasts : goal.returns-in-None-clause-lasts
 returns-in-None-clause-lasts c = last_start (IsWho (holder (desk_in c.args.self.now.desk) c.args.number)) (register_in c.args.self.now)
+
+pub returns-in-Some-clause-behind : goal.returns-in-Some-clause-behind
+returns-in-Some-clause-behind c = own_on c.start_kept.result _ c.in-Some.key (λ (k : ℕ). StartsThere k c.args.self.now c.start_kept.new.self) (sym c.key_on.ensures ∙ c.in-Some.is) c.start_kept.ensures.behind
+
+pub returns-in-None-clause-behind : goal.returns-in-None-clause-behind
+returns-in-None-clause-behind c = none_own _ (λ (k : ℕ). StartsThere k c.args.self.now c.args.self.now) (sym c.key_on.ensures ∙ c.in-None.is)

@@ -26,6 +26,7 @@ taking-init c = record {
   stand = λ n r h. h;
   seated = λ s. s;
   others = λ reached. others_refl c.args.key c.args.self.now;
+  opening = refl;
 }
 
 pub taking-preserved : goal.taking-preserved
@@ -42,6 +43,7 @@ taking-preserved c = record {
   stand = λ n r h. c.in_ok-count.ensures.stand n r (c.taking.invariant.stand n r h);
   seated = λ s. c.in_ok-count.ensures.seated (c.taking.invariant.seated s);
   others = λ reached. others_both c.args.key c.args.self.now c.taking.self c.take.new.self (c.taking.invariant.others reached) (c.in_ok-count.ensures.others (reached_by c.args.key c.args.self.now.desk c.taking.self.desk c.taking.invariant.goes reached));
+  opening = c.take.ensures.opening ∙ c.taking.invariant.opening;
 }
 
 pub returns-clause-tells : goal.returns-clause-tells

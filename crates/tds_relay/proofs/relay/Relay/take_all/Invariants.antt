@@ -11,6 +11,7 @@ use Rattle.tds_relay.specs.Ties.{Application, Goes, IsReached, desk_in}
 use Rattle.tds_relay.specs.Walkers.{AllStand}
 use Rattle.tds_relay.specs.Closings.{ClosesOnly, register_in}
 use Rattle.tds_relay.specs.Few.{IsSeated}
+use Rattle.tds_relay.specs.Ordering.{opens_in}
 use Rattle.tds_relay.proofs.relay.Relay.take_all.Given as goal
 
 abbrev pub invariant-taking : goal.invariant-taking
@@ -25,5 +26,6 @@ invariant-taking l = record {
   stand : AllStand l.fn.self.desk.service l.self.desk.service;
   closes : ClosesOnly (ItselfFor l.fn.key (HasReason l.fn.key l.fn.piece l.fn.self)) (register_in l.fn.self) (register_in l.self);
   seated : IsSeated l.fn.self → IsSeated l.self;
+  opening : opens_in l.self.orders.items ≡ opens_in l.fn.self.orders.items;
   others : IsReached (desk_in l.fn.self.desk) → OthersRest l.fn.key l.fn.self l.self;
 }

@@ -1,0 +1,125 @@
+-- Which connections are ordered opened: none but new ones, each once.
+use Rattle.std.proofs.Common.{◌≡◌, ◌∙◌, ◌<◌, ◌≤◌, ℕ, suc, Bool, true, false, List, [], ◌∷◌, ◌++◌, length, Option, Some, None, refl, sym, ap, subst, arith, append_assoc, append-nil}
+use Rattle.std.specs.Prelude.{Result, Ok, Err, OnOk, nat_lt}
+use Rattle.tds_wire.specs.declared.told.Token.{Token}
+use Rattle.tds_service.specs.Service as calls
+use Rattle.tds_service.specs.Service.{Call, Seat, Service, find_by, is_lendable, step, service_after}
+use Rattle.tds_relay.specs.declared.desk.Served.{Served}
+use Rattle.tds_relay.specs.declared.order.Order.{Order}
+use Rattle.tds_relay.specs.declared.order.Order.TheVariants as orders
+use Rattle.tds_relay.specs.declared.relay.Relay as code
+use Rattle.tds_relay.specs.Desk as desk
+use Rattle.tds_relay.specs.Desk.{Desk, Event, desk_after}
+use Rattle.tds_relay.specs.Fronting.{calls_along}
+use Rattle.tds_relay.specs.Ordering.{OpensNew, Rise, opens_if, opens_in}
+use Rattle.tds_relay.specs.Ties.{Cause, Goes, GoesOn, Leaving, Neither, Reaches, Serving, Turns, desk_in}
+use Rattle.tds_relay.proofs.bytes.Walking.{Leaves, step_leaves}
+use Rattle.tds_relay.proofs.seats.Desks.{serves_at}
+use Rattle.tds_relay.proofs.steps.Calling.{service_along}
+use Rattle.tds_relay.proofs.steps.Reaching.{reaches_left}
+
+-- ---- Orders
+
+pub opens_both_in : (all more : List Order) → opens_in (all ++ more) ≡ opens_in all ++ opens_in more
+opens_both_in [] more = refl
+opens_both_in (orders.Open number ∷ all) more = ap (λ (ns : List ℕ). number ∷ ns) (opens_both_in all more)
+opens_both_in (orders.Write tag ∷ all) more = opens_both_in all more
+opens_both_in (orders.Close tag ∷ all) more = opens_both_in all more
+
+-- another order is put behind them
+pub opens_pushed : (order : Order) (old new : List Order) → new ≡ old ++ order ∷ [] → opens_in (order ∷ []) ≡ [] → opens_in new ≡ opens_in old
+opens_pushed order old new are none = ap opens_in are ∙ opens_both_in old (order ∷ []) ∙ ap (λ (ns : List ℕ). opens_in old ++ ns) none ∙ append-nil (opens_in old)
+
+pub opens_one : (number : ℕ) (old new : List Order) → new ≡ old ++ orders.Open number ∷ [] → opens_in new ≡ opens_in old ++ number ∷ []
+opens_one number old new are = ap opens_in are ∙ opens_both_in old (orders.Open number ∷ [])
+
+-- ---- Numbers that rise
+
+rise_lower : (low mid high : ℕ) (ns : List ℕ) → low ≤ mid → Rise mid high ns → Rise low high ns
+rise_lower low mid high [] le h = let more : mid ≤ high = h in omega (arith, le, more)
+rise_lower low mid high (n ∷ ns) le h = let lt : mid < n = h.0 in ((let u : low < n = omega (arith, le, lt) in u), h.1)
+
+rise_both : (low mid high : ℕ) (xs ys : List ℕ) → Rise low mid xs → Rise mid high ys → Rise low high (xs ++ ys)
+rise_both low mid high [] ys h k = rise_lower low mid high ys h k
+rise_both low mid high (x ∷ xs) ys h k = (h.0, rise_both x mid high xs ys h.1 k)
+
+rise_on : (low mid high : ℕ) (ns : List ℕ) → Rise low mid ns → mid ≤ high → Rise low high ns
+rise_on low mid high [] h le = let less : low ≤ mid = h in omega (arith, less, le)
+rise_on low mid high (n ∷ ns) h le = (h.0, rise_on n mid high ns h.1 le)
+
+-- ---- How many numbers were given
+
+all_last : (s : Service) (all : List (Call Token)) → s.last ≤ (service_after s all).last
+all_last s [] = omega arith
+all_last s (call ∷ all) =
+    let one : Leaves 0 s (step s call).service = step_leaves 0 s call (omega arith) in
+    let two : (step s call).service.last ≤ (service_after (step s call).service all).last = all_last (step s call).service all in
+    let three : s.last ≤ (step s call).service.last = one.rises in
+    omega (arith, two, three)
+
+along_last : (d : Desk) (events : List Event) → d.service.last ≤ (desk_after d events).service.last
+along_last d events = subst (λ (s : Service). d.service.last ≤ s.last) (sym (service_along d events)) (all_last d.service (calls_along d events))
+
+reaches_last : (by : Cause) (d e : Desk) → Reaches by d e → d.service.last ≤ e.service.last
+reaches_last by d e r = subst (λ (x : Desk). d.service.last ≤ x.service.last) r.are (along_last d r.events)
+
+pub goes_last : (by : Cause) (d e : Desk) → Goes by d e → d.service.last ≤ e.service.last
+goes_last by d e g = reaches_last by d e (g d (record { events = []; are = refl; caused = tt }))
+
+pub on_last : (d e : Desk) → GoesOn d e → d.service.last ≤ e.service.last
+on_last d e g = goes_last Neither d e (g Neither)
+
+pub left_last : (key : ℕ) (d e : Desk) → Leaving key d e → d.service.last ≤ e.service.last
+left_last key d e l = reaches_last _ d e (reaches_left key d d e l (record { events = []; are = refl; caused = tt }))
+
+pub turn_last : (event : Event) (d e : Desk) (before after : List ℕ) → Turns event d e before after → d.service.last ≤ e.service.last
+turn_last event d e before after t = subst (λ (x : Desk). d.service.last ≤ x.service.last) (sym t.desk_is) (along_last d (event ∷ []))
+
+-- ---- Call behind call
+
+pub opens_none : (r : code.Relay) → OpensNew r r
+opens_none r = record { more = []; are = sym (append-nil (opens_in r.orders.items)); rise = (let le : r.desk.service.last ≤ r.desk.service.last = omega arith in le) }
+
+pub opens_same : (a b : code.Relay) → opens_in b.orders.items ≡ opens_in a.orders.items → a.desk.service.last ≤ b.desk.service.last → OpensNew a b
+opens_same a b same le = record { more = []; are = same ∙ sym (append-nil (opens_in a.orders.items)); rise = le }
+
+pub opens_new_both : (a b c : code.Relay) → OpensNew a b → OpensNew b c → OpensNew a c
+opens_new_both a b c h k = record {
+  more = h.more ++ k.more;
+  are = k.are ∙ ap (λ (ns : List ℕ). ns ++ k.more) h.are ∙ append_assoc (opens_in a.orders.items) h.more k.more;
+  rise = rise_both a.desk.service.last b.desk.service.last c.desk.service.last h.more k.more h.rise k.rise;
+}
+
+pub opens_new_on : {A E : Type 0} (r : Result A E) (a b c : code.Relay) → OpensNew a b → OnOk r (OpensNew b c) → OnOk r (OpensNew a c)
+opens_new_on (Ok x) a b c h k = opens_new_both a b c h k
+opens_new_on (Err e) a b c h k = tt
+
+-- ---- One is lent
+
+opened_last : (s : Service) (room : Bool) (lease number : ℕ) → (calls.opens {T = Token} s room).reply ≡ calls.Lent lease number false → Rise s.last (calls.opens {T = Token} s room).service.last (number ∷ [])
+opened_last s false lease number e = absurd (let u : ⊥ = cc in u)
+opened_last s true lease number e =
+    let is : suc s.last ≡ number = cc in
+    ((let u : s.last < number = omega (arith, is) in u), (let u : number ≤ suc s.last = omega (arith, is) in u))
+
+lent_last : (s : Service) (o : Option Seat) (lease number : ℕ) → (calls.lends {T = Token} s o).reply ≡ calls.Lent lease number false → Rise s.last (calls.lends {T = Token} s o).service.last (number ∷ [])
+lent_last s None lease number e = opened_last s (nat_lt (length s.seats) s.max) lease number e
+lent_last s (Some c) lease number e = absurd (let u : ⊥ = cc in u)
+
+module _ (served : Served) (d e : Desk) (before after : List ℕ) (t : Turns desk.Serves d e before after) (serving : Serving d (Some served)) where
+  served_rise : (had : Bool) → served.had ≡ had → Rise d.service.last e.service.last (opens_if had served.hold.number)
+  served_rise true is = turn_last desk.Serves d e before after t
+  served_rise false is =
+      let reply : (step {T = Token} d.service calls.Lease).reply ≡ calls.Lent served.hold.lease served.hold.number false = serving.2 ∙ ap (λ (b : Bool). calls.Lent served.hold.lease served.hold.number b) is in
+      let same : e.service ≡ (step {T = Token} d.service calls.Lease).service =
+      ap (λ (x : Desk). x.service) t.desk_is ∙ serves_at d d.line served.hold.key serving.0 served.hold.lease served.hold.number served.had serving.1 serving.2 in
+      subst (λ (s : Service). Rise d.service.last s.last (served.hold.number ∷ [])) (sym same) (lent_last d.service (find_by is_lendable d.service.seats) served.hold.lease served.hold.number reply)
+
+-- by the order of a call that goes on behind it
+pub lent_opens : (served : Served) (a b : code.Relay) (e : Desk) (before after : List ℕ) → Turns desk.Serves (desk_in a.desk) e before after → Serving (desk_in a.desk) (Some served)
+    → opens_in b.orders.items ≡ opens_in a.orders.items ++ opens_if served.had served.hold.number → e.service.last ≤ b.desk.service.last → OpensNew a b
+lent_opens served a b e before after t serving are le = record {
+  more = opens_if served.had served.hold.number;
+  are = are;
+  rise = rise_on a.desk.service.last e.service.last b.desk.service.last (opens_if served.had served.hold.number) (served_rise served (desk_in a.desk) e before after t serving served.had refl) le;
+}
