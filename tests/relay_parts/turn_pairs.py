@@ -24,8 +24,6 @@ ROUNDS = 6
 WAITED = re.compile(r"(?m)^tdsrelay_waits_behind_(\w+)_total (\d+)$")
 # What the page says to a reader of each word for why, with the number of a state or of a change (ENVCHANGE's type).
 SAID = {
-    "recovery": "the server doesn't tell its state",
-    "unread": "something couldn't be read or kept",
     "unrecoverable 9": "what the server calls unrecoverable, as #t (StateId 9)",
     "unrecoverable 10": "what the server calls unrecoverable, as #t (StateId 10)",
     "state 1": "a setting or #t (StateId 1)",

@@ -122,12 +122,12 @@ async def database_and_language_that_are_back(pair):
 # ---- Servers and applications by sessions
 
 
-@kept(vices=Vices(is_silent=True), why="recovery")
+@kept(vices=Vices(is_silent=True))
 async def no_acknowledgement(pair):
     await pair.other()
 
 
-@kept(vices=Vices(is_unreadable=True), why="unread")
+@kept(vices=Vices(is_unreadable=True))
 async def state_that_cannot_be_read(pair):
     await pair.a.ask("set a 1")
     await pair.a.ask("set a 0")
@@ -150,7 +150,7 @@ async def flag_of_the_whole_session(pair):
     await pair.a.ask("sum b")
 
 
-@kept(vices=Vices(first=LAST), why="unread")
+@kept(vices=Vices(first=LAST))
 async def last_number(pair):
     await pair.a.ask("set a 1;set b 1")
     await pair.a.ask("set a 0;set b 0")
