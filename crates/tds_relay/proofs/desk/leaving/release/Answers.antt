@@ -67,6 +67,7 @@ pub returns-in-Ok-default-Free-clause-ends : goal.returns-in-Ok-default-Free-cla
 returns-in-Ok-default-Free-clause-ends c = λ led.
     let stops = c.in-Ok-default-Free.ensures.stops in
     let free = free_once c.args.hold.lease c.args.service.now stops.0 stops.1 (c.in-Ok-default-Free.ensures.ok.reply_is ∙ ap (λ (r : Rest). calls.Back (rest_of r)) (sym c.in-Ok-default-Free.field-0-1-is)) in
+    let free = free_once c.args.hold.lease c.args.service.now stops.0 stops.1 (c.in-Ok-default-Free.ensures.ok.reply_is ∙ ap (λ (r : Rest). calls.Back (rest_of r)) c.in-Ok-default-Free.field-0-1-is) in
     IfOk-weaker c.clean.result _ _
     (λ is_there h there. cancelled_cleaned c.args.text.now c.args.hold.lease c.args.service.now c.args.out.now.items c.give_back.new.out.items c.clean.new.out.items stops free (h there))
     (c.clean.ensures.cleans (led_on (service_in c.args.service.now) (service_in c.give_back.new.self) (calls.GiveBack c.args.hold.lease) c.in-Ok-default-Free.ensures.ok.service_is led))
@@ -76,6 +77,7 @@ returns-in-Ok-default-Draining-clause-ends c = λ led there.
     let stops = c.in-Ok-default-Draining.ensures.stops in
     cancelled c.args.text.now c.args.hold.lease c.args.service.now c.args.out.now.items c.give_back.new.out.items stops
     (drains_once c.args.hold.lease c.args.service.now stops.0 stops.1 (c.in-Ok-default-Draining.ensures.ok.reply_is ∙ ap (λ (r : Rest). calls.Back (rest_of r)) (sym c.in-Ok-default-Draining.field-0-1-is)))
+    (drains_once c.args.hold.lease c.args.service.now stops.0 stops.1 (c.in-Ok-default-Draining.ensures.ok.reply_is ∙ ap (λ (r : Rest). calls.Back (rest_of r)) c.in-Ok-default-Draining.field-0-1-is))
 
 pub returns-in-Ok-default-Free-clause-seats : goal.returns-in-Ok-default-Free-clause-seats
 returns-in-Ok-default-Free-clause-seats c = λ led on. IfOk-weaker c.clean.result _ _
