@@ -56,6 +56,8 @@ LITTLE = {
     "handle_refused": ("a prepared handle", Vices(refuses="handle")),
     "wait_refused": ("a cancel", Vices(refuses="cancel")),
 }
+# More than are judged at a time of one address.
+KINDS = 40
 # What is never answered, and the question of that.
 SILENT = {"silent_at_a_table": (TABLE, "a temporary table"), "silent_at_a_cancel": ("cancel", "a cancel")}
 
@@ -167,9 +169,23 @@ def waited_for(program, cases):
         asyncio.run(run())
 
 
+def of_many_kinds(program, cases):
+    """Logins of so many kinds, whose servers are asked, keep none of another kind out: they are let in."""
+    async def run():
+        tasks = [asyncio.ensure_future(Application(relay.port, server.vices, locale=it).connect()) for it in range(KINDS)]
+        await until(lambda: len(server.logins) == KINDS, "a login of each kind")
+        cases.same("nobody is refused", relay.json()["total_applications_refused"], 0)
+        for it in tasks:
+            it.cancel()
+
+    with Server() as server, Relay(program, server.port, *SHARES) as relay:
+        server.silent_at = TABLE
+        asyncio.run(run())
+
+
 def questions(program, cases):
     """All of them, some at once."""
     beside(cases, [("tells_all", tells_all, program, cases), ("closes", closes, program, cases),
-                   ("waited_for", waited_for, program, cases),
+                   ("waited_for", waited_for, program, cases), ("of_many_kinds", of_many_kinds, program, cases),
                    *((name, is_silent, program, cases, *it) for name, it in SILENT.items()),
                    *((name, tells_little, program, cases, *it) for name, it in LITTLE.items())])

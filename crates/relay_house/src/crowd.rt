@@ -88,7 +88,9 @@ fn crowd_of(groups: &Groups<Group>, from: Option<IpAddr>) -> Crowd {
 }
 
 fn add(crowd: &mut Crowd, key: usize, group: &Group, from: Option<IpAddr>) {
-    if group.is_judged() {
+    // Whose server is asked is let in, and somebody waits for it.
+    let (is_asked, is_judged) = (group.asked.is_some(), group.is_judged());
+    if is_judged && !is_asked {
         crowd.judged = crowd.judged.saturating_add(1);
         if group.from == from {
             crowd.of_address = crowd.of_address.saturating_add(1);
@@ -96,9 +98,9 @@ fn add(crowd: &mut Crowd, key: usize, group: &Group, from: Option<IpAddr>) {
     }
     if group.pair.is_some() {
         crowd.alone = crowd.alone.saturating_add(1);
-    } else if !group.is_judged() {
+    } else if is_asked || !is_judged {
         crowd.shared = crowd.shared.saturating_add(1);
-        if group.applications() == 0 && !group.is_paused() {
+        if !is_judged && group.applications() == 0 && !group.is_paused() {
             crowd.idle = Some(match crowd.idle {
                 Some(other) => other.min(key),
                 None => key,

@@ -64,7 +64,7 @@ pub struct Group {
     /// share by sessions.
     pub asked: Option<Box<Asked>>,
     pub question: Option<Question>,
-    /// Its connections that rest, the numbers of those from which somebody was parted, and how often that was.
+    /// Its connections that may rest, the numbers of those from which somebody was parted, and how often that was.
     pub resting: Resting,
     pub parted: Vec<u64>,
     pub partings: u64,

@@ -15,7 +15,8 @@ use tds_relay::{Mode, PlaceOn};
 const TRIED: usize = 16;
 
 impl House {
-    /// An answer came on a connection of a group: where it rests by now, that is noted.
+    /// An answer came on a connection of a group: it may rest by now, which is noted. Whether it does is looked at
+    /// where somebody waits: that takes longer.
     pub(crate) fn note_rest(&mut self, key: usize, group: usize, number: u64) -> io::Result<()> {
         let House {
             sockets,
@@ -25,9 +26,6 @@ impl House {
         let Some(socket) = sockets.get_mut(key) else {
             return Ok(());
         };
-        if socket.rests() != Some(true) {
-            return Ok(());
-        }
         let Some(group) = groups.get_mut(group) else {
             return Ok(());
         };

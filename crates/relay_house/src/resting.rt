@@ -1,22 +1,22 @@
-//! The connections of a group that came to rest, in that order.
+//! The connections of a group that may rest, in the order in which answers came there.
 
 use std::alloc::{AllocError, Global};
 
-/// A socket that came to rest, for the time that has this number.
+/// A socket that may rest, behind an answer, for the time that has this number.
 #[derive(Clone, Copy)]
 pub struct Rest {
     pub key: usize,
     pub number: u64,
 }
 
-/// Those that came to rest: what is told behind an answer, and taken where somebody waits. A rest that has ended
+/// Those that may rest: noted behind an answer, and looked at where somebody waits. One that rests no more, or didn't,
 /// stays among them until then, so each answer costs one of them at most, and none is looked at twice but where
 /// they are put in order: behind twice as many as there are connections.
 #[derive(Drop)]
 pub struct Resting {
     alloc: Global,
     rests: Vec<Rest>,
-    /// The place of the one that has rested longest.
+    /// The place of the one that may have rested longest.
     first: usize,
     /// How many there ever were.
     count: u64,
@@ -35,7 +35,7 @@ impl Resting {
         }
     }
 
-    /// A socket comes to rest. The number of that.
+    /// A socket may rest. The number of that.
     pub fn add(&mut self, key: usize) -> Result<u64, AllocError> {
         self.count = self.count.saturating_add(1);
         self.rests.push(Rest {
@@ -45,7 +45,7 @@ impl Resting {
         Ok(self.count)
     }
 
-    /// The one that has rested longest. It is taken out.
+    /// The one that may have rested longest. It is taken out.
     pub fn take(&mut self) -> Option<Rest> {
         let rest = self.rests.get(self.first).copied()?;
         self.first = self.first.saturating_add(1);
