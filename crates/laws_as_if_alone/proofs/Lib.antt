@@ -9,4 +9,6 @@ pub mod Orderly
 pub mod Examples
 pub mod Refused
 pub mod Visits
+pub mod Telling
+pub mod TellingExamples
 pub mod Bytes

@@ -6,10 +6,14 @@ ghost use Rattle.tds_relay.specs.declared.desk.Hold.{Hold};
 ghost use Rattle.tds_relay.specs.Away.{IsAway};
 ghost use Rattle.tds_relay.specs.Desk.{Sharing, turn};
 ghost use Rattle.tds_relay.specs.Giving.{ReadVisit, Visit, house_in};
-ghost use Rattle.laws_as_if_alone.specs.Serving.{Moment, Server, fresh, reached, world_after};
+ghost use Rattle.laws_as_if_alone.specs.Serving.{Moment, Server, World, fresh, new_world, reached};
+ghost use Rattle.laws_as_if_alone.specs.Serving.{world_after};
+ghost use Rattle.tds_state.specs.Pasts.{Remark};
 ghost use Rattle.laws_as_if_alone.specs.Alone.{AllOrderly, AsIfAlone, IsAtRest, asks, found_next};
 ghost use Rattle.laws_as_if_alone.specs.Alone.{given, underway};
 ghost use Rattle.laws_as_if_alone.specs.Bytes.{AllRead, ReadAsIfAlone, Walkers, walkers_in};
+ghost use Rattle.laws_as_if_alone.specs.Telling.{AllParkedAtRest, RoundTrip, Remarked, TellsAll};
+ghost use Rattle.laws_as_if_alone.specs.Telling.{all_trips_after, moments_of, no_trips};
 ghost use Rattle.laws_as_if_alone.specs.Turns.{AllParkedFresh, AsIfUnparked};
 ghost use Rattle.laws_as_if_alone.specs.Visits.{AllSaid, Moments, world_in};
 
@@ -56,6 +60,37 @@ pub fn alone_by_turns<V>()
         (v : Visit sharing key) (ms : Moments V v)
         → AllSaid turn key server (world_in server ms) ms.since
         → AllParkedFresh parks turn key server (world_in server ms) ms.since
+        → AsIfUnparked parks turn key server (fresh server) (world_in server ms) ms.since
+        (world_after turn server (world_in server ms) ms.since) }
+{
+    waits_once();
+}
+
+/// An application that is parked only where its connection rests, by what was asked there and what its server told
+/// (`lets_rest`, line by line in `tds_state`), can't tell that it was, where that server tells all: of whatever may
+/// be trips with it, where that lets the session rest, it is as a reset would make it (`TellsAll`).
+pub fn alone_where_all_is_told<V>()
+    // So it is from a moment at which it neither waits nor holds a connection;
+    ensures new { (server : Server V) (login : List Remark) (may : List (RoundTrip V) → Type 0)
+        (sharing : Sharing) (key : ℕ) (parks : Moment V → Bool) (before since : List (Remarked V))
+        → TellsAll server login may
+        → IsAway key (reached server sharing (moments_of before)).desk
+        → AllOrderly turn key server (reached server sharing (moments_of before)) (moments_of since)
+        → AllParkedAtRest parks turn key server login may
+        (reached server sharing (moments_of before))
+        (all_trips_after turn server (new_world server sharing) no_trips before) since
+        → AsIfUnparked parks turn key server (fresh server)
+        (reached server sharing (moments_of before)) (moments_of since)
+        (world_after turn server (reached server sharing (moments_of before)) (moments_of since)) }
+    // and from where it enters a relay, behind any steps, and while it stays.
+    ensures visits { (server : Server V) (login : List Remark) (may : List (RoundTrip V) → Type 0)
+        (sharing : Sharing) (key : ℕ) (parks : Moment V → Bool) (v : Visit sharing key)
+        (ms : Moments V v) (before since : List (Remarked V))
+        → moments_of before ≡ ms.before → moments_of since ≡ ms.since
+        → TellsAll server login may
+        → AllSaid turn key server (world_in server ms) ms.since
+        → AllParkedAtRest parks turn key server login may (world_in server ms)
+        (all_trips_after turn server (new_world server sharing) no_trips before) since
         → AsIfUnparked parks turn key server (fresh server) (world_in server ms) ms.since
         (world_after turn server (world_in server ms) ms.since) }
 {
