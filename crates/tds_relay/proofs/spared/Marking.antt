@@ -1,5 +1,4 @@
 -- What a cleaning asks for, and where a connection is once what is underway there is cancelled.
-use Rattle.std.proofs.Common.{◌≡◌, ◌∙◌, ◌==◌, ℕ, suc, Bool, true, false, List, [], ◌∷◌, Option, Some, None, refl, sym, ap, subst, if◌then◌else◌}
 use Rattle.std.proofs.Common.{◌≡◌, ◌∙◌, ◌==◌, ◌&&◌, ℕ, suc, Bool, true, false, List, [], ◌∷◌, Option, Some, None, refl, sym, ap, subst, if◌then◌else◌}
 use Rattle.tds_packet.specs.Resets.{strongest}
 use Rattle.tds_packet.specs.declared.status.Reset.TheVariants.{Full}

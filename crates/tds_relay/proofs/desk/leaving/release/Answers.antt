@@ -15,7 +15,6 @@ use Rattle.tds_service.specs.Service.{Service}
 use Rattle.tds_service.specs.Table.{rest_of}
 use Rattle.tds_relay.specs.Ties.{lost_by}
 use Rattle.tds_relay.proofs.seats.Rests.{back_stays, forgot_stays, free_stays}
-use Rattle.std.proofs.Common.{sym}
 use Rattle.tds_relay.proofs.spared.Marking.{drains_once, free_once}
 use Rattle.tds_relay.proofs.desk.leaving.release.Goals as goal
 
@@ -66,7 +65,6 @@ returns-in_ok-forget-in-Err-clause-aside c = λ lease client differs aside there
 pub returns-in-Ok-default-Free-clause-ends : goal.returns-in-Ok-default-Free-clause-ends
 returns-in-Ok-default-Free-clause-ends c = λ led.
     let stops = c.in-Ok-default-Free.ensures.stops in
-    let free = free_once c.args.hold.lease c.args.service.now stops.0 stops.1 (c.in-Ok-default-Free.ensures.ok.reply_is ∙ ap (λ (r : Rest). calls.Back (rest_of r)) (sym c.in-Ok-default-Free.field-0-1-is)) in
     let free = free_once c.args.hold.lease c.args.service.now stops.0 stops.1 (c.in-Ok-default-Free.ensures.ok.reply_is ∙ ap (λ (r : Rest). calls.Back (rest_of r)) c.in-Ok-default-Free.field-0-1-is) in
     IfOk-weaker c.clean.result _ _
     (λ is_there h there. cancelled_cleaned c.args.text.now c.args.hold.lease c.args.service.now c.args.out.now.items c.give_back.new.out.items c.clean.new.out.items stops free (h there))
@@ -76,7 +74,6 @@ pub returns-in-Ok-default-Draining-clause-ends : goal.returns-in-Ok-default-Drai
 returns-in-Ok-default-Draining-clause-ends c = λ led there.
     let stops = c.in-Ok-default-Draining.ensures.stops in
     cancelled c.args.text.now c.args.hold.lease c.args.service.now c.args.out.now.items c.give_back.new.out.items stops
-    (drains_once c.args.hold.lease c.args.service.now stops.0 stops.1 (c.in-Ok-default-Draining.ensures.ok.reply_is ∙ ap (λ (r : Rest). calls.Back (rest_of r)) (sym c.in-Ok-default-Draining.field-0-1-is)))
     (drains_once c.args.hold.lease c.args.service.now stops.0 stops.1 (c.in-Ok-default-Draining.ensures.ok.reply_is ∙ ap (λ (r : Rest). calls.Back (rest_of r)) c.in-Ok-default-Draining.field-0-1-is))
 
 pub returns-in-Ok-default-Free-clause-seats : goal.returns-in-Ok-default-Free-clause-seats
