@@ -1,10 +1,8 @@
 -- What was trips on a connection leads to the session at its server's end.
 use Rattle.std.proofs.Common.{◌≡◌, ◌∙◌, ℕ, Bool, true, false, List, [], ◌∷◌, refl, sym, ap, subst}
-use Rattle.std.specs.Prelude.{Option, Some, None, nat_lt, if◌then◌else◌}
+use Rattle.std.specs.Prelude.{Option, nat_lt, if◌then◌else◌}
 use Rattle.tds_packet.specs.declared.status.Reset.{Reset}
 use Rattle.tds_service.specs.Line.{Packet, OfRequest, Ignore, Attention}
-use Rattle.tds_service.specs.Service.{Service}
-use Rattle.laws_conforming_server.specs.Lawful.{Session}
 use Rattle.tds_relay.specs.Away.{IsAway, WaitsAway, done_before, done_since}
 use Rattle.tds_relay.specs.Desk as desk
 use Rattle.tds_relay.specs.Desk.{Event, Sharing, desk_after, new_desk, turn}
@@ -12,7 +10,7 @@ use Rattle.tds_relay.specs.Giving.{Visit}
 use Rattle.tds_state.specs.Pasts.{Remark}
 use Rattle.laws_as_if_alone.specs.Alone.{AllOrderly}
 use Rattle.laws_as_if_alone.specs.Serving.{End, Moment, Server, World, fresh, goes_out, happens, logged_in, new_end, new_world, reached, reset_if, said, takes, takes_all, world_after}
-use Rattle.laws_as_if_alone.specs.Telling.{AllParkedAtRest, RoundTrip, RoundTrips, IsParkedAtRest, Remarked, TellsAll, RemarkedEnd, all_trips_after, trips_after, trips_in, hears_all, moment_of, moments_of, no_trips, session_left, since_login, told_before}
+use Rattle.laws_as_if_alone.specs.Telling.{AllParkedAtRest, RoundTrip, RoundTrips, IsParkedAtRest, Remarked, TellsAll, RemarkedEnd, all_trips_after, trips_after, trips_in, hears_all, moment_of, moments_of, no_trips, session_left, told_before}
 use Rattle.laws_as_if_alone.specs.Turns.{AllParkedFresh, AsIfUnparked, IsParkedFresh}
 use Rattle.laws_as_if_alone.specs.Visits.{AllSaid, Moments, world_in}
 use Rattle.laws_as_if_alone.proofs.Turns.{alone_by_turns}
@@ -20,8 +18,8 @@ use Rattle.laws_as_if_alone.proofs.Visits.{turns_in_visits}
 
 -- ---- One connection
 
-IsTold : {V : Type 0} → Server V → RemarkedEnd V → Type 0
-abbrev IsTold server told = session_left server told.trips ≡ told.end.session
+abbrev IsTold : {V : Type 0} → Server V → RemarkedEnd V → Type 0
+IsTold server told = session_left server told.trips ≡ told.end.session
 
 one_told : {V : Type 0} (server : Server V) (t : Remarked V) (packet : Packet) (e : End V) (es : List (RoundTrip V)) → session_left server es ≡ e.session
     → session_left server (trips_in t packet e.reset es) ≡ (takes server (moment_of t) packet e).session
@@ -58,8 +56,8 @@ logged_by server false e es is = is
 
 -- ---- Every connection, along all moments
 
-AllTold : {V : Type 0} → Server V → World V → RoundTrips V → Type 0
-abbrev AllTold server w x = (n : ℕ) → session_left server (x n) ≡ (w.ends n).session
+abbrev AllTold : {V : Type 0} → Server V → World V → RoundTrips V → Type 0
+AllTold server w x = (n : ℕ) → session_left server (x n) ≡ (w.ends n).session
 
 behind_told : {V : Type 0} (server : Server V) (w : World V) (x : RoundTrips V) (t : Remarked V) → AllTold server w x
     → AllTold server (happens turn server w (moment_of t)) (trips_after turn server w x t)
@@ -75,26 +73,28 @@ after_told server w x (t ∷ ts) told =
     after_told server (happens turn server w (moment_of t)) (trips_after turn server w x t) ts (behind_told server w x t told)
 
 -- where a connection rests, the session that its next request finds is a new one
-parked_fresh : {V : Type 0} (server : Server V) (key : ℕ) (login : List Remark) (may : List (RoundTrip V) → Type 0) (w : World V) (x : RoundTrips V) (t : Remarked V)
+parked_fresh : {V E : Type 0} (server : Server V) (key : ℕ) (login : List Remark) (may : E → List (RoundTrip V)) (w : World V) (x : RoundTrips V) (t : Remarked V)
     → TellsAll server login may → AllTold server w x → IsParkedAtRest key server login may w x t.event → IsParkedFresh key server w (moment_of t)
 parked_fresh server key login may w x t tells told p = record {
-    gives = p.gives;
-    way = p.way;
-    leaves = p.leaves;
-    hold = p.hold;
-    seat = p.seat;
-    rests = p.rests;
-    session = ap (λ (o : Option Reset). reset_if server o (w.ends p.hold.number).session) p.unmarked ∙ sym (told p.hold.number) ∙ tells.all (x p.hold.number) p.may p.told }
+  gives = p.gives;
+  way = p.way;
+  leaves = p.leaves;
+  hold = p.hold;
+  seat = p.seat;
+  rests = p.rests;
+  session = ap (λ (o : Option Reset). reset_if server o (w.ends p.hold.number).session) p.unmarked ∙ sym (told p.hold.number) ∙ ap (session_left server) p.there ∙ tells.all p.since p.told;
+}
 
-all_fresh : {V : Type 0} (server : Server V) (key : ℕ) (parks : Moment V → Bool) (login : List Remark) (may : List (RoundTrip V) → Type 0) (w : World V) (x : RoundTrips V) (ts : List (Remarked V))
+all_fresh : {V E : Type 0} (server : Server V) (key : ℕ) (parks : Moment V → Bool) (login : List Remark) (may : E → List (RoundTrip V)) (w : World V) (x : RoundTrips V) (ts : List (Remarked V))
     → TellsAll server login may → AllTold server w x → AllParkedAtRest parks turn key server login may w x ts
     → AllParkedFresh parks turn key server w (moments_of ts)
 all_fresh server key parks login may w x [] tells told parked = tt
 all_fresh server key parks login may w x (t ∷ ts) tells told parked = (
-    λ is. parked_fresh server key login may w x t tells told (parked.0 is),
-    all_fresh server key parks login may (happens turn server w (moment_of t)) (trips_after turn server w x t) ts tells (behind_told server w x t told) parked.1)
+  λ is. parked_fresh server key login may w x t tells told (parked.0 is),
+  all_fresh server key parks login may (happens turn server w (moment_of t)) (trips_after turn server w x t) ts tells (behind_told server w x t told) parked.1,
+)
 
-pub alone_where_all_is_told : {V : Type 0} (server : Server V) (sharing : Sharing) (key : ℕ) (parks : Moment V → Bool) (login : List Remark) (may : List (RoundTrip V) → Type 0) (before since : List (Remarked V))
+pub alone_where_all_is_told : {V E : Type 0} (server : Server V) (sharing : Sharing) (key : ℕ) (parks : Moment V → Bool) (login : List Remark) (may : E → List (RoundTrip V)) (before since : List (Remarked V))
     → TellsAll server login may → IsAway key (reached server sharing (moments_of before)).desk
     → AllOrderly turn key server (reached server sharing (moments_of before)) (moments_of since)
     → AllParkedAtRest parks turn key server login may (reached server sharing (moments_of before)) (all_trips_after turn server (new_world server sharing) no_trips before) since
@@ -104,7 +104,7 @@ alone_where_all_is_told server sharing key parks login may before since tells aw
     alone_by_turns server sharing key parks (moments_of before) (moments_of since) away orderly
     (all_fresh server key parks login may (reached server sharing (moments_of before)) (all_trips_after turn server (new_world server sharing) no_trips before) since tells told parked)
 
-pub told_in_visits : {V : Type 0} (server : Server V) (login : List Remark) (may : List (RoundTrip V) → Type 0) (sharing : Sharing) (key : ℕ) (parks : Moment V → Bool) (v : Visit sharing key) (ms : Moments V v) (before since : List (Remarked V))
+pub told_in_visits : {V E : Type 0} (server : Server V) (login : List Remark) (may : E → List (RoundTrip V)) (sharing : Sharing) (key : ℕ) (parks : Moment V → Bool) (v : Visit sharing key) (ms : Moments V v) (before since : List (Remarked V))
     → IsAway key (desk_after (new_desk sharing) (done_before v)) → WaitsAway key (desk_after (new_desk sharing) (done_before v)) (done_since v)
     → moments_of before ≡ ms.before → moments_of since ≡ ms.since → TellsAll server login may
     → AllSaid turn key server (world_in server ms) ms.since

@@ -1,5 +1,5 @@
 -- A server that tells all: where what it was asked and what it told let its session rest, that is as a reset would make it.
-use Rattle.std.specs.Prelude.{◌≡◌, ℕ, Bool, true, List, [], ◌∷◌, ◌++◌, map, nat_lt, Option, None, if◌then◌else◌}
+use Rattle.std.specs.Prelude.{◌≡◌, ℕ, Bool, true, false, List, [], ◌∷◌, ◌++◌, map, nat_lt, Option, None, if◌then◌else◌}
 use Rattle.tds_packet.specs.declared.status.Reset.{Reset}
 use Rattle.tds_service.specs.Line.{Packet, OfRequest, Ignore, Attention}
 use Rattle.tds_service.specs.Service.{Seat, Service}
@@ -65,9 +65,10 @@ saying_of server login (Stops before behind left ∷ es) = ending_in (behind ++ 
 abbrev pub lets_rest : List Remark → Bool
 lets_rest past = session_rests (session_said past)
 
--- Of whatever may be exchanged with it since a login: where that lets the session rest, it is as the login made it, and so as a full reset makes it.
-pub record TellsAll {V : Type 0} (server : Server V) (login : List Remark) (may : List (RoundTrip V) → Type 0) : Type 0 where
-  pub all : (es : List (RoundTrip V)) → may es → lets_rest (saying_of server login es).all ≡ true → session_left server es ≡ fresh server
+-- Of whatever may be exchanged with it since a login (`may`): where that lets the session rest, it is as the login made it, and so as a full reset
+-- makes it.
+pub record TellsAll {V E : Type 0} (server : Server V) (login : List Remark) (may : E → List (RoundTrip V)) : Type 0 where
+  pub all : (e : E) → lets_rest (saying_of server login (may e)).all ≡ true → session_left server (may e) ≡ fresh server
 
 -- ---- The same along a relay's moments
 
@@ -122,7 +123,7 @@ abbrev pub no_trips : {V : Type 0} → RoundTrips V
 no_trips = λ n. []
 
 -- It lets its connection go, on which it asks nothing, where that rests by what was trips there.
-pub record IsParkedAtRest {V : Type 0} (key : ℕ) (server : Server V) (login : List Remark) (may : List (RoundTrip V) → Type 0) (w : World V) (x : RoundTrips V) (event : Event) : Type 0 where
+pub record IsParkedAtRest {V E : Type 0} (key : ℕ) (server : Server V) (login : List Remark) (may : E → List (RoundTrip V)) (w : World V) (x : RoundTrips V) (event : Event) : Type 0 where
   pub gives : Bool
   pub way : Way
   pub leaves : event ≡ desk.Leaves key gives way
@@ -130,11 +131,12 @@ pub record IsParkedAtRest {V : Type 0} (key : ℕ) (server : Server V) (login : 
   pub seat : Seat
   pub rests : IsAtRest key w.desk hold seat
   pub unmarked : seat.line.heard.mark ≡ None
-  pub may : may (x hold.number)
-  pub told : lets_rest (saying_of server login (x hold.number)).all ≡ true
+  pub since : E
+  pub there : x hold.number ≡ may since
+  pub told : lets_rest (saying_of server login (may since)).all ≡ true
 
 -- So it is in each moment in which it is parked.
-abbrev pub AllParkedAtRest : {V : Type 0} → (Moment V → Bool) → (Desk → Event → Turn) → ℕ → Server V → List Remark → (List (RoundTrip V) → Type 0) → World V → RoundTrips V → List (Remarked V) → Type 0
+abbrev pub AllParkedAtRest : {V E : Type 0} → (Moment V → Bool) → (Desk → Event → Turn) → ℕ → Server V → List Remark → (E → List (RoundTrip V)) → World V → RoundTrips V → List (Remarked V) → Type 0
 AllParkedAtRest parks turns key server login may w x [] = Unit {0}
 AllParkedAtRest parks turns key server login may w x (t ∷ ts) =
     (parks (moment_of t) ≡ true → IsParkedAtRest key server login may w x t.event)

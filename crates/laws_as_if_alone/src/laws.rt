@@ -69,9 +69,9 @@ pub fn alone_by_turns<V>()
 /// An application that is parked only where its connection rests, by what was asked there and what its server told
 /// (`lets_rest`, line by line in `tds_state`), can't tell that it was, where that server tells all: of whatever may
 /// be trips with it, where that lets the session rest, it is as a reset would make it (`TellsAll`).
-pub fn alone_where_all_is_told<V>()
+pub fn alone_where_all_is_told<V, E>()
     // So it is from a moment at which it neither waits nor holds a connection;
-    ensures new { (server : Server V) (login : List Remark) (may : List (RoundTrip V) → Type 0)
+    ensures new { (server : Server V) (login : List Remark) (may : E → List (RoundTrip V))
         (sharing : Sharing) (key : ℕ) (parks : Moment V → Bool) (before since : List (Remarked V))
         → TellsAll server login may
         → IsAway key (reached server sharing (moments_of before)).desk
@@ -83,7 +83,7 @@ pub fn alone_where_all_is_told<V>()
         (reached server sharing (moments_of before)) (moments_of since)
         (world_after turn server (reached server sharing (moments_of before)) (moments_of since)) }
     // and from where it enters a relay, behind any steps, and while it stays.
-    ensures visits { (server : Server V) (login : List Remark) (may : List (RoundTrip V) → Type 0)
+    ensures visits { (server : Server V) (login : List Remark) (may : E → List (RoundTrip V))
         (sharing : Sharing) (key : ℕ) (parks : Moment V → Bool) (v : Visit sharing key)
         (ms : Moments V v) (before since : List (Remarked V))
         → moments_of before ≡ ms.before → moments_of since ≡ ms.since
