@@ -12,6 +12,7 @@ pub mod Letting
 pub mod Lines
 pub mod Lined
 pub mod Losing
+pub mod Marking
 pub mod Off
 pub mod Only
 pub mod Opening

@@ -1,7 +1,9 @@
 -- What the relay puts on a connection itself, where an application lets that go: what cancels its request, and a cleaning.
 use Rattle.std.specs.Prelude.{◌≡◌, ◌⊎◌, ◌==◌, ℕ, codes, Bool, true, false, List, [], ◌∷◌, ◌++◌, Option, Some, None, length}
 use Rattle.tds_client.specs.declared.message.MessageKind.TheVariants.{Batch}
-use Rattle.tds_client.specs.Session.{ClientSession}
+use Rattle.tds_client.specs.Session as session
+use Rattle.tds_client.specs.Session.{ClientSession, Stage}
+use Rattle.tds_packet.specs.declared.status.Reset.TheVariants.{Full}
 use Rattle.tds_client.specs.Streams.{opened}
 use Rattle.tds_wire.specs.declared.told.Token.{Token}
 use Rattle.tds_service.specs.declared.service.Service as services
@@ -38,6 +40,11 @@ pub record IsBatch (text out : List ℕ) : Type 0 where
   pub to : ClientSession
   pub put : ArePut true text (opened from Batch) to out
 
+-- And it asks for the full reset.
+pub record IsCleaning (text out : List ℕ) : Type 0 where
+  pub batch : IsBatch text out
+  pub full : batch.from.heard.mark ≡ Some Full
+
 -- What is so was put behind what there was.
 pub record IsPutBehind (Is : List ℕ → Type 0) (before after : List ℕ) : Type 0 where
   pub out : List ℕ
@@ -48,12 +55,25 @@ pub record IsPutBehind (Is : List ℕ → Type 0) (before after : List ℕ) : Ty
 abbrev pub MayClean : Option ℕ → List ℕ → List ℕ → Type 0
 MayClean who before after = (after ≡ before) ⊎ ((who ≡ None) × IsPutBehind (IsBatch text_of_cleaning) before after)
 
--- What goes out where a client's connection is let go: what cancels its request, if one is out; and behind that a batch of this text, or none
--- yet, while something is still to come there.
+-- Whether nothing is to come any more once what is underway is cancelled.
+abbrev pub rests_once : Stage → Bool
+rests_once session.Idle = true
+rests_once (session.Sending kind left packets) = packets == 0
+rests_once session.Reading = false
+rests_once session.Cancelling = false
+rests_once (session.Broken fault) = false
+
+-- A cleaning of this text is put then, or none yet.
+abbrev pub CleansOnce : Bool → List ℕ → List ℕ → List ℕ → Type 0
+CleansOnce true text before after = IsPutBehind (IsCleaning text) before after
+CleansOnce false text before after = after ≡ before
+
+-- What goes out where a client's connection is let go: what cancels its request, if one is out; and behind that a cleaning of this text, but
+-- none yet exactly while something is still to come there.
 pub record GoesOutAtEnd (text : List ℕ) (client : Option ClientSession) (out : List ℕ) : Type 0 where
   pub session : ClientSession
   pub was : client ≡ Some session
-  pub does : (out ≡ cancel_out session.stage) ⊎ IsPutBehind (IsBatch text) (cancel_out session.stage) out
+  pub does : CleansOnce (rests_once session.stage) text (cancel_out session.stage) out
 
 -- of a connection that an application held, where it is there still
 abbrev pub GoesOutBy : services.Service → Option Hold → Option Left → List ℕ → List ℕ → Type 0

@@ -225,7 +225,7 @@ all_rise s (call ∷ all) tidy =
     let others = all_rise (step s call).service all one.tidy in
     record { tidy = others.tidy; rises = omega (arith, one.rises, others.rises) }
 
-next_other : (given : ℕ) (place : Place) → WithinAt given place → holds (suc given) place ≡ false
+pub next_other : (given : ℕ) (place : Place) → WithinAt given place → holds (suc given) place ≡ false
 next_other given (Leased lease) h = let u : (lease == suc given) ≡ false = grind arith in u
 next_other given (Cleaning lease) h = let u : (lease == suc given) ≡ false = grind arith in u
 next_other given (Kept ticket) h = refl

@@ -9,12 +9,13 @@ use Rattle.tds_service.specs.declared.service.Service as services
 use Rattle.tds_service.specs.Table.{CancelsOut, DoesAt, Opens, client_of}
 use Rattle.tds_service.specs.Ties.{cancel_out}
 use Rattle.tds_packet.specs.Reading.{Reading}
+use Rattle.tds_packet.specs.declared.status.Reset.TheVariants.{Full}
 use Rattle.tds_relay.specs.declared.desk.Desk as desks
 use Rattle.tds_relay.specs.declared.desk.Hold.{Hold}
 use Rattle.tds_relay.specs.declared.desk.leaving.Left.{Left}
 use Rattle.tds_relay.specs.declared.link.Link.{Link}
 use Rattle.tds_relay.specs.declared.relay.Relay as code
-use Rattle.tds_relay.specs.Cleaning.{GoesOutAtEnd, GoesOutAtAny, GoesOutBy, IsBatch, WaitsAtEnd, WaitsBehindEnd, OfItsHold, MayClean, IsPutBehind, CountsHold}
+use Rattle.tds_relay.specs.Cleaning.{CleansOnce, GoesOutAtEnd, GoesOutAtAny, GoesOutBy, IsBatch, IsCleaning, WaitsAtEnd, WaitsBehindEnd, OfItsHold, MayClean, IsPutBehind, CountsHold, rests_once}
 use Rattle.tds_relay.specs.Cleaning as cleaning
 use Rattle.tds_relay.specs.Desk as desk
 use Rattle.tds_relay.specs.Desk.{Desk, find_key, find_lease, find_number, whose_by, without_lease, next}
@@ -43,16 +44,43 @@ cleans text lease cleaned asked sent ended before between after o p f =
       appended = f.does.2 ∙ ap (λ (xs : List ℕ). xs ++ f.does.0) p.does.2 ∙ append_assoc before p.does.0 f.does.0;
     }
 
--- what is underway is cancelled
-pub cancelled : (text : List ℕ) (lease : ℕ) (old : services.Service) (before after : List ℕ) → CancelsOut lease old before after → IsPutBehind (GoesOutAtEnd text (client_of lease old)) before after
-cancelled text lease old before after c = record { out = cancel_out c.0.stage; is = record { session = c.0; was = c.1; does = inl refl }; appended = c.2 }
+-- and it asks for the full reset
+pub cleans_all : (text : List ℕ) (lease : ℕ) (cleaned asked sent ended : services.Service) (before between after : List ℕ) → (o : Opens Batch lease cleaned asked) → o.0.heard.mark ≡ Some Full
+    → DoesAt (λ (s : ClientSession). put s text) lease asked sent before between → DoesAt finished lease sent ended between after → IsPutBehind (IsCleaning text) before after
+cleans_all text lease cleaned asked sent ended before between after o full p f =
+    let one : p.session ≡ opened o.0 Batch = (let u : Some p.session ≡ Some (opened o.0 Batch) = sym p.moves.was ∙ o.1.is in cc) in
+    let two : f.session ≡ p.next = (let u : Some f.session ≡ Some p.next = sym f.moves.was ∙ p.moves.is in cc) in
+    record {
+      out = p.does.0 ++ f.does.0;
+      is = record {
+        batch = record {
+          from = o.0;
+          to = f.next;
+          put = (p.does.0, f.does.0, p.next, refl, ap (λ (s : ClientSession). put s text) (sym one) ∙ p.does.1, ap finished (sym two) ∙ f.does.1);
+        };
+        full = full;
+      };
+      appended = f.does.2 ∙ ap (λ (xs : List ℕ). xs ++ f.does.0) p.does.2 ∙ append_assoc before p.does.0 f.does.0;
+    }
+
+-- what is underway is cancelled, and more is to come
+pub cancelled : (text : List ℕ) (lease : ℕ) (old : services.Service) (before after : List ℕ) → (c : CancelsOut lease old before after) → rests_once c.0.stage ≡ false → IsPutBehind (GoesOutAtEnd text (client_of lease old)) before after
+cancelled text lease old before after c works = record {
+  out = cancel_out c.0.stage;
+  is = record { session = c.0; was = c.1; does = subst (λ (b : Bool). CleansOnce b text (cancel_out c.0.stage) (cancel_out c.0.stage)) (sym works) refl };
+  appended = c.2;
+}
 
 -- and a cleaning goes behind that
-pub cancelled_cleaned : (text : List ℕ) (lease : ℕ) (old : services.Service) (before between after : List ℕ) → CancelsOut lease old before between → IsPutBehind (IsBatch text) between after
+pub cancelled_cleaned : (text : List ℕ) (lease : ℕ) (old : services.Service) (before between after : List ℕ) → (c : CancelsOut lease old before between) → rests_once c.0.stage ≡ true → IsPutBehind (IsCleaning text) between after
     → IsPutBehind (GoesOutAtEnd text (client_of lease old)) before after
-cancelled_cleaned text lease old before between after c p = record {
+cancelled_cleaned text lease old before between after c rests p = record {
   out = cancel_out c.0.stage ++ p.out;
-  is = record { session = c.0; was = c.1; does = inr (record { out = p.out; is = p.is; appended = refl }) };
+  is = record {
+    session = c.0;
+    was = c.1;
+    does = subst (λ (b : Bool). CleansOnce b text (cancel_out c.0.stage) (cancel_out c.0.stage ++ p.out)) (sym rests) (record { out = p.out; is = p.is; appended = refl });
+  };
   appended = p.appended ∙ ap (λ (xs : List ℕ). xs ++ p.out) c.2 ∙ append_assoc before (cancel_out c.0.stage) p.out;
 }
 
@@ -124,14 +152,16 @@ filled client out (Some waits) (Some new) e f = subst (λ (xs : List ℕ). Waits
 
 -- what goes out by it waits on the connection that was let go
 pub left_by : {A E : Type 0} (r : Result A E) (key : ℕ) (left : Left) (o : Option Hold) (gives : Bool) (way : desk.Way) (old mid new : code.Relay) (d : desks.Desk) (before after outbox : List ℕ) → o ≡ find_key key old.desk.holds.items
-    → IsNumberOf o (Some left) → left.is_there ≡ true → IsReached (desk_in old.desk) → before ≡ [] → GoesOutBy old.desk.service (find_key key old.desk.holds.items) (Some left) before after → outbox ≡ after
+    → IsNumberOf o (Some left) → left.is_there ≡ true → IsReached (desk_in old.desk) → before ≡ [] → (l : Option Left) → l ≡ Some left
+    → (IsReached (desk_in old.desk) → GoesOutBy old.desk.service (find_key key old.desk.holds.items) l before after) → outbox ≡ after
     → Turns (desk.Leaves key gives way) (desk_in old.desk) (desk_in d) before after → mid.desk ≡ d → mid.links.items ≡ old.links.items
     → (find_number left.number (desk_in mid.desk).holds ≡ None → OnOk r (FillsBy outbox (waits_on left.number mid.links.items) (waits_on left.number new.links.items)))
     → OnOk r (OfItsHold WaitsAtEnd key old (λ (n : ℕ). waits_on n new.links.items))
-left_by (Ok x) key left o gives way old mid new d before after outbox same is there reached empty ends out t at links fills = λ hold its.
+left_by (Ok x) key left o gives way old mid new d before after outbox same is there reached empty l its_left ends out t at links fills = λ hold its.
     let here : o ≡ Some hold = same ∙ its in
     let number : left.number ≡ hold.number = subst (λ (p : Option Hold). IsNumberOf p (Some left)) here is in
-    let e : IsPutBehind (GoesOutAtEnd text_of_cleaning (client_of hold.lease old.desk.service)) before after = subst (λ (p : Option Hold). GoesOutBy old.desk.service p (Some left) before after) its ends there in
+    let e : IsPutBehind (GoesOutAtEnd text_of_cleaning (client_of hold.lease old.desk.service)) before after =
+    subst (λ (p : Option Hold). GoesOutBy old.desk.service p (Some left) before after) its (subst (λ (y : Option Left). GoesOutBy old.desk.service (find_key key old.desk.holds.items) y before after) its_left (ends reached)) there in
     let client = e.is.session in
     let holds : (desk_in mid.desk).holds ≡ without_lease hold.lease old.desk.holds.items =
     ap (λ (x : desks.Desk). (desk_in x).holds) at ∙ ap (λ (x : Desk). x.holds) t.desk_is ∙ holds_left (desk_in old.desk) key gives way hold its in
@@ -143,7 +173,7 @@ left_by (Ok x) key left o gives way old mid new d before after outbox same is th
     (subst (λ (ls : List Link). FillsBy outbox (waits_on left.number ls) (waits_on left.number new.links.items)) links (fills none)) in
     subst (λ (n : ℕ). WaitsAtEnd (client_of hold.lease old.desk.service) (waits_on n old.links.items) (waits_on n new.links.items)) number
     (filled (client_of hold.lease old.desk.service) e.out (waits_on left.number old.links.items) (waits_on left.number new.links.items) e.is f)
-left_by (Err x) key left o gives way old mid new d before after outbox same is there reached empty ends out t at links fills = tt
+left_by (Err x) key left o gives way old mid new d before after outbox same is there reached empty l its_left ends out t at links fills = tt
 
 -- or it is closed
 pub shut_by : {A E : Type 0} (r : Result A E) (key : ℕ) (left : Left) (o : Option Hold) (old new : code.Relay) → o ≡ find_key key old.desk.holds.items → IsNumberOf o (Some left)

@@ -1,7 +1,7 @@
 //! Connections that are let go, and cleaned; that come without being asked for; and that are lost.
 ghost use Rattle.std.specs.Prelude.{◌≡◌, [], ℕ, Bool, IfOk, IfSome, None, OnOk, true};
 ghost use Rattle.tds_service.specs.Table.{KeepsClientsOff, client_of, reading_on, service_in};
-ghost use Rattle.tds_relay.specs.Cleaning.{GoesOutAtEnd, GoesOutAtAny, GoesOutBy, IsBatch, IsLentBy, IsPutBehind};
+ghost use Rattle.tds_relay.specs.Cleaning.{GoesOutAtEnd, GoesOutAtAny, GoesOutBy, IsBatch, IsCleaning, IsLentBy, IsPutBehind};
 ghost use Rattle.tds_relay.specs.Desk.{Brings, Leaves, Loses, Renews, Way, cleaning, find_key, find_number};
 ghost use Rattle.tds_relay.specs.Desk.{key_of, releasing, without_number};
 ghost use Rattle.tds_relay.specs.Sparing.{AsideStay, IsRenewed, OffHold, OthersHold};
@@ -74,6 +74,8 @@ pub(super) fn clean(
     ensures aside { OnOk result ((but : ℕ) → AsideStay but number service.old service.new) }
     ensures puts { IfOk result (λ is_there. is_there ≡ true
         → IsPutBehind (IsBatch text.now) out.old.items out.new.items) }
+    ensures cleans { IsLed (service_in service.old) → IfOk result (λ is_there. is_there ≡ true
+        → IsPutBehind (IsCleaning text.now) out.old.items out.new.items) }
 {
     let Ok(lent) = service.clean(number) else {
         forget(service, number)?;
@@ -106,7 +108,7 @@ fn release(
         (service_in service.old) (service_in service.new) out.old.items out.new.items) }
     ensures stand { OnOk result (AllStand service.old service.new) }
     ensures aside { OnOk result (AsideStay hold.lease hold.number service.old service.new) }
-    ensures ends { IfOk result (λ is_there. is_there ≡ true
+    ensures ends { IsLed (service_in service.old) → IfOk result (λ is_there. is_there ≡ true
         → IsPutBehind (GoesOutAtEnd text.now (client_of hold.lease service.old))
         out.old.items out.new.items) }
     ensures seats { IsLed (service_in service.old)
@@ -135,8 +137,9 @@ impl Desk {
             IsNumberOf (find_key key (desk_in self.old).holds) left) }
         ensures stand { OnOk result (AllStand self.old.service self.new.service) }
         ensures others { OnOk result (OthersHold key self.old self.new) }
-        ensures ends { IfOk result (λ left. GoesOutBy self.old.service
-            (find_key key (desk_in self.old).holds) left out.old.items out.new.items) }
+        ensures ends { IsReached (desk_in self.old) → IfOk result (λ left. GoesOutBy
+            self.old.service (find_key key (desk_in self.old).holds) left out.old.items
+            out.new.items) }
         ensures seats { IsReached (desk_in self.old) → IfOk result (λ left. LeavesSeat left
             (desk_in self.old).service (desk_in self.new).service) }
     {
@@ -160,7 +163,7 @@ impl Desk {
         ensures stand { OnOk result (AllStand self.old.service self.new.service) }
         ensures lent { IfOk result (λ left. IfSome left (λ it.
             IsLentBy it.number (desk_in self.old).service)) }
-        ensures ends { IfOk result (λ left. IfSome left
+        ensures ends { IsReached (desk_in self.old) → IfOk result (λ left. IfSome left
             (GoesOutAtAny out.old.items out.new.items)) }
         ensures seats { IsReached (desk_in self.old) → IfOk result (λ left. BringsSeat left
             (desk_in self.old).service (desk_in self.new).service) }

@@ -14,11 +14,11 @@ pub returns-clause-others : goal.returns-clause-others
 returns-clause-others c = left_others c.args.self.now _ c.args.key c.in-Some.hold (search rules) (search rules) c.in_ok-is_there.ensures.aside
 
 pub returns-in_default-clause-ends : goal.returns-in_default-clause-ends
-returns-in_default-clause-ends c = ends_none c.args.self.now.service (find_key c.args.key c.args.self.now.holds.items) _ _
+returns-in_default-clause-ends c = λ reached. ends_none c.args.self.now.service (find_key c.args.key c.args.self.now.holds.items) _ _
 
 pub returns-clause-ends : goal.returns-clause-ends
-returns-clause-ends c = ends_some c.args.self.now.service (find_key c.args.key c.args.self.now.holds.items) c.in-Some.hold _ _ _ (search rules)
-    (λ there. text_is c.cleaning_text.result.now _ _ _ c.cleaning_text.ensures (c.in_ok-is_there.ensures.ends there))
+returns-clause-ends c = λ reached. ends_some c.args.self.now.service (find_key c.args.key c.args.self.now.holds.items) c.in-Some.hold _ _ _ (search rules)
+    (λ there. text_is c.cleaning_text.result.now _ _ _ c.cleaning_text.ensures (c.in_ok-is_there.ensures.ends (led_at (desk_in c.args.self.now) reached) there))
 
 pub returns-in_default-clause-seats : goal.returns-in_default-clause-seats
 returns-in_default-clause-seats c = λ reached n. refl

@@ -7,7 +7,8 @@ use Rattle.tds_relay.proofs.steps.Made.{cleaned_whole, cleaned_unended}
 use Rattle.tds_service.specs.Service as calls
 use Rattle.tds_relay.proofs.bytes.Walking.{keeps_stand, same_stand}
 use Rattle.tds_relay.proofs.spared.Aside.{above_given, called_for, forgot_for, lent_given, refl_for, refused_for, same_for}
-use Rattle.tds_relay.proofs.spared.Cleaned.{cleans}
+use Rattle.tds_relay.proofs.spared.Cleaned.{cleans, cleans_all}
+use Rattle.tds_relay.proofs.spared.Marking.{cleans_full}
 use Rattle.tds_relay.proofs.desk.leaving.clean.Goals as goal
 
 pub returns-in_default-finish-clause-makes : goal.returns-in_default-finish-clause-makes
@@ -86,3 +87,10 @@ pub returns-clause-puts : goal.returns-clause-puts
 returns-clause-puts c = λ there.
     cleans c.args.text.now c.in-Ok.lent.lease c.clean.new.self c.ask.new.self c.put.new.self c.finish.new.self c.args.out.now.items c.put.new.out.items c.finish.new.out.items c.in-Ok-ask.ensures.opened c.in-Ok-put.ensures.puts
     c.in-Ok-finish.ensures.ends
+
+pub returns-clause-cleans : goal.returns-clause-cleans
+returns-clause-cleans c = λ led there.
+    let opens = c.in-Ok-ask.ensures.opened in
+    cleans_all c.args.text.now c.in-Ok.lent.lease c.clean.new.self c.ask.new.self c.put.new.self c.finish.new.self c.args.out.now.items c.put.new.out.items c.finish.new.out.items opens
+    (cleans_full c.args.number c.in-Ok.lent.lease c.in-Ok.lent.number c.in-Ok.lent.had c.args.service.now c.clean.new.self opens.0 led c.in-Ok.ensures.ok.service_is c.in-Ok.ensures.ok.reply_is opens.1.was)
+    c.in-Ok-put.ensures.puts c.in-Ok-finish.ensures.ends

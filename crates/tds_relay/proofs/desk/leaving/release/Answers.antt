@@ -4,7 +4,7 @@ use Rattle.tds_service.specs.Table.{service_in}
 use Rattle.tds_relay.proofs.steps.Made.{released_free}
 use Rattle.tds_relay.proofs.bytes.Calls.{stand_on}
 use Rattle.tds_relay.proofs.bytes.Leaving.{given_back_stand}
-use Rattle.tds_relay.proofs.bytes.Walking.{same_stand}
+use Rattle.tds_relay.proofs.bytes.Walking.{led_on, same_stand}
 use Rattle.tds_service.specs.Service as calls
 use Rattle.tds_relay.proofs.steps.Reaching.{ok_more}
 use Rattle.tds_relay.proofs.spared.Aside.{called_for, forgot_for, refl_for, refused_for}
@@ -15,6 +15,7 @@ use Rattle.tds_service.specs.Service.{Service}
 use Rattle.tds_service.specs.Table.{rest_of}
 use Rattle.tds_relay.specs.Ties.{lost_by}
 use Rattle.tds_relay.proofs.seats.Rests.{back_stays, forgot_stays, free_stays}
+use Rattle.tds_relay.proofs.spared.Marking.{drains_once, free_once}
 use Rattle.tds_relay.proofs.desk.leaving.release.Goals as goal
 
 pub returns-in-Ok-default-Free-clause-makes : goal.returns-in-Ok-default-Free-clause-makes
@@ -62,11 +63,18 @@ returns-in_ok-forget-in-Err-clause-aside c = λ lease client differs aside there
     (forgot_for lease c.args.hold.number c.give_back.new.self c.forget.new.service c.in_ok-forget-in-Err.ensures.clients)) client aside there
 
 pub returns-in-Ok-default-Free-clause-ends : goal.returns-in-Ok-default-Free-clause-ends
-returns-in-Ok-default-Free-clause-ends c = IfOk-weaker c.clean.result _ _
-    (λ is_there h there. cancelled_cleaned c.args.text.now c.args.hold.lease c.args.service.now c.args.out.now.items c.give_back.new.out.items c.clean.new.out.items c.in-Ok-default-Free.ensures.stops (h there)) c.clean.ensures.puts
+returns-in-Ok-default-Free-clause-ends c = λ led.
+    let stops = c.in-Ok-default-Free.ensures.stops in
+    let free = free_once c.args.hold.lease c.args.service.now stops.0 stops.1 (c.in-Ok-default-Free.ensures.ok.reply_is ∙ ap (λ (r : Rest). calls.Back (rest_of r)) c.in-Ok-default-Free.field-0-1-is) in
+    IfOk-weaker c.clean.result _ _
+    (λ is_there h there. cancelled_cleaned c.args.text.now c.args.hold.lease c.args.service.now c.args.out.now.items c.give_back.new.out.items c.clean.new.out.items stops free (h there))
+    (c.clean.ensures.cleans (led_on (service_in c.args.service.now) (service_in c.give_back.new.self) (calls.GiveBack c.args.hold.lease) c.in-Ok-default-Free.ensures.ok.service_is led))
 
 pub returns-in-Ok-default-Draining-clause-ends : goal.returns-in-Ok-default-Draining-clause-ends
-returns-in-Ok-default-Draining-clause-ends c = λ there. cancelled c.args.text.now c.args.hold.lease c.args.service.now c.args.out.now.items c.give_back.new.out.items c.in-Ok-default-Draining.ensures.stops
+returns-in-Ok-default-Draining-clause-ends c = λ led there.
+    let stops = c.in-Ok-default-Draining.ensures.stops in
+    cancelled c.args.text.now c.args.hold.lease c.args.service.now c.args.out.now.items c.give_back.new.out.items stops
+    (drains_once c.args.hold.lease c.args.service.now stops.0 stops.1 (c.in-Ok-default-Draining.ensures.ok.reply_is ∙ ap (λ (r : Rest). calls.Back (rest_of r)) c.in-Ok-default-Draining.field-0-1-is))
 
 pub returns-in-Ok-default-Free-clause-seats : goal.returns-in-Ok-default-Free-clause-seats
 returns-in-Ok-default-Free-clause-seats c = λ led on. IfOk-weaker c.clean.result _ _

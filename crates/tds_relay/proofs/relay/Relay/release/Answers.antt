@@ -96,7 +96,7 @@ returns-in_default-clause-ends c = λ reached. nobody_left c.args.key (find_key 
 pub returns-then-left-clause-ends : goal.returns-then-left-clause-ends
 returns-then-left-clause-ends c = λ reached.
     left_by c.send_unheld.result c.args.key c.in-Some.left (find_key c.args.key c.args.self.now.desk.holds.items) c.in_ok-left.ensures.turns.0 c.in_ok-left.ensures.turns.1 c.args.self.now c.let_go.new.self c.send_unheld.new.self c.leave.new.self _ _ c.let_go.new.self.outbox.items refl (search rules)
-    (search rules) reached (search rules) (search rules) c.let_go.ensures.outbox c.in_ok-left.ensures.turns.2 c.let_go.ensures.desk c.let_go.ensures.links c.send_unheld.ensures.puts
+    (search rules) reached (search rules) c.in_ok-left.left c.in-Some.is c.in_ok-left.ensures.ends c.let_go.ensures.outbox c.in_ok-left.ensures.turns.2 c.let_go.ensures.desk c.let_go.ensures.links c.send_unheld.ensures.puts
 
 pub returns-else-left-clause-ends : goal.returns-else-left-clause-ends
 returns-else-left-clause-ends c = λ reached.
