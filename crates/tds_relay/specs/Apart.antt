@@ -17,6 +17,17 @@ pub record LendsInTurn (line : List ℕ) (ends : Ends) (new : Hall) : Type 0 whe
   pub are : line ≡ lent ++ new.desk.line
   pub apart : (key : ℕ) → is_in key lent ≡ false → end_at new.ends key ≡ end_at ends key
 
+-- The end of each but this one, if there is one, is as it was, and whoever waited waits.
+pub record AloneWho (who : Option ℕ) (old new : Hall) : Type 0 where
+  pub ends : (other : ℕ) → who ≢ Some other → end_at new.ends other ≡ end_at old.ends other
+  pub line : new.desk.line ≡ old.desk.line
+
+-- First something is done for this one, if there is one, and then those who wait are lent connections, in turn.
+pub record LendsAfter (who : Option ℕ) (old new : Hall) : Type 0 where
+  pub ends : Ends
+  pub others : (key : ℕ) → who ≢ Some key → end_at ends key ≡ end_at old.ends key
+  pub lends : LendsInTurn old.desk.line ends new
+
 -- Of the connections that are held one alone is lost, that of this number: the end of each application that neither holds it nor waits is as
 -- it was.
 abbrev pub LosesOnly : ℕ → Hall → Hall → Type 0

@@ -6,7 +6,7 @@ use Rattle.std.proofs.lemmas.List.{get_or-set_other}
 use Rattle.tds_wire.specs.declared.told.Token.{Token}
 use Rattle.tds_service.specs.Service as calls
 use Rattle.tds_service.specs.Service.{Lent, step}
-use Rattle.tds_relay.specs.Apart.{Alone, LendsInTurn, LosesOnly, UnlessServed}
+use Rattle.tds_relay.specs.Apart.{Alone, AloneWho, LendsAfter, LendsInTurn, LosesOnly, UnlessServed}
 use Rattle.tds_relay.specs.declared.desk.Hold.{Hold}
 use Rattle.tds_relay.specs.declared.desk.Served.{Served}
 use Rattle.tds_relay.specs.Desk as desk
@@ -173,6 +173,25 @@ lends_nobody line ends b c o before after h s is t same =
 
 pub lends_from : {A E : Type 0} (r : Result A E) (line line1 : List ℕ) (ends ends1 : Ends) (c : Hall) → line1 ≡ line → ends1 ≡ ends → OnOk r (LendsInTurn line1 ends1 c) → OnOk r (LendsInTurn line ends c)
 lends_from r line line1 ends ends1 c lines same h = subst (λ (es : Ends). OnOk r (LendsInTurn line es c)) same (subst (λ (ks : List ℕ). OnOk r (LendsInTurn ks ends1 c)) lines h)
+
+pub lends_at : (line line1 : List ℕ) (ends ends1 : Ends) (c : Hall) → line1 ≡ line → ends1 ≡ ends → LendsInTurn line1 ends1 c → LendsInTurn line ends c
+lends_at line line1 ends ends1 c lines same h = subst (λ (es : Ends). LendsInTurn line es c) same (subst (λ (ks : List ℕ). LendsInTurn ks ends1 c) lines h)
+
+-- what is done for who holds a connection
+pub who_alone : {A E : Type 0} (r : Result A E) (key : ℕ) (who : Option ℕ) (a b : Hall) → who ≡ Some key → OnOk r (Alone key a b) → OnOk r (AloneWho who a b)
+who_alone (Ok x) key who a b is h = record { ends = λ other w. h.ends other (λ same. w (is ∙ ap (λ (n : ℕ). Some n) (sym same))); line = h.line }
+who_alone (Err e) key who a b is h = tt
+
+pub none_alone : (who : Option ℕ) (h : Hall) → AloneWho who h h
+none_alone who h = record { ends = λ other w. refl; line = refl }
+
+pub lends_after : {A E : Type 0} (r : Result A E) (number : ℕ) (a m b c : Hall) → m.desk ≡ a.desk → m.ends ≡ a.ends → AloneWho (holder m.desk number) m b → OnOk r (LendsInTurn b.desk.line b.ends c) → OnOk r (LendsAfter (holder a.desk number) a c)
+lends_after (Ok x) number a m b c same ends h k = record {
+  ends = b.ends;
+  others = λ key w. h.ends key (λ e. w (ap (λ (d : Desk). holder d number) (sym same) ∙ e)) ∙ ap (λ (es : Ends). end_at es key) ends;
+  lends = lends_at a.desk.line b.desk.line b.ends b.ends c (h.line ∙ ap (λ (d : Desk). d.line) same) refl k;
+}
+lends_after (Err e) number a m b c same ends h k = tt
 
 left_line : (d : Desk) (key : ℕ) (gives : Bool) (way : desk.Way) (o : Option Hold) → (leaves d key gives way o).desk.line ≡ without key d.line
 left_line d key gives way None = refl

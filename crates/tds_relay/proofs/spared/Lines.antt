@@ -54,6 +54,11 @@ brings_line : (d : Desk) (s : Service) (gives : Bool) (way : Way) (o : Option Lo
 brings_line d s gives way None = refl
 brings_line d s gives way (Some lent) = refl
 
+pub brought_line : (d e : Desk) (gives : Bool) (way : Way) → e ≡ (turn d (desk.Brings gives way)).desk → e.line ≡ d.line
+brought_line d e gives way is =
+    let lent = step {T = Token} d.service calls.Lease in
+    ap (λ (x : Desk). x.line) is ∙ brings_line d lent.service gives way (lent_in lent.reply)
+
 does_line : (d : Desk) (deed : Deed) (o : Option Hold) → (does d deed o).desk.line ≡ d.line
 does_line d deed None = refl
 does_line d deed (Some h) = refl

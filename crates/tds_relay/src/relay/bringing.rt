@@ -4,7 +4,8 @@ ghost use Rattle.std.specs.Prelude.{true};
 ghost use Rattle.tds_relay.specs.Cleaning.{IsFirst, IsLentBy, IsNotBrought};
 ghost use Rattle.tds_relay.specs.Closings.{ClosesOnly, IsWaiting};
 ghost use Rattle.tds_relay.specs.Closings.{register_in, settings_in, with_links};
-ghost use Rattle.tds_relay.specs.Fronts.{house_in};
+ghost use Rattle.tds_relay.specs.Apart.{LendsInTurn};
+ghost use Rattle.tds_relay.specs.Fronts.{ends_in, hall_in, house_in};
 ghost use Rattle.tds_relay.specs.House.{Steps};
 ghost use Rattle.tds_relay.specs.Posts.{names_in, posts_in};
 ghost use Rattle.tds_relay.specs.Reads.{IsCalled, OpensFirst};
@@ -49,6 +50,8 @@ impl Relay {
             (desk_in self.old.desk) (desk_in self.new.desk))) }
         ensures seated { IsSeated self.old → OnOk result (IsSeated self.new) }
         ensures opening { OnOk result (OpensNew self.old self.new) }
+        ensures lends { OnOk result (LendsInTurn (desk_in self.old.desk).line
+            (ends_in self.old.applications) (hall_in self.new)) }
     {
         if !self.links.is_empty() {
             return Ok(None);

@@ -1,7 +1,7 @@
 //! Connections that are lent to those who wait, opened, and asked.
 ghost use Rattle.std.specs.Prelude.{◌≡◌, ◌≢◌, ◌⊎◌, ◌++◌, [], ℕ, Bool, IfOk, List, None, OnOk, Some, false, option_map, true};
 ghost use Rattle.slab.specs.Slab.{get};
-ghost use Rattle.tds_relay.specs.Apart.{Alone, LendsInTurn, UnlessServed};
+ghost use Rattle.tds_relay.specs.Apart.{Alone, AloneWho, LendsAfter, LendsInTurn, UnlessServed};
 ghost use Rattle.tds_relay.specs.Asking.{HasBegun, IsUnderway, waits_of};
 ghost use Rattle.tds_relay.specs.Bodies.{AskAsBefore, Grows, Starts, body_of, going_of, held_of};
 ghost use Rattle.tds_relay.specs.Closings.{ClosesOnly, IsWaiting, IsWho, Itself, Nobody, WhoOrWaiting, register_in};
@@ -90,6 +90,8 @@ impl Relay {
             (WhoOrWaiting (holder (desk_in self.old.desk) number) (desk_in self.old.desk).line)
             (register_in self.old) (register_in self.new)) }
         ensures opening { OnOk result (OpensNew self.old self.new) }
+        ensures lends { OnOk result (LendsAfter (holder (desk_in self.old.desk) number)
+            (hall_in self.old) (hall_in self.new)) }
     {
         self.set_open(number);
         self.order_write_on(number)?;
@@ -138,6 +140,8 @@ impl Relay {
         ensures lasts { OnOk result (LastBut (IsWho (holder (desk_in self.old.desk) number))
             (register_in self.old) (register_in self.new)) }
         ensures opening { opens_in self.new.orders.items ≡ opens_in self.old.orders.items }
+        ensures alone { OnOk result (AloneWho (holder (desk_in self.old.desk) number)
+            (hall_in self.old) (hall_in self.new)) }
     {
         match self.desk.key_on(number) {
             Some(key) => self.start_kept(key),

@@ -1,12 +1,12 @@
 //! Applications that are parked: each is parted from its connection at rest, for those who wait.
 ghost use Rattle.std.specs.Prelude.{◌≡◌, OnOk, IfOk, false, true, Some};
-ghost use Rattle.tds_relay.specs.Apart.{UnlessServed};
+ghost use Rattle.tds_relay.specs.Apart.{LendsInTurn, UnlessServed};
 ghost use Rattle.tds_relay.specs.Cleaning.{CountsHold, OfItsHold, WaitsBehindEnd, cleaned_in};
 ghost use Rattle.tds_relay.specs.Closings.{ClosesOnly, IsWaiting, register_in};
-ghost use Rattle.tds_relay.specs.Desk.{Sharing, find_key};
+ghost use Rattle.tds_relay.specs.Desk.{Sharing, find_key, without};
 ghost use Rattle.tds_relay.specs.Few.{Few, IsSeated, NobodyWaits};
-ghost use Rattle.tds_relay.specs.Fronts.{hall_in, house_in};
-ghost use Rattle.tds_relay.specs.Hall.{IsAway};
+ghost use Rattle.tds_relay.specs.Fronts.{ends_in, hall_in, house_in};
+ghost use Rattle.tds_relay.specs.Hall.{IsAway, change_end, lets_go};
 ghost use Rattle.tds_relay.specs.House.{IsLedTo, Steps};
 ghost use Rattle.tds_relay.specs.Lent.{LastBesides};
 ghost use Rattle.tds_relay.specs.Ordering.{OpensNew, StayOrdered};
@@ -45,6 +45,9 @@ impl Relay {
         ensures kept { OnOk result (posts_in self.new.applications
             ≡ posts_in self.old.applications) }
         ensures served { IfOk result (λ is. is ≡ true → NobodyWaits self.new) }
+        ensures lends { IfOk result (λ is. is ≡ true
+            → LendsInTurn (without key (desk_in self.old.desk).line)
+            (change_end key lets_go (ends_in self.old.applications)) (hall_in self.new)) }
         ensures few { OnOk result (Few self.old.most self.old.links.items
             self.new.links.items) }
         ensures opens { OnOk result (Opens self.old.links.items self.new.links.items) }

@@ -1,5 +1,5 @@
 use Rattle.std.proofs.Common.{◌≡◌, ◌∙◌, ap, refl, rules, sym, true, inl, inr, false}
-use Rattle.tds_relay.specs.Fronts.{house_in}
+use Rattle.tds_relay.specs.Fronts.{ends_in, hall_in, hall_of_ends, house_in}
 use Rattle.tds_relay.specs.Ties.{Neither, desk_in}
 use Rattle.tds_relay.proofs.steps.Fronts.{moves_does}
 use Rattle.tds_relay.proofs.steps.Reaching.{reaches_turn, reached_on}
@@ -9,7 +9,8 @@ use Rattle.tds_relay.proofs.spared.Resting.{go_both, none_go, go_refl}
 use Rattle.tds_relay.proofs.steps.Renaming.{first_called}
 use Rattle.tds_relay.specs.Posts.{names_of}
 use Rattle.tds_relay.proofs.spared.Ordered.{ordered_both}
-use Rattle.tds_relay.proofs.spared.Lines.{waited}
+use Rattle.tds_relay.proofs.spared.Lines.{brought_line, waited}
+use Rattle.tds_relay.proofs.spared.Apart.{lends_at, lends_none}
 use Rattle.tds_relay.specs.Closings.{IsWaiting, register_in}
 use Rattle.tds_relay.proofs.spared.Closings.{closes_both, closes_more, closes_nobody, closes_refl}
 use Rattle.tds_relay.proofs.seats.Linked.{seated_pushed}
@@ -150,3 +151,24 @@ returns-clause-opening c =
     let one : (desk_in c.args.self.now.desk).service.last ≤ (desk_in c.bring.new.self).service.last = turn_last _ (desk_in c.args.self.now.desk) (desk_in c.bring.new.self) _ _ c.in_ok-left.ensures.turns.2 in
     let two : (desk_in c.bring.new.self).service.last ≤ (desk_in c.send_unheld.new.self.desk).service.last = on_last (desk_in c.bring.new.self) (desk_in c.send_unheld.new.self.desk) c.in_ok-send_unheld.ensures.goes in
     opens_new_both c.args.self.now c.send_unheld.new.self c.serve_line.new.self (opens_same c.args.self.now c.send_unheld.new.self c.send_unheld.ensures.opening (omega (arith, one, two))) c.in_ok-serve_line.ensures.opening
+
+pub returns-then-not-is_empty-clause-lends : goal.returns-then-not-is_empty-clause-lends
+returns-then-not-is_empty-clause-lends c = lends_none (hall_in c.args.self.now)
+
+pub returns-in_default-clause-lends : goal.returns-in_default-clause-lends
+returns-in_default-clause-lends c =
+    let line : (desk_in c.bring.new.self).line ≡ (desk_in c.args.self.now.desk).line =
+    brought_line (desk_in c.args.self.now.desk) (desk_in c.bring.new.self) c.in_ok-left.ensures.turns.0 c.in_ok-left.ensures.turns.1 c.in_ok-left.ensures.turns.2.desk_is in
+    lends_at _ _ _ _ (hall_of_ends (desk_in c.bring.new.self) (ends_in c.args.self.now.applications)) line refl (lends_none (hall_of_ends (desk_in c.bring.new.self) (ends_in c.args.self.now.applications)))
+
+pub returns-then-not-left-clause-lends : goal.returns-then-not-left-clause-lends
+returns-then-not-left-clause-lends c =
+    let line : (desk_in c.bring.new.self).line ≡ (desk_in c.args.self.now.desk).line =
+    brought_line (desk_in c.args.self.now.desk) (desk_in c.bring.new.self) c.in_ok-left.ensures.turns.0 c.in_ok-left.ensures.turns.1 c.in_ok-left.ensures.turns.2.desk_is in
+    lends_at _ _ _ _ (hall_of_ends (desk_in c.bring.new.self) (ends_in c.args.self.now.applications)) line refl (lends_none (hall_of_ends (desk_in c.bring.new.self) (ends_in c.args.self.now.applications)))
+
+pub returns-clause-lends : goal.returns-clause-lends
+returns-clause-lends c =
+    let line : (desk_in c.bring.new.self).line ≡ (desk_in c.args.self.now.desk).line =
+    brought_line (desk_in c.args.self.now.desk) (desk_in c.bring.new.self) c.in_ok-left.ensures.turns.0 c.in_ok-left.ensures.turns.1 c.in_ok-left.ensures.turns.2.desk_is in
+    lends_at _ _ _ _ _ (c.in_ok-send_unheld.ensures.line ∙ line) c.in_ok-send_unheld.ensures.ends c.in_ok-serve_line.ensures.lends

@@ -1,5 +1,5 @@
 use Rattle.std.proofs.Common.{◌∙◌, ap, subst, sym, inl, inr}
-use Rattle.tds_relay.specs.Fronts.{house_in}
+use Rattle.tds_relay.specs.Fronts.{hall_in, house_in}
 use Rattle.tds_relay.specs.Ties.{desk_in, IsReached}
 use Rattle.tds_relay.proofs.steps.Stepping.{no_steps, steps_moved, steps_same, steps_whoever}
 use Rattle.tds_relay.proofs.steps.Staying.{opens_one_served, stays_behind}
@@ -25,6 +25,7 @@ use Rattle.tds_relay.proofs.spared.Lasting.{last_all, last_from, last_links, las
 use Rattle.tds_relay.proofs.spared.Opening.{on_last, opens_new_on, opens_same}
 use Rattle.tds_relay.specs.Ordering.{opens_in}
 use Rattle.std.proofs.Common.{◌≤◌}
+use Rattle.tds_relay.proofs.spared.Apart.{lends_after}
 use Rattle.tds_relay.proofs.relay.Relay.opened.Goals as goal
 
 pub returns-clause-steps : goal.returns-clause-steps
@@ -128,3 +129,8 @@ returns-clause-opening c =
     (opens_same c.args.self.now c.start_on.new.self (c.start_on.ensures.opening ∙ c.order_write_on.ensures.opening ∙ ap opens_in c.set_open.ensures.orders)
     (subst (λ (d : code.Desk). (desk_in d).service.last ≤ (desk_in c.start_on.new.self.desk).service.last) same (on_last (desk_in c.order_write_on.new.self.desk) (desk_in c.start_on.new.self.desk) c.in_ok-start_on.ensures.goes)))
     c.serve_line.ensures.opening
+
+pub returns-clause-lends : goal.returns-clause-lends
+returns-clause-lends c =
+    lends_after c.serve_line.result c.args.number (hall_in c.args.self.now) (hall_in c.order_write_on.new.self) (hall_in c.start_on.new.self) (hall_in c.serve_line.new.self) (ap desk_in (c.order_write_on.ensures.desk ∙ c.set_open.ensures.desk))
+    (c.in_ok-order_write_on.ensures.ends ∙ c.set_open.ensures.ends) c.in_ok-start_on.ensures.alone c.serve_line.ensures.lends

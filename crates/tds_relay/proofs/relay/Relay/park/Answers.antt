@@ -23,6 +23,7 @@ use Rattle.tds_relay.specs.Cleaning.{CountsHold, cleaned_in}
 use Rattle.tds_relay.specs.Desk.{find_key}
 use Rattle.std.proofs.Common.{subst}
 use Rattle.tds_relay.proofs.spared.Opening.{left_last, opens_new_both, opens_none, opens_same}
+use Rattle.tds_relay.proofs.spared.Apart.{lends_at}
 use Rattle.tds_relay.proofs.relay.Relay.park.Goals as goal
 
 pub returns-clause-left : goal.returns-clause-left
@@ -113,3 +114,6 @@ returns-then-not-may_park-clause-opening c = opens_none c.args.self.now
 
 pub returns-clause-opening : goal.returns-clause-opening
 returns-clause-opening c = opens_new_both c.args.self.now c.release.new.self c.serve_line.new.self (opens_same c.args.self.now c.release.new.self c.release.ensures.opening (left_last c.args.key (desk_in c.args.self.now.desk) (desk_in c.release.new.self.desk) c.in_ok-release.ensures.leaving)) c.in_ok-serve_line.ensures.opening
+
+pub returns-clause-lends : goal.returns-clause-lends
+returns-clause-lends c = λ is. lends_at _ _ _ _ _ c.in_ok-release.ensures.line c.in_ok-release.ensures.fronts c.in_ok-serve_line.ensures.lends

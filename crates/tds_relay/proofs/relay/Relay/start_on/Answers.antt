@@ -9,6 +9,8 @@ use Rattle.tds_relay.specs.Ties.{desk_in}
 use Rattle.tds_relay.proofs.spared.Closings.{closes_more_on}
 use Rattle.tds_relay.proofs.spared.Lasting.{last_more_on, last_start}
 use Rattle.tds_relay.specs.Closings.{register_in}
+use Rattle.tds_relay.proofs.spared.Apart.{none_alone, who_alone}
+use Rattle.tds_relay.specs.Fronts.{hall_in}
 use Rattle.tds_relay.proofs.relay.Relay.start_on.Goals as goal
 
 pub returns-in-Some-clause-goes_on : goal.returns-in-Some-clause-goes_on
@@ -37,3 +39,9 @@ returns-in-Some-clause-behind c = own_on c.start_kept.result _ c.in-Some.key (λ
 
 pub returns-in-None-clause-behind : goal.returns-in-None-clause-behind
 returns-in-None-clause-behind c = none_own _ (λ (k : ℕ). StartsThere k c.args.self.now c.args.self.now) (sym c.key_on.ensures ∙ c.in-None.is)
+
+pub returns-in-Some-clause-alone : goal.returns-in-Some-clause-alone
+returns-in-Some-clause-alone c = who_alone c.start_kept.result c.in-Some.key (holder (desk_in c.args.self.now.desk) c.args.number) _ _ (sym c.key_on.ensures ∙ c.in-Some.is) c.start_kept.ensures.alone
+
+pub returns-in-None-clause-alone : goal.returns-in-None-clause-alone
+returns-in-None-clause-alone c = none_alone (holder (desk_in c.args.self.now.desk) c.args.number) (hall_in c.args.self.now)
