@@ -53,7 +53,12 @@ fn is_said(rt: &HostRuntime, reason: Option<Reason>, word: &str) -> io::Result<b
 }
 
 /// Does a step, or asks. Whether it can be done, or the answer is the one that is written.
-fn is_as_written(rt: &HostRuntime, follower: &mut Follower, line: &str, size: usize) -> io::Result<bool> {
+fn is_as_written(
+    rt: &HostRuntime,
+    follower: &mut Follower,
+    line: &str,
+    size: usize,
+) -> io::Result<bool> {
     match (line, line.strip_prefix("because ")) {
         ("rests", _) => Ok(follower.rests()),
         ("holds", _) => Ok(!follower.rests()),
