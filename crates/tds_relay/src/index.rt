@@ -82,7 +82,30 @@ fn find_counted<T: Copy, L: Ledger>(
     find_first(index, id, latest, &mut steps)
 }
 
-/// The same, for a caller that counts nothing: what was found last is looked at before.
+/// The same, for a caller that counts nothing: where it stands if the ids follow one another is looked at
+/// before.
+fn search<T: Copy>(index: &[Indexed<T>], id: u64, latest: &Cell<usize>) -> Option<T>
+    requires climbs { Climbs (ids_in index.now) }
+    ensures is { result ≡ first (under id index.now) }
+{
+    let place = follows_at(index, id);
+    if begins_at(index, id, place) {
+        latest.set(place);
+        return Some(index[place].item);
+    }
+    find_counted::<T, Brand>(index, id, latest, Blank::new(1))
+}
+
+/// Where this id stands if the ids follow one another.
+#[inline(always)]
+fn follows_at<T>(index: &[Indexed<T>], id: u64) -> usize {
+    match index.first() {
+        Some(first) => id.wrapping_sub(first.id) as usize,
+        None => 0,
+    }
+}
+
+/// The same, and what was found last is looked at before.
 pub(crate) fn find<T: Copy>(index: &[Indexed<T>], id: u64, latest: &Cell<usize>) -> Option<T>
     requires climbs { Climbs (ids_in index.now) }
     ensures is { result ≡ first (under id index.now) }
@@ -91,7 +114,7 @@ pub(crate) fn find<T: Copy>(index: &[Indexed<T>], id: u64, latest: &Cell<usize>)
     if begins_at(index, id, guess) {
         return Some(index[guess].item);
     }
-    find_counted::<T, Brand>(index, id, latest, Blank::new(1))
+    search(index, id, latest)
 }
 
 fn place_behind<T, L: Ledger>(index: &[Indexed<T>], id: u64, blank: Blank) -> usize

@@ -36,6 +36,14 @@ pub(crate) fn find_id<L: Ledger>(index: &[Indexed], id: u64, steps: &mut Steps<L
     find_in(index, id, steps)
 }
 
+/// The number of the connection that stands where this id does if the ids follow one another.
+#[inline(always)]
+pub(crate) fn guess_number(index: &[Indexed], id: u64) -> Option<u64> {
+    let first = index.first()?;
+    let entry = index.get(id.wrapping_sub(first.id) as usize)?;
+    Some(entry.number)
+}
+
 /// The number of the connection that the id at this place has.
 pub(crate) fn number_at(index: &[Indexed], place: usize) -> u64
     requires { place < length index.now }

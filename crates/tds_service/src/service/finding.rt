@@ -7,7 +7,7 @@ ghost use Rattle.tds_service.specs.Service.{find_by, has_lease, has_number, has_
 ghost use Rattle.tds_service.specs.Service.{is_lendable, seat_numbered};
 ghost use Rattle.tds_service.specs.Table.{FirstMet, seats_in, test_of};
 
-use crate::index::{Indexed, find_id, number_at};
+use crate::index::{Indexed, find_id, guess_number, number_at};
 use crate::place::Holder;
 use crate::seat::Seat;
 use crate::service::Service;
@@ -34,40 +34,83 @@ pub(crate) fn find_lendable(seats: &[Seat], held: usize) -> Option<usize>
 }
 
 impl Service {
-    /// Whether the connection that was found last has this number.
+    /// Whether the connection at this place has this number.
     #[inline(always)]
-    fn has_latest(&self, number: u64) -> bool
-        ensures { result ≡ true
-            → FirstMet (has_number number) self.now.seats.items self.now.latest }
+    fn is_numbered_at(&self, place: usize, number: u64) -> bool
+        ensures { result ≡ true → FirstMet (has_number number) self.now.seats.items place }
     {
-        if self.latest >= self.seats.len() {
+        if place >= self.seats.len() {
             return false;
         }
-        self.seats[self.latest].number == number
+        self.seats[place].number == number
     }
 
-    /// Whether the connection that was found last is held by this one.
+    /// Whether the connection at this place is held by this one.
     #[inline(always)]
-    fn is_latest_of(&self, holder: Holder) -> bool
-        ensures { result ≡ true
-            → FirstMet (test_of holder) self.now.seats.items self.now.latest }
+    fn is_held_at(&self, place: usize, holder: Holder) -> bool
+        ensures { result ≡ true → FirstMet (test_of holder) self.now.seats.items place }
     {
-        if self.latest >= self.seats.len() {
+        if place >= self.seats.len() {
             return false;
         }
-        self.seats[self.latest].is_held_by(holder)
+        self.seats[place].is_held_by(holder)
     }
 
-    /// The place in the table of the connection of this number: the latest one, or found by halves.
+    /// Where this number stands if the numbers follow one another.
+    #[inline(always)]
+    fn follows_at(&self, number: u64) -> usize {
+        match self.seats.first() {
+            Some(first) => number.wrapping_sub(first.number) as usize,
+            None => 0,
+        }
+    }
+
+    /// Where the connection stands that this one holds if ids and numbers follow one another.
+    #[inline(always)]
+    fn follows_as_held(&self, holder: Holder) -> usize {
+        match guess_number(&self.index, holder.id()) {
+            Some(number) => self.follows_at(number),
+            None => 0,
+        }
+    }
+
+    /// The place in the table of the connection of this number: where it stands if the numbers follow one
+    /// another, or found by halves.
+    fn search_number(&self, number: u64) -> Option<usize>
+        ensures first { IfSome result (FirstMet (has_number number) self.now.seats.items) }
+        ensures none { IfNone result
+            (seat_numbered number (seats_in self.now.seats.items) ≡ None) }
+    {
+        let place = self.follows_at(number);
+        if self.is_numbered_at(place, number) {
+            return Some(place);
+        }
+        find_counted::<Brand>(&self.seats, number, Blank::new(1))
+    }
+
+    /// The same, of the connection that this one holds.
+    fn search_holder(&self, holder: Holder) -> Option<usize>
+        ensures first { IfSome result (FirstMet (test_of holder) self.now.seats.items) }
+        ensures none { IfNone result
+            (find_by (test_of holder) (seats_in self.now.seats.items) ≡ None) }
+    {
+        let place = self.follows_as_held(holder);
+        if self.is_held_at(place, holder) {
+            return Some(place);
+        }
+        held_counted::<Brand>(&self.seats, &self.index, holder, Blank::new(1))
+    }
+
+    /// The place in the table of the connection of this number: the latest one, or searched.
     pub(crate) fn find_number(&self, number: u64) -> Option<usize>
         ensures first { IfSome result (FirstMet (has_number number) self.now.seats.items) }
         ensures none { IfNone result
             (seat_numbered number (seats_in self.now.seats.items) ≡ None) }
     {
-        if self.has_latest(number) {
+        if self.is_numbered_at(self.latest, number) {
             return Some(self.latest);
         }
-        find_counted::<Brand>(&self.seats, number, Blank::new(1))
+        self.search_number(number)
     }
 
     /// The place in the table of the connection that this lease holds.
@@ -76,15 +119,10 @@ impl Service {
         ensures none { IfNone result
             (find_by (has_lease lease) (seats_in self.now.seats.items) ≡ None) }
     {
-        if self.is_latest_of(Holder::Lease(lease)) {
+        if self.is_held_at(self.latest, Holder::Lease(lease)) {
             return Some(self.latest);
         }
-        held_counted::<Brand>(
-            &self.seats,
-            &self.index,
-            Holder::Lease(lease),
-            Blank::new(1),
-        )
+        self.search_holder(Holder::Lease(lease))
     }
 
     /// The place in the table of the connection that this ticket keeps.
@@ -93,15 +131,10 @@ impl Service {
         ensures none { IfNone result
             (find_by (has_ticket ticket) (seats_in self.now.seats.items) ≡ None) }
     {
-        if self.is_latest_of(Holder::Ticket(ticket)) {
+        if self.is_held_at(self.latest, Holder::Ticket(ticket)) {
             return Some(self.latest);
         }
-        held_counted::<Brand>(
-            &self.seats,
-            &self.index,
-            Holder::Ticket(ticket),
-            Blank::new(1),
-        )
+        self.search_holder(Holder::Ticket(ticket))
     }
 }
 

@@ -9,7 +9,7 @@ use thiserror::Error;
 /// Why a walk isn't done.
 #[derive(Debug, Drop, Error)]
 pub enum SpeedFault {
-    #[error("usage: bench_calls count SIZE FILE.., walk WALK FILE SIZE TIMES, sizes, memory KIND COUNT SIZE, leases COUNT TIMES, exchanges COUNT TIMES, or relayed COUNT TIMES")]
+    #[error("usage: bench_calls count SIZE FILE.., walk WALK FILE SIZE TIMES, sizes, memory KIND COUNT SIZE, leases COUNT TIMES, exchanges COUNT TIMES, relayed COUNT TIMES, or in_turn COUNT TIMES")]
     Usage,
     #[error("error: input or output")]
     Io,

@@ -9,7 +9,8 @@
 //! last, and gives it back, so many times.
 //! `bench_calls exchanges COUNT TIMES` makes a service of so many connections, all of them held, and does
 //! so many requests with their answers on the last one. `bench_calls relayed COUNT TIMES` does so through a
-//! relay, each of whose connections an application holds.
+//! relay, each of whose connections an application holds, and `bench_calls in_turn COUNT TIMES` on each of
+//! these in turn.
 #![tactic(auto)]
 
 mod asking;
@@ -158,6 +159,9 @@ fn obey(rt: &HostRuntime, words: &[String]) -> Result<(), SpeedFault> {
         [verb, count, times] if verb.as_str() == "relayed" => {
             relay_last(rt, number(count.as_str())?, number(times.as_str())?)
         }
+        [verb, count, times] if verb.as_str() == "in_turn" => {
+            relay_in_turn(rt, number(count.as_str())?, number(times.as_str())?)
+        }
         [verb, size, names @ ..] if verb.as_str() == "count" => {
             count_all(rt, packet_size(size.as_str())?, names)
         }
@@ -195,8 +199,18 @@ fn exchange_all(rt: &HostRuntime, count: u32, times: u32) -> Result<(), SpeedFau
 
 /// Does so many exchanges of the last application of a relay of so many.
 fn relay_last(rt: &HostRuntime, count: u32, times: u32) -> Result<(), SpeedFault> {
-    let (mut relay, key, number) = all_lent(rt.alloc(), count as usize, packet_size("4096")?)?;
-    relay_all(&mut relay, key, number, times)
+    let (mut relay, all) = all_lent(rt.alloc(), count as usize, packet_size("4096")?)?;
+    let before = all.len().saturating_sub(1);
+    match all.get(before..) {
+        Some(last) => relay_all(&mut relay, last, times),
+        None => Err(SpeedFault::Refused),
+    }
+}
+
+/// Does so many exchanges of the applications of a relay of so many, one each in turn.
+fn relay_in_turn(rt: &HostRuntime, count: u32, times: u32) -> Result<(), SpeedFault> {
+    let (mut relay, all) = all_lent(rt.alloc(), count as usize, packet_size("4096")?)?;
+    relay_all(&mut relay, all.as_slice(), times)
 }
 
 fn count_all(rt: &HostRuntime, size: PacketSize, names: &[String]) -> Result<(), SpeedFault> {

@@ -1,4 +1,4 @@
-//! A relay whose connections are all held: what an exchange costs on the last one.
+//! A relay whose connections are all held: what an exchange costs on the last one, and on each in turn.
 use crate::fault::SpeedFault;
 use std::alloc::Global;
 use tds_packet::PacketSize;
@@ -16,19 +16,25 @@ const ANSWER: [u8; 21] = [
     0x04, 0x01, 0, 21, 0, 0, 1, 0, 0xFD, 0, 0, 0, 0, 0, 0, 0, 0, 0, 0, 0, 0,
 ];
 
-/// A relay of so many applications, each of which holds a connection; the key of the last one, and the
-/// number of its connection.
+/// The key of an application, and the number of the connection that it holds.
+#[derive(Clone, Copy)]
+pub struct Lent {
+    key: usize,
+    number: u64,
+}
+
+/// A relay of so many applications, each of which holds a connection; and these, in their order.
 pub fn all_lent(
     alloc: Global,
     count: usize,
     size: PacketSize,
-) -> Result<(Relay, usize, u64), SpeedFault> {
+) -> Result<(Relay, Vec<Lent>), SpeedFault> {
     let features = Features {
         encryption: false,
         ranks: false,
     };
     let mut relay = Relay::new(alloc, Mode::Sessions, count, size, features)?;
-    let mut last = None;
+    let mut all = Vec::new(alloc);
     for tag in 0..count {
         let key = relay.enter(tag)?;
         relay.said(key, &REQUEST)?;
@@ -38,12 +44,9 @@ pub fn all_lent(
         relay.opening(number, count.saturating_add(tag));
         relay.opened(number)?;
         answer(&mut relay, key, number)?;
-        last = Some((key, number));
+        all.push(Lent { key, number })?;
     }
-    match last {
-        Some((key, number)) => Ok((relay, key, number)),
-        None => Err(SpeedFault::Refused),
-    }
+    Ok((relay, all))
 }
 
 /// The connection that is to be opened.
@@ -56,11 +59,20 @@ fn to_open(orders: &[Order]) -> Option<u64> {
     None
 }
 
-/// So many requests of this application, and their answers.
-pub fn relay_all(relay: &mut Relay, key: usize, number: u64, times: u32) -> Result<(), SpeedFault> {
-    for _ in 0..times {
-        relay.said(key, &REQUEST)?;
-        answer(relay, key, number)?;
+/// So many requests with their answers, one each of these applications in turn.
+pub fn relay_all(relay: &mut Relay, turn: &[Lent], times: u32) -> Result<(), SpeedFault> {
+    let mut left = times;
+    while left > 0 {
+        for lent in turn {
+            if left > 0 {
+                relay.said(lent.key, &REQUEST)?;
+                answer(relay, lent.key, lent.number)?;
+                left -= 1;
+            }
+        }
+        if turn.is_empty() {
+            return Err(SpeedFault::Refused);
+        }
     }
     Ok(())
 }

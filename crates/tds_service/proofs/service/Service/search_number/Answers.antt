@@ -3,7 +3,7 @@ use Rattle.tds_numbers.specs.Rising.{Rises}
 use Rattle.tds_service.specs.declared.seat.Seat as code
 use Rattle.tds_service.specs.Rising.{numbers_in}
 use Rattle.tds_service.proofs.Rising.{rises}
-use Rattle.tds_service.proofs.service.Service.find_number.Goals as goal
+use Rattle.tds_service.proofs.service.Service.search_number.Goals as goal
 
 pub find_counted-requires-clause-rising : goal.find_counted-requires-clause-rising
 find_counted-requires-clause-rising c =

@@ -4,10 +4,9 @@ use Rattle.tds_service.specs.declared.index.Indexed.{Indexed}
 use Rattle.tds_service.specs.declared.seat.Seat as code
 use Rattle.tds_service.specs.Index.{FindEachOther, holders_in, ids_in}
 use Rattle.tds_service.specs.Rising.{RiseFrom, numbers_in}
-use Rattle.tds_service.specs.Service.{has_ticket}
-use Rattle.tds_service.specs.Table.{FirstMet}
+use Rattle.tds_service.specs.Table.{FirstMet, test_of}
 use Rattle.tds_service.proofs.Reindexing.{few_ids}
-use Rattle.tds_service.proofs.service.Service.find_ticket.Goals as goal
+use Rattle.tds_service.proofs.service.Service.search_holder.Goals as goal
 
 pub held_counted-requires-clause-rising : goal.held_counted-requires-clause-rising
 held_counted-requires-clause-rising c =
@@ -32,4 +31,4 @@ held_counted-requires-clause-few c =
     (subst (λ (es : List Indexed). length es ≤ length s.seats.items) (sym c.deref-2.ensures.value) (few_ids s))
 
 pub returns-clause-first : goal.returns-clause-first
-returns-clause-first c = subst (λ (cs : List code.Seat). IfSome c.held_counted.result (FirstMet (has_ticket c.args.ticket) cs)) c.deref.ensures.value c.held_counted.ensures.first
+returns-clause-first c = subst (λ (cs : List code.Seat). IfSome c.held_counted.result (FirstMet (test_of c.args.holder) cs)) c.deref.ensures.value c.held_counted.ensures.first

@@ -1,4 +1,0 @@
-use Rattle.tds_service.proofs.service.Service.find_ticket.Given as goal
-
-abbrev pub ghosts-held_counted : goal.ghosts-held_counted
-ghosts-held_counted a = record { name = a.blank.name; parts = a.blank.parts }
