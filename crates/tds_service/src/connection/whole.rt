@@ -29,7 +29,8 @@ impl Connection {
             (part_of (next_token self.old.walker piece.now)) (line_in self.old)
             (line_in self.new) (line.Fault (ListenFault.Client fault)) []) }
         ensures stands { IfOk result (λ count. 0 < count
-            → Stands (next_token self.old.walker piece.now) self.new.walker (drop count piece.now)) }
+            → Stands (next_token self.old.walker piece.now) self.new.walker
+            (drop count piece.now)) }
         ensures within { IfOk result (λ count. count ≤ length piece.now) }
         ensures same { IfOk result (λ count. count ≡ 0 → self.new ≡ self.old) }
         ensures size { self.new.client.size ≡ self.old.client.size }
