@@ -105,13 +105,17 @@ class Application:
 
     def send(self, kind, data, status=END):
         """Asks, with a reset of its own session where it asks for one: gives what that is told."""
+        self.writer.write(self.begins(kind, data, status))
+        return change(18, b"") if status & (RESET | RESET_BUT_TRANSACTION) else b""
+
+    def begins(self, kind, data, status=END):
+        """The same, but for what goes out: gives that."""
         resets = status & (RESET | RESET_BUT_TRANSACTION)
         if resets:
             self.own.reset(resets == RESET or not self.own.descriptor)
             self.descriptor = self.descriptor if self.own.descriptor else 0
             self.handles = {}
-        self.writer.write(packets(kind, data if kind == LOAD else headers(self.descriptor) + data, status))
-        return change(18, b"") if resets else b""
+        return packets(kind, data if kind == LOAD else headers(self.descriptor) + data, status)
 
     async def exchange(self, what, kind, data, parts, end, status=END):
         """Asks, and is answered what its own session answers to that: its parts, its news, and this end."""

@@ -111,7 +111,8 @@ class Peer(asyncio.Protocol):
 
     def log_in(self, data):
         brought = asks_recovery(data)
-        self.tells = brought is not None and not self.vices.is_silent
+        is_silent = self.vices.is_silent or self.vices.forgets and bool(self.server.logins)
+        self.tells = brought is not None and not is_silent
         self.is_in = True
         self.server.peers[self.process] = self
         self.server.logins.append((self.process, brought))
@@ -233,6 +234,10 @@ class Server:
     def questions_on(self, process):
         """What it was asked there by a relay, before the connection was used."""
         return list(self.peers[process].questions)
+
+    def is_begun_on(self, process):
+        """Whether a request has begun to come there that goes on."""
+        return bool(self.peers[process].message)
 
     def unsent_on(self, process):
         """How many bytes of its answers wait there, since nobody reads them."""

@@ -43,16 +43,18 @@ NO_MEMORY, NOT_TO_COMMIT, NOT_TO_ROLL_BACK, IS_OPEN, NO_STATEMENT, OTHER_TRANSAC
 class Vices:
     """What a server does otherwise than one that tells all in order."""
 
-    # It doesn't acknowledge session recovery.
+    # It doesn't acknowledge session recovery; or only to the first login.
     is_silent: bool = False
+    forgets: bool = False
     # What a cancelled request has changed is told with the next answer.
     is_late: bool = False
     # The flag of a SESSIONSTATE is the whole session's, and not its own states'.
     is_of_session: bool = False
     # It says of each state that it can't be recovered.
     never_recovers: bool = False
-    # A SESSIONSTATE says a longer value than it has.
+    # A SESSIONSTATE says a longer value than it has; or only one that tells the state of this number.
     is_unreadable: bool = False
+    garbles: int = 0
     # The isolation level isn't told; a reset leaves it as it is.
     hides_level: bool = False
     keeps_level: bool = False
@@ -123,7 +125,7 @@ class Session:
         for is_recoverable, those in groups:
             if those:
                 states = b"".join(state(number, now[number][0]) for number in those)
-                if self.vices.is_unreadable:
+                if self.vices.is_unreadable or self.vices.garbles in those:
                     states = states[:-1]
                 out += session_state(self.sequence, is_recoverable and not self.vices.never_recovers, states)
                 self.sequence = min(self.sequence + 1, LAST)

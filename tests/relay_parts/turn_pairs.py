@@ -31,13 +31,17 @@ SAID = {
     "state 9": "a setting or #t (StateId 9)",
     "change 1": "another database (ENVCHANGE 1)",
     "change 2": "another language (ENVCHANGE 2)",
+    "unread": "something couldn't be read or kept",
     "transaction": "an open transaction",
+    "reset": "a reset that isn't done",
     "untold": "what its server may not tell",
     "handle": "a prepared handle",
     "answer": "an answer that is due",
     "cancel": "a cancel, up to one more answer",
     "bulk": "a bulk load that may come",
 }
+# More seconds than pass at least from one count of those that wait to the next.
+APART = 0.05
 # So many scenes are played at once.
 AT_ONCE = 8
 

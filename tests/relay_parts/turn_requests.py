@@ -1,4 +1,4 @@
-"""Cases of tests/relay_turns: what is asked: transactions, calls, bulk loads, cancels, resets, and what is underway.
+"""Cases of tests/relay_turns: what is asked: transactions, calls, bulk loads, cancels, and what is underway.
 
 What `pair.other()` is, turn_states says.
 """
@@ -361,31 +361,3 @@ async def half_of_a_request_that_is_cancelled(pair):
     await pair.a.ask("get a")
     await pair.other()
     await pair.a.ask("get a")
-
-
-# ---- Resets of its own
-
-
-@shared()
-async def reset_behind_all_of_that(pair):
-    await pair.a.call((PREPARE, "get b"))
-    await pair.a.ask("set a 1;create b;use d2;lock;begin")
-    await pair.a.ask("get a", END | RESET)
-    await pair.other()
-    await pair.a.ask("get a;sum b;where;open")
-
-
-@shared()
-async def reset_but_for_no_transaction(pair):
-    await pair.a.ask("get a", END | RESET_BUT_TRANSACTION)
-    await pair.other()
-    await pair.a.ask("get a")
-
-
-@kept()
-async def reset_while_another_waits(pair):
-    """Behind its reset the other one is served, and so is itself, who is told of it."""
-    await pair.a.ask("set a 1;create b;begin")
-    await pair.other()
-    await pair.a.ask("get a;sum b;open", END | RESET)
-    await pair.served()

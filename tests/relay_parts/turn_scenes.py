@@ -8,26 +8,25 @@ import asyncio
 
 from relay_told import Relay
 from turn_applications import EVERYTHING, Application
-from turn_pairs import CLEANING, PATIENCE, ROUNDS, SHARES, beside, until
+from turn_pairs import APART, CLEANING, PATIENCE, ROUNDS, SHARES, beside, until
 from turn_server import Server
+from turn_sessions import Vices
 from turn_tokens import ACKNOWLEDGED, BATCH, END, RESET, done, text_of, tokens
 
 # It holds a connection for long; its connection has ended.
 LATE_HOLD, LOST = 50102, 50109
-# More seconds than pass at least from one count of those that wait to the next.
-APART = 0.05
 SCENES = []
 
 
-def scene(most=1, count=2, words=()):
+def scene(most=1, count=2, words=(), vices=Vices()):
     """A scene of so many applications that ask for session recovery, at a relay with so many connections."""
     def add(deed):
-        SCENES.append((deed, most, count, words))
+        SCENES.append((deed, most, count, words, vices))
         return deed
     return add
 
 
-def play(program, cases, deed, most, count, words):
+def play(program, cases, deed, most, count, words, vices):
     async def run(port, server, relay):
         ones = [await Application(port, server.vices).connect() for _ in range(count)]
         await deed(cases, server, relay, *ones)
@@ -35,7 +34,7 @@ def play(program, cases, deed, most, count, words):
             await it.leave()
         await until(lambda: not server.left_over(), "sessions in which nothing is left")
 
-    with Server() as server, Relay(program, server.port, "--most", str(most), *SHARES, *words) as relay:
+    with Server(vices) as server, Relay(program, server.port, "--most", str(most), *SHARES, *words) as relay:
         asyncio.run(asyncio.wait_for(run(relay.port, server, relay), 4 * PATIENCE))
 
 
@@ -230,6 +229,27 @@ async def connection_dies(cases, server, relay, one, two):
     await two.ask(EVERYTHING)
     await two.ask("get a")
     cases.check("the next one has another", two.process != one.process)
+
+
+@scene(count=3, vices=Vices(forgets=True))
+async def connection_without_acknowledgement(cases, server, relay, one, two, three):
+    """Behind the first connection, which was asked, the server tells nothing: who has the next one keeps it."""
+    await one.ask("get a")
+    await one.ask("get a")
+    server.drop(one.process)
+    await until(lambda: relay.json()["total_connections_ended"] == 1, "its end")
+    two.is_told = three.is_told = False
+    await two.ask("get a")
+    await two.ask("get a")
+    found = next(it for it in relay.json()["sockets"] if it.get("spid") == two.process)
+    cases.same("the relay says why", (found["rests"], found["why"]), (False, "recovery"))
+    late = asyncio.ensure_future(three.ask(EVERYTHING))
+    await waits(relay)
+    for _ in range(ROUNDS):
+        await two.ask("get a")
+    cases.same("and counts it", (late.done(), counted(relay)), (False, {"total_waits_behind_recovery": 1}))
+    await two.leave()
+    await served(late)
 
 
 @scene()

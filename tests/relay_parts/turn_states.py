@@ -5,7 +5,7 @@ would say, so what it has set must be there; and the second one must find nothin
 """
 
 from turn_pairs import kept, shared
-from turn_sessions import LAST, Vices
+from turn_sessions import LAST, TEXT, Vices
 
 
 @shared()
@@ -131,6 +131,14 @@ async def no_acknowledgement(pair):
 async def state_that_cannot_be_read(pair):
     await pair.a.ask("set a 1")
     await pair.a.ask("set a 0")
+    await pair.other()
+
+
+@kept(vices=Vices(garbles=TEXT), why="unread")
+async def one_state_that_cannot_be_read(pair):
+    """The relay's questions are answered as they must be."""
+    await pair.a.ask("set text 3")
+    await pair.a.ask("set text 0")
     await pair.other()
 
 

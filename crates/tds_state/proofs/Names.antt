@@ -1,9 +1,9 @@
--- A procedure's name, letter by letter, and the letters of a batch.
-use Rattle.std.proofs.Common.{◌≡◌, ◌∙◌, ◌≤◌, ◌<◌, ℕ, ◌+◌, Bool, true, false, List, [], ◌∷◌, length, drop, get_or, refl, sym, ap, arith}
+-- A procedure's name, letter by letter.
+use Rattle.std.proofs.Common.{◌≡◌, ◌∙◌, ◌≤◌, ◌<◌, ℕ, ◌+◌, Bool, true, false, List, [], ◌∷◌, length, drop, refl, sym, ap, arith}
 use Rattle.std.proofs.lemmas.Bool.{false≢true}
-use Rattle.std.proofs.lemmas.List.{drop-drop, drop_all, drop_more}
+use Rattle.std.proofs.lemmas.List.{drop-drop, drop_all}
 use Rattle.std.specs.Prelude.{◌&&◌}
-use Rattle.tds_state.specs.Asking.{is_plain_behind, is_plain_first, letters_after, letters_next}
+use Rattle.tds_state.specs.Asking.{is_plain_behind, is_plain_first}
 
 first_plain : (xs : List ℕ) → is_plain_first xs ≡ true → is_plain_behind (drop 2 xs) ≡ is_plain_behind xs
 unfolding is_plain_behind is_plain_first
@@ -27,13 +27,3 @@ plain_not xs rest at is some h = sym (ap is_plain_behind (sym is) ∙ first_othe
 pub plain_end : (xs : List ℕ) (at : ℕ) → length xs ≤ at → true ≡ is_plain_behind (drop at xs)
 unfolding is_plain_behind
 plain_end xs at h = sym (ap is_plain_behind (drop_all at xs h))
-
--- ---- Letters
-
-pub letters_more : (xs : List ℕ) (at came : ℕ) → at < length xs → letters_after (letters_next came (get_or xs at 0)) (drop (at + 1) xs) ≡ letters_after came (drop at xs)
-unfolding letters_after
-letters_more xs at came h = sym (ap (letters_after came) (drop_more xs at 0 h))
-
-pub letters_end : (xs : List ℕ) (at came : ℕ) → length xs ≤ at → came ≡ letters_after came (drop at xs)
-unfolding letters_after
-letters_end xs at came h = sym (ap (letters_after came) (drop_all at xs h))

@@ -1,6 +1,6 @@
 //! What of a request may leave behind what a server doesn't tell. No SQL is read for it but four letters.
 
-ghost use Rattle.std.specs.Prelude.{◌≡◌, IfOk};
+ghost use Rattle.std.specs.Prelude.{◌≡◌, ◌≤◌, IfOk, length};
 ghost use Rattle.tds_state.specs.Asking.{asked_call, procedure_call, request_begun, is_call, is_harmless, is_harmless_name, is_known_call, is_plain_behind, is_plain_first, is_plain_letter, is_system_part, letter_of, letters_after, letters_next, may_make_handles, prepares, prepares_by, small, unprepared_handle, unprepares, with_body};
 ghost use Rattle.tds_state.specs.KeptBytes.{no_bytes_kept};
 ghost use Rattle.tds_state.specs.declared.asked.Request.TheVariants.{Other};
@@ -241,12 +241,44 @@ fn letters_next(came: u8, byte: u8) -> u8
     }
 }
 
+/// What is left of bytes from that on with which `bulk` may begin.
+#[tactic(auto, unfolding(crate::specs::Asking::letters_after))]
+fn from_first(bytes: &[u8]) -> &[u8]
+    ensures same { letters_after 0 result.now ≡ letters_after 0 bytes.now }
+    ensures few { length result.now ≤ length bytes.now }
+{
+    let mut rest = bytes;
+    'bytes: while let [byte, behind @ ..] = rest {
+        let letters = letters_next(0, *byte);
+        if letters != 0 {
+            return rest;
+        }
+        rest = behind;
+    }
+    rest
+}
+
+/// What of these is to be looked at behind so many letters.
+fn left_by(letters: u8, bytes: &[u8]) -> &[u8]
+    ensures same { letters_after letters result.now ≡ letters_after letters bytes.now }
+    ensures few { length result.now ≤ length bytes.now }
+{
+    if letters == 0 {
+        from_first(bytes)
+    } else {
+        bytes
+    }
+}
+
+#[tactic(auto, unfolding(crate::specs::Asking::letters_after))]
 fn letters_after(came: u8, bytes: &[u8]) -> u8
     ensures { result ≡ letters_after came bytes.now }
 {
     let mut letters = came;
-    'bytes: for byte in bytes {
+    let mut rest = bytes;
+    'bytes: while let [byte, behind @ ..] = rest {
         letters = letters_next(letters, *byte);
+        rest = left_by(letters, behind);
     }
     letters
 }

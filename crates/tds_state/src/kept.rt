@@ -1,6 +1,6 @@
 //! Bytes that are kept, up to a most.
 
-ghost use Rattle.std.specs.Prelude.{◌≡◌, ◌≤◌, [], IfOk, drop, length, take};
+ghost use Rattle.std.specs.Prelude.{◌≡◌, ◌≤◌, ◌==◌, [], IfOk, drop, length, take};
 ghost use Rattle.tds_state.specs.KeptBytes.{has_room, no_bytes_kept, with_more_kept};
 
 use crate::NoMemory;
@@ -63,6 +63,19 @@ impl Kept {
         ensures { result.now ≡ self.now.bytes }
     {
         self.bytes.as_slice()
+    }
+
+    /// How many can be kept at most.
+    pub(crate) fn most(&self) -> usize
+        ensures { result ≡ self.now.most }
+    {
+        self.most
+    }
+
+    pub(crate) fn is_empty(&self) -> bool
+        ensures { result ≡ (length self.now.bytes == 0) }
+    {
+        self.bytes.is_empty()
     }
 
     /// Whether so many more can be kept.

@@ -2,11 +2,13 @@
 //! by all that was said, a reset would change nothing of it.
 #![tactic(auto)]
 
+mod answers;
 mod asked;
 mod handles;
 mod hearing;
 mod kept;
 pub mod laws;
+mod packets;
 mod prefix;
 mod reasons;
 mod resets;

@@ -43,6 +43,20 @@ impl Prefix {
 
     /// Takes data of a request, and gives what of them is the body.
     pub(crate) fn pass<'a>(&mut self, data: &'a [u8]) -> &'a [u8] {
+        let (Prefix::Length { came: 0, .. }, [a, b, c, d, behind @ ..]) = (*self, data) else {
+            return self.pass_part(data);
+        };
+        let length = u32::from_le_bytes([*a, *b, *c, *d]);
+        if length >= 4 && length as usize <= data.len() {
+            *self = Prefix::Body;
+            return &data[length as usize..];
+        }
+        *self = Prefix::of(length);
+        self.pass_part(behind)
+    }
+
+    /// The same wherever they begin.
+    fn pass_part<'a>(&mut self, data: &'a [u8]) -> &'a [u8] {
         let mut rest = data;
         // Four bytes of the length, and then a run.
         for _ in 0..5 {

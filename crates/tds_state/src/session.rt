@@ -242,7 +242,7 @@ impl Session {
         self.handles.take(value);
     }
 
-    fn hear_done(&mut self, kind: u8, status: u16)
+    pub(crate) fn hear_done(&mut self, kind: u8, status: u16)
         ensures { self.new ≡ session_told self.old (hearing.Done kind status) }
     {
         self.is_pinned = is_followed(kind, status) || self.is_pinned;

@@ -1,6 +1,6 @@
 //! A tracker of one connection.
 
-ghost use Rattle.std.specs.Prelude.{◌≡◌, ◌++◌, get_or, IfOk};
+ghost use Rattle.std.specs.Prelude.{◌≡◌, ◌++◌, get_or, IfOk, Some};
 ghost use Rattle.tds_state.specs.Reasons.{is_no_reason, session_reason};
 ghost use Rattle.tds_state.specs.Sessions.{session_asked, session_cancelled, session_ended, session_rests, session_sent};
 ghost use Rattle.tds_state.specs.Tracking.{is_needed, needed, new_tracker, tracks, with_bytes};
@@ -12,7 +12,7 @@ use crate::reasons::Reason;
 use crate::session::Session;
 use std::alloc::Global;
 use tds_packet::Reset;
-use tds_wire::Token;
+use tds_wire::{Token, Told};
 
 /// What the server of a connection said of its session, from the login's answer on.
 #[derive(Drop)]
@@ -76,10 +76,35 @@ impl Tracker {
     pub fn hear(&mut self, bytes: &[u8], token: &Option<Token>)
         ensures { self.new ≡ tracks self.old bytes.now token.now }
     {
-        self.keep(bytes);
-        if let Some(token) = token {
+        match token {
+            Some(token) => self.hear_token(bytes, token),
+            None => self.keep(bytes),
+        }
+    }
+
+    /// Bytes up to the end of this token have come. Most tokens say all that matters of them, whatever their bytes are.
+    fn hear_token(&mut self, bytes: &[u8], token: &Token)
+        ensures { self.new ≡ tracks self.old bytes.now (Some token.now) }
+    {
+        match token.told {
+            Told::Done(done) => self.session.hear_done(token.kind, done.status),
+            Told::Other if !is_needed(token.kind) => {}
+            _ => self.hear_kept(bytes, token),
+        }
+        self.partial.clear();
+    }
+
+    /// The session hears this token, of whose bytes these are the last ones. Where they are all, none is copied.
+    fn hear_kept(&mut self, bytes: &[u8], token: &Token)
+        ensures session { self.new.session ≡ (tracks self.old bytes.now (Some token.now)).session }
+        ensures most { self.new.partial.most ≡ self.old.partial.most }
+    {
+        if self.partial.is_empty() {
+            let all = first_of(self.partial.most(), needed(&self.partial, bytes));
+            self.session.hear(token, all);
+        } else {
+            self.keep(bytes);
             self.session.hear(token, self.partial.bytes());
-            self.partial.clear();
         }
     }
 

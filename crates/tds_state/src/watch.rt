@@ -7,22 +7,23 @@ ghost use Rattle.tds_state.specs.Sessions.{session_rests};
 ghost use Rattle.tds_state.specs.Watching.{watch_lost, watch_settled};
 
 use crate::NoMemory;
-use crate::asked::Request;
+use crate::answers::Answers;
 use crate::kept::{behind, first_of};
+use crate::packets::{ANSWER, ATTENTION, WholePacket, prefix_of, request_of, whole_packet};
 use crate::prefix::Prefix;
 use crate::reasons::Reason;
 use crate::session::is_quiet;
 use crate::tracker::Tracker;
 use std::alloc::Global;
 use tds_packet::{Direction, Head, HeaderReader, Passed, Status};
-use tds_wire::{Features, Walker};
+use tds_wire::Features;
 
 /// What drives a tracker by the bytes that go out and come in on a connection, in any cutting. What can't be
 /// read, it is lost by: from then on it reads nothing, and the connection never rests.
 #[derive(Drop)]
 pub struct Watch {
     tracker: Tracker,
-    walker: Walker,
+    answers: Answers,
     /// Where the client's packets are, and the server's, with the status of the newest one.
     out: HeaderReader,
     back: HeaderReader,
@@ -34,41 +35,9 @@ pub struct Watch {
     is_lost: bool,
 }
 
-/// The types of packets (MS-TDS 2.2.3.1.1).
-const BATCH: u8 = 1;
-
-const PROCEDURE: u8 = 3;
-
-const ANSWER: u8 = 4;
-
-const ATTENTION: u8 = 6;
-
-const BULK: u8 = 7;
-
-const TRANSACTION: u8 = 14;
-
-/// What a request of this type is; None where it is none.
-fn request_of(kind: u8) -> Option<Request> {
-    match kind {
-        BATCH => Some(Request::Batch),
-        PROCEDURE => Some(Request::Procedure),
-        BULK | TRANSACTION => Some(Request::Other),
-        _ => None,
-    }
-}
-
-/// Before the first byte of a request of this type: rows of a bulk load have no ALL_HEADERS.
-fn prefix_of(kind: u8) -> Prefix {
-    if kind == BULK {
-        Prefix::Body
-    } else {
-        Prefix::new()
-    }
-}
-
 impl Watch {
     /// A watch over a connection whose login is answered next, by which `features` are acknowledged. It takes
-    /// memory here alone, about 27 KB.
+    /// memory here alone, about 28 KB.
     ///
     /// # Errors
     ///
@@ -79,7 +48,7 @@ impl Watch {
     {
         Ok(Watch {
             tracker: Tracker::new(alloc)?,
-            walker: Walker::new(alloc, 4_096, features)?,
+            answers: Answers::new(alloc, features)?,
             out: HeaderReader::new(),
             back: HeaderReader::new(),
             status: 0,
@@ -120,7 +89,7 @@ impl Watch {
         ensures { result ≡ watch_settled self.now }
     {
         is_quiet(self.tracker.session.flight)
-            && (!self.is_within && (self.back.is_between() && self.walker.is_between()))
+            && (!self.is_within && (self.back.is_between() && self.answers.is_between()))
     }
 
     /// The descriptor of the transaction that is open, or 0.
@@ -177,8 +146,32 @@ impl Watch {
         }
     }
 
-    /// The first ones of these have: how many.
+    /// The first ones of these have: how many. Most packets stand whole.
     fn send_some(&mut self, piece: &[u8]) -> usize
+        ensures within { result ≤ length piece.now }
+        ensures said { HasPast self.old.tracker.session → HasPast self.new.tracker.session }
+    {
+        if self.out.is_between() {
+            if let Some(packet) = whole_packet(piece) {
+                self.send_packet(packet);
+                return usize::from(packet.head.length);
+            }
+        }
+        self.send_part(piece)
+    }
+
+    /// A packet of the client's, whole.
+    fn send_packet(&mut self, packet: WholePacket<'_>)
+        ensures said { HasPast self.old.tracker.session → HasPast self.new.tracker.session }
+    {
+        self.send_head(packet.head);
+        if !self.is_lost {
+            self.send_data(packet.data);
+        }
+    }
+
+    /// The rest of a header or of a packet's data, as far as it has gone out: how many bytes.
+    fn send_part(&mut self, piece: &[u8]) -> usize
         ensures within { result ≤ length piece.now }
         ensures said { HasPast self.old.tracker.session → HasPast self.new.tracker.session }
     {
@@ -278,8 +271,32 @@ impl Watch {
         }
     }
 
-    /// The first ones of these have: how many.
+    /// The first ones of these have: how many. Most packets stand whole.
     fn hear_some(&mut self, piece: &[u8]) -> usize
+        ensures within { result ≤ length piece.now }
+        ensures said { HasPast self.old.tracker.session → HasPast self.new.tracker.session }
+    {
+        if self.back.is_between() {
+            if let Some(packet) = whole_packet(piece) {
+                self.hear_packet(packet);
+                return usize::from(packet.head.length);
+            }
+        }
+        self.hear_part(piece)
+    }
+
+    /// A packet of the server's, whole.
+    fn hear_packet(&mut self, packet: WholePacket<'_>)
+        ensures said { HasPast self.old.tracker.session → HasPast self.new.tracker.session }
+    {
+        self.hear_head(packet.head);
+        if !self.is_lost {
+            self.hear_data(packet.data, true);
+        }
+    }
+
+    /// The rest of a header or of a packet's data, as far as it has come: how many bytes.
+    fn hear_part(&mut self, piece: &[u8]) -> usize
         ensures within { result ≤ length piece.now }
         ensures said { HasPast self.old.tracker.session → HasPast self.new.tracker.session }
     {
@@ -329,15 +346,10 @@ impl Watch {
     fn end(&mut self)
         ensures said { HasPast self.old.tracker.session → HasPast self.new.tracker.session }
     {
-        let is_whole = self.is_between();
+        let is_whole = self.answers.is_between();
         self.lose_if(!is_whole);
-        self.walker.restart();
+        self.answers.restart();
         self.tracker.end();
-    }
-
-    /// Whether a message of the server's may end here.
-    fn is_between(&self) -> bool {
-        self.walker.is_between()
     }
 
     /// Data of a message have come.
@@ -346,16 +358,22 @@ impl Watch {
         ensures said { HasPast self.old.tracker.session → HasPast self.new.tracker.session }
     {
         let mut rest = data;
+        let mut token = None;
         'tokens: for _ in 0..data.len() {
             if rest.is_empty() {
                 return;
             }
-            let Ok(fed) = self.walker.feed(rest) else {
+            let passed = self.answers.pass(rest);
+            if passed > 0 {
+                rest = behind(rest, passed);
+                continue;
+            }
+            let Some(count) = self.answers.next(rest, &mut token) else {
                 self.lose_if(true);
                 return;
             };
-            self.tracker.hear(first_of(fed.count, rest), &fed.token);
-            rest = behind(rest, fed.count);
+            self.tracker.hear(first_of(count, rest), &token);
+            rest = behind(rest, count);
         }
     }
 }
