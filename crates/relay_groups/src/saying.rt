@@ -41,7 +41,7 @@ impl Members {
     }
 
     /// A line about an order to the group of this number, and where who gave it is: the socket of this key.
-    pub(crate) fn say_order(&mut self, group: u64, words: &str, by: usize) {
+    pub fn say_order(&mut self, group: u64, words: &str, by: usize) {
         let Members {
             sockets,
             journal,

@@ -25,6 +25,7 @@ impl Program {
         }
         self.house.members.sockets.touch_all();
         self.house
+            .members
             .say_order(number, "is paused, by POST /pause", by);
         true
     }
@@ -95,6 +96,7 @@ impl Program {
                 self.take_over(settings.asked);
                 self.house.follow_most(rt)?;
                 self.house
+                    .members
                     .note_order("the settings are read again, by POST /reload", key);
                 self.answer_reload(rt, key, "200 OK", "read again\n")
             }
