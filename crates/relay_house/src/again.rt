@@ -13,32 +13,18 @@ impl House {
         if seconds == 0 {
             return Ok(());
         }
-        let mut keys = Vec::new(self.alloc);
-        for (_, entry) in self.groups.iter() {
-            keys.push(entry.key)?;
-        }
+        let keys = self.members.group_keys()?;
+        self.judge_each(rt, &keys, seconds.saturating_mul(1000))
+    }
+
+    fn judge_each<R: Net>(&mut self, rt: &R, keys: &[usize], limit: u64) -> io::Result<()> {
         for key in keys.iter() {
-            if self.is_to_judge(*key, seconds.saturating_mul(1000)) && self.has_connection(rt)? {
+            if self.members.is_to_judge(*key, limit) && self.has_connection(rt)? {
                 self.upstream.begin();
                 let _ = self.reach(rt, Whose::Again(*key), 0)?;
             }
         }
         Ok(())
-    }
-
-    /// Whether others may join a group whose login no server was asked about for so many milliseconds. Then it counts
-    /// as asked now.
-    fn is_to_judge(&mut self, key: usize, limit: u64) -> bool {
-        let now = self.now();
-        let is_joined = self.groups.is_joined(key);
-        let Some(group) = self.groups.get_mut(key) else {
-            return false;
-        };
-        if !is_joined || group.is_judged() || now.saturating_sub(group.judged) <= limit {
-            return false;
-        }
-        group.judged = now;
-        true
     }
 
     /// Bytes came of a server that judges a group's login again.
@@ -49,7 +35,7 @@ impl House {
         group: usize,
         piece: &[u8],
     ) -> io::Result<()> {
-        let (_, dialed) = self.dial(key, piece)?;
+        let (_, dialed) = self.members.dial(key, piece)?;
         match dialed {
             Dialed::More => self.send_or_close(rt, key),
             Dialed::Wrong(why) => self.ended(rt, key, Cause::Wrong(why.words())),
@@ -69,12 +55,12 @@ impl House {
         group: usize,
         cause: Cause,
     ) -> io::Result<()> {
-        self.say_refused(key, cause);
-        self.groups.close(group);
-        if let Some(group) = self.groups.get_mut(group) {
+        self.members.say_refused(key, cause);
+        self.members.groups.close(group);
+        if let Some(group) = self.members.groups.get_mut(group) {
             group.is_over = true;
         }
-        self.sockets.touch_all();
+        self.members.sockets.touch_all();
         self.ended(rt, key, Cause::Own)
     }
 }

@@ -1,15 +1,12 @@
 //! Logins that are to be dialed later: while no server can be reached, and where all groups together have as many
 //! connections as may be. Who waits for one waits until `--wait`.
 
-use crate::group::Group;
-use crate::house::{House, relay_of};
-use crate::upstream::Failure;
-use relay_logins::Groups;
-use relay_sockets::{Cause, Sockets, Whose};
+use crate::house::House;
+use relay_groups::{Failure, relay_of};
+use relay_sockets::{Cause, Whose};
 use std::alloc::{AllocError, Global};
 use std::io;
 use std::net::Net;
-use tds_relay::PlaceOn;
 
 /// The milliseconds from one try to the next, where servers can't be reached: twice as long each time.
 const SHORTEST: u64 = 250;
@@ -99,7 +96,7 @@ impl Holding {
 impl House {
     /// A connection of a group is to be opened: at once, or once there is room for it.
     pub(crate) fn open<R: Net>(&mut self, rt: &R, group: usize, number: u64) -> io::Result<()> {
-        if count_all(&self.groups) > self.asked.total {
+        if self.members.count_all() > self.asked.total {
             let now = self.now();
             return Ok(self.holding.hold(group, number, now)?);
         }
@@ -126,7 +123,7 @@ impl House {
             }
         }
         let why = self.upstream.sentence(self.alloc)?;
-        self.not_opened(group, number, why.as_str())
+        self.members.not_opened(group, number, why.as_str())
     }
 
     /// A server is dialed for the first login of a group.
@@ -146,25 +143,14 @@ impl House {
         if let Some(failure) = failed {
             if is_absence(failure.cause)
                 && self.asked.limits.wait > 0
-                && self.begin_waiting(group)
+                && self.members.begin_waiting(group)
             {
                 let whose = Whose::First(group);
                 return Ok(self.holding.hold_back(whose, failure, now)?);
             }
         }
         let why = self.upstream.sentence(self.alloc)?;
-        self.not_judged(group, why.as_str())
-    }
-
-    /// Who waits for the judgement of a group's first login waits for a server from now on. False where there is no
-    /// such group.
-    fn begin_waiting(&mut self, group: usize) -> bool {
-        match self.groups.get_mut(group) {
-            Some(group) if group.is_judged() => group.is_unreached = true,
-            _ => return false,
-        }
-        self.sockets.touch_all();
-        true
+        self.members.not_judged(group, why.as_str())
     }
 
     /// Dials those whose time has come, as far as there is room.
@@ -182,21 +168,21 @@ impl House {
 
     /// The first login of a group is dialed again, where somebody waits for its judgement still.
     fn dial_held_first<R: Net>(&mut self, rt: &R, group: usize) -> io::Result<()> {
-        if self.has_judged(group) {
+        if self.members.has_judged(group) {
             return self.dial_first(rt, group);
         }
-        self.forget(group);
+        self.members.forget(group);
         Ok(())
     }
 
     fn dial_held_one<R: Net>(&mut self, rt: &R, group: usize, number: u64) -> io::Result<()> {
-        if !is_wanted(&mut self.groups, group, number) {
-            if let Some(relay) = relay_of(&mut self.groups, group) {
+        if !self.members.is_wanted(group, number) {
+            if let Some(relay) = relay_of(&mut self.members.groups, group) {
                 relay.lost(number)?;
             }
             return self.obey(rt, group);
         }
-        if count_all(&self.groups) > self.asked.total && !self.free_one(rt)? {
+        if self.members.count_all() > self.asked.total && !self.free_one(rt)? {
             // Once it is cleaned, the connection of one that rests is free.
             let _ = self.part_any(rt)?;
             let now = self.now();
@@ -211,7 +197,7 @@ impl House {
 
     /// Makes room for one more connection beside those of all groups. False where there is none.
     pub(crate) fn has_connection<R: Net>(&mut self, rt: &R) -> io::Result<bool> {
-        if count_all(&self.groups) < self.asked.total {
+        if self.members.count_all() < self.asked.total {
             return Ok(true);
         }
         self.free_one(rt)
@@ -219,12 +205,7 @@ impl House {
 
     /// Closes the connection that nobody has held for longest. False where there is none.
     fn free_one<R: Net>(&mut self, rt: &R) -> io::Result<bool> {
-        let House {
-            sockets,
-            groups,
-            ..
-        } = self;
-        let Some(key) = longest_free(sockets, groups) else {
+        let Some(key) = self.members.longest_free() else {
             return Ok(false);
         };
         self.ended(rt, key, Cause::Own)?;
@@ -235,52 +216,4 @@ impl House {
 /// Whether a server isn't there, so that it may be later: not where it is, and does what it may not.
 fn is_absence(cause: Cause) -> bool {
     matches!(cause, Cause::Closed | Cause::Failed(_) | Cause::Silent)
-}
-
-/// How many connections all groups have together, those too that are being opened.
-fn count_all(groups: &Groups<Group>) -> usize {
-    let mut count: usize = 0;
-    for (_, entry) in groups.iter() {
-        let group = &entry.value.inner;
-        let more = if group.is_judged() {
-            1
-        } else {
-            group.connections()
-        };
-        count = count.saturating_add(more);
-    }
-    count
-}
-
-/// Whether somebody waits for a connection that isn't open yet.
-fn is_wanted(groups: &mut Groups<Group>, group: usize, number: u64) -> bool {
-    let Some(relay) = relay_of(groups, group) else {
-        return false;
-    };
-    match relay.place_on(number) {
-        Some(PlaceOn::Opening) => relay.holder_tag(number).is_some() || relay.waiting() > 0,
-        _ => false,
-    }
-}
-
-/// The free connection that has been one for longest.
-fn longest_free(sockets: &Sockets, groups: &mut Groups<Group>) -> Option<usize> {
-    let (mut found, mut since) = (None, u64::MAX);
-    for (_, entry) in sockets.iter() {
-        let socket = &entry.value;
-        if let Whose::Connection(group, number) = socket.whose() {
-            if socket.seen.since < since && is_free(groups, group, number) {
-                found = Some(entry.key);
-                since = socket.seen.since;
-            }
-        }
-    }
-    found
-}
-
-fn is_free(groups: &mut Groups<Group>, group: usize, number: u64) -> bool {
-    match relay_of(groups, group) {
-        Some(relay) => relay.place_on(number) == Some(PlaceOn::Free),
-        None => false,
-    }
 }

@@ -1,11 +1,10 @@
 //! All that a relay has: sockets, groups, what it is set to, and what it tells.
 
-use crate::group::Group;
 use crate::holding::Holding;
 use crate::names::Names;
 use crate::naming::Sent;
 use crate::routing::Route;
-use crate::upstream::Upstream;
+use relay_groups::{Members, Upstream};
 use relay_logins::{Gate, Groups};
 use relay_settings::Asked;
 use relay_sockets::{Admission, Role, Sockets};
@@ -25,37 +24,39 @@ const FULL: &str =
 pub struct House {
     pub alloc: Global,
     pub asked: Asked,
-    pub sockets: Sockets,
-    pub groups: Groups<Group>,
+    pub members: Members,
     pub upstream: Upstream,
     pub holding: Holding,
     pub names: Names,
     /// Logins that wait for a name's addresses, and those that go on at the next one where one fails.
     pub(crate) sent: Vec<Sent>,
     pub(crate) routes: Vec<Route>,
-    pub journal: Journal,
 }
 
 impl House {
     /// No application yet.
     pub fn new<R: Net>(rt: &R, alloc: Global, asked: Asked) -> io::Result<House> {
+        let members = Members {
+            alloc,
+            sockets: Sockets::new(rt, alloc, asked.is_judged, asked.keeping)?,
+            groups: Groups::new(alloc),
+            journal: Journal::new(alloc, asked.is_logged, asked.is_json),
+        };
         Ok(House {
             alloc,
             asked,
-            sockets: Sockets::new(rt, alloc, asked.is_judged, asked.keeping)?,
-            groups: Groups::new(alloc),
+            members,
             upstream: Upstream::new(),
             holding: Holding::new(alloc),
             names: Names::new(alloc),
             sent: Vec::new(alloc),
             routes: Vec::new(alloc),
-            journal: Journal::new(alloc, asked.is_logged, asked.is_json),
         })
     }
 
     /// The millisecond of this round.
     pub fn now(&self) -> u64 {
-        self.journal.moment.millis
+        self.members.now()
     }
 
     /// Whether it does nothing by time but what sockets are looked at for: no connection is dialed later, and no name
@@ -67,39 +68,34 @@ impl House {
     /// These settings are the ones from now on.
     pub fn set(&mut self, asked: Asked) {
         self.asked = asked;
-        self.sockets.is_judged = asked.is_judged;
-        self.sockets.keeping = asked.keeping;
-        self.journal.is_logged = asked.is_logged;
-        self.journal.lines.is_json = asked.is_json;
-        self.sockets.touch_all();
+        self.members.sockets.is_judged = asked.is_judged;
+        self.members.sockets.keeping = asked.keeping;
+        self.members.journal.is_logged = asked.is_logged;
+        self.members.journal.lines.is_json = asked.is_json;
+        self.members.sockets.touch_all();
     }
 
     /// An application has come, from there.
     pub fn admit(&mut self, stream: Link, from: Option<SocketAddr>) -> io::Result<()> {
-        let admission = self.sockets.admission();
-        if admission != Admission::Welcome && self.sockets.is_newly_full() {
-            self.journal.note(FULL);
+        let admission = self.members.sockets.admission();
+        if admission != Admission::Welcome && self.members.sockets.is_newly_full() {
+            self.members.journal.note(FULL);
         }
         if admission == Admission::Closed {
-            raise(&mut self.journal.counts.refused);
+            raise(&mut self.members.journal.counts.refused);
             return Ok(());
         }
         let is_proxy = self.asked.proxies.has(from);
         let gate = Role::Gate(Gate::new(self.alloc, is_proxy));
         let (out, now) = (Vec::new(self.alloc), self.now());
-        let Some(key) = self.sockets.take_in(stream, gate, out, now)? else {
+        let Some(key) = self.members.sockets.take_in(stream, gate, out, now)? else {
             return Ok(());
         };
-        if let Some(socket) = self.sockets.get_mut(key) {
+        if let Some(socket) = self.members.sockets.get_mut(key) {
             socket.peer = from;
             socket.is_over = admission == Admission::Told;
         }
-        self.say("socket", key, "has come");
+        self.members.say("socket", key, "has come");
         Ok(())
     }
-}
-
-/// The relay of a group, once there is one.
-pub fn relay_of(groups: &mut Groups<Group>, group: usize) -> Option<&mut tds_relay::Relay> {
-    groups.get_mut(group)?.relay()
 }

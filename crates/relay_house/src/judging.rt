@@ -1,12 +1,11 @@
 //! The first login of a group: all who wait for the server's judgement of it are let in, or told why they aren't.
 
-use crate::group::Stage;
 use crate::house::House;
 use relay_logins::{Dialed, put_saved};
 use relay_sockets::{Cause, Role, Whose};
 use relay_status::raise;
+use std::io;
 use std::net::Net;
-use std::{io, mem};
 use tds_packet::PacketSize;
 
 impl House {
@@ -18,15 +17,15 @@ impl House {
         group: usize,
         piece: &[u8],
     ) -> io::Result<()> {
-        if self.question_of(group).is_some() {
+        if self.members.question_of(group).is_some() {
             return self.hear_of_questions(rt, key, group, piece);
         }
-        let (rest, dialed) = self.dial(key, piece)?;
+        let (rest, dialed) = self.members.dial(key, piece)?;
         match dialed {
             Dialed::More => self.send_or_close(rt, key),
             Dialed::Wrong(why) => self.ended(rt, key, Cause::Wrong(why.words())),
             Dialed::Routed(target) => self.follow(rt, key, Whose::First(group), &target),
-            Dialed::Leg(answer) => match self.pair_of(group) {
+            Dialed::Leg(answer) => match self.members.pair_of(group) {
                 Some(pair) => self.ask_leg(rt, pair.application, group, &answer),
                 None => self.refused(rt, key, group, &answer, 0),
             },
@@ -44,11 +43,11 @@ impl House {
         answer: &[u8],
         error: i32,
     ) -> io::Result<()> {
-        self.say_refused(key, Cause::Refused(error));
-        let _ = self.take_out(key)?;
-        self.unpair(group);
+        self.members.say_refused(key, Cause::Refused(error));
+        let _ = self.members.take_out(key)?;
+        self.members.unpair(group);
         self.judged(rt, group, answer, error)?;
-        let _ = self.groups.try_remove(group).is_some();
+        let _ = self.members.groups.try_remove(group).is_some();
         Ok(())
     }
 
@@ -62,11 +61,14 @@ impl House {
         answer: Vec<u8>,
         rest: &[u8],
     ) -> io::Result<()> {
-        let waiting = self.judged_by(group);
-        let Some(number) = self.begin_relay(key, group, size, answer)? else {
-            let _ = self.take_out(key)?;
-            return self.not_judged(group, "The relay has no room for one more connection.");
+        let (waiting, most) = (self.members.judged_by(group), self.asked.most);
+        let Some(number) = self.members.begin_relay(key, group, size, answer, most)? else {
+            let _ = self.members.take_out(key)?;
+            return self
+                .members
+                .not_judged(group, "The relay has no room for one more connection.");
         };
+        self.is_in(key, group, Role::Connection(group, number));
         self.join_all(rt, &waiting, group)?;
         self.begin_sharing(rt, key, group, number, rest)
     }
@@ -74,7 +76,7 @@ impl House {
     /// All who still wait for a group's judgement join it.
     fn join_all<R: Net>(&mut self, rt: &R, waiting: &[usize], group: usize) -> io::Result<()> {
         for application in waiting.iter() {
-            if self.is_judged(*application, group) {
+            if self.members.is_judged(*application, group) {
                 self.join(rt, *application, group)?;
             }
         }
@@ -91,93 +93,13 @@ impl House {
         number: u64,
         rest: &[u8],
     ) -> io::Result<()> {
-        let is_alone = !self.groups.is_joined(group);
-        if is_alone {
-            self.groups.forget_login(group);
-        }
-        let mut is_left = false;
-        if let Some(group) = self.groups.get_mut(group) {
-            is_left = group.applications() == 0;
-            if is_alone {
-                group.forget_answer();
-            }
-        }
-        if is_alone && is_left {
-            self.unpair(group);
-            let _ = self.take_out(key)?;
-            self.forget(group);
+        if self.members.end_judging(group) {
+            self.members.unpair(group);
+            let _ = self.members.take_out(key)?;
+            self.members.forget(group);
             return Ok(());
         }
         self.heard_behind(rt, key, group, number, rest)
-    }
-
-    /// A group gets its relay, with this connection, whose number is answered.
-    fn begin_relay(
-        &mut self,
-        key: usize,
-        group: usize,
-        size: PacketSize,
-        answer: Vec<u8>,
-    ) -> io::Result<Option<u64>> {
-        let alloc = self.alloc;
-        self.watch_in(key, group, &answer)?;
-        let Some(judged) = self.groups.get_mut(group) else {
-            return Ok(None);
-        };
-        let most = if judged.pair.is_some() {
-            1
-        } else {
-            self.asked.most
-        };
-        judged.open(alloc, most, size, answer)?;
-        let brought = match judged.relay() {
-            Some(relay) => relay.bring(key)?,
-            None => None,
-        };
-        let Some(number) = brought else {
-            return Ok(None);
-        };
-        judged.first = brought;
-        self.is_in(key, group, Role::Connection(group, number));
-        Ok(Some(number))
-    }
-
-    /// Who waits for the judgement of a group's first login. None does then.
-    fn judged_by(&mut self, group: usize) -> Vec<usize> {
-        let alloc = self.alloc;
-        match self.groups.get_mut(group) {
-            Some(group) => match &mut group.stage {
-                Stage::Judged(those) => mem::replace(those, Vec::new(alloc)),
-                Stage::Open(..) => Vec::new(alloc),
-            },
-            None => Vec::new(alloc),
-        }
-    }
-
-    /// Whether an application still waits for the judgement of a group's first login.
-    pub(crate) fn has_judged(&self, group: usize) -> bool {
-        let Some(judged) = self.groups.get(group) else {
-            return false;
-        };
-        if let Stage::Judged(waiting) = &judged.stage {
-            for key in waiting.iter() {
-                if self.is_judged(*key, group) {
-                    return true;
-                }
-            }
-        }
-        false
-    }
-
-    /// Whether a socket is still an application that waits for this judgement.
-    pub(crate) fn is_judged(&self, key: usize, group: usize) -> bool {
-        match self.sockets.get(key) {
-            Some(socket) => match socket.whose() {
-                Whose::Judged(of) | Whose::Leg(of) => of == group,
-                _ => false,
-            },
-            None => false,
-        }
     }
 
     /// The first login of a group isn't let in: all who wait for that get this answer.
@@ -188,11 +110,11 @@ impl House {
         answer: &[u8],
         error: i32,
     ) -> io::Result<()> {
-        let waiting = self.judged_by(group);
+        let waiting = self.members.judged_by(group);
         for key in waiting.iter() {
-            if self.is_judged(*key, group) {
-                raise(&mut self.journal.counts.refused);
-                self.say_not_let_in(*key, Cause::Refused(error));
+            if self.members.is_judged(*key, group) {
+                raise(&mut self.members.journal.counts.refused);
+                self.members.say_not_let_in(*key, Cause::Refused(error));
                 self.dismiss_with(rt, *key, answer)?;
             }
         }
@@ -200,21 +122,9 @@ impl House {
     }
 
     fn dismiss_with<R: Net>(&mut self, rt: &R, key: usize, answer: &[u8]) -> io::Result<()> {
-        if let Some(socket) = self.sockets.get_mut(key) {
+        if let Some(socket) = self.members.sockets.get_mut(key) {
             put_saved(&mut socket.out, answer)?;
         }
         self.dismiss(rt, key)
-    }
-
-    /// The server didn't judge the first login of a group: those who wait for that are told why.
-    pub(crate) fn not_judged(&mut self, group: usize, why: &str) -> io::Result<()> {
-        let waiting = self.judged_by(group);
-        let _ = self.groups.try_remove(group).is_some();
-        for key in waiting.iter() {
-            if self.is_judged(*key, group) {
-                self.put_refusal(*key, why)?;
-            }
-        }
-        Ok(())
     }
 }

@@ -7,10 +7,11 @@ use std::net::Net;
 impl House {
     /// Each group that is shared may have as many connections as is asked for now: who waits is lent one of them.
     pub fn follow_most<R: Net>(&mut self, rt: &R) -> io::Result<()> {
-        let mut keys = Vec::new(self.alloc);
-        for (_, entry) in self.groups.iter() {
-            keys.push(entry.key)?;
-        }
+        let keys = self.members.group_keys()?;
+        self.follow_most_of(rt, &keys)
+    }
+
+    fn follow_most_of<R: Net>(&mut self, rt: &R, keys: &[usize]) -> io::Result<()> {
         for key in keys.iter() {
             self.follow_most_in(rt, *key)?;
         }
@@ -19,7 +20,7 @@ impl House {
 
     fn follow_most_in<R: Net>(&mut self, rt: &R, key: usize) -> io::Result<()> {
         let most = self.asked.most;
-        match self.groups.get_mut(key) {
+        match self.members.groups.get_mut(key) {
             Some(group) if group.pair.is_none() => group.set_most(most)?,
             _ => return Ok(()),
         }

@@ -113,6 +113,13 @@ impl Names {
     }
 }
 
+impl House {
+    /// Whether somebody may be let in: the names of servers are known, as far as they are.
+    pub fn is_ready(&self) -> bool {
+        self.names.are_known()
+    }
+}
+
 /// What a line answers, and of which name. None where it is no answer.
 pub(crate) fn answer_in(line: &str) -> Option<(&str, Answer)> {
     let (host, rest) = line.split_once(' ')?;
@@ -150,11 +157,4 @@ pub(crate) fn others_in(
         }
     }
     Ok((others, has_own))
-}
-
-impl House {
-    /// Whether somebody may be let in: the names of servers are known, as far as they are.
-    pub fn is_ready(&self) -> bool {
-        self.names.are_known()
-    }
 }

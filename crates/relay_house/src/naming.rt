@@ -3,8 +3,8 @@
 use crate::house::House;
 use crate::names::{AGAIN, Answer, PATIENCE, answer_in, others_in};
 use crate::routing::goals_at;
-use crate::saying::put_name;
 use mio::net::UnixStream;
+use relay_groups::put_name;
 use relay_logins::{Target, Way};
 use relay_sockets::{News, Role, Whose};
 use socket_places::Link;
@@ -13,15 +13,6 @@ use std::{io, mem, str};
 
 /// The milliseconds after which the helper's socket is dialed again.
 const PAUSE: u64 = 250;
-
-/// Why a name has no address that may be dialed.
-fn words_of(has_own: bool) -> &'static str {
-    if has_own {
-        "has no address but this relay's own"
-    } else {
-        "has no address"
-    }
-}
 
 /// A login that is sent on to a server by its name.
 #[derive(Drop)]
@@ -57,6 +48,7 @@ impl House {
         };
         let out = Vec::new(self.alloc);
         self.names.link = self
+            .members
             .sockets
             .take_in(Link::Unix(stream), Role::Names, out, now)?;
         Ok(())
@@ -77,14 +69,17 @@ impl House {
             }
             (None, Some(key)) if name.due <= now => {
                 name.asked = Some(now);
-                let House { sockets, names, .. } = self;
-                if let (Some(socket), Some(name)) = (sockets.get_mut(key), names.list.get(place)) {
+                let House { members, names, .. } = self;
+                if let (Some(socket), Some(name)) = (
+                    members.sockets.get_mut(key),
+                    names.list.get(place),
+                ) {
                     socket
                         .out
                         .extend_from_slice(name.named.host.as_str().as_bytes())?;
                     socket.out.push(b'\n')?;
                 }
-                Ok(self.sockets.report(key, News::Turn)?)
+                Ok(self.members.sockets.report(key, News::Turn)?)
             }
             (None, None) if now > PATIENCE => {
                 name.is_known = true;
@@ -146,7 +141,7 @@ impl House {
             names,
             asked,
             upstream,
-            journal,
+            members,
             ..
         } = self;
         let Some(name) = names.list.get_mut(place) else {
@@ -164,13 +159,17 @@ impl House {
         if name.has_failed {
             name.due = now.saturating_add(AGAIN);
             if !was_failing {
-                put_name(journal, host, words_of(has_own));
+                put_name(&mut members.journal, host, words_of(has_own));
             }
         } else {
             name.due = now.saturating_add(answer.life);
             if asked.servers.set(server, &others, port) {
                 upstream.forget_away();
-                put_name(journal, host, "has other addresses than before");
+                put_name(
+                    &mut members.journal,
+                    host,
+                    "has other addresses than before",
+                );
             }
         }
         Ok(())
@@ -192,7 +191,7 @@ impl House {
             host: target.host.clone()?,
             port: target.port,
         };
-        if let Some(socket) = self.sockets.get_mut(key) {
+        if let Some(socket) = self.members.sockets.get_mut(key) {
             socket
                 .out
                 .extend_from_slice(target.host.as_str().as_bytes())?;
@@ -204,7 +203,7 @@ impl House {
             target,
             since,
         })?;
-        self.sockets.report(key, News::Turn)?;
+        self.members.sockets.report(key, News::Turn)?;
         Ok(true)
     }
 
@@ -259,5 +258,14 @@ impl House {
             "The login is sent on to {host}:{port}: no address of that name is known."
         )?;
         self.not_reached(rt, sent.whose, why.as_str())
+    }
+}
+
+/// Why a name has no address that may be dialed.
+fn words_of(has_own: bool) -> &'static str {
+    if has_own {
+        "has no address but this relay's own"
+    } else {
+        "has no address"
     }
 }

@@ -1,20 +1,15 @@
 //! Which server is dialed for a login.
 
-use crate::group::Group;
-use crate::house::{House, relay_of};
-use crate::saying::put_away;
+use crate::house::House;
 use mio::net::TcpStream;
-use relay_logins::{Groups, NOT_OPENED, Target, Way, put_error};
+use relay_groups::put_away;
+use relay_logins::{Target, Way};
 use relay_settings::{MOST_SERVERS, SystemError, bit};
-use relay_sockets::{Cause, Role, Sockets, Whose};
+use relay_sockets::{Cause, Whose};
 use relay_status::raise;
 use socket_places::Link;
-use std::alloc::Global;
 use std::io;
 use std::net::{Net, SocketAddr};
-
-/// How often a login goes to the server that another one has named.
-const MOST_HOPS: u8 = 4;
 
 /// Why a login isn't sent on.
 const TOO_OFTEN: &str = "a login is sent on four times at most, and not behind a leg of it";
@@ -65,43 +60,14 @@ impl House {
                 return Ok(None);
             }
         };
-        let (alloc, now) = (self.alloc, self.now());
-        let House {
-            sockets,
-            groups,
-            ..
-        } = self;
-        let begun = begin_login(alloc, sockets, groups, whose, way, Link::Tcp(stream), now)?;
-        let Some(key) = begun else {
+        let link = Link::Tcp(stream);
+        let Some(key) = self.members.begin_login(whose, way, link)? else {
             return Ok(None);
         };
-        self.is_dialed(whose, key, address);
-        raise(&mut self.journal.counts.dialed);
-        self.say_dialed(key, address);
+        self.members.is_dialed(whose, key, address);
+        raise(&mut self.members.journal.counts.dialed);
+        self.members.say_dialed(key, address);
         Ok(Some(key))
-    }
-
-    /// This socket is a login's connection from now on, at this address.
-    fn is_dialed(&mut self, whose: Whose, key: usize, address: SocketAddr) {
-        if let Some(socket) = self.sockets.get_mut(key) {
-            socket.dialed = Some(address);
-        }
-        match whose {
-            Whose::Opening(group, number) => {
-                if let Some(relay) = relay_of(&mut self.groups, group) {
-                    relay.opening(number, key);
-                }
-            }
-            Whose::First(group) => {
-                if let Some(group) = self.groups.get_mut(group) {
-                    group.asked = None;
-                    if let Some(pair) = &mut group.pair {
-                        pair.connection = key;
-                    }
-                }
-            }
-            _ => {}
-        }
     }
 
     /// A server has failed: for some seconds others are preferred.
@@ -109,12 +75,12 @@ impl House {
         if way.hops > 0 {
             return;
         }
-        raise(&mut self.journal.counts.away);
+        raise(&mut self.members.journal.counts.away);
         let seconds = self.asked.limits.away;
         let until = self.now().saturating_add(seconds.saturating_mul(1000));
         self.upstream.is_away(way.server, until);
         if let Some(address) = self.asked.servers.at(way.server) {
-            put_away(&mut self.journal, address, cause);
+            put_away(&mut self.members.journal, address, cause);
         }
     }
 
@@ -128,9 +94,9 @@ impl House {
     ) -> io::Result<()> {
         let (host, port) = (target.host.as_str(), target.port);
         let named = format!(in self.alloc; "{host}:{port}")?;
-        self.say_of("connection", key, "is told another server,", named.as_str());
-        let way = self.way_on(key);
-        let _ = self.take_out(key)?;
+        self.members.say_of("connection", key, "is told another server,", named.as_str());
+        let way = self.members.way_on(key);
+        let _ = self.members.take_out(key)?;
         if let Some(way) = way {
             if self.ask_name(whose, way, target)? {
                 return Ok(());
@@ -157,19 +123,6 @@ impl House {
         self.not_reached(rt, whose, why.as_str())
     }
 
-    /// How the login of this connection goes on at another server, if it may.
-    fn way_on(&self, key: usize) -> Option<Way> {
-        let dial = self.sockets.get(key)?.dial()?;
-        let way = dial.way;
-        if dial.has_legs || way.hops >= MOST_HOPS {
-            return None;
-        }
-        Some(Way {
-            hops: way.hops.saturating_add(1),
-            ..way
-        })
-    }
-
     /// No server was reached for this login: why is what became of the last one.
     pub(crate) fn missed<R: Net>(&mut self, rt: &R, whose: Whose) -> io::Result<()> {
         match whose {
@@ -190,84 +143,13 @@ impl House {
         why: &str,
     ) -> io::Result<()> {
         match whose {
-            Whose::First(group) => self.not_judged(group, why),
+            Whose::First(group) => self.members.not_judged(group, why),
             Whose::Opening(group, number) => {
-                self.not_opened(group, number, why)?;
+                self.members.not_opened(group, number, why)?;
                 self.obey(rt, group)
             }
             _ => Ok(()),
         }
-    }
-
-    /// The connection of this number can't be opened: who waits for it is told so, and is to be closed.
-    pub(crate) fn not_opened(&mut self, group: usize, number: u64, why: &str) -> io::Result<()> {
-        let Some(relay) = relay_of(&mut self.groups, group) else {
-            return Ok(());
-        };
-        if let Some(key) = relay.holder_tag(number) {
-            self.tell_not_opened(key, why)?;
-        }
-        match relay_of(&mut self.groups, group) {
-            Some(relay) => Ok(relay.lost(number)?),
-            None => Ok(()),
-        }
-    }
-
-    /// An application is told that no connection can be opened, where nothing else waits for it.
-    pub fn tell_not_opened(&mut self, key: usize, why: &str) -> io::Result<()> {
-        raise(&mut self.journal.counts.not_served);
-        let what = "waits for a connection that can't be opened:";
-        self.say_of("socket", key, what, why);
-        let alloc = self.alloc;
-        let House {
-            sockets,
-            groups,
-            ..
-        } = self;
-        let Some(socket) = sockets.get_mut(key) else {
-            return Ok(());
-        };
-        if let Whose::Application(group, application) = socket.whose() {
-            if is_all_sent(groups, group, application) {
-                let told = format!(in alloc; "The relay could not open a connection. {why}")?;
-                put_error(alloc, &mut socket.out, NOT_OPENED, told.as_str())?;
-            }
-        }
-        Ok(())
-    }
-}
-
-/// Begins the login of a connection on this link. None where it has no group, or no room.
-fn begin_login(
-    alloc: Global,
-    sockets: &mut Sockets,
-    groups: &Groups<Group>,
-    whose: Whose,
-    way: Way,
-    link: Link,
-    now: u64,
-) -> io::Result<Option<usize>> {
-    let group = match whose {
-        Whose::First(group) | Whose::Opening(group, _) | Whose::Again(group) => group,
-        _ => return Ok(None),
-    };
-    let mut out = Vec::new(alloc);
-    let Some(dial) = groups.dial(alloc, group, way, &mut out)? else {
-        return Ok(None);
-    };
-    let role = match whose {
-        Whose::Opening(group, number) => Role::Opening(group, number, dial),
-        Whose::Again(group) => Role::Again(group, dial),
-        _ => Role::First(group, dial),
-    };
-    sockets.take_in(link, role, out, now)
-}
-
-/// Whether nothing waits for an application of a group.
-fn is_all_sent(groups: &mut Groups<Group>, group: usize, application: usize) -> bool {
-    match relay_of(groups, group) {
-        Some(relay) => relay.unsent(application).is_empty(),
-        None => true,
     }
 }
 

@@ -19,19 +19,6 @@ pub struct Route {
     goals: Vec<SocketAddr>,
 }
 
-/// These addresses at this port.
-pub(crate) fn goals_at(
-    alloc: Global,
-    addresses: &[IpAddr],
-    port: u16,
-) -> Result<Vec<SocketAddr>, AllocError> {
-    let mut goals = Vec::new(alloc);
-    for address in addresses {
-        goals.push(SocketAddr::new(*address, port))?;
-    }
-    Ok(goals)
-}
-
 impl House {
     /// A login goes on at the first one of these addresses; where that fails, at the next one.
     pub(crate) fn follow_to<R: Net>(
@@ -41,7 +28,7 @@ impl House {
         way: Way,
         goals: Vec<SocketAddr>,
     ) -> io::Result<()> {
-        raise(&mut self.journal.counts.routed);
+        raise(&mut self.members.journal.counts.routed);
         self.upstream.begin();
         if self.follow_next(rt, whose, way, goals)? {
             return Ok(());
@@ -88,7 +75,7 @@ impl House {
     fn take_gone(&mut self) -> Option<Route> {
         for place in 0..self.routes.len() {
             let key = self.routes.get(place)?.key;
-            if self.sockets.get(key).is_none() {
+            if self.members.sockets.get(key).is_none() {
                 return Some(self.routes.remove(place));
             }
         }
@@ -146,4 +133,17 @@ impl House {
         }
         Ok((goals, has_own))
     }
+}
+
+/// These addresses at this port.
+pub(crate) fn goals_at(
+    alloc: Global,
+    addresses: &[IpAddr],
+    port: u16,
+) -> Result<Vec<SocketAddr>, AllocError> {
+    let mut goals = Vec::new(alloc);
+    for address in addresses {
+        goals.push(SocketAddr::new(*address, port))?;
+    }
+    Ok(goals)
 }

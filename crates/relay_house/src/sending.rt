@@ -1,144 +1,16 @@
 //! What waits for a socket is sent.
 
-use crate::group::Group;
-use crate::house::{House, relay_of};
-use relay_logins::Groups;
-use relay_sockets::{Cause, Failed, Socket, Whose};
-use std::alloc::AllocError;
+use crate::house::House;
 use std::io;
 use std::net::Net;
-use tds_judge::Finding;
-use tds_relay::Relay;
-
-/// What came of sending.
-#[derive(Clone, Copy)]
-enum Sent {
-    /// Nothing else is to be done.
-    Done,
-    /// This socket may be read again.
-    Room(usize),
-    /// All is sent, and it is to be closed.
-    All,
-}
 
 impl House {
-    /// Sends what the system takes of what waits for a socket. False where it failed, or is to be closed
-    /// and has nothing to be sent any more: then it says why it ends.
-    pub fn send(&mut self, key: usize) -> Result<bool, AllocError> {
-        let House {
-            sockets,
-            groups,
-            journal,
-            ..
-        } = self;
-        let Some((socket, findings)) = sockets.get_judged(key) else {
-            return Ok(true);
-        };
-        let sent = send_to(socket, groups, journal.moment.micros, findings);
-        let goes_on = match sent {
-            Ok(Sent::All) => {
-                socket.cause = Some(Cause::Own);
-                false
-            }
-            Err(Failed) => false,
-            Ok(_) => true,
-        };
-        sockets.tell_findings(key, journal);
-        sockets.touch(key);
-        if let Ok(Sent::Room(partner)) = sent {
-            sockets.touch(partner);
-            sockets.read_on(partner)?;
-        }
-        Ok(goes_on)
-    }
-
     /// Sends it, and what fails ends.
     pub(crate) fn send_or_close<R: Net>(&mut self, rt: &R, key: usize) -> io::Result<()> {
-        if self.send(key)? {
+        if self.members.send(key)? {
             Ok(())
         } else {
             self.closed(rt, key)
         }
-    }
-}
-
-/// Sends it.
-fn send_to(
-    socket: &mut Socket,
-    groups: &mut Groups<Group>,
-    time: u64,
-    findings: &mut Vec<Finding>,
-) -> Result<Sent, Failed> {
-    if !socket.send_out(time, findings)? {
-        return Ok(Sent::Done);
-    }
-    match socket.whose() {
-        Whose::Application(group, key) => match relay_of(groups, group) {
-            Some(relay) => send_application(socket, relay, key, time, findings),
-            None => Ok(Sent::Done),
-        },
-        Whose::Connection(group, number) => match relay_of(groups, group) {
-            Some(relay) => send_on(socket, relay, number, time, findings),
-            None => Ok(Sent::Done),
-        },
-        Whose::Closing => Ok(Sent::All),
-        Whose::Gate | Whose::Judged(_) | Whose::Leg(_) => Ok(Sent::Done),
-        Whose::First(_) | Whose::Opening(..) | Whose::Asker => Ok(Sent::Done),
-        Whose::Again(_) | Whose::Owed | Whose::Names => Ok(Sent::Done),
-    }
-}
-
-/// Sends what waits for an application.
-fn send_application(
-    socket: &mut Socket,
-    relay: &mut Relay,
-    key: usize,
-    time: u64,
-    findings: &mut Vec<Finding>,
-) -> Result<Sent, Failed> {
-    let bytes = relay.unsent(key);
-    let most = bytes.len();
-    if most == 0 {
-        socket.is_behind = false;
-        return Ok(Sent::Done);
-    }
-    let count = socket.send(bytes, time, findings)?;
-    // The system reports it once it has room for more.
-    socket.is_behind = count < most;
-    if count == 0 {
-        return Ok(Sent::Done);
-    }
-    socket.is_answered = true;
-    Ok(room_of(relay.sent(key, count)))
-}
-
-/// Sends what waits on a connection.
-fn send_on(
-    socket: &mut Socket,
-    relay: &mut Relay,
-    number: u64,
-    time: u64,
-    findings: &mut Vec<Finding>,
-) -> Result<Sent, Failed> {
-    let bytes = relay.unsent_on(number);
-    let most = bytes.len();
-    if most == 0 {
-        socket.is_behind = false;
-        return Ok(Sent::Done);
-    }
-    let count = socket.send(bytes, time, findings)?;
-    // The system reports it once it has room for more.
-    socket.is_behind = count < most;
-    if count == 0 {
-        return Ok(Sent::Done);
-    }
-    Ok(room_of(relay.sent_on(number, count)))
-}
-
-/// The socket at the other end has room again, where there is one.
-fn room_of(partner: Option<usize>) -> Sent {
-    match partner {
-        Some(key) => Sent::Room(key),
-        None => Sent::Done,
     }
 }

@@ -44,7 +44,7 @@ impl Program {
                 return Ok(());
             };
             let role = Role::Asker(Asker::new(alloc, door_of(&stream, from)));
-            let sockets = &mut self.house.sockets;
+            let sockets = &mut self.house.members.sockets;
             if let Some(key) = sockets.take_in(stream, role, Vec::new(alloc), now)? {
                 if let Some(socket) = sockets.get_mut(key) {
                     socket.peer = from;

@@ -1,7 +1,7 @@
 //! What an operator changes while the relay runs: groups are paused and go on, settings are read again.
 
 use crate::program::Program;
-use relay_house::Group;
+use relay_groups::Group;
 use relay_settings::{Asked, read_words};
 use relay_sockets::Role;
 use relay_status::put_answer;
@@ -23,8 +23,9 @@ impl Program {
             }
             None => return false,
         }
-        self.house.sockets.touch_all();
+        self.house.members.sockets.touch_all();
         self.house
+            .members
             .say_order(number, "is paused, by POST /pause", by);
         true
     }
@@ -36,13 +37,15 @@ impl Program {
         };
         group.goes_on = true;
         self.resumed.push(key)?;
-        self.house.say_order(number, "goes on, by POST /resume", by);
+        self.house
+            .members
+            .say_order(number, "goes on, by POST /resume", by);
         Ok(true)
     }
 
     fn group_of_number(&mut self, number: u64) -> Option<(usize, &mut Group)> {
-        let key = self.house.groups.key_of(number)?;
-        let group = self.house.groups.get_mut(key)?;
+        let key = self.house.members.groups.key_of(number)?;
+        let group = self.house.members.groups.get_mut(key)?;
         Some((key, group))
     }
 
@@ -55,8 +58,8 @@ impl Program {
         let resumed = mem::replace(&mut self.resumed, Vec::new(self.house.alloc));
         for key in resumed.iter() {
             if self.ends_pause(*key) {
-                self.house.read_all_of(*key)?;
-                self.house.forget_deserted(*key);
+                self.house.members.read_all_of(*key)?;
+                self.house.members.forget_deserted(*key);
             }
         }
         Ok(())
@@ -64,7 +67,7 @@ impl Program {
 
     /// Ends a group's pause, where it is to go on still.
     fn ends_pause(&mut self, key: usize) -> bool {
-        match self.house.groups.get_mut(key) {
+        match self.house.members.groups.get_mut(key) {
             Some(group) if group.goes_on => {
                 group.goes_on = false;
                 group.paused = None;
@@ -93,12 +96,13 @@ impl Program {
                 self.take_over(settings.asked);
                 self.house.follow_most(rt)?;
                 self.house
+                    .members
                     .note_order("the settings are read again, by POST /reload", key);
                 self.answer_reload(rt, key, "200 OK", "read again\n")
             }
             Err(fault) => {
                 let told = format!(in self.house.alloc; "{fault}\n")?;
-                self.house.note_order(
+                self.house.members.note_order(
                     "the settings stay, since POST /reload finds them wrong",
                     key,
                 );
@@ -114,7 +118,7 @@ impl Program {
         status: &str,
         told: &str,
     ) -> io::Result<()> {
-        let Some(socket) = self.house.sockets.get_mut(key) else {
+        let Some(socket) = self.house.members.sockets.get_mut(key) else {
             return Ok(());
         };
         if !matches!(socket.role, Role::Asker(_)) {

@@ -89,9 +89,17 @@ impl Program {
         self.see_all()?;
         put_json_figures(&mut telling.body, &self.figures())?;
         write!(telling.body, ",\"request_seconds\":")?;
-        self.house.journal.requests.put_json(&mut telling.body)?;
+        self.house
+            .members
+            .journal
+            .requests
+            .put_json(&mut telling.body)?;
         write!(telling.body, ",\"login_seconds\":")?;
-        self.house.journal.logins.put_json(&mut telling.body)?;
+        self.house
+            .members
+            .journal
+            .logins
+            .put_json(&mut telling.body)?;
         write!(telling.body, ",\"sockets\":[")?;
         self.note_all(&mut telling)?;
         Ok(Some(telling))
@@ -99,9 +107,9 @@ impl Program {
 
     /// Notes the sockets and the groups that are there.
     fn note_all(&self, telling: &mut Telling) -> io::Result<()> {
-        telling.sockets = self.house.sockets.keys()?;
+        telling.sockets = self.house.members.sockets.keys()?;
         telling.sockets.reverse();
-        for (_, entry) in self.house.groups.iter() {
+        for (_, entry) in self.house.members.groups.iter() {
             telling.groups.push(entry.key)?;
         }
         telling.groups.reverse();
@@ -118,7 +126,7 @@ impl Program {
             writeln!(telling.body, "]}}")?;
             return Ok(true);
         };
-        if let Some(group) = self.house.groups.get(key) {
+        if let Some(group) = self.house.members.groups.get(key) {
             telling.begin_one()?;
             self.put_json_group(&mut telling.body, key, group)?;
         }
@@ -133,7 +141,7 @@ impl Program {
                 write!(telling.body, "],\"groups\":[")?;
                 return Ok(());
             };
-            if let Some(socket) = self.house.sockets.get(key) {
+            if let Some(socket) = self.house.members.sockets.get(key) {
                 telling.begin_one()?;
                 put_json_socket(&mut telling.body, &self.line_of(socket))?;
             }
@@ -143,7 +151,7 @@ impl Program {
 
     fn answer_json<R: Net>(&mut self, rt: &R, telling: Telling) -> io::Result<()> {
         let by = telling.by;
-        if let Some(socket) = self.house.sockets.get_mut(by) {
+        if let Some(socket) = self.house.members.sockets.get_mut(by) {
             put_answer(&mut socket.out, "200 OK", "application/json", &telling.body)?;
         }
         self.house.dismiss(rt, by)

@@ -1,7 +1,7 @@
 //! What is told of each group and each socket.
 
 use crate::program::Program;
-use relay_house::Group;
+use relay_groups::Group;
 use relay_logins::number_of;
 use relay_settings::{Limits, lesser, server_of};
 use relay_sockets::{Socket, Whose, names_of};
@@ -15,14 +15,14 @@ const MOST_TOLD: usize = 100;
 impl Program {
     /// A group: its figures, a line for each socket of it, and the applications that wait, the first one first.
     pub fn put_group(&self, body: &mut Vec<u8>, key: usize) -> io::Result<()> {
-        let Some(group) = self.house.groups.get(key) else {
+        let Some(group) = self.house.members.groups.get(key) else {
             return Ok(());
         };
         put_group(body, &self.line_of_group(key, group))?;
         if let Some(question) = group.because() {
             writeln!(body, "  shares by sessions: {question}")?;
         }
-        for (_, entry) in self.house.sockets.iter() {
+        for (_, entry) in self.house.members.sockets.iter() {
             if entry.value.group() == Some(key) {
                 put_socket(body, &self.line_of(&entry.value))?;
             }
@@ -38,7 +38,7 @@ impl Program {
     /// The applications that are in no group: their login hasn't come yet, or they are owed an error.
     pub fn put_coming(&self, body: &mut Vec<u8>) -> io::Result<()> {
         let mut is_first = true;
-        for (_, entry) in self.house.sockets.iter() {
+        for (_, entry) in self.house.members.sockets.iter() {
             if let Whose::Gate | Whose::Owed = entry.value.whose() {
                 if is_first {
                     write!(body, "\nin no group\n")?;
@@ -78,7 +78,7 @@ impl Program {
 
     /// The number of an application of a group.
     fn number_in(&self, group: usize, key: usize) -> Option<u64> {
-        for (_, entry) in self.house.sockets.iter() {
+        for (_, entry) in self.house.members.sockets.iter() {
             if let Whose::Application(of, application) = entry.value.whose() {
                 if of == group && application == key {
                     return Some(entry.value.number);

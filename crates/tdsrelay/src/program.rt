@@ -85,11 +85,12 @@ impl Program {
         let start = Instant::now(rt)?;
         let mut house = House::new(rt, alloc, asked)?;
         let listener = house
+            .members
             .sockets
             .listen(rt, &Place::Tcp(asked.listen), LISTENER)?;
         // Where a port was asked for that is free, it is known now.
         let listen = listener.address()?.unwrap_or(asked.listen);
-        house.sockets.watch_log(LOG);
+        house.members.sockets.watch_log(LOG);
         house.set(Asked { listen, ..asked });
         Ok(Program {
             house,
@@ -118,7 +119,7 @@ impl Program {
         rt: &R,
         place: &Place,
     ) -> io::Result<Option<SocketAddr>> {
-        let listener = self.house.sockets.listen(rt, place, ASKERS)?;
+        let listener = self.house.members.sockets.listen(rt, place, ASKERS)?;
         let address = listener.address()?;
         self.stats = Some(listener);
         Ok(address)
@@ -126,7 +127,7 @@ impl Program {
 
     /// From now on it ends in order where standard input ends, which is to be a pipe or a socket.
     pub fn end_with_input(&self) -> io::Result<()> {
-        self.house.sockets.watch_input(INPUT)
+        self.house.members.sockets.watch_input(INPUT)
     }
 
     /// The address at which it listens.
@@ -151,8 +152,8 @@ impl Program {
 
     /// Its last line, and what else of the log isn't written yet.
     pub fn say_last(&mut self, line: &str) {
-        self.house.journal.lines.add(line);
-        self.log.write_last(&mut self.house.journal.lines);
+        self.house.members.journal.lines.add(line);
+        self.log.write_last(&mut self.house.members.journal.lines);
     }
 
     /// Waits for the system, and not at all where a socket has more to do, or had a moment ago, or somebody is
@@ -168,7 +169,7 @@ impl Program {
         } else {
             self.until_sweep()
         };
-        self.house.sockets.wait(events, longest)?;
+        self.house.members.sockets.wait(events, longest)?;
         self.look_at_clock(rt)?;
         self.hear(events)?;
         self.take_turns(rt, buffer)?;
@@ -184,8 +185,8 @@ impl Program {
         if self.house.now() >= self.next_look() {
             self.look_at_limits(rt)?;
         }
-        if !self.house.journal.lines.front().is_empty() {
-            self.log.write(&mut self.house.journal.lines);
+        if !self.house.members.journal.lines.front().is_empty() {
+            self.log.write(&mut self.house.members.journal.lines);
         }
         Ok(())
     }
@@ -213,7 +214,7 @@ impl Program {
         let mut next = self.next_look();
         if self.ending.is_none() && self.house.waits_for_sockets() {
             let latest = self.swept.saturating_add(LONGEST_SLEEP);
-            next = self.house.sockets.next_look().max(next).min(latest);
+            next = self.house.members.sockets.next_look().max(next).min(latest);
         }
         next.saturating_sub(self.house.now())
             .clamp(1, LONGEST_SLEEP)
@@ -227,7 +228,7 @@ impl Program {
     pub fn look_at_clock<R: Clock>(&mut self, rt: &R) -> io::Result<()> {
         let micros = u64::try_from(self.start.elapsed(rt)?.as_micros()).unwrap_or(u64::MAX);
         let millis = micros / 1000;
-        self.house.journal.moment = Moment {
+        self.house.members.journal.moment = Moment {
             millis,
             micros,
             time: self.began.saturating_add(millis),
@@ -237,7 +238,7 @@ impl Program {
 
     /// Whether it asks the system again at once: to be woken takes longer than a request's own work.
     fn spins(&self) -> bool {
-        self.house.journal.moment.micros < self.polling.until(self.house.asked.spin)
+        self.house.members.journal.moment.micros < self.polling.until(self.house.asked.spin)
     }
 
     /// Does what the system reported asks for.
@@ -247,7 +248,8 @@ impl Program {
             if token == LOG {
                 continue;
             }
-            self.polling.report(self.house.journal.moment.micros);
+            self.polling
+                .report(self.house.members.journal.moment.micros);
             if token == LISTENER {
                 self.accept()?;
             } else if token == ASKERS {
@@ -267,7 +269,7 @@ impl Program {
                 } else {
                     News::Turn
                 };
-                self.house.sockets.report(token.0, news)?;
+                self.house.members.sockets.report(token.0, news)?;
             }
         }
         Ok(())
@@ -280,8 +282,8 @@ impl Program {
         }
         self.ending = Some(self.house.now());
         match by {
-            Some(key) => self.house.note_order(why, key),
-            None => self.house.journal.note(why),
+            Some(key) => self.house.members.note_order(why, key),
+            None => self.house.members.journal.note(why),
         }
     }
 }

@@ -15,7 +15,7 @@ impl Program {
     /// Closes what has lasted longer than its limit.
     pub fn sweep<R: Net>(&mut self, rt: &R) -> io::Result<()> {
         if self.ending.is_some() {
-            self.house.sockets.touch_all();
+            self.house.members.sockets.touch_all();
         }
         self.sweep_due(rt)?;
         self.house.part_all(rt)?;
@@ -26,13 +26,13 @@ impl Program {
     }
 
     fn sweep_due<R: Net>(&mut self, rt: &R) -> io::Result<()> {
-        let (count, now) = (self.house.sockets.places(), self.house.now());
-        if !self.house.sockets.begin_looks(now) {
+        let (count, now) = (self.house.members.sockets.places(), self.house.now());
+        if !self.house.members.sockets.begin_looks(now) {
             return Ok(());
         }
         let mut place = 0;
         for _ in 0..count {
-            let Some((next, key)) = self.house.sockets.first_due(place, now) else {
+            let Some((next, key)) = self.house.members.sockets.first_due(place, now) else {
                 break;
             };
             self.sweep_one(rt, key)?;
@@ -46,7 +46,7 @@ impl Program {
             self.end(rt, key, why)?;
         }
         // What made room for it may have been said of another one alone.
-        Ok(self.house.sockets.read_on(key)?)
+        Ok(self.house.members.sockets.read_on(key)?)
     }
 }
 

@@ -1,7 +1,7 @@
 //! What the relay tells whoever asks what it does: for a reader, as JSON, and for Prometheus.
 
 use crate::program::Program;
-use relay_house::{Group, House, relay_of};
+use relay_groups::{Group, Members, relay_of};
 use relay_settings::server_of;
 use relay_sockets::{Role, Whose};
 use relay_status::{
@@ -14,7 +14,7 @@ use std::net::Net;
 impl Program {
     /// Bytes of somebody who asks came.
     pub fn asked_for<R: Net>(&mut self, rt: &R, key: usize, piece: &[u8]) -> io::Result<()> {
-        let page = match self.house.sockets.get_mut(key) {
+        let page = match self.house.members.sockets.get_mut(key) {
             Some(socket) => match &mut socket.role {
                 Role::Asker(asker) => asker.take(piece)?,
                 _ => None,
@@ -32,7 +32,7 @@ impl Program {
         }
         let mut body = Vec::new(self.house.alloc);
         let (status, kind) = self.put_page(rt, page, key, &mut body)?;
-        if let Some(socket) = self.house.sockets.get_mut(key) {
+        if let Some(socket) = self.house.members.sockets.get_mut(key) {
             put_answer(&mut socket.out, status, kind, &body)?;
         }
         self.house.dismiss(rt, key)
@@ -78,10 +78,12 @@ impl Program {
         self.see_all()?;
         put_metrics(body, &self.figures())?;
         self.house
+            .members
             .journal
             .requests
             .put_metrics(body, "tdsrelay_request_seconds")?;
         self.house
+            .members
             .journal
             .logins
             .put_metrics(body, "tdsrelay_login_seconds")?;
@@ -92,7 +94,7 @@ impl Program {
     fn put_users(&self, body: &mut Vec<u8>) -> io::Result<()> {
         for (what, kind) in [("applications", true), ("connections", false)].iter() {
             put_users(body, what)?;
-            for (_, entry) in self.house.groups.iter() {
+            for (_, entry) in self.house.members.groups.iter() {
                 let group = &entry.value.inner;
                 if self.is_first_of_user(entry.key, group) {
                     let count = self.count_of(&group.who.user, *kind);
@@ -105,7 +107,7 @@ impl Program {
 
     /// Whether no group before this one is of the same user.
     fn is_first_of_user(&self, key: usize, group: &Group) -> bool {
-        for (_, entry) in self.house.groups.iter() {
+        for (_, entry) in self.house.members.groups.iter() {
             if entry.key < key && entry.value.inner.who.user == group.who.user {
                 return false;
             }
@@ -116,7 +118,7 @@ impl Program {
     /// How many applications or connections there are of a user.
     fn count_of(&self, user: &String, of_applications: bool) -> u64 {
         let mut count: u64 = 0;
-        for (_, entry) in self.house.groups.iter() {
+        for (_, entry) in self.house.members.groups.iter() {
             let group = &entry.value.inner;
             if group.who.user == *user {
                 let more = if of_applications {
@@ -132,23 +134,25 @@ impl Program {
 
     /// Closes all applications and connections of a group. False where there is no such group.
     fn kill<R: Net>(&mut self, rt: &R, number: u64, by: usize) -> io::Result<bool> {
-        let Some(group) = self.house.groups.key_of(number) else {
+        let Some(group) = self.house.members.groups.key_of(number) else {
             return Ok(false);
         };
-        self.house.say_order(number, "is closed, by POST /kill", by);
+        self.house
+            .members
+            .say_order(number, "is closed, by POST /kill", by);
         self.house.close_group(rt, group)?;
         Ok(true)
     }
 
     /// What is there, and what was done.
     pub fn figures(&self) -> Figures {
-        let mut figures = Figures::new(self.house.now() / 1000, self.house.journal.counts);
+        let mut figures = Figures::new(self.house.now() / 1000, self.house.members.journal.counts);
         let now = self.house.now();
-        let House {
+        let Members {
             sockets,
             groups,
             ..
-        } = &self.house;
+        } = &self.house.members;
         for (_, entry) in sockets.iter() {
             let socket = &entry.value;
             figures.add(socket.told(), socket.seen.at);
@@ -166,12 +170,12 @@ impl Program {
 
     /// Notes of each socket what it is at now, and who is at its other end.
     pub fn see_all(&mut self) -> io::Result<()> {
-        let keys = self.house.sockets.keys()?;
+        let keys = self.house.members.sockets.keys()?;
         for key in keys.iter() {
             let (at, mark) = self.at(*key);
             let partner = self.partner_of(*key);
             let now = self.house.now();
-            if let Some(socket) = self.house.sockets.get_mut(*key) {
+            if let Some(socket) = self.house.members.sockets.get_mut(*key) {
                 socket.see(at, mark, now);
                 socket.partner = partner;
             }
@@ -181,11 +185,11 @@ impl Program {
 
     /// The number of the connection that an application holds, or of the application that holds one.
     fn partner_of(&mut self, key: usize) -> Option<u64> {
-        let House {
+        let Members {
             sockets,
             groups,
             ..
-        } = &mut self.house;
+        } = &mut self.house.members;
         let other = match sockets.get(key)?.whose() {
             Whose::Application(group, application) => {
                 relay_of(groups, group)?.held_tag(application)?
@@ -203,12 +207,17 @@ impl Program {
         self.put_servers(body)?;
         write!(body, "\n")?;
         put_text_figures(body, &self.figures())?;
-        self.house.journal.requests.put_text(body, "requests")?;
         self.house
+            .members
+            .journal
+            .requests
+            .put_text(body, "requests")?;
+        self.house
+            .members
             .journal
             .logins
             .put_text(body, "logins of connections")?;
-        for (_, entry) in self.house.groups.iter() {
+        for (_, entry) in self.house.members.groups.iter() {
             self.put_group(body, entry.key)?;
         }
         self.put_coming(body)

@@ -1,7 +1,7 @@
 //! The turns of sockets: each sends what the system takes, and reads once.
 
 use crate::program::{PIECE, Program};
-use relay_house::{Group, House, relay_of};
+use relay_groups::{Group, Members, relay_of};
 use relay_logins::Groups;
 use relay_sockets::{Came, Whose};
 use std::io;
@@ -26,12 +26,12 @@ impl Program {
         buffer: &mut [u8; PIECE],
     ) -> io::Result<()> {
         for _ in 0..TURNS {
-            let count = self.house.sockets.begin_turns();
+            let count = self.house.members.sockets.begin_turns();
             if count == 0 {
                 break;
             }
             for place in 0..count {
-                if let Some(key) = self.house.sockets.turn(place) {
+                if let Some(key) = self.house.members.sockets.turn(place) {
                     self.turn(rt, key, buffer)?;
                 }
                 if place % LOOK == LOOK - 1 {
@@ -45,13 +45,13 @@ impl Program {
 
     /// A socket's turn: it sends what the system takes, and reads once.
     fn turn<R: Net>(&mut self, rt: &R, key: usize, buffer: &mut [u8; PIECE]) -> io::Result<()> {
-        let Some(socket) = self.house.sockets.get_mut(key) else {
+        let Some(socket) = self.house.members.sockets.get_mut(key) else {
             return Ok(());
         };
         socket.link.listed = false;
         let has_to_send = socket.has_to_send();
-        self.house.sockets.touch(key);
-        if has_to_send && !self.house.send(key)? {
+        self.house.members.sockets.touch(key);
+        if has_to_send && !self.house.members.send(key)? {
             return self.house.closed(rt, key);
         }
         let (whose, came) = self.read(key, buffer);
@@ -65,11 +65,11 @@ impl Program {
 
     /// Reads once of a socket, where more may be there and there is room for it. Answers whose it is, too.
     fn read(&mut self, key: usize, buffer: &mut [u8; PIECE]) -> (Whose, Came) {
-        let House {
+        let Members {
             sockets,
             groups,
             ..
-        } = &mut self.house;
+        } = &mut self.house.members;
         let Some(socket) = sockets.get_mut(key) else {
             return (Whose::Closing, Came::Nothing);
         };
@@ -86,11 +86,11 @@ impl Program {
 
     /// These bytes came on a socket that is this.
     fn came<R: Net>(&mut self, rt: &R, key: usize, whose: Whose, piece: &[u8]) -> io::Result<()> {
-        let House {
+        let Members {
             sockets,
             journal,
             ..
-        } = &mut self.house;
+        } = &mut self.house.members;
         if sockets.has_read(key)? {
             sockets.judge(key, piece, journal)?;
         }

@@ -3,7 +3,7 @@
 use crate::program::Program;
 use crate::sweeping::next_look;
 use crate::why::{Why, why_late};
-use relay_house::{Group, House, relay_of};
+use relay_groups::{Group, Members, relay_of};
 use relay_logins::{Groups, UNANSWERED};
 use relay_settings::{Limits, is_beyond};
 use relay_sockets::{Cause, Role, Whose};
@@ -30,7 +30,7 @@ impl Program {
     /// How many applications are logged in.
     pub fn applications(&self) -> usize {
         let mut count: usize = 0;
-        for (_, entry) in self.house.sockets.iter() {
+        for (_, entry) in self.house.members.sockets.iter() {
             if matches!(entry.value.role, Role::Application(..)) {
                 count = count.saturating_add(1);
             }
@@ -40,11 +40,11 @@ impl Program {
 
     /// Notes what a socket is at, and answers why it is to be closed, if it is.
     pub fn look_at(&mut self, key: usize) -> Option<Why> {
-        let House {
+        let Members {
             sockets,
             groups,
             ..
-        } = &mut self.house;
+        } = &mut self.house.members;
         let socket = sockets.get(key)?;
         let whose = socket.whose();
         let (at, mark) = at_as(groups, whose, socket.link.is_readable());
@@ -53,12 +53,12 @@ impl Program {
             _ => None,
         };
         let (now, limits) = (self.house.now(), self.limits_of(whose));
-        let socket = self.house.sockets.get_mut(key)?;
+        let socket = self.house.members.sockets.get_mut(key)?;
         socket.see(at, mark, now);
         let lasted = now.saturating_sub(socket.seen.since);
         let age = now.saturating_sub(socket.born);
         let next = next_look(&socket.seen, socket.born, &limits, now);
-        self.house.sockets.look_again(key, next);
+        self.house.members.sockets.look_again(key, next);
         if self.ending.is_some() && (ends_at_once(at) || matches!(whose, Whose::Judged(_))) {
             return Some(Why::End);
         }
@@ -76,7 +76,7 @@ impl Program {
         let mut limits = self.house.asked.limits;
         let (login, servers) = (limits.login, self.house.asked.servers.count());
         match whose {
-            Whose::First(group) if self.house.question_of(group).is_some() => {
+            Whose::First(group) if self.house.members.question_of(group).is_some() => {
                 limits.login = share_of(login, servers).saturating_add(login);
             }
             Whose::First(_) => limits.login = share_of(login, servers),
@@ -85,7 +85,7 @@ impl Program {
                 let times = self.login_times(group);
                 limits.login = login.saturating_mul(times).saturating_add(servers);
             }
-            Whose::Connection(group, _) if self.house.pair_of(group).is_some() => {
+            Whose::Connection(group, _) if self.house.members.pair_of(group).is_some() => {
                 limits.idle = 0;
                 limits.life = 0;
             }
@@ -97,7 +97,7 @@ impl Program {
 
     /// How often a login's time passes at most before who waits for a group's judgement hears of it.
     fn login_times(&self, group: usize) -> u64 {
-        match self.house.groups.get(group) {
+        match self.house.members.groups.get(group) {
             Some(group) => group.login_times(),
             None => 1,
         }
@@ -105,7 +105,7 @@ impl Program {
 
     /// Whether a group has no more connections than are kept however idle they are.
     fn is_least(&self, group: usize) -> bool {
-        match self.house.groups.get(group) {
+        match self.house.members.groups.get(group) {
             Some(group) => group.connections() <= self.house.asked.least,
             None => false,
         }
@@ -113,11 +113,11 @@ impl Program {
 
     /// What a socket is at, and what tells two of that apart.
     pub fn at(&mut self, key: usize) -> (At, u64) {
-        let House {
+        let Members {
             sockets,
             groups,
             ..
-        } = &mut self.house;
+        } = &mut self.house.members;
         match sockets.get(key) {
             Some(socket) => at_as(groups, socket.whose(), socket.link.is_readable()),
             None => (At::Other, 0),
@@ -131,8 +131,8 @@ impl Program {
             return Ok(());
         }
         self.count(why);
-        self.house.say("socket", key, why.words());
-        let whose = match self.house.sockets.get(key) {
+        self.house.members.say("socket", key, why.words());
+        let whose = match self.house.members.sockets.get(key) {
             Some(socket) => socket.whose(),
             None => return Ok(()),
         };
@@ -151,16 +151,16 @@ impl Program {
                 Some((number, sentence)) => self.house.dismiss_for(rt, key, number, sentence),
                 None => self.house.part_with(rt, key),
             },
-            (Whose::Judged(_), Why::Login) => self.house.put_refusal(key, SILENT),
+            (Whose::Judged(_), Why::Login) => self.house.members.put_refusal(key, SILENT),
             (Whose::Judged(_), Why::Wait) => self.refuse_unreached(key),
-            (Whose::Leg(_), Why::Login) => self.house.put_refusal(key, UNANSWERED),
+            (Whose::Leg(_), Why::Login) => self.house.members.put_refusal(key, UNANSWERED),
             (_, Why::Login | Why::Cancel) => self.house.ended(rt, key, Cause::Silent),
             _ => self.house.ended(rt, key, Cause::Own),
         }
     }
 
     fn count(&mut self, why: Why) {
-        let counts = &mut self.house.journal.counts;
+        let counts = &mut self.house.members.journal.counts;
         match why {
             Why::Login => raise(&mut counts.late_logins),
             Why::Wait => raise(&mut counts.late_waits),
@@ -177,7 +177,7 @@ impl Program {
     /// The connection on which an application's cancel isn't acknowledged is closed, and the application
     /// with it.
     fn give_up<R: Net>(&mut self, rt: &R, group: usize, application: usize) -> io::Result<()> {
-        if let Some(relay) = relay_of(&mut self.house.groups, group) {
+        if let Some(relay) = relay_of(&mut self.house.members.groups, group) {
             if let Some(Place::Cancelling(number)) = relay.place_of(application) {
                 relay.lost(number)?;
             }
@@ -187,7 +187,7 @@ impl Program {
 
     /// Whether an application waits for its connection to open.
     fn is_opening(&self, key: usize) -> bool {
-        match self.house.sockets.get(key) {
+        match self.house.members.sockets.get(key) {
             Some(socket) => socket.seen.at == At::Opening,
             None => false,
         }
@@ -195,7 +195,7 @@ impl Program {
 
     /// Whether an application asks nothing.
     fn asks_nothing(&self, key: usize) -> bool {
-        match self.house.sockets.get(key) {
+        match self.house.members.sockets.get(key) {
             Some(socket) => matches!(socket.seen.at, At::Quiet | At::Holding | At::InTransaction),
             None => false,
         }
@@ -204,16 +204,16 @@ impl Program {
     /// An application has waited too long for a server that judges its login, and is told why there is none.
     fn refuse_unreached(&mut self, key: usize) -> io::Result<()> {
         match self.house.holding.sentence(self.house.alloc)? {
-            Some(why) => self.house.put_refusal(key, why.as_str()),
-            None => self.house.put_refusal(key, SILENT),
+            Some(why) => self.house.members.put_refusal(key, why.as_str()),
+            None => self.house.members.put_refusal(key, SILENT),
         }
     }
 
     /// An application has waited too long for its connection to open, and is told why.
     fn tell_unreached(&mut self, key: usize) -> io::Result<()> {
         match self.house.holding.sentence(self.house.alloc)? {
-            Some(why) => self.house.tell_not_opened(key, why.as_str()),
-            None => self.house.tell_not_opened(key, SILENT),
+            Some(why) => self.house.members.tell_not_opened(key, why.as_str()),
+            None => self.house.members.tell_not_opened(key, SILENT),
         }
     }
 }

@@ -2,6 +2,9 @@
 
 use std::alloc::{AllocError, Global};
 
+/// So many rests are kept however few connections there are.
+const LEAST: usize = 64;
+
 /// A socket that may rest, behind an answer, for the time that has this number.
 #[derive(Clone, Copy)]
 pub struct Rest {
@@ -21,9 +24,6 @@ pub struct Resting {
     /// How many there ever were.
     count: u64,
 }
-
-/// So many rests are kept however few connections there are.
-const LEAST: usize = 64;
 
 impl Resting {
     pub fn new(alloc: Global) -> Resting {

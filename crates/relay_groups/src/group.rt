@@ -1,7 +1,7 @@
 //! Applications whose logins are equal, or one that is alone, and their relay.
 
 use crate::asking::Asked;
-use crate::keeping::Keeping;
+use crate::keeping::{Keeping, is_held};
 use crate::resting::Resting;
 use relay_logins::{FEATURES, Who};
 use relay_questions::Question;

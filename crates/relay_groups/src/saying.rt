@@ -1,7 +1,7 @@
 //! Lines of the log about sockets, written where they wait.
 
 use crate::group::Group;
-use crate::house::{House, relay_of};
+use crate::members::{Members, relay_of};
 use relay_logins::{Groups, number_of};
 use relay_sockets::{Cause, Socket, Whose};
 use relay_status::{Journal, NOBODY};
@@ -9,10 +9,10 @@ use std::io::Write;
 use std::net::SocketAddr;
 use tds_relay::Relay;
 
-impl House {
+impl Members {
     /// A line about a socket.
     pub fn say(&mut self, what: &str, key: usize, words: &str) {
-        let House {
+        let Members {
             sockets,
             journal,
             ..
@@ -27,7 +27,7 @@ impl House {
 
     /// The same, with something behind a blank.
     pub fn say_of(&mut self, what: &str, key: usize, words: &str, more: &str) {
-        let House {
+        let Members {
             sockets,
             journal,
             ..
@@ -42,7 +42,7 @@ impl House {
 
     /// A line about an order to the group of this number, and where who gave it is: the socket of this key.
     pub fn say_order(&mut self, group: u64, words: &str, by: usize) {
-        let House {
+        let Members {
             sockets,
             journal,
             ..
@@ -54,7 +54,7 @@ impl House {
 
     /// A line about an order to the relay as a whole, and where who gave it is: the socket of this key.
     pub fn note_order(&mut self, words: &str, by: usize) {
-        let House {
+        let Members {
             sockets,
             journal,
             ..
@@ -65,8 +65,8 @@ impl House {
     }
 
     /// A line about a socket's end: where the other end is a server, its address, and what it did.
-    pub(crate) fn say_end(&mut self, key: usize, cause: Cause) {
-        let House {
+    pub fn say_end(&mut self, key: usize, cause: Cause) {
+        let Members {
             sockets,
             journal,
             ..
@@ -77,8 +77,8 @@ impl House {
     }
 
     /// A line about a connection that isn't let in: by which server, and why.
-    pub(crate) fn say_refused(&mut self, key: usize, cause: Cause) {
-        let House {
+    pub fn say_refused(&mut self, key: usize, cause: Cause) {
+        let Members {
             sockets,
             journal,
             ..
@@ -89,8 +89,8 @@ impl House {
     }
 
     /// A line about an application whose login the server refuses.
-    pub(crate) fn say_not_let_in(&mut self, key: usize, cause: Cause) {
-        let House {
+    pub fn say_not_let_in(&mut self, key: usize, cause: Cause) {
+        let Members {
             sockets,
             journal,
             ..
@@ -102,7 +102,7 @@ impl House {
 
     /// A line about an application that is let in.
     pub(crate) fn say_let_in(&mut self, key: usize, group: usize) {
-        let House {
+        let Members {
             sockets,
             journal,
             ..
@@ -113,8 +113,8 @@ impl House {
     }
 
     /// A line about a connection that is dialed.
-    pub(crate) fn say_dialed(&mut self, key: usize, address: SocketAddr) {
-        let House {
+    pub fn say_dialed(&mut self, key: usize, address: SocketAddr) {
+        let Members {
             sockets,
             journal,
             ..
@@ -126,7 +126,7 @@ impl House {
 
     /// A line about what an application or a server did that it may not, where its socket is closed for that.
     pub(crate) fn say_fault(&mut self, key: usize) {
-        let House {
+        let Members {
             sockets,
             groups,
             journal,
@@ -139,7 +139,7 @@ impl House {
 }
 
 /// A line about a server's name.
-pub(crate) fn put_name(journal: &mut Journal, host: &str, words: &str) {
+pub fn put_name(journal: &mut Journal, host: &str, words: &str) {
     if let Some(out) = journal.line() {
         let _ = write!(out, "name {host} {words}");
         journal.lines.end(&NOBODY);
@@ -155,7 +155,7 @@ pub(crate) fn put_group(journal: &mut Journal, group: usize, words: &str, why: &
 }
 
 /// A line about a server that has failed, behind which others are preferred.
-pub(crate) fn put_away(journal: &mut Journal, server: SocketAddr, cause: Cause) {
+pub fn put_away(journal: &mut Journal, server: SocketAddr, cause: Cause) {
     if let Some(out) = journal.line() {
         let _ = write!(out, "server {server} {cause}");
         journal.lines.end(&NOBODY);

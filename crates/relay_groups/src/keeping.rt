@@ -1,7 +1,7 @@
 //! Which connections of a group are watched, and what keeps them from resting while somebody comes to wait.
 
 use crate::group::Group;
-use crate::house::House;
+use crate::members::Members;
 use relay_sockets::{Sockets, Whose};
 use std::alloc::{AllocError, Global};
 use tds_relay::PlaceOn;
@@ -65,10 +65,10 @@ impl Keeping {
     }
 }
 
-impl House {
+impl Members {
     /// Counts why each connection of a group that is held doesn't rest, where somebody has come to wait.
-    pub(crate) fn count_kept(&mut self, group: usize) {
-        let House {
+    pub fn count_kept(&mut self, group: usize) {
+        let Members {
             sockets,
             groups,
             journal,

@@ -1,0 +1,141 @@
+//! Logins of connections: how each begins, and what the server answers.
+
+use crate::members::{Members, relay_of};
+use relay_logins::{Dialed, Unfit, Way};
+use relay_sockets::{Role, Whose};
+use relay_status::raise;
+use socket_places::Link;
+use std::io;
+use std::net::SocketAddr;
+use tds_packet::PacketSize;
+use tds_relay::Mode;
+
+/// How often a login goes to the server that another one has named.
+const MOST_HOPS: u8 = 4;
+
+impl Members {
+    /// Begins the login of a connection on this link. None where it has no group, or no room.
+    pub fn begin_login(&mut self, whose: Whose, way: Way, link: Link) -> io::Result<Option<usize>> {
+        let (alloc, now) = (self.alloc, self.now());
+        let group = match whose {
+            Whose::First(group) | Whose::Opening(group, _) | Whose::Again(group) => group,
+            _ => return Ok(None),
+        };
+        let mut out = Vec::new(alloc);
+        let Some(dial) = self.groups.dial(alloc, group, way, &mut out)? else {
+            return Ok(None);
+        };
+        let role = match whose {
+            Whose::Opening(group, number) => Role::Opening(group, number, dial),
+            Whose::Again(group) => Role::Again(group, dial),
+            _ => Role::First(group, dial),
+        };
+        self.sockets.take_in(link, role, out, now)
+    }
+
+    /// This socket is a login's connection from now on, at this address.
+    pub fn is_dialed(&mut self, whose: Whose, key: usize, address: SocketAddr) {
+        if let Some(socket) = self.sockets.get_mut(key) {
+            socket.dialed = Some(address);
+        }
+        match whose {
+            Whose::Opening(group, number) => {
+                if let Some(relay) = relay_of(&mut self.groups, group) {
+                    relay.opening(number, key);
+                }
+            }
+            Whose::First(group) => {
+                if let Some(group) = self.groups.get_mut(group) {
+                    group.asked = None;
+                    if let Some(pair) = &mut group.pair {
+                        pair.connection = key;
+                    }
+                }
+            }
+            _ => {}
+        }
+    }
+
+    /// How the login of this connection goes on at another server, if it may.
+    pub fn way_on(&self, key: usize) -> Option<Way> {
+        let dial = self.sockets.get(key)?.dial()?;
+        let way = dial.way;
+        if dial.has_legs || way.hops >= MOST_HOPS {
+            return None;
+        }
+        Some(Way {
+            hops: way.hops.saturating_add(1),
+            ..way
+        })
+    }
+
+    /// Takes bytes of a login, and gives what is left of them.
+    pub fn dial<'a>(&mut self, key: usize, piece: &'a [u8]) -> io::Result<(&'a [u8], Dialed)> {
+        let mut rest = piece;
+        for _ in 0..piece.len() {
+            if rest.is_empty() {
+                break;
+            }
+            let Some(socket) = self.sockets.get_mut(key) else {
+                return Ok((&[], Dialed::Wrong(Unfit::NoPackets)));
+            };
+            let (count, dialed) = match &mut socket.role {
+                Role::First(_, dial) => dial.take(rest, &mut socket.out)?,
+                Role::Opening(_, _, dial) => dial.take(rest, &mut socket.out)?,
+                Role::Again(_, dial) => dial.take(rest, &mut socket.out)?,
+                _ => return Ok((&[], Dialed::Wrong(Unfit::NoPackets))),
+            };
+            rest = match rest.get(count..) {
+                Some(left) => left,
+                None => &[],
+            };
+            match dialed {
+                Dialed::More => {}
+                dialed => return Ok((rest, dialed)),
+            }
+        }
+        Ok((rest, Dialed::More))
+    }
+
+    /// A connection of a group is logged in. The place of its server in the list.
+    pub fn is_in(&mut self, key: usize, group: usize, role: Role) -> Option<usize> {
+        let now = self.now();
+        if let Some(group) = self.groups.get_mut(group) {
+            group.judged = now;
+        }
+        let mut server = None;
+        if let Some(socket) = self.sockets.get_mut(key) {
+            let took = now.saturating_sub(socket.born);
+            socket.becomes(role, now);
+            self.journal.logins.add(took.saturating_mul(1000));
+            server = Some(socket.server);
+        }
+        raise(&mut self.journal.counts.opened);
+        self.say("connection", key, "is opened");
+        server
+    }
+
+    /// A connection's login was answered so: where its group's applications are parted from theirs, it is watched.
+    pub fn watch_in(&mut self, key: usize, group: usize, answer: &[u8]) -> io::Result<()> {
+        let Members {
+            sockets,
+            groups,
+            ..
+        } = self;
+        match groups.get_mut(group) {
+            Some(group) if group.mode == Mode::Transactions => {
+                group.keeping.add(sockets, key)?;
+                Ok(sockets.begin_watching(key, answer)?)
+            }
+            _ => Ok(()),
+        }
+    }
+
+    /// Whether a group's packets have this size.
+    pub fn has_size(&self, group: usize, size: PacketSize) -> bool {
+        match self.groups.get(group) {
+            Some(group) => group.size.get() == size.get(),
+            None => false,
+        }
+    }
+}

@@ -1,0 +1,75 @@
+//! Logins that can't be shared: the two ends, which end together.
+
+use crate::group::Pair;
+use crate::members::Members;
+use relay_logins::Taken;
+use relay_sockets::{Role, Whose};
+use std::io;
+
+impl Members {
+    /// The two ends of a group, where it isn't shared.
+    pub fn pair_of(&self, group: usize) -> Option<Pair> {
+        match self.groups.get(group) {
+            Some(group) => group.pair,
+            None => None,
+        }
+    }
+
+    /// The two ends are none of each other's any more.
+    pub fn unpair(&mut self, group: usize) {
+        if let Some(group) = self.groups.get_mut(group) {
+            group.pair = None;
+        }
+    }
+
+    /// Bytes of a leg came. Whether it is whole now: then it is judged. None where the application is gone.
+    pub fn take_leg(&mut self, key: usize, group: usize, piece: &[u8]) -> Option<Taken> {
+        let socket = self.sockets.get_mut(key)?;
+        let taken = match &mut socket.role {
+            Role::Leg(_, leg) => leg.take(piece),
+            _ => Taken::Wrong,
+        };
+        if matches!(taken, Taken::Whole) {
+            socket.role = Role::Judged(group);
+        }
+        Some(taken)
+    }
+
+    /// A socket of this key has ended, which was this: the other end of a group that isn't shared ends with
+    /// it. True where there was one.
+    pub fn part(&mut self, whose: Whose, key: usize) -> io::Result<bool> {
+        let group = match whose {
+            Whose::Judged(group) | Whose::Leg(group) => group,
+            Whose::Application(group, _) | Whose::Connection(group, _) => group,
+            _ => return Ok(false),
+        };
+        let Some(pair) = self.pair_of(group) else {
+            return Ok(false);
+        };
+        let other = if pair.application == key {
+            pair.connection
+        } else {
+            pair.application
+        };
+        self.unpair(group);
+        let _ = self.take_out(other)?;
+        self.forget(group);
+        Ok(true)
+    }
+
+    /// An application that was this gets a last answer, and then it is closed: where it isn't in a group
+    /// that is shared, its connection is closed now.
+    pub fn let_go(&mut self, whose: Whose) -> io::Result<()> {
+        let group = match whose {
+            Whose::Judged(group) | Whose::Leg(group) | Whose::Application(group, _) => group,
+            _ => return Ok(()),
+        };
+        let Some(pair) = self.pair_of(group) else {
+            return Ok(());
+        };
+        self.unpair(group);
+        let _ = self.take_out(pair.connection)?;
+        self.forget(group);
+        Ok(())
+    }
+}
