@@ -1,11 +1,15 @@
 pub mod Apart
 pub mod Aside
 pub mod Begun
+pub mod Brought
 pub mod Cleaned
 pub mod Closings
 pub mod Coming
 pub mod Ended
 pub mod Few
+pub mod Filling
+pub mod Freeing
+pub mod Growing
 pub mod Held
 pub mod Lasting
 pub mod Letting

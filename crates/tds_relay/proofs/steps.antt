@@ -2,6 +2,7 @@ pub mod Asked
 pub mod Bodied
 pub mod Calling
 pub mod Carried
+pub mod Doing
 pub mod Faults
 pub mod Fed
 pub mod Fronts

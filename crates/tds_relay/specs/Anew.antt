@@ -1,11 +1,14 @@
 -- When a request may be asked: a reset that it asks for is done by the server with it (MS-TDS 2.2.3.1.2), or nothing was asked before it.
-use Rattle.std.specs.Prelude.{◌≡◌, ◌⊎◌, true, Option, Some, None, is_some}
+use Rattle.std.specs.Prelude.{◌≡◌, ◌⊎◌, ℕ, true, Option, Some, None, is_some}
 use Rattle.tds_packet.specs.declared.status.Reset.{Reset}
 use Rattle.tds_packet.specs.declared.status.Reset.TheVariants.{Full, KeepTransaction}
 use Rattle.tds_front.specs.declared.stage.Stage.{Stage}
 use Rattle.tds_front.specs.declared.stage.Stage.TheVariants.{Quiet}
 use Rattle.tds_service.specs.Anew.{begins_anew}
 use Rattle.tds_service.specs.Service.{Seat, seat_numbered}
+use Rattle.tds_relay.specs.declared.application.Asking.{Asking}
+use Rattle.tds_relay.specs.declared.application.Asking.TheVariants as asking
+use Rattle.tds_relay.specs.declared.application.TheConstants.{MOST_HELD}
 use Rattle.tds_relay.specs.declared.desk.Hold.{Hold}
 use Rattle.tds_relay.specs.Desk as desk
 use Rattle.tds_relay.specs.Desk.{Deed, Desk}
@@ -32,3 +35,11 @@ WhereAsked desk.Stops P = Unit {0}
 -- An application asks nothing: its request has its answer, or was taken back, or none has begun.
 abbrev pub AsksNothing : Stage → Type 0
 AsksNothing stage = stage ≡ Quiet
+
+-- ---- What is kept of a request
+
+-- the most bytes, by where it is: of one that doesn't wait nothing
+abbrev pub most_held_by : Asking → ℕ
+most_held_by asking.Nothing = 0
+most_held_by (asking.Waits kind whole) = MOST_HELD
+most_held_by asking.Goes = 0

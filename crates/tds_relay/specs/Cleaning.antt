@@ -1,5 +1,5 @@
 -- What the relay puts on a connection itself, where an application lets that go: what cancels its request, and a cleaning.
-use Rattle.std.specs.Prelude.{◌≡◌, ◌⊎◌, ◌==◌, ℕ, codes, Bool, true, false, List, [], ◌∷◌, ◌++◌, Option, Some, None, length}
+use Rattle.std.specs.Prelude.{◌≡◌, ◌⊎◌, ◌==◌, ℕ, codes, Bool, true, false, List, [], ◌∷◌, ◌++◌, Option, Some, None, IsSome, length}
 use Rattle.tds_client.specs.declared.message.MessageKind.TheVariants.{Batch}
 use Rattle.tds_client.specs.Session as session
 use Rattle.tds_client.specs.Session.{ClientSession, Stage}
@@ -19,7 +19,9 @@ use Rattle.tds_relay.specs.Bodies.{ArePut}
 use Rattle.tds_relay.specs.Closings.{Settings}
 use Rattle.tds_relay.specs.Desk.{Brings, Desk, Way, find_key, next, turn}
 use Rattle.tds_relay.specs.Lent.{IsMade}
-use Rattle.tds_relay.specs.Reads.{bytes_on, waits_on}
+use Rattle.tds_relay.specs.Reads.{bytes_on, open_waits, waits_on}
+use Rattle.tds_relay.specs.Hall.{holder}
+use Rattle.tds_relay.specs.Ties.{desk_in}
 
 -- ---- What a cleaning says
 
@@ -81,23 +83,28 @@ GoesOutBy s None left before after = Unit {0}
 GoesOutBy s (Some hold) None before after = Unit {0}
 GoesOutBy s (Some hold) (Some left) before after = left.is_there ≡ true → IsPutBehind (GoesOutAtEnd text_of_cleaning (client_of hold.lease s)) before after
 
--- of any
-abbrev pub GoesOutAtAny : List ℕ → List ℕ → Left → Type 0
-GoesOutAtAny before after left = left.is_there ≡ true → (client : Option ClientSession) × IsPutBehind (GoesOutAtEnd text_of_cleaning client) before after
+-- of one that is brought, where it is there still: a cleaning alone
+abbrev pub CleansFirst : List ℕ → List ℕ → Left → Type 0
+CleansFirst before after left = left.is_there ≡ true → IsPutBehind (IsCleaning text_of_cleaning) before after
 
 -- It waits there, behind what waited; or the connection is there no more.
 pub data WaitsAtEnd (client : Option ClientSession) (old : Option (List ℕ)) : Option (List ℕ) → Type 0 where
   IsShut : WaitsAtEnd client old None
   HasMore : (waits out : List ℕ) → old ≡ Some waits → GoesOutAtEnd text_of_cleaning client out → WaitsAtEnd client old (Some (waits ++ out))
 
--- And more may wait behind it.
-pub data WaitsBehindEnd (client : Option ClientSession) (old : Option (List ℕ)) : Option (List ℕ) → Type 0 where
-  IsShutSince : WaitsBehindEnd client old None
-  HasMoreSince : (waits out more : List ℕ) → old ≡ Some waits → GoesOutAtEnd text_of_cleaning client out → WaitsBehindEnd client old (Some ((waits ++ out) ++ more))
+-- And more may wait behind it, where it is lent to somebody since.
+pub data WaitsBehindEnd (lent : Type 0) (client : Option ClientSession) (old : Option (List ℕ)) : Option (List ℕ) → Type 0 where
+  IsShutSince : WaitsBehindEnd lent client old None
+  HasMoreSince : (waits out more : List ℕ) → old ≡ Some waits → GoesOutAtEnd text_of_cleaning client out → (more ≡ []) ⊎ lent
+      → WaitsBehindEnd lent client old (Some ((waits ++ out) ++ more))
 
 -- where an application held one
 abbrev pub OfItsHold : (Option ClientSession → Option (List ℕ) → Option (List ℕ) → Type 0) → ℕ → code.Relay → (ℕ → Option (List ℕ)) → Type 0
 OfItsHold Left key old now = (hold : Hold) → find_key key old.desk.holds.items ≡ Some hold → Left (client_of hold.lease old.desk.service) (waits_on hold.number old.links.items) (now hold.number)
+
+abbrev pub WaitsSinceEnd : ℕ → code.Relay → code.Relay → Type 0
+WaitsSinceEnd key old new = (hold : Hold) → find_key key old.desk.holds.items ≡ Some hold
+    → WaitsBehindEnd (IsSome (holder (desk_in new.desk) hold.number)) (client_of hold.lease old.desk.service) (waits_on hold.number old.links.items) (open_waits hold.number new.links.items)
 
 -- ---- How often
 
@@ -125,3 +132,8 @@ IsNotBrought links old new = ((length links == 0) ≡ false) ⊎ ((gives : Bool)
 abbrev pub IsFirst : ℕ → Settings → List Link → List Link → Type 0
 IsFirst tag s old new =
     (new ≡ old) ⊎ ((l : Link) × (new ≡ old ++ l ∷ []) × (l.tag ≡ Some tag) × (l.is_open ≡ true) × (bytes_on l ≡ []) × IsMade s.size s.features l)
+
+-- A cleaning waits there, and nothing else but where it is lent to somebody since; or it is there no more.
+pub data CleaningWaits (lent : Type 0) : Option (List ℕ) → Type 0 where
+  IsGone : CleaningWaits lent None
+  IsThere : (out more : List ℕ) → IsCleaning text_of_cleaning out → (more ≡ []) ⊎ lent → CleaningWaits lent (Some (out ++ more))

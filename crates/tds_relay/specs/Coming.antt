@@ -1,5 +1,5 @@
 -- What becomes of applications' requests as something comes on a connection, and how its packets are set anew.
-use Rattle.std.specs.Prelude.{◌≡◌, ◌⊎◌, ℕ, List, [], ◌∷◌, Option, Some, None, option_map}
+use Rattle.std.specs.Prelude.{◌≡◌, ◌⊎◌, ℕ, List, [], ◌∷◌, Option, Some, option_map}
 use Rattle.slab.specs.Slab.{Slab, get}
 use Rattle.tds_packet.specs.Reading.{Reading}
 use Rattle.tds_relay.specs.Bodies.{Astray, Body, Closed, Going, Kept, Nowhere, Spared, Starts, body_in, body_of}

@@ -1,17 +1,21 @@
--- Connections where one is lent: what is known of the message that comes there, and which are there still.
-use Rattle.std.specs.Prelude.{◌≡◌, ◌⊎◌, ℕ, IfSome, List, Some, None, option_map}
+-- Connections where one is lent: what is known of the message that comes there, which are there still, and on which something is put.
+use Rattle.std.specs.Prelude.{◌≡◌, ◌≢◌, ◌⊎◌, ℕ, true, false, IfSome, IsSome, List, Some, None, option_map}
 use Rattle.tds_wire.specs.declared.features.Features.{Features}
 use Rattle.tds_service.specs.Beginning.{Begins}
 use Rattle.tds_relay.specs.Cutting.{at_its_beginning}
+use Rattle.tds_relay.specs.declared.desk.Hold.{Hold}
 use Rattle.tds_relay.specs.declared.link.Link.{Link}
 use Rattle.tds_relay.specs.declared.link.TheConstants.{COLUMNS}
 use Rattle.tds_relay.specs.declared.news.Known.TheVariants as knowns
 use Rattle.tds_relay.specs.declared.relay.Relay as code
 use Rattle.tds_relay.specs.Closings.{Register, open_name}
 use Rattle.tds_relay.specs.Fronts.{ends_in}
-use Rattle.tds_relay.specs.Hall.{end_at}
+use Rattle.tds_relay.specs.Desk.{find_key, find_number, key_of, without_number}
+use Rattle.tds_relay.specs.Hall.{end_at, holder, is_in}
 use Rattle.tds_relay.specs.Reads.{StaysAt, answer_at, link_at, waits_on}
+use Rattle.tds_relay.specs.Sparing.{Held, held_at}
 use Rattle.tds_relay.specs.Taking.{IsDeaf}
+use Rattle.tds_relay.specs.Ties.{desk_in}
 
 -- It stays on each, or the connection is there no more.
 pub record KeepsAnswers (old new : List Link) : Type 0 where
@@ -59,3 +63,65 @@ LastBesides But May old new = AllLastBut But old.links new.links ⊎ HasClosed M
 -- Or this application is to be closed.
 abbrev pub LastOrDeaf : ℕ → List Link → code.Relay → Type 0
 LastOrDeaf key old new = AllLast old new.links.items ⊎ IsDeaf (end_at (ends_in new.applications) key)
+
+-- ---- What is put
+
+-- What waited there waits, and nothing else; or the connection is there no more.
+abbrev pub KeepsWaits : ℕ → List Link → List Link → Type 0
+KeepsWaits number old new = (waits_on number new ≡ None) ⊎ (waits_on number new ≡ waits_on number old)
+
+-- Nothing is put on the connection that somebody holds who waits for none, but on these; and where nobody held one, only where somebody does
+-- now.
+pub record PutsOnly (But : ℕ → Type 0) (old new : code.Relay) : Type 0 where
+  pub held : (key : ℕ) (at : Held) → is_in key (desk_in old.desk).line ≡ false → held_at key old.desk ≡ Some at → But at.0 ⊎ KeepsWaits at.0 old.links.items new.links.items
+  pub free : (number : ℕ) → holder (desk_in old.desk) number ≡ None
+      → But number ⊎ (KeepsWaits number old.links.items new.links.items ⊎ IsSome (holder (desk_in new.desk) number))
+
+-- ---- What one application does
+
+-- On each connection that this one doesn't hold the same waits, and who holds it does so still.
+abbrev pub OthersKeep : ℕ → List Hold → List Link → List Hold → List Link → Type 0
+OthersKeep key had old holds new =
+    (number : ℕ) → key_of (find_number number had) ≢ Some key → (find_number number holds ≡ find_number number had) × (waits_on number new ≡ waits_on number old)
+
+-- Who holds a connection does so still; or it is there no more.
+abbrev pub HoldsOrGone : List Hold → List Hold → List Link → Type 0
+HoldsOrGone had holds new = (number : ℕ) → (find_number number holds ≡ find_number number had) ⊎ ((find_number number holds ≡ None) × (waits_on number new ≡ None))
+
+pub record KeepsToItsOwn (key : ℕ) (had : List Hold) (old : List Link) (holds : List Hold) (new : List Link) : Type 0 where
+  pub others : OthersKeep key had old holds new
+  pub own : HoldsOrGone had holds new
+
+abbrev pub IsOnItsOwn : ℕ → code.Relay → code.Relay → Type 0
+IsOnItsOwn key old new = KeepsToItsOwn key old.desk.holds.items old.links.items new.desk.holds.items new.links.items
+
+abbrev pub OthersKeepAt : ℕ → code.Relay → code.Relay → Type 0
+OthersKeepAt key old new = OthersKeep key old.desk.holds.items old.links.items new.desk.holds.items new.links.items
+
+-- They stay, or what is held of the connection of this number isn't held any more.
+abbrev pub MayForget : ℕ → List Hold → List Hold → Type 0
+MayForget number had holds = (holds ≡ had) ⊎ (holds ≡ without_number number had)
+
+-- Nobody holds any more what this application held.
+abbrev pub IsLetGo : ℕ → List Hold → List Hold → Type 0
+IsLetGo key had holds = (hold : Hold) → find_key key had ≡ Some hold → find_number hold.number holds ≡ None
+
+-- But on these connections the same waits, and who holds them does so still.
+abbrev pub FirstKeeps : (ℕ → Type 0) → code.Relay → code.Relay → Type 0
+FirstKeeps But old new = (number : ℕ)
+    → But number ⊎ ((find_number number new.desk.holds.items ≡ find_number number old.desk.holds.items) × (waits_on number new.links.items ≡ waits_on number old.links.items))
+
+-- ---- Where those who wait are lent connections
+
+-- It was held by one of these, who wait; or who holds it does so still, and nothing was put there; or it was lent.
+pub data MayBeLent (number : ℕ) (line : List ℕ) (had : List Hold) (old : List Link) (holds : List Hold) (new : List Link) : Type 0 where
+  OfWaiting : (hold : Hold) → find_number number had ≡ Some hold → is_in hold.key line ≡ true → MayBeLent number line had old holds new
+  Keeps : find_number number holds ≡ find_number number had → KeepsWaits number old new → MayBeLent number line had old holds new
+  Lends : find_number number had ≡ None → IsSome (find_number number holds) → MayBeLent number line had old holds new
+
+abbrev pub LendsInLine : code.Relay → code.Relay → Type 0
+LendsInLine old new = (number : ℕ) → MayBeLent number old.desk.line.items old.desk.holds.items old.links.items new.desk.holds.items new.links.items
+
+-- This connection is one of who holds that one, if somebody does.
+abbrev pub IsWithHolder : ℕ → code.Relay → ℕ → Type 0
+IsWithHolder number r other = IsSome (holder (desk_in r.desk) number) × (holder (desk_in r.desk) other ≡ holder (desk_in r.desk) number)

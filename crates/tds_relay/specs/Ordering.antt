@@ -1,5 +1,5 @@
 -- What is to be done stays so, in order, until it is taken: no call takes any of it away but `orders`.
-use Rattle.std.specs.Prelude.{◌≡◌, ◌<◌, ◌≤◌, ℕ, Bool, true, false, List, [], ◌∷◌, ◌++◌}
+use Rattle.std.specs.Prelude.{◌≡◌, ◌<◌, ◌≤◌, ◌+◌, ℕ, length, Bool, true, false, List, [], ◌∷◌, ◌++◌}
 use Rattle.tds_relay.specs.declared.order.Order.{Order}
 use Rattle.tds_relay.specs.declared.order.Order.TheVariants as orders
 use Rattle.tds_relay.specs.declared.relay.Relay as code
@@ -32,6 +32,10 @@ pub record OpensNew (old new : code.Relay) : Type 0 where
   pub more : List ℕ
   pub are : opens_in new.orders.items ≡ opens_in old.orders.items ++ more
   pub rise : Rise old.desk.service.last new.desk.service.last more
+
+-- As many more as were ordered opened since have come to be there, at most.
+abbrev pub GrowsByOrders : code.Relay → code.Relay → Type 0
+GrowsByOrders old new = length new.links.items + length (opens_in old.orders.items) ≤ length old.links.items + length (opens_in new.orders.items)
 
 -- One that somebody had before isn't opened, a new one is.
 abbrev pub opens_if : Bool → ℕ → List ℕ

@@ -1,5 +1,5 @@
 -- What comes on connections: whole packets, one behind the other, and the beginning of one.
-use Rattle.std.specs.Prelude.{◌≡◌, ◌≢◌, ◌⊎◌, ℕ, suc, ◌==◌, not, Bool, true, false, IfSome, List, [], ◌∷◌, ◌++◌, Option, Some, None, filter, option_map, if◌then◌else◌}
+use Rattle.std.specs.Prelude.{◌≡◌, ◌≤◌, length, ◌≢◌, ◌⊎◌, ℕ, suc, ◌==◌, not, Bool, true, false, IfSome, List, [], ◌∷◌, ◌++◌, Option, Some, None, filter, option_map, if◌then◌else◌}
 use Rattle.std.specs.List.{AllByRecursion}
 use Rattle.tds_packet.specs.Layout.{header_bytes}
 use Rattle.tds_packet.specs.Reading.{Reading, joined, with_taken}
@@ -116,8 +116,9 @@ CalledAt (Some old) new = IsCalled old.1 old.2 new
 abbrev pub Sees : List Link → List Link → Type 0
 Sees old new = (number : ℕ) (had : Option Seen) → StaysAt had (seen_at number old) → StaysAt had (seen_at number new)
 
--- And what waited on one waits there still.
+-- And what waited on one waits there still, and no more are there.
 pub record Stays (old new : List Link) : Type 0 where
+  pub few : length new ≤ length old
   pub seen : Sees old new
   pub fills : (number : ℕ) → FillsAt (waits_on number old) (waits_on number new)
 

@@ -1,6 +1,7 @@
 //! An application, as the relay knows it.
 ghost use Rattle.std.specs.Prelude.{◌≡◌, ◌≤◌, ◌<◌, ◌-◌, ◌++◌, [], IfOk, None, Some, false, length, true, vec_len};
 ghost use Rattle.tds_front.specs.Bytes.{TakesSome};
+ghost use Rattle.tds_relay.specs.Anew.{most_held_by};
 ghost use Rattle.tds_relay.specs.declared.application.TheConstants.{MOST_HELD};
 ghost use Rattle.tds_relay.specs.declared.outgoing.TheConstants.{PIECE};
 
@@ -49,7 +50,7 @@ pub(crate) struct Application {
     pub(crate) fault: Option<FrontFault>,
     /// How many requests it has begun.
     pub(crate) begun: u64,
-    ghost bounded: { vec_len held ≤ MOST_HELD },
+    ghost bounded: { vec_len held ≤ most_held_by asking },
     ghost lively: { TakesSome front },
 }
 
@@ -164,12 +165,20 @@ impl Application {
         most.saturating_sub(self.held.len())
     }
 
-    /// Keeps these bytes of its request. False where they are too many.
-    pub(crate) fn keep(&mut self, bytes: &[u8]) -> Result<bool, NoMemory>
+    /// Keeps these bytes of its request, which waits, and with which all of it has come or not. False where
+    /// they are too many.
+    pub(crate) fn keep(
+        &mut self,
+        kind: MessageKind,
+        bytes: &[u8],
+        whole: bool,
+    ) -> Result<bool, NoMemory>
         ensures post { post_of self.new ≡ post_of self.old }
         ensures end { end_of self.new ≡ end_of self.old }
         ensures body { IfOk result (λ is. is ≡ true → (self.new.is_over ≡ self.old.is_over)
             × (self.new.held.items ≡ self.old.held.items ++ bytes.now)) }
+        ensures asks { IfOk result (λ is. is ≡ true
+            → self.new.asking ≡ Asking.Waits kind whole) }
         ensures long { IfOk result (λ is. is ≡ false
             → room_to_keep self.old < length bytes.now) }
     {
@@ -177,6 +186,7 @@ impl Application {
             return Ok(false);
         }
         self.held.extend_from_slice(bytes)?;
+        self.asking = Asking::Waits { kind, whole };
         Ok(true)
     }
 
@@ -354,11 +364,7 @@ impl Application {
     pub(crate) fn has_no_request(&self) -> bool
         ensures { result ≡ has_no_request (Some self.now) }
     {
-        match self.asking {
-            Asking::Nothing => true,
-            Asking::Waits { .. } => false,
-            Asking::Goes => false,
-        }
+        matches!(self.asking, Asking::Nothing)
     }
 
     /// Whether it is told of a reset with a packet of which this came, if it hears that: its request asks for
@@ -380,13 +386,14 @@ impl Application {
         !self.is_over && !self.is_withdrawn
     }
 
-    /// Nothing is kept of its request any more.
-    pub(crate) fn forget(&mut self)
+    /// Nothing is kept of its request any more, which is there now.
+    pub(crate) fn forget(&mut self, asking: Asking)
         ensures post { post_of self.new ≡ post_of self.old }
         ensures end { end_of self.new ≡ end_of self.old }
-        ensures asking { self.new.asking ≡ self.old.asking }
+        ensures asking { self.new.asking ≡ asking }
         ensures body { (self.new.is_over ≡ self.old.is_over) × (self.new.held.items ≡ []) }
     {
         self.held = Vec::new(self.alloc);
+        self.asking = asking;
     }
 }

@@ -193,6 +193,7 @@ pub(crate) fn set_open(links: &mut Links, number: u64)
         → seen_at other links.new.items ≡ opened_seen number other links.old.items }
     ensures waits { (other : ℕ)
         → waits_on other links.new.items ≡ waits_on other links.old.items }
+    ensures many { length links.new.items ≡ length links.old.items }
 {
     let Some(place) = place_in(links, number) else {
         return;

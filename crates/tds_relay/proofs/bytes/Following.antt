@@ -1,5 +1,5 @@
 -- What comes on a connection over calls that follow each other.
-use Rattle.std.proofs.Common.{◌≡◌, ◌∙◌, ℕ, List, [], ◌∷◌, ◌++◌, inl, inr, Option, Some, None, sym, ap, subst, append_assoc, append-nil}
+use Rattle.std.proofs.Common.{◌≡◌, ◌∙◌, ℕ, List, [], ◌∷◌, ◌++◌, Option, Some, sym, ap, subst, append_assoc, append-nil}
 use Rattle.std.specs.List.{AllByRecursion}
 use Rattle.tds_packet.specs.Reading.{Reading, joined, with_taken}
 use Rattle.tds_packet.specs.Stream.{IsLess, IsOnePacket}

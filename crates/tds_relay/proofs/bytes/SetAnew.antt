@@ -15,12 +15,12 @@ use Rattle.tds_relay.specs.declared.relay.Relay as code
 use Rattle.tds_relay.specs.Cutting.{at_its_beginning, ends_in}
 use Rattle.tds_relay.specs.Desk.{Way, owes_reset}
 use Rattle.tds_relay.specs.Fronts.{Moved, MovedOn, hall_in, house_in}
-use Rattle.tds_relay.specs.Hall.{Hall, Move, Moves}
+use Rattle.tds_relay.specs.Hall.{Hall, Move}
 use Rattle.tds_relay.specs.Handing.{Brings, Hears, HearsBy, PassesAs, fed}
 use Rattle.tds_relay.specs.House.{House, Manner, Step, Admits, Hands, Makes, Removes, Takes, Writes, after, after_all}
 use Rattle.tds_relay.specs.Lent.{KeepsAnswers}
 use Rattle.tds_relay.specs.Posts.{Posts, posts_in}
-use Rattle.tds_relay.specs.Reads.{Opens, Stays, StaysAt, Streams, StreamsAll, answer_at, answer_on, if_heard, link_at, open_at, open_of, place_of, reader_at, seen_of}
+use Rattle.tds_relay.specs.Reads.{Opens, Stays, StaysAt, StreamsAll, answer_at, answer_on, if_heard, link_at, open_at, open_of, place_of, reader_at, seen_of}
 use Rattle.tds_relay.specs.Coming.{AreSetAnew, ComesAnew, ContinuesAnew, MayBegin, MayBeginAny, StreamsAnew}
 use Rattle.tds_relay.specs.Ties.{Connection, part_on}
 use Rattle.tds_relay.specs.Walkers.{AllStand, ReadsBy as WalksBy, ReadsOn}

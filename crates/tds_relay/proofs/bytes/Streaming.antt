@@ -1,7 +1,7 @@
 -- What comes by steps of the bytes that a connection's reader takes.
-use Rattle.std.proofs.Common.{◌≡◌, ◌∙◌, ℕ, true, false, List, [], ◌∷◌, ◌++◌, Option, Some, None, inl, inr, refl, sym, ap, subst, drop, take, slice_index_or, slice_set, option_map, append_assoc, append-nil}
+use Rattle.std.proofs.Common.{◌≡◌, ◌∙◌, ℕ, List, [], ◌∷◌, ◌++◌, Option, Some, None, inl, inr, refl, sym, ap, subst, drop, take, append_assoc, append-nil}
 use Rattle.std.proofs.lemmas.List.{take-append-drop}
-use Rattle.std.specs.Prelude.{Result, Ok, Err, IfOk, IsNone, OnOk}
+use Rattle.std.specs.Prelude.{Result, Ok, Err, IsNone, OnOk}
 use Rattle.tds_packet.specs.Layout.{header_bytes}
 use Rattle.tds_packet.specs.Reading as packets
 use Rattle.tds_packet.specs.Reading.{IsWhole, with_taken}
@@ -16,13 +16,12 @@ use Rattle.tds_relay.specs.Hall.{Hall, Move, Moves}
 use Rattle.tds_relay.specs.Handing.{Brings, Hears, fed}
 use Rattle.tds_relay.specs.House.{House, Step, Admits, CausesStep, Hands, Makes, MayAll, MayStep, Removes, Steps, Takes, Writes, after, after_all}
 use Rattle.tds_relay.specs.Posts.{Posts}
-use Rattle.tds_relay.specs.Reads.{Comes, Opens, Reads, ReadsBy, Stays, StaysAt, Streams, StreamsAll, if_heard, open_at, open_of, packets_of, place_of, reader_at, seen_of}
+use Rattle.tds_relay.specs.Reads.{Comes, Opens, Reads, ReadsBy, Stays, StaysAt, Streams, StreamsAll, if_heard, open_at, packets_of, reader_at}
 use Rattle.tds_relay.specs.Ties.{Connection, part_on}
-use Rattle.tds_relay.specs.Walkers.{AllStand, ReadsBy as WalksBy, ReadsOn, Walks}
+use Rattle.tds_relay.specs.Walkers.{AllStand, ReadsOn, Walks}
 use Rattle.tds_relay.proofs.bytes.Rereading.{walks_both, walks_hands, walks_makes, walks_none, walks_on}
 use Rattle.tds_relay.proofs.steps.Fronts.{each_both, no_moves}
 use Rattle.tds_relay.proofs.steps.Handed.{may_hand}
-use Rattle.tds_relay.proofs.steps.Placed.{IsAt, is_at, is_nowhere, is_open_at, is_shut_at}
 use Rattle.tds_relay.proofs.steps.Staying.{gone_open, stays_opens}
 use Rattle.tds_relay.proofs.steps.Stepping.{after_both, after_makes, caused_makes, makes_all, may_both, may_makes}
 use Rattle.tds_relay.proofs.bytes.Taking.{reads_gone, reads_less, reads_nothing, reads_packet, reads_stays}

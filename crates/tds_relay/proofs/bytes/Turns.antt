@@ -1,7 +1,7 @@
 -- How many turns it takes to hear all bytes of a connection: but in the first one, one is heard in each at least.
-use Rattle.std.proofs.Common.{◌≡◌, ◌∙◌, ◌⊎◌, ◌==◌, ◌≤◌, ◌<◌, ◌+◌, ◌-◌, ◌++◌, ℕ, zero, true, false, suc, List, [], ◌∷◌, Option, Some, None, length, drop, take, slice_index_or, slice_set, option_map, inl, inr, refl, sym, ap, subst, append-nil, arith}
+use Rattle.std.proofs.Common.{◌≡◌, ◌∙◌, ◌⊎◌, ◌==◌, ◌≤◌, ◌<◌, ◌+◌, ◌++◌, ℕ, zero, true, false, suc, List, [], ◌∷◌, Option, Some, None, length, drop, take, slice_index_or, slice_set, option_map, inl, inr, refl, sym, ap, subst, append-nil, arith}
 use Rattle.std.proofs.lemmas.List.{length-drop}
-use Rattle.std.specs.Prelude.{Result, Ok, Err, IfOk, OnOk}
+use Rattle.std.specs.Prelude.{Result, Ok, Err, IfOk}
 use Rattle.tds_packet.specs.Reading as packets
 use Rattle.tds_packet.specs.Reading.{IsWhole, with_taken}
 use Rattle.tds_packet.specs.Stream.{IsLess}

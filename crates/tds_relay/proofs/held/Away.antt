@@ -144,7 +144,7 @@ pub record IsServed (key : ℕ) (d : Desk) : Type 0 where
   pub its : Its (turn d desk.Serves).desk key hold seat
   pub origin : Origin d hold.number seat.line
 
-full_idle : (l : Line) → l.stage ≡ line.Idle → (line_after {T = Token} l (line.Mark Full ∷ [])).stage ≡ line.Idle
+pub full_idle : (l : Line) → l.stage ≡ line.Idle → (line_after {T = Token} l (line.Mark Full ∷ [])).stage ≡ line.Idle
 full_idle l is = ap (λ (st : Stage). (line.marks {T = Token} l Full st).line.stage) is ∙ is
 
 pub origin_idle : (d : Desk) (number : ℕ) (l : Line) → Origin d number l → l.stage ≡ line.Idle

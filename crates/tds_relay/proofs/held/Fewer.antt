@@ -27,7 +27,7 @@ none_left_by : (m : ℕ) (y : Hold) (ys : List Hold) (b : Bool) → (y.number ==
 none_left_by m y ys true e ih = ih
 none_left_by m y ys false e ih = rw e ih
 
-none_left : (m : ℕ) (hs : List Hold) → find_number m (without_number m hs) ≡ None
+pub none_left : (m : ℕ) (hs : List Hold) → find_number m (without_number m hs) ≡ None
 none_left m [] = refl
 none_left m (y ∷ ys) = none_left_by m y ys (y.number == m) refl (none_left m ys)
 
@@ -38,7 +38,7 @@ same_left_by m n y ys true e differs ih =
     rw other ih
 same_left_by m n y ys false e differs ih = ap (λ (o : Option Hold). if y.number == n then Some y else o) ih
 
-same_left : (m n : ℕ) (hs : List Hold) → m ≢ n → find_number n (without_number m hs) ≡ find_number n hs
+pub same_left : (m n : ℕ) (hs : List Hold) → m ≢ n → find_number n (without_number m hs) ≡ find_number n hs
 same_left m n [] differs = refl
 same_left m n (y ∷ ys) differs = same_left_by m n y ys (y.number == m) refl differs (same_left m n ys differs)
 
@@ -198,7 +198,7 @@ each_number_by : (P : Hold → Type 0) (n : ℕ) (h x : Hold) (xs : List Hold) (
 each_number_by P n h x xs true p e f = let same : x ≡ h = cc in subst P same p
 each_number_by P n h x xs false p e f = f e
 
-each_number : (P : Hold → Type 0) (n : ℕ) (h : Hold) (hs : List Hold) → Each P hs → find_number n hs ≡ Some h → P h
+pub each_number : (P : Hold → Type 0) (n : ℕ) (h : Hold) (hs : List Hold) → Each P hs → find_number n hs ≡ Some h → P h
 each_number P n h [] k e = absurd (let u : ⊥ = cc in u)
 each_number P n h (x ∷ xs) k e = each_number_by P n h x xs (x.number == n) k.0 e (λ f. each_number P n h xs k.1 f)
 

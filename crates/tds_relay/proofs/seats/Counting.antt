@@ -1,6 +1,5 @@
 -- Which connections a service has behind a call.
-use Rattle.std.proofs.Common.{◌≡◌, ◌≢◌, ◌∙◌, ◌==◌, ◌&&◌, ℕ, suc, Bool, true, false, List, [], ◌∷◌, ◌++◌, length, Option, Some, None, is_some, inl, inr, refl, sym, ap, subst, if◌then◌else◌}
-use Rattle.std.specs.Prelude.{nat_lt, ◌⊎◌}
+use Rattle.std.proofs.Common.{◌≡◌, ◌≢◌, ◌∙◌, ◌==◌, ℕ, suc, Bool, true, false, List, [], ◌∷◌, ◌++◌, Option, Some, None, is_some, inl, inr, refl, sym, ap, subst, if◌then◌else◌}
 use Rattle.std.proofs.lemmas.Bool.{cases_eq, eqb-true}
 use Rattle.tds_packet.specs.declared.status.Reset.TheVariants.{Full, KeepTransaction}
 use Rattle.tds_client.specs.declared.fault.ClientRefusal.{ClientRefusal}
@@ -19,7 +18,6 @@ use Rattle.tds_relay.specs.Few.{HasNumber, SeatStays, has_seat}
 use Rattle.tds_relay.specs.Ties.{is_sent, lost_by}
 use Rattle.tds_relay.proofs.promises.Seats.{Distinct, found_meets}
 use Rattle.tds_relay.proofs.promises.Tidy.{Tidy, step_rises}
-use Rattle.tds_relay.proofs.bytes.Walking.{differ}
 
 pub differs : (b : Bool) (n m : ℕ) → (n == m) ≡ b → n ≢ m → (n == m) ≡ false
 differs true n m e ne = absurd (ne (eqb-true n m e))

@@ -1,6 +1,5 @@
 -- Connections that a desk's service has, behind what is done at the desk, beside those of a relay.
-use Rattle.std.proofs.Common.{◌≡◌, ◌≢◌, ◌∙◌, ◌==◌, ℕ, Bool, true, false, List, [], ◌∷◌, ◌++◌, Option, Some, None, is_some, inl, inr, refl, sym, ap, subst}
-use Rattle.std.specs.Prelude.{Result, Ok, Err, OnOk, ◌⊎◌}
+use Rattle.std.proofs.Common.{◌≡◌, ◌∙◌, ℕ, Bool, true, false, List, [], ◌∷◌, ◌++◌, Option, Some, None, inl, inr, refl, sym, ap, subst}
 use Rattle.std.proofs.lemmas.Bool.{cases_eq}
 use Rattle.tds_wire.specs.declared.told.Token.{Token}
 use Rattle.tds_service.specs.Service as calls
@@ -11,8 +10,7 @@ use Rattle.tds_relay.specs.declared.link.Link.{Link}
 use Rattle.tds_relay.specs.Desk as desk
 use Rattle.tds_relay.specs.Desk.{Deed, Desk, Event, desk_after, find_key, lent_in, new_desk, turn}
 use Rattle.tds_relay.specs.Few.{AreSeated, AreSeatedBut, AreSeatedOff, KeepsSeats, SeatIs, SeatStays, has_seat}
-use Rattle.tds_relay.specs.Ties.{Cause, Goes, GoesOn, IsReached, IsServed, Neither, Serving, Turns, lost_by}
-use Rattle.tds_relay.proofs.promises.Caring.{Sound}
+use Rattle.tds_relay.specs.Ties.{GoesOn, IsReached, IsServed, Neither, Serving, Turns}
 use Rattle.tds_relay.proofs.seats.Counting.{Keeps, all_same, lost_stays, step_same}
 use Rattle.tds_relay.proofs.bytes.Walking.{led_tidy}
 use Rattle.tds_relay.specs.Walkers.{IsLed}

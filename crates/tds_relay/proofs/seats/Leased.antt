@@ -1,6 +1,6 @@
 -- The connection that is lent, by its number and by its lease.
-use Rattle.std.proofs.Common.{◌≡◌, ◌≢◌, ◌∙◌, ◌==◌, ◌≤◌, ℕ, suc, Bool, true, false, List, [], ◌∷◌, ◌++◌, length, Option, Some, None, is_some, inl, inr, refl, sym, ap, subst, arith, if◌then◌else◌}
-use Rattle.std.specs.Prelude.{nat_lt, ◌⊎◌}
+use Rattle.std.proofs.Common.{◌≡◌, ◌≢◌, ◌∙◌, ◌==◌, ◌≤◌, ℕ, suc, Bool, true, false, List, [], ◌∷◌, ◌++◌, length, Option, Some, None, is_some, refl, sym, ap, subst, arith, if◌then◌else◌}
+use Rattle.std.specs.Prelude.{nat_lt}
 use Rattle.tds_packet.specs.declared.status.Reset.TheVariants.{Full}
 use Rattle.tds_wire.specs.declared.told.Token.{Token}
 use Rattle.tds_service.specs.declared.seat.Seat as seats
@@ -8,8 +8,6 @@ use Rattle.tds_service.specs.declared.service.Service as services
 use Rattle.tds_service.specs.Index.{holder_in, holder_of, holders_in, number_held}
 use Rattle.tds_service.specs.Line as line
 use Rattle.tds_service.specs.Line.{new_line}
-use Rattle.tds_service.specs.Parts.{Part}
-use Rattle.tds_service.specs.History.{line_after}
 use Rattle.tds_service.specs.Service as calls
 use Rattle.tds_service.specs.Service.{Service, Step, Place, Leased, Cleaning, Kept, Free, Draining, Seat, drained, find_by, has_lease, has_number, holds, is_lendable, lease_at, lease_in, seat_numbered, step}
 use Rattle.tds_service.specs.Table.{seat_in, seats_in, service_in}
@@ -20,9 +18,9 @@ use Rattle.tds_relay.specs.Desk as desk
 use Rattle.tds_relay.specs.Desk.{lent_in}
 use Rattle.tds_relay.specs.Promises.{Each}
 use Rattle.tds_relay.specs.Few.{HasNumber, has_seat}
-use Rattle.tds_relay.proofs.held.Sitting.{Sits, lent_sits}
-use Rattle.tds_relay.proofs.held.Numbers.{IsThere, lent_there}
-use Rattle.tds_relay.proofs.promises.Seats.{Distinct, found_meets}
+use Rattle.tds_relay.proofs.held.Sitting.{lent_sits}
+use Rattle.tds_relay.proofs.held.Numbers.{lent_there}
+use Rattle.tds_relay.proofs.promises.Seats.{found_meets}
 use Rattle.tds_relay.proofs.promises.Tidy.{Tidy, UpTo}
 use Rattle.tds_relay.proofs.seats.Counting.{does_same, unequal}
 

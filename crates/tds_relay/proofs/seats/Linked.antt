@@ -1,11 +1,9 @@
 -- Which connections a relay has, behind what is done with one.
 use Rattle.std.proofs.Common.{◌≡◌, ◌≢◌, ◌∙◌, ◌==◌, ℕ, Bool, true, false, List, [], ◌∷◌, ◌++◌, Option, Some, None, is_some, inl, inr, refl, sym, ap, subst, arith, option_map, if◌then◌else◌}
-use Rattle.std.specs.Prelude.{◌⊎◌, drop}
 use Rattle.std.proofs.lemmas.Bool.{cases_eq, eq-eqb}
 use Rattle.tds_relay.specs.declared.link.Link.{Link}
 use Rattle.tds_relay.specs.Desk.{Desk}
 use Rattle.tds_relay.specs.Lent.{AllLast}
-use Rattle.tds_relay.specs.Few.{NoneNew}
 use Rattle.tds_relay.specs.Reads.{Stays, bytes_on, link_at, reader_at, reader_of, waits_on}
 use Rattle.tds_relay.specs.Few.{AreSeated, AreSeatedBut, AreSeatedOff, has_seat}
 use Rattle.tds_relay.specs.Sending.{sending_at, sending_of}

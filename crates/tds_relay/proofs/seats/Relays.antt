@@ -1,7 +1,7 @@
 -- The connections of a relay and of its service, call behind call.
 use Rattle.std.proofs.lemmas.Bool.{cases_eq}
-use Rattle.std.proofs.Common.{◌≡◌, ◌≢◌, ◌∙◌, inl, inr, ℕ, Bool, true, false, List, [], ◌∷◌, ◌++◌, Option, Some, None, refl, sym, ap, subst}
-use Rattle.std.specs.Prelude.{Result, Ok, Err, OnOk, IfOk, ◌⊎◌}
+use Rattle.std.proofs.Common.{◌≡◌, ◌≢◌, ◌∙◌, inl, inr, ℕ, Bool, true, false, List, [], Option, Some, None, refl, sym, ap, subst}
+use Rattle.std.specs.Prelude.{Result, Ok, Err, OnOk, IfOk}
 use Rattle.tds_service.specs.declared.service.Service as services
 use Rattle.tds_service.specs.Service.{Service}
 use Rattle.tds_service.specs.Table.{service_in}
@@ -18,8 +18,8 @@ use Rattle.tds_relay.specs.Lent.{AllLast}
 use Rattle.tds_relay.specs.Reads.{Stays, reader_at, waits_on}
 use Rattle.tds_relay.specs.Few.{AreSeated, AreSeatedBut, AreSeatedOff, BringsSeat, HearsSeat, IsSeated, IsSeatedBehind, IsSeatedBut, IsSeatedIf, IsSeatedOff, KeepsSeats, LeavesSeat, RenewsSeat, SeatIs, SeatStays, has_seat, is_left}
 use Rattle.tds_relay.specs.Told.{is_there}
-use Rattle.tds_relay.specs.Ties.{GoesOn, IsReached, Serving, Turns, desk_in}
-use Rattle.tds_relay.proofs.seats.Desks.{gone_on, seated_is, seated_on, seated_out, seated_stays, served_again, served_new, turned}
+use Rattle.tds_relay.specs.Ties.{IsReached, Serving, Turns, desk_in}
+use Rattle.tds_relay.proofs.seats.Desks.{seated_is, seated_on, seated_out, seated_stays, served_again, served_new, turned}
 use Rattle.tds_relay.proofs.seats.Linked.{SameThere, but_as, but_gone, gone_there, lasting_there, off_as, seated_as, seated_gone}
 
 -- ---- A new one

@@ -2,7 +2,6 @@
 use Rattle.std.proofs.Common.{◌≡◌, ◌∙◌, ℕ, Bool, true, false, List, [], ◌∷◌, Option, Some, None, is_some, refl, sym, ap, subst, if◌then◌else◌}
 use Rattle.tds_wire.specs.declared.told.Token.{Token}
 use Rattle.tds_service.specs.declared.place.Rest.{Rest}
-use Rattle.tds_service.specs.declared.place.Rest.TheVariants as rests
 use Rattle.tds_service.specs.declared.service.Service as services
 use Rattle.tds_service.specs.Parts.{Part}
 use Rattle.tds_service.specs.Line as line
@@ -10,7 +9,7 @@ use Rattle.tds_service.specs.History.{line_after}
 use Rattle.tds_service.specs.Service as calls
 use Rattle.tds_service.specs.Service.{Call, Seat, Service, Step, change_by, drained, find_by, has_lease, has_number, lease_at, lease_in, seat_numbered, step, service_after}
 use Rattle.tds_service.specs.Table.{StepsIn, rest_of, service_in}
-use Rattle.tds_service.proofs.Numbered.{change_here, is_found}
+use Rattle.tds_service.proofs.Numbered.{change_here}
 use Rattle.tds_relay.specs.declared.desk.coming.What.{What}
 use Rattle.tds_relay.specs.declared.desk.coming.What.TheVariants as whats
 use Rattle.tds_relay.specs.declared.desk.Hold.{Hold}
@@ -24,7 +23,7 @@ use Rattle.tds_relay.proofs.promises.Holding.{found_by_lease}
 use Rattle.tds_relay.proofs.promises.Seats.{found_meets}
 use Rattle.tds_relay.proofs.spared.Held.{sound_at}
 use Rattle.tds_relay.proofs.promises.Tidy.{Tidy}
-use Rattle.tds_relay.proofs.seats.Counting.{Keeps, all_same, cleaned_stays, cleaning_stays, given_stays, gone_both, lost_stays, same_stays, stays_both, step_same}
+use Rattle.tds_relay.proofs.seats.Counting.{Keeps, cleaned_stays, cleaning_stays, given_stays, gone_both, lost_stays, same_stays, stays_both, step_same}
 use Rattle.tds_relay.proofs.seats.Leased.{Lends, lease_drained, lease_lends, lent_on, on_number}
 use Rattle.std.proofs.lemmas.Bool.{eqb-true}
 

@@ -8,19 +8,18 @@ use Rattle.tds_client.specs.Streams.{finished, opened, put}
 use Rattle.tds_service.specs.declared.service.Service as services
 use Rattle.tds_service.specs.Table.{CancelsOut, DoesAt, Opens, client_of}
 use Rattle.tds_service.specs.Ties.{cancel_out}
-use Rattle.tds_packet.specs.Reading.{Reading}
 use Rattle.tds_packet.specs.declared.status.Reset.TheVariants.{Full}
 use Rattle.tds_relay.specs.declared.desk.Desk as desks
 use Rattle.tds_relay.specs.declared.desk.Hold.{Hold}
 use Rattle.tds_relay.specs.declared.desk.leaving.Left.{Left}
 use Rattle.tds_relay.specs.declared.link.Link.{Link}
 use Rattle.tds_relay.specs.declared.relay.Relay as code
-use Rattle.tds_relay.specs.Cleaning.{CleansOnce, GoesOutAtEnd, GoesOutAtAny, GoesOutBy, IsBatch, IsCleaning, WaitsAtEnd, WaitsBehindEnd, OfItsHold, MayClean, IsPutBehind, CountsHold, rests_once}
+use Rattle.tds_relay.specs.Cleaning.{CleansOnce, GoesOutAtEnd, GoesOutBy, IsBatch, IsCleaning, WaitsAtEnd, OfItsHold, MayClean, IsPutBehind, CountsHold, rests_once}
 use Rattle.tds_relay.specs.Cleaning as cleaning
 use Rattle.tds_relay.specs.Desk as desk
 use Rattle.tds_relay.specs.Desk.{Desk, find_key, find_lease, find_number, whose_by, without_lease, next}
 use Rattle.tds_relay.specs.Promises.{Each}
-use Rattle.tds_relay.specs.Reads.{FillsAt, FillsBy, Opens as OpensLinks, bytes_on, if_open, link_at, open_at, open_waits, reader_at, reader_of, waits_on}
+use Rattle.tds_relay.specs.Reads.{FillsBy, bytes_on, link_at, reader_at, reader_of, waits_on}
 use Rattle.tds_relay.specs.Ties.{IsNumberOf, IsReached, Turns, desk_in}
 use Rattle.tds_relay.specs.Cleaning.{text_of_cleaning}
 use Rattle.tds_relay.proofs.held.Sitting.{Sits}
@@ -86,9 +85,6 @@ cancelled_cleaned text lease old before between after c rests p = record {
 
 pub text_is : (text : List ℕ) (client : Option ClientSession) (before after : List ℕ) → text ≡ text_of_cleaning → IsPutBehind (GoesOutAtEnd text client) before after → IsPutBehind (GoesOutAtEnd text_of_cleaning client) before after
 text_is text client before after same p = subst (λ (t : List ℕ). IsPutBehind (GoesOutAtEnd t client) before after) same p
-
-pub any_text : (text : List ℕ) (client : Option ClientSession) (before after : List ℕ) → text ≡ text_of_cleaning → IsPutBehind (GoesOutAtEnd text client) before after → (c : Option ClientSession) × IsPutBehind (GoesOutAtEnd text_of_cleaning c) before after
-any_text text client before after same p = (client, text_is text client before after same p)
 
 -- ---- A packet that is nobody's
 
@@ -186,30 +182,6 @@ shut_by (Err x) key left o old new same is gone = tt
 -- nobody held one
 pub nobody_left : (key : ℕ) (o : Option Hold) (old new : code.Relay) → o ≡ find_key key old.desk.holds.items → IsNumberOf o None → OfItsHold WaitsAtEnd key old (λ (n : ℕ). waits_on n new.links.items)
 nobody_left key o old new same is = λ hold its. absurd (subst (λ (p : Option Hold). IsNumberOf p None) (same ∙ its) is)
-
--- ---- And more behind it
-
-open_by : (x : Option Reading) (o : Option (List ℕ)) (waits : List ℕ) → if_open x o ≡ Some waits → o ≡ Some waits
-open_by None o waits e = absurd (let u : ⊥ = cc in u)
-open_by (Some r) o waits e = e
-
-on_left : (client : Option ClientSession) (old mid : Option (List ℕ)) (waits more : List ℕ) → WaitsAtEnd client old mid → mid ≡ Some waits → WaitsBehindEnd client old (Some (waits ++ more))
-on_left client old None waits more h e = absurd (let u : ⊥ = cc in u)
-on_left client old (Some xs) waits more (cleaning.HasMore ws out was ends) e =
-    let same : ws ++ out ≡ waits = (let u : Some (ws ++ out) ≡ Some waits = e in cc) in
-    subst (λ (ys : List ℕ). WaitsBehindEnd client old (Some (ys ++ more))) same (cleaning.HasMoreSince ws out more was ends)
-
-left_then : (client : Option ClientSession) (old mid : Option (List ℕ)) (seen : Option Reading) (x y : Option (List ℕ)) → WaitsAtEnd client old mid → x ≡ if_open seen mid → FillsAt x y → WaitsBehindEnd client old y
-left_then client old mid seen x None h e f = cleaning.IsShutSince
-left_then client old mid seen None (Some new) h e f = absurd f
-left_then client old mid seen (Some waits) (Some new) h e f =
-    subst (λ (xs : List ℕ). WaitsBehindEnd client old (Some xs)) (sym f.1) (on_left client old mid waits f.0 h (open_by seen mid waits (sym e)))
-
-pub left_served : {A E : Type 0} (r : Result A E) (key : ℕ) (old mid new : code.Relay) → OfItsHold WaitsAtEnd key old (λ (n : ℕ). waits_on n mid.links.items) → OnOk r (OpensLinks mid.links.items new.links.items)
-    → OnOk r (OfItsHold WaitsBehindEnd key old (λ (n : ℕ). open_waits n new.links.items))
-left_served (Ok x) key old mid new left opens = λ hold its.
-    left_then (client_of hold.lease old.desk.service) (waits_on hold.number old.links.items) (waits_on hold.number mid.links.items) (open_at hold.number mid.links.items) (open_waits hold.number mid.links.items) (open_waits hold.number new.links.items) (left hold its) refl (opens.fills hold.number)
-left_served (Err x) key old mid new left opens = tt
 
 -- ---- How often
 

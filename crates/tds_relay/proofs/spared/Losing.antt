@@ -16,7 +16,7 @@ use Rattle.tds_relay.specs.declared.relay.Relay as code
 use Rattle.tds_relay.specs.Asking.{IsTakenBack}
 use Rattle.tds_relay.specs.Cleaning.{MayClean}
 use Rattle.tds_relay.specs.Closings.{ClosesOnly, IsWho, register_in}
-use Rattle.tds_relay.specs.Fronts.{end_of, ends_in, house_in, house_with, told_by}
+use Rattle.tds_relay.specs.Fronts.{ends_in, house_in, house_with, told_by}
 use Rattle.tds_relay.specs.Hall.{End, Ends, Open, Over, end_at, holder}
 use Rattle.tds_relay.specs.Handing.{HearsBy}
 use Rattle.tds_relay.specs.House.{House}

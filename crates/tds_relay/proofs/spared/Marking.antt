@@ -1,6 +1,5 @@
 -- What a cleaning asks for, and where a connection is once what is underway there is cancelled.
 use Rattle.std.proofs.Common.{◌≡◌, ◌∙◌, ◌==◌, ◌&&◌, ℕ, suc, Bool, true, false, List, [], ◌∷◌, Option, Some, None, refl, sym, ap, subst, if◌then◌else◌}
-use Rattle.tds_packet.specs.Resets.{strongest}
 use Rattle.tds_packet.specs.declared.status.Reset.TheVariants.{Full}
 use Rattle.tds_client.specs.Session as session
 use Rattle.tds_client.specs.Session.{ClientSession}
@@ -14,12 +13,12 @@ use Rattle.tds_service.specs.Line.{Line, Stage, marks}
 use Rattle.tds_service.specs.Service as calls
 use Rattle.tds_service.specs.Service.{Cleaning, Draining, Free, Place, Seat, Service, find_by, has_lease, has_number, is_idle, is_lendable, does, nothing, rests, step}
 use Rattle.tds_service.specs.Table.{client_by, client_of, seat_in, seats_in, service_in}
-use Rattle.tds_service.specs.Ties.{begun_of, stage_of}
+use Rattle.tds_service.specs.Ties.{stage_of}
 use Rattle.tds_relay.specs.Cleaning.{rests_once}
 use Rattle.tds_relay.specs.Promises.{Each}
 use Rattle.tds_relay.specs.Walkers.{IsLed}
 use Rattle.tds_relay.proofs.bytes.Walking.{led_tidy}
-use Rattle.tds_relay.proofs.promises.Seats.{Fits, each_changed, each_found, found_meets}
+use Rattle.tds_relay.proofs.promises.Seats.{each_changed, each_found, found_meets}
 use Rattle.tds_relay.proofs.promises.Tidy.{Tidy, WithinIn, next_other}
 use Rattle.tds_relay.proofs.spared.Aside.{clean_lease}
 
@@ -117,7 +116,7 @@ marked_by l line.Reading e = absurd (let u : ⊥ = cc in u)
 marked_by l line.Cancelling e = absurd (let u : ⊥ = cc in u)
 marked_by l (line.Broken fault) e = absurd (let u : ⊥ = cc in u)
 
-both_true : (a b : Bool) → (a && b) ≡ true → b ≡ true
+pub both_true : (a b : Bool) → (a && b) ≡ true → b ≡ true
 both_true true b e = e
 both_true false b e = absurd (let u : ⊥ = cc in u)
 

@@ -1,7 +1,6 @@
 -- Requests of those who don't hold the connection on which something comes.
 use Rattle.std.proofs.Common.{◌≡◌, ◌≢◌, ◌⊎◌, ◌∙◌, ℕ, Bool, List, Option, Some, None, inl, inr, refl, sym, ap, subst, option_map}
 use Rattle.std.specs.Prelude.{Result, Ok, Err, OnOk}
-use Rattle.tds_client.specs.Session.{ClientSession}
 use Rattle.tds_relay.specs.Apart.{SparesOthers}
 use Rattle.tds_relay.specs.declared.desk.Desk as desks
 use Rattle.tds_relay.specs.declared.desk.coming.Heard.{Heard}
@@ -16,7 +15,7 @@ use Rattle.tds_relay.specs.Posts.{posts_in}
 use Rattle.tds_relay.specs.Reads.{bytes_on, link_at, waits_on}
 use Rattle.tds_relay.specs.Reasons.{HearsNothing, IsHeardAs, IsIdle}
 use Rattle.tds_relay.specs.Sending.{Sending, sending_at, sending_of}
-use Rattle.tds_relay.specs.Sparing.{AllGo, AllRest, Held, HoldsOn, IsOff, OffGo, OffHold, OthersRest, Rests, SendsOn, held_at}
+use Rattle.tds_relay.specs.Sparing.{AllGo, AllRest, Held, IsOff, OffGo, OffHold, OthersRest, Rests, SendsOn, held_at}
 use Rattle.tds_relay.specs.Ties.{Connection, Goes, GoesOn, IsReached, Turns, desk_in}
 use Rattle.tds_relay.proofs.spared.Held.{holder_is}
 use Rattle.tds_relay.proofs.spared.Only.{HeardApart, apart_or, spares_changed, spares_renewed, spares_sent}

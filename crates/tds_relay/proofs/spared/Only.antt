@@ -1,7 +1,6 @@
 -- Whom what comes on a connection leaves as he was: who neither holds that nor waits.
-use Rattle.std.proofs.Common.{◌≡◌, ◌≢◌, ◌⊎◌, ◌∙◌, ◌==◌, ◌++◌, ℕ, Bool, true, false, List, [], ◌∷◌, inl, inr, refl, sym, ap, subst, option_map}
+use Rattle.std.proofs.Common.{◌≡◌, ◌≢◌, ◌⊎◌, ◌∙◌, ◌==◌, ℕ, Bool, List, inl, inr, refl, sym, ap, subst, option_map}
 use Rattle.std.specs.Prelude.{Option, Some, None, Result, Ok, Err, OnOk}
-use Rattle.std.proofs.lemmas.Bool.{eqb-true}
 use Rattle.tds_wire.specs.declared.told.Token.{Token}
 use Rattle.tds_wire.specs.Reading.{Reading}
 use Rattle.tds_service.specs.Parts.{Part}
@@ -9,7 +8,6 @@ use Rattle.tds_service.specs.Service as calls
 use Rattle.tds_service.specs.Service.{lease_at, seat_numbered, step}
 use Rattle.tds_service.specs.Table.{reading_on}
 use Rattle.tds_relay.specs.Apart.{Alone, LosesOnly, SparesOthers, UnlessServed}
-use Rattle.tds_relay.specs.declared.desk.Desk as desks
 use Rattle.tds_relay.specs.declared.desk.coming.Heard.{Heard}
 use Rattle.tds_relay.specs.declared.link.Link.{Link}
 use Rattle.tds_relay.specs.declared.relay.Relay as code

@@ -1,17 +1,19 @@
 -- Which connections are ordered opened: none but new ones, each once.
-use Rattle.std.proofs.Common.{◌≡◌, ◌∙◌, ◌<◌, ◌≤◌, ℕ, suc, Bool, true, false, List, [], ◌∷◌, ◌++◌, length, Option, Some, None, refl, sym, ap, subst, arith, append_assoc, append-nil}
+use Rattle.std.proofs.Common.{◌≡◌, ◌∙◌, ◌<◌, ◌≤◌, ◌+◌, ℕ, suc, Bool, true, false, List, [], ◌∷◌, ◌++◌, length, Option, Some, None, refl, sym, ap, subst, arith, append_assoc, append-nil, length-append}
 use Rattle.std.specs.Prelude.{Result, Ok, Err, OnOk, nat_lt}
 use Rattle.tds_wire.specs.declared.told.Token.{Token}
 use Rattle.tds_service.specs.Service as calls
 use Rattle.tds_service.specs.Service.{Call, Seat, Service, find_by, is_lendable, step, service_after}
 use Rattle.tds_relay.specs.declared.desk.Served.{Served}
+use Rattle.tds_relay.specs.declared.link.Link.{Link}
 use Rattle.tds_relay.specs.declared.order.Order.{Order}
 use Rattle.tds_relay.specs.declared.order.Order.TheVariants as orders
 use Rattle.tds_relay.specs.declared.relay.Relay as code
+use Rattle.tds_relay.specs.Reads.{Stays}
 use Rattle.tds_relay.specs.Desk as desk
 use Rattle.tds_relay.specs.Desk.{Desk, Event, desk_after}
 use Rattle.tds_relay.specs.Fronting.{calls_along}
-use Rattle.tds_relay.specs.Ordering.{OpensNew, Rise, opens_if, opens_in}
+use Rattle.tds_relay.specs.Ordering.{GrowsByOrders, OpensNew, Rise, opens_if, opens_in}
 use Rattle.tds_relay.specs.Ties.{Cause, Goes, GoesOn, Leaving, Neither, Reaches, Serving, Turns, desk_in}
 use Rattle.tds_relay.proofs.bytes.Walking.{Leaves, step_leaves}
 use Rattle.tds_relay.proofs.seats.Desks.{serves_at}
@@ -123,3 +125,46 @@ lent_opens served a b e before after t serving are le = record {
   are = are;
   rise = rise_on a.desk.service.last e.service.last b.desk.service.last (opens_if served.had served.hold.number) (served_rise served (desk_in a.desk) e before after t serving served.had refl) le;
 }
+
+-- ---- How many are there
+
+more_there : (a b x y : ℕ) → y ≡ x → b ≤ a → b + x ≤ a + y
+more_there a b x y same few = omega (arith, same, few)
+
+pub grows_few : (a b : code.Relay) → opens_in b.orders.items ≡ opens_in a.orders.items → length b.links.items ≤ length a.links.items → GrowsByOrders a b
+grows_few a b same few = more_there (length a.links.items) (length b.links.items) (length (opens_in a.orders.items)) (length (opens_in b.orders.items)) (ap (length {A = ℕ}) same) few
+
+pub grows_stays : (a b : code.Relay) → opens_in b.orders.items ≡ opens_in a.orders.items → Stays a.links.items b.links.items → GrowsByOrders a b
+grows_stays a b same stays = grows_few a b same stays.few
+
+both_there : (a b c x y z : ℕ) → b + x ≤ a + y → c + y ≤ b + z → c + x ≤ a + z
+both_there a b c x y z h k = omega (arith, h, k)
+
+pub grows_both : (a b c : code.Relay) → GrowsByOrders a b → GrowsByOrders b c → GrowsByOrders a c
+grows_both a b c h k =
+    both_there (length a.links.items) (length b.links.items) (length c.links.items) (length (opens_in a.orders.items)) (length (opens_in b.orders.items)) (length (opens_in c.orders.items)) h k
+
+pub grows_refl : (r : code.Relay) → GrowsByOrders r r
+grows_refl r = more_there (length r.links.items) (length r.links.items) (length (opens_in r.orders.items)) (length (opens_in r.orders.items)) refl (omega arith)
+
+pub grows_on : {A E : Type 0} (r : Result A E) (a b c : code.Relay) → GrowsByOrders a b → OnOk r (GrowsByOrders b c) → OnOk r (GrowsByOrders a c)
+grows_on (Ok x) a b c h k = grows_both a b c h k
+grows_on (Err e) a b c h k = tt
+
+pub grows_behind : {A E : Type 0} (r : Result A E) (a b c : code.Relay) → GrowsByOrders a b → opens_in c.orders.items ≡ opens_in b.orders.items → OnOk r (Stays b.links.items c.links.items) → OnOk r (GrowsByOrders a c)
+grows_behind (Ok x) a b c h same stays = grows_both a b c h (grows_stays b c same stays)
+grows_behind (Err e) a b c h same stays = tt
+
+one_there : (a b x y : ℕ) → b ≡ suc a → y ≡ suc x → b + x ≤ a + y
+one_there a b x y e f = omega (arith, e, f)
+
+one_longer : {T : Type 0} (x : T) (xs ys : List T) → ys ≡ xs ++ x ∷ [] → length ys ≡ suc (length xs)
+one_longer {T} x xs ys e = let l : length (xs ++ x ∷ []) ≡ length xs + 1 = length-append xs (x ∷ []) in let m : length ys ≡ length (xs ++ x ∷ []) = ap (length {A = T}) e in omega (arith, l, m)
+
+pub grows_pushed : (number : ℕ) (l : Link) (a b : code.Relay) → b.links.items ≡ a.links.items ++ l ∷ [] → opens_in b.orders.items ≡ opens_in a.orders.items ++ number ∷ [] → GrowsByOrders a b
+grows_pushed number l a b more opens =
+    one_there (length a.links.items) (length b.links.items) (length (opens_in a.orders.items)) (length (opens_in b.orders.items)) (one_longer l a.links.items b.links.items more)
+    (one_longer number (opens_in a.orders.items) (opens_in b.orders.items) opens)
+
+pub many_on : (a b c d : ℕ) → b ≤ a → c ≡ b → d ≤ c → d ≤ a
+many_on a b c d h e k = omega (arith, h, e, k)

@@ -1,6 +1,6 @@
 -- What parking an application leaves.
 use Rattle.std.proofs.Common.{◌≡◌, ◌≢◌, ◌∙◌, ◌⊎◌, ℕ, Bool, true, false, List, Option, Some, None, inl, inr, refl, sym, ap, subst, option_map, if◌then◌else◌}
-use Rattle.std.specs.Prelude.{Result, Ok, length, ◌≤◌}
+use Rattle.std.specs.Prelude.{length, ◌≤◌}
 use Rattle.std.proofs.lemmas.Bool.{cases_eq}
 use Rattle.slab.specs.Slab.{get}
 use Rattle.tds_relay.specs.declared.application.Application.{Application}
@@ -10,16 +10,13 @@ use Rattle.tds_relay.specs.declared.link.Link.{Link}
 use Rattle.tds_relay.specs.declared.relay.Relay as code
 use Rattle.tds_relay.specs.Apart.{UnlessServed}
 use Rattle.tds_relay.specs.Bodies.{AskOn, Body, Closed, Spared, body_by, body_in, body_of, going_of}
-use Rattle.tds_relay.specs.Cleaning.{OfItsHold, WaitsAtEnd, WaitsBehindEnd}
 use Rattle.tds_relay.specs.Few.{Few, NoneNew}
 use Rattle.tds_relay.specs.Fronts.{hall_in}
 use Rattle.tds_relay.specs.Hall.{End, Ends, Hall, change_end, end_at, is_in, lets_go, may_park}
 use Rattle.tds_relay.specs.Parking.{has_no_request, is_asking_nothing, may_park_in}
-use Rattle.tds_relay.specs.Reads.{Opens, open_waits, waits_on}
 use Rattle.tds_relay.specs.Sparing.{AllGo, OthersRest, Rests}
 use Rattle.tds_relay.specs.Ties.{IsReached, Leaving, desk_in}
 use Rattle.tds_relay.proofs.spared.Apart.{set_apart}
-use Rattle.tds_relay.proofs.spared.Cleaned.{left_served}
 use Rattle.tds_relay.proofs.spared.Lines.{waited_left}
 use Rattle.tds_relay.proofs.spared.Resting.{go_one, rests_start}
 use Rattle.tds_relay.proofs.steps.Fronts.{changed_at}
@@ -79,9 +76,3 @@ parked_go key old mid none asks others = go_one key old mid (rests_start (body_o
 pub parked_few : (m n : ℕ) (a b c : List Link) → m ≡ n → NoneNew a b → Few m b c → Few n a c
 parked_few m n a b c e h (inl none) = inl (λ number gone. none number (h number gone))
 parked_few m n a b c e h (inr (ls, few, none)) = inr (ls, subst (λ (k : ℕ). length ls ≤ k) e few, none)
-
-pub parked_ends : (key : ℕ) (old mid new : code.Relay) → OfItsHold WaitsAtEnd key old (λ (n : ℕ). waits_on n mid.links.items) → Opens mid.links.items new.links.items
-    → OfItsHold WaitsBehindEnd key old (λ (n : ℕ). open_waits n new.links.items)
-parked_ends key old mid new left opens =
-    let done : Result (Unit {0}) (Unit {0}) = Ok tt in
-    left_served done key old mid new left opens

@@ -8,7 +8,7 @@ use Rattle.slab.specs.Slab.{Slab, get, with_value}
 use Rattle.tds_relay.specs.declared.application.Application.{Application}
 use Rattle.tds_relay.specs.declared.application.Asking.{Asking}
 use Rattle.tds_relay.specs.declared.application.Asking.TheVariants as asking
-use Rattle.tds_relay.specs.Bodies.{AskAsBefore, AskOn, Body, Closed, Closes, Grows, Nowhere, Shuts, Spared, Starts, Stays, body_in}
+use Rattle.tds_relay.specs.Bodies.{AskAsBefore, AskOn, Body, Closed, Closes, Grows, Nowhere, Shuts, Spared, Starts, Stays, body_by, body_in}
 use Rattle.tds_relay.specs.Fronts.{end_of, ends_in}
 use Rattle.tds_relay.specs.Hall.{End, Ends, Open, Over, change_end, closes, end_at}
 use Rattle.tds_relay.specs.Taking.{IsDeaf}
@@ -114,7 +114,7 @@ nothing_by false = Stays
 
 pub nothing_starts : (s : Slab Application) (key : ℕ) (a b : Application) (goes : Body) → Some a ≡ get s key → b.asking ≡ asking.Nothing → Starts Nowhere (body_in (get (with_value s key b) key) goes)
 nothing_starts s key a b goes is nothing =
-    subst (Starts Nowhere) (sym (written_body s key a b goes is ∙ ap (λ (x : Asking). body_in (Some (record b { asking = x })) goes) nothing)) (nothing_by b.is_over)
+    subst (Starts Nowhere) (sym (written_body s key a b goes is ∙ ap (λ (x : Asking). if b.is_over then Closed else body_by x b.held.items goes) nothing)) (nothing_by b.is_over)
 
 forgot_by : (a b : Body) → Starts Nowhere a → Spared a b → Starts Nowhere b
 forgot_by a b s (inl e) = subst (Starts Nowhere) (sym e) s

@@ -99,7 +99,7 @@ both_by whole more true a b g = Shuts
 both_by whole more false a b g = g
 
 asked_is : (a : Application) (goes : Body) → a.asking ≡ asking.Goes → body_in (Some a) goes ≡ (if a.is_over then Closed else goes)
-asked_is a goes is = ap (λ (x : Asking). body_in (Some (record a { asking = x })) goes) is
+asked_is a goes is = ap (λ (x : Asking). if a.is_over then Closed else body_by x a.held.items goes) is
 
 -- it was asked just before
 pub grows_asked : (whole : Bool) (more : List ℕ) (o n : Option Application) (g h : Body) (b : Application) → o ≡ Some b → b.asking ≡ asking.Goes
@@ -126,7 +126,7 @@ kept_by true kind bytes more was whole = Shuts
 kept_by false kind bytes more was whole = Keeps
 
 pub waits_is : (a : Application) (goes : Body) (kind : MessageKind) (whole : Bool) → a.asking ≡ asking.Waits kind whole → body_in (Some a) goes ≡ (if a.is_over then Closed else Kept kind a.held.items whole)
-waits_is a goes kind whole is = ap (λ (x : Asking). body_in (Some (record a { asking = x })) goes) is
+waits_is a goes kind whole is = ap (λ (x : Asking). if a.is_over then Closed else body_by x a.held.items goes) is
 
 -- with these bytes behind the others
 pub grows_kept : (whole : Bool) (more : List ℕ) (m n : Option Application) (g h : Body) (a b : Application) (kind : MessageKind) (was : Bool) → Some a ≡ m → n ≡ Some b → a.asking ≡ asking.Waits kind was → b.asking ≡ asking.Waits kind whole

@@ -1,6 +1,6 @@
 -- Connections by their numbers.
-use Rattle.std.proofs.Common.{◌≡◌, ◌∙◌, ◌==◌, ℕ, zero, suc, not, Bool, true, false, List, [], ◌∷◌, ◌++◌, Option, Some, None, refl, sym, ap, subst, slice_index_or, slice_set, option_map, if◌then◌else◌, append_assoc, append-nil}
-use Rattle.std.specs.Prelude.{Result, Ok, Err, OnOk}
+use Rattle.std.proofs.Common.{◌≡◌, ◌∙◌, ◌==◌, ℕ, zero, suc, not, Bool, true, false, List, [], ◌∷◌, ◌++◌, Option, Some, None, refl, sym, ap, subst, slice_index_or, slice_set, option_map, if◌then◌else◌, append_assoc, append-nil, ◌≤◌, length, length-set, arith}
+use Rattle.std.specs.Prelude.{Result, Ok, Err, OnOk, filter}
 use Rattle.std.proofs.lemmas.Bool.{eqb-true}
 use Rattle.tds_packet.specs.Reading.{Reading}
 use Rattle.tds_relay.specs.declared.link.Link.{Link}
@@ -25,11 +25,18 @@ fills_both o None (Some c) h k = absurd k
 fills_both None (Some b) (Some c) h k = absurd h
 fills_both (Some a) (Some b) (Some c) h k = (h.0 ++ k.0, k.1 ∙ ap (λ (xs : List ℕ). xs ++ k.0) h.1 ∙ append_assoc a h.0 k.0)
 
+few_refl : (ls : List Link) → length ls ≤ length ls
+few_refl ls = omega arith
+
+few_both : (a b c : ℕ) → b ≤ a → c ≤ b → c ≤ a
+few_both a b c h k = omega (arith, h, k)
+
 pub stays_refl : (ls : List Link) → Stays ls ls
-stays_refl ls = record { seen = λ number had h. h; fills = λ number. fills_refl (waits_on number ls) }
+stays_refl ls = record { few = few_refl ls; seen = λ number had h. h; fills = λ number. fills_refl (waits_on number ls) }
 
 pub stays_both : (ls ms ns : List Link) → Stays ls ms → Stays ms ns → Stays ls ns
 stays_both ls ms ns h k = record {
+  few = few_both (length ls) (length ms) (length ns) h.few k.few;
   seen = λ number had s. k.seen number had (h.seen number had s);
   fills = λ number. fills_both (waits_on number ls) (waits_on number ms) (waits_on number ns) (h.fills number) (k.fills number);
 }
@@ -104,10 +111,13 @@ fills_written (x ∷ xs) zero d m number fills n =
 fills_written (x ∷ xs) (suc i) d m number fills n =
     either_fills (x.number == n) x x (link_at n xs) (link_at n (slice_set xs i m)) (fills_refl (Some (bytes_on x))) (fills_written xs i d m number fills n)
 
+few_written : (ls : List Link) (i : ℕ) (m : Link) → length (slice_set ls i m) ≤ length ls
+few_written ls i m = let same : length (slice_set ls i m) ≡ length ls = length-set ls i m in omega (arith, same)
+
 -- and what waited there, with more behind it or not
 pub stays_written : (ls : List Link) (i : ℕ) (d m : Link) → m.number ≡ (slice_index_or ls i d).number → seen_of m ≡ seen_of (slice_index_or ls i d)
     → FillsAt (Some (bytes_on (slice_index_or ls i d))) (Some (bytes_on m)) → Stays ls (slice_set ls i m)
-stays_written ls i d m number reader fills = record { seen = sees_written ls i d m number reader; fills = fills_written ls i d m number fills }
+stays_written ls i d m number reader fills = record { few = few_written ls i m; seen = sees_written ls i d m number reader; fills = fills_written ls i d m number fills }
 
 -- it has just what waited
 pub fills_same : (old new : List ℕ) → new ≡ old → FillsAt (Some old) (Some new)
@@ -160,8 +170,17 @@ without_fills number (x ∷ xs) n =
     (fills_choose (x.number == number) (x.number == n) x (link_at n xs) (link_at n (without_link number xs)) (without_fills number xs n)
     (λ e f. subst (λ (k : ℕ). seen_at k (without_link number xs) ≡ None) (sym (its_own n number x.number e f)) (not_seen number xs)))
 
+few_if : (b : Bool) (x : Link) (xs ys : List Link) → length xs ≤ length ys → length (if b then x ∷ xs else xs) ≤ length (x ∷ ys)
+few_if true x xs ys le = omega (arith, le)
+few_if false x xs ys le = omega (arith, le)
+
+few_left : (p : Link → Bool) (ls : List Link) → length (filter p ls) ≤ length ls
+few_left p [] = omega arith
+few_left p (x ∷ xs) = few_if (p x) x (filter p xs) xs (few_left p xs)
+
 pub stays_without : (number : ℕ) (ls : List Link) → Stays ls (without_link number ls)
 stays_without number ls = record {
+  few = few_left (λ (l : Link). not (l.number == number)) ls;
   seen = λ n had h. at_both had (seen_at n ls) (seen_at n (without_link number ls)) h (without_at number ls n);
   fills = without_fills number ls;
 }

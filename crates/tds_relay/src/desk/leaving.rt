@@ -1,7 +1,7 @@
 //! Connections that are let go, and cleaned; that come without being asked for; and that are lost.
 ghost use Rattle.std.specs.Prelude.{◌≡◌, [], ℕ, Bool, IfOk, IfSome, None, OnOk, true};
 ghost use Rattle.tds_service.specs.Table.{KeepsClientsOff, client_of, reading_on, service_in};
-ghost use Rattle.tds_relay.specs.Cleaning.{GoesOutAtEnd, GoesOutAtAny, GoesOutBy, IsBatch, IsCleaning, IsLentBy, IsPutBehind};
+ghost use Rattle.tds_relay.specs.Cleaning.{CleansFirst, GoesOutAtEnd, GoesOutBy, IsBatch, IsCleaning, IsLentBy, IsPutBehind};
 ghost use Rattle.tds_relay.specs.Desk.{Brings, Leaves, Loses, Renews, Way, cleaning, find_key, find_number};
 ghost use Rattle.tds_relay.specs.Desk.{key_of, releasing, without_number};
 ghost use Rattle.tds_relay.specs.Sparing.{AsideStay, IsRenewed, OffHold, OthersHold};
@@ -163,8 +163,8 @@ impl Desk {
         ensures stand { OnOk result (AllStand self.old.service self.new.service) }
         ensures lent { IfOk result (λ left. IfSome left (λ it.
             IsLentBy it.number (desk_in self.old).service)) }
-        ensures ends { IsReached (desk_in self.old) → IfOk result (λ left. IfSome left
-            (GoesOutAtAny out.old.items out.new.items)) }
+        ensures cleans { IsReached (desk_in self.old) → IfOk result (λ left. IfSome left
+            (CleansFirst out.old.items out.new.items)) }
         ensures seats { IsReached (desk_in self.old) → IfOk result (λ left. BringsSeat left
             (desk_in self.old).service (desk_in self.new).service) }
     {

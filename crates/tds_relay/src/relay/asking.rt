@@ -19,7 +19,7 @@ ghost use Rattle.tds_relay.specs.Taking.{Tells, TellsOn};
 ghost use Rattle.tds_relay.specs.Ties.{Application, Goes, IsReached, desk_in};
 ghost use Rattle.tds_relay.specs.Waiting.{KeepsInLine, KeepsSaid};
 ghost use Rattle.tds_relay.specs.Walkers.{AllStand};
-ghost use Rattle.tds_relay.specs.Ordering.{OpensNew, opens_in};
+ghost use Rattle.tds_relay.specs.Ordering.{GrowsByOrders, OpensNew, opens_in};
 ghost use Rattle.tds_relay.specs.Sparing.{OthersGo, OthersRest};
 
 use super::Relay;
@@ -55,6 +55,7 @@ impl Relay {
         ensures seated { IsSeated self.old → OnOk result (IsSeated self.new) }
         ensures others { OnOk result (OthersGo key self.old self.new) }
         ensures opening { OnOk result (OpensNew self.old self.new) }
+        ensures many { OnOk result (GrowsByOrders self.old self.new) }
     {
         self.take_all(key, piece)?;
         self.serve_line()
@@ -245,10 +246,9 @@ impl Relay {
                 if !application.may_put(false) {
                     return self.expel(key);
                 }
-                if !application.keep(bytes)? {
+                if !application.keep(kind, bytes, whole)? {
                     return self.expel(key);
                 }
-                application.asking = Asking::Waits { kind, whole };
                 self.seek(key)
             }
             Asking::Goes => self.put(key, bytes, whole),

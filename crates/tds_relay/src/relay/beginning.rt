@@ -66,8 +66,7 @@ impl Relay {
         let Some(kind) = message_kind(kind) else {
             return self.expel(key);
         };
-        application.asking = Asking::Waits { kind, whole: false };
-        application.forget();
+        application.forget(Asking::Waits { kind, whole: false });
         let holds = self.desk.hold_of(key).is_some();
         match (holds, reset) {
             (false, _) => self.wait(key),

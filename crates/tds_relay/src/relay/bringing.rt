@@ -1,18 +1,19 @@
 //! The first connection of all, which has come before any application asked.
 ghost use Rattle.std.specs.Prelude.{◌≡◌, IfNone, IfOk, IfSome, List, None, OnOk, Some};
-ghost use Rattle.std.specs.Prelude.{true};
-ghost use Rattle.tds_relay.specs.Cleaning.{IsFirst, IsLentBy, IsNotBrought};
+ghost use Rattle.std.specs.Prelude.{IsSome, true};
+ghost use Rattle.tds_relay.specs.Cleaning.{CleaningWaits, IsFirst, IsLentBy, IsNotBrought};
 ghost use Rattle.tds_relay.specs.Closings.{ClosesOnly, IsWaiting};
 ghost use Rattle.tds_relay.specs.Closings.{register_in, settings_in, with_links};
 ghost use Rattle.tds_relay.specs.Apart.{LendsInTurn};
 ghost use Rattle.tds_relay.specs.Fronts.{ends_in, hall_in, house_in};
+ghost use Rattle.tds_relay.specs.Hall.{holder};
 ghost use Rattle.tds_relay.specs.House.{Steps};
 ghost use Rattle.tds_relay.specs.Posts.{names_in, posts_in};
 ghost use Rattle.tds_relay.specs.Reads.{IsCalled, OpensFirst};
-ghost use Rattle.tds_relay.specs.Reads.{seen_at};
+ghost use Rattle.tds_relay.specs.Reads.{open_waits, seen_at};
 ghost use Rattle.tds_relay.specs.Ordering.{OpensNew, StayOrdered};
 ghost use Rattle.tds_relay.specs.Sparing.{AllGo};
-ghost use Rattle.tds_relay.specs.Ties.{Goes, Neither};
+ghost use Rattle.tds_relay.specs.Ties.{Goes, IsReached, Neither};
 ghost use Rattle.tds_relay.specs.Ties.{desk_in};
 ghost use Rattle.tds_relay.specs.Walkers.{AllStand};
 ghost use Rattle.tds_relay.specs.Few.{IsSeated};
@@ -50,6 +51,9 @@ impl Relay {
             (desk_in self.old.desk) (desk_in self.new.desk))) }
         ensures seated { IsSeated self.old → OnOk result (IsSeated self.new) }
         ensures opening { OnOk result (OpensNew self.old self.new) }
+        ensures cleans { IsReached (desk_in self.old.desk) → IfOk result (λ brought. IfSome brought
+            (λ number. CleaningWaits (IsSome (holder (desk_in self.new.desk) number))
+            (open_waits number self.new.links.items))) }
         ensures lends { OnOk result (LendsInTurn (desk_in self.old.desk).line
             (ends_in self.old.applications) (hall_in self.new)) }
     {

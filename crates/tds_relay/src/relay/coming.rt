@@ -21,7 +21,7 @@ ghost use Rattle.tds_relay.specs.Reads.{Comes, IsLessAt, OpensOthers, Stays, Str
 ghost use Rattle.tds_relay.specs.Reads.{answer_at, if_heard, open_at};
 ghost use Rattle.tds_relay.specs.Reads.{reader_at, seen_at, waits_on};
 ghost use Rattle.tds_relay.specs.Bounds.{IsRoom};
-ghost use Rattle.tds_relay.specs.Ordering.{OpensNew, StayOrdered, opens_in};
+ghost use Rattle.tds_relay.specs.Ordering.{GrowsByOrders, OpensNew, StayOrdered, opens_in};
 ghost use Rattle.tds_relay.specs.Sending.{sending_at};
 ghost use Rattle.tds_relay.specs.Sparing.{OffGo, OffHold};
 ghost use Rattle.tds_relay.specs.Ties.{Connection, Goes, IsReached, desk_in};
@@ -71,6 +71,7 @@ impl Relay {
             (but_told (register_in self.new) (register_in self.old)) (register_in self.new)) }
         ensures seated { IsSeated self.old → OnOk result (IsSeated self.new) }
         ensures opening { OnOk result (OpensNew self.old self.new) }
+        ensures many { OnOk result (GrowsByOrders self.old self.new) }
         ensures apart { OnOk result (OffGo number None self.old self.new) }
     {
         self.hear_all(number, piece)?;
@@ -105,6 +106,7 @@ impl Relay {
             (but_told (register_in self.new) (register_in self.old)) (register_in self.new)) }
         ensures seated { IsSeated self.old → OnOk result (IsSeated self.new) }
         ensures opening { opens_in self.new.orders.items ≡ opens_in self.old.orders.items }
+        ensures many { OnOk result (length self.new.links.items ≤ length self.old.links.items) }
         ensures apart { OnOk result (OffGo number None self.old self.new) }
     {
         let mut rest = piece;
@@ -144,6 +146,7 @@ impl Relay {
             IsLessAt (if_heard heard.1 (open_at number self.new.links.items))) }
         ensures asks { OnOk result (AskAsBefore self.old.applications self.new.applications) }
         ensures orders { self.new.orders.items ≡ self.old.orders.items }
+        ensures many { OnOk result (length self.new.links.items ≡ length self.old.links.items) }
         ensures puts { IfOk result (λ heard. PutsFor heard.1 (ends_in self.old.applications)
             (posts_in self.old.applications) (posts_in self.new.applications)) }
         ensures same { OnOk result ((other : ℕ) → (sending_at other self.new.links.items

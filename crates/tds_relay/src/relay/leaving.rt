@@ -3,8 +3,10 @@ ghost use Rattle.std.specs.Prelude.{◌≡◌, ◌≢◌, ℕ, None, OnOk, Some,
 ghost use Rattle.slab.specs.Slab.{get};
 ghost use Rattle.tds_relay.specs.Apart.{Alone, LendsInTurn, LosesOnly};
 ghost use Rattle.tds_relay.specs.Bodies.{AskAsBefore, AskOn, Body, Closed, body_in};
-ghost use Rattle.tds_relay.specs.Cleaning.{CountsHold, OfItsHold, WaitsAtEnd, WaitsBehindEnd, cleaned_in};
+ghost use Rattle.tds_relay.specs.Cleaning.{CountsHold, OfItsHold, WaitsAtEnd, WaitsSinceEnd, cleaned_in};
 ghost use Rattle.tds_relay.specs.Desk.{Loses, find_key, find_number, key_of, turn, without};
+ghost use Rattle.tds_relay.specs.Desk.{without_number};
+ghost use Rattle.tds_relay.specs.Lent.{IsLetGo, IsOnItsOwn, OthersKeepAt, PutsOnly};
 ghost use Rattle.tds_relay.specs.Few.{Few, IsSeated, IsSeatedOff, NobodyWaits};
 ghost use Rattle.tds_relay.specs.Fronts.{LetsGoFirst, Moved, MovedOn, ends_in, hall_in, hall_of_ends};
 ghost use Rattle.tds_relay.specs.Fronts.{house_in};
@@ -17,8 +19,8 @@ ghost use Rattle.tds_relay.specs.Lent.{AllLastBut, KeepsAnswers, LastBesides};
 ghost use Rattle.tds_relay.specs.Law.{closing};
 ghost use Rattle.tds_relay.specs.Places.{held_by};
 ghost use Rattle.tds_relay.specs.Posts.{names_in, posts_in};
-ghost use Rattle.tds_relay.specs.Ordering.{OpensNew, StayOrdered, opens_in};
-ghost use Rattle.tds_relay.specs.Reads.{Opens, Stays, open_waits, reader_at, waits_on};
+ghost use Rattle.tds_relay.specs.Ordering.{GrowsByOrders, OpensNew, StayOrdered, opens_in};
+ghost use Rattle.tds_relay.specs.Reads.{Opens, Stays, reader_at, waits_on};
 ghost use Rattle.tds_relay.specs.Sparing.{AllGo, AllRest, OthersRest};
 ghost use Rattle.tds_relay.specs.Taking.{IsDeaf};
 ghost use Rattle.tds_relay.specs.Ties.{Application, Goes, GoesOn, IsReached, Leaving};
@@ -53,8 +55,8 @@ impl Relay {
         ensures ordered { OnOk result (StayOrdered self.old.orders.items self.new.orders.items) }
         ensures closes { OnOk result (ClosesOnly (IsWaiting (desk_in self.old.desk).line)
             (without_key key (register_in self.old)) (register_in self.new)) }
-        ensures ends { IsReached (desk_in self.old.desk) → OnOk result (OfItsHold WaitsBehindEnd key
-            self.old (λ number. open_waits number self.new.links.items)) }
+        ensures ends { IsReached (desk_in self.old.desk)
+            → OnOk result (WaitsSinceEnd key self.old self.new) }
         ensures seated { IsSeated self.old → OnOk result (IsSeated self.new) }
         ensures lasts { OnOk result (LastBesides
             (λ number. held_by (desk_in self.old.desk) key ≡ Some number)
@@ -63,6 +65,10 @@ impl Relay {
         ensures counts { OnOk result (CountsHold (find_key key (desk_in self.old.desk).holds)
             (cleaned_in self.old) (cleaned_in self.new)) }
         ensures opening { OnOk result (OpensNew self.old self.new) }
+        ensures many { OnOk result (GrowsByOrders self.old self.new) }
+        ensures puts { IsReached (desk_in self.old.desk) → OnOk result (PutsOnly
+            (λ number. holder (desk_in self.old.desk) number ≡ Some key)
+            self.old self.new) }
     {
         let _ = self.applications.try_remove(key).is_some();
         self.release(key)?;
@@ -97,6 +103,9 @@ impl Relay {
             (IsWaiting (desk_in self.old.desk).line) (register_in self.old)
             (register_in self.new)) }
         ensures opening { OnOk result (OpensNew self.old self.new) }
+        ensures many { OnOk result (GrowsByOrders self.old self.new) }
+        ensures puts { IsReached (desk_in self.old.desk)
+            → OnOk result (PutsOnly (λ other. other ≡ number) self.old self.new) }
     {
         self.lose(number)?;
         self.serve_line()
@@ -233,6 +242,10 @@ impl Relay {
         ensures counts { OnOk result (CountsHold (find_key key (desk_in self.old.desk).holds)
             (cleaned_in self.old) (cleaned_in self.new)) }
         ensures opening { opens_in self.new.orders.items ≡ opens_in self.old.orders.items }
+        ensures keeps { IsReached (desk_in self.old.desk) → OnOk result
+            (OthersKeepAt key self.old self.new) }
+        ensures frees { IsReached (desk_in self.old.desk) → OnOk result
+            (IsLetGo key self.old.desk.holds.items self.new.desk.holds.items) }
     {
         self.outbox.clear();
         let left = self.desk.leave(key, &mut self.outbox)?;
@@ -281,6 +294,8 @@ impl Relay {
         ensures seated { IsSeatedOff number self.old → OnOk result (IsSeated self.new) }
         ensures counts { cleaned_in self.new ≡ cleaned_in self.old }
         ensures opening { opens_in self.new.orders.items ≡ opens_in self.old.orders.items }
+        ensures holds { OnOk result (self.new.desk.holds.items
+            ≡ without_number number self.old.desk.holds.items) }
     {
         let key = self.desk.lose(number)?;
         self.close(number, key)
@@ -307,6 +322,7 @@ impl Relay {
         ensures seated { IsSeated self.old → OnOk result (IsSeated self.new) }
         ensures counts { cleaned_in self.new ≡ cleaned_in self.old }
         ensures opening { opens_in self.new.orders.items ≡ opens_in self.old.orders.items }
+        ensures own { OnOk result (IsOnItsOwn key self.old self.new) }
     {
         match self.desk.key_on(number) {
             Some(holder) => {

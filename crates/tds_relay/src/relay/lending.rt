@@ -1,11 +1,12 @@
 //! Connections that are lent to those who wait, opened, and asked.
-ghost use Rattle.std.specs.Prelude.{◌≡◌, ◌≢◌, ◌⊎◌, ◌++◌, [], ℕ, Bool, IfOk, List, None, OnOk, Some, false, option_map, true};
+ghost use Rattle.std.specs.Prelude.{◌≡◌, ◌≢◌, ◌⊎◌, ◌++◌, [], ℕ, Bool, IfOk, List, None, OnOk, Some, false, length, option_map, true};
 ghost use Rattle.slab.specs.Slab.{get};
 ghost use Rattle.tds_relay.specs.Apart.{Alone, AloneWho, LendsAfter, LendsInTurn, UnlessServed};
 ghost use Rattle.tds_relay.specs.Asking.{HasBegun, IsUnderway, waits_of};
 ghost use Rattle.tds_relay.specs.Bodies.{AskAsBefore, Grows, Starts, body_of, going_of, held_of};
 ghost use Rattle.tds_relay.specs.Closings.{ClosesOnly, IsWaiting, IsWho, Itself, Nobody, WhoOrWaiting, register_in};
 ghost use Rattle.tds_relay.specs.Desk.{find_number, key_of};
+ghost use Rattle.tds_relay.specs.Lent.{FirstKeeps, IsOnItsOwn, IsWithHolder, LendsInLine, PutsOnly};
 ghost use Rattle.tds_relay.specs.Few.{Few, FewBy, IsSeated, IsSeatedIf, NobodyWaits};
 ghost use Rattle.tds_relay.specs.Fronts.{MovedOn, ends_in, hall_in, house_in};
 ghost use Rattle.tds_relay.specs.Hall.{IsReset, end_at, holder};
@@ -14,7 +15,7 @@ ghost use Rattle.tds_relay.specs.Lent.{AllLast, BeginsOn, IsMade, IsMadeOn, Keep
 ghost use Rattle.tds_relay.specs.Posts.{names_in, posts_in};
 ghost use Rattle.tds_relay.specs.Cutting.{at_its_beginning};
 ghost use Rattle.tds_relay.specs.Reads.{Opens, OpensOne, Stays, answer_at, named_seen, open_at, bytes_on, link_at, opened_at, opened_seen, seen_at, waits_on};
-ghost use Rattle.tds_relay.specs.Ordering.{OpensNew, StayOrdered, opens_if, opens_in};
+ghost use Rattle.tds_relay.specs.Ordering.{GrowsByOrders, OpensNew, StayOrdered, opens_if, opens_in};
 ghost use Rattle.tds_relay.specs.Reasons.{CannotPut, CannotStartAt, HasNoRoom, ItselfFor};
 ghost use Rattle.tds_relay.specs.Sending.{IsToWrite, called_at};
 ghost use Rattle.tds_relay.specs.Coming.{MayBeginAny};
@@ -32,7 +33,7 @@ use crate::NoMemory;
 use crate::application::Asking;
 use crate::desk::Served;
 use crate::link::Link;
-use crate::links::{append_to, restart, set_open, set_tag};
+use crate::links::{restart, set_open, set_tag};
 use crate::order::Order;
 
 impl Relay {
@@ -90,6 +91,9 @@ impl Relay {
             (WhoOrWaiting (holder (desk_in self.old.desk) number) (desk_in self.old.desk).line)
             (register_in self.old) (register_in self.new)) }
         ensures opening { OnOk result (OpensNew self.old self.new) }
+        ensures many { OnOk result (GrowsByOrders self.old self.new) }
+        ensures puts { IsReached (desk_in self.old.desk) → OnOk result
+            (PutsOnly (IsWithHolder number self.old) self.old self.new) }
         ensures lends { OnOk result (LendsAfter (holder (desk_in self.old.desk) number)
             (hall_in self.old) (hall_in self.new)) }
     {
@@ -111,6 +115,7 @@ impl Relay {
             ≡ waits_on other self.old.links.items }
         ensures same { AllRest self.old self.new }
         ensures orders { self.new.orders.items ≡ self.old.orders.items }
+        ensures many { length self.new.links.items ≡ length self.old.links.items }
         ensures closes { ClosesOnly Nobody (register_in self.old) (register_in self.new) }
     {
         set_open(&mut self.links, number);
@@ -140,6 +145,8 @@ impl Relay {
         ensures lasts { OnOk result (LastBut (IsWho (holder (desk_in self.old.desk) number))
             (register_in self.old) (register_in self.new)) }
         ensures opening { opens_in self.new.orders.items ≡ opens_in self.old.orders.items }
+        ensures keeps { IsReached (desk_in self.old.desk) → OnOk result
+            (FirstKeeps (IsWithHolder number self.old) self.old self.new) }
         ensures alone { OnOk result (AloneWho (holder (desk_in self.old.desk) number)
             (hall_in self.old) (hall_in self.new)) }
     {
@@ -174,6 +181,9 @@ impl Relay {
         ensures seated { IsSeated self.old → OnOk result (IsSeated self.new) }
         ensures counts { cleaned_in self.new ≡ cleaned_in self.old }
         ensures opening { OnOk result (OpensNew self.old self.new) }
+        ensures many { OnOk result (GrowsByOrders self.old self.new) }
+        ensures fills { IsReached (desk_in self.old.desk)
+            → OnOk result (LendsInLine self.old self.new) }
     {
         let waiting = self.desk.waiting();
         'line: for turn in 0..waiting {
@@ -222,6 +232,10 @@ impl Relay {
         ensures counts { cleaned_in self.new ≡ cleaned_in self.old }
         ensures opening { OnOk result (opens_in self.new.orders.items
             ≡ opens_in self.old.orders.items ++ opens_if served.had served.hold.number) }
+        ensures many { OnOk result (GrowsByOrders self.old self.new) }
+        ensures own { IsReached (desk_in self.old.desk)
+            → holder (desk_in self.old.desk) served.hold.number ≡ Some served.hold.key
+            → OnOk result (IsOnItsOwn served.hold.key self.old self.new) }
     {
         let number = served.hold.number;
         if served.had {
@@ -244,6 +258,8 @@ impl Relay {
         ensures begins { answer_at number self.new.links.items
             ≡ option_map at_its_beginning (answer_at number self.old.links.items) }
         ensures any { MayBeginAny self.old.links.items self.new.links.items }
+        ensures waits { (other : ℕ) → waits_on other self.new.links.items
+            ≡ waits_on other self.old.links.items }
         ensures rests { AllRest self.old self.new }
         ensures orders { self.new.orders.items ≡ self.old.orders.items }
         ensures closes { ClosesOnly Nobody (register_in self.old) (register_in self.new) }
@@ -286,6 +302,8 @@ impl Relay {
         ensures seated { IsSeated self.old → OnOk result (IsSeated self.new) }
         ensures counts { cleaned_in self.new ≡ cleaned_in self.old }
         ensures opening { opens_in self.new.orders.items ≡ opens_in self.old.orders.items }
+        ensures own { IsReached (desk_in self.old.desk) → OnOk result
+            (IsOnItsOwn key self.old self.new) }
     {
         let Some(application) = self.applications.get(key) else {
             return Ok(());
@@ -334,48 +352,9 @@ impl Relay {
         ensures seated { IsSeated self.old → OnOk result (IsSeated self.new) }
         ensures counts { cleaned_in self.new ≡ cleaned_in self.old }
         ensures opening { opens_in self.new.orders.items ≡ opens_in self.old.orders.items }
+        ensures own { OnOk result (IsOnItsOwn key self.old self.new) }
     {
         self.lose_own(key, number)?;
         self.end(key)
-    }
-
-    /// What the desk has to send on a connection waits there. False where more would wait than may.
-    #[tactic(auto, using(crate::proofs::steps::Staying::stays_refl, crate::proofs::spared::Ordered::ordered_refl, crate::proofs::spared::Closings::closes_refl, crate::proofs::spared::Begun::answers_refl, crate::proofs::spared::Lasting::last_refl))]
-    pub(super) fn fits_on(&mut self, number: u64) -> Result<bool, NoMemory>
-        ensures desk { self.new.desk ≡ self.old.desk }
-        ensures kept { OnOk result (posts_in self.new.applications
-            ≡ posts_in self.old.applications) }
-        ensures ends { OnOk result (ends_in self.new.applications
-            ≡ ends_in self.old.applications) }
-        ensures read { OnOk result (Stays self.old.links.items self.new.links.items) }
-        ensures asks { OnOk result (AskAsBefore self.old.applications self.new.applications) }
-        ensures waits { IfOk result (λ fits. fits ≡ true
-            → waits_on number self.new.links.items ≡ option_map
-            (λ (waits : List ℕ). waits ++ self.old.outbox.items)
-            (waits_on number self.old.links.items)) }
-        ensures no_room { IfOk result (λ fits. fits ≡ false
-            → HasNoRoom number self.old.outbox.items self.old.links.items) }
-        ensures some { IfOk result (λ fits. fits ≡ false → self.old.outbox.items ≢ []) }
-        ensures others { OnOk result ((other : ℕ) → other ≢ number
-            → waits_on other self.new.links.items ≡ waits_on other self.old.links.items) }
-        ensures ordered { OnOk result (StayOrdered self.old.orders.items self.new.orders.items) }
-        ensures answers { OnOk result (KeepsAnswers self.old.links.items self.new.links.items) }
-        ensures closes { OnOk result (ClosesOnly Nobody
-            (register_in self.old) (register_in self.new)) }
-        ensures lasts { OnOk result (AllLast self.old.links.items self.new.links.items) }
-        ensures counts { cleaned_in self.new ≡ cleaned_in self.old }
-        ensures opening { opens_in self.new.orders.items ≡ opens_in self.old.orders.items }
-    {
-        // Of most packets of an answer nothing is: then no write is ordered, each of which costs a look.
-        if self.outbox.is_empty() {
-            return Ok(true);
-        }
-        let fits = append_to(&mut self.links, number, &self.outbox)?;
-        self.outbox.clear();
-        if !fits {
-            return Ok(false);
-        }
-        self.order_write_on(number)?;
-        Ok(true)
     }
 }

@@ -1,16 +1,16 @@
 //! How many connections there may be.
 ghost use Rattle.std.specs.Prelude.{◌≡◌, OnOk, false, true};
 ghost use Rattle.tds_relay.specs.Apart.{LendsInTurn, UnlessServed};
-ghost use Rattle.tds_relay.specs.Closings.{ClosesOnly, IsWaiting};
+ghost use Rattle.tds_relay.specs.Closings.{ClosesOnly, IsWaiting, Nobody};
 ghost use Rattle.tds_relay.specs.Closings.{register_in, with_most};
+ghost use Rattle.tds_relay.specs.Lent.{LastBut, PutsOnly};
 ghost use Rattle.tds_relay.specs.Few.{Few, IsCrowded, IsSeated, MayServe, NobodyWaits};
 ghost use Rattle.tds_relay.specs.Fronts.{MovedOn, ends_in, hall_in};
-ghost use Rattle.tds_relay.specs.Lent.{LastBut};
-ghost use Rattle.tds_relay.specs.Ordering.{OpensNew, StayOrdered};
+ghost use Rattle.tds_relay.specs.Ordering.{GrowsByOrders, OpensNew, StayOrdered};
 ghost use Rattle.tds_relay.specs.Posts.{posts_in};
 ghost use Rattle.tds_relay.specs.Reads.{Opens};
 ghost use Rattle.tds_relay.specs.Sparing.{AllGo};
-ghost use Rattle.tds_relay.specs.Ties.{GoesOn, desk_in};
+ghost use Rattle.tds_relay.specs.Ties.{GoesOn, IsReached, desk_in};
 ghost use Rattle.tds_relay.specs.Walkers.{AllStand};
 
 use super::Relay;
@@ -41,6 +41,9 @@ impl Relay {
             (with_most most (register_in self.old)) (register_in self.new)) }
         ensures seated { IsSeated self.old → OnOk result (IsSeated self.new) }
         ensures opening { OnOk result (OpensNew self.old self.new) }
+        ensures many { OnOk result (GrowsByOrders self.old self.new) }
+        ensures puts { IsReached (desk_in self.old.desk)
+            → OnOk result (PutsOnly Nobody self.old self.new) }
     {
         self.most = most;
         self.serve_line()

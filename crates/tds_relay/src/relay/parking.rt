@@ -1,19 +1,19 @@
 //! Applications that are parked: each is parted from its connection at rest, for those who wait.
 ghost use Rattle.std.specs.Prelude.{◌≡◌, OnOk, IfOk, false, true, Some};
 ghost use Rattle.tds_relay.specs.Apart.{LendsInTurn, UnlessServed};
-ghost use Rattle.tds_relay.specs.Cleaning.{CountsHold, OfItsHold, WaitsBehindEnd, cleaned_in};
+ghost use Rattle.tds_relay.specs.Cleaning.{CountsHold, WaitsSinceEnd, cleaned_in};
 ghost use Rattle.tds_relay.specs.Closings.{ClosesOnly, IsWaiting, register_in};
 ghost use Rattle.tds_relay.specs.Desk.{Sharing, find_key, without};
+ghost use Rattle.tds_relay.specs.Lent.{LastBesides, PutsOnly};
 ghost use Rattle.tds_relay.specs.Few.{Few, IsSeated, NobodyWaits};
 ghost use Rattle.tds_relay.specs.Fronts.{ends_in, hall_in, house_in};
-ghost use Rattle.tds_relay.specs.Hall.{IsAway, change_end, lets_go};
+ghost use Rattle.tds_relay.specs.Hall.{IsAway, change_end, holder, lets_go};
 ghost use Rattle.tds_relay.specs.House.{IsLedTo, Steps};
-ghost use Rattle.tds_relay.specs.Lent.{LastBesides};
-ghost use Rattle.tds_relay.specs.Ordering.{OpensNew, StayOrdered};
+ghost use Rattle.tds_relay.specs.Ordering.{GrowsByOrders, OpensNew, StayOrdered};
 ghost use Rattle.tds_relay.specs.Parking.{may_park_in};
 ghost use Rattle.tds_relay.specs.Places.{held_by};
 ghost use Rattle.tds_relay.specs.Posts.{posts_in};
-ghost use Rattle.tds_relay.specs.Reads.{Opens, open_waits};
+ghost use Rattle.tds_relay.specs.Reads.{Opens};
 ghost use Rattle.tds_relay.specs.Sparing.{AllGo};
 ghost use Rattle.tds_relay.specs.Ties.{Application, Goes, IsReached, Leaving, Parking, desk_in};
 ghost use Rattle.tds_relay.specs.Walkers.{AllStand};
@@ -59,8 +59,7 @@ impl Relay {
         ensures closes { OnOk result (ClosesOnly (IsWaiting (desk_in self.old.desk).line)
             (register_in self.old) (register_in self.new)) }
         ensures ends { IsReached (desk_in self.old.desk) → IfOk result (λ is. is ≡ true
-            → OfItsHold WaitsBehindEnd key self.old
-            (λ number. open_waits number self.new.links.items)) }
+            → WaitsSinceEnd key self.old self.new) }
         ensures seated { IsSeated self.old → OnOk result (IsSeated self.new) }
         ensures lasts { OnOk result (LastBesides
             (λ number. held_by (desk_in self.old.desk) key ≡ Some number)
@@ -70,6 +69,10 @@ impl Relay {
             → CountsHold (find_key key (desk_in self.old.desk).holds)
             (cleaned_in self.old) (cleaned_in self.new)) }
         ensures opening { OnOk result (OpensNew self.old self.new) }
+        ensures many { OnOk result (GrowsByOrders self.old self.new) }
+        ensures puts { IsReached (desk_in self.old.desk) → OnOk result (PutsOnly
+            (λ number. holder (desk_in self.old.desk) number ≡ Some key)
+            self.old self.new) }
     {
         if !self.may_park(key) {
             return Ok(false);

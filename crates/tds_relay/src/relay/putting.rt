@@ -6,9 +6,9 @@ ghost use Rattle.tds_relay.specs.Bodies.{AskAsBefore, ClientPuts, Grows, PutsOn,
 ghost use Rattle.tds_relay.specs.Closings.{ClosesOnly, Nobody, register_in};
 ghost use Rattle.tds_relay.specs.Desk.{find_key};
 ghost use Rattle.tds_relay.specs.declared.desk.Hold.{Hold};
+ghost use Rattle.tds_relay.specs.Lent.{IsOnItsOwn, KeepsAnswers, LastOrDeaf};
 ghost use Rattle.tds_relay.specs.Fronts.{MayPut, MovedOn, ends_in, goes_by, hall_in, puts};
 ghost use Rattle.tds_relay.specs.Hall.{IfOpen, change_end, end_at};
-ghost use Rattle.tds_relay.specs.Lent.{KeepsAnswers, LastOrDeaf};
 ghost use Rattle.tds_relay.specs.Ordering.{StayOrdered, opens_in};
 ghost use Rattle.tds_relay.specs.Posts.{posts_in};
 ghost use Rattle.tds_relay.specs.Reads.{Stays};
@@ -53,6 +53,8 @@ impl Relay {
         ensures seated { IsSeated self.old → OnOk result (IsSeated self.new) }
         ensures counts { cleaned_in self.new ≡ cleaned_in self.old }
         ensures opening { opens_in self.new.orders.items ≡ opens_in self.old.orders.items }
+        ensures own { IsReached (desk_in self.old.desk) → OnOk result
+            (IsOnItsOwn key self.old self.new) }
     {
         let Some(hold) = self.desk.hold_of(key) else {
             return self.end(key);
@@ -102,13 +104,14 @@ impl Relay {
         ensures seated { IsSeated self.old → OnOk result (IsSeated self.new) }
         ensures counts { cleaned_in self.new ≡ cleaned_in self.old }
         ensures opening { opens_in self.new.orders.items ≡ opens_in self.old.orders.items }
+        ensures own { IsReached (desk_in self.old.desk) → OnOk result
+            (IsOnItsOwn key self.old self.new) }
     {
         let Some(application) = self.applications.get_mut(key) else {
             return Ok(());
         };
-        application.asking = Asking::Goes;
         let held = application.held().to_vec(self.alloc)?;
-        application.forget();
+        application.forget(Asking::Goes);
         self.put(key, &held, whole)
     }
 
@@ -169,6 +172,7 @@ fn put_on(
         → find_key key (desk_in desk.old).holds ≡ Some hold
         → IsUntaken whole bytes.now key desk.old) }
     ensures seats { OnOk result (KeepsSeats (desk_in desk.old).service (desk_in desk.new).service) }
+    ensures holds { OnOk result ((desk_in desk.new).holds ≡ (desk_in desk.old).holds) }
 {
     match desk.put(key, bytes, out) {
         Ok(_) => {}

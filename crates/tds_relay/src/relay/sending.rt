@@ -1,6 +1,6 @@
 //! What waits for applications and on connections, and is sent.
 ghost use Rattle.std.specs.Prelude.{◌≡◌, ◌≢◌, ◌+◌, ◌≤◌, [], ℕ, None, OnOk, Some, drop, if◌then◌else◌, length};
-ghost use Rattle.std.specs.Prelude.{false, option_map};
+ghost use Rattle.std.specs.Prelude.{◌++◌, IfOk, List, false, option_map, true};
 ghost use Rattle.slab.specs.Slab.{get};
 ghost use Rattle.tds_relay.specs.Apart.{Alone, SparesOthers};
 ghost use Rattle.tds_relay.specs.Bodies.{AskAsBefore, AskOn};
@@ -11,7 +11,7 @@ ghost use Rattle.tds_relay.specs.declared.desk.Hold.{Hold};
 ghost use Rattle.tds_relay.specs.Fronts.{MovedOn, ends_in, hall_in, house_in};
 ghost use Rattle.tds_relay.specs.Hall.{holder};
 ghost use Rattle.tds_relay.specs.House.{Steps};
-ghost use Rattle.tds_relay.specs.Lent.{KeepsAnswers};
+ghost use Rattle.tds_relay.specs.Lent.{AllLast, KeepsAnswers, MayForget};
 ghost use Rattle.tds_relay.specs.Ordering.{StayOrdered, opens_in};
 ghost use Rattle.tds_relay.specs.Posts.{change, post_at, posts_in, unsent_of, without_first};
 ghost use Rattle.tds_relay.specs.Reasons.{HasNoRoom, IsOverfull, ItselfFor};
@@ -29,7 +29,7 @@ ghost use Rattle.tds_relay.specs.Cleaning.{cleaned_in};
 
 use super::Relay;
 use crate::NoMemory;
-use crate::links::forget_sent;
+use crate::links::{append_to, forget_sent};
 use crate::order::Order;
 
 impl Relay {
@@ -117,6 +117,46 @@ impl Relay {
         }
         let key = self.desk.key_on(number)?;
         Some(self.applications.get(key)?.tag)
+    }
+
+    /// What the desk has to send on a connection waits there. False where more would wait than may.
+    #[tactic(auto, using(crate::proofs::steps::Staying::stays_refl, crate::proofs::spared::Ordered::ordered_refl, crate::proofs::spared::Closings::closes_refl, crate::proofs::spared::Begun::answers_refl, crate::proofs::spared::Lasting::last_refl))]
+    pub(super) fn fits_on(&mut self, number: u64) -> Result<bool, NoMemory>
+        ensures desk { self.new.desk ≡ self.old.desk }
+        ensures kept { OnOk result (posts_in self.new.applications
+            ≡ posts_in self.old.applications) }
+        ensures ends { OnOk result (ends_in self.new.applications
+            ≡ ends_in self.old.applications) }
+        ensures read { OnOk result (Stays self.old.links.items self.new.links.items) }
+        ensures asks { OnOk result (AskAsBefore self.old.applications self.new.applications) }
+        ensures waits { IfOk result (λ fits. fits ≡ true
+            → waits_on number self.new.links.items ≡ option_map
+            (λ (waits : List ℕ). waits ++ self.old.outbox.items)
+            (waits_on number self.old.links.items)) }
+        ensures no_room { IfOk result (λ fits. fits ≡ false
+            → HasNoRoom number self.old.outbox.items self.old.links.items) }
+        ensures some { IfOk result (λ fits. fits ≡ false → self.old.outbox.items ≢ []) }
+        ensures others { OnOk result ((other : ℕ) → other ≢ number
+            → waits_on other self.new.links.items ≡ waits_on other self.old.links.items) }
+        ensures ordered { OnOk result (StayOrdered self.old.orders.items self.new.orders.items) }
+        ensures answers { OnOk result (KeepsAnswers self.old.links.items self.new.links.items) }
+        ensures closes { OnOk result (ClosesOnly Nobody
+            (register_in self.old) (register_in self.new)) }
+        ensures lasts { OnOk result (AllLast self.old.links.items self.new.links.items) }
+        ensures counts { cleaned_in self.new ≡ cleaned_in self.old }
+        ensures opening { opens_in self.new.orders.items ≡ opens_in self.old.orders.items }
+    {
+        // Of most packets of an answer nothing is: then no write is ordered, each of which costs a look.
+        if self.outbox.is_empty() {
+            return Ok(true);
+        }
+        let fits = append_to(&mut self.links, number, &self.outbox)?;
+        self.outbox.clear();
+        if !fits {
+            return Ok(false);
+        }
+        self.order_write_on(number)?;
+        Ok(true)
     }
 
     /// What the desk has to send on a connection waits there. One for which more would wait than may is
@@ -208,6 +248,8 @@ impl Relay {
             → waits_on other self.new.links.items ≡ waits_on other self.old.links.items) }
         ensures counts { cleaned_in self.new ≡ cleaned_in self.old }
         ensures opening { opens_in self.new.orders.items ≡ opens_in self.old.orders.items }
+        ensures holds { OnOk result (MayForget number self.old.desk.holds.items
+            self.new.desk.holds.items) }
     {
         let fits = self.fits_on(number)?;
         if fits {

@@ -6,10 +6,10 @@ ghost use Rattle.tds_relay.specs.Asking.{IsUnderway, waits_of};
 ghost use Rattle.tds_relay.specs.Bodies.{Starts, body_of};
 ghost use Rattle.tds_relay.specs.Closings.{ClosesOnly, Itself, open_name, register_in};
 ghost use Rattle.tds_relay.specs.Desk.{find_key};
+ghost use Rattle.tds_relay.specs.Lent.{IsOnItsOwn, KeepsAnswers, LastBut};
 ghost use Rattle.tds_relay.specs.Fronts.{MovedOn, ends_in, hall_in};
 ghost use Rattle.tds_relay.specs.Anew.{ResetsFor};
 ghost use Rattle.tds_relay.specs.Hall.{IfOpen, IfOpenAsks, IsBegun, IsReset, end_at};
-ghost use Rattle.tds_relay.specs.Lent.{KeepsAnswers, LastBut};
 ghost use Rattle.tds_relay.specs.Ordering.{StayOrdered, opens_in};
 ghost use Rattle.tds_relay.specs.Posts.{posts_in};
 ghost use Rattle.tds_relay.specs.Reads.{Stays, open_at, waits_on};
@@ -56,6 +56,8 @@ impl Relay {
         ensures seated { IsSeated self.old → OnOk result (IsSeated self.new) }
         ensures counts { cleaned_in self.new ≡ cleaned_in self.old }
         ensures opening { opens_in self.new.orders.items ≡ opens_in self.old.orders.items }
+        ensures own { IsReached (desk_in self.old.desk) → OnOk result
+            (IsOnItsOwn key self.old self.new) }
     {
         let Some(hold) = self.desk.hold_of(key) else {
             return self.start(key);

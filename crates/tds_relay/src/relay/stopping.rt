@@ -80,8 +80,7 @@ impl Relay {
             return false;
         };
         let was_asked = matches!(application.asking, Asking::Goes);
-        application.asking = Asking::Nothing;
-        application.forget();
+        application.forget(Asking::Nothing);
         was_asked
     }
 

@@ -9,6 +9,7 @@ use Rattle.tds_relay.proofs.steps.Placed.{is_nowhere}
 use Rattle.tds_relay.proofs.steps.Renaming.{seen_written, unseen_written}
 use Rattle.tds_relay.specs.Reads.{Seen, with_open}
 use Rattle.tds_relay.proofs.indexed.Placing.{placed_written}
+use Rattle.std.proofs.Common.{length-set}
 use Rattle.tds_relay.proofs.links.set_open.Goals as goal
 
 pub returns-in_default-clause-opens : goal.returns-in_default-clause-opens
@@ -40,3 +41,6 @@ returns-clause-seen c = rw (← c.links.view_is) (
 pub invariant_of-links : goal.invariant_of-links
 invariant_of-links c =
     placed_written c.links.inside.list.items c.links.inside.places.items c.in-Some.place c.index_mut-link.result.now _ c.links.invariant (ap (λ (l : Link). l.number) c.index_mut-link.ensures.value)
+
+pub returns-clause-many : goal.returns-clause-many
+returns-clause-many c = rw (← c.links.view_is) (length-set c.links.inside.list.items c.in-Some.place _)

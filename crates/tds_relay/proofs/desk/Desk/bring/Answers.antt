@@ -1,6 +1,6 @@
 use Rattle.tds_relay.proofs.bytes.Walking.{lease_stand, led_on, same_stand}
 use Rattle.tds_service.specs.Service as calls
-use Rattle.tds_relay.proofs.spared.Cleaned.{any_text}
+use Rattle.tds_relay.proofs.spared.Brought.{brought_cleans}
 use Rattle.tds_service.specs.Table.{service_in}
 use Rattle.tds_relay.specs.Ties.{desk_in}
 use Rattle.tds_relay.proofs.seats.Rests.{brought_is, same_keeps}
@@ -14,10 +14,11 @@ returns-clause-stand c = λ n r h. c.in_ok-is_there.ensures.stand n r (lease_sta
 pub returns-in-Err-clause-stand : goal.returns-in-Err-clause-stand
 returns-in-Err-clause-stand c = same_stand c.args.self.now.service c.lease.new.self c.in-Err.ensures.err c.in-Err.ensures.makes c.in-Err.ensures.keeps
 
-pub returns-clause-ends : goal.returns-clause-ends
-returns-clause-ends c = λ reached there.
-    any_text c.cleaning_text.result.now _ _ _ c.cleaning_text.ensures
-    (c.in_ok-is_there.ensures.ends (led_on (service_in c.args.self.now.service) (service_in c.lease.new.self) calls.Lease c.in-Ok.ensures.ok.service_is (led_at (desk_in c.args.self.now) reached)) there)
+pub returns-clause-cleans : goal.returns-clause-cleans
+returns-clause-cleans c = λ reached there.
+    let led = led_at (desk_in c.args.self.now) reached in
+    brought_cleans c.cleaning_text.result.now c.in-Ok.lent.lease c.in-Ok.lent.number c.in-Ok.lent.had c.args.self.now.service c.lease.new.self _ _ c.cleaning_text.ensures led c.in-Ok.ensures.ok.service_is c.in-Ok.ensures.ok.reply_is
+    (c.in_ok-is_there.ensures.ends (led_on (service_in c.args.self.now.service) (service_in c.lease.new.self) calls.Lease c.in-Ok.ensures.ok.service_is led) there)
 
 pub returns-clause-lent : goal.returns-clause-lent
 returns-clause-lent c = (c.in-Ok.lent.lease, c.in-Ok.lent.had, c.in-Ok.ensures.ok.reply_is)

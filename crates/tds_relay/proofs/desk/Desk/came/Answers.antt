@@ -17,7 +17,7 @@ use Rattle.tds_relay.proofs.steps.Made.{ok_both, came_settled, came_unknown, cam
 use Rattle.tds_relay.proofs.bytes.Heard.{came_read, lost_read, unknown_read}
 use Rattle.tds_relay.specs.Walkers.{AllRead}
 use Rattle.tds_relay.proofs.steps.Reaching.{ok_if}
-use Rattle.std.proofs.Common.{false, true}
+use Rattle.std.proofs.Common.{false}
 use Rattle.tds_service.specs.Service as calls
 use Rattle.tds_relay.proofs.bytes.Walking.{led_on}
 use Rattle.tds_relay.specs.Few.{SeatStays, is_left}

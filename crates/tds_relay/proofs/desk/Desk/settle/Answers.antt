@@ -5,9 +5,8 @@ use Rattle.tds_relay.specs.declared.desk.Hold.{Hold}
 use Rattle.tds_relay.specs.Desk.{NotLent, cleaned_by, find_lease, settles, settles_of}
 use Rattle.tds_relay.specs.Ties.{desk_in}
 use Rattle.tds_relay.proofs.steps.Made.{settles_by}
-use Rattle.std.proofs.Common.{refl, subst, sym, true, Bool}
-use Rattle.std.proofs.lemmas.Result.{IfOk-weaker}
-use Rattle.tds_relay.specs.Few.{SeatStays, is_left}
+use Rattle.std.proofs.Common.{subst, sym, Bool}
+use Rattle.tds_relay.specs.Few.{SeatStays}
 use Rattle.tds_relay.proofs.seats.Counting.{stays_refl}
 use Rattle.tds_relay.proofs.seats.Rests.{if_left, made_stays}
 use Rattle.tds_relay.proofs.spared.Aside.{drained_held}

@@ -9,7 +9,7 @@ use Rattle.tds_service.specs.Service as calls
 use Rattle.tds_relay.proofs.steps.Reaching.{ok_more}
 use Rattle.tds_relay.proofs.spared.Aside.{called_for, forgot_for, refl_for, refused_for}
 use Rattle.tds_relay.proofs.spared.Cleaned.{cancelled, cancelled_cleaned}
-use Rattle.std.proofs.Common.{false, refl, ap, is_some, ◌∙◌}
+use Rattle.std.proofs.Common.{false, ap, is_some, ◌∙◌}
 use Rattle.tds_service.specs.declared.place.Rest.{Rest}
 use Rattle.tds_service.specs.Service.{Service}
 use Rattle.tds_service.specs.Table.{rest_of}

@@ -7,6 +7,7 @@ use Rattle.tds_relay.specs.Closings.{Nobody}
 use Rattle.tds_relay.proofs.spared.Sending.{kept_refl}
 use Rattle.tds_relay.proofs.spared.Shutting.{closes_moved, keeps_acknowledged, unclosed}
 use Rattle.tds_relay.proofs.spared.Losing.{taken_or_deaf}
+use Rattle.tds_relay.proofs.steps.Doing.{done_kept}
 use Rattle.tds_relay.proofs.relay.Relay.acknowledged.Goals as goal
 
 pub returns-in-Some-clause-kept : goal.returns-in-Some-clause-kept
@@ -24,3 +25,6 @@ returns-in-Some-clause-closes c =
 
 pub returns-in-Some-clause-resumes : goal.returns-in-Some-clause-resumes
 returns-in-Some-clause-resumes c = λ resumes. (c.args.key, refl, taken_or_deaf c.args.self.now.applications c.args.key c.in-Some.application.now c.in-Some.ensures.value (c.acknowledged.ensures.resumes resumes))
+
+pub returns-in-Some-clause-asks : goal.returns-in-Some-clause-asks
+returns-in-Some-clause-asks c = done_kept c.args.self.now.applications c.args.key c.in-Some.application.now c.acknowledged.new.self c.in-Some.ensures.value c.acknowledged.ensures.body

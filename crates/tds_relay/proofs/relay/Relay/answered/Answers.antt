@@ -6,6 +6,7 @@ use Rattle.std.proofs.Common.{refl}
 use Rattle.tds_relay.specs.Closings.{Nobody}
 use Rattle.tds_relay.proofs.spared.Sending.{kept_refl}
 use Rattle.tds_relay.proofs.spared.Shutting.{closes_moved, keeps_finished, unclosed}
+use Rattle.tds_relay.proofs.steps.Doing.{done_kept}
 use Rattle.tds_relay.proofs.relay.Relay.answered.Goals as goal
 
 pub returns-in-Some-clause-kept : goal.returns-in-Some-clause-kept
@@ -20,3 +21,6 @@ returns-in-Some-clause-closes c =
     let a = c.in-Some.application.now in
     closes_moved Nobody c.args.key (told whats.Finished) _ _ keeps_finished (ends_moved s c.args.key a c.answered.new.self (told whats.Finished) c.in-Some.ensures.value c.answered.ensures.end)
     (posts_kept s c.args.key a c.answered.new.self c.in-Some.ensures.value c.answered.ensures.post) refl (kept_refl c.args.self.now.links.items) (unclosed _ _ refl)
+
+pub returns-in-Some-clause-asks : goal.returns-in-Some-clause-asks
+returns-in-Some-clause-asks c = done_kept c.args.self.now.applications c.args.key c.in-Some.application.now c.answered.new.self c.in-Some.ensures.value c.answered.ensures.body

@@ -16,8 +16,15 @@ use Rattle.tds_relay.proofs.spared.Closings.{closes_both, closes_more, closes_no
 use Rattle.tds_relay.proofs.seats.Linked.{seated_pushed}
 use Rattle.tds_relay.proofs.seats.Relays.{brought_none, brought_one, none_brought}
 use Rattle.tds_relay.proofs.spared.Opening.{on_last, opens_new_both, opens_none, opens_same, turn_last}
-use Rattle.tds_relay.specs.Desk.{Brings}
 use Rattle.std.proofs.Common.{arith, ◌≤◌}
+use Rattle.std.specs.Prelude.{IfSome, None, Option}
+use Rattle.tds_relay.specs.Cleaning.{IsLentBy}
+use Rattle.tds_relay.specs.Desk.{find_number}
+use Rattle.tds_relay.specs.Ties.{IsReached}
+use Rattle.tds_relay.specs.declared.desk.leaving.Left.{Left}
+use Rattle.tds_relay.proofs.spared.Brought.{brought_holds, first_served, if_some, first_waits, lent_unheld}
+use Rattle.tds_relay.proofs.spared.Freeing.{forget_none}
+use Rattle.std.proofs.Common.{subst}
 use Rattle.tds_relay.proofs.relay.Relay.bring.Goals as goal
 
 pub returns-in_default-clause-goes : goal.returns-in_default-clause-goes
@@ -172,3 +179,23 @@ returns-clause-lends c =
     let line : (desk_in c.bring.new.self).line ≡ (desk_in c.args.self.now.desk).line =
     brought_line (desk_in c.args.self.now.desk) (desk_in c.bring.new.self) c.in_ok-left.ensures.turns.0 c.in_ok-left.ensures.turns.1 c.in_ok-left.ensures.turns.2.desk_is in
     lends_at _ _ _ _ _ (c.in_ok-send_unheld.ensures.line ∙ line) c.in_ok-send_unheld.ensures.ends c.in_ok-serve_line.ensures.lends
+
+pub returns-clause-cleans : goal.returns-clause-cleans
+returns-clause-cleans c = λ reached.
+    let old = c.args.self.now in
+    let mid = c.send_unheld.new.self in
+    let left = c.in-Some.left in
+    let empty : c.is_empty.result ≡ true = search rules in
+    let there : left.is_there ≡ true = search rules in
+    let lent : IsLentBy left.number (desk_in old.desk).service =
+    subst (λ (o : Option Left). IfSome o (λ (it : Left). IsLentBy it.number (desk_in old.desk).service)) c.in-Some.is c.in_ok-left.ensures.lent in
+    let puts = if_some _ c.in_ok-left.field-0 left c.in-Some.is (c.in_ok-left.ensures.cleans reached) there in
+    let unheld : find_number left.number (desk_in c.bring.new.self).holds ≡ None =
+    ap (find_number left.number) (brought_holds (desk_in old.desk) (desk_in c.bring.new.self) c.in_ok-left.ensures.turns.0 c.in_ok-left.ensures.turns.1 c.in_ok-left.ensures.turns.2.desk_is)
+    ∙ lent_unheld (desk_in old.desk) lent.0 left.number lent.1 reached lent.2 in
+    let led : IsReached (desk_in mid.desk) =
+    reached_on Neither _ _ (λ from h. c.in_ok-send_unheld.ensures.goes Neither from (reaches_turn Neither from _ _ _ _ _ c.in_ok-left.ensures.turns.2 refl h)) reached in
+    first_served left.number mid c.serve_line.new.self _ c.bring.new.out.items _ (search rules)
+    (first_waits left.number old.links.items c.push.new.self.items _ (none_there old.links.items (sym c.is_empty.ensures ∙ empty)) c.in_ok-push.ensures.items c.in_ok-link.ensures.number c.in_ok-link.ensures.nothing)
+    puts (c.in_ok-send_unheld.ensures.puts unheld) (forget_none left.number left.number c.bring.new.self.holds.items mid.desk.holds.items c.in_ok-send_unheld.ensures.holds unheld)
+    c.in_ok-serve_line.ensures.opens (c.in_ok-serve_line.ensures.fills led)

@@ -22,6 +22,7 @@ use Rattle.tds_relay.proofs.spared.Only.{only_on}
 use Rattle.tds_relay.proofs.bytes.SetAnew.{comes_anew}
 use Rattle.tds_relay.proofs.spared.Opening.{goes_last, opens_new_on, opens_same}
 use Rattle.tds_relay.proofs.spared.Off.{served_off}
+use Rattle.tds_relay.proofs.spared.Opening.{grows_few, grows_on}
 use Rattle.tds_relay.proofs.relay.Relay.came.Goals as goal
 
 pub returns-clause-steps : goal.returns-clause-steps
@@ -83,3 +84,6 @@ returns-clause-opening c = opens_new_on c.serve_line.result c.args.self.now c.he
 
 pub returns-clause-apart : goal.returns-clause-apart
 returns-clause-apart c = served_off c.serve_line.result c.args.number c.args.self.now c.hear_all.new.self c.serve_line.new.self c.in_ok-hear_all.ensures.goes c.in_ok-hear_all.ensures.apart c.serve_line.ensures.goes_on
+
+pub returns-clause-many : goal.returns-clause-many
+returns-clause-many c = grows_on c.serve_line.result c.args.self.now c.hear_all.new.self c.serve_line.new.self (grows_few c.args.self.now c.hear_all.new.self c.hear_all.ensures.opening c.in_ok-hear_all.ensures.many) c.serve_line.ensures.many

@@ -16,6 +16,7 @@ use Rattle.tds_relay.specs.Closings.{Itself}
 use Rattle.tds_relay.proofs.spared.Closings.{closes_on}
 use Rattle.tds_relay.proofs.spared.Begun.{answers_then}
 use Rattle.tds_relay.proofs.seats.Relays.{kept_end}
+use Rattle.tds_relay.proofs.spared.Filling.{own_behind, own_end}
 use Rattle.tds_relay.proofs.relay.Relay.fail.Goals as goal
 
 pub returns-clause-goes : goal.returns-clause-goes
@@ -57,3 +58,6 @@ returns-clause-answers c = answers_then c.end.result _ _ _ c.in_ok-lose_own.ensu
 
 pub returns-clause-seated : goal.returns-clause-seated
 returns-clause-seated c = λ s. kept_end c.end.result c.lose_own.new.self c.end.new.self c.end.ensures.desk c.end.ensures.links (c.in_ok-lose_own.ensures.seated s)
+
+pub returns-clause-own : goal.returns-clause-own
+returns-clause-own c = own_behind c.end.result c.args.key c.args.self.now c.lose_own.new.self c.end.new.self c.in_ok-lose_own.ensures.own (own_end c.end.result c.args.key c.lose_own.new.self c.end.new.self c.end.ensures.desk c.end.ensures.links)

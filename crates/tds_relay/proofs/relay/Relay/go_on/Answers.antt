@@ -59,9 +59,10 @@ returns-else-not-branch-clause-body c =
     let a = c.in-Some.application.now in
     let there = c.in-Some.ensures.value in
     let kept = c.in_ok-keep-in-Waits.ensures.body (search rules) in
+    let asked = c.in_ok-keep-in-Waits.ensures.asks (search rules) in
     ok_more c.seek.result _ _
     (λ t. grows_then c.args.whole c.args.bytes.now (body_of c.args.key c.args.self.now) _ (body_of c.args.key c.seek.new.self) t
-    (grows_kept c.args.whole c.args.bytes.now (get s c.args.key) _ (going_of c.args.key c.args.self.now) _ a _ c.in-Waits.kind _ there (written_there s c.args.key a _ there) c.in-Waits.is refl kept.0 kept.1))
+    (grows_kept c.args.whole c.args.bytes.now (get s c.args.key) _ (going_of c.args.key c.args.self.now) _ a _ c.in-Waits.kind _ there (written_there s c.args.key a _ there) c.in-Waits.is asked kept.0 kept.1))
     c.seek.ensures.body
 
 pub returns-in-Goes-clause-body : goal.returns-in-Goes-clause-body
@@ -105,9 +106,10 @@ returns-else-not-branch-clause-keeps c = λ none.
     let a = c.in-Some.application.now in
     let there = c.in-Some.ensures.value in
     let kept = c.in_ok-keep-in-Waits.ensures.body (search rules) in
+    let asked = c.in_ok-keep-in-Waits.ensures.asks (search rules) in
     ok_more c.seek.result _ _
     (λ same. subst (λ (o : Option AnApplication). KeepsInLine c.args.whole c.args.bytes.now o (body_of c.args.key c.seek.new.self)) there
-    (λ here fits kind was asks begun. same ∙ kept_more _ a _ _ c.in-Waits.kind kind _ was c.args.whole c.args.bytes.now (written_there s c.args.key a _ there) here c.in-Waits.is asks refl kept.0 kept.1))
+    (λ here fits kind was asks begun. same ∙ kept_more _ a _ _ c.in-Waits.kind kind _ was c.args.whole c.args.bytes.now (written_there s c.args.key a _ there) here c.in-Waits.is asks asked kept.0 kept.1))
     (c.seek.ensures.stays none)
 
 pub returns-in-Nothing-clause-closes : goal.returns-in-Nothing-clause-closes

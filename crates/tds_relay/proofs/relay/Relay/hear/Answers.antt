@@ -18,12 +18,13 @@ use Rattle.std.proofs.Common.{inl}
 use Rattle.tds_relay.specs.Sending.{sending_of}
 use Rattle.tds_relay.proofs.spared.Sending.{same_written, sending_same}
 use Rattle.tds_relay.proofs.indexed.Placing.{placed_written}
-use Rattle.std.proofs.Common.{◌≡◌, List, [], slice_index_or, subst, ℕ}
+use Rattle.std.proofs.Common.{◌≡◌, List, slice_index_or, subst, ℕ}
 use Rattle.std.specs.Prelude.{IfOk}
 use Rattle.tds_relay.specs.Reasons.{Cleans}
 use Rattle.tds_relay.proofs.spared.Losing.{heard_as, posts_written}
 use Rattle.tds_relay.proofs.seats.Relays.{behind_on}
 use Rattle.tds_relay.proofs.seats.Linked.{heard_there, seated_as}
+use Rattle.std.proofs.Common.{length-set}
 use Rattle.tds_relay.proofs.relay.Relay.hear.Goals as goal
 
 pub returns-in_default-clause-continues : goal.returns-in_default-clause-continues
@@ -188,3 +189,9 @@ returns-clause-seated c = rw (← c.links.view_is) (
     (c.hear_on.ensures.number ∙ ap (λ (l : Link). l.number) c.index_mut-link.ensures.value)
     (sending_same c.index_mut-link.result.now c.hear_on.new.link c.hear_on.ensures.tag c.hear_on.ensures.out ∙ ap sending_of c.index_mut-link.ensures.value)
     (c.hear_on.ensures.is_open ∙ ap (λ (l : Link). l.is_open) c.index_mut-link.ensures.value) other).0)) s)
+
+pub returns-clause-many : goal.returns-clause-many
+returns-clause-many c = rw (← c.links.view_is) (ok_if c.hear_on.result _ (length-set c.links.inside.list.items c.in-Some.place _))
+
+pub returns-then-not-link-clause-many : goal.returns-then-not-link-clause-many
+returns-then-not-link-clause-many c = rw (← c.links.view_is) (length-set c.links.inside.list.items c.in-Some.place _)

@@ -1,35 +1,29 @@
-use Rattle.std.proofs.Common.{◌≡◌, ◌∙◌, [], List, Option, ap, inl, length, refl, subst, suc, sym, ℕ, rules}
-use Rattle.tds_packet.specs.Reading.{Reading}
-use Rattle.tds_relay.specs.declared.relay.Relay.{Relay}
-use Rattle.tds_relay.specs.Coming.{AllAlong}
+use Rattle.std.proofs.Common.{◌≡◌, ◌∙◌, [], ap, inl, length, refl, suc, sym, rules}
 use Rattle.tds_relay.specs.Fronts.{hall_in, house_in, told_by}
-use Rattle.tds_relay.specs.Ordering.{StayOrdered, opens_in}
-use Rattle.tds_relay.specs.Posts.{names_in, names_of, posts_in}
-use Rattle.tds_relay.specs.Reads.{OpensOthers, answer_at, open_at}
-use Rattle.tds_relay.specs.Ties.{Connection, Goes, IsReached, Neither, desk_in}
-use Rattle.tds_relay.specs.Waking.{Wakes}
-use Rattle.tds_relay.proofs.spared.Coming.{along_on, along_refl, one_along, rest_along}
-use Rattle.tds_relay.proofs.spared.Ordered.{ordered_more, ordered_on, ordered_refl}
-use Rattle.tds_relay.proofs.spared.Waking.{one_wakes, wakes_on, wakes_same}
+use Rattle.tds_relay.specs.Ordering.{opens_in}
+use Rattle.tds_relay.specs.Posts.{names_of, posts_in}
+use Rattle.tds_relay.specs.Reads.{answer_at, open_at}
+use Rattle.tds_relay.specs.Ties.{Connection}
+use Rattle.tds_relay.proofs.spared.Coming.{along_refl, one_along}
+use Rattle.tds_relay.proofs.spared.Ordered.{ordered_more, ordered_refl}
+use Rattle.tds_relay.proofs.spared.Waking.{one_wakes, wakes_same}
 use Rattle.tds_relay.proofs.steps.Faults.{refused_next}
-use Rattle.tds_relay.proofs.steps.Told.{deaf_led_on}
 use Rattle.tds_relay.proofs.steps.Fronts.{moved_same}
-use Rattle.tds_relay.proofs.steps.Reaching.{ok_more, reached_on}
-use Rattle.tds_relay.proofs.steps.Renaming.{names_on}
-use Rattle.tds_relay.proofs.steps.Staying.{gone_open, opens_refl, others_both, others_open, others_stay, others_stay_on}
+use Rattle.tds_relay.proofs.steps.Reaching.{reached_on}
+use Rattle.tds_relay.proofs.steps.Staying.{opens_refl, others_both, others_open, others_stay, stays_refl}
 use Rattle.tds_relay.proofs.bytes.SetAnew.{anew_all, anew_begin, anew_left, anew_on}
 use Rattle.tds_relay.proofs.steps.Asked.{empty_is}
 use Rattle.tds_relay.proofs.bytes.Streaming.{heard_stays}
 use Rattle.tds_relay.proofs.bytes.Turns.{some_is, streams_all, turned, turns_begin, turns_end}
-use Rattle.tds_relay.specs.Closings.{ClosesOnly, but_told, register_in}
+use Rattle.tds_relay.specs.Closings.{register_in}
 use Rattle.tds_relay.specs.Reasons.{ByPacket, HeardFor, LosesAt}
 use Rattle.tds_relay.proofs.spared.Losing.{loses_by}
-use Rattle.tds_relay.proofs.spared.Closings.{closes_done_on, closes_refl, one_closes}
-use Rattle.tds_relay.proofs.spared.Few.{none_both, none_heard, none_on, none_refl, none_stays}
-use Rattle.tds_relay.specs.Few.{NoneNew}
+use Rattle.tds_relay.proofs.spared.Closings.{closes_refl, one_closes}
+use Rattle.tds_relay.proofs.spared.Few.{none_both, none_heard, none_refl, none_stays}
 use Rattle.tds_relay.proofs.spared.Only.{one_spares, spares_refl}
 use Rattle.tds_relay.proofs.spared.Off.{off_none, one_off}
 use Rattle.std.proofs.Common.{None}
+use Rattle.tds_relay.proofs.spared.Opening.{many_on}
 use Rattle.tds_relay.proofs.relay.Relay.hear_all.Goals as goal
 
 pub taking-init : goal.taking-init
@@ -49,6 +43,7 @@ taking-init c = record {
   seated = λ s. s;
   opening = refl;
   apart = off_none c.args.number None c.args.self.now;
+  many = (stays_refl c.args.self.now.links.items).few;
 }
 
 pub taking-preserved : goal.taking-preserved
@@ -90,6 +85,7 @@ taking-preserved c = record {
       one_off c.args.number c.taking.rest.now _ c.args.self.now c.taking.self c.hear.new.self c.heard.new.self _ c.taking.invariant.goes c.taking.invariant.apart c.taking.invariant.spares
       c.in_ok-count.ensures.hears c.in_ok-count.ensures.goes c.in_ok-count.ensures.off (λ other. (c.in_ok-count.ensures.same other).0) c.in_ok-count.ensures.asks c.in_ok-heard.ensures.apart;
   opening = c.heard.ensures.opening ∙ ap opens_in c.hear.ensures.orders ∙ c.taking.invariant.opening;
+  many = many_on (length c.args.self.now.links.items) (length c.taking.self.links.items) (length c.hear.new.self.links.items) (length c.heard.new.self.links.items) c.taking.invariant.many c.in_ok-count.ensures.many c.in_ok-heard.ensures.read.few;
 }
 
 pub returns-clause-streams : goal.returns-clause-streams

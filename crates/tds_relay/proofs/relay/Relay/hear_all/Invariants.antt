@@ -1,4 +1,4 @@
-use Rattle.std.proofs.Common.{◌≡◌, length}
+use Rattle.std.proofs.Common.{◌≡◌, ◌≤◌, length}
 use Rattle.tds_relay.specs.Closings.{ClosesOnly, but_told, register_in}
 use Rattle.tds_relay.specs.Reasons.{HeardFor}
 use Rattle.tds_relay.specs.Coming.{AllAlong, StreamsAnew}
@@ -34,5 +34,6 @@ invariant-taking l = record {
   wakes : Wakes (posts_in l.fn.self.applications) l.self.applications l.self.orders.items;
   seated : IsSeated l.fn.self → IsSeated l.self;
   apart : OffGo l.fn.number None l.fn.self l.self;
+  many : length l.self.links.items ≤ length l.fn.self.links.items;
   opening : opens_in l.self.orders.items ≡ opens_in l.fn.self.orders.items;
 }

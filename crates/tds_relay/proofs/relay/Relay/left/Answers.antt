@@ -22,7 +22,7 @@ use Rattle.tds_relay.specs.Closings.{IsWaiting, Nobody, register_in, without_key
 use Rattle.tds_relay.proofs.spared.Closings.{closes_both, closes_nobody, closes_with}
 use Rattle.tds_relay.proofs.spared.Sending.{kept_refl}
 use Rattle.tds_relay.proofs.spared.Shutting.{closes_kept, unclosed}
-use Rattle.tds_relay.proofs.spared.Cleaned.{left_served}
+use Rattle.tds_relay.proofs.spared.Freeing.{left_served}
 use Rattle.tds_relay.proofs.spared.Few.{few_behind, most_kept, none_stays}
 use Rattle.tds_relay.proofs.spared.Lasting.{besides_on}
 use Rattle.std.proofs.Common.{Some, ◌≡◌, ℕ}
@@ -31,6 +31,9 @@ use Rattle.tds_relay.proofs.spared.Cleaned.{counts_on}
 use Rattle.tds_relay.specs.Cleaning.{cleaned_in}
 use Rattle.tds_relay.specs.Desk.{find_key}
 use Rattle.tds_relay.proofs.spared.Opening.{left_last, opens_new_on, opens_same}
+use Rattle.tds_relay.proofs.spared.Filling.{first_own, puts_on}
+use Rattle.tds_relay.specs.Hall.{holder}
+use Rattle.tds_relay.proofs.spared.Opening.{grows_on, grows_stays}
 use Rattle.tds_relay.proofs.relay.Relay.left.Goals as goal
 
 pub returns-clause-left : goal.returns-clause-left
@@ -81,7 +84,11 @@ returns-clause-closes c = let old = c.args.self.now in
     (closes_nobody (IsWaiting (desk_in c.args.self.now.desk).line) _ _ (closes_both Nobody _ _ _ (closes_kept Nobody (without_key c.args.key (register_in old)) _ quit gone refl (kept_refl old.links.items) (unclosed _ _ refl)) c.in_ok-release.ensures.closes))
 
 pub returns-clause-ends : goal.returns-clause-ends
-returns-clause-ends c = λ reached. left_served c.serve_line.result c.args.key c.args.self.now c.release.new.self c.serve_line.new.self (c.in_ok-release.ensures.ends reached) c.serve_line.ensures.opens
+returns-clause-ends c = λ reached.
+    let old = c.args.self.now in
+    let mid = c.release.new.self in
+    left_served c.serve_line.result c.args.key old mid c.serve_line.new.self (c.in_ok-release.ensures.ends reached) c.serve_line.ensures.opens (c.in_ok-release.ensures.frees reached)
+    (c.serve_line.ensures.fills (reached_on (Application c.args.key) (desk_in old.desk) (desk_in mid.desk) (λ from h. reaches_left c.args.key from (desk_in old.desk) (desk_in mid.desk) c.in_ok-release.ensures.leaving h) reached))
 
 pub returns-clause-few : goal.returns-clause-few
 returns-clause-few c = few_behind c.serve_line.result _ _ _ _ _ (most_kept _ _ (c.in_ok-release.ensures.closes.told)) (none_stays _ _ c.in_ok-release.ensures.read) c.serve_line.ensures.few
@@ -111,3 +118,14 @@ returns-clause-lends c =
     let quit = ends_quit old.applications c.try_remove.new.self c.args.key c.try_remove.result c.try_remove.ensures.value c.try_remove.ensures.slots c.try_remove.ensures.absent in
     lends_from c.serve_line.result _ _ _ _ _ c.in_ok-release.ensures.line
     (c.in_ok-release.ensures.fronts ∙ ap (change_end c.args.key lets_go) quit ∙ gone_stays (ends_in old.applications) c.args.key lets_go) c.serve_line.ensures.lends
+
+pub returns-clause-puts : goal.returns-clause-puts
+returns-clause-puts c = λ reached.
+    let old = c.args.self.now in
+    let mid = c.release.new.self in
+    puts_on c.serve_line.result (λ (number : ℕ). holder (desk_in old.desk) number ≡ Some c.args.key) old mid c.serve_line.new.self reached
+    (waited_left c.args.key (desk_in old.desk) (desk_in mid.desk) c.in_ok-release.ensures.leaving) (first_own c.args.key old mid (c.in_ok-release.ensures.keeps reached))
+    (c.serve_line.ensures.fills (reached_on (Application c.args.key) (desk_in old.desk) (desk_in mid.desk) (λ from h. reaches_left c.args.key from (desk_in old.desk) (desk_in mid.desk) c.in_ok-release.ensures.leaving h) reached))
+
+pub returns-clause-many : goal.returns-clause-many
+returns-clause-many c = grows_on c.serve_line.result c.args.self.now c.release.new.self c.serve_line.new.self (grows_stays c.args.self.now c.release.new.self c.release.ensures.opening c.in_ok-release.ensures.read) c.serve_line.ensures.many

@@ -23,7 +23,10 @@ use Rattle.std.proofs.Common.{false, true, ◌≡◌}
 use Rattle.tds_relay.proofs.spared.Opening.{opens_one}
 use Rattle.tds_relay.specs.Ordering.{opens_if, opens_in}
 use Rattle.tds_relay.proofs.steps.Reaching.{ok_if}
-use Rattle.std.proofs.Common.{◌++◌, ◌∙◌, append-nil, Bool, ℕ}
+use Rattle.std.proofs.Common.{◌++◌, ◌∙◌, append-nil, Bool}
+use Rattle.tds_relay.proofs.spared.Filling.{own_behind, own_first, own_pushed}
+use Rattle.tds_relay.proofs.spared.Opening.{grows_behind, grows_stays}
+use Rattle.tds_relay.proofs.spared.Growing.{pushed_more}
 use Rattle.tds_relay.proofs.relay.Relay.lend.Goals as goal
 
 pub returns-then-served-clause-opens : goal.returns-then-served-clause-opens
@@ -110,3 +113,22 @@ pub returns-clause-opening : goal.returns-clause-opening
 returns-clause-opening c =
     let had : c.args.served.had ≡ false = search rules in
     opens_one c.args.served.hold.number c.args.self.now.orders.items _ c.in_ok-push-2.ensures.items ∙ ap (λ (b : Bool). opens_in c.args.self.now.orders.items ++ opens_if b c.args.served.hold.number) (sym had)
+
+pub returns-then-served-clause-own : goal.returns-then-served-clause-own
+returns-then-served-clause-own c = λ reached its.
+    own_behind c.start_kept.result c.args.served.hold.key c.args.self.now c.restart.new.self c.start_kept.new.self
+    (own_first c.args.served.hold.key c.args.self.now c.restart.new.self (ap (λ (d : code.Desk). d.holds.items) c.restart.ensures.desk) c.restart.ensures.waits)
+    (c.start_kept.ensures.own (subst (λ (d : code.Desk). IsReached (desk_in d)) (sym c.restart.ensures.desk) reached))
+
+pub returns-clause-own : goal.returns-clause-own
+returns-clause-own c = λ reached its.
+    own_pushed c.args.served.hold.key c.args.served.hold.number c.args.self.now.desk.holds.items c.args.self.now.links.items c.push.new.self.items c.in_ok-link.link its c.in_ok-link.ensures.number c.in_ok-push.ensures.items
+
+pub returns-then-served-clause-many : goal.returns-then-served-clause-many
+returns-then-served-clause-many c =
+    grows_behind c.start_kept.result c.args.self.now c.restart.new.self c.start_kept.new.self (grows_stays c.args.self.now c.restart.new.self (ap opens_in c.restart.ensures.orders) c.restart.ensures.read) c.start_kept.ensures.opening c.start_kept.ensures.read
+
+pub returns-clause-many : goal.returns-clause-many
+returns-clause-many c =
+    pushed_more c.args.served.hold.number c.in_ok-link.link c.args.self.now.links.items c.push.new.self.items (opens_in c.args.self.now.orders.items) _ c.in_ok-push.ensures.items
+    (opens_one c.args.served.hold.number c.args.self.now.orders.items _ c.in_ok-push-2.ensures.items)

@@ -54,3 +54,6 @@ pub returns-clause-seated : goal.returns-clause-seated
 returns-clause-seated c = λ s.
     closed_end c.close.result c.args.number c.lose.new.self c.args.self.now.links.items c.close.new.self c.close.ensures.desk c.close.ensures.gone c.close.ensures.others
     (lost_seated c.args.number (desk_in c.args.self.now.desk) (desk_in c.lose.new.self) _ _ c.args.self.now.links.items c.in_ok-key.ensures.turns s)
+
+pub returns-clause-holds : goal.returns-clause-holds
+returns-clause-holds c = ok_if c.close.result _ (ap (λ (d : code.Desk). d.holds.items) c.close.ensures.desk ∙ c.in_ok-key.ensures.holds)

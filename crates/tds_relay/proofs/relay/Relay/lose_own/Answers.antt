@@ -8,6 +8,7 @@ use Rattle.tds_relay.specs.Ties.{desk_in}
 use Rattle.tds_relay.proofs.spared.Closings.{closes_more_on}
 use Rattle.tds_relay.proofs.spared.Begun.{answers_refl}
 use Rattle.tds_relay.proofs.seats.Desks.{off_of}
+use Rattle.tds_relay.proofs.spared.Filling.{own_lost_on, own_refl}
 use Rattle.tds_relay.proofs.relay.Relay.lose_own.Goals as goal
 
 pub returns-then-holder-key-clause-alone : goal.returns-then-holder-key-clause-alone
@@ -32,3 +33,15 @@ returns-in-None-clause-answers c = answers_refl c.args.self.now.links.items
 
 pub returns-then-holder-key-clause-seated : goal.returns-then-holder-key-clause-seated
 returns-then-holder-key-clause-seated c = λ s. c.lose.ensures.seated (off_of c.args.number (desk_in c.args.self.now.desk) c.args.self.now.links.items s)
+
+pub returns-then-holder-key-clause-own : goal.returns-then-holder-key-clause-own
+returns-then-holder-key-clause-own c =
+    let same : (c.in-Some.holder == c.args.key) ≡ true = search rules in
+    own_lost_on c.lose.result c.args.key c.args.number c.args.self.now.desk.holds.items c.args.self.now.links.items c.lose.new.self.desk.holds.items c.lose.new.self.links.items c.lose.ensures.holds c.lose.ensures.gone c.lose.ensures.others
+    (sym c.key_on.ensures ∙ c.in-Some.is ∙ ap (λ (k : ℕ). Some k) (eqb-true c.in-Some.holder c.args.key same))
+
+pub returns-else-holder-key-clause-own : goal.returns-else-holder-key-clause-own
+returns-else-holder-key-clause-own c = own_refl c.args.key c.args.self.now.desk.holds.items c.args.self.now.links.items
+
+pub returns-in-None-clause-own : goal.returns-in-None-clause-own
+returns-in-None-clause-own c = own_refl c.args.key c.args.self.now.desk.holds.items c.args.self.now.links.items

@@ -19,6 +19,8 @@ use Rattle.tds_relay.proofs.spared.Lasting.{besides_on, but_others}
 use Rattle.tds_relay.specs.Closings.{register_in}
 use Rattle.std.proofs.Common.{◌≡◌, ℕ}
 use Rattle.tds_relay.proofs.spared.Opening.{on_last, opens_new_on, opens_same}
+use Rattle.tds_relay.proofs.spared.Filling.{first_lost, puts_on}
+use Rattle.tds_relay.proofs.spared.Opening.{grows_on, grows_stays}
 use Rattle.tds_relay.proofs.relay.Relay.lost.Goals as goal
 
 pub returns-clause-steps : goal.returns-clause-steps
@@ -71,3 +73,14 @@ returns-clause-opening c = opens_new_on c.serve_line.result c.args.self.now c.lo
 
 pub returns-clause-lends : goal.returns-clause-lends
 returns-clause-lends c = lends_from c.serve_line.result _ _ _ _ _ c.in_ok-lose.ensures.line c.in_ok-lose.ensures.ends c.serve_line.ensures.lends
+
+pub returns-clause-puts : goal.returns-clause-puts
+returns-clause-puts c = λ reached.
+    let old = c.args.self.now in
+    let mid = c.lose.new.self in
+    puts_on c.serve_line.result (λ (other : ℕ). other ≡ c.args.number) old mid c.serve_line.new.self reached (λ key e. ap (is_in key) (sym c.in_ok-lose.ensures.line) ∙ e)
+    (first_lost c.args.number old mid c.in_ok-lose.ensures.holds c.in_ok-lose.ensures.others)
+    (c.serve_line.ensures.fills (reached_on_does (desk_in old.desk) (desk_in mid.desk) c.in_ok-lose.ensures.goes reached))
+
+pub returns-clause-many : goal.returns-clause-many
+returns-clause-many c = grows_on c.serve_line.result c.args.self.now c.lose.new.self c.serve_line.new.self (grows_stays c.args.self.now c.lose.new.self c.lose.ensures.opening c.in_ok-lose.ensures.read) c.serve_line.ensures.many

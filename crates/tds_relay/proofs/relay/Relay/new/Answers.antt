@@ -1,7 +1,6 @@
 use Rattle.tds_relay.proofs.seats.Relays.{new_seated}
 use Rattle.tds_relay.specs.Ties.{desk_in}
 use Rattle.std.proofs.Common.{rules}
-use Rattle.tds_relay.specs.Desk.{new_desk}
 use Rattle.tds_relay.proofs.relay.Relay.new.Goals as goal
 
 pub returns-clause-seated : goal.returns-clause-seated

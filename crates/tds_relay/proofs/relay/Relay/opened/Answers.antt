@@ -13,7 +13,6 @@ use Rattle.tds_relay.specs.Posts.{names_in, names_of}
 use Rattle.tds_relay.proofs.spared.Ordered.{ordered_both, ordered_on, ordered_same}
 use Rattle.tds_relay.proofs.spared.Lines.{waited_on}
 use Rattle.tds_relay.specs.Closings.{IsWaiting, IsWho, Nobody, WhoOrWaiting, register_in}
-use Rattle.tds_relay.specs.Sending.{IsToWrite, called_at}
 use Rattle.tds_relay.specs.Hall.{holder, is_in}
 use Rattle.tds_relay.proofs.spared.Closings.{closes_both, closes_more, closes_nobody, closes_with, writes_behind, writes_stay}
 use Rattle.tds_relay.proofs.spared.Few.{few_behind, most_kept, none_both, none_same, none_stays}
@@ -26,6 +25,11 @@ use Rattle.tds_relay.proofs.spared.Opening.{on_last, opens_new_on, opens_same}
 use Rattle.tds_relay.specs.Ordering.{opens_in}
 use Rattle.std.proofs.Common.{◌≤◌}
 use Rattle.tds_relay.proofs.spared.Apart.{lends_after}
+use Rattle.tds_relay.proofs.spared.Filling.{first_then, puts_on}
+use Rattle.tds_relay.specs.Lent.{IsWithHolder}
+use Rattle.tds_relay.proofs.spared.Opening.{grows_both, grows_few, grows_on, grows_stays}
+use Rattle.std.proofs.Common.{◌≡◌, ◌≤◌, length, arith}
+use Rattle.tds_relay.specs.declared.link.Link.{Link}
 use Rattle.tds_relay.proofs.relay.Relay.opened.Goals as goal
 
 pub returns-clause-steps : goal.returns-clause-steps
@@ -134,3 +138,22 @@ pub returns-clause-lends : goal.returns-clause-lends
 returns-clause-lends c =
     lends_after c.serve_line.result c.args.number (hall_in c.args.self.now) (hall_in c.order_write_on.new.self) (hall_in c.start_on.new.self) (hall_in c.serve_line.new.self) (ap desk_in (c.order_write_on.ensures.desk ∙ c.set_open.ensures.desk))
     (c.in_ok-order_write_on.ensures.ends ∙ c.set_open.ensures.ends) c.in_ok-start_on.ensures.alone c.serve_line.ensures.lends
+
+pub returns-clause-puts : goal.returns-clause-puts
+returns-clause-puts c = λ reached.
+    let same = c.order_write_on.ensures.desk ∙ c.set_open.ensures.desk in
+    let led : IsReached (desk_in c.order_write_on.new.self.desk) = subst (λ (d : code.Desk). IsReached (desk_in d)) (sym same) reached in
+    let old = c.args.self.now in
+    let mid = c.start_on.new.self in
+    puts_on c.serve_line.result (IsWithHolder c.args.number old) old mid c.serve_line.new.self reached
+    (λ key e. ap (λ (d : code.Desk). is_in key (desk_in d).line) (sym same) ∙ waited_on (desk_in c.order_write_on.new.self.desk) (desk_in mid.desk) c.in_ok-start_on.ensures.goes key e)
+    (first_then c.args.number old c.order_write_on.new.self mid same (λ n. ap (waits_on n) c.in_ok-order_write_on.ensures.links ∙ c.set_open.ensures.waits n) (c.in_ok-start_on.ensures.keeps led))
+    (c.serve_line.ensures.fills (reached_on_does (desk_in c.order_write_on.new.self.desk) (desk_in mid.desk) c.in_ok-start_on.ensures.goes led))
+
+pub returns-clause-many : goal.returns-clause-many
+returns-clause-many c =
+    let many : length c.order_write_on.new.self.links.items ≡ length c.args.self.now.links.items = ap (length {A = Link}) c.in_ok-order_write_on.ensures.links ∙ c.set_open.ensures.many in
+    grows_on c.serve_line.result c.args.self.now c.start_on.new.self c.serve_line.new.self
+    (grows_both c.args.self.now c.order_write_on.new.self c.start_on.new.self
+    (grows_few c.args.self.now c.order_write_on.new.self (c.order_write_on.ensures.opening ∙ ap opens_in c.set_open.ensures.orders) (let le : length c.order_write_on.new.self.links.items ≤ length c.args.self.now.links.items = omega (arith, many) in le))
+    (grows_stays c.order_write_on.new.self c.start_on.new.self c.start_on.ensures.opening c.in_ok-start_on.ensures.read)) c.serve_line.ensures.many

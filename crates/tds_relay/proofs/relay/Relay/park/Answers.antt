@@ -8,7 +8,7 @@ use Rattle.tds_relay.proofs.spared.Closings.{closes_both, closes_more, closes_no
 use Rattle.tds_relay.proofs.spared.Few.{most_kept, none_stays}
 use Rattle.tds_relay.proofs.spared.Lines.{waited_left}
 use Rattle.tds_relay.proofs.spared.Ordered.{ordered_both}
-use Rattle.tds_relay.proofs.spared.Parks.{asks_none, parked_apart, parked_ends, parked_few, parked_go, parks}
+use Rattle.tds_relay.proofs.spared.Parks.{asks_none, parked_apart, parked_few, parked_go, parks}
 use Rattle.tds_relay.proofs.spared.Resting.{go_both}
 use Rattle.tds_relay.proofs.steps.Fronts.{moves_parks, no_moves}
 use Rattle.tds_relay.proofs.steps.Reaching.{reached_on, reaches_left}
@@ -24,6 +24,10 @@ use Rattle.tds_relay.specs.Desk.{find_key}
 use Rattle.std.proofs.Common.{subst}
 use Rattle.tds_relay.proofs.spared.Opening.{left_last, opens_new_both, opens_none, opens_same}
 use Rattle.tds_relay.proofs.spared.Apart.{lends_at}
+use Rattle.tds_relay.proofs.spared.Filling.{first_own, puts_line, puts_nothing}
+use Rattle.tds_relay.specs.Hall.{holder}
+use Rattle.tds_relay.proofs.spared.Freeing.{served_since}
+use Rattle.tds_relay.proofs.spared.Opening.{grows_both, grows_refl, grows_stays}
 use Rattle.tds_relay.proofs.relay.Relay.park.Goals as goal
 
 pub returns-clause-left : goal.returns-clause-left
@@ -90,7 +94,11 @@ returns-clause-closes c =
     (closes_more (IsWaiting (desk_in mid.desk).line) (IsWaiting (desk_in old.desk).line) _ _ (waited_left c.args.key (desk_in old.desk) (desk_in mid.desk) c.in_ok-release.ensures.leaving) c.in_ok-serve_line.ensures.closes)
 
 pub returns-clause-ends : goal.returns-clause-ends
-returns-clause-ends c = λ reached yes. parked_ends c.args.key c.args.self.now c.release.new.self c.serve_line.new.self (c.in_ok-release.ensures.ends reached) c.in_ok-serve_line.ensures.opens
+returns-clause-ends c = λ reached yes.
+    let old = c.args.self.now in
+    let mid = c.release.new.self in
+    served_since c.args.key old mid c.serve_line.new.self (c.in_ok-release.ensures.ends reached) c.in_ok-serve_line.ensures.opens (c.in_ok-release.ensures.frees reached)
+    (c.in_ok-serve_line.ensures.fills (reached_on (Application c.args.key) (desk_in old.desk) (desk_in mid.desk) (λ from h. reaches_left c.args.key from (desk_in old.desk) (desk_in mid.desk) c.in_ok-release.ensures.leaving h) reached))
 
 pub returns-clause-seated : goal.returns-clause-seated
 returns-clause-seated c = λ s. c.in_ok-serve_line.ensures.seated (c.in_ok-release.ensures.seated s)
@@ -117,3 +125,20 @@ returns-clause-opening c = opens_new_both c.args.self.now c.release.new.self c.s
 
 pub returns-clause-lends : goal.returns-clause-lends
 returns-clause-lends c = λ is. lends_at _ _ _ _ _ c.in_ok-release.ensures.line c.in_ok-release.ensures.fronts c.in_ok-serve_line.ensures.lends
+
+pub returns-then-not-may_park-clause-puts : goal.returns-then-not-may_park-clause-puts
+returns-then-not-may_park-clause-puts c = λ reached. puts_nothing _ c.args.self.now
+
+pub returns-clause-puts : goal.returns-clause-puts
+returns-clause-puts c = λ reached.
+    let old = c.args.self.now in
+    let mid = c.release.new.self in
+    puts_line (λ (number : ℕ). holder (desk_in old.desk) number ≡ Some c.args.key) old mid c.serve_line.new.self reached
+    (waited_left c.args.key (desk_in old.desk) (desk_in mid.desk) c.in_ok-release.ensures.leaving) (first_own c.args.key old mid (c.in_ok-release.ensures.keeps reached))
+    (c.in_ok-serve_line.ensures.fills (reached_on (Application c.args.key) (desk_in old.desk) (desk_in mid.desk) (λ from h. reaches_left c.args.key from (desk_in old.desk) (desk_in mid.desk) c.in_ok-release.ensures.leaving h) reached))
+
+pub returns-then-not-may_park-clause-many : goal.returns-then-not-may_park-clause-many
+returns-then-not-may_park-clause-many c = grows_refl c.args.self.now
+
+pub returns-clause-many : goal.returns-clause-many
+returns-clause-many c = grows_both c.args.self.now c.release.new.self c.serve_line.new.self (grows_stays c.args.self.now c.release.new.self c.release.ensures.opening c.in_ok-release.ensures.read) c.in_ok-serve_line.ensures.many

@@ -27,6 +27,9 @@ use Rattle.tds_relay.proofs.spared.Begun.{answers_both, answers_from, answers_on
 use Rattle.tds_relay.proofs.spared.Lasting.{deaf_last, last_all, last_links, same_last}
 use Rattle.tds_relay.proofs.seats.Relays.{desk_kept, kept_end, lasting_seated}
 use Rattle.tds_relay.proofs.seats.Desks.{gone_on, seated_on}
+use Rattle.tds_relay.proofs.spared.Filling.{own_behind, own_end, own_first, own_put}
+use Rattle.tds_relay.proofs.held.Numbers.{apart_at, its_holder}
+use Rattle.tds_relay.specs.Reads.{waits_on}
 use Rattle.tds_relay.proofs.relay.Relay.put.Goals as goal
 
 pub returns-in_default-clause-moves : goal.returns-in_default-clause-moves
@@ -248,3 +251,30 @@ returns-then-fits-clause-seated c = λ s.
 pub returns-else-fits-clause-seated : goal.returns-else-fits-clause-seated
 returns-else-fits-clause-seated c = λ s.
     c.fail-else-fits.ensures.seated (lasting_seated c.note_went_on.new.self c.fits_on.new.self c.fits_on.ensures.desk c.in_ok-fits.ensures.lasts c.in_ok-fits.ensures.read (desk_kept c.put_on.new.desk c.args.self.now.links.items c.note_went_on.new.self c.note_went_on.ensures.desk c.note_went_on.ensures.links (seated_on (desk_in c.args.self.now.desk) (desk_in c.put_on.new.desk) c.args.self.now.links.items (gone_on (desk_in c.args.self.now.desk) (desk_in c.put_on.new.desk) c.in_ok-is_put.ensures.goes) c.in_ok-is_put.ensures.seats s)))
+
+pub returns-in_default-clause-own : goal.returns-in_default-clause-own
+returns-in_default-clause-own c = λ reached. own_end c.end.result c.args.key c.args.self.now c.end.new.self c.end.ensures.desk c.end.ensures.links
+
+pub returns-then-not-may_put-clause-own : goal.returns-then-not-may_put-clause-own
+returns-then-not-may_put-clause-own c = λ reached. c.fail.ensures.own
+
+pub returns-then-not-is_put-clause-own : goal.returns-then-not-is_put-clause-own
+returns-then-not-is_put-clause-own c = λ reached.
+    own_behind c.fail-then-not-is_put.result c.args.key c.args.self.now c.note_went_on.new.self c.fail-then-not-is_put.new.self
+    (own_first c.args.key c.args.self.now c.note_went_on.new.self (ap (λ (d : code.Desk). d.holds.items) c.note_went_on.ensures.desk ∙ c.in_ok-is_put.ensures.holds) (λ n. ap (waits_on n) c.note_went_on.ensures.links)) c.fail-then-not-is_put.ensures.own
+
+pub returns-then-fits-clause-own : goal.returns-then-fits-clause-own
+returns-then-fits-clause-own c = λ reached.
+    own_put c.args.key c.in-Some.hold.number c.args.self.now.desk.holds.items c.args.self.now.links.items c.fits_on.new.self.desk.holds.items c.fits_on.new.self.links.items
+    (ap (λ (d : code.Desk). d.holds.items) (c.fits_on.ensures.desk ∙ c.note_went_on.ensures.desk) ∙ c.in_ok-is_put.ensures.holds)
+    (its_holder c.args.key c.in-Some.hold c.args.self.now.desk.holds.items (apart_at (desk_in c.args.self.now.desk) reached) (sym c.hold_of.ensures ∙ c.in-Some.is))
+    (λ n differs. c.in_ok-fits.ensures.others n differs ∙ ap (waits_on n) c.note_went_on.ensures.links)
+
+pub returns-else-fits-clause-own : goal.returns-else-fits-clause-own
+returns-else-fits-clause-own c = λ reached.
+    own_behind c.fail-else-fits.result c.args.key c.args.self.now c.fits_on.new.self c.fail-else-fits.new.self
+    (own_put c.args.key c.in-Some.hold.number c.args.self.now.desk.holds.items c.args.self.now.links.items c.fits_on.new.self.desk.holds.items c.fits_on.new.self.links.items
+    (ap (λ (d : code.Desk). d.holds.items) (c.fits_on.ensures.desk ∙ c.note_went_on.ensures.desk) ∙ c.in_ok-is_put.ensures.holds)
+    (its_holder c.args.key c.in-Some.hold c.args.self.now.desk.holds.items (apart_at (desk_in c.args.self.now.desk) reached) (sym c.hold_of.ensures ∙ c.in-Some.is))
+    (λ n differs. c.in_ok-fits.ensures.others n differs ∙ ap (waits_on n) c.note_went_on.ensures.links))
+    c.fail-else-fits.ensures.own

@@ -20,6 +20,7 @@ use Rattle.tds_relay.proofs.spared.Lasting.{last_refl}
 use Rattle.tds_relay.proofs.spared.Reasons.{for_that}
 use Rattle.tds_relay.specs.Reasons.{CannotPut, ItselfFor}
 use Rattle.tds_relay.specs.Hall.{Ends, end_at}
+use Rattle.tds_relay.proofs.spared.Filling.{own_refl}
 use Rattle.tds_relay.proofs.relay.Relay.put_held.Goals as goal
 
 pub returns-in_default-clause-body : goal.returns-in_default-clause-body
@@ -72,3 +73,9 @@ returns-clause-closes c =
     (λ why. subst (λ (xs : List ℕ). CannotPut c.args.whole xs c.args.key (end_at (ends_in c.args.self.now.applications) c.args.key) c.args.self.now.desk c.args.self.now.links.items) (bytes ∙ ap held_of c.in-Some.ensures.value)
     (subst (λ (es : Ends). CannotPut c.args.whole c.deref.result.now c.args.key (end_at es c.args.key) c.args.self.now.desk c.args.self.now.links.items) same why)) c.put.ensures.closes)
     (closes_kept _ _ _ same (posts_kept s c.args.key a _ c.in-Some.ensures.value c.forget.ensures.post) refl (kept_refl c.args.self.now.links.items) (unclosed _ _ refl))
+
+pub returns-in_default-clause-own : goal.returns-in_default-clause-own
+returns-in_default-clause-own c = λ reached. own_refl c.args.key c.args.self.now.desk.holds.items c.args.self.now.links.items
+
+pub returns-clause-own : goal.returns-clause-own
+returns-clause-own c = λ reached. c.put.ensures.own reached

@@ -14,10 +14,11 @@ use Rattle.tds_relay.proofs.spared.Cleaned.{left_by, nobody_left, shut_by, waits
 use Rattle.tds_relay.proofs.spared.Apart.{line_leaves}
 use Rattle.tds_relay.proofs.seats.Relays.{closed_end, left_gone, left_none, left_there}
 use Rattle.tds_relay.proofs.spared.Lasting.{but_same, held_but, held_number}
-use Rattle.std.proofs.Common.{Some, ◌≡◌, ℕ}
 use Rattle.tds_relay.specs.Places.{held_by}
 use Rattle.tds_relay.proofs.spared.Cleaned.{counts_none, counts_on, counts_some, one_failed, one_more}
 use Rattle.tds_relay.specs.Cleaning.{cleaned_in}
+use Rattle.tds_relay.proofs.spared.Freeing.{left_frees, left_keeps, nobody_frees, nobody_keeps}
+use Rattle.std.proofs.Common.{inl}
 use Rattle.tds_relay.proofs.relay.Relay.release.Goals as goal
 
 pub returns-in_default-clause-lets_go : goal.returns-in_default-clause-lets_go
@@ -159,3 +160,31 @@ pub returns-else-left-clause-line : goal.returns-else-left-clause-line
 returns-else-left-clause-line c =
     ok_if c.close.result _
     (ap (λ (d : code.Desk). (desk_in d).line) (c.close.ensures.desk ∙ c.let_go.ensures.desk) ∙ line_leaves c.args.key c.in_ok-left.ensures.turns.0 c.in_ok-left.ensures.turns.1 _ _ _ _ c.in_ok-left.ensures.turns.2)
+
+pub returns-in_default-clause-keeps : goal.returns-in_default-clause-keeps
+returns-in_default-clause-keeps c = λ reached.
+    nobody_keeps c.args.key c.in_ok-left.ensures.turns.0 c.in_ok-left.ensures.turns.1 c.args.self.now c.let_go.new.self c.leave.new.self _ _ (find_key c.args.key c.args.self.now.desk.holds.items) refl (search rules) c.in_ok-left.ensures.turns.2
+    c.let_go.ensures.desk c.let_go.ensures.links
+
+pub returns-then-left-clause-keeps : goal.returns-then-left-clause-keeps
+returns-then-left-clause-keeps c = λ reached.
+    left_keeps c.args.key c.in_ok-left.ensures.turns.0 c.in_ok-left.ensures.turns.1 c.in-Some.left c.args.self.now c.let_go.new.self c.send_unheld.new.self c.leave.new.self _ _ reached c.in_ok-left.ensures.turns.2 c.let_go.ensures.desk c.let_go.ensures.links
+    c.send_unheld.result (find_key c.args.key c.args.self.now.desk.holds.items) refl (search rules) c.send_unheld.ensures.holds c.send_unheld.ensures.others
+
+pub returns-else-left-clause-keeps : goal.returns-else-left-clause-keeps
+returns-else-left-clause-keeps c = λ reached.
+    left_keeps c.args.key c.in_ok-left.ensures.turns.0 c.in_ok-left.ensures.turns.1 c.in-Some.left c.args.self.now c.let_go.new.self c.close.new.self c.leave.new.self _ _ reached c.in_ok-left.ensures.turns.2 c.let_go.ensures.desk c.let_go.ensures.links
+    c.close.result (find_key c.args.key c.args.self.now.desk.holds.items) refl (search rules) (ok_if c.close.result _ (inl (ap (λ (d : code.Desk). d.holds.items) c.close.ensures.desk))) c.close.ensures.others
+
+pub returns-in_default-clause-frees : goal.returns-in_default-clause-frees
+returns-in_default-clause-frees c = λ reached. nobody_frees c.args.key c.args.self.now.desk.holds.items _ (find_key c.args.key c.args.self.now.desk.holds.items) refl (search rules)
+
+pub returns-then-left-clause-frees : goal.returns-then-left-clause-frees
+returns-then-left-clause-frees c = λ reached.
+    left_frees c.args.key c.in_ok-left.ensures.turns.0 c.in_ok-left.ensures.turns.1 c.in-Some.left c.args.self.now c.let_go.new.self c.send_unheld.new.self c.leave.new.self _ _ reached c.in_ok-left.ensures.turns.2 c.let_go.ensures.desk c.let_go.ensures.links
+    c.send_unheld.result c.send_unheld.ensures.holds
+
+pub returns-else-left-clause-frees : goal.returns-else-left-clause-frees
+returns-else-left-clause-frees c = λ reached.
+    left_frees c.args.key c.in_ok-left.ensures.turns.0 c.in_ok-left.ensures.turns.1 c.in-Some.left c.args.self.now c.let_go.new.self c.close.new.self c.leave.new.self _ _ reached c.in_ok-left.ensures.turns.2 c.let_go.ensures.desk c.let_go.ensures.links
+    c.close.result (ok_if c.close.result _ (inl (ap (λ (d : code.Desk). d.holds.items) c.close.ensures.desk)))

@@ -18,6 +18,7 @@ use Rattle.tds_relay.proofs.spared.Reasons.{lent_behind}
 use Rattle.tds_relay.proofs.spared.Few.{few_behind, most_kept, none_stays}
 use Rattle.tds_relay.proofs.spared.Opening.{goes_last, opens_new_on, opens_same}
 use Rattle.tds_relay.proofs.spared.Speaking.{others_served}
+use Rattle.tds_relay.proofs.spared.Opening.{grows_on, grows_stays}
 use Rattle.tds_relay.proofs.relay.Relay.said.Goals as goal
 
 pub returns-clause-steps : goal.returns-clause-steps
@@ -67,3 +68,6 @@ returns-clause-others c = others_served c.serve_line.result c.args.key c.args.se
 
 pub returns-clause-opening : goal.returns-clause-opening
 returns-clause-opening c = opens_new_on c.serve_line.result c.args.self.now c.take_all.new.self c.serve_line.new.self (opens_same c.args.self.now c.take_all.new.self c.take_all.ensures.opening (goes_last (Application c.args.key) (desk_in c.args.self.now.desk) (desk_in c.take_all.new.self.desk) c.in_ok-take_all.ensures.goes)) c.serve_line.ensures.opening
+
+pub returns-clause-many : goal.returns-clause-many
+returns-clause-many c = grows_on c.serve_line.result c.args.self.now c.take_all.new.self c.serve_line.new.self (grows_stays c.args.self.now c.take_all.new.self c.take_all.ensures.opening c.in_ok-take_all.ensures.read) c.serve_line.ensures.many

@@ -16,6 +16,8 @@ use Rattle.tds_relay.proofs.spared.Cleaned.{not_both}
 use Rattle.tds_relay.proofs.steps.Staying.{filled_by, gone_filled}
 use Rattle.tds_relay.proofs.seats.Relays.{lasting_seated}
 use Rattle.tds_relay.proofs.seats.Desks.{off_of}
+use Rattle.tds_relay.specs.Desk.{without_number}
+use Rattle.std.proofs.Common.{inr}
 use Rattle.tds_relay.proofs.relay.Relay.send_unheld.Goals as goal
 
 pub returns-in-None-clause-read : goal.returns-in-None-clause-read
@@ -92,3 +94,12 @@ returns-in-Some-clause-line c = ap (λ (d : code.Desk). (desk_in d).line) c.fits
 
 pub returns-in-None-clause-line : goal.returns-in-None-clause-line
 returns-in-None-clause-line c = ok_more c.lose.result _ _ (λ l. l ∙ ap (λ (d : code.Desk). (desk_in d).line) c.fits_on.ensures.desk) c.lose.ensures.line
+
+pub returns-then-fits-clause-holds : goal.returns-then-fits-clause-holds
+returns-then-fits-clause-holds c = inl (ap (λ (d : code.Desk). d.holds.items) c.fits_on.ensures.desk)
+
+pub returns-in-Some-clause-holds : goal.returns-in-Some-clause-holds
+returns-in-Some-clause-holds c = inl (ap (λ (d : code.Desk). d.holds.items) c.fits_on.ensures.desk)
+
+pub returns-in-None-clause-holds : goal.returns-in-None-clause-holds
+returns-in-None-clause-holds c = ok_more c.lose.result _ _ (λ e. inr (e ∙ ap (λ (d : code.Desk). without_number c.args.number d.holds.items) c.fits_on.ensures.desk)) c.lose.ensures.holds

@@ -17,8 +17,9 @@ use Rattle.std.proofs.Common.{subst}
 use Rattle.tds_relay.specs.Ties.{Serving}
 use Rattle.tds_relay.proofs.seats.Desks.{unserved}
 use Rattle.tds_relay.proofs.seats.Relays.{lent_if}
-use Rattle.tds_relay.proofs.spared.Opening.{lent_opens, on_last, opens_new_both, opens_none, opens_same, turn_last}
+use Rattle.tds_relay.proofs.spared.Opening.{grows_both, grows_refl, lent_opens, on_last, opens_new_both, opens_none, opens_same, turn_last}
 use Rattle.tds_relay.specs.Desk.{Serves}
+use Rattle.tds_relay.proofs.spared.Filling.{lends_more, lends_nothing, lends_refl}
 use Rattle.tds_relay.proofs.relay.Relay.serve_line.Goals as goal
 
 pub line-init : goal.line-init
@@ -42,6 +43,8 @@ line-init c =
       counts = refl;
       opening = opens_none old;
       closes = closes_refl may (register_in old);
+      fills = λ r. lends_refl old;
+      many = grows_refl old;
     }
 
 pub line-preserved : goal.line-preserved
@@ -84,6 +87,12 @@ line-preserved c = record {
       opens_new_both c.args.self.now c.line.self c.lend.new.self c.line.invariant.opening
       (lent_opens c.in-Some.served c.line.self c.lend.new.self (desk_in c.serve.new.self) _ _ c.in_ok-served.ensures.ok.0 (subst (Serving (desk_in c.line.self.desk)) c.in-Some.is c.in_ok-served.ensures.ok.1) c.in_ok-lend-in-Some.ensures.opening
       (on_last (desk_in c.serve.new.self) (desk_in c.lend.new.self.desk) c.in_ok-lend-in-Some.ensures.goes));
+  fills = λ r.
+      lends_more c.args.self.now c.line.self c.lend.new.self c.serve.new.self _ c.in-Some.served
+      (reached_serves _ _ _ _ c.in_ok-served.ensures.ok.0 (reached_on_does _ _ c.line.invariant.goes r)) c.in_ok-served.ensures.ok.0 c.in_ok-served.ensures.ok.1 c.in-Some.is
+      (served_waited (hall_in c.args.self.now) (hall_in c.line.self) _ c.in-Some.served c.line.invariant.unserved c.in_ok-served.ensures.ok.1 c.in-Some.is c.in-Some.served.hold.key refl)
+      (λ its. c.in_ok-lend-in-Some.ensures.own (reached_serves _ _ _ _ c.in_ok-served.ensures.ok.0 (reached_on_does _ _ c.line.invariant.goes r)) its) (c.line.invariant.fills r);
+  many = grows_both c.args.self.now c.line.self c.lend.new.self c.line.invariant.many c.in_ok-lend-in-Some.ensures.many;
 }
 
 pub returns-in-None-clause-apart : goal.returns-in-None-clause-apart
@@ -119,3 +128,6 @@ returns-in-None-clause-lends c = lends_nobody _ _ _ _ _ _ _ c.line.invariant.len
 
 pub returns-then-is_full-clause-lends : goal.returns-then-is_full-clause-lends
 returns-then-is_full-clause-lends c = c.line.invariant.lends
+
+pub returns-in-None-clause-fills : goal.returns-in-None-clause-fills
+returns-in-None-clause-fills c = λ r. lends_nothing c.args.self.now c.line.self c.serve.new.self _ c.in_ok-served.ensures.ok.0 c.in_ok-served.ensures.ok.1 c.in-None.is (c.line.invariant.fills r)

@@ -3,11 +3,12 @@ use Rattle.tds_relay.specs.Few.{Few}
 use Rattle.tds_relay.specs.Apart.{LendsInTurn}
 use Rattle.tds_relay.specs.Fronts.{MovedOn, ends_in, hall_in}
 use Rattle.tds_relay.specs.Lent.{LastBut}
-use Rattle.tds_relay.specs.Ordering.{OpensNew, StayOrdered}
+use Rattle.tds_relay.specs.Ordering.{GrowsByOrders, OpensNew, StayOrdered}
 use Rattle.tds_relay.specs.Posts.{posts_in}
 use Rattle.tds_relay.specs.Reads.{Opens}
 use Rattle.tds_relay.specs.Sparing.{AllGo}
-use Rattle.tds_relay.specs.Ties.{GoesOn, desk_in}
+use Rattle.tds_relay.specs.Ties.{GoesOn, IsReached, desk_in}
+use Rattle.tds_relay.specs.Lent.{LendsInLine}
 use Rattle.tds_relay.specs.Walkers.{AllStand}
 use Rattle.tds_relay.proofs.spared.Apart.{Unserved}
 use Rattle.tds_relay.specs.Closings.{ClosesOnly, IsWaiting, register_in}
@@ -33,4 +34,6 @@ invariant-line l = record {
   seated : IsSeated l.fn.self → IsSeated l.self;
   counts : cleaned_in l.self ≡ cleaned_in l.fn.self;
   opening : OpensNew l.fn.self l.self;
+  many : GrowsByOrders l.fn.self l.self;
+  fills : IsReached (desk_in l.fn.self.desk) → LendsInLine l.fn.self l.self;
 }

@@ -31,6 +31,7 @@ use Rattle.tds_relay.proofs.spared.Reasons.{for_reason, for_that}
 use Rattle.tds_relay.specs.Reasons.{CannotStart, Unasked, Unkept, Unput}
 use Rattle.tds_relay.specs.Hall.{end_at}
 use Rattle.std.proofs.Common.{◌≡◌, None}
+use Rattle.tds_relay.proofs.spared.Filling.{own_end, own_on, own_refl, own_same}
 use Rattle.tds_relay.proofs.relay.Relay.start.Goals as goal
 
 pub returns-in-Ok-clause-goes : goal.returns-in-Ok-clause-goes
@@ -264,3 +265,34 @@ returns-in-Ok-clause-behind c =
     (behind_there c.in-Waits.whole (held_of (get c.args.self.now.applications c.args.key)) c.in-Waits.kind c.args.key c.args.self.now.desk c.ask.new.self c.args.self.now.links.items _ c.in-Some-hold_of.hold hold (body_of c.args.key c.put_held.new.self) c.in-Ok.ensures.whose
     (sym c.hold_of.ensures ∙ c.in-Some-hold_of.is) its (holds_stay c.args.key _ (desk_in c.args.self.now.desk) (desk_in c.ask.new.self) _ _ c.in-Ok.ensures.ok) c.in-Ok.ensures.opened (c.is_open.ensures.there (search rules)) g))
     c.put_held.ensures.body
+
+pub returns-in_default-clause-own : goal.returns-in_default-clause-own
+returns-in_default-clause-own c = λ reached. own_refl c.args.key c.args.self.now.desk.holds.items c.args.self.now.links.items
+
+pub returns-then-application-clause-own : goal.returns-then-application-clause-own
+returns-then-application-clause-own c = λ reached. own_refl c.args.key c.args.self.now.desk.holds.items c.args.self.now.links.items
+
+pub returns-in_default-asking-clause-own : goal.returns-in_default-asking-clause-own
+returns-in_default-asking-clause-own c = λ reached. own_refl c.args.key c.args.self.now.desk.holds.items c.args.self.now.links.items
+
+pub returns-then-application-2-clause-own : goal.returns-then-application-2-clause-own
+returns-then-application-2-clause-own c = λ reached. own_refl c.args.key c.args.self.now.desk.holds.items c.args.self.now.links.items
+
+pub returns-then-not-is_open-clause-own : goal.returns-then-not-is_open-clause-own
+returns-then-not-is_open-clause-own c = λ reached. own_refl c.args.key c.args.self.now.desk.holds.items c.args.self.now.links.items
+
+pub returns-in_default-hold_of-clause-own : goal.returns-in_default-hold_of-clause-own
+returns-in_default-hold_of-clause-own c = λ reached. own_end c.end.result c.args.key c.args.self.now c.end.new.self c.end.ensures.desk c.end.ensures.links
+
+pub returns-in-Ok-clause-own : goal.returns-in-Ok-clause-own
+returns-in-Ok-clause-own c = λ reached.
+    own_on c.put_held.result c.args.key c.args.self.now.desk.holds.items c.ask.new.self.holds.items c.put_held.new.self.desk.holds.items c.args.self.now.links.items c.args.self.now.links.items c.put_held.new.self.links.items
+    (own_same c.args.key c.args.self.now.desk.holds.items c.args.self.now.links.items c.ask.new.self.holds.items c.args.self.now.links.items
+    (holds_stay c.args.key _ (desk_in c.args.self.now.desk) (desk_in c.ask.new.self) _ _ c.in-Ok.ensures.ok) (λ n. refl))
+    (c.put_held.ensures.own (reached_does (desk_in c.args.self.now.desk) (desk_in c.ask.new.self) c.args.key Asks _ _ c.in-Ok.ensures.ok tt reached))
+
+pub returns-in_ok-unless_memory-in-Err-clause-own : goal.returns-in_ok-unless_memory-in-Err-clause-own
+returns-in_ok-unless_memory-in-Err-clause-own c = λ reached.
+    own_on c.fail.result c.args.key c.args.self.now.desk.holds.items c.ask.new.self.holds.items c.fail.new.self.desk.holds.items c.args.self.now.links.items c.args.self.now.links.items c.fail.new.self.links.items
+    (own_same c.args.key c.args.self.now.desk.holds.items c.args.self.now.links.items c.ask.new.self.holds.items c.args.self.now.links.items
+    (ap (λ (d : Desk). d.holds) c.in-Err.ensures.err) (λ n. refl)) c.fail.ensures.own

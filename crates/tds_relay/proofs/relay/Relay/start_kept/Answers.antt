@@ -16,6 +16,7 @@ use Rattle.tds_relay.proofs.spared.Begun.{answers_refl}
 use Rattle.tds_relay.specs.Closings.{Itself, register_in}
 use Rattle.tds_relay.proofs.spared.Lasting.{last_closed, last_start}
 use Rattle.tds_relay.proofs.spared.Reasons.{for_any}
+use Rattle.tds_relay.proofs.spared.Filling.{own_refl}
 use Rattle.tds_relay.proofs.relay.Relay.start_kept.Goals as goal
 
 pub returns-in_default-clause-moves : goal.returns-in_default-clause-moves
@@ -91,3 +92,15 @@ returns-then-is_held_back-clause-behind c = λ hold its. sparing.Stays
 
 pub returns-clause-behind : goal.returns-clause-behind
 returns-clause-behind c = ok_more c.fail.result _ _ (λ d hold its. behind_closed _ _ (body_of c.args.key c.fail.new.self) (shut c.fail.new.self.applications c.args.key (going_of c.args.key c.fail.new.self) d)) c.fail.ensures.over
+
+pub returns-in_default-clause-own : goal.returns-in_default-clause-own
+returns-in_default-clause-own c = λ reached. c.start.ensures.own reached
+
+pub returns-then-may_ask-clause-own : goal.returns-then-may_ask-clause-own
+returns-then-may_ask-clause-own c = λ reached. c.start-then-may_ask.ensures.own reached
+
+pub returns-then-is_held_back-clause-own : goal.returns-then-is_held_back-clause-own
+returns-then-is_held_back-clause-own c = λ reached. own_refl c.args.key c.args.self.now.desk.holds.items c.args.self.now.links.items
+
+pub returns-clause-own : goal.returns-clause-own
+returns-clause-own c = λ reached. c.fail.ensures.own

@@ -11,6 +11,8 @@ use Rattle.tds_relay.proofs.spared.Lasting.{last_more_on, last_start}
 use Rattle.tds_relay.specs.Closings.{register_in}
 use Rattle.tds_relay.proofs.spared.Apart.{none_alone, who_alone}
 use Rattle.tds_relay.specs.Fronts.{hall_in}
+use Rattle.tds_relay.proofs.spared.Filling.{first_holder, first_refl}
+use Rattle.tds_relay.specs.Lent.{IsWithHolder}
 use Rattle.tds_relay.proofs.relay.Relay.start_on.Goals as goal
 
 pub returns-in-Some-clause-goes_on : goal.returns-in-Some-clause-goes_on
@@ -45,3 +47,9 @@ returns-in-Some-clause-alone c = who_alone c.start_kept.result c.in-Some.key (ho
 
 pub returns-in-None-clause-alone : goal.returns-in-None-clause-alone
 returns-in-None-clause-alone c = none_alone (holder (desk_in c.args.self.now.desk) c.args.number) (hall_in c.args.self.now)
+
+pub returns-in-Some-clause-keeps : goal.returns-in-Some-clause-keeps
+returns-in-Some-clause-keeps c = λ reached. first_holder c.start_kept.result c.in-Some.key c.args.number c.args.self.now c.start_kept.new.self (sym c.key_on.ensures ∙ c.in-Some.is) (c.start_kept.ensures.own reached)
+
+pub returns-in-None-clause-keeps : goal.returns-in-None-clause-keeps
+returns-in-None-clause-keeps c = λ reached. first_refl (IsWithHolder c.args.number c.args.self.now) c.args.self.now

@@ -113,3 +113,18 @@ returns-in_ok-unless_memory-in-Err-finish-clause-seats c = both_keep (desk_in c.
 
 pub returns-in-Err-clause-seats : goal.returns-in-Err-clause-seats
 returns-in-Err-clause-seats c = desk_keeps (desk_in c.args.desk.now) (desk_in c.put.new.self) c.in-Err.ensures.err
+
+pub returns-then-not-whole-clause-holds : goal.returns-then-not-whole-clause-holds
+returns-then-not-whole-clause-holds c = holds_stay c.args.key _ (desk_in c.args.desk.now) (desk_in c.put.new.self) _ _ c.in-Ok.ensures.ok.1
+
+pub returns-in-Ok-finish-clause-holds : goal.returns-in-Ok-finish-clause-holds
+returns-in-Ok-finish-clause-holds c =
+    holds_stay c.args.key _ (desk_in c.put.new.self) (desk_in c.finish.new.self) _ _ c.in-Ok-finish.ensures.ok.1
+    ∙ holds_stay c.args.key _ (desk_in c.args.desk.now) (desk_in c.put.new.self) _ _ c.in-Ok.ensures.ok.1
+
+pub returns-in_ok-unless_memory-in-Err-finish-clause-holds : goal.returns-in_ok-unless_memory-in-Err-finish-clause-holds
+returns-in_ok-unless_memory-in-Err-finish-clause-holds c =
+    ap (λ (d : Desk). d.holds) c.in-Err-finish.ensures.err ∙ holds_stay c.args.key _ (desk_in c.args.desk.now) (desk_in c.put.new.self) _ _ c.in-Ok.ensures.ok.1
+
+pub returns-in-Err-clause-holds : goal.returns-in-Err-clause-holds
+returns-in-Err-clause-holds c = ap (λ (d : Desk). d.holds) c.in-Err.ensures.err

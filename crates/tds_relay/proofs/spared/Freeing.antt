@@ -1,0 +1,199 @@
+-- A connection that is let go: who else holds one does so still, nobody holds that, and what is put there.
+use Rattle.std.proofs.Common.{◌≡◌, ◌≢◌, ◌⊎◌, ◌∙◌, ◌==◌, ◌++◌, ℕ, Bool, true, false, not, List, [], ◌∷◌, Option, Some, None, inl, inr, refl, sym, ap, subst, append-nil, if◌then◌else◌}
+use Rattle.std.specs.Prelude.{Result, Ok, Err, OnOk, IsSome, filter}
+use Rattle.std.proofs.lemmas.Bool.{eqb-true, eq-eqb}
+use Rattle.tds_client.specs.Session.{ClientSession}
+use Rattle.tds_packet.specs.Reading.{Reading}
+use Rattle.tds_service.specs.Table.{client_of}
+use Rattle.tds_relay.specs.declared.desk.Desk as desks
+use Rattle.tds_relay.specs.declared.desk.Hold.{Hold}
+use Rattle.tds_relay.specs.declared.desk.leaving.Left.{Left}
+use Rattle.tds_relay.specs.declared.relay.Relay as code
+use Rattle.tds_relay.specs.Cleaning.{OfItsHold, WaitsAtEnd, WaitsBehindEnd, WaitsSinceEnd}
+use Rattle.tds_relay.specs.Cleaning as cleaning
+use Rattle.tds_relay.specs.Desk as desk
+use Rattle.tds_relay.specs.Desk.{Desk, find_key, find_lease, find_number, key_of, without_lease, without_number}
+use Rattle.tds_relay.specs.Lent.{IsLetGo, LendsInLine, MayForget, MayBeLent, OthersKeepAt}
+use Rattle.tds_relay.specs.Lent as filling
+use Rattle.tds_relay.specs.Hall.{holder}
+use Rattle.tds_relay.specs.Promises.{Each}
+use Rattle.tds_relay.specs.Reads.{FillsAt, Opens as OpensLinks, if_open, open_at, open_waits, waits_on}
+use Rattle.tds_relay.specs.Ties.{IsNumberOf, IsReached, Turns, desk_in}
+use Rattle.tds_relay.proofs.held.Fewer.{each_number, same_left}
+use Rattle.tds_relay.proofs.held.Lists.{found_key}
+use Rattle.tds_relay.proofs.held.Numbers.{Apart, apart_at, found_number, its_holder}
+use Rattle.tds_relay.proofs.held.Seated.{each_found_by}
+use Rattle.tds_relay.proofs.promises.Caring.{Sound}
+use Rattle.tds_relay.proofs.promises.Holding.{found_by_lease}
+use Rattle.tds_relay.proofs.spared.Filling.{key_some}
+use Rattle.tds_relay.proofs.spared.Held.{not_equal, sound_at}
+use Rattle.tds_relay.proofs.steps.Placed.{differs_by}
+
+-- ---- Who else holds one
+
+kept_if : (p : Hold → Bool) (n : ℕ) (g x : Hold) (xs : List Hold) (b k : Bool) → (x.number == n) ≡ b → p x ≡ k → (if b then Some x else find_number n xs) ≡ Some g → p g ≡ true
+    → (find_number n xs ≡ Some g → find_number n (filter p xs) ≡ Some g) → find_number n (if k then x ∷ filter p xs else filter p xs) ≡ Some g
+kept_if p n g x xs true true e q f kept later = rw e f
+kept_if p n g x xs true false e q f kept later =
+    let same : x ≡ g = cc in
+    absurd (let u : true ≡ false = sym kept ∙ ap p (sym same) ∙ q in let v : ⊥ = cc in v)
+kept_if p n g x xs false true e q f kept later = rw e (later f)
+kept_if p n g x xs false false e q f kept later = later f
+
+kept_first : (p : Hold → Bool) (n : ℕ) (g : Hold) (hs : List Hold) → find_number n hs ≡ Some g → p g ≡ true → find_number n (filter p hs) ≡ Some g
+kept_first p n g [] e kept = absurd (let u : ⊥ = cc in u)
+kept_first p n g (x ∷ xs) e kept = kept_if p n g x xs (x.number == n) (p x) refl refl e kept (λ f. kept_first p n g xs f kept)
+
+still_none_if : (p : Hold → Bool) (n : ℕ) (x : Hold) (xs : List Hold) (b k : Bool) → (x.number == n) ≡ b → (if b then Some x else find_number n xs) ≡ None
+    → (find_number n xs ≡ None → find_number n (filter p xs) ≡ None) → find_number n (if k then x ∷ filter p xs else filter p xs) ≡ None
+still_none_if p n x xs true k e f later = absurd (let u : ⊥ = cc in u)
+still_none_if p n x xs false true e f later = rw e (later f)
+still_none_if p n x xs false false e f later = later f
+
+still_none : (p : Hold → Bool) (n : ℕ) (hs : List Hold) → find_number n hs ≡ None → find_number n (filter p hs) ≡ None
+still_none p n [] e = refl
+still_none p n (x ∷ xs) e = still_none_if p n x xs (x.number == n) (p x) refl e (λ f. still_none p n xs f)
+
+module _ (d : Desk) (key : ℕ) (h : Hold) (reached : IsReached d) (its : find_key key d.holds ≡ Some h) where
+  other_lease : (n : ℕ) (g : Hold) → find_number n d.holds ≡ Some g → g.key ≢ key → g.lease ≢ h.lease
+  other_lease n g found differs = λ e.
+      let sound : Sound d = sound_at d reached in
+      let one : find_lease g.lease d.holds ≡ Some g = each_number (λ (y : Hold). find_lease y.lease d.holds ≡ Some y) n g d.holds (each_found_by 0 d.service.given d.holds sound.rising) found in
+      let two : find_lease h.lease d.holds ≡ Some h = found_by_lease key 0 d.service.given h d.holds sound.rising its in
+      let three : find_lease g.lease d.holds ≡ Some h = subst (λ (l : ℕ). find_lease l d.holds ≡ Some h) (sym e) two in
+      let same : g ≡ h = (let u : Some g ≡ Some h = sym one ∙ three in cc) in
+      differs (ap (λ (x : Hold). x.key) same ∙ eqb-true h.key key (found_key key h d.holds its))
+
+  without_by : (n : ℕ) (o : Option Hold) → find_number n d.holds ≡ o → key_of o ≢ Some key → find_number n (without_lease h.lease d.holds) ≡ o
+  without_by n None is differs = still_none (λ (x : Hold). not (x.lease == h.lease)) n d.holds is
+  without_by n (Some g) is differs =
+      kept_first (λ (x : Hold). not (x.lease == h.lease)) n g d.holds is
+      (not_equal (g.lease == h.lease) g.lease h.lease refl (other_lease n g is (λ e. differs (ap (λ (k : ℕ). Some k) e))))
+
+  left_holds : (n : ℕ) → key_of (find_number n d.holds) ≢ Some key → find_number n (without_lease h.lease d.holds) ≡ find_number n d.holds
+  left_holds n differs = without_by n (find_number n d.holds) refl differs
+
+-- where it held none
+left_none : (key : ℕ) (gives : Bool) (way : desk.Way) (d e : Desk) (before after : List ℕ) → Turns (desk.Leaves key gives way) d e before after → find_key key d.holds ≡ None → e.holds ≡ d.holds
+left_none key gives way d e before after t none = ap (λ (x : Desk). x.holds) t.desk_is ∙ ap (λ (o : Option Hold). (desk.leaves d key gives way o).desk.holds) none
+
+left_some : (key : ℕ) (gives : Bool) (way : desk.Way) (d e : Desk) (before after : List ℕ) (h : Hold) → Turns (desk.Leaves key gives way) d e before after → find_key key d.holds ≡ Some h → e.holds ≡ without_lease h.lease d.holds
+left_some key gives way d e before after h t its = ap (λ (x : Desk). x.holds) t.desk_is ∙ ap (λ (o : Option Hold). (desk.leaves d key gives way o).desk.holds) its
+
+-- and nobody holds that
+none_each : (n : ℕ) (hs : List Hold) → Each (λ (y : Hold). y.number ≢ n) hs → find_number n hs ≡ None
+none_each n [] each = refl
+none_each n (x ∷ xs) each = let other : (x.number == n) ≡ false = differs_by (x.number == n) x.number n refl each.0 in rw other (none_each n xs each.1)
+
+gone_if : (n : ℕ) (h x : Hold) (xs : List Hold) (b k : Bool) → (x.number == n) ≡ b → not (x.lease == h.lease) ≡ k → (if b then Some x else find_number n xs) ≡ Some h → Each (λ (y : Hold). y.number ≢ x.number) xs
+    → (find_number n xs ≡ Some h → find_number n (without_lease h.lease xs) ≡ None) → find_number n (if k then x ∷ without_lease h.lease xs else without_lease h.lease xs) ≡ None
+gone_if n h x xs true true e q f apart later =
+    let same : x ≡ h = cc in
+    let here : (x.lease == h.lease) ≡ true = eq-eqb x.lease h.lease (ap (λ (y : Hold). y.lease) same) in
+    absurd (let u : false ≡ true = ap not (sym here) ∙ q in let v : ⊥ = cc in v)
+gone_if n h x xs true false e q f apart later =
+    still_none (λ (y : Hold). not (y.lease == h.lease)) n xs (none_each n xs (subst (λ (m : ℕ). Each (λ (y : Hold). y.number ≢ m) xs) (eqb-true x.number n e) apart))
+gone_if n h x xs false true e q f apart later = rw e (later f)
+gone_if n h x xs false false e q f apart later = later f
+
+gone_one : (n : ℕ) (h : Hold) (hs : List Hold) → Apart hs → find_number n hs ≡ Some h → find_number n (without_lease h.lease hs) ≡ None
+gone_one n h [] apart e = absurd (let u : ⊥ = cc in u)
+gone_one n h (x ∷ xs) apart e = gone_if n h x xs (x.number == n) (not (x.lease == h.lease)) refl refl e apart.0 (λ f. gone_one n h xs apart.1 f)
+
+forget_other : (number n : ℕ) (had holds : List Hold) → MayForget number had holds → n ≢ number → find_number n holds ≡ find_number n had
+forget_other number n had holds (inl e) differs = ap (find_number n) e
+forget_other number n had holds (inr e) differs = ap (find_number n) e ∙ same_left number n had (λ s. differs (sym s))
+
+pub forget_none : (number n : ℕ) (had holds : List Hold) → MayForget number had holds → find_number n had ≡ None → find_number n holds ≡ None
+forget_none number n had holds (inl e) none = ap (find_number n) e ∙ none
+forget_none number n had holds (inr e) none = ap (find_number n) e ∙ still_none (λ (x : Hold). not (x.number == number)) n had none
+
+-- ---- At a relay
+
+pub nobody_keeps : (key : ℕ) (gives : Bool) (way : desk.Way) (old mid : code.Relay) (d : desks.Desk) (before after : List ℕ) (o : Option Hold) → o ≡ find_key key old.desk.holds.items → IsNumberOf o None
+    → Turns (desk.Leaves key gives way) (desk_in old.desk) (desk_in d) before after → mid.desk ≡ d → mid.links.items ≡ old.links.items → OthersKeepAt key old mid
+nobody_keeps key gives way old mid d before after None same is t at links = λ n differs. (
+  ap (λ (x : desks.Desk). find_number n x.holds.items) at ∙ ap (find_number n) (left_none key gives way (desk_in old.desk) (desk_in d) before after t (sym same)),
+  ap (waits_on n) links,
+)
+nobody_keeps key gives way old mid d before after (Some h) same is t at links = absurd is
+
+pub nobody_frees : (key : ℕ) (had holds : List Hold) (o : Option Hold) → o ≡ find_key key had → IsNumberOf o None → IsLetGo key had holds
+nobody_frees key had holds None same is = λ hold its. absurd (let u : None ≡ Some hold = same ∙ its in let v : ⊥ = cc in v)
+nobody_frees key had holds (Some h) same is = absurd is
+
+module _ (key : ℕ) (gives : Bool) (way : desk.Way) (left : Left) (old mid new : code.Relay) (d : desks.Desk) (before after : List ℕ) (reached : IsReached (desk_in old.desk))
+    (t : Turns (desk.Leaves key gives way) (desk_in old.desk) (desk_in d) before after) (at : mid.desk ≡ d) (links : mid.links.items ≡ old.links.items) where
+  holds_behind : (h : Hold) → find_key key old.desk.holds.items ≡ Some h → mid.desk.holds.items ≡ without_lease h.lease old.desk.holds.items
+  holds_behind h its = ap (λ (x : desks.Desk). x.holds.items) at ∙ left_some key gives way (desk_in old.desk) (desk_in d) before after h t its
+
+  keeps_by : (o : Option Hold) → o ≡ find_key key old.desk.holds.items → IsNumberOf o (Some left) → MayForget left.number mid.desk.holds.items new.desk.holds.items
+      → ((other : ℕ) → other ≢ left.number → waits_on other new.links.items ≡ waits_on other mid.links.items) → OthersKeepAt key old new
+  keeps_by None same is may waits = absurd is
+  keeps_by (Some h) same is may waits = λ n differs.
+      let its : find_key key old.desk.holds.items ≡ Some h = sym same in
+      let own : key_of (find_number left.number old.desk.holds.items) ≡ Some key =
+      ap (λ (k : ℕ). key_of (find_number k old.desk.holds.items)) is ∙ its_holder key h old.desk.holds.items (apart_at (desk_in old.desk) reached) its in
+      let off : n ≢ left.number = λ e. differs (ap (λ (k : ℕ). key_of (find_number k old.desk.holds.items)) e ∙ own) in (
+        forget_other left.number n mid.desk.holds.items new.desk.holds.items may off ∙ ap (find_number n) (holds_behind h its) ∙ left_holds (desk_in old.desk) key h reached its n differs,
+        waits n off ∙ ap (waits_on n) links,
+      )
+
+  frees_by : MayForget left.number mid.desk.holds.items new.desk.holds.items → IsLetGo key old.desk.holds.items new.desk.holds.items
+  frees_by may = λ hold its.
+      forget_none left.number hold.number mid.desk.holds.items new.desk.holds.items may
+      (ap (find_number hold.number) (holds_behind hold its)
+      ∙ gone_one hold.number hold old.desk.holds.items (apart_at (desk_in old.desk) reached) (found_number key hold old.desk.holds.items (apart_at (desk_in old.desk) reached) its))
+
+  pub left_keeps : {A E : Type 0} (r : Result A E) (o : Option Hold) → o ≡ find_key key old.desk.holds.items → IsNumberOf o (Some left) → OnOk r (MayForget left.number mid.desk.holds.items new.desk.holds.items)
+      → OnOk r ((other : ℕ) → other ≢ left.number → waits_on other new.links.items ≡ waits_on other mid.links.items) → OnOk r (OthersKeepAt key old new)
+  left_keeps (Ok x) o same is may waits = keeps_by o same is may waits
+  left_keeps (Err x) o same is may waits = tt
+
+  pub left_frees : {A E : Type 0} (r : Result A E) → OnOk r (MayForget left.number mid.desk.holds.items new.desk.holds.items) → OnOk r (IsLetGo key old.desk.holds.items new.desk.holds.items)
+  left_frees (Ok x) may = frees_by may
+  left_frees (Err x) may = tt
+
+-- ---- And more behind it
+
+pub open_by : (x : Option Reading) (o : Option (List ℕ)) (waits : List ℕ) → if_open x o ≡ Some waits → o ≡ Some waits
+open_by None o waits e = absurd (let u : ⊥ = cc in u)
+open_by (Some r) o waits e = e
+
+on_left : (lent : Type 0) (client : Option ClientSession) (old mid : Option (List ℕ)) (waits more : List ℕ) → WaitsAtEnd client old mid → mid ≡ Some waits → (more ≡ []) ⊎ lent → WaitsBehindEnd lent client old (Some (waits ++ more))
+on_left lent client old None waits more h e may = absurd (let u : ⊥ = cc in u)
+on_left lent client old (Some xs) waits more (cleaning.HasMore ws out was ends) e may =
+    let same : ws ++ out ≡ waits = (let u : Some (ws ++ out) ≡ Some waits = e in cc) in
+    subst (λ (ys : List ℕ). WaitsBehindEnd lent client old (Some (ys ++ more))) same (cleaning.HasMoreSince ws out more was ends may)
+
+module _ (lent : Type 0) (client : Option ClientSession) (old mid : Option (List ℕ)) (h : WaitsAtEnd client old mid) where
+  left_more : (waits new : List ℕ) (w : Option (List ℕ)) (f : (out : List ℕ) × (new ≡ waits ++ out)) → mid ≡ Some waits → w ≡ Some new → lent ⊎ ((w ≡ None) ⊎ (w ≡ mid)) → WaitsBehindEnd lent client old (Some new)
+  left_more waits new w f m e (inl l) = subst (λ (xs : List ℕ). WaitsBehindEnd lent client old (Some xs)) (sym f.1) (on_left lent client old mid waits f.0 h m (inr l))
+  left_more waits new w f m e (inr (inl none)) = absurd (let u : Some new ≡ None = sym e ∙ none in let v : ⊥ = cc in v)
+  left_more waits new w f m e (inr (inr same)) =
+      let is : waits ≡ new = (let u : Some waits ≡ Some new = sym m ∙ sym same ∙ e in cc) in
+      subst (λ (xs : List ℕ). WaitsBehindEnd lent client old (Some xs)) (append-nil waits ∙ is) (on_left lent client old mid waits [] h m (inl refl))
+
+  left_then : (seen now : Option Reading) (x y w : Option (List ℕ)) → x ≡ if_open seen mid → FillsAt x y → y ≡ if_open now w → lent ⊎ ((w ≡ None) ⊎ (w ≡ mid)) → WaitsBehindEnd lent client old y
+  left_then seen now x None w e f g c = cleaning.IsShutSince
+  left_then seen now None (Some new) w e f g c = absurd f
+  left_then seen now (Some waits) (Some new) w e f g c = left_more waits new w f (open_by seen mid waits (sym e)) (open_by now w new (sym g)) c
+
+pub lent_or : (number : ℕ) (mid new : code.Relay) → find_number number mid.desk.holds.items ≡ None
+    → MayBeLent number mid.desk.line.items mid.desk.holds.items mid.links.items new.desk.holds.items new.links.items
+    → IsSome (holder (desk_in new.desk) number) ⊎ ((waits_on number new.links.items ≡ None) ⊎ (waits_on number new.links.items ≡ waits_on number mid.links.items))
+lent_or number mid new none (filling.OfWaiting h is i) = absurd (let u : None ≡ Some h = sym none ∙ is in let v : ⊥ = cc in v)
+lent_or number mid new none (filling.Keeps e kept) = inr kept
+lent_or number mid new none (filling.Lends e some) = inl (key_some (find_number number new.desk.holds.items) some)
+
+pub served_since : (key : ℕ) (old mid new : code.Relay) → OfItsHold WaitsAtEnd key old (λ (n : ℕ). waits_on n mid.links.items) → OpensLinks mid.links.items new.links.items
+    → IsLetGo key old.desk.holds.items mid.desk.holds.items → LendsInLine mid new → WaitsSinceEnd key old new
+served_since key old mid new left opens frees lends = λ hold its.
+    left_then (IsSome (holder (desk_in new.desk) hold.number)) (client_of hold.lease old.desk.service) (waits_on hold.number old.links.items) (waits_on hold.number mid.links.items) (left hold its)
+    (open_at hold.number mid.links.items) (open_at hold.number new.links.items) (open_waits hold.number mid.links.items) (open_waits hold.number new.links.items) (waits_on hold.number new.links.items) refl (opens.fills hold.number) refl
+    (lent_or hold.number mid new (frees hold its) (lends hold.number))
+
+pub left_served : {A E : Type 0} (r : Result A E) (key : ℕ) (old mid new : code.Relay) → OfItsHold WaitsAtEnd key old (λ (n : ℕ). waits_on n mid.links.items) → OnOk r (OpensLinks mid.links.items new.links.items)
+    → IsLetGo key old.desk.holds.items mid.desk.holds.items → OnOk r (LendsInLine mid new) → OnOk r (WaitsSinceEnd key old new)
+left_served (Ok x) key old mid new left opens frees lends = served_since key old mid new left opens frees lends
+left_served (Err x) key old mid new left opens frees lends = tt
