@@ -68,7 +68,8 @@ impl Relay {
         ensures service { self.new.desk.service ≡ self.old.desk.service }
         ensures links { self.new.links.items ≡ self.old.links.items }
         ensures stand { AllStand self.old.desk.service self.new.desk.service }
-        ensures body { (goes : Body) → Starts Nowhere (body_in (get self.new.applications key) goes) }
+        ensures body { (goes : Body)
+            → Starts Nowhere (body_in (get self.new.applications key) goes) }
         ensures closes { ClosesOnly Nobody (register_in self.old) (register_in self.new) }
         ensures others { OthersRest key self.old self.new }
         ensures asked { result ≡ true
