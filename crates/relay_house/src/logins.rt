@@ -129,7 +129,8 @@ impl House {
 
     /// It is the first one of its kind: the server judges it, on a connection of its own.
     fn begin_group<R: Net>(&mut self, rt: &R, key: usize, login: SharedLogin) -> io::Result<()> {
-        if let Some(why) = self.make_room(rt, true, self.members.address_of(key))? {
+        let from = self.members.address_of(key);
+        if let Some(why) = self.make_room(rt, true, from)? {
             return self.refuse(rt, key, why);
         }
         let mode = if login.asks_for_recovery() {
@@ -146,7 +147,8 @@ impl House {
 
     /// It can't share.
     fn begin_alone<R: Net>(&mut self, rt: &R, key: usize, login: Vec<u8>) -> io::Result<()> {
-        if let Some(why) = self.make_room(rt, false, self.members.address_of(key))? {
+        let from = self.members.address_of(key);
+        if let Some(why) = self.make_room(rt, false, from)? {
             return self.refuse(rt, key, why);
         }
         let Some(begun) = self
