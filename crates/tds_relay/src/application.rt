@@ -9,6 +9,7 @@ use crate::NoMemory;
 use crate::desk::What;
 use crate::outgoing::{BESIDE, Outgoing, PIECE};
 use std::alloc::Global;
+use std::mem;
 use tds_client::MessageKind;
 use tds_front::laws::takes_some;
 use tds_front::{Fed, Front, FrontFault, Said, Stage};
@@ -386,7 +387,19 @@ impl Application {
         !self.is_over && !self.is_withdrawn
     }
 
-    /// Nothing is kept of its request any more, which is there now.
+    /// Nothing is kept of its request any more, which is there now. What was.
+    pub(crate) fn take_held(&mut self, asking: Asking) -> Vec<u8>
+        ensures held { result.items ≡ self.old.held.items }
+        ensures post { post_of self.new ≡ post_of self.old }
+        ensures end { end_of self.new ≡ end_of self.old }
+        ensures asking { self.new.asking ≡ asking }
+        ensures body { (self.new.is_over ≡ self.old.is_over) × (self.new.held.items ≡ []) }
+    {
+        self.asking = asking;
+        mem::replace(&mut self.held, Vec::new(self.alloc))
+    }
+
+    /// The same, where that is wanted no more.
     pub(crate) fn forget(&mut self, asking: Asking)
         ensures post { post_of self.new ≡ post_of self.old }
         ensures end { end_of self.new ≡ end_of self.old }

@@ -110,8 +110,7 @@ impl Relay {
         let Some(application) = self.applications.get_mut(key) else {
             return Ok(());
         };
-        let held = application.held().to_vec(self.alloc)?;
-        application.forget(Asking::Goes);
+        let held = application.take_held(Asking::Goes);
         self.put(key, &held, whole)
     }
 

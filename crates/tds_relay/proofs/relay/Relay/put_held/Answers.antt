@@ -30,11 +30,11 @@ pub returns-clause-body : goal.returns-clause-body
 returns-clause-body c =
     let s = c.args.self.now.applications in
     let a = c.in-Some.application.now in
-    let b = c.forget.new.self in
+    let b = c.take_held-held.new.self in
     let bytes : c.deref.result.now ≡ a.held.items = search rules in
     ok_more c.put.result _ _
     (λ p. subst (λ (xs : List ℕ). Grows c.args.whole xs (going_of c.args.key c.args.self.now) (body_of c.args.key c.put.new.self)) (bytes ∙ ap held_of c.in-Some.ensures.value)
-    (grows_asked c.args.whole c.deref.result.now (get (with_value s c.args.key b) c.args.key) (get c.put.new.self.applications c.args.key) (going_of c.args.key c.args.self.now) (going_of c.args.key c.put.new.self) b (written_there s c.args.key a b c.in-Some.ensures.value) c.forget.ensures.asking p))
+    (grows_asked c.args.whole c.deref.result.now (get (with_value s c.args.key b) c.args.key) (get c.put.new.self.applications c.args.key) (going_of c.args.key c.args.self.now) (going_of c.args.key c.put.new.self) b (written_there s c.args.key a b c.in-Some.ensures.value) c.take_held-held.ensures.asking p))
     c.put.ensures.body
 
 pub returns-clause-others : goal.returns-clause-others
@@ -45,13 +45,13 @@ pub returns-in_default-clause-gone : goal.returns-in_default-clause-gone
 returns-in_default-clause-gone c = unkept_none c.args.self.now.applications c.args.key _ (search rules)
 
 pub returns-clause-gone : goal.returns-clause-gone
-returns-clause-gone c = put_unkept_on c.put.result _ c.args.key c.args.self.now.applications c.in-Some.application.now c.forget.new.self c.put.new.self c.put.ensures.body c.in-Some.ensures.value c.forget.ensures.asking
+returns-clause-gone c = put_unkept_on c.put.result _ c.args.key c.args.self.now.applications c.in-Some.application.now c.take_held-held.new.self c.put.new.self c.put.ensures.body c.in-Some.ensures.value c.take_held-held.ensures.asking
 
 pub returns-clause-alone : goal.returns-clause-alone
 returns-clause-alone c =
-    let kept = ends_kept c.args.self.now.applications c.args.key c.in-Some.application.now c.forget.new.self c.in-Some.ensures.value c.forget.ensures.end in
-    alone_on c.put.result c.args.key (hall_in c.args.self.now) (hall_of_ends (desk_in c.args.self.now.desk) (ends_in (with_value c.args.self.now.applications c.args.key c.forget.new.self))) _ c.put.ensures.alone
-    (alone_same c.args.key (hall_in c.args.self.now) (hall_of_ends (desk_in c.args.self.now.desk) (ends_in (with_value c.args.self.now.applications c.args.key c.forget.new.self))) kept refl)
+    let kept = ends_kept c.args.self.now.applications c.args.key c.in-Some.application.now c.take_held-held.new.self c.in-Some.ensures.value c.take_held-held.ensures.end in
+    alone_on c.put.result c.args.key (hall_in c.args.self.now) (hall_of_ends (desk_in c.args.self.now.desk) (ends_in (with_value c.args.self.now.applications c.args.key c.take_held-held.new.self))) _ c.put.ensures.alone
+    (alone_same c.args.key (hall_in c.args.self.now) (hall_of_ends (desk_in c.args.self.now.desk) (ends_in (with_value c.args.self.now.applications c.args.key c.take_held-held.new.self))) kept refl)
 
 pub returns-in_default-clause-answers : goal.returns-in_default-clause-answers
 returns-in_default-clause-answers c = answers_refl c.args.self.now.links.items
@@ -66,13 +66,13 @@ pub returns-clause-closes : goal.returns-clause-closes
 returns-clause-closes c =
     let s = c.args.self.now.applications in
     let a = c.in-Some.application.now in
-    let same = ends_kept s c.args.key a c.forget.new.self c.in-Some.ensures.value c.forget.ensures.end in
+    let same = ends_kept s c.args.key a c.take_held-held.new.self c.in-Some.ensures.value c.take_held-held.ensures.end in
     let bytes : c.deref.result.now ≡ a.held.items = search rules in
     closes_on c.put.result (ItselfFor c.args.key (CannotPut c.args.whole (held_of (get s c.args.key)) c.args.key (end_at (ends_in c.args.self.now.applications) c.args.key) c.args.self.now.desk c.args.self.now.links.items)) _ _ _
     (for_that c.put.result c.args.key _ _ _ _
     (λ why. subst (λ (xs : List ℕ). CannotPut c.args.whole xs c.args.key (end_at (ends_in c.args.self.now.applications) c.args.key) c.args.self.now.desk c.args.self.now.links.items) (bytes ∙ ap held_of c.in-Some.ensures.value)
     (subst (λ (es : Ends). CannotPut c.args.whole c.deref.result.now c.args.key (end_at es c.args.key) c.args.self.now.desk c.args.self.now.links.items) same why)) c.put.ensures.closes)
-    (closes_kept _ _ _ same (posts_kept s c.args.key a _ c.in-Some.ensures.value c.forget.ensures.post) refl (kept_refl c.args.self.now.links.items) (unclosed _ _ refl))
+    (closes_kept _ _ _ same (posts_kept s c.args.key a _ c.in-Some.ensures.value c.take_held-held.ensures.post) refl (kept_refl c.args.self.now.links.items) (unclosed _ _ refl))
 
 pub returns-in_default-clause-own : goal.returns-in_default-clause-own
 returns-in_default-clause-own c = λ reached. own_refl c.args.key c.args.self.now.desk.holds.items c.args.self.now.links.items
