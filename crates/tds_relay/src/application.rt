@@ -42,8 +42,7 @@ pub(crate) struct Application {
     pub(crate) reset: Option<Reset>,
     /// What has come of the body of a request that waits.
     held: Vec<u8>,
-    /// Whether it took its request back, and the server hasn't acknowledged that: until then nothing is
-    /// handed on to it, and its next request waits.
+    /// Whether what it took back isn't acknowledged: nothing is handed on to it, and its next request waits.
     pub(crate) is_withdrawn: bool,
     /// Whether nothing more of it is taken.
     pub(crate) is_over: bool,
@@ -105,15 +104,13 @@ impl Application {
         ensures brings { result ≡ (fed self.old.front piece.now).brings }
         ensures within { IfOk result (λ taken. taken.count ≤ length piece.now) }
         ensures some { IfOk result (λ taken. 1 ≤ length piece.now → 1 ≤ taken.count) }
-        ensures asks { IfOk result (λ taken. self.new.reset
-            ≡ asks_by taken.said self.old.reset) }
+        ensures asks { IfOk result (λ taken. self.new.reset ≡ asks_by taken.said self.old.reset) }
         ensures counts { IfOk result (λ taken. self.new.begun
             ≡ begun_more taken.said self.old.begun) }
         ensures room { room_to_keep self.new ≡ room_to_keep self.old }
         ensures withdrawn { self.new.is_withdrawn ≡ self.old.is_withdrawn }
         ensures over { self.new.is_over ≡ self.old.is_over }
-        ensures body { (goes : Body)
-            → body_in (Some self.new) goes ≡ body_in (Some self.old) goes }
+        ensures body { (goes : Body) → body_in (Some self.new) goes ≡ body_in (Some self.old) goes }
     {
         takes_some();
         let fed = self.front.feed(piece)?;
@@ -166,8 +163,7 @@ impl Application {
         most.saturating_sub(self.held.len())
     }
 
-    /// Keeps these bytes of its request, which waits, and with which all of it has come or not. False where
-    /// they are too many.
+    /// Keeps these bytes of its request, which waits and is whole with them or not. False: too many.
     pub(crate) fn keep(
         &mut self,
         kind: MessageKind,
@@ -178,10 +174,8 @@ impl Application {
         ensures end { end_of self.new ≡ end_of self.old }
         ensures body { IfOk result (λ is. is ≡ true → (self.new.is_over ≡ self.old.is_over)
             × (self.new.held.items ≡ self.old.held.items ++ bytes.now)) }
-        ensures asks { IfOk result (λ is. is ≡ true
-            → self.new.asking ≡ Asking.Waits kind whole) }
-        ensures long { IfOk result (λ is. is ≡ false
-            → room_to_keep self.old < length bytes.now) }
+        ensures asks { IfOk result (λ is. is ≡ true → self.new.asking ≡ Asking.Waits kind whole) }
+        ensures long { IfOk result (λ is. is ≡ false → room_to_keep self.old < length bytes.now) }
     {
         if bytes.len() > self.room_to_keep() {
             return Ok(false);
@@ -196,8 +190,7 @@ impl Application {
     pub(crate) fn goes_on(&mut self)
         ensures post { post_of self.new ≡ post_of self.old }
         ensures end { end_of self.new ≡ hears (end_of self.old) }
-        ensures body { (goes : Body)
-            → body_in (Some self.new) goes ≡ body_in (Some self.old) goes }
+        ensures body { (goes : Body) → body_in (Some self.new) goes ≡ body_in (Some self.old) goes }
     {
         if !self.is_withdrawn {
             self.reset = None;
@@ -226,14 +219,12 @@ impl Application {
         self.front.answered();
     }
 
-    /// Its attention has the acknowledgement; or what it took back has, and its next request may go on.
-    /// Answers whether that.
+    /// Its attention is acknowledged; or what it took back is (true), and its next request may go on.
     pub(crate) fn acknowledged(&mut self) -> bool
         ensures post { post_of self.new ≡ post_of self.old }
         ensures end { end_of self.new ≡ acknowledged (hears (end_of self.old)) }
         ensures body { IsDoneWith (Some self.old) (Some self.new) }
-        ensures silent { result ≡ true
-            → is_said Acknowledged (Some (end_of self.old)) ≡ false }
+        ensures silent { result ≡ true → is_said Acknowledged (Some (end_of self.old)) ≡ false }
         ensures resumes { result ≡ true → self.old.is_withdrawn ≡ true }
     {
         if self.is_withdrawn {
@@ -250,8 +241,7 @@ impl Application {
     pub(crate) fn went_on(&mut self)
         ensures post { post_of self.new ≡ post_of self.old }
         ensures end { end_of self.new ≡ move_stage rules.went_on (end_of self.old) }
-        ensures body { (goes : Body)
-            → body_in (Some self.new) goes ≡ body_in (Some self.old) goes }
+        ensures body { (goes : Body) → body_in (Some self.new) goes ≡ body_in (Some self.old) goes }
     {
         self.front.went_on();
     }
@@ -260,8 +250,7 @@ impl Application {
     pub(crate) fn withdraw(&mut self)
         ensures post { post_of self.new ≡ post_of self.old }
         ensures end { end_of self.new ≡ withdraws (end_of self.old) }
-        ensures body { (goes : Body)
-            → body_in (Some self.new) goes ≡ body_in (Some self.old) goes }
+        ensures body { (goes : Body) → body_in (Some self.new) goes ≡ body_in (Some self.old) goes }
     {
         self.is_withdrawn = true;
     }
@@ -270,8 +259,7 @@ impl Application {
     pub(crate) fn let_go(&mut self)
         ensures post { post_of self.new ≡ post_of self.old }
         ensures end { end_of self.new ≡ lets_go (end_of self.old) }
-        ensures body { (goes : Body)
-            → body_in (Some self.new) goes ≡ body_in (Some self.old) goes }
+        ensures body { (goes : Body) → body_in (Some self.new) goes ≡ body_in (Some self.old) goes }
     {
         self.is_withdrawn = false;
     }
@@ -344,8 +332,7 @@ impl Application {
         }
     }
 
-    /// Whether its end asks nothing, took nothing back that the server hasn't acknowledged, and has been told
-    /// of each reset that it asked for.
+    /// Whether it asks nothing, took nothing back that isn't acknowledged, and was told of each reset.
     pub(crate) fn is_at_end(&self) -> bool
         ensures { result ≡ is_at_end (Some (end_of self.now)) }
     {
