@@ -66,12 +66,7 @@ impl Members {
         if !notices.has_whole(piece) {
             return Ok(false);
         }
-        put_error(
-            alloc,
-            &mut socket.out,
-            owed.number,
-            owed.sentence.as_str(),
-        )?;
+        put_error(alloc, &mut socket.out, owed.number, owed.sentence.as_str())?;
         Ok(true)
     }
 

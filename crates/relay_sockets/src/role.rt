@@ -160,7 +160,10 @@ impl Role {
             Role::Gate(_) => Whose::Gate,
             Role::Judged(group) => Whose::Judged(*group),
             Role::Leg(group, _) => Whose::Leg(*group),
-            Role::Application(application) => Whose::Application(application.group, application.key),
+            Role::Application(application) => Whose::Application(
+                application.group,
+                application.key,
+            ),
             Role::First(group, _) => Whose::First(*group),
             Role::Opening(group, number, _) => Whose::Opening(*group, *number),
             Role::Connection(connection) => Whose::Connection(connection.group, connection.number),

@@ -2,8 +2,8 @@
 
 use crate::due::Dues;
 use crate::link::{Link, News};
-use crate::room::{Admission, Room};
 use crate::role::{Application, Role};
+use crate::room::{Admission, Room};
 use crate::socket::Socket;
 use mio::unix::SourceFd;
 use mio::{Events, Interest, Poll, Token};
