@@ -55,7 +55,7 @@ impl Members {
         let keys = free_keys(alloc, sockets, relay, group)?;
         for key in keys.iter() {
             if let Some(socket) = sockets.get_mut(*key) {
-                socket.checked = Some(socket.seen.since);
+                socket.is_checked();
             }
         }
         Ok(keys.len())

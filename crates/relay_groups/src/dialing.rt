@@ -97,8 +97,8 @@ impl Members {
         Ok((rest, Dialed::More))
     }
 
-    /// A connection of a group is logged in. The place of its server in the list.
-    pub fn is_in(&mut self, key: usize, group: usize, role: Role) -> Option<usize> {
+    /// The connection of this number in a group is logged in. The place of its server in the list.
+    pub fn is_in(&mut self, key: usize, group: usize, number: u64) -> Option<usize> {
         let now = self.now();
         if let Some(group) = self.groups.get_mut(group) {
             group.judged = now;
@@ -106,9 +106,8 @@ impl Members {
         let mut server = None;
         if let Some(socket) = self.sockets.get_mut(key) {
             let took = now.saturating_sub(socket.born);
-            socket.becomes(role, now);
+            server = Some(socket.opens(group, number, now));
             self.journal.logins.add(took.saturating_mul(1000));
-            server = Some(socket.server);
         }
         raise(&mut self.journal.counts.opened);
         self.say("connection", key, "is opened");

@@ -3,7 +3,7 @@
 use crate::group::{Group, Pair, Stage};
 use crate::members::{Members, relay_of};
 use relay_logins::{Passed, put_saved, who_of};
-use relay_sockets::Role;
+use relay_sockets::{Application, Role};
 use relay_status::raise;
 use std::alloc::AllocError;
 use std::io;
@@ -38,16 +38,16 @@ impl Members {
             journal,
             ..
         } = self;
-        let Some(socket) = sockets.get_mut(key) else {
+        let Some(speaker) = sockets.application(key) else {
             return Ok(Said::Gone);
         };
-        if socket.notices.take(piece) {
+        if speaker.notices.take(piece) {
             self.say("application", key, "asks for a query notification");
             return Ok(Said::Notifies);
         }
         if let Some(relay) = relay_of(groups, group) {
             relay.said(application, piece)?;
-            socket.asks(relay.begun_by(application), journal.moment.micros);
+            speaker.asks(relay.begun_by(application), journal.moment.micros);
         }
         Ok(Said::Goes)
     }
@@ -71,11 +71,11 @@ impl Members {
         let Some(socket) = self.sockets.get_mut(key) else {
             return Ok(None);
         };
-        let Role::Gate(gate) = &mut socket.role else {
+        let Role::Gate(coming) = &mut socket.role else {
             return Ok(None);
         };
-        let passed = gate.take(piece, &mut socket.out)?;
-        if let Some(source) = gate.source.take() {
+        let passed = coming.gate.take(piece, &mut socket.out)?;
+        if let Some(source) = coming.gate.source.take() {
             socket.peer = Some(source);
         }
         Ok(Some(passed))
@@ -84,7 +84,7 @@ impl Members {
     /// Whether an application is one too many.
     pub fn is_too_many(&self, key: usize) -> bool {
         match self.sockets.get(key) {
-            Some(socket) => socket.is_over,
+            Some(socket) => matches!(&socket.role, Role::Gate(coming) if coming.is_over),
             None => false,
         }
     }
@@ -117,7 +117,7 @@ impl Members {
             }
             Stage::Open(relay, answer) => {
                 put_saved(&mut socket.out, answer)?;
-                socket.role = Role::Application(group, relay.enter(key)?);
+                socket.role = Role::Application(Application::new(group, relay.enter(key)?));
                 raise(&mut self.journal.counts.let_in);
                 self.say_let_in(key, group);
                 Ok(true)

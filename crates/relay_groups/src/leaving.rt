@@ -5,7 +5,7 @@ use crate::telling::{is_quiet, may_be_told};
 use crate::upstream::Failure;
 use relay_logins::put_error;
 use relay_settings::is_beyond;
-use relay_sockets::{Cause, Gone, Whose};
+use relay_sockets::{Cause, Gone, Role, Whose};
 use relay_status::raise;
 use std::io;
 use tds_relay::Place;
@@ -60,14 +60,14 @@ impl Members {
         let Some(socket) = sockets.get_mut(key) else {
             return false;
         };
-        let Whose::Application(group, application) = socket.whose() else {
+        let Some(application) = socket.application() else {
             return false;
         };
-        let since = socket.shut.unwrap_or(now);
-        socket.shut = Some(since);
+        let since = application.shut.unwrap_or(now);
+        application.shut = Some(since);
         let has_time = limit > 0 && !is_beyond(limit, now.saturating_sub(since));
-        match relay_of(groups, group) {
-            Some(relay) => has_time && !is_quiet(relay, application),
+        match relay_of(groups, application.group) {
+            Some(relay) => has_time && !is_quiet(relay, application.key),
             None => false,
         }
     }
@@ -107,7 +107,7 @@ impl Members {
             if is_asking {
                 put_error(alloc, &mut socket.out, LOST, why.as_str())?;
             } else {
-                socket.owed = Some((LOST, why));
+                socket.owe(LOST, why);
             }
         }
         Ok(())
@@ -129,13 +129,13 @@ impl Members {
             (None, None) => return None,
         };
         let socket = sockets.get(key)?;
-        let Whose::Application(_, application) = socket.whose() else {
+        let Role::Application(application) = &socket.role else {
             return None;
         };
-        let is_asking = matches!(relay.place_of(application), Some(Place::Asking(_)));
-        if is_asking && may_be_told(relay, application, socket.is_answered) {
+        let is_asking = matches!(relay.place_of(application.key), Some(Place::Asking(_)));
+        if is_asking && may_be_told(relay, application) {
             Some((key, true))
-        } else if is_quiet(relay, application) && socket.out.is_empty() {
+        } else if is_quiet(relay, application.key) && socket.out.is_empty() {
             Some((key, false))
         } else {
             None

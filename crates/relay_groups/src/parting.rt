@@ -3,6 +3,7 @@
 use crate::group::Group;
 use crate::keeping::is_held;
 use crate::members::{Members, relay_of};
+use crate::resting::Rest;
 use relay_logins::Groups;
 use relay_sockets::{Sockets, Whose};
 use relay_status::Done;
@@ -39,7 +40,7 @@ impl Members {
         if !is_held(group, number) {
             return Ok(());
         }
-        socket.rest = group.resting.add(key)?;
+        socket.may_rest(group.resting.add(key)?);
         if group.resting.is_long(group.connections()) {
             put_in_order(sockets, group)?;
         }
@@ -139,7 +140,7 @@ impl Members {
             ..
         } = self;
         if let (Some(socket), Some(group)) = (sockets.get_mut(key), groups.get_mut(group)) {
-            socket.rest = group.resting.add(key)?;
+            socket.may_rest(group.resting.add(key)?);
         }
         Ok(())
     }
@@ -148,13 +149,22 @@ impl Members {
 /// Those that have ended are forgotten.
 fn put_in_order(sockets: &Sockets, group: &mut Group) -> Result<(), AllocError> {
     for rest in group.resting.take_all()?.iter() {
-        if let Some(socket) = sockets.get(rest.key) {
-            if socket.rest == rest.number && socket.rests() == Some(true) {
-                group.resting.put_back(*rest)?;
-            }
+        if number_at(sockets, rest).is_some() {
+            group.resting.put_back(*rest)?;
         }
     }
     Ok(())
+}
+
+/// The number of the connection that has this rest, where it rests still.
+fn number_at(sockets: &Sockets, rest: &Rest) -> Option<u64> {
+    let socket = sockets.get(rest.key)?;
+    let connection = socket.connection()?;
+    if connection.rest == rest.number && socket.rests() == Some(true) {
+        Some(connection.number)
+    } else {
+        None
+    }
 }
 
 /// The connection of a group that has rested longest: its socket, its number, and who holds it. Rests that have
@@ -167,15 +177,9 @@ fn longest_resting(
     let group = groups.get_mut(key)?;
     for _ in 0..group.resting.len() {
         let rest = group.resting.take()?;
-        let Some(socket) = sockets.get(rest.key) else {
+        let Some(number) = number_at(sockets, &rest) else {
             continue;
         };
-        let Whose::Connection(_, number) = socket.whose() else {
-            continue;
-        };
-        if socket.rest != rest.number || socket.rests() != Some(true) {
-            continue;
-        }
         let relay = group.relay()?;
         if let Some(PlaceOn::Held(application)) = relay.place_on(number) {
             return Some((rest.key, number, application));

@@ -98,7 +98,7 @@ fn send_application(
     if count == 0 {
         return Ok(Sent::Done);
     }
-    socket.is_answered = true;
+    socket.is_answered();
     Ok(room_of(relay.sent(key, count)))
 }
 

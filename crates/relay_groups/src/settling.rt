@@ -65,20 +65,20 @@ impl Members {
         let Some(socket) = sockets.get_mut(key) else {
             return;
         };
-        let Some(asked) = socket.asked else {
+        let Some(application) = socket.application() else {
             return;
         };
-        let Whose::Application(group, application) = socket.whose() else {
+        let Some(asked) = application.asked else {
             return;
         };
-        let Some(relay) = relay_of(groups, group) else {
+        let Some(relay) = relay_of(groups, application.group) else {
             return;
         };
         if matches!(
-            relay.place_of(application),
+            relay.place_of(application.key),
             Some(Place::Quiet | Place::Holding(_))
         ) {
-            socket.asked = None;
+            application.asked = None;
             let took = journal.moment.micros.saturating_sub(asked);
             journal.requests.add(took);
         }

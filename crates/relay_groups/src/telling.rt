@@ -3,7 +3,7 @@
 use crate::group::Group;
 use crate::members::{Members, relay_of};
 use relay_logins::{Groups, NOT_OPENED, REFUSED, put_error};
-use relay_sockets::{News, Role, Socket, Whose};
+use relay_sockets::{Application, News, Role, Socket, Whose};
 use relay_status::raise;
 use std::alloc::{AllocError, Global};
 use std::io;
@@ -47,11 +47,11 @@ impl Members {
     pub fn begin_owing(&mut self, key: usize) -> Option<Whose> {
         let socket = self.sockets.get_mut(key)?;
         let whose = socket.whose();
-        if socket.owed.is_none() || !matches!(whose, Whose::Application(..)) {
-            return None;
+        if socket.begin_owing() {
+            Some(whose)
+        } else {
+            None
         }
-        socket.role = Role::Owed;
-        Some(whose)
     }
 
     /// Bytes came of an application that is owed an error: behind its request's end it is told. Whether it is.
@@ -60,12 +60,13 @@ impl Members {
         let Some(socket) = self.sockets.get_mut(key) else {
             return Ok(false);
         };
-        if !socket.notices.has_whole(piece) {
+        let Role::Owed(notices, owed) = &mut socket.role else {
+            return Ok(false);
+        };
+        if !notices.has_whole(piece) {
             return Ok(false);
         }
-        if let Some((number, sentence)) = &socket.owed {
-            put_error(alloc, &mut socket.out, *number, sentence.as_str())?;
-        }
+        put_error(alloc, &mut socket.out, owed.number, owed.sentence.as_str())?;
         Ok(true)
     }
 
@@ -143,13 +144,13 @@ fn put_last(
     number: u32,
     sentence: &str,
 ) -> Result<(), AllocError> {
-    let Whose::Application(group, application) = socket.whose() else {
+    let Role::Application(application) = &socket.role else {
         return Ok(());
     };
-    let Some(relay) = relay_of(groups, group) else {
+    let Some(relay) = relay_of(groups, application.group) else {
         return Ok(());
     };
-    if may_be_told(relay, application, socket.is_answered) {
+    if may_be_told(relay, application) {
         put_error(alloc, &mut socket.out, number, sentence)
     } else {
         Ok(())
@@ -166,10 +167,10 @@ pub(crate) fn is_quiet(relay: &Relay, application: usize) -> bool {
 
 /// Whether an error may stand behind what an application was sent: nothing else waits for it, and it isn't
 /// within an answer of its server's.
-pub(crate) fn may_be_told(relay: &Relay, application: usize, is_answered: bool) -> bool {
-    match relay.place_of(application) {
-        Some(Place::Asking(_)) if is_answered => false,
-        _ => relay.unsent(application).is_empty(),
+pub(crate) fn may_be_told(relay: &Relay, application: &Application) -> bool {
+    match relay.place_of(application.key) {
+        Some(Place::Asking(_)) if application.is_answered => false,
+        _ => relay.unsent(application.key).is_empty(),
     }
 }
 

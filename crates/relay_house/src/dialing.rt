@@ -3,14 +3,14 @@
 use crate::house::House;
 use relay_groups::relay_of;
 use relay_logins::Dialed;
-use relay_sockets::{Cause, Role, Whose};
+use relay_sockets::{Cause, Whose};
 use std::io;
 use std::net::Net;
 
 impl House {
-    /// A connection of a group is logged in.
-    pub(crate) fn is_in(&mut self, key: usize, group: usize, role: Role) {
-        if let Some(server) = self.members.is_in(key, group, role) {
+    /// The connection of this number in a group is logged in.
+    pub(crate) fn is_in(&mut self, key: usize, group: usize, number: u64) {
+        if let Some(server) = self.members.is_in(key, group, number) {
             self.upstream.is_back(server);
             self.holding.is_back();
         }
@@ -43,7 +43,7 @@ impl House {
                 return self.shut(rt, key, group, Cause::Refused(error));
             }
         }
-        self.is_in(key, group, Role::Connection(group, number));
+        self.is_in(key, group, number);
         if let Some(relay) = relay_of(&mut self.members.groups, group) {
             relay.opened(number)?;
         }

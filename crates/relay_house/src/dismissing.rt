@@ -21,7 +21,7 @@ impl House {
         let Some(socket) = self.members.sockets.get_mut(key) else {
             return Ok(());
         };
-        socket.owed = Some((number, sentence));
+        socket.owe(number, sentence);
         self.owe(rt, key)
     }
 

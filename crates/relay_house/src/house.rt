@@ -7,7 +7,7 @@ use crate::routing::Route;
 use relay_groups::{Members, Upstream};
 use relay_logins::{Gate, Groups};
 use relay_settings::Asked;
-use relay_sockets::{Admission, Role, Sockets};
+use relay_sockets::{Admission, Coming, Role, Sockets};
 use relay_status::{Journal, raise};
 use socket_places::Link;
 use std::alloc::Global;
@@ -86,14 +86,16 @@ impl House {
             return Ok(());
         }
         let is_proxy = self.asked.proxies.has(from);
-        let gate = Role::Gate(Gate::new(self.alloc, is_proxy));
+        let gate = Role::Gate(Coming {
+            gate: Gate::new(self.alloc, is_proxy),
+            is_over: admission == Admission::Told,
+        });
         let (out, now) = (Vec::new(self.alloc), self.now());
         let Some(key) = self.members.sockets.take_in(stream, gate, out, now)? else {
             return Ok(());
         };
         if let Some(socket) = self.members.sockets.get_mut(key) {
             socket.peer = from;
-            socket.is_over = admission == Admission::Told;
         }
         self.members.say("socket", key, "has come");
         Ok(())

@@ -2,7 +2,7 @@
 
 use crate::house::House;
 use relay_logins::{Dialed, put_saved};
-use relay_sockets::{Cause, Role, Whose};
+use relay_sockets::{Cause, Whose};
 use relay_status::raise;
 use std::io;
 use std::net::Net;
@@ -68,7 +68,7 @@ impl House {
                 .members
                 .not_judged(group, "The relay has no room for one more connection.");
         };
-        self.is_in(key, group, Role::Connection(group, number));
+        self.is_in(key, group, number);
         self.join_all(rt, &waiting, group)?;
         self.begin_sharing(rt, key, group, number, rest)
     }

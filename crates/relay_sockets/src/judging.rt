@@ -1,7 +1,8 @@
 //! What comes and goes is judged, where that is asked for.
 
 use crate::link::News;
-use crate::socket::{Gone, Role, Socket, whom_of};
+use crate::role::Role;
+use crate::socket::{Gone, Socket, whom_of};
 use crate::sockets::Sockets;
 use relay_logins::{FEATURES, place_of};
 use relay_status::{Journal, Judged};

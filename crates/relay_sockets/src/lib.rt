@@ -6,6 +6,7 @@ mod due;
 mod ending;
 mod judging;
 mod link;
+mod role;
 mod room;
 mod sending;
 mod socket;
@@ -14,6 +15,7 @@ mod watching;
 
 pub use ending::Cause;
 pub use link::{Came, Failed, Link, News};
+pub use role::{Application, Coming, Connection, Owed, Role, Whose};
 pub use room::{Admission, Room};
-pub use socket::{Gone, Role, Seen, Socket, Whose, names_of};
+pub use socket::{Gone, Seen, Socket, names_of};
 pub use sockets::{ROUND, Sockets};

@@ -2,7 +2,8 @@
 
 use crate::ending::Cause;
 use crate::link::{Came, Failed};
-use crate::socket::{Role, Socket};
+use crate::role::Role;
+use crate::socket::Socket;
 use relay_settings::SystemError;
 use std::io;
 use tds_judge::Finding;
@@ -75,7 +76,7 @@ impl Socket {
     /// then is left.
     pub fn has_to_send(&self) -> bool {
         match &self.role {
-            Role::Application(..) | Role::Connection(..) => self.is_behind || !self.out.is_empty(),
+            Role::Application(_) | Role::Connection(_) => self.is_behind || !self.out.is_empty(),
             _ => true,
         }
     }

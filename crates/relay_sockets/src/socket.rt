@@ -1,55 +1,12 @@
-//! A socket, and what it is.
+//! A socket.
 
 use crate::ending::Cause;
 use crate::link::Link;
-use relay_logins::{Dial, Gate, Leg, Notices, Way, Who};
-use relay_status::{Asker, At, Judged, Names, Role as Told, Whom};
+use crate::role::{Application, Connection, Owed, Role, Whose};
+use relay_logins::{Dial, Way, Who};
+use relay_status::{At, Judged, Names, Role as Told, Whom};
 use std::net::SocketAddr;
 use tds_state::Watch;
-
-/// What a socket is.
-#[derive(Drop)]
-pub enum Role {
-    /// An application that logs in.
-    Gate(Gate),
-    /// An application whose login the server judges, and one that is asked for another leg of it.
-    Judged(usize),
-    Leg(usize, Leg),
-    /// The application of this key in a group.
-    Application(usize, usize),
-    /// The first connection of a group, which logs in.
-    First(usize, Dial),
-    /// The connection of this number in a group, which logs in; and which does.
-    Opening(usize, u64, Dial),
-    Connection(usize, u64),
-    /// A login of the relay's own, by which a server judges that of a group again.
-    Again(usize, Dial),
-    /// An application that is in no group any more, and is told at its next request why.
-    Owed,
-    /// Where names are asked.
-    Names,
-    /// Somebody who asks what the relay does.
-    Asker(Asker),
-    /// It is to be closed once what waits for it is sent.
-    Closing,
-}
-
-/// Whose a socket is, without what it keeps.
-#[derive(Clone, Copy)]
-pub enum Whose {
-    Gate,
-    Judged(usize),
-    Leg(usize),
-    Application(usize, usize),
-    First(usize),
-    Opening(usize, u64),
-    Connection(usize, u64),
-    Again(usize),
-    Owed,
-    Names,
-    Asker,
-    Closing,
-}
 
 /// What is known of a socket behind its end: what it was, where it was dialed, and how far its login had come.
 #[derive(Clone, Copy)]
@@ -77,8 +34,6 @@ pub struct Socket {
     pub number: u64,
     /// Whether the log tells of it: not of those who ask what the relay does.
     pub is_told: bool,
-    /// Whether it is an application too many, which is told so at its login.
-    pub is_over: bool,
     pub link: Link,
     pub role: Role,
     /// What is to be sent in a login, and to whoever asks what the relay does.
@@ -98,29 +53,12 @@ pub struct Socket {
     pub order: u64,
     /// Why it ends, as far as that is known.
     pub cause: Option<Cause>,
-    /// Since when a connection is free that is being checked.
-    pub checked: Option<u64>,
-    /// A connection's process at the server, and the server's place in the list.
-    pub spid: u16,
-    pub server: usize,
-    /// Where in its requests an application is.
-    pub notices: Notices,
-    /// The number and the sentence of the error that it is told at its next request.
-    pub owed: Option<(u32, String)>,
-    /// The millisecond since which it has shut its sending side, and waits for its answer.
-    pub shut: Option<u64>,
-    /// An application's requests so far, and the microsecond in which the one began that has no answer yet.
-    pub begun: u64,
-    pub asked: Option<u64>,
-    /// Whether something of that one's answer has been sent.
-    pub is_answered: bool,
     /// Whether what its relay has for it may not be sent yet.
     pub is_behind: bool,
     /// Where judging is asked for.
     pub judged: Option<Judged>,
-    /// Of a connection, where applications are parted from theirs; and the number of the last rest there.
+    /// From its login on, of a connection of a group whose applications are parted from theirs.
     pub(crate) watch: Option<Box<Watch>>,
-    pub rest: u64,
 }
 
 impl Socket {
@@ -129,7 +67,6 @@ impl Socket {
         Socket {
             number,
             is_told: !matches!(role, Role::Asker(_) | Role::Names),
-            is_over: false,
             link,
             role,
             out,
@@ -145,19 +82,9 @@ impl Socket {
             partner: None,
             order: 0,
             cause: None,
-            checked: None,
-            spid: 0,
-            server: 0,
-            notices: Notices::new(),
-            owed: None,
-            shut: None,
-            begun: 0,
-            asked: None,
-            is_answered: false,
             is_behind: true,
             judged: None,
             watch: None,
-            rest: 0,
         }
     }
 
@@ -167,52 +94,106 @@ impl Socket {
         if self.seen.at == at && self.seen.mark == mark {
             return;
         }
-        let since = match (at, self.checked) {
-            (At::Free, Some(since)) => since,
-            _ if self.seen.mark == mark && self.seen.at.is_wait() && at.is_wait() => self
-                .seen
-                .since,
-            _ if at.is_wait() && mark == self.begun => match self.asked {
-                Some(precise) => precise / 1000,
-                None => now,
-            },
-            _ => now,
-        };
-        if at != At::Cleaning {
-            self.checked = None;
+        let since = self.since(at, mark, now);
+        if let Role::Connection(connection) = &mut self.role {
+            if at != At::Cleaning {
+                connection.checked = None;
+            }
         }
         self.seen = Seen { at, mark, since };
     }
 
-    /// An application has begun so many requests, the newest one now where they are more than before.
-    pub fn asks(&mut self, begun: u64, precise: u64) {
-        if begun != self.begun {
-            self.begun = begun;
-            self.asked = Some(precise);
-            self.is_answered = false;
+    /// Since when it is at what it is seen to be at now.
+    fn since(&self, at: At, mark: u64, now: u64) -> u64 {
+        if self.seen.mark == mark && self.seen.at.is_wait() && at.is_wait() {
+            return self.seen.since;
+        }
+        let known = match &self.role {
+            Role::Connection(connection) if at == At::Free => connection.checked,
+            Role::Application(application) if at.is_wait() => application.began(mark),
+            _ => None,
+        };
+        known.unwrap_or(now)
+    }
+
+    /// It is free, and is checked now.
+    pub fn is_checked(&mut self) {
+        if let Role::Connection(connection) = &mut self.role {
+            connection.checked = Some(self.seen.since);
         }
     }
 
-    /// The login of a connection, while it goes on.
-    pub fn dial(&self) -> Option<&Dial> {
-        match &self.role {
-            Role::First(_, dial) => Some(dial),
-            Role::Opening(_, _, dial) => Some(dial),
-            Role::Again(_, dial) => Some(dial),
+    /// The application of a group that it is.
+    pub fn application(&mut self) -> Option<&mut Application> {
+        match &mut self.role {
+            Role::Application(application) => Some(application),
             _ => None,
         }
     }
 
-    /// It is logged in, and is this from now on.
-    pub fn becomes(&mut self, role: Role, now: u64) {
+    /// The connection of a group that it is.
+    pub fn connection(&self) -> Option<&Connection> {
+        match &self.role {
+            Role::Connection(connection) => Some(connection),
+            _ => None,
+        }
+    }
+
+    /// Something of the answer to its request has been sent.
+    pub fn is_answered(&mut self) {
+        if let Role::Application(application) = &mut self.role {
+            application.is_answered = true;
+        }
+    }
+
+    /// It may rest, for the time that has this number.
+    pub fn may_rest(&mut self, number: u64) {
+        if let Role::Connection(connection) = &mut self.role {
+            connection.rest = number;
+        }
+    }
+
+    /// An application of a group is to be told this error at its next request.
+    pub fn owe(&mut self, number: u32, sentence: String) {
+        if let Role::Application(application) = &mut self.role {
+            application.owed = Some(Owed { number, sentence });
+        }
+    }
+
+    /// An application that is owed an error is in no group from now on. Whether it is such a one.
+    pub fn begin_owing(&mut self) -> bool {
+        let Role::Application(application) = &mut self.role else {
+            return false;
+        };
+        let notices = application.notices;
+        let Some(owed) = application.owed.take() else {
+            return false;
+        };
+        self.role = Role::Owed(notices, owed);
+        true
+    }
+
+    /// The login of a connection, while it goes on.
+    pub fn dial(&self) -> Option<&Dial> {
+        self.role.dial()
+    }
+
+    /// It is logged in, as the connection of this number in a group. The place of its server in the list.
+    pub fn opens(&mut self, group: usize, number: u64, now: u64) -> usize {
         let (spid, server) = match self.dial() {
             Some(dial) => (dial.spid, dial.way.server),
             None => (0, 0),
         };
-        self.spid = spid;
-        self.server = server;
-        self.role = role;
+        self.role = Role::Connection(Connection {
+            group,
+            number,
+            spid,
+            server,
+            checked: None,
+            rest: 0,
+        });
         self.born = now;
+        server
     }
 
     /// What is known of it behind its end.
@@ -233,25 +214,16 @@ impl Socket {
     pub fn told(&self) -> Told {
         match &self.role {
             Role::Gate(_) | Role::Judged(_) | Role::Leg(..) => Told::Coming,
-            Role::Application(..) | Role::Owed => Told::Application,
+            Role::Application(_) | Role::Owed(..) => Told::Application,
             Role::First(..) | Role::Opening(..) | Role::Again(..) => Told::Dialed,
-            Role::Connection(..) => Told::Connection,
+            Role::Connection(_) => Told::Connection,
             Role::Names | Role::Asker(_) | Role::Closing => Told::Other,
         }
     }
 
     /// The group that it belongs to.
     pub fn group(&self) -> Option<usize> {
-        match &self.role {
-            Role::Gate(_) | Role::Owed | Role::Names => None,
-            Role::Asker(_) | Role::Closing => None,
-            Role::Judged(group) | Role::Application(group, _) => Some(*group),
-            Role::Leg(group, _) => Some(*group),
-            Role::First(group, _) => Some(*group),
-            Role::Opening(group, _, _) => Some(*group),
-            Role::Connection(group, _) => Some(*group),
-            Role::Again(group, _) => Some(*group),
-        }
+        self.role.group()
     }
 
     /// Who an application says that it is.
@@ -266,20 +238,7 @@ impl Socket {
 
     /// Whose it is.
     pub fn whose(&self) -> Whose {
-        match &self.role {
-            Role::Gate(_) => Whose::Gate,
-            Role::Judged(group) => Whose::Judged(*group),
-            Role::Leg(group, _) => Whose::Leg(*group),
-            Role::Application(group, key) => Whose::Application(*group, *key),
-            Role::First(group, _) => Whose::First(*group),
-            Role::Opening(group, number, _) => Whose::Opening(*group, *number),
-            Role::Connection(group, number) => Whose::Connection(*group, *number),
-            Role::Again(group, _) => Whose::Again(*group),
-            Role::Owed => Whose::Owed,
-            Role::Names => Whose::Names,
-            Role::Asker(_) => Whose::Asker,
-            Role::Closing => Whose::Closing,
-        }
+        self.role.whose()
     }
 }
 

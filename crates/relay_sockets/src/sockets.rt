@@ -2,8 +2,9 @@
 
 use crate::due::Dues;
 use crate::link::{Link, News};
+use crate::role::{Application, Role};
 use crate::room::{Admission, Room};
-use crate::socket::{Role, Socket};
+use crate::socket::Socket;
 use mio::unix::SourceFd;
 use mio::{Events, Interest, Poll, Token};
 use relay_logins::{Entry, Table, place_of};
@@ -138,7 +139,12 @@ impl Sockets {
         self.table.get_mut(key)
     }
 
-    /// The same, with the list to which what is found of it is appended.
+    /// The application of a group that this one is.
+    pub fn application(&mut self, key: usize) -> Option<&mut Application> {
+        self.table.get_mut(key)?.application()
+    }
+
+    /// A socket, with the list to which what is found of it is appended.
     pub fn get_judged(&mut self, key: usize) -> Option<(&mut Socket, &mut Vec<Finding>)> {
         let Sockets {
             table,

@@ -106,6 +106,10 @@ impl Program {
     }
 
     pub fn line_of<'a>(&self, socket: &'a Socket) -> SocketLine<'a> {
+        let (spid, server) = match socket.connection() {
+            Some(connection) => (connection.spid, connection.server),
+            None => (0, 0),
+        };
         SocketLine {
             role: socket.told(),
             number: socket.number,
@@ -119,8 +123,8 @@ impl Program {
             partner: socket.partner,
             names: socket.names(),
             peer: socket.peer,
-            spid: socket.spid,
-            server: server_of(socket.server),
+            spid,
+            server: server_of(server),
             rests: socket.rests(),
             why: socket.why(),
         }
