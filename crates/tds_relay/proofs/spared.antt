@@ -28,6 +28,7 @@ pub mod Reasons
 pub mod Shutting
 pub mod Speaking
 pub mod Starting
+pub mod Turned
 pub mod Undone
 pub mod Waits
 pub mod Waking

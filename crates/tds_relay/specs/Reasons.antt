@@ -1,5 +1,5 @@
 -- Why an application is closed by what it says, and by what comes on a connection.
-use Rattle.std.specs.Prelude.{◌≡◌, ◌≢◌, ◌⊎◌, ◌<◌, ℕ, Bool, true, false, List, [], length, take, IsSome, Option, Some, None, Result, Ok, Err, option_map}
+use Rattle.std.specs.Prelude.{◌≡◌, ◌≢◌, ◌⊎◌, ◌<◌, ℕ, Bool, true, false, List, [], ◌++◌, length, take, IsSome, Option, Some, None, Result, Ok, Err, option_map}
 use Rattle.slab.specs.Slab.{get}
 use Rattle.tds_packet.specs.declared.kind.Kind.{Kind}
 use Rattle.tds_packet.specs.declared.status.Reset.{Reset}
@@ -31,19 +31,22 @@ use Rattle.tds_relay.specs.declared.desk.coming.What.{What}
 use Rattle.tds_relay.specs.declared.desk.coming.What.TheVariants as whats
 use Rattle.tds_relay.specs.declared.link.Link.{Link}
 use Rattle.tds_relay.specs.declared.relay.Relay as code
+use Rattle.tds_relay.specs.Anew.{ResetsFor}
 use Rattle.tds_relay.specs.Asking.{IsTakenBack}
 use Rattle.tds_relay.specs.Bodies.{Astray, Body, Carries, ClientPuts, ClientStops, Closed, Going, Kept, Nowhere, body_of, last_of}
 use Rattle.tds_relay.specs.Cleaning.{IsBatch, IsPutBehind, MayClean, text_of_cleaning}
-use Rattle.tds_relay.specs.Closings.{IsNoRequest, IsWaiting}
+use Rattle.tds_relay.specs.Closings.{IsNoRequest, IsWaiting, IsWho}
 use Rattle.tds_relay.specs.Desk as desk
-use Rattle.tds_relay.specs.Desk.{find_key}
-use Rattle.tds_relay.specs.Fronts.{ends_in, house_in}
-use Rattle.tds_relay.specs.Hall.{End, Ends, IfOpen, Open, Over, asks_by, end_at}
+use Rattle.tds_relay.specs.Desk.{Desk, find_key, turn, without_number}
+use Rattle.tds_relay.specs.Fronts.{ends_in, house_in, told_by}
+use Rattle.tds_relay.specs.Hall.{AsksFor, End, Ends, IfOpen, IfOpenAsks, Open, Over, asks_by, end_at, holder}
 use Rattle.tds_relay.specs.Handing.{HearsBy, IsNothing}
 use Rattle.tds_relay.specs.House.{House}
+use Rattle.tds_relay.specs.Places.{HasNoTransaction, open_on}
 use Rattle.tds_relay.specs.Posts.{Post, Posts, acknowledgement, fits, give, post_at, post_in, posts_in}
 use Rattle.tds_relay.specs.Coming.{StreamsAnew}
 use Rattle.tds_relay.specs.Reads.{StreamsAll, answer_at, link_at, open_at}
+use Rattle.tds_relay.specs.Sparing.{IsKept}
 use Rattle.tds_relay.specs.Taking.{IsDeaf}
 use Rattle.tds_relay.specs.Ties.{Leaving, Turns, desk_in}
 use Rattle.tds_relay.specs.Told.{room_to_keep}
@@ -96,6 +99,42 @@ pub data CannotPut (whole : Bool) (more : List ℕ) (key : ℕ) (end : Option En
   -- its client puts them, and what goes out by that doesn't fit
   Unfit : (mid : desks.Desk) (out : List ℕ) (puts : ClientPuts whole more key d mid [] out) → HasNoRoom puts.hold.number out links → CannotPut whole more key end d links
 
+-- ---- A request that waits isn't asked on the connection that its application holds
+
+-- This is open, and what its application took back is acknowledged.
+pub record IsReadyThere (key : ℕ) (end : Option End) (d : desks.Desk) (links : List Link) : Type 0 where
+  pub hold : Hold
+  pub its : find_key key d.holds.items ≡ Some hold
+  pub open_there : IsSome (open_at hold.number links)
+  pub drained : ¬ IsTakenBack end
+
+-- That is refused; or it is asked, and what was kept of it isn't put.
+pub data CannotAsk (kind : MessageKind) (bytes : List ℕ) (whole : Bool) (key : ℕ) (end : Option End) (d : desks.Desk) (links : List Link) : Type 0 where
+  Unasked : RefusesThere (λ lease count. calls.Ask lease) key d → CannotAsk kind bytes whole key end d links
+  Unput : (hold : Hold) → find_key key d.holds.items ≡ Some hold → (mid : desks.Desk) → Turns (desk.Does key desk.Asks) (desk_in d) (desk_in mid) [] [] → Opens kind hold.lease d.service mid.service
+      → CannotPut whole bytes key end mid links → CannotAsk kind bytes whole key end d links
+
+-- Its application holds none; or that is ready for it, and it isn't asked there.
+abbrev pub CannotStart : ℕ → Option End → desks.Desk → List Link → Body → Type 0
+CannotStart key end d links Closed = ⊥
+CannotStart key end d links Nowhere = ⊥
+CannotStart key end d links (Kept kind bytes whole) = IsUnheld key d ⊎ (IsReadyThere key end d links × CannotAsk kind bytes whole key end d links)
+CannotStart key end d links Astray = ⊥
+CannotStart key end d links (Going number client waits) = ⊥
+
+-- with what a relay has
+abbrev pub CannotStartAt : ℕ → code.Relay → Type 0
+CannotStartAt key r = CannotStart key (end_at (ends_in r.applications) key) r.desk r.links.items (body_of key r)
+
+-- Or it is ready, and none has begun; or the reset that the request asks for isn't done with it there.
+pub data IsTurnedAway (key : ℕ) (end : Option End) (d : desks.Desk) (links : List Link) (body : Body) : Type 0 where
+  Unstarted : CannotStart key end d links body → IsTurnedAway key end d links body
+  NoneBegun : IsKept body → IsReadyThere key end d links → IfOpen (IsUnbegun false) end → IsTurnedAway key end d links body
+  Unreset : IsKept body → (ready : IsReadyThere key end d links) → IfOpenAsks (λ asks. ¬ ResetsFor asks (Some ready.hold) (desk_in d)) end → IsTurnedAway key end d links body
+
+abbrev pub IsTurnedAwayAt : ℕ → code.Relay → Type 0
+IsTurnedAwayAt key r = IsTurnedAway key (end_at (ends_in r.applications) key) r.desk r.links.items (body_of key r)
+
 -- ---- They can't go on
 
 -- so much more may be kept of its request
@@ -103,38 +142,18 @@ abbrev pub room_left : Option Application → ℕ
 room_left None = 0
 room_left (Some a) = room_to_keep a
 
--- They are more than may be kept of a request that waits; or this waits no longer, where its application holds a connection: that may not
--- take it; or none has begun.
+-- They are more than may be kept of a request that waits; or none has begun; or with them it is turned away where its application holds a
+-- connection.
 abbrev pub CannotGoOn : Bool → List ℕ → ℕ → Option End → ℕ → desks.Desk → List Link → Body → Type 0
 CannotGoOn whole more key end room d links Closed = Unit {0}
 CannotGoOn whole more key end room d links Nowhere = Unit {0}
-CannotGoOn whole more key end room d links (Kept kind bytes was) = (room < length more) ⊎ (IsSome (find_key key d.holds.items) ⊎ IfOpen (IsUnbegun false) end)
+CannotGoOn whole more key end room d links (Kept kind bytes was) = (room < length more) ⊎ (IfOpen (IsUnbegun false) end ⊎ IsTurnedAway key end d links (Kept kind (bytes ++ more) whole))
 CannotGoOn whole more key end room d links Astray = CannotPut whole more key end d links
 CannotGoOn whole more key end room d links (Going number client waits) = CannotPut whole more key end d links
 
 -- with what a relay has
 abbrev pub CannotGoOnAt : Bool → List ℕ → ℕ → code.Relay → Type 0
 CannotGoOnAt whole more key r = CannotGoOn whole more key (end_at (ends_in r.applications) key) (room_left (get r.applications key)) r.desk r.links.items (body_of key r)
-
--- ---- A request that waits isn't asked on the connection that its application holds
-
--- That is refused; or it is asked, and what was kept of it isn't put.
-pub data CannotAsk (kind : MessageKind) (bytes : List ℕ) (whole : Bool) (key : ℕ) (end : Option End) (d : desks.Desk) (links : List Link) : Type 0 where
-  Unkept : IsUnheld key d → CannotAsk kind bytes whole key end d links
-  Unasked : RefusesThere (λ lease count. calls.Ask lease) key d → CannotAsk kind bytes whole key end d links
-  Unput : (hold : Hold) → find_key key d.holds.items ≡ Some hold → (mid : desks.Desk) → Turns (desk.Does key desk.Asks) (desk_in d) (desk_in mid) [] [] → Opens kind hold.lease d.service mid.service
-      → CannotPut whole bytes key end mid links → CannotAsk kind bytes whole key end d links
-
-abbrev pub CannotStart : ℕ → Option End → desks.Desk → List Link → Body → Type 0
-CannotStart key end d links Closed = ⊥
-CannotStart key end d links Nowhere = ⊥
-CannotStart key end d links (Kept kind bytes whole) = CannotAsk kind bytes whole key end d links
-CannotStart key end d links Astray = ⊥
-CannotStart key end d links (Going number client waits) = ⊥
-
--- with what a relay has
-abbrev pub CannotStartAt : ℕ → code.Relay → Type 0
-CannotStartAt key r = CannotStart key (end_at (ends_in r.applications) key) r.desk r.links.items (body_of key r)
 
 -- ---- A request can't begin
 
@@ -151,11 +170,26 @@ pub data CannotPart (key : ℕ) (end : Option End) (d : desks.Desk) : Type 0 whe
   Out : IfOpen HasGoneOut end → CannotPart key end d
   Held : (mid : desks.Desk) → Leaving key (desk_in d) (desk_in mid) → IsSome (find_key key mid.holds.items) → CannotPart key end d
 
--- Packets of its type are no request. Or it isn't asked on the connection that its application holds; or that has to stay; or one that asks
--- for a full reset isn't parted from it.
+-- A transaction is open on the connection that it holds.
+abbrev pub HasTransaction : Desk → ℕ → Type 0
+HasTransaction d key = (hold : Hold) × (find_key key d.holds ≡ Some hold) × (open_on d hold.number ≡ Some true)
+
+-- What it holds isn't lent to it by another lease, and has to stay; or that is lost so, for want of memory; or it is lent so, and turns its
+-- request away.
+pub data IsUnrenewed (Stays : Type 0) (key : ℕ) (end : Option End) (d : desks.Desk) (links : List Link) (body : Body) : Type 0 where
+  Unkept : (resumes : Bool) → (turn (desk_in d) (desk.Renews key resumes)).desk ≡ desk_in d → Stays → IsUnrenewed Stays key end d links body
+  Unlent : (resumes : Bool) (hold : Hold) → find_key key d.holds.items ≡ Some hold → (turn (desk_in d) (desk.Renews key resumes)).desk.holds ≡ without_number hold.number d.holds.items → IsUnrenewed Stays key end d links body
+  Unserved : (resumes : Bool) (mid : desks.Desk) → desk_in mid ≡ (turn (desk_in d) (desk.Renews key resumes)).desk → IsTurnedAway key end mid links body → IsUnrenewed Stays key end d links body
+
+-- Packets of its type are no request. Or it isn't asked on the connection that its application holds; or one that is to keep its transaction
+-- doesn't: this is open still, and the acknowledgement of what was taken back isn't what it waits for; or it isn't parted from it. Nor is one
+-- that asks for a full reset.
 abbrev pub CannotBegin : Kind → Option Reset → ℕ → Option End → desks.Desk → List Link → Type 0
-CannotBegin kind None key end d links = IsNoRequest kind ⊎ ((message : MessageKind) × (packets_are message ≡ kind) × CannotAsk message [] false key end d links)
-CannotBegin kind (Some KeepTransaction) key end d links = IsNoRequest kind ⊎ IsSome (find_key key d.holds.items)
+CannotBegin kind None key end d links = IsNoRequest kind ⊎ (IsReadyThere key end d links × (message : MessageKind) × (packets_are message ≡ kind) × CannotAsk message [] false key end d links)
+CannotBegin kind (Some KeepTransaction) key end d links =
+    IsNoRequest kind
+    ⊎ ((IsTakenBack end → HasNoTransaction (desk_in d) key) × (message : MessageKind) × (packets_are message ≡ kind)
+    × IsUnrenewed (HasTransaction (desk_in d) key ⊎ CannotPart key end d) key end d links (Kept message [] false))
 CannotBegin kind (Some Full) key end d links = IsNoRequest kind ⊎ CannotPart key end d
 
 -- ---- It can't be taken back
@@ -265,13 +299,33 @@ ForReasonOrWaiting key bytes r other = ItselfFor key (HasReason key bytes r) oth
 abbrev pub HasTakenBack : Option ℕ → Ends → Type 0
 HasTakenBack key ends = (whose : ℕ) × (key ≡ Some whose) × (IsTakenBack (end_at ends whose) ⊎ IsDeaf (end_at ends whose))
 
--- Whoever is handed it is closed where more would wait for it than may; behind what it took back its next request may not be taken. A
--- connection that is closed for what its server said is its end too.
+-- Whoever is handed it is closed where more would wait for it than may. A connection that is closed for what its server said is its end too.
 abbrev pub LosesBy : What → Option ℕ → Ends → Posts → ℕ → Type 0
 LosesBy whats.Goes key ends posts other = (key ≡ Some other) × IsOverfull (post_at posts other)
 LosesBy whats.Finished key ends posts other = (key ≡ Some other) × IsOverfull (post_at posts other)
-LosesBy whats.Acknowledged key ends posts other = ((key ≡ Some other) × IsOverfull (post_at posts other)) ⊎ HasTakenBack key ends
+LosesBy whats.Acknowledged key ends posts other = (key ≡ Some other) × IsOverfull (post_at posts other)
 LosesBy whats.Closed key ends posts other = Unit {0}
+
+-- It isn't parted from its connection, and stays: something is out there, or none has begun; or a transaction is open, or it isn't one that asks
+-- to keep that.
+abbrev pub CannotMove : ℕ → Option End → Desk → Type 0
+CannotMove key end d = (IfOpen HasGoneOut end ⊎ IfOpen (IsUnbegun false) end) ⊎ (HasTransaction d key ⊎ (¬ AsksFor KeepTransaction end))
+
+-- What it asks next is turned away; or is to keep its transaction, and doesn't.
+abbrev pub CannotResume : ℕ → Option End → desks.Desk → List Link → Body → Type 0
+CannotResume key end d links body =
+    ((¬ AsksFor KeepTransaction end) × IsTurnedAway key end d links body) ⊎ (AsksFor KeepTransaction end × IsUnrenewed (CannotMove key end (desk_in d)) key end d links body)
+
+abbrev pub CannotResumeAt : ℕ → code.Relay → Type 0
+CannotResumeAt key r = CannotResume key (end_at (ends_in r.applications) key) r.desk r.links.items (body_of key r)
+
+-- This one was told so, and what it asks doesn't go on; or another holds the connection of this number, which no call leads to.
+abbrev pub ResumesNot : ℕ → Option ℕ → Ends → desks.Desk → List Link → Body → ℕ → Type 0
+ResumesNot number key ends d links body other =
+    ((key ≡ Some other) × CannotResume other (end_at ends other) d links body) ⊎ ((key ≢ Some other) × IsWho (holder (desk_in d) number) other)
+
+abbrev pub ResumesNotAt : ℕ → ℕ → code.Relay → ℕ → Type 0
+ResumesNotAt number key r other = ResumesNot number (Some key) (ends_in r.applications) r.desk r.links.items (body_of other r) other
 
 -- So it is where a header isn't one.
 abbrev pub LosesFor : Option Heard → Ends → Posts → ℕ → Type 0
@@ -306,10 +360,12 @@ HearsNothing (Some heard) = IsNothing heard
 abbrev pub IsIdle : code.Relay → code.Relay → Type 0
 IsIdle old new = (new.desk ≡ old.desk) × (new.outbox.items ≡ [])
 
--- It closes this one; or a cleaning does that goes out by one that is nobody's.
+-- It closes this one; or a cleaning does that goes out by one that is nobody's; or behind what it took back its next request doesn't go on.
 pub data LosesOn (number : ℕ) (left : List ℕ) (r : code.Relay) (other : ℕ) : Type 0 where
   OfPacket : (heard : Option Heard) (new : House) → IsHeardAs number left heard r new → LosesFor heard (ends_in r.applications) new.posts other → LosesOn number left r other
   OfSending : (heard : Heard) (new : House) → IsHeardAs number left (Some heard) r new → heard.key ≡ None → (out : List ℕ) → IsUnsendable number out r.links.items → LosesOn number left r other
+  OfResuming : (heard : Heard) (new : House) → IsHeardAs number left (Some heard) r new → heard.what ≡ whats.Acknowledged → HasTakenBack heard.key (ends_in r.applications)
+      → (d : desks.Desk) → desk_in d ≡ new.hall.desk → ResumesNot number heard.key new.hall.ends d r.links.items (body_of other r) other → LosesOn number left r other
 
 -- They come behind others. Or all have come, and one that waits may be lent a connection that doesn't take its request.
 pub data HeardFor (number : ℕ) (bytes : List ℕ) (r : code.Relay) (other : ℕ) : Type 0 where
@@ -323,7 +379,14 @@ pub data HeardFor (number : ℕ) (bytes : List ℕ) (r : code.Relay) (other : �
 abbrev pub post_on : ℕ → List Link → Option Post
 post_on number links = option_map (λ (l : Link). post_in l.out) (link_at number links)
 
--- by a packet that has been handed on
+-- by a packet that has been handed on, by which nothing goes out
+abbrev pub ResumesAt : ℕ → Option Heard → code.Relay → ℕ → Type 0
+ResumesAt number None r other = ⊥
+ResumesAt number (Some heard) r other =
+    (heard.what ≡ whats.Acknowledged) × HasTakenBack heard.key (ends_in r.applications)
+    × (r.outbox.items ≡ [] → ResumesNot number heard.key (told_by (Some heard) (ends_in r.applications)) r.desk r.links.items (body_of other r) other)
+
+-- or where something does
 abbrev pub LosesAt : ℕ → Option Heard → code.Relay → ℕ → Type 0
 LosesAt number heard r other =
-    LosesFor heard (ends_in r.applications) (posts_in r.applications) other ⊎ ((r.outbox.items ≢ []) × HasNoRoom number r.outbox.items r.links.items)
+    LosesFor heard (ends_in r.applications) (posts_in r.applications) other ⊎ (((r.outbox.items ≢ []) × HasNoRoom number r.outbox.items r.links.items) ⊎ ResumesAt number heard r other)

@@ -13,7 +13,7 @@ use Rattle.tds_relay.specs.declared.desk.leaving.Renewed.TheVariants as renewals
 use Rattle.tds_relay.specs.declared.relay.Relay as code
 use Rattle.tds_relay.specs.Asking.{IsTakenBack}
 use Rattle.tds_relay.specs.Bodies.{ArePut, Astray, Body, Closed, Going, Kept, Nowhere, Spared, Starts, body_of}
-use Rattle.tds_relay.specs.Desk.{find_key, find_lease, without_lease}
+use Rattle.tds_relay.specs.Desk.{find_key, find_lease, without_lease, without_number}
 use Rattle.tds_relay.specs.Fronts.{ends_in}
 use Rattle.tds_relay.specs.Hall.{end_at, holder}
 use Rattle.tds_relay.specs.Promises.{Each}
@@ -81,6 +81,12 @@ IsRenewed (renewals.Kept hold) key old new =
 IsRenewed renewals.NotKept key old new = desk_in new ≡ desk_in old
 IsRenewed (renewals.Closed number) key old new =
     (was : Hold) × (find_key key old.holds.items ≡ Some was) × (number ≡ was.number) × (IsLed (service_in old.service) → reading_on number new.service ≡ None)
+
+-- where that is there no more, nobody holds it
+abbrev pub IsLostBy : Renewed → ℕ → desks.Desk → desks.Desk → Type 0
+IsLostBy (renewals.Kept hold) key old new = Unit {0}
+IsLostBy renewals.NotKept key old new = Unit {0}
+IsLostBy (renewals.Closed number) key old new = (was : Hold) × (find_key key old.holds.items ≡ Some was) × (new.holds.items ≡ without_number was.number old.holds.items)
 
 -- ---- At a relay
 

@@ -1,4 +1,4 @@
--- That no request is forgotten which waits.
+-- That no request is forgotten which waits, and why it is turned away as its connection opens.
 use Rattle.std.specs.Prelude.{◌≡◌, ◌≢◌, ◌≤◌, ◌⊎◌, ◌++◌, ℕ, Bool, true, false, length, List, IsSome, Option, Some, None}
 use Rattle.tds_packet.specs.declared.status.Reset.TheVariants.{KeepTransaction}
 use Rattle.tds_client.specs.declared.message.MessageKind.{MessageKind}
@@ -8,13 +8,18 @@ use Rattle.tds_relay.specs.declared.application.Application.{Application}
 use Rattle.tds_relay.specs.declared.application.Asking.TheVariants as asking
 use Rattle.tds_relay.specs.declared.desk.coming.Heard.{Heard}
 use Rattle.tds_relay.specs.declared.desk.coming.What.TheVariants as whats
+use Rattle.tds_relay.specs.declared.link.Link.{Link}
 use Rattle.tds_relay.specs.declared.relay.Relay as code
 use Rattle.tds_relay.specs.Bodies.{Body, Kept, body_of, last_of}
+use Rattle.tds_relay.specs.Closings.{IsWaiting, IsWho}
 use Rattle.tds_relay.specs.Desk.{find_key}
 use Rattle.tds_relay.specs.Fronts.{end_of, ends_in}
-use Rattle.tds_relay.specs.Hall.{AsksFor, IfOpen, IsBegun, end_at, is_in}
+use Rattle.tds_relay.specs.Hall.{AsksFor, IfOpen, IsBegun, end_at, holder, is_in}
+use Rattle.tds_relay.specs.Reads.{open_at, opened_at}
+use Rattle.tds_relay.specs.Reasons.{IsTurnedAway, post_on}
 use Rattle.tds_relay.specs.Sparing.{IsHeldBack, IsUnkept}
 use Rattle.tds_relay.specs.Taking.{IsDeaf}
+use Rattle.tds_relay.specs.Ties.{desk_in}
 use Rattle.tds_relay.specs.Told.{room_to_keep}
 
 -- It goes on, or waits for its connection to open, or for the acknowledgement of what its application took back.
@@ -52,3 +57,23 @@ KeepsSaid (said.End count) taken old new = KeepsInLine true (last_of count taken
 KeepsSaid (said.Forget gone) taken old new = Unit {0}
 KeepsSaid said.Acknowledge taken old new = Unit {0}
 KeepsSaid said.HandOn taken old new = Unit {0}
+
+-- ---- As a connection opens
+
+-- That of this number is open now, and the same waits on each.
+pub record IsOpened (number : ℕ) (old new : List Link) : Type 0 where
+  pub opens : (other : ℕ) → open_at other new ≡ opened_at number other old
+  pub posts : (other : ℕ) → post_on other new ≡ post_on other old
+
+-- Who holds it is turned away there. Or one that waits may be lent a connection that doesn't take its request.
+abbrev pub OpensFor : ℕ → code.Relay → ℕ → Type 0
+OpensFor number r other =
+    (IsWho (holder (desk_in r.desk) number) other × (links : List Link) × IsOpened number r.links.items links × IsTurnedAway other (end_at (ends_in r.applications) other) r.desk links (body_of other r))
+    ⊎ IsWaiting (desk_in r.desk).line other
+
+-- ---- As the code has it
+
+-- The same waits on each, and each that is open was so.
+pub record KeepsPosts (old new : List Link) : Type 0 where
+  pub posts : (number : ℕ) → post_on number new ≡ post_on number old
+  pub opens : (number : ℕ) → IsSome (open_at number new) → IsSome (open_at number old)

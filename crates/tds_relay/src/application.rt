@@ -1,5 +1,5 @@
 //! An application, as the relay knows it.
-ghost use Rattle.std.specs.Prelude.{◌≡◌, ◌≤◌, ◌<◌, ◌-◌, ◌++◌, [], IfOk, None, Some, false, length, true, vec_len};
+ghost use Rattle.std.specs.Prelude.{◌≡◌, ◌≢◌, ◌⊎◌, ◌≤◌, ◌<◌, ◌-◌, ◌++◌, [], IfOk, None, Some, false, is_some, length, true, vec_len};
 ghost use Rattle.tds_front.specs.Bytes.{TakesSome};
 ghost use Rattle.tds_relay.specs.Anew.{most_held_by};
 ghost use Rattle.tds_relay.specs.declared.application.TheConstants.{MOST_HELD};
@@ -62,8 +62,7 @@ impl Application {
     ghost use Rattle.tds_relay.specs.Faults.{why_of};
     ghost use Rattle.tds_relay.specs.Fronts.{end_of, puts, withdraws};
     ghost use Rattle.tds_front.specs.Bytes.{fed, new_front};
-    ghost use Rattle.tds_relay.specs.Hall.{AsksFor, IfOpen, IsHere, Open, acknowledged, asks_by, closes_for, hears};
-    ghost use Rattle.tds_relay.specs.Hall.{is_at_end, lets_go, move_stage};
+    ghost use Rattle.tds_relay.specs.Hall.{AsksFor, IfOpen, IsHere, Open, acknowledged, asks_by, closes_for, hears, is_at_end, lets_go, move_stage};
     ghost use Rattle.tds_relay.specs.House.{hears_of_reset, is_said};
     ghost use Rattle.tds_relay.specs.Posts.{tagged, nothing, post_of};
     ghost use Rattle.tds_relay.specs.Parking.{has_no_request};
@@ -127,7 +126,9 @@ impl Application {
 
     /// Whether it waits with a request that asks for a reset but for the transaction.
     pub(crate) fn asks_to_keep(&self) -> bool
-        ensures { result ≡ true → AsksFor KeepTransaction (Some (end_of self.now)) }
+        ensures asks { result ≡ true → AsksFor KeepTransaction (Some (end_of self.now)) }
+        ensures not { result ≡ false → (waits_in self.now.asking ≡ None)
+            ⊎ (self.now.reset ≢ Some KeepTransaction) }
     {
         matches!(self.asking, Asking::Waits { .. })
             && matches!(self.reset, Some(Reset::KeepTransaction))
@@ -285,7 +286,7 @@ impl Application {
 
     /// Whether its request waits.
     pub(crate) fn waits(&self) -> bool
-        ensures { result ≡ false → waits_in self.now.asking ≡ None }
+        ensures { result ≡ is_some (waits_in self.now.asking) }
     {
         matches!(self.asking, Asking::Waits { .. })
     }
@@ -313,7 +314,8 @@ impl Application {
 
     /// Whether it asks for one that keeps its transaction.
     pub(crate) fn asks_kept(&self) -> bool
-        ensures { result ≡ true → AsksFor KeepTransaction (Some (end_of self.now)) }
+        ensures asks { result ≡ true → AsksFor KeepTransaction (Some (end_of self.now)) }
+        ensures not { result ≡ false → self.now.reset ≢ Some KeepTransaction }
     {
         matches!(self.reset, Some(Reset::KeepTransaction))
     }

@@ -8,7 +8,7 @@ ghost use Rattle.tds_relay.specs.Linking.{ArePlaced};
 ghost use Rattle.tds_relay.specs.Reads.{answer_at, link_at};
 ghost use Rattle.tds_relay.specs.Reads.{Sees, Stays, named_seen, open_at, opened_at, opened_seen, place_of};
 ghost use Rattle.tds_relay.specs.Reads.{seen_at, waits_on, without_link};
-ghost use Rattle.tds_relay.specs.Reasons.{HasNoRoom};
+ghost use Rattle.tds_relay.specs.Reasons.{HasNoRoom, post_on};
 ghost use Rattle.tds_relay.specs.Told.{is_there};
 
 use crate::NoMemory;
@@ -141,6 +141,8 @@ pub(crate) fn restart(links: &mut Links, number: u64)
     ensures read { Stays links.old.items links.new.items }
     ensures waits { (other : ℕ)
         → waits_on other links.new.items ≡ waits_on other links.old.items }
+    ensures posts { (other : ℕ)
+        → post_on other links.new.items ≡ post_on other links.old.items }
     ensures begins { answer_at number links.new.items
         ≡ option_map at_its_beginning (answer_at number links.old.items) }
     ensures any { MayBeginAny links.old.items links.new.items }
@@ -193,6 +195,8 @@ pub(crate) fn set_open(links: &mut Links, number: u64)
         → seen_at other links.new.items ≡ opened_seen number other links.old.items }
     ensures waits { (other : ℕ)
         → waits_on other links.new.items ≡ waits_on other links.old.items }
+    ensures posts { (other : ℕ)
+        → post_on other links.new.items ≡ post_on other links.old.items }
     ensures many { length links.new.items ≡ length links.old.items }
 {
     let Some(place) = place_in(links, number) else {

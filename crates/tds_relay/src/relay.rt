@@ -1,5 +1,5 @@
 //! The relay: who is there, and what whoever carries its bytes asks of it.
-ghost use Rattle.std.specs.Prelude.{◌≡◌, ◌-◌, ◌≤◌, [], ℕ, Bool, IfOk, IfSome, None, OnOk, Some, false, length};
+ghost use Rattle.std.specs.Prelude.{◌≡◌, ◌≢◌, ◌-◌, ◌≤◌, [], ℕ, Bool, IfOk, IfSome, None, OnOk, Some, false, length};
 ghost use Rattle.std.specs.Prelude.{IsSome, option_copied, true};
 ghost use Rattle.slab.specs.Slab.{get, slab_len};
 ghost use Rattle.tds_front.specs.Bytes.{new_front};
@@ -17,7 +17,7 @@ ghost use Rattle.tds_relay.specs.House.{Steps, new_house};
 ghost use Rattle.tds_relay.specs.Places.{HasNoTransaction, begun_in, holder};
 ghost use Rattle.tds_relay.specs.Posts.{Enters, posts_in};
 ghost use Rattle.tds_relay.specs.Reads.{link_at, open_at, waits_on};
-ghost use Rattle.tds_relay.specs.Reasons.{HasGoneOut};
+ghost use Rattle.tds_relay.specs.Reasons.{CannotMove, HasGoneOut, HasTransaction};
 ghost use Rattle.tds_relay.specs.Sparing.{OthersRest};
 ghost use Rattle.tds_relay.specs.Ties.{Cause, CausesRequest, Goes, Neither, desk_in};
 ghost use Rattle.tds_relay.specs.Told.{TellsTheSame, least_for, room_at, room_behind, room_there};
@@ -144,6 +144,9 @@ impl Relay {
             (posts_in self.old.applications) (posts_in self.new.applications)) }
         ensures steps { OnOk result (Steps Neither (house_in self.old) (house_in self.new)) }
         ensures links { self.new.links.items ≡ self.old.links.items }
+        ensures ends { IfOk result (λ key. (other : ℕ) → other ≢ key
+            → end_at (ends_in self.new.applications) other
+            ≡ end_at (ends_in self.old.applications) other) }
         ensures others { IfOk result (λ key. OthersRest key self.old self.new) }
         ensures nothing { IfOk result (λ key. (body_of key self.new ≡ Nowhere)
             × (begun_in (get self.new.applications key) ≡ 0)) }
@@ -291,6 +294,8 @@ impl Relay {
         ensures parts { result ≡ true → MayPart (hall_in self.now) key }
         ensures begun { result ≡ true
             → IfOpen IsBegun (end_at (ends_in self.now.applications) key) }
+        ensures not { result ≡ false → CannotMove key
+            (end_at (ends_in self.now.applications) key) (desk_in self.now.desk) }
     {
         let Some(application) = self.applications.get(key) else {
             return false;
@@ -303,7 +308,8 @@ impl Relay {
 
     /// Whether a transaction is open on the connection that an application holds.
     fn has_transaction(&self, key: usize) -> bool
-        ensures { result ≡ false → HasNoTransaction (desk_in self.now.desk) key }
+        ensures none { result ≡ false → HasNoTransaction (desk_in self.now.desk) key }
+        ensures some { result ≡ true → HasTransaction (desk_in self.now.desk) key }
     {
         match self.desk.hold_of(key) {
             Some(hold) => self.desk.is_open_on(hold.number) == Some(true),

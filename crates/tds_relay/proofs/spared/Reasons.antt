@@ -1,5 +1,5 @@
 -- Why an application is closed by what it says: piece by piece, and by a loan behind them.
-use Rattle.std.proofs.Common.{◌≡◌, ◌≢◌, ◌⊎◌, ◌<◌, ◌∙◌, ℕ, Bool, true, false, List, [], length, Option, Some, None, inl, inr, refl, sym, ap, subst, option_map, if◌then◌else◌}
+use Rattle.std.proofs.Common.{◌≡◌, ◌≢◌, ◌⊎◌, ◌<◌, ◌∙◌, ℕ, Bool, true, false, List, [], ◌++◌, length, Option, Some, None, inl, inr, refl, sym, ap, subst, option_map, if◌then◌else◌}
 use Rattle.std.proofs.lemmas.Bool.{cases_eq}
 use Rattle.std.specs.Prelude.{IfNone, IfSome, IsSome, Result, OnOk}
 use Rattle.slab.specs.Slab.{Slab, get}
@@ -31,7 +31,7 @@ use Rattle.tds_relay.specs.Hall.{End, IfOpen}
 use Rattle.tds_relay.specs.Posts.{Post, Posts, post_at, post_of, posts_in}
 use Rattle.tds_relay.specs.Reads.{waits_on}
 use Rattle.tds_relay.specs.Holding.{Held}
-use Rattle.tds_relay.specs.Reasons.{ByLoan, CannotAsk, CannotBegin, CannotForget, CannotGoOn, CannotPut, CannotStart, CannotUnask, ForReasonOrWaiting, HasNoRoom, IsAstray, IsOverfull, IsReason, IsUnbegun, IsUncancelled, IsUnheld, IsUnstopped, ItselfFor, MayClose, RefusesThere, StopsUnfit, room_left}
+use Rattle.tds_relay.specs.Reasons.{ByLoan, CannotAsk, CannotBegin, CannotForget, CannotGoOn, CannotPut, CannotStart, CannotUnask, ForReasonOrWaiting, HasNoRoom, IsAstray, IsOverfull, IsReadyThere, IsReason, IsTurnedAway, IsUnbegun, IsUncancelled, IsUnheld, IsUnstopped, ItselfFor, MayClose, RefusesThere, StopsUnfit, room_left}
 use Rattle.tds_relay.specs.Ties.{Application as ByApplication, Goes, desk_in}
 use Rattle.tds_relay.specs.Told.{room_to_keep}
 use Rattle.tds_relay.proofs.spared.Closings.{closes_more_on}
@@ -59,13 +59,16 @@ nothing_goes whole more key end room d links o a g is asks =
     subst (λ (x : Option Application). CannotGoOn whole more key end room d links (body_in x g)) is
     (subst (λ (x : Asking). CannotGoOn whole more key end room d links (if a.is_over then Closed else body_by x a.held.items g)) (sym asks) (nothing_by a.is_over whole more key end room d links))
 
-kept_by : (over whole : Bool) (more : List ℕ) (key : ℕ) (end : Option End) (room : ℕ) (d : desks.Desk) (links : List Link) (kind : MessageKind) (bytes : List ℕ) (was : Bool) → (room < length more) ⊎ (IsSome (find_key key d.holds.items) ⊎ IfOpen (IsUnbegun false) end)
+abbrev CannotGrow : Bool → List ℕ → ℕ → Option End → ℕ → desks.Desk → List Link → MessageKind → List ℕ → Type 0
+CannotGrow whole more key end room d links kind bytes = (room < length more) ⊎ (IfOpen (IsUnbegun false) end ⊎ IsTurnedAway key end d links (Kept kind (bytes ++ more) whole))
+
+kept_by : (over whole : Bool) (more : List ℕ) (key : ℕ) (end : Option End) (room : ℕ) (d : desks.Desk) (links : List Link) (kind : MessageKind) (bytes : List ℕ) (was : Bool) → CannotGrow whole more key end room d links kind bytes
     → CannotGoOn whole more key end room d links (if over then Closed else Kept kind bytes was)
 kept_by true whole more key end room d links kind bytes was why = tt
 kept_by false whole more key end room d links kind bytes was why = why
 
 kept_goes : (whole : Bool) (more : List ℕ) (key : ℕ) (end : Option End) (room : ℕ) (d : desks.Desk) (links : List Link) (o : Option Application) (a : Application) (g : Body) (kind : MessageKind) (was : Bool) → Some a ≡ o
-    → a.asking ≡ asking.Waits kind was → (room < length more) ⊎ (IsSome (find_key key d.holds.items) ⊎ IfOpen (IsUnbegun false) end) → CannotGoOn whole more key end room d links (body_in o g)
+    → a.asking ≡ asking.Waits kind was → CannotGrow whole more key end room d links kind a.held.items → CannotGoOn whole more key end room d links (body_in o g)
 kept_goes whole more key end room d links o a g kind was is asks why =
     subst (λ (x : Option Application). CannotGoOn whole more key end room d links (body_in x g)) is
     (subst (λ (x : Asking). CannotGoOn whole more key end room d links (if a.is_over then Closed else body_by x a.held.items g)) (sym asks) (kept_by a.is_over whole more key end room d links kind a.held.items was why))
@@ -75,15 +78,10 @@ pub too_long : (whole : Bool) (more : List ℕ) (key : ℕ) (end : Option End) (
     → a.asking ≡ asking.Waits kind was → room_to_keep a < length more → CannotGoOn whole more key end (room_left o) d links (body_in o g)
 too_long whole more key end d links o a g kind was is asks long = kept_goes whole more key end (room_left o) d links o a g kind was is asks (inl (subst (λ (x : Option Application). room_left x < length more) is long))
 
--- its application holds a connection
-pub held_goes : (whole : Bool) (more : List ℕ) (key : ℕ) (end : Option End) (room : ℕ) (d : desks.Desk) (links : List Link) (o : Option Application) (a : Application) (g : Body) (kind : MessageKind) (was : Bool) → Some a ≡ o
-    → a.asking ≡ asking.Waits kind was → IsSome (find_key key d.holds.items) → CannotGoOn whole more key end room d links (body_in o g)
-held_goes whole more key end room d links o a g kind was is asks held = kept_goes whole more key end room d links o a g kind was is asks (inr (inl held))
-
 -- none has begun
 pub unbegun_goes : (whole : Bool) (more : List ℕ) (key : ℕ) (end : Option End) (room : ℕ) (d : desks.Desk) (links : List Link) (o : Option Application) (a : Application) (g : Body) (kind : MessageKind) (was : Bool) → Some a ≡ o
     → a.asking ≡ asking.Waits kind was → IfOpen (IsUnbegun false) end → CannotGoOn whole more key end room d links (body_in o g)
-unbegun_goes whole more key end room d links o a g kind was is asks unbegun = kept_goes whole more key end room d links o a g kind was is asks (inr (inr unbegun))
+unbegun_goes whole more key end room d links o a g kind was is asks unbegun = kept_goes whole more key end room d links o a g kind was is asks (inr (inl unbegun))
 
 going_with : (whole : Bool) (more : List ℕ) (key : ℕ) (end : Option End) (room : ℕ) (d : desks.Desk) (links : List Link) (number : ℕ) (o : Option ClientSession) (w : Option (List ℕ)) → CannotPut whole more key end d links
     → CannotGoOn whole more key end room d links (going_by number o w)
@@ -122,12 +120,15 @@ no_request kind (Some Full) key end d links none = inl none
 
 -- ---- It isn't asked where it begins
 
-asks_by : (over : Bool) (key : ℕ) (end : Option End) (d : desks.Desk) (links : List Link) (message : MessageKind) → CannotStart key end d links (if over then Closed else Kept message [] false) → CannotAsk message [] false key end d links
+abbrev CannotAskNow : ℕ → Option End → desks.Desk → List Link → MessageKind → Type 0
+CannotAskNow key end d links message = IsUnheld key d ⊎ (IsReadyThere key end d links × CannotAsk message [] false key end d links)
+
+asks_by : (over : Bool) (key : ℕ) (end : Option End) (d : desks.Desk) (links : List Link) (message : MessageKind) → CannotStart key end d links (if over then Closed else Kept message [] false) → CannotAskNow key end d links message
 asks_by true key end d links message why = absurd why
 asks_by false key end d links message why = why
 
 pub begun_asks : (key : ℕ) (end : Option End) (d : desks.Desk) (links : List Link) (o : Option Application) (g : Body) (b : Application) (message : MessageKind) → o ≡ Some b → b.asking ≡ asking.Waits message false → b.held.items ≡ []
-    → CannotStart key end d links (body_in o g) → CannotAsk message [] false key end d links
+    → CannotStart key end d links (body_in o g) → CannotAskNow key end d links message
 begun_asks key end d links o g b message is asked held why =
     asks_by b.is_over key end d links message
     (subst (CannotStart key end d links)

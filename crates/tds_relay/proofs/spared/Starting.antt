@@ -35,7 +35,7 @@ unkept_by number (Some client) None = tt
 unkept_by number (Some client) (Some bytes) = tt
 
 -- what goes on isn't kept
-unkept_going : (s : services.Service) (ls : List Link) (o : Option Hold) → IsUnkept (going s ls o)
+pub unkept_going : (s : services.Service) (ls : List Link) (o : Option Hold) → IsUnkept (going s ls o)
 unkept_going s ls None = tt
 unkept_going s ls (Some h) = unkept_by h.number (client_of h.lease s) (waits_on h.number ls)
 

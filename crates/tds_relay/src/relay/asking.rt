@@ -14,7 +14,7 @@ ghost use Rattle.tds_relay.specs.House.{Steps};
 ghost use Rattle.tds_relay.specs.Posts.{names_in, posts_in};
 ghost use Rattle.tds_relay.specs.Reads.{Opens, Stays};
 ghost use Rattle.tds_relay.specs.Reasons.{CannotGoOnAt, ForReasonOrWaiting};
-ghost use Rattle.tds_relay.specs.Reasons.{GivesReason, HasReason, ItselfFor, MayCloseAt};
+ghost use Rattle.tds_relay.specs.Reasons.{GivesReason, HasReason, IsTurnedAwayAt, ItselfFor, MayCloseAt};
 ghost use Rattle.tds_relay.specs.Taking.{Tells, TellsOn};
 ghost use Rattle.tds_relay.specs.Ties.{Application, Goes, IsReached, desk_in};
 ghost use Rattle.tds_relay.specs.Waiting.{KeepsInLine, KeepsSaid};
@@ -195,8 +195,7 @@ impl Relay {
         ensures body { OnOk result (Starts (body_of key self.old) (body_of key self.new)) }
         ensures stays { find_key key (desk_in self.old.desk).holds ≡ None
             → OnOk result (body_of key self.new ≡ body_of key self.old) }
-        ensures closes { OnOk result (ClosesOnly (ItselfFor key
-            (IsSome (find_key key (desk_in self.old.desk).holds)))
+        ensures closes { OnOk result (ClosesOnly (ItselfFor key (IsTurnedAwayAt key self.old))
             (register_in self.old) (register_in self.new)) }
         ensures seated { IsSeated self.old → OnOk result (IsSeated self.new) }
         ensures others { IsReached (desk_in self.old.desk)

@@ -1,21 +1,22 @@
 //! Requests that begin: asked, or kept for a connection.
-ghost use Rattle.std.specs.Prelude.{◌≡◌, Bool, IfNone, None, IfSome, OnOk, Some};
+ghost use Rattle.std.specs.Prelude.{◌≡◌, ◌⊎◌, Bool, IfNone, None, IfSome, OnOk, Some};
 ghost use Rattle.std.specs.Prelude.{false, true};
 ghost use Rattle.slab.specs.Slab.{get};
-ghost use Rattle.tds_relay.specs.Asking.{IsUnderway, waits_of};
+ghost use Rattle.tds_relay.specs.Asking.{IsTakenBack, IsUnderway, waits_of};
 ghost use Rattle.tds_client.specs.Streams.{packets_are};
 ghost use Rattle.tds_packet.specs.declared.status.Reset.TheVariants.{KeepTransaction};
 ghost use Rattle.tds_relay.specs.Bodies.{Begins, Body, Starts};
 ghost use Rattle.tds_relay.specs.Bodies.{body_of};
-ghost use Rattle.tds_relay.specs.Closings.{ClosesOnly, IsNoRequest, Itself, register_in};
+ghost use Rattle.tds_relay.specs.Closings.{ClosesOnly, IsNoRequest, register_in};
 ghost use Rattle.tds_relay.specs.Few.{IsSeated};
 ghost use Rattle.tds_relay.specs.Fronts.{Moved, ends_in, hall_in};
 ghost use Rattle.tds_relay.specs.Hall.{AsksFor, AsksToPart, IfAsked, IfOpen, IsBegun, end_at};
 ghost use Rattle.tds_relay.specs.Ordering.{opens_in};
+ghost use Rattle.tds_relay.specs.Places.{HasNoTransaction};
 ghost use Rattle.tds_relay.specs.Posts.{posts_in};
 ghost use Rattle.tds_relay.specs.Reads.{Stays};
-ghost use Rattle.tds_relay.specs.Reasons.{CannotBegin, CannotPart};
-ghost use Rattle.tds_relay.specs.Reasons.{ItselfFor};
+ghost use Rattle.tds_relay.specs.Reasons.{CannotBegin, CannotPart, HasTransaction};
+ghost use Rattle.tds_relay.specs.Reasons.{IsUnrenewed, ItselfFor};
 ghost use Rattle.tds_relay.specs.Ties.{Application, Goes, IsReached, desk_in};
 ghost use Rattle.tds_relay.specs.Walkers.{AllStand};
 ghost use Rattle.tds_relay.specs.Sparing.{OthersRest};
@@ -86,8 +87,11 @@ impl Relay {
     /// acknowledged yet that its last request was taken back.
     #[tactic(auto, using(crate::proofs::steps::Underway::drains))]
     fn may_keep_later(&self, key: usize) -> bool
-        ensures { result ≡ true
+        ensures later { result ≡ true
             → IsUnderway false self.now.links.items key (hall_in self.now) }
+        ensures not { result ≡ false
+            → IsTakenBack (end_at (ends_in self.now.applications) key)
+            → HasNoTransaction (desk_in self.now.desk) key }
     {
         let Some(hold) = self.desk.hold_of(key) else {
             return false;
@@ -154,8 +158,11 @@ impl Relay {
             self.new.desk.service) }
         ensures body { (whole : Bool) → waits_of (get self.old.applications key) ≡ Some whole
             → OnOk result (Starts (body_of key self.old) (body_of key self.new)) }
-        ensures closes { OnOk result (ClosesOnly (Itself key)
-            (register_in self.old) (register_in self.new)) }
+        ensures closes { OnOk result (ClosesOnly (ItselfFor key (IsUnrenewed
+            (HasTransaction (desk_in self.old.desk) key
+            ⊎ CannotPart key (end_at (ends_in self.old.applications) key) self.old.desk) key
+            (end_at (ends_in self.old.applications) key) self.old.desk self.old.links.items
+            (body_of key self.old))) (register_in self.old) (register_in self.new)) }
         ensures others { IsReached (desk_in self.old.desk)
             → OnOk result (OthersRest key self.old self.new) }
         ensures seated { IsSeated self.old → OnOk result (IsSeated self.new) }

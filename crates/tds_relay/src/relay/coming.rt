@@ -14,7 +14,7 @@ ghost use Rattle.tds_relay.specs.Fronts.{house_with};
 ghost use Rattle.tds_relay.specs.Hall.{told};
 ghost use Rattle.tds_relay.specs.Handing.{Brings, HearsBy, IsKnown, KnowsOn, Passes, heard_key, news_for, fed};
 ghost use Rattle.tds_relay.specs.House.{Steps};
-ghost use Rattle.tds_relay.specs.Reasons.{Cleans, HeardFor, IsHeardAs, IsIdle, HearsNothing, LosesAt, post_on};
+ghost use Rattle.tds_relay.specs.Reasons.{Cleans, HeardFor, IsHeardAs, IsIdle, HearsNothing, LosesAt};
 ghost use Rattle.tds_relay.specs.Posts.{names_in, post_of, posts_in};
 ghost use Rattle.tds_packet.specs.Stream.{IsLess};
 ghost use Rattle.tds_relay.specs.Reads.{Comes, IsLessAt, OpensOthers, Stays, StreamsAll};
@@ -25,7 +25,7 @@ ghost use Rattle.tds_relay.specs.Ordering.{GrowsByOrders, OpensNew, StayOrdered,
 ghost use Rattle.tds_relay.specs.Sending.{sending_at};
 ghost use Rattle.tds_relay.specs.Sparing.{OffGo, OffHold};
 ghost use Rattle.tds_relay.specs.Ties.{Connection, Goes, IsReached, desk_in};
-ghost use Rattle.tds_relay.specs.Waiting.{IsNotAcknowledged};
+ghost use Rattle.tds_relay.specs.Waiting.{IsNotAcknowledged, KeepsPosts};
 ghost use Rattle.tds_relay.specs.Waking.{HandsTo, IsWoken, PutsFor, Wakes};
 ghost use Rattle.tds_relay.specs.Walkers.{AllStand, HasRead, ReadsBy};
 
@@ -153,8 +153,7 @@ impl Relay {
             ≡ sending_at other self.old.links.items)
             × (is_shut (seen_at other self.new.links.items)
             ≡ is_shut (seen_at other self.old.links.items))) }
-        ensures posts { OnOk result (post_on number self.new.links.items
-            ≡ post_on number self.old.links.items) }
+        ensures posts { OnOk result (KeepsPosts self.old.links.items self.new.links.items) }
         ensures cleans { IfOk result (λ heard. Cleans heard.1 [] self.new.outbox.items) }
         ensures refused { OnOk result (IsRefusedOn number self.old.refused self.new.refused) }
         ensures hears { IfOk result (λ heard.

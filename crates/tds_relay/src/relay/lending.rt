@@ -12,11 +12,12 @@ ghost use Rattle.tds_relay.specs.Fronts.{MovedOn, ends_in, hall_in, house_in};
 ghost use Rattle.tds_relay.specs.Hall.{IsReset, end_at, holder};
 ghost use Rattle.tds_relay.specs.House.{StepsOn};
 ghost use Rattle.tds_relay.specs.Lent.{AllLast, BeginsOn, IsMade, IsMadeOn, KeepsAnswers, LastBut, LastOrDeaf};
+ghost use Rattle.tds_relay.specs.Waiting.{OpensFor};
 ghost use Rattle.tds_relay.specs.Posts.{names_in, posts_in};
 ghost use Rattle.tds_relay.specs.Cutting.{at_its_beginning};
 ghost use Rattle.tds_relay.specs.Reads.{Opens, OpensOne, Stays, answer_at, named_seen, open_at, bytes_on, link_at, opened_at, opened_seen, seen_at, waits_on};
 ghost use Rattle.tds_relay.specs.Ordering.{GrowsByOrders, OpensNew, StayOrdered, opens_if, opens_in};
-ghost use Rattle.tds_relay.specs.Reasons.{CannotPut, CannotStartAt, HasNoRoom, ItselfFor};
+ghost use Rattle.tds_relay.specs.Reasons.{CannotPut, CannotStartAt, HasNoRoom, IsTurnedAwayAt, ItselfFor, post_on};
 ghost use Rattle.tds_relay.specs.Sending.{IsToWrite, called_at};
 ghost use Rattle.tds_relay.specs.Coming.{MayBeginAny};
 ghost use Rattle.tds_relay.specs.Sparing.{AllGo, AllRest, IsHeldBack, IsUnkept, OthersRest, StartsOn, StartsThere};
@@ -83,8 +84,7 @@ impl Relay {
         ensures ordered { OnOk result (StayOrdered self.old.orders.items self.new.orders.items) }
         ensures writes { OnOk result (IsToWrite (called_at number self.new.links.items)
             self.new.orders.items) }
-        ensures closes { OnOk result (ClosesOnly
-            (WhoOrWaiting (holder (desk_in self.old.desk) number) (desk_in self.old.desk).line)
+        ensures closes { OnOk result (ClosesOnly (OpensFor number self.old)
             (register_in self.old) (register_in self.new)) }
         ensures seated { IsSeated self.old → OnOk result (IsSeated self.new) }
         ensures lasts { OnOk result (LastBut
@@ -113,6 +113,9 @@ impl Relay {
             ≡ opened_seen number other self.old.links.items }
         ensures waits { (other : ℕ) → waits_on other self.new.links.items
             ≡ waits_on other self.old.links.items }
+        ensures posts { (other : ℕ) → post_on other self.new.links.items
+            ≡ post_on other self.old.links.items }
+        ensures asks { AskAsBefore self.old.applications self.new.applications }
         ensures same { AllRest self.old self.new }
         ensures orders { self.new.orders.items ≡ self.old.orders.items }
         ensures many { length self.new.links.items ≡ length self.old.links.items }
@@ -139,8 +142,9 @@ impl Relay {
             → key_of (find_number number (desk_in self.old.desk).holds) ≡ Some key
             → StartsThere key self.old self.new) }
         ensures ordered { OnOk result (StayOrdered self.old.orders.items self.new.orders.items) }
-        ensures closes { OnOk result (ClosesOnly (IsWho (holder (desk_in self.old.desk) number))
-            (register_in self.old) (register_in self.new)) }
+        ensures closes { OnOk result (ClosesOnly
+            (λ other. IsWho (holder (desk_in self.old.desk) number) other
+            × IsTurnedAwayAt other self.old) (register_in self.old) (register_in self.new)) }
         ensures seated { IsSeated self.old → OnOk result (IsSeated self.new) }
         ensures lasts { OnOk result (LastBut (IsWho (holder (desk_in self.old.desk) number))
             (register_in self.old) (register_in self.new)) }
@@ -223,7 +227,8 @@ impl Relay {
             → link_at served.hold.number self.old.links.items ≡ None
             → OnOk result (IsMadeOn self.old.size self.old.features served.hold.number
             self.new.links.items) }
-        ensures closes { OnOk result (ClosesOnly (Itself served.hold.key)
+        ensures closes { OnOk result (ClosesOnly
+            (ItselfFor served.hold.key (IsTurnedAwayAt served.hold.key self.old))
             (register_in self.old) (register_in self.new)) }
         ensures lasts { OnOk result (LastBut (Itself served.hold.key)
             (register_in self.old) (register_in self.new)) }
@@ -260,6 +265,8 @@ impl Relay {
         ensures any { MayBeginAny self.old.links.items self.new.links.items }
         ensures waits { (other : ℕ) → waits_on other self.new.links.items
             ≡ waits_on other self.old.links.items }
+        ensures posts { (other : ℕ) → post_on other self.new.links.items
+            ≡ post_on other self.old.links.items }
         ensures rests { AllRest self.old self.new }
         ensures orders { self.new.orders.items ≡ self.old.orders.items }
         ensures closes { ClosesOnly Nobody (register_in self.old) (register_in self.new) }

@@ -1,15 +1,17 @@
 //! What an application that took its request back asks next, once the server has acknowledged that.
-ghost use Rattle.std.specs.Prelude.{◌≡◌, ℕ, true, None, OnOk, Some};
+ghost use Rattle.std.specs.Prelude.{◌≡◌, ℕ, false, true, None, OnOk, Some};
 ghost use Rattle.tds_packet.specs.declared.status.Reset.TheVariants.{KeepTransaction};
 ghost use Rattle.tds_relay.specs.Apart.{SparesOthers};
-ghost use Rattle.tds_relay.specs.Closings.{Anybody, ClosesOnly, register_in};
+ghost use Rattle.tds_relay.specs.Bodies.{body_of};
+ghost use Rattle.tds_relay.specs.Closings.{ClosesOnly, IsWho, register_in};
 ghost use Rattle.tds_relay.specs.Coming.{AllAlong, MayBeginAny};
 ghost use Rattle.tds_relay.specs.Fronts.{Moved, ends_in, hall_in};
 ghost use Rattle.tds_relay.specs.Hall.{AsksFor, IfOpen, IfWhose, IsBegun, MayPart, end_at, holder};
 ghost use Rattle.tds_relay.specs.Ordering.{StayOrdered, opens_in};
 ghost use Rattle.tds_relay.specs.Posts.{posts_in};
 ghost use Rattle.tds_relay.specs.Reads.{Stays};
-ghost use Rattle.tds_relay.specs.Sparing.{OffGo};
+ghost use Rattle.tds_relay.specs.Reasons.{CannotMove, ResumesNotAt};
+ghost use Rattle.tds_relay.specs.Sparing.{IsKept, OffGo};
 ghost use Rattle.tds_relay.specs.Ties.{Connection, Goes, IsReached, desk_in};
 ghost use Rattle.tds_relay.specs.Waiting.{Resumes, StandsInLine};
 ghost use Rattle.tds_relay.specs.Walkers.{AllStand};
@@ -38,7 +40,7 @@ impl Relay {
         ensures begins { OnOk result (MayBeginAny self.old.links.items self.new.links.items) }
         ensures spares { IsReached (desk_in self.old.desk) → OnOk result (SparesOthers number
             (Some key) (hall_in self.old) (hall_in self.new)) }
-        ensures closes { OnOk result (ClosesOnly Anybody
+        ensures closes { OnOk result (ClosesOnly (ResumesNotAt number key self.old)
             (register_in self.old) (register_in self.new)) }
         ensures seated { IsSeated self.old → OnOk result (IsSeated self.new) }
         ensures opening { opens_in self.new.orders.items ≡ opens_in self.old.orders.items }
@@ -53,8 +55,10 @@ impl Relay {
 
     /// Whether an application's request asks for a reset that keeps its transaction.
     pub(super) fn asks_to_keep(&self, key: usize) -> bool
-        ensures { result ≡ true → AsksFor KeepTransaction
+        ensures asks { result ≡ true → AsksFor KeepTransaction
             (end_at (ends_in self.now.applications) key) }
+        ensures not { result ≡ false → IsKept (body_of key self.now)
+            → ¬ AsksFor KeepTransaction (end_at (ends_in self.now.applications) key) }
     {
         match self.applications.get(key) {
             Some(application) => application.asks_to_keep(),
@@ -81,7 +85,8 @@ impl Relay {
         ensures begins { OnOk result (MayBeginAny self.old.links.items self.new.links.items) }
         ensures spares { IsReached (desk_in self.old.desk) → OnOk result (SparesOthers number
             (Some key) (hall_in self.old) (hall_in self.new)) }
-        ensures closes { OnOk result (ClosesOnly Anybody
+        ensures closes { AsksFor KeepTransaction (end_at (ends_in self.old.applications) key)
+            → OnOk result (ClosesOnly (ResumesNotAt number key self.old)
             (register_in self.old) (register_in self.new)) }
         ensures seated { IsSeated self.old → OnOk result (IsSeated self.new) }
         ensures opening { opens_in self.new.orders.items ≡ opens_in self.old.orders.items }
@@ -118,7 +123,9 @@ impl Relay {
         ensures begins { OnOk result (MayBeginAny self.old.links.items self.new.links.items) }
         ensures spares { IsReached (desk_in self.old.desk) → OnOk result (SparesOthers number
             None (hall_in self.old) (hall_in self.new)) }
-        ensures closes { OnOk result (ClosesOnly Anybody
+        ensures closes { OnOk result (ClosesOnly
+            (λ other. IsWho (holder (desk_in self.old.desk) number) other × CannotMove other
+            (end_at (ends_in self.old.applications) other) (desk_in self.old.desk))
             (register_in self.old) (register_in self.new)) }
         ensures seated { IsSeated self.old → OnOk result (IsSeated self.new) }
         ensures opening { opens_in self.new.orders.items ≡ opens_in self.old.orders.items }
@@ -143,6 +150,9 @@ impl Relay {
         ensures begun { result ≡ true → IfWhose
             (λ key. IfOpen IsBegun (end_at (ends_in self.now.applications) key))
             (holder (desk_in self.now.desk) number) }
+        ensures not { result ≡ false → (key : ℕ)
+            → holder (desk_in self.now.desk) number ≡ Some key → CannotMove key
+            (end_at (ends_in self.now.applications) key) (desk_in self.now.desk) }
     {
         match self.desk.key_on(number) {
             Some(key) => self.may_part(key),

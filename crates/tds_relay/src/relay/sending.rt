@@ -136,6 +136,7 @@ impl Relay {
         ensures no_room { IfOk result (λ fits. fits ≡ false
             → HasNoRoom number self.old.outbox.items self.old.links.items) }
         ensures some { IfOk result (λ fits. fits ≡ false → self.old.outbox.items ≢ []) }
+        ensures idle { self.old.outbox.items ≡ [] → OnOk result (self.new ≡ self.old) }
         ensures others { OnOk result ((other : ℕ) → other ≢ number
             → waits_on other self.new.links.items ≡ waits_on other self.old.links.items) }
         ensures ordered { OnOk result (StayOrdered self.old.orders.items self.new.orders.items) }
@@ -186,6 +187,7 @@ impl Relay {
             × (self.old.outbox.items ≢ []))
             (register_in self.old) (register_in self.new)) }
         ensures seated { IsSeated self.old → OnOk result (IsSeated self.new) }
+        ensures idle { self.old.outbox.items ≡ [] → OnOk result (self.new ≡ self.old) }
         ensures gone { IsSeatedBut number false self.old
             → OnOk result (IsSeatedBut number false self.new) }
         ensures opening { opens_in self.new.orders.items ≡ opens_in self.old.orders.items }

@@ -13,7 +13,8 @@ ghost use Rattle.tds_relay.specs.Hall.{IfOpen, IfOpenAsks, IsBegun, IsReset, end
 ghost use Rattle.tds_relay.specs.Ordering.{StayOrdered, opens_in};
 ghost use Rattle.tds_relay.specs.Posts.{posts_in};
 ghost use Rattle.tds_relay.specs.Reads.{Stays, open_at, waits_on};
-ghost use Rattle.tds_relay.specs.Sparing.{IsHeldBack, IsUnkept, OthersRest, StartsThere};
+ghost use Rattle.tds_relay.specs.Reasons.{IsReadyThere, IsTurnedAwayAt, IsUnbegun, ItselfFor};
+ghost use Rattle.tds_relay.specs.Sparing.{IsHeldBack, IsKept, IsUnkept, OthersRest, StartsThere};
 ghost use Rattle.tds_relay.specs.Ties.{GoesOn, IsReached, desk_in};
 ghost use Rattle.tds_relay.specs.Waiting.{GoesOrWaits};
 ghost use Rattle.tds_relay.specs.Walkers.{AllStand};
@@ -49,7 +50,7 @@ impl Relay {
         ensures placed { OnOk result (GoesOrWaits key self.new) }
         ensures behind { OnOk result (StartsThere key self.old self.new) }
         ensures answers { OnOk result (KeepsAnswers self.old.links.items self.new.links.items) }
-        ensures closes { OnOk result (ClosesOnly (Itself key)
+        ensures closes { OnOk result (ClosesOnly (ItselfFor key (IsTurnedAwayAt key self.old))
             (register_in self.old) (register_in self.new)) }
         ensures lasts { OnOk result (LastBut (Itself key)
             (register_in self.old) (register_in self.new)) }
@@ -83,6 +84,10 @@ impl Relay {
             → IsUnderway whole self.now.links.items key (hall_in self.now) }
         ensures named { result ≡ false
             → (tag : ℕ) × (open_name key (register_in self.now) ≡ Some tag) }
+        ensures waits { result ≡ false → IsKept (body_of key self.now) }
+        ensures ready { find_key key (desk_in self.now.desk).holds ≡ Some hold → result ≡ false
+            → IsReadyThere key (end_at (ends_in self.now.applications) key) self.now.desk
+            self.now.links.items }
     {
         let Some(application) = self.applications.get(key) else {
             return true;
@@ -106,6 +111,10 @@ impl Relay {
             → IsReset (desk_in self.now.desk) key (end_at (ends_in self.now.applications) key) }
         ensures begun { result ≡ true
             → IfOpen IsBegun (end_at (ends_in self.now.applications) key) }
+        ensures not { result ≡ false
+            → IfOpen (IsUnbegun false) (end_at (ends_in self.now.applications) key)
+            ⊎ IfOpenAsks (λ asks. ¬ ResetsFor asks (Some hold) (desk_in self.now.desk))
+            (end_at (ends_in self.now.applications) key) }
     {
         if !self.may_put(key, false) {
             return false;

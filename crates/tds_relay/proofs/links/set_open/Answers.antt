@@ -4,6 +4,7 @@ use Rattle.tds_relay.specs.Linking.{Linked}
 use Rattle.tds_relay.specs.Posts.{post_in}
 use Rattle.tds_relay.specs.Reads.{place_of}
 use Rattle.tds_relay.proofs.spared.Waits.{waits_same}
+use Rattle.tds_relay.proofs.spared.Turned.{posts_same}
 use Rattle.tds_relay.proofs.steps.Placed.{opened_nowhere, opened_written}
 use Rattle.tds_relay.proofs.steps.Placed.{is_nowhere}
 use Rattle.tds_relay.proofs.steps.Renaming.{seen_written, unseen_written}
@@ -44,3 +45,8 @@ invariant_of-links c =
 
 pub returns-clause-many : goal.returns-clause-many
 returns-clause-many c = rw (← c.links.view_is) (length-set c.links.inside.list.items c.in-Some.place _)
+
+pub returns-clause-posts : goal.returns-clause-posts
+returns-clause-posts c = rw (← c.links.view_is) (
+    posts_same c.links.inside.list.items c.in-Some.place c.index_mut-link.result.now _
+    (ap (λ (l : Link). l.number) c.index_mut-link.ensures.value) (ap (λ (l : Link). post_in l.out) c.index_mut-link.ensures.value))

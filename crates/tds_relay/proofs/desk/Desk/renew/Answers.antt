@@ -82,3 +82,6 @@ pub returns-clause-is : goal.returns-clause-is
 returns-clause-is c =
     let its : find_key c.args.key c.args.self.now.holds.items ≡ Some c.in-Some.hold = search rules in
     (c.in-Some.hold, its, eqb-true c.in-Some.hold.key c.args.key (found_key c.args.key c.in-Some.hold c.args.self.now.holds.items its), search rules)
+
+pub returns-in_default-resume-clause-lost : goal.returns-in_default-resume-clause-lost
+returns-in_default-resume-clause-lost c = (c.in-Some.hold, search rules, search rules)

@@ -13,7 +13,7 @@ use Rattle.tds_relay.proofs.steps.Bodied.{none_closed, same_starts, shut_starts}
 use Rattle.tds_relay.proofs.steps.Going.{begun}
 use Rattle.tds_relay.proofs.steps.Underway.{waits_written, written_there}
 use Rattle.tds_relay.proofs.steps.Posting.{posts_kept}
-use Rattle.std.proofs.Common.{inr}
+use Rattle.std.proofs.Common.{◌⊎◌, inr}
 use Rattle.std.specs.Prelude.{IsSome}
 use Rattle.tds_relay.specs.Closings.{IsNoRequest}
 use Rattle.tds_relay.specs.Desk.{find_key}
@@ -25,7 +25,11 @@ use Rattle.tds_relay.proofs.spared.Shutting.{closes_kept, unclosed}
 use Rattle.tds_relay.proofs.spared.Speaking.{written_waited}
 use Rattle.tds_relay.proofs.spared.Resting.{others_on, others_refl, written_rest}
 use Rattle.tds_relay.proofs.spared.Reasons.{begun_asks}
-use Rattle.tds_relay.specs.Reasons.{CannotAsk}
+use Rattle.tds_relay.specs.Asking.{IsTakenBack}
+use Rattle.tds_relay.specs.Bodies.{Kept}
+use Rattle.tds_relay.specs.Places.{HasNoTransaction}
+use Rattle.tds_relay.specs.Reasons.{CannotAsk, HasTransaction, IsReadyThere, IsUnrenewed}
+use Rattle.tds_relay.proofs.spared.Turned.{as_refl, begun_kept, held_asks, renewed_as}
 use Rattle.std.proofs.Common.{[]}
 use Rattle.tds_relay.specs.Hall.{IfOpen, IsBegun}
 use Rattle.tds_relay.proofs.relay.Relay.begin.Goals as goal
@@ -120,9 +124,25 @@ returns-then-may_keep_later-clause-closes c = (closes_kept _ _ _ (ends_kept c.ar
 pub returns-else-may_keep_later-clause-closes : goal.returns-else-may_keep_later-clause-closes
 returns-else-may_keep_later-clause-closes c =
     let keeps : c.args.reset ≡ Some KeepTransaction = search rules in
-    let held : IsSome (find_key c.args.key (desk_in c.args.self.now.desk).holds) = search rules in
-    closes_on c.renew.result (ItselfFor c.args.key (CannotBegin c.args.kind c.args.reset c.args.key (end_at (ends_in c.args.self.now.applications) c.args.key) c.args.self.now.desk c.args.self.now.links.items)) _ _ _ (for_reason c.renew.result c.args.key _ _ _ (subst (λ (r : Option Reset). CannotBegin c.args.kind r c.args.key (end_at (ends_in c.args.self.now.applications) c.args.key) c.args.self.now.desk c.args.self.now.links.items) (sym keeps) (inr held)) c.renew.ensures.closes)
-    (closes_kept _ _ _ (ends_kept c.args.self.now.applications c.args.key c.in-Some.application.now c.forget.new.self c.in-Some.ensures.value c.forget.ensures.end) (posts_kept c.args.self.now.applications c.args.key c.in-Some.application.now c.forget.new.self c.in-Some.ensures.value c.forget.ensures.post) refl (kept_refl c.args.self.now.links.items) (unclosed _ _ refl))
+    let r = c.args.self.now in
+    let key = c.args.key in
+    let s = r.applications in
+    let a = c.in-Some.application.now in
+    let b = c.forget.new.self in
+    let d = r.desk in
+    let same = ends_kept s key a b c.in-Some.ensures.value c.forget.ensures.end in
+    closes_on c.renew.result (ItselfFor key (CannotBegin c.args.kind c.args.reset key (end_at (ends_in s) key) d r.links.items)) _ _ _
+    (for_that c.renew.result key _ _ _ _
+    (λ why. subst (λ (o : Option Reset). CannotBegin c.args.kind o key (end_at (ends_in s) key) d r.links.items) (sym keeps)
+    (inr (
+      subst (λ (es : Ends). IsTakenBack (end_at es key) → HasNoTransaction (desk_in d) key) same (c.may_keep_later.ensures.not (search rules)),
+      c.in-Some-message_kind.kind,
+      search rules,
+      subst (λ (es : Ends). IsUnrenewed (HasTransaction (desk_in d) key ⊎ CannotPart key (end_at es key) d) key (end_at es key) d r.links.items (Kept c.in-Some-message_kind.kind [] false)) same
+          (renewed_as _ key _ d r.links.items r.links.items _ (Kept c.in-Some-message_kind.kind [] false) (as_refl r.links.items)
+          (begun_kept (get (with_value s key b) key) b c.in-Some-message_kind.kind _ (written_there s key a b c.in-Some.ensures.value) c.forget.ensures.asking c.forget.ensures.body.1) why),
+    ))) c.renew.ensures.closes)
+    (closes_kept _ _ _ same (posts_kept s key a b c.in-Some.ensures.value c.forget.ensures.post) refl (kept_refl r.links.items) (unclosed _ _ refl))
 
 pub returns-in-true-Some-Full-clause-closes : goal.returns-in-true-Some-Full-clause-closes
 returns-in-true-Some-Full-clause-closes c =
@@ -163,10 +183,18 @@ returns-in-true-None-clause-closes c =
     closes_on c.start.result (ItselfFor c.args.key (CannotBegin c.args.kind c.args.reset c.args.key (end_at (ends_in c.args.self.now.applications) c.args.key) c.args.self.now.desk c.args.self.now.links.items)) _ _ _
     (for_that c.start.result c.args.key _ _ _ _
     (λ why. subst (λ (r : Option Reset). CannotBegin c.args.kind r c.args.key (end_at (ends_in c.args.self.now.applications) c.args.key) c.args.self.now.desk c.args.self.now.links.items) (sym none)
-    (inr (
-      c.in-Some-message_kind.kind,
-      search rules,
-      subst (λ (es : Ends). CannotAsk c.in-Some-message_kind.kind [] false c.args.key (end_at es c.args.key) c.args.self.now.desk c.args.self.now.links.items) same
-          (begun_asks c.args.key _ c.args.self.now.desk c.args.self.now.links.items (get (with_value s c.args.key b) c.args.key) _ b c.in-Some-message_kind.kind (written_there s c.args.key a b c.in-Some.ensures.value) c.forget.ensures.asking c.forget.ensures.body.1 why),
-    ))) c.start.ensures.closes)
+    (let m = c.in-Some-message_kind.kind in
+    let key = c.args.key in
+    let d = c.args.self.now.desk in
+    let links = c.args.self.now.links.items in
+    let end = end_at (ends_in (with_value s key b)) key in
+    let held : IsSome (find_key key (desk_in d).holds) = search rules in
+    let asked : IsReadyThere key (end_at (ends_in s) key) d links × CannotAsk m [] false key (end_at (ends_in s) key) d links =
+    subst (λ (es : Ends). IsReadyThere key (end_at es key) d links × CannotAsk m [] false key (end_at es key) d links) same
+    (held_asks key end d links (IsReadyThere key end d links × CannotAsk m [] false key end d links) held
+    (begun_asks key end d links (get (with_value s key b) key) _ b m (written_there s key a b c.in-Some.ensures.value) c.forget.ensures.asking c.forget.ensures.body.1 why)) in
+    inr (asked.0, c.in-Some-message_kind.kind, search rules, asked.1))) c.start.ensures.closes)
     (closes_kept _ _ _ same (posts_kept s c.args.key a b c.in-Some.ensures.value c.forget.ensures.post) refl (kept_refl c.args.self.now.links.items) (unclosed _ _ refl))
+
+pub returns-then-may_keep_later-clause-underway : goal.returns-then-may_keep_later-clause-underway
+returns-then-may_keep_later-clause-underway c = c.may_keep_later.ensures.later (search rules)

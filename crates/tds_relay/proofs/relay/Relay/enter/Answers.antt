@@ -18,3 +18,7 @@ returns-clause-steps c =
     (ends_entered old.applications c.insert.new.self old.size c.in-Ok.key c.new-application.result c.in-Ok.ensures.was_vacant c.in-Ok.ensures.updates c.new-application.ensures.end)
     (enters_is old.applications c.insert.new.self old.size c.args.tag c.in-Ok.key c.new-application.result c.in-Ok.ensures.was_vacant c.in-Ok.ensures.updates c.new-application.ensures.post)
     (no_steps Neither (house_in old))
+
+pub returns-clause-ends : goal.returns-clause-ends
+returns-clause-ends c =
+    (ends_entered c.args.self.now.applications c.insert.new.self c.args.self.now.size c.in-Ok.key c.new-application.result c.in-Ok.ensures.was_vacant c.in-Ok.ensures.updates c.new-application.ensures.end).others_stay

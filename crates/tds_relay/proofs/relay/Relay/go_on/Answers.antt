@@ -3,7 +3,8 @@ use Rattle.tds_relay.specs.declared.application.Asking.TheVariants as asking
 use Rattle.tds_relay.specs.Fronts.{ends_in}
 use Rattle.tds_relay.specs.Hall.{Ends, change_end, closes, end_at}
 use Rattle.tds_relay.specs.Reasons.{CannotGoOn, CannotPut, ItselfFor, room_left}
-use Rattle.tds_relay.proofs.spared.Reasons.{for_reason, for_that, held_goes, nothing_goes, put_goes, too_long}
+use Rattle.tds_relay.proofs.spared.Turned.{turned_goes}
+use Rattle.tds_relay.proofs.spared.Reasons.{for_reason, for_that, nothing_goes, put_goes, too_long}
 use Rattle.tds_relay.specs.Ties.{Application}
 use Rattle.tds_relay.proofs.steps.Fronts.{ends_kept, moves_closes}
 use Rattle.tds_relay.proofs.steps.Reaching.{ok_if, ok_more}
@@ -127,11 +128,19 @@ returns-then-not-branch-clause-closes c = for_reason c.expel-then-not-branch.res
 pub returns-else-not-branch-clause-closes : goal.returns-else-not-branch-clause-closes
 returns-else-not-branch-clause-closes c =
     let whole = c.args.whole in
+    let key = c.args.key in
     let a = c.in-Some.application.now in
+    let b = c.keep.new.self in
     let s = c.args.self.now.applications in
-    closes_on c.seek.result (ItselfFor c.args.key (CannotGoOn whole c.args.bytes.now c.args.key (end_at (ends_in s) c.args.key) (room_left (get s c.args.key)) c.args.self.now.desk c.args.self.now.links.items (body_of c.args.key c.args.self.now))) _ _ _
-    (for_that c.seek.result c.args.key _ _ _ _ (held_goes whole c.args.bytes.now c.args.key _ _ c.args.self.now.desk c.args.self.now.links.items (get s c.args.key) a (going_of c.args.key c.args.self.now) c.in-Waits.kind _ c.in-Some.ensures.value c.in-Waits.is) c.seek.ensures.closes)
-    (closes_kept _ _ _ (ends_kept c.args.self.now.applications c.args.key c.in-Some.application.now _ c.in-Some.ensures.value c.keep.ensures.end) (posts_kept c.args.self.now.applications c.args.key c.in-Some.application.now _ c.in-Some.ensures.value c.keep.ensures.post) refl (kept_refl c.args.self.now.links.items) (unclosed _ _ refl))
+    let r = c.args.self.now in
+    let same = ends_kept s key a b c.in-Some.ensures.value c.keep.ensures.end in
+    let kept = c.in_ok-keep-in-Waits.ensures.body (search rules) in
+    closes_on c.seek.result (ItselfFor key (CannotGoOn whole c.args.bytes.now key (end_at (ends_in s) key) (room_left (get s key)) r.desk r.links.items (body_of key r))) _ _ _
+    (for_that c.seek.result key _ _ _ _
+    (λ why. subst (λ (es : Ends). CannotGoOn whole c.args.bytes.now key (end_at es key) (room_left (get s key)) r.desk r.links.items (body_of key r)) same
+    (turned_goes whole _ c.args.bytes.now key _ _ r.desk r.links.items (get s key) (get (with_value s key b) key) a b (going_of key r) _ c.in-Waits.kind c.in-Some.ensures.value (written_there s key a b c.in-Some.ensures.value) c.in-Waits.is kept.0 kept.1
+    (c.in_ok-keep-in-Waits.ensures.asks (search rules)) why)) c.seek.ensures.closes)
+    (closes_kept _ _ _ same (posts_kept s key a b c.in-Some.ensures.value c.keep.ensures.post) refl (kept_refl r.links.items) (unclosed _ _ refl))
 
 pub returns-in-Goes-clause-closes : goal.returns-in-Goes-clause-closes
 returns-in-Goes-clause-closes c =

@@ -21,10 +21,13 @@ use Rattle.tds_relay.proofs.indexed.Placing.{placed_written}
 use Rattle.std.proofs.Common.{◌≡◌, List, slice_index_or, subst, ℕ}
 use Rattle.std.specs.Prelude.{IfOk}
 use Rattle.tds_relay.specs.Reasons.{Cleans}
-use Rattle.tds_relay.proofs.spared.Losing.{heard_as, posts_written}
+use Rattle.tds_relay.proofs.spared.Losing.{heard_as}
 use Rattle.tds_relay.proofs.seats.Relays.{behind_on}
 use Rattle.tds_relay.proofs.seats.Linked.{heard_there, seated_as}
 use Rattle.std.proofs.Common.{length-set}
+use Rattle.tds_relay.specs.Posts.{post_in}
+use Rattle.tds_relay.specs.declared.outgoing.Outgoing.{Outgoing}
+use Rattle.tds_relay.proofs.spared.Turned.{as_refl, keeps_written}
 use Rattle.tds_relay.proofs.relay.Relay.hear.Goals as goal
 
 pub returns-in_default-clause-continues : goal.returns-in_default-clause-continues
@@ -140,20 +143,19 @@ returns-clause-cleans c =
     subst (λ (xs : List ℕ). IfOk c.hear_on.result (λ heard. Cleans heard.1 xs c.hear_on.new.outbox.items)) (search rules) c.hear_on.ensures.cleans
 
 pub returns-in_default-clause-posts : goal.returns-in_default-clause-posts
-returns-in_default-clause-posts c = refl
+returns-in_default-clause-posts c = as_refl c.args.self.now.links.items
 
 pub returns-then-not-link-clause-posts : goal.returns-then-not-link-clause-posts
 returns-then-not-link-clause-posts c = rw (← c.links.view_is) (
-    posts_written c.args.number c.links.inside.list.items c.in-Some.place c.index_mut-link.result.now _
-    (ap (λ (v : Linked). place_of c.args.number v.items) c.links.view_is ∙ sym c.place_in.ensures.is ∙ c.in-Some.is)
-    (ap (λ (l : Link). l.number) c.index_mut-link.ensures.value) (ap (λ (l : Link). l.out) c.index_mut-link.ensures.value))
+    keeps_written c.links.inside.list.items c.in-Some.place c.index_mut-link.result.now _
+    (ap (λ (l : Link). l.number) c.index_mut-link.ensures.value) (ap (λ (l : Link). post_in l.out) c.index_mut-link.ensures.value) (ap (λ (l : Link). l.is_open) c.index_mut-link.ensures.value))
 
 pub returns-clause-posts : goal.returns-clause-posts
 returns-clause-posts c = rw (← c.links.view_is) (
-    ok_if c.hear_on.result _ (posts_written c.args.number c.links.inside.list.items c.in-Some.place c.index_mut-link.result.now _
-    (ap (λ (v : Linked). place_of c.args.number v.items) c.links.view_is ∙ sym c.place_in.ensures.is ∙ c.in-Some.is)
+    ok_if c.hear_on.result _ (keeps_written c.links.inside.list.items c.in-Some.place c.index_mut-link.result.now _
     (c.hear_on.ensures.number ∙ ap (λ (l : Link). l.number) c.index_mut-link.ensures.value)
-    (c.hear_on.ensures.out ∙ ap (λ (l : Link). l.out) c.index_mut-link.ensures.value)))
+    (ap (λ (o : Outgoing). post_in o) c.hear_on.ensures.out ∙ ap (λ (l : Link). post_in l.out) c.index_mut-link.ensures.value)
+    (c.hear_on.ensures.is_open ∙ ap (λ (l : Link). l.is_open) c.index_mut-link.ensures.value)))
 
 pub returns-clause-hears : goal.returns-clause-hears
 returns-clause-hears c =

@@ -65,7 +65,7 @@ taking-preserved c = record {
   closes =
       one_closes (LosesAt c.args.number c.in_ok-count.heard c.hear.new.self) (HeardFor c.args.number c.args.piece.now c.args.self.now) (register_in c.args.self.now) (register_in c.taking.self) (register_in c.hear.new.self) (register_in c.heard.new.self)
       (λ key why. ByPacket c.taking.self c.taking.rest.now c.taking.invariant.anew
-      (loses_by c.args.number c.taking.rest.now _ c.taking.self c.hear.new.self _ key c.in_ok-count.ensures.hears c.in_ok-count.ensures.ends c.in_ok-count.ensures.cleans c.in_ok-count.ensures.posts why))
+      (loses_by c.args.number c.taking.rest.now _ c.taking.self c.hear.new.self _ key c.in_ok-count.ensures.hears refl c.in_ok-count.ensures.ends c.in_ok-count.ensures.cleans c.in_ok-count.ensures.posts c.in_ok-count.ensures.asks why))
       c.taking.invariant.closes c.in_ok-count.ensures.ends c.in_ok-count.ensures.names c.in_ok-count.ensures.same c.hear.ensures.orders c.hear.ensures.settings c.in_ok-heard.ensures.closes c.in_ok-heard.ensures.kept;
   spares = λ reached.
       one_spares c.args.number c.taking.rest.now _ (hall_in c.args.self.now) c.taking.self c.hear.new.self c.heard.new.self _ (reached_on (Connection c.args.number) _ _ c.taking.invariant.goes reached) (c.taking.invariant.spares reached)

@@ -11,7 +11,7 @@ use Rattle.tds_relay.specs.declared.desk.Desk as desks
 use Rattle.tds_relay.proofs.spared.Resting.{put_reached}
 use Rattle.tds_relay.proofs.spared.Waking.{hands_as, hands_nobody, not_closed, not_nobody, woken_mine}
 use Rattle.tds_relay.specs.Closings.{Anybody}
-use Rattle.tds_relay.specs.Reasons.{LosesAt}
+use Rattle.tds_relay.specs.Reasons.{LosesAt, ResumesNotAt}
 use Rattle.tds_relay.specs.Posts.{posts_in}
 use Rattle.tds_relay.proofs.spared.Closings.{closes_behind, closes_more_on, closes_with}
 use Rattle.tds_relay.proofs.spared.Losing.{nothing_loses, resumes_loses, sent_closes, write_loses}
@@ -227,7 +227,7 @@ pub returns-else-resumes-clause-closes : goal.returns-else-resumes-clause-closes
 returns-else-resumes-clause-closes c = closes_with c.order_write-else-resumes.result _ (LosesAt c.args.number c.args.heard c.args.self.now) _ _ _ (write_loses c.args.number c.args.heard c.in-Some.heard c.in-Acknowledged-Some.key c.args.self.now (posts_in c.send_on.new.self.applications) c.in-Some.is (search rules) (c.in_ok-send_on.ensures.kept ∙ c.in_ok-resumes.ensures.kept)) c.order_write-else-resumes.ensures.closes (sent_closes c.args.number c.args.heard c.in-Some.heard c.args.self.now c.tell.new.self c.send_on.new.self c.in-Some.is c.tell.ensures.outbox c.in_ok-resumes.ensures.links c.in_ok-resumes.ensures.closes c.in_ok-send_on.ensures.closes)
 
 pub returns-then-resumes-clause-closes : goal.returns-then-resumes-clause-closes
-returns-then-resumes-clause-closes c = closes_with c.resume.result Anybody (LosesAt c.args.number c.args.heard c.args.self.now) _ _ _ (λ other any. resumes_loses c.args.number c.args.heard c.in-Some.heard c.args.self.now c.in-Some.is (search rules) (c.in_ok-resumes.ensures.resumes (search rules)) other) c.resume.ensures.closes (sent_closes c.args.number c.args.heard c.in-Some.heard c.args.self.now c.tell.new.self c.send_on.new.self c.in-Some.is c.tell.ensures.outbox c.in_ok-resumes.ensures.links c.in_ok-resumes.ensures.closes c.in_ok-send_on.ensures.closes)
+returns-then-resumes-clause-closes c = closes_with c.resume.result (ResumesNotAt c.args.number c.in-Acknowledged-Some.key c.send_on.new.self) (LosesAt c.args.number c.args.heard c.args.self.now) _ _ _ (resumes_loses c.args.number c.args.heard c.in-Some.heard c.in-Acknowledged-Some.key c.args.self.now c.tell.new.self c.send_on.new.self c.in-Some.is (search rules) (c.in_ok-resumes.ensures.resumes (search rules)) (search rules) c.tell.ensures.desk c.in_ok-resumes.ensures.links c.tell.ensures.outbox c.in_ok-resumes.ensures.ends c.in_ok-resumes.ensures.asks c.in_ok-send_on.ensures.idle) c.resume.ensures.closes (sent_closes c.args.number c.args.heard c.in-Some.heard c.args.self.now c.tell.new.self c.send_on.new.self c.in-Some.is c.tell.ensures.outbox c.in_ok-resumes.ensures.links c.in_ok-resumes.ensures.closes c.in_ok-send_on.ensures.closes)
 
 pub returns-in-Closed-Some-clause-closes : goal.returns-in-Closed-Some-clause-closes
 returns-in-Closed-Some-clause-closes c = closes_behind c.close_link.result (LosesAt c.args.number c.args.heard c.args.self.now) _ _ _ c.close_link.ensures.closes (sent_closes c.args.number c.args.heard c.in-Some.heard c.args.self.now c.tell.new.self c.send_on.new.self c.in-Some.is c.tell.ensures.outbox c.in_ok-resumes.ensures.links c.in_ok-resumes.ensures.closes c.in_ok-send_on.ensures.closes)

@@ -6,6 +6,7 @@ use Rattle.tds_relay.specs.Ties.{desk_in}
 use Rattle.tds_relay.proofs.steps.Underway.{drains}
 use Rattle.tds_relay.proofs.spared.Starting.{taken_back, unkept_none, unkept_over, unkept_there}
 use Rattle.tds_relay.proofs.spared.Ended.{its_name}
+use Rattle.tds_relay.proofs.spared.Turned.{kept_there, none_by, ready_there}
 use Rattle.tds_relay.proofs.relay.Relay.is_held_back.Goals as goal
 
 pub returns-in_default-clause-held : goal.returns-in_default-clause-held
@@ -15,11 +16,11 @@ pub returns-then-application-clause-held : goal.returns-then-application-clause-
 returns-then-application-clause-held c = λ its e. inl (unkept_over c.args.self.now.applications c.args.key c.in-Some.application.now _ c.in-Some.ensures (search rules))
 
 pub returns-then-not-waits-clause-held : goal.returns-then-not-waits-clause-held
-returns-then-not-waits-clause-held c = λ its e. inl (unkept_there c.args.key c.args.self.now c.in-Some.application.now c.in-Some.ensures (c.waits.ensures (search rules)))
+returns-then-not-waits-clause-held c = λ its e. inl (unkept_there c.args.key c.args.self.now c.in-Some.application.now c.in-Some.ensures (none_by _ (sym c.waits.ensures ∙ search rules)))
 
 pub returns-then-not-waits-clause-underway : goal.returns-then-not-waits-clause-underway
 returns-then-not-waits-clause-underway c = λ its e whole waits.
-    let none : None ≡ Some whole = sym (c.waits.ensures (search rules)) ∙ ap waits_of c.in-Some.ensures ∙ waits in
+    let none : None ≡ Some whole = sym (none_by _ (sym c.waits.ensures ∙ search rules)) ∙ ap waits_of c.in-Some.ensures ∙ waits in
     absurd (let u : ⊥ = cc in u)
 
 pub returns-then-application-2-clause-held : goal.returns-then-application-2-clause-held
@@ -49,3 +50,34 @@ returns-then-application-2-clause-named c = λ e. absurd (let u : ⊥ = cc in u)
 
 pub returns-clause-named : goal.returns-clause-named
 returns-clause-named c = λ e. (c.in-Some.application.now.tag, its_name c.args.self.now c.args.key c.in-Some.application.now c.in-Some.ensures c.if-application.false)
+
+pub returns-in_default-clause-waits : goal.returns-in_default-clause-waits
+returns-in_default-clause-waits c = λ e. absurd (let u : ⊥ = cc in u)
+
+pub returns-in_default-clause-ready : goal.returns-in_default-clause-ready
+returns-in_default-clause-ready c = λ its e. absurd (let u : ⊥ = cc in u)
+
+pub returns-then-application-clause-waits : goal.returns-then-application-clause-waits
+returns-then-application-clause-waits c = λ e. absurd (let u : ⊥ = cc in u)
+
+pub returns-then-application-clause-ready : goal.returns-then-application-clause-ready
+returns-then-application-clause-ready c = λ its e. absurd (let u : ⊥ = cc in u)
+
+pub returns-then-not-waits-clause-waits : goal.returns-then-not-waits-clause-waits
+returns-then-not-waits-clause-waits c = λ e. absurd (let u : ⊥ = cc in u)
+
+pub returns-then-not-waits-clause-ready : goal.returns-then-not-waits-clause-ready
+returns-then-not-waits-clause-ready c = λ its e. absurd (let u : ⊥ = cc in u)
+
+pub returns-then-application-2-clause-waits : goal.returns-then-application-2-clause-waits
+returns-then-application-2-clause-waits c = λ e. absurd (let u : ⊥ = cc in u)
+
+pub returns-then-application-2-clause-ready : goal.returns-then-application-2-clause-ready
+returns-then-application-2-clause-ready c = λ its e. absurd (let u : ⊥ = cc in u)
+
+pub returns-clause-waits : goal.returns-clause-waits
+returns-clause-waits c = λ e. kept_there c.args.key c.args.self.now c.in-Some.application.now c.in-Some.ensures c.if-application.false (sym c.waits.ensures ∙ search rules)
+
+pub returns-clause-ready : goal.returns-clause-ready
+returns-clause-ready c = λ its e.
+    ready_there c.args.key c.args.self.now.applications c.args.self.now.desk c.args.self.now.links.items c.in-Some.application.now c.args.hold c.in-Some.ensures c.if-application.false (search rules) its (c.is_open.ensures.open (search rules))

@@ -9,8 +9,16 @@ use Rattle.tds_relay.proofs.spared.Coming.{alike_along, along_on, asks_along_on,
 use Rattle.tds_relay.proofs.spared.Ordered.{ordered_on, ordered_same}
 use Rattle.tds_relay.specs.Ties.{IsReached}
 use Rattle.tds_relay.proofs.steps.Reaching.{reached_on}
-use Rattle.tds_relay.specs.Closings.{Nobody}
-use Rattle.tds_relay.proofs.spared.Closings.{anybody, anybody_on, anybody_then}
+use Rattle.tds_relay.specs.Closings.{IsWho}
+use Rattle.tds_relay.proofs.spared.Closings.{closes_first, closes_more_on}
+use Rattle.std.proofs.lemmas.Bool.{cases_eq}
+use Rattle.std.proofs.Common.{◌≡◌}
+use Rattle.slab.specs.Slab.{Slab, get}
+use Rattle.tds_relay.specs.declared.application.Application as an
+use Rattle.tds_relay.specs.Bodies.{body_in}
+use Rattle.tds_relay.specs.Desk.{Desk}
+use Rattle.tds_relay.specs.Reasons.{IsTurnedAwayAt, ItselfFor, ResumesNotAt, Unlent, Unserved}
+use Rattle.tds_relay.proofs.spared.Turned.{as_seen, resumes_for, stays_for, turned_with}
 use Rattle.tds_relay.proofs.spared.Only.{spares_alone_on, spares_both, spares_changed, spares_none, spares_on, spares_renewed}
 use Rattle.tds_relay.specs.Fronts.{ends_in, hall_in, hall_of_ends}
 use Rattle.tds_relay.specs.Hall.{closes}
@@ -23,7 +31,7 @@ use Rattle.tds_relay.proofs.spared.Resting.{all_others, others_both, others_on}
 use Rattle.tds_relay.proofs.spared.Speaking.{closed_rest, done_as}
 use Rattle.tds_relay.proofs.steps.Reaching.{reached_turn}
 use Rattle.tds_relay.specs.declared.desk.leaving.Renewed.{Renewed}
-use Rattle.tds_relay.specs.Sparing.{IsRenewed}
+use Rattle.tds_relay.specs.Sparing.{IsLostBy, IsRenewed}
 use Rattle.tds_relay.proofs.relay.Relay.keep.Goals as goal
 
 pub returns-in-Kept-clause-goes : goal.returns-in-Kept-clause-goes
@@ -84,10 +92,31 @@ pub returns-in-Kept-clause-ordered : goal.returns-in-Kept-clause-ordered
 returns-in-Kept-clause-ordered c = ordered_on c.start_kept.result _ _ _ c.start_kept.ensures.ordered (ordered_same _ _ c.restart.ensures.orders)
 
 pub returns-in-Kept-clause-closes : goal.returns-in-Kept-clause-closes
-returns-in-Kept-clause-closes c = anybody_on c.start_kept.result _ _ _ _ c.start_kept.ensures.closes (anybody Nobody _ _ c.restart.ensures.closes)
+returns-in-Kept-clause-closes c = λ asks.
+    let old = c.args.self.now in
+    let key = c.args.key in
+    let at = c.restart.new.self in
+    closes_first c.start_kept.result (ResumesNotAt c.args.number key old) _ _ _
+    (closes_more_on c.start_kept.result (ItselfFor key (IsTurnedAwayAt key at)) (ResumesNotAt c.args.number key old) _ _
+    (λ other e. resumes_for c.args.number key other old e.0 asks (Unserved c.in_ok-hold.ensures.turns.0 c.renew.new.self c.in_ok-hold.ensures.turns.1.desk_is
+    (turned_with key at old c.renew.new.self old.links.items c.restart.ensures.desk (ap ends_in c.restart.ensures.same) (λ k goes. ap (λ (s : Slab an.Application). body_in (get s k) goes) c.restart.ensures.same)
+    (as_seen old.links.items at.links.items c.restart.ensures.posts c.restart.ensures.read.seen) e.1))) c.start_kept.ensures.closes) c.restart.ensures.closes
+
+pub returns-in-NotKept-clause-closes : goal.returns-in-NotKept-clause-closes
+returns-in-NotKept-clause-closes c = λ asks.
+    let old = c.args.self.now in
+    let key = c.args.key in
+    let is = subst (λ (r : Renewed). IsRenewed r key old.desk c.renew.new.self) c.in-NotKept.is c.in_ok-hold.ensures.is in
+    closes_more_on c.replace.result _ (ResumesNotAt c.args.number key old) _ _
+    (λ other e. stays_for c.args.number key other old (desk_in c.renew.new.self) asks is c.in_ok-hold.ensures.turns.0 (sym c.in_ok-hold.ensures.turns.1.desk_is ∙ is) (cases_eq other key) e) c.replace.ensures.closes
 
 pub returns-in-Closed-clause-closes : goal.returns-in-Closed-clause-closes
-returns-in-Closed-clause-closes c = anybody_then c.close.result _ _ _ c.close.ensures.closes
+returns-in-Closed-clause-closes c = λ asks.
+    let old = c.args.self.now in
+    let key = c.args.key in
+    let lost = subst (λ (r : Renewed). IsLostBy r key old.desk c.renew.new.self) c.in-Closed.is c.in_ok-hold.ensures.lost in
+    closes_more_on c.close.result (IsWho (Some key)) (ResumesNotAt c.args.number key old) _ _
+    (λ other e. resumes_for c.args.number key other old (let u : Some key ≡ Some other = e in cc) asks (Unlent c.in_ok-hold.ensures.turns.0 lost.0 lost.1 (ap (λ (d : Desk). d.holds) (sym c.in_ok-hold.ensures.turns.1.desk_is) ∙ lost.2))) c.close.ensures.closes
 
 pub returns-in-Kept-clause-spares : goal.returns-in-Kept-clause-spares
 returns-in-Kept-clause-spares c = λ reached.

@@ -30,6 +30,9 @@ use Rattle.tds_relay.specs.Lent.{IsWithHolder}
 use Rattle.tds_relay.proofs.spared.Opening.{grows_both, grows_few, grows_on, grows_stays}
 use Rattle.std.proofs.Common.{◌≡◌, ◌≤◌, length, arith}
 use Rattle.tds_relay.specs.declared.link.Link.{Link}
+use Rattle.tds_relay.specs.Waiting.{OpensFor}
+use Rattle.tds_relay.specs.Reasons.{IsTurnedAwayAt, post_on}
+use Rattle.tds_relay.proofs.spared.Turned.{opens_for}
 use Rattle.tds_relay.proofs.relay.Relay.opened.Goals as goal
 
 pub returns-clause-steps : goal.returns-clause-steps
@@ -88,12 +91,22 @@ returns-clause-ordered c = ordered_on c.serve_line.result _ _ _ c.serve_line.ens
     (ordered_both _ _ _ (ordered_both _ _ _ (ordered_same _ _ c.set_open.ensures.orders) c.in_ok-order_write_on.ensures.ordered) c.in_ok-start_on.ensures.ordered)
 
 pub returns-clause-closes : goal.returns-clause-closes
-returns-clause-closes c = let same = c.order_write_on.ensures.desk ∙ c.set_open.ensures.desk in
+returns-clause-closes c =
+    let old = c.args.self.now in
+    let at = c.order_write_on.new.self in
+    let may = OpensFor c.args.number old in
+    let same = c.order_write_on.ensures.desk ∙ c.set_open.ensures.desk in
     let first = closes_both Nobody _ _ _ c.set_open.ensures.closes c.in_ok-order_write_on.ensures.closes in
-    closes_with c.serve_line.result (IsWaiting (desk_in c.start_on.new.self.desk).line) (WhoOrWaiting (holder (desk_in c.args.self.now.desk) c.args.number) (desk_in c.args.self.now.desk).line) _ _ _
-    (λ key e. inr (ap (λ (d : code.Desk). is_in key (desk_in d).line) (sym same) ∙ waited_on (desk_in c.order_write_on.new.self.desk) (desk_in c.start_on.new.self.desk) c.in_ok-start_on.ensures.goes key e)) c.serve_line.ensures.closes
-    (closes_both (WhoOrWaiting (holder (desk_in c.args.self.now.desk) c.args.number) (desk_in c.args.self.now.desk).line) _ _ _ (closes_nobody (WhoOrWaiting (holder (desk_in c.args.self.now.desk) c.args.number) (desk_in c.args.self.now.desk).line) _ _ first)
-    (closes_more (IsWho (holder (desk_in c.order_write_on.new.self.desk) c.args.number)) (WhoOrWaiting (holder (desk_in c.args.self.now.desk) c.args.number) (desk_in c.args.self.now.desk).line) _ _ (λ key e. inl (ap (λ (d : code.Desk). holder (desk_in d) c.args.number) (sym same) ∙ e)) c.in_ok-start_on.ensures.closes))
+    closes_with c.serve_line.result (IsWaiting (desk_in c.start_on.new.self.desk).line) may _ _ _
+    (λ key e. inr (ap (λ (d : code.Desk). is_in key (desk_in d).line) (sym same) ∙ waited_on (desk_in at.desk) (desk_in c.start_on.new.self.desk) c.in_ok-start_on.ensures.goes key e)) c.serve_line.ensures.closes
+    (closes_both may _ _ _ (closes_nobody may _ _ first)
+    (closes_more (λ other. IsWho (holder (desk_in at.desk) c.args.number) other × IsTurnedAwayAt other at) may _ _
+    (λ key e. opens_for c.args.number key old at same (c.in_ok-order_write_on.ensures.ends ∙ c.set_open.ensures.ends)
+    (λ k goes. c.in_ok-order_write_on.ensures.asks k goes ∙ c.set_open.ensures.asks k goes)
+    (record {
+      opens = λ other. ap (open_at other) c.in_ok-order_write_on.ensures.links ∙ c.set_open.ensures.opens other;
+      posts = λ other. ap (post_on other) c.in_ok-order_write_on.ensures.links ∙ c.set_open.ensures.posts other;
+    }) e) c.in_ok-start_on.ensures.closes))
 
 pub returns-clause-few : goal.returns-clause-few
 returns-clause-few c = few_behind c.serve_line.result _ _ _ _ _ (most_kept _ _ (c.in_ok-start_on.ensures.closes.told ∙ c.in_ok-order_write_on.ensures.closes.told ∙ c.set_open.ensures.closes.told)) (none_both _ _ _ (none_same _ _ c.set_open.ensures.waits) (none_stays _ _ (stays_behind _ _ _ c.in_ok-order_write_on.ensures.links c.in_ok-start_on.ensures.read))) c.serve_line.ensures.few
@@ -101,7 +114,7 @@ returns-clause-few c = few_behind c.serve_line.result _ _ _ _ _ (most_kept _ _ (
 pub returns-clause-writes : goal.returns-clause-writes
 returns-clause-writes c =
     writes_stay c.serve_line.result (IsWaiting (desk_in c.start_on.new.self.desk).line) c.args.number (register_in c.start_on.new.self) (register_in c.serve_line.new.self) c.serve_line.ensures.closes
-    (writes_behind (IsWho (holder (desk_in c.order_write_on.new.self.desk) c.args.number)) c.args.number (register_in c.order_write_on.new.self) (register_in c.start_on.new.self) c.in_ok-start_on.ensures.closes c.in_ok-order_write_on.ensures.writes)
+    (writes_behind _ c.args.number (register_in c.order_write_on.new.self) (register_in c.start_on.new.self) c.in_ok-start_on.ensures.closes c.in_ok-order_write_on.ensures.writes)
 
 pub returns-clause-seated : goal.returns-clause-seated
 returns-clause-seated c = λ s.
@@ -119,7 +132,7 @@ returns-clause-lasts c =
     let may = WhoOrWaiting (holder (desk_in c.args.self.now.desk) c.args.number) (desk_in c.args.self.now.desk).line in
     let first = closes_both Nobody _ _ _ c.set_open.ensures.closes c.in_ok-order_write_on.ensures.closes in
     last_then c.serve_line.result may (IsWaiting (desk_in c.start_on.new.self.desk).line) (register_in c.args.self.now) (register_in c.start_on.new.self) (register_in c.serve_line.new.self)
-    (closes_both may _ _ _ (closes_nobody may _ _ first) (closes_more (IsWho (holder (desk_in c.order_write_on.new.self.desk) c.args.number)) may _ _ (λ key e. inl (ap (λ (d : code.Desk). holder (desk_in d) c.args.number) (sym same) ∙ e)) c.in_ok-start_on.ensures.closes))
+    (closes_both may _ _ _ (closes_nobody may _ _ first) (closes_more _ may _ _ (λ key e. inl (ap (λ (d : code.Desk). holder (desk_in d) c.args.number) (sym same) ∙ e.0)) c.in_ok-start_on.ensures.closes))
     (last_from may (IsWho (holder (desk_in c.order_write_on.new.self.desk) c.args.number)) Nobody (register_in c.args.self.now) (register_in c.order_write_on.new.self) (register_in c.start_on.new.self) first
     (last_all c.args.self.now.links.items c.set_open.new.self.links.items c.order_write_on.new.self.links.items (last_same c.args.self.now.links.items c.set_open.new.self.links.items c.set_open.ensures.waits) (last_links c.set_open.new.self.links.items c.order_write_on.new.self.links.items c.in_ok-order_write_on.ensures.links))
     (λ key e. inl (ap (λ (d : code.Desk). holder (desk_in d) c.args.number) (sym same) ∙ e)) c.in_ok-start_on.ensures.lasts)

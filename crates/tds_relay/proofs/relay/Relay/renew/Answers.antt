@@ -1,18 +1,22 @@
-use Rattle.std.proofs.Common.{ap, inr, refl, rules, subst, sym, ◌≡◌, Some}
+use Rattle.std.proofs.Common.{ap, inl, inr, refl, rules, subst, sym, ◌≡◌, ◌∙◌, Some}
 use Rattle.tds_relay.specs.declared.desk.Desk as code
 use Rattle.tds_relay.proofs.steps.Fronts.{moves_closes, moves_does, moves_same}
 use Rattle.tds_relay.proofs.steps.Reaching.{ok_if, ok_more, reaches_turn}
 use Rattle.tds_relay.proofs.steps.Staying.{stays_on}
 use Rattle.tds_relay.proofs.bytes.Calls.{stand_at, stand_on}
 use Rattle.tds_relay.specs.Asking.{Closes}
-use Rattle.tds_relay.specs.Bodies.{body_of, going_of}
+use Rattle.tds_relay.specs.Bodies.{body_in, body_of, going_of}
 use Rattle.slab.specs.Slab.{Slab, get}
 use Rattle.tds_relay.specs.declared.application.Application as an
 use Rattle.tds_relay.proofs.steps.Bodied.{closed_body, closed_starts, shut_starts}
 use Rattle.tds_relay.proofs.steps.Going.{waits_from}
-use Rattle.tds_relay.specs.Closings.{IsWho, Itself}
+use Rattle.tds_relay.specs.Closings.{IsWho}
+use Rattle.tds_relay.specs.Desk.{Desk}
+use Rattle.tds_relay.specs.Fronts.{ends_in}
+use Rattle.tds_relay.specs.Reasons.{HasTransaction, IsTurnedAwayAt, Unkept, Unlent, Unserved}
+use Rattle.tds_relay.proofs.spared.Turned.{as_seen, part_at, turned_with}
 use Rattle.tds_relay.proofs.spared.Closings.{closes_first, closes_more_on}
-use Rattle.tds_relay.proofs.spared.Reasons.{for_any}
+use Rattle.tds_relay.proofs.spared.Reasons.{for_reason, for_that}
 use Rattle.tds_relay.proofs.seats.Relays.{closed_end, desk_lasting, renewed_on, renewed_out, renews_keep}
 use Rattle.tds_relay.specs.declared.desk.leaving.Renewed.TheVariants as renewals
 use Rattle.tds_relay.specs.Ties.{Application, IsReached, Reaches, desk_in}
@@ -21,7 +25,7 @@ use Rattle.tds_relay.proofs.spared.Resting.{all_others, others_both, others_on}
 use Rattle.tds_relay.proofs.steps.Reaching.{reached_turn}
 use Rattle.tds_relay.proofs.spared.Speaking.{closed_rest}
 use Rattle.tds_relay.specs.declared.desk.leaving.Renewed.{Renewed}
-use Rattle.tds_relay.specs.Sparing.{IsRenewed}
+use Rattle.tds_relay.specs.Sparing.{IsLostBy, IsRenewed}
 use Rattle.tds_relay.proofs.relay.Relay.renew.Goals as goal
 
 pub returns-in-Kept-clause-goes : goal.returns-in-Kept-clause-goes
@@ -44,7 +48,7 @@ returns-in-Kept-clause-moves c =
     c.start_kept.ensures.moves
 
 pub returns-else-has_transaction-clause-moves : goal.returns-else-has_transaction-clause-moves
-returns-else-has_transaction-clause-moves c = ok_more c.change.result _ _ (λ m asks begun from h. m (inr (asks, c.has_transaction.ensures (search rules))) begun from (moves_does (Application c.args.key) from _ _ _ _ _ _ _ c.in_ok-hold.ensures.turns.1 asks refl refl h)) c.change.ensures.moves
+returns-else-has_transaction-clause-moves c = ok_more c.change.result _ _ (λ m asks begun from h. m (inr (asks, c.has_transaction.ensures.none (search rules))) begun from (moves_does (Application c.args.key) from _ _ _ _ _ _ _ c.in_ok-hold.ensures.turns.1 asks refl refl h)) c.change.ensures.moves
 
 pub returns-in-Closed-clause-moves : goal.returns-in-Closed-clause-moves
 returns-in-Closed-clause-moves c =
@@ -96,13 +100,35 @@ pub returns-then-has_transaction-clause-body : goal.returns-then-has_transaction
 returns-then-has_transaction-clause-body c = λ whole waits. ok_more c.expel.result _ _ (λ d. shut_starts c.expel.new.self.applications c.args.key (body_of c.args.key c.args.self.now) (going_of c.args.key c.expel.new.self) d) c.expel.ensures.over
 
 pub returns-in-Kept-clause-closes : goal.returns-in-Kept-clause-closes
-returns-in-Kept-clause-closes c = closes_first c.start_kept.result (Itself c.args.key) _ _ _ c.start_kept.ensures.closes c.restart.ensures.closes
+returns-in-Kept-clause-closes c =
+    let old = c.args.self.now in
+    let key = c.args.key in
+    let at = c.restart.new.self in
+    closes_first c.start_kept.result _ _ _ _
+    (for_that c.start_kept.result key (IsTurnedAwayAt key at) _ _ _
+    (λ why. Unserved c.in_ok-hold.ensures.turns.0 c.renew.new.self c.in_ok-hold.ensures.turns.1.desk_is
+    (turned_with key at old c.renew.new.self old.links.items c.restart.ensures.desk (ap ends_in c.restart.ensures.same) (λ k goes. ap (λ (s : Slab an.Application). body_in (get s k) goes) c.restart.ensures.same)
+    (as_seen old.links.items at.links.items c.restart.ensures.posts c.restart.ensures.read.seen) why)) c.start_kept.ensures.closes) c.restart.ensures.closes
 
 pub returns-in-Closed-clause-closes : goal.returns-in-Closed-clause-closes
-returns-in-Closed-clause-closes c = closes_more_on c.close.result (IsWho (Some c.args.key)) (Itself c.args.key) _ _ (λ key e. (let u : Some c.args.key ≡ Some key = e in cc)) c.close.ensures.closes
+returns-in-Closed-clause-closes c =
+    let key = c.args.key in
+    let lost = subst (λ (r : Renewed). IsLostBy r key c.args.self.now.desk c.renew.new.self) c.in-Closed.is c.in_ok-hold.ensures.lost in
+    closes_more_on c.close.result (IsWho (Some key)) _ _ _
+    (λ other e. ((let u : Some key ≡ Some other = e in cc), Unlent c.in_ok-hold.ensures.turns.0 lost.0 lost.1 (ap (λ (d : Desk). d.holds) (sym c.in_ok-hold.ensures.turns.1.desk_is) ∙ lost.2))) c.close.ensures.closes
+
+pub returns-then-has_transaction-clause-closes : goal.returns-then-has_transaction-clause-closes
+returns-then-has_transaction-clause-closes c =
+    let key = c.args.key in
+    let is = subst (λ (r : Renewed). IsRenewed r key c.args.self.now.desk c.renew.new.self) c.in-NotKept.is c.in_ok-hold.ensures.is in
+    for_reason c.expel.result key _ _ _ (Unkept c.in_ok-hold.ensures.turns.0 (sym c.in_ok-hold.ensures.turns.1.desk_is ∙ is) (inl (subst (λ (d : Desk). HasTransaction d key) is (c.has_transaction.ensures.some (search rules))))) c.expel.ensures.closes
 
 pub returns-else-has_transaction-clause-closes : goal.returns-else-has_transaction-clause-closes
-returns-else-has_transaction-clause-closes c = for_any c.change.result c.args.key _ _ _ c.change.ensures.closes
+returns-else-has_transaction-clause-closes c =
+    let key = c.args.key in
+    let is = subst (λ (r : Renewed). IsRenewed r key c.args.self.now.desk c.renew.new.self) c.in-NotKept.is c.in_ok-hold.ensures.is in
+    for_that c.change.result key _ _ _ _
+    (λ why. Unkept c.in_ok-hold.ensures.turns.0 (sym c.in_ok-hold.ensures.turns.1.desk_is ∙ is) (inr (part_at key _ c.renew.new.self c.args.self.now.desk is why))) c.change.ensures.closes
 
 pub returns-in-Kept-clause-seated : goal.returns-in-Kept-clause-seated
 returns-in-Kept-clause-seated c = λ s.

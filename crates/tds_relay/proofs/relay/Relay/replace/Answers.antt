@@ -9,8 +9,9 @@ use Rattle.tds_relay.proofs.steps.Staying.{stays_then}
 use Rattle.tds_relay.proofs.bytes.Calls.{stand_at, stand_on}
 use Rattle.tds_relay.proofs.spared.Coming.{along_both, body_along, rest_along, same_along, same_along_on}
 use Rattle.tds_relay.proofs.spared.Ordered.{ordered_both, ordered_same}
-use Rattle.tds_relay.specs.Closings.{Nobody}
-use Rattle.tds_relay.proofs.spared.Closings.{anybody, anybody_then, closes_both}
+use Rattle.tds_relay.specs.Closings.{IsWho, Nobody}
+use Rattle.tds_relay.proofs.spared.Closings.{closes_both, closes_more_on, closes_nobody}
+use Rattle.tds_relay.specs.Reasons.{CannotMove}
 use Rattle.tds_relay.specs.Waiting.{StandsInLine}
 use Rattle.tds_relay.specs.Waiting as waiting
 use Rattle.tds_relay.proofs.spared.Cleaned.{not_both}
@@ -85,13 +86,16 @@ pub returns-clause-ordered : goal.returns-clause-ordered
 returns-clause-ordered c = ok_if c.wait.result _ (ordered_both _ _ _ (ordered_both _ _ _ (ordered_same _ _ c.let_go.ensures.orders) c.in_ok-close_link.ensures.ordered) (ordered_same _ _ c.wait.ensures.orders))
 
 pub returns-then-not-may_replace-clause-closes : goal.returns-then-not-may_replace-clause-closes
-returns-then-not-may_replace-clause-closes c = anybody_then c.lose.result _ _ _ c.lose.ensures.closes
+returns-then-not-may_replace-clause-closes c =
+    let r = c.args.self.now in
+    closes_more_on c.lose.result (IsWho (holder (desk_in r.desk) c.args.number)) (λ other. IsWho (holder (desk_in r.desk) c.args.number) other × CannotMove other (end_at (ends_in r.applications) other) (desk_in r.desk)) _ _
+    (λ other e. (e, c.may_replace.ensures.not (search rules) other e)) c.lose.ensures.closes
 
 pub returns-in_default-clause-closes : goal.returns-in_default-clause-closes
-returns-in_default-clause-closes c = anybody_then c.close_link.result _ _ _ c.close_link.ensures.closes
+returns-in_default-clause-closes c = closes_more_on c.close_link.result Nobody _ _ _ (λ key none. absurd none) c.close_link.ensures.closes
 
 pub returns-clause-closes : goal.returns-clause-closes
-returns-clause-closes c = ok_if c.wait.result _ (anybody Nobody _ _ (closes_both Nobody _ _ _ (closes_both Nobody _ _ _ c.let_go.ensures.closes c.in_ok-close_link.ensures.closes) c.wait.ensures.closes))
+returns-clause-closes c = ok_if c.wait.result _ (closes_nobody _ _ _ (closes_both Nobody _ _ _ (closes_both Nobody _ _ _ c.let_go.ensures.closes c.in_ok-close_link.ensures.closes) c.wait.ensures.closes))
 
 pub returns-then-not-may_replace-clause-lines : goal.returns-then-not-may_replace-clause-lines
 returns-then-not-may_replace-clause-lines c = ok_more c.lose.result _ _ (λ e key its. waiting.Closes (lost_deaf key _ _ _ e its)) c.lose.ensures.ends

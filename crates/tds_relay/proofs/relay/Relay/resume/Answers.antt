@@ -1,7 +1,10 @@
-use Rattle.std.proofs.Common.{inl, inr, rules}
+use Rattle.std.proofs.Common.{ℕ, Some, ap, inl, inr, rules, subst, sym}
 use Rattle.tds_relay.proofs.steps.Reaching.{ok_if, ok_more}
 use Rattle.tds_relay.proofs.spared.Coming.{start_along}
-use Rattle.tds_relay.proofs.spared.Closings.{anybody_then}
+use Rattle.tds_relay.proofs.spared.Closings.{closes_more_on}
+use Rattle.tds_relay.proofs.spared.Turned.{turned_kept}
+use Rattle.tds_relay.specs.Bodies.{body_of}
+use Rattle.tds_relay.specs.Reasons.{CannotResumeAt, IsTurnedAwayAt, ItselfFor, ResumesNotAt}
 use Rattle.tds_relay.proofs.spared.Only.{spares_alone_on}
 use Rattle.tds_relay.specs.Fronts.{hall_in}
 use Rattle.tds_relay.proofs.bytes.SetAnew.{any_kept, any_refl}
@@ -9,17 +12,28 @@ use Rattle.tds_relay.proofs.spared.Off.{others_off_on}
 use Rattle.tds_relay.proofs.relay.Relay.resume.Goals as goal
 
 pub returns-then-asks_to_keep-clause-moves : goal.returns-then-asks_to_keep-clause-moves
-returns-then-asks_to_keep-clause-moves c = ok_more c.keep.result _ _ (λ m. m (c.asks_to_keep.ensures (search rules))) c.keep.ensures.moves
+returns-then-asks_to_keep-clause-moves c = ok_more c.keep.result _ _ (λ m. m (c.asks_to_keep.ensures.asks (search rules))) c.keep.ensures.moves
 
 pub returns-else-asks_to_keep-clause-bodies : goal.returns-else-asks_to_keep-clause-bodies
 returns-else-asks_to_keep-clause-bodies c = λ reached.
     start_along c.start_kept.result c.args.key c.args.self.now c.start_kept.new.self reached c.start_kept.ensures.body c.start_kept.ensures.others
 
 pub returns-else-asks_to_keep-clause-closes : goal.returns-else-asks_to_keep-clause-closes
-returns-else-asks_to_keep-clause-closes c = anybody_then c.start_kept.result _ _ _ c.start_kept.ensures.closes
+returns-else-asks_to_keep-clause-closes c =
+    let r = c.args.self.now in
+    let key = c.args.key in
+    closes_more_on c.start_kept.result (ItselfFor key (IsTurnedAwayAt key r)) (ResumesNotAt c.args.number key r) _ _
+    (λ other e. inl (
+      ap (λ (k : ℕ). Some k) (sym e.0),
+      subst (λ (k : ℕ). CannotResumeAt k r) (sym e.0) (inl (c.asks_to_keep.ensures.not (search rules) (turned_kept key _ r.desk r.links.items (body_of key r) e.1), e.1)),
+    ))
+    c.start_kept.ensures.closes
+
+pub returns-then-asks_to_keep-clause-closes : goal.returns-then-asks_to_keep-clause-closes
+returns-then-asks_to_keep-clause-closes c = c.keep.ensures.closes (c.asks_to_keep.ensures.asks (search rules))
 
 pub returns-then-asks_to_keep-clause-resumes : goal.returns-then-asks_to_keep-clause-resumes
-returns-then-asks_to_keep-clause-resumes c = ok_if c.keep.result _ (inl (c.asks_to_keep.ensures (search rules)))
+returns-then-asks_to_keep-clause-resumes c = ok_if c.keep.result _ (inl (c.asks_to_keep.ensures.asks (search rules)))
 
 pub returns-else-asks_to_keep-clause-resumes : goal.returns-else-asks_to_keep-clause-resumes
 returns-else-asks_to_keep-clause-resumes c = ok_more c.start_kept.result _ _ (λ p. inr p) c.start_kept.ensures.placed

@@ -38,7 +38,7 @@ pub returns-in-None-clause-stays : goal.returns-in-None-clause-stays
 returns-in-None-clause-stays c = λ none. ok_if c.wait.result _ (c.wait.ensures.body c.args.key)
 
 pub returns-in-Some-clause-closes : goal.returns-in-Some-clause-closes
-returns-in-Some-clause-closes c = for_reason c.start_kept.result c.args.key _ _ _ (has_some (find_key c.args.key (desk_in c.args.self.now.desk).holds) _ (sym c.hold_of.ensures ∙ c.in-Some.is)) c.start_kept.ensures.closes
+returns-in-Some-clause-closes c = c.start_kept.ensures.closes
 
 pub returns-in-Some-clause-others : goal.returns-in-Some-clause-others
 returns-in-Some-clause-others c = c.start_kept.ensures.others

@@ -61,8 +61,8 @@ line-preserved c = record {
   few = few_lent _ _ _ _ _ (desk_in c.line.self.desk) _ c.in-Some.served (most_kept _ _ c.line.invariant.closes.told) (c.is_full.ensures.lends (search rules)) c.in_ok-served.ensures.ok.1 c.in-Some.is c.in_ok-lend-in-Some.ensures.few c.line.invariant.few;
   closes =
       closes_both (IsWaiting (desk_in c.args.self.now.desk).line) _ _ _ c.line.invariant.closes
-      (closes_more (Itself c.in-Some.served.hold.key) (IsWaiting (desk_in c.args.self.now.desk).line) _ _
-      (served_waited (hall_in c.args.self.now) (hall_in c.line.self) _ c.in-Some.served c.line.invariant.unserved c.in_ok-served.ensures.ok.1 c.in-Some.is) c.in_ok-lend-in-Some.ensures.closes);
+      (closes_more _ (IsWaiting (desk_in c.args.self.now.desk).line) _ _
+      (λ key e. served_waited (hall_in c.args.self.now) (hall_in c.line.self) _ c.in-Some.served c.line.invariant.unserved c.in_ok-served.ensures.ok.1 c.in-Some.is key e.0) c.in_ok-lend-in-Some.ensures.closes);
   shorter =
       let gone : suc (length c.serve.new.self.line.items) ≡ length c.line.self.desk.line.items =
       served_shorter (desk_in c.line.self.desk) (desk_in c.serve.new.self) _ c.in-Some.served _ _ c.in_ok-served.ensures.ok.1 c.in-Some.is c.in_ok-served.ensures.ok.0 in
@@ -70,8 +70,8 @@ line-preserved c = record {
       omega (arith, c.line.invariant.shorter, gone, stays);
   lasting =
       last_both (IsWaiting (desk_in c.args.self.now.desk).line) _ (register_in c.line.self) _ c.line.invariant.closes
-      (closes_more (Itself c.in-Some.served.hold.key) (IsWaiting (desk_in c.args.self.now.desk).line) _ _
-      (served_waited (hall_in c.args.self.now) (hall_in c.line.self) _ c.in-Some.served c.line.invariant.unserved c.in_ok-served.ensures.ok.1 c.in-Some.is) c.in_ok-lend-in-Some.ensures.closes)
+      (closes_more _ (IsWaiting (desk_in c.args.self.now.desk).line) _ _
+      (λ key e. served_waited (hall_in c.args.self.now) (hall_in c.line.self) _ c.in-Some.served c.line.invariant.unserved c.in_ok-served.ensures.ok.1 c.in-Some.is key e.0) c.in_ok-lend-in-Some.ensures.closes)
       c.line.invariant.lasting
       (last_more (Itself c.in-Some.served.hold.key) (IsWaiting (desk_in c.args.self.now.desk).line) _ _
       (served_waited (hall_in c.args.self.now) (hall_in c.line.self) _ c.in-Some.served c.line.invariant.unserved c.in_ok-served.ensures.ok.1 c.in-Some.is) c.in_ok-lend-in-Some.ensures.lasts);

@@ -28,7 +28,8 @@ use Rattle.tds_relay.proofs.spared.Lasting.{last_closed, last_named, last_start,
 use Rattle.tds_relay.proofs.seats.Relays.{kept_end, desk_seated}
 use Rattle.tds_relay.proofs.seats.Desks.{deed_seated}
 use Rattle.tds_relay.proofs.spared.Reasons.{for_reason, for_that}
-use Rattle.tds_relay.specs.Reasons.{CannotStart, Unasked, Unkept, Unput}
+use Rattle.tds_relay.specs.Reasons.{CannotStart, Unasked, Unput}
+use Rattle.tds_relay.proofs.spared.Turned.{ready_there}
 use Rattle.tds_relay.specs.Hall.{end_at}
 use Rattle.std.proofs.Common.{◌≡◌, None}
 use Rattle.tds_relay.proofs.spared.Filling.{own_end, own_on, own_refl, own_same}
@@ -126,7 +127,9 @@ returns-in_default-hold_of-clause-ordered c = ordered_closing c.end.result _ _ _
 
 pub returns-in-Ok-clause-closes : goal.returns-in-Ok-clause-closes
 returns-in-Ok-clause-closes c =
-    for_that c.put_held.result c.args.key _ _ _ _ (λ why. subst (λ (b : Body). CannotStart c.args.key (end_at (ends_in c.args.self.now.applications) c.args.key) c.args.self.now.desk c.args.self.now.links.items b) (sym (kept_at (get c.args.self.now.applications c.args.key) (going_of c.args.key c.args.self.now) c.in-Some.application.now c.in-Waits.kind c.in-Waits.whole c.in-Some.ensures c.if-application.false c.in-Waits.is)) (Unput _ c.in-Ok.ensures.whose c.ask.new.self c.in-Ok.ensures.ok c.in-Ok.ensures.opened why)) c.put_held.ensures.closes
+    let ready = ready_there c.args.key c.args.self.now.applications c.args.self.now.desk c.args.self.now.links.items c.in-Some.application.now c.in-Some-hold_of.hold c.in-Some.ensures c.if-application.false (search rules)
+    (sym c.hold_of.ensures ∙ c.in-Some-hold_of.is) (c.is_open.ensures.open (search rules)) in
+    for_that c.put_held.result c.args.key _ _ _ _ (λ why. subst (λ (b : Body). CannotStart c.args.key (end_at (ends_in c.args.self.now.applications) c.args.key) c.args.self.now.desk c.args.self.now.links.items b) (sym (kept_at (get c.args.self.now.applications c.args.key) (going_of c.args.key c.args.self.now) c.in-Some.application.now c.in-Waits.kind c.in-Waits.whole c.in-Some.ensures c.if-application.false c.in-Waits.is)) (inr (ready, Unput _ c.in-Ok.ensures.whose c.ask.new.self c.in-Ok.ensures.ok c.in-Ok.ensures.opened why))) c.put_held.ensures.closes
 
 pub returns-in_default-clause-placed : goal.returns-in_default-clause-placed
 returns-in_default-clause-placed c = inl (unkept_none c.args.self.now.applications c.args.key _ (search rules))
@@ -226,15 +229,17 @@ returns-in_ok-unless_memory-in-Err-clause-lasts c =
 
 pub returns-in_ok-unless_memory-in-Err-clause-closes : goal.returns-in_ok-unless_memory-in-Err-clause-closes
 returns-in_ok-unless_memory-in-Err-clause-closes c =
+    let ready = ready_there c.args.key c.args.self.now.applications c.args.self.now.desk c.args.self.now.links.items c.in-Some.application.now c.in-Some-hold_of.hold c.in-Some.ensures c.if-application.false (search rules)
+    (sym c.hold_of.ensures ∙ c.in-Some-hold_of.is) (c.is_open.ensures.open (search rules)) in
     let its = sym c.hold_of.ensures ∙ c.in-Some-hold_of.is in
     for_reason c.fail.result c.args.key _ _ _
     (subst (λ (b : Body). CannotStart c.args.key (end_at (ends_in c.args.self.now.applications) c.args.key) c.args.self.now.desk c.args.self.now.links.items b) (sym (kept_at (get c.args.self.now.applications c.args.key) (going_of c.args.key c.args.self.now) c.in-Some.application.now c.in-Waits.kind c.in-Waits.whole c.in-Some.ensures c.if-application.false c.in-Waits.is))
-    (Unasked (record { hold = c.in-Some-hold_of.hold; its = its; refusal = c.in-Err.refusal; reason = c.in_ok-unless_memory-in-Err.ensures; refuses = λ count. c.in-Err.ensures.refused c.in-Some-hold_of.hold its }))) c.fail.ensures.closes
+    (inr (ready, Unasked (record { hold = c.in-Some-hold_of.hold; its = its; refusal = c.in-Err.refusal; reason = c.in_ok-unless_memory-in-Err.ensures; refuses = λ count. c.in-Err.ensures.refused c.in-Some-hold_of.hold its })))) c.fail.ensures.closes
 
 pub returns-in_default-hold_of-clause-closes : goal.returns-in_default-hold_of-clause-closes
 returns-in_default-hold_of-clause-closes c =
     let none : c.hold_of.result ≡ None = search rules in
-    for_reason c.end.result c.args.key _ _ _ (subst (λ (b : Body). CannotStart c.args.key (end_at (ends_in c.args.self.now.applications) c.args.key) c.args.self.now.desk c.args.self.now.links.items b) (sym (kept_at (get c.args.self.now.applications c.args.key) (going_of c.args.key c.args.self.now) c.in-Some.application.now c.in-Waits.kind c.in-Waits.whole c.in-Some.ensures c.if-application.false c.in-Waits.is)) (Unkept (sym c.hold_of.ensures ∙ none))) c.end.ensures.closes
+    for_reason c.end.result c.args.key _ _ _ (subst (λ (b : Body). CannotStart c.args.key (end_at (ends_in c.args.self.now.applications) c.args.key) c.args.self.now.desk c.args.self.now.links.items b) (sym (kept_at (get c.args.self.now.applications c.args.key) (going_of c.args.key c.args.self.now) c.in-Some.application.now c.in-Waits.kind c.in-Waits.whole c.in-Some.ensures c.if-application.false c.in-Waits.is)) (inl (sym c.hold_of.ensures ∙ none))) c.end.ensures.closes
 
 pub returns-in_default-clause-behind : goal.returns-in_default-clause-behind
 returns-in_default-clause-behind c = λ hold its. sparing.Stays

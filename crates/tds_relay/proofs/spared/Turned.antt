@@ -1,0 +1,334 @@
+-- Who is turned away from the connection that it holds: that is ready for its request, and doesn't take it.
+use Rattle.std.proofs.Common.{◌≡◌, ◌≢◌, ◌⊎◌, ◌∙◌, ◌==◌, ◌++◌, ℕ, zero, suc, Bool, true, false, List, [], ◌∷◌, Option, Some, None, inl, inr, refl, sym, ap, subst, option_map, slice_index_or, slice_set, if◌then◌else◌}
+use Rattle.std.specs.Prelude.{IsSome, Result, Ok, Err, OnOk, is_some}
+use Rattle.slab.specs.Slab.{Slab, get}
+use Rattle.tds_client.specs.declared.message.MessageKind.{MessageKind}
+use Rattle.tds_front.specs.declared.fault.FrontFault.{FrontFault}
+use Rattle.tds_front.specs.declared.front.Front.{Front}
+use Rattle.tds_packet.specs.Reading.{Reading}
+use Rattle.tds_packet.specs.declared.status.Reset.{Reset}
+use Rattle.tds_packet.specs.declared.status.Reset.TheVariants.{KeepTransaction}
+use Rattle.tds_service.specs.declared.service.Service as services
+use Rattle.tds_relay.specs.declared.application.Application.{Application}
+use Rattle.tds_relay.specs.declared.application.Asking.{Asking}
+use Rattle.tds_relay.specs.declared.application.Asking.TheVariants as asking
+use Rattle.tds_relay.specs.declared.desk.Desk as desks
+use Rattle.tds_relay.specs.declared.desk.Hold.{Hold}
+use Rattle.tds_relay.specs.declared.link.Link.{Link}
+use Rattle.tds_relay.specs.declared.relay.Relay as code
+use Rattle.tds_relay.specs.Anew.{ResetsFor}
+use Rattle.tds_relay.specs.Asking.{IsTakenBack, waits_in}
+use Rattle.tds_relay.specs.Bodies.{AskAsBefore, Astray, Body, Closed, Going, Kept, Nowhere, body_by, body_in, body_of, going, going_of}
+use Rattle.tds_relay.specs.Closings.{ClosesOnly, IsWho, Nobody, Register, register_in}
+use Rattle.tds_relay.specs.Desk.{Desk, Renews, find_key, turn}
+use Rattle.tds_relay.specs.Fronts.{ends_in}
+use Rattle.tds_relay.specs.Hall.{AsksFor, End, Ends, IfOpen, IfOpenAsks, Open, Over, end_at, holder}
+use Rattle.tds_relay.specs.Waiting.{IsOpened, KeepsPosts, OpensFor}
+use Rattle.tds_relay.specs.Posts.{Post, fits, post_in}
+use Rattle.tds_relay.specs.Reads.{Seen, Sees, StaysAt, link_at, open_at, open_of, seen_at, seen_of}
+use Rattle.tds_relay.specs.Reasons as reasons
+use Rattle.tds_relay.specs.Reasons.{CannotAsk, CannotGoOn, CannotMove, CannotPart, CannotPut, CannotResume, CannotResumeAt, CannotStart, HasNoRoom, IsReadyThere, IsTurnedAway, IsTurnedAwayAt, IsUnbegun, IsUnheld, IsUnrenewed, ItselfFor, NoneBegun, ResumesNot, ResumesNotAt, Unreset, post_on}
+use Rattle.tds_relay.specs.Sparing.{IsKept, IsUnkept}
+use Rattle.tds_relay.specs.Ties.{Leaving, desk_in}
+use Rattle.tds_relay.proofs.spared.Closings.{closes_first, closes_more_on}
+use Rattle.tds_relay.proofs.spared.Reasons.{for_that}
+use Rattle.tds_relay.proofs.spared.Starting.{unkept_going, unkept_there}
+use Rattle.tds_relay.proofs.steps.Fed.{end_open, end_there}
+
+-- ---- It waits, and its connection is ready
+
+pub none_by : {A : Type 0} (o : Option A) → is_some o ≡ false → o ≡ None
+none_by None e = refl
+none_by (Some x) e = absurd (let u : true ≡ false = e in let v : ⊥ = cc in v)
+
+kept_some : (x : Asking) (held : List ℕ) (g : Body) → IsSome (waits_in x) → IsKept (body_by x held g)
+kept_some asking.Nothing held g some = absurd (let u : false ≡ true = some in let v : ⊥ = cc in v)
+kept_some (asking.Waits kind whole) held g some = tt
+kept_some asking.Goes held g some = absurd (let u : false ≡ true = some in let v : ⊥ = cc in v)
+
+kept_if : (over : Bool) (b : Body) → over ≡ false → IsKept b → IsKept (if over then Closed else b)
+kept_if true b is k = absurd (let u : true ≡ false = is in let v : ⊥ = cc in v)
+kept_if false b is k = k
+
+pub kept_there : (key : ℕ) (r : code.Relay) (a : Application) → Some a ≡ get r.applications key → a.is_over ≡ false → IsSome (waits_in a.asking) → IsKept (body_of key r)
+kept_there key r a is over some =
+    subst (λ (o : Option Application). IsKept (body_in o (going_of key r))) is (kept_if a.is_over (body_by a.asking a.held.items (going_of key r)) over (kept_some a.asking a.held.items (going_of key r) some))
+
+not_back : (s : Slab Application) (key : ℕ) (a : Application) → Some a ≡ get s key → a.is_over ≡ false → a.is_withdrawn ≡ false → ¬ IsTakenBack (end_at (ends_in s) key)
+not_back s key a is over drained back =
+    let its : a.is_withdrawn ≡ true = subst IsTakenBack (end_there s key a is ∙ ap Some (end_open a over)) back in
+    let u : true ≡ false = sym its ∙ drained in
+    let v : ⊥ = cc in
+    v
+
+pub ready_there : (key : ℕ) (s : Slab Application) (d : desks.Desk) (links : List Link) (a : Application) (hold : Hold) → Some a ≡ get s key → a.is_over ≡ false → a.is_withdrawn ≡ false → find_key key d.holds.items ≡ Some hold
+    → IsSome (open_at hold.number links) → IsReadyThere key (end_at (ends_in s) key) d links
+ready_there key s d links a hold is over drained its there = record { hold = hold; its = its; open_there = there; drained = not_back s key a is over drained }
+
+pub turned_by : (key : ℕ) (end : Option End) (d : desks.Desk) (links : List Link) (body : Body) (hold : Hold) → find_key key d.holds.items ≡ Some hold → IsKept body → IsReadyThere key end d links
+    → IfOpen (IsUnbegun false) end ⊎ IfOpenAsks (λ asks. ¬ ResetsFor asks (Some hold) (desk_in d)) end → IsTurnedAway key end d links body
+turned_by key end d links body hold its kept ready (inl none) = NoneBegun kept ready none
+turned_by key end d links body hold its kept ready (inr not) =
+    let same : hold ≡ ready.hold = (let u : Some hold ≡ Some ready.hold = sym its ∙ ready.its in cc) in
+    Unreset kept ready (subst (λ (h : Hold). IfOpenAsks (λ asks. ¬ ResetsFor asks (Some h) (desk_in d)) end) same not)
+
+-- ---- Its next bytes
+
+grown : (over was_over whole was : Bool) (more : List ℕ) (key : ℕ) (end : Option End) (room : ℕ) (d : desks.Desk) (links : List Link) (kind : MessageKind) (bytes : List ℕ) → over ≡ was_over
+    → IsTurnedAway key end d links (if over then Closed else Kept kind (bytes ++ more) whole) → CannotGoOn whole more key end room d links (if was_over then Closed else Kept kind bytes was)
+grown over true whole was more key end room d links kind bytes same why = tt
+grown true false whole was more key end room d links kind bytes same why = absurd (let u : true ≡ false = same in let v : ⊥ = cc in v)
+grown false false whole was more key end room d links kind bytes same why = inr (inr why)
+
+-- with them it is turned away
+pub turned_goes : (whole was : Bool) (more : List ℕ) (key : ℕ) (end : Option End) (room : ℕ) (d : desks.Desk) (links : List Link) (o p : Option Application) (a b : Application) (g h : Body) (kind : MessageKind) → Some a ≡ o → p ≡ Some b
+    → a.asking ≡ asking.Waits kind was → b.is_over ≡ a.is_over → b.held.items ≡ a.held.items ++ more → b.asking ≡ asking.Waits kind whole → IsTurnedAway key end d links (body_in p h) → CannotGoOn whole more key end room d links (body_in o g)
+turned_goes whole was more key end room d links o p a b g h kind is there asks over held keeps why =
+    let from : body_in p h ≡ (if b.is_over then Closed else Kept kind (a.held.items ++ more) whole) =
+    ap (λ (x : Option Application). body_in x h) there ∙ ap (λ (x : Asking). if b.is_over then Closed else body_by x b.held.items h) keeps ∙ ap (λ (xs : List ℕ). if b.is_over then Closed else Kept kind xs whole) held in
+    subst (λ (x : Option Application). CannotGoOn whole more key end room d links (body_in x g)) is
+    (subst (λ (x : Asking). CannotGoOn whole more key end room d links (if a.is_over then Closed else body_by x a.held.items g)) (sym asks)
+    (grown b.is_over a.is_over whole was more key end room d links kind a.held.items over (subst (IsTurnedAway key end d links) from why)))
+
+-- ---- It begins
+
+-- who holds one
+pub held_asks : (key : ℕ) (end : Option End) (d : desks.Desk) (links : List Link) (A : Type 0) → IsSome (find_key key d.holds.items) → IsUnheld key d ⊎ A → A
+held_asks key end d links A held (inl none) = absurd (let u : false ≡ true = subst (λ (o : Option Hold). IsSome o) none held in let v : ⊥ = cc in v)
+held_asks key end d links A held (inr why) = why
+
+-- ---- A connection opens
+
+either_post : (b : Bool) (l m : Link) (o p : Option Link) → post_in l.out ≡ post_in m.out → option_map (λ (x : Link). post_in x.out) o ≡ option_map (λ (x : Link). post_in x.out) p
+    → option_map (λ (x : Link). post_in x.out) (if b then Some l else o) ≡ option_map (λ (x : Link). post_in x.out) (if b then Some m else p)
+either_post true l m o p same rest = ap Some same
+either_post false l m o p same rest = rest
+
+-- one is written back with what waited there
+pub posts_same : (ls : List Link) (i : ℕ) (d m : Link) → m.number ≡ (slice_index_or ls i d).number → post_in m.out ≡ post_in (slice_index_or ls i d).out → (n : ℕ) → post_on n (slice_set ls i m) ≡ post_on n ls
+posts_same [] i d m number post n = refl
+posts_same (x ∷ xs) zero d m number post n =
+    ap (λ (k : ℕ). option_map (λ (l : Link). post_in l.out) (if k == n then Some m else link_at n xs)) number ∙ either_post (x.number == n) m x (link_at n xs) (link_at n xs) post refl
+posts_same (x ∷ xs) (suc i) d m number post n = either_post (x.number == n) x x (link_at n (slice_set xs i m)) (link_at n xs) refl (posts_same xs i d m number post n)
+
+-- whose reason is told no more
+pub whoever : {A E : Type 0} (r : Result A E) (May Why : ℕ → Type 0) (a b : Register) → OnOk r (ClosesOnly (λ other. May other × Why other) a b) → OnOk r (ClosesOnly May a b)
+whoever r May Why a b h = closes_more_on r (λ other. May other × Why other) May a b (λ other x. x.0) h
+
+-- ---- Where the same waits, and the same is open
+
+no_both : (b : Body) → IsKept b → IsUnkept b → ⊥
+no_both Closed kept un = kept
+no_both Nowhere kept un = kept
+no_both (Kept kind bytes whole) kept un = un
+no_both Astray kept un = kept
+no_both (Going number client waits) kept un = kept
+
+kept_by : (x : Asking) (held : List ℕ) (g h : Body) → IsUnkept g → IsKept (body_by x held g) → body_by x held h ≡ body_by x held g
+kept_by asking.Nothing held g h un kept = refl
+kept_by (asking.Waits kind whole) held g h un kept = refl
+kept_by asking.Goes held g h un kept = absurd (no_both g kept un)
+
+kept_open : (over : Bool) (x : Asking) (held : List ℕ) (g h : Body) → IsUnkept g → IsKept (if over then Closed else body_by x held g) → (if over then Closed else body_by x held h) ≡ (if over then Closed else body_by x held g)
+kept_open true x held g h un kept = refl
+kept_open false x held g h un kept = kept_by x held g h un kept
+
+-- what is kept is so wherever it would go on
+pub kept_any : (o : Option Application) (g h : Body) → IsUnkept g → IsKept (body_in o g) → body_in o h ≡ body_in o g
+kept_any None g h un kept = refl
+kept_any (Some a) g h un kept = kept_open a.is_over a.asking a.held.items g h un kept
+
+fits_by : (bytes : List ℕ) (o : Option Link) → option_map (λ (l : Link). fits (post_in l.out) bytes) o ≡ option_map (λ (p : Post). fits p bytes) (option_map (λ (l : Link). post_in l.out) o)
+fits_by bytes None = refl
+fits_by bytes (Some l) = refl
+
+pub room_as : (number : ℕ) (bytes : List ℕ) (old new : List Link) → post_on number new ≡ post_on number old → HasNoRoom number bytes new → HasNoRoom number bytes old
+room_as number bytes old new same none =
+    fits_by bytes (link_at number old) ∙ sym (ap (option_map (λ (p : Post). fits p bytes)) same) ∙ sym (fits_by bytes (link_at number new)) ∙ none
+
+put_as : (whole : Bool) (more : List ℕ) (key : ℕ) (end : Option End) (d : desks.Desk) (a b : List Link) → KeepsPosts a b → CannotPut whole more key end d b → CannotPut whole more key end d a
+put_as whole more key end d a b alike (reasons.Unheld none) = reasons.Unheld none
+put_as whole more key end d a b alike (reasons.Unbegun none) = reasons.Unbegun none
+put_as whole more key end d a b alike (reasons.Untaken why) = reasons.Untaken why
+put_as whole more key end d a b alike (reasons.Unfit mid out puts none) = reasons.Unfit mid out puts (room_as puts.hold.number out a b (alike.posts puts.hold.number) none)
+
+ask_as : (kind : MessageKind) (bytes : List ℕ) (whole : Bool) (key : ℕ) (end : Option End) (d : desks.Desk) (a b : List Link) → KeepsPosts a b → CannotAsk kind bytes whole key end d b → CannotAsk kind bytes whole key end d a
+ask_as kind bytes whole key end d a b alike (reasons.Unasked why) = reasons.Unasked why
+ask_as kind bytes whole key end d a b alike (reasons.Unput hold its mid turns opens why) = reasons.Unput hold its mid turns opens (put_as whole bytes key end mid a b alike why)
+
+abbrev ready_as : (key : ℕ) (end : Option End) (d : desks.Desk) (a b : List Link) → KeepsPosts a b → IsReadyThere key end d b → IsReadyThere key end d a
+ready_as key end d a b alike ready = record { hold = ready.hold; its = ready.its; open_there = alike.opens ready.hold.number ready.open_there; drained = ready.drained }
+
+starts_kept : (key : ℕ) (end : Option End) (d : desks.Desk) (links : List Link) (body : Body) → CannotStart key end d links body → IsKept body
+starts_kept key end d links Closed why = why
+starts_kept key end d links Nowhere why = why
+starts_kept key end d links (Kept kind bytes whole) why = tt
+starts_kept key end d links Astray why = why
+starts_kept key end d links (Going number client waits) why = why
+
+asks_as : (kind : MessageKind) (bytes : List ℕ) (whole : Bool) (key : ℕ) (end : Option End) (d : desks.Desk) (a b : List Link) → KeepsPosts a b → IsUnheld key d ⊎ (IsReadyThere key end d b × CannotAsk kind bytes whole key end d b)
+    → IsUnheld key d ⊎ (IsReadyThere key end d a × CannotAsk kind bytes whole key end d a)
+asks_as kind bytes whole key end d a b alike (inl none) = inl none
+asks_as kind bytes whole key end d a b alike (inr why) = inr (ready_as key end d a b alike why.0, ask_as kind bytes whole key end d a b alike why.1)
+
+start_as : (key : ℕ) (end : Option End) (d : desks.Desk) (a b : List Link) (body : Body) → KeepsPosts a b → CannotStart key end d b body → CannotStart key end d a body
+start_as key end d a b Closed alike why = why
+start_as key end d a b Nowhere alike why = why
+start_as key end d a b (Kept kind bytes whole) alike why = asks_as kind bytes whole key end d a b alike why
+start_as key end d a b Astray alike why = why
+start_as key end d a b (Going number client waits) alike why = why
+
+pub turned_as : (key : ℕ) (end : Option End) (d : desks.Desk) (a b : List Link) (body was : Body) → KeepsPosts a b → (IsKept body → was ≡ body) → IsTurnedAway key end d b body → IsTurnedAway key end d a was
+turned_as key end d a b body was alike same (reasons.Unstarted why) =
+    reasons.Unstarted (subst (CannotStart key end d a) (sym (same (starts_kept key end d b body why))) (start_as key end d a b body alike why))
+turned_as key end d a b body was alike same (NoneBegun kept ready none) = NoneBegun (subst IsKept (sym (same kept)) kept) (ready_as key end d a b alike ready) none
+turned_as key end d a b body was alike same (Unreset kept ready not) = Unreset (subst IsKept (sym (same kept)) kept) (ready_as key end d a b alike ready) not
+
+pub as_refl : (a : List Link) → KeepsPosts a a
+as_refl a = record { posts = λ n. refl; opens = λ n some. some }
+
+some_seen : (o p : Option Seen) → StaysAt p o → IsSome (open_of o) → IsSome (open_of p)
+some_seen None p stays some = absurd (let u : false ≡ true = some in let v : ⊥ = cc in v)
+some_seen (Some s) p stays some = subst (λ (q : Option Seen). IsSome (open_of q)) (sym stays) some
+
+stays_refl : (o : Option Seen) → StaysAt o o
+stays_refl None = tt
+stays_refl (Some s) = refl
+
+-- where those that are there are seen as they were
+pub as_seen : (a b : List Link) → ((n : ℕ) → post_on n b ≡ post_on n a) → Sees a b → KeepsPosts a b
+as_seen a b posts sees = record { posts = posts; opens = λ n some. some_seen (seen_at n b) (seen_at n a) (sees n (seen_at n a) (stays_refl (seen_at n a))) some }
+
+-- what is kept is as it was kept
+pub kept_asks : (key : ℕ) (r r0 : code.Relay) → AskAsBefore r0.applications r.applications → IsKept (body_of key r) → body_of key r0 ≡ body_of key r
+kept_asks key r r0 asks kept =
+    kept_any (get r0.applications key) (going_of key r) (going_of key r0) (unkept_going r.desk.service r.links.items (find_key key r.desk.holds.items)) (subst IsKept (asks key (going_of key r)) kept) ∙ sym (asks key (going_of key r))
+
+-- as its application was before, at this desk
+pub turned_with : (key : ℕ) (r r0 : code.Relay) (d : desks.Desk) (a : List Link) → r.desk ≡ d → ends_in r.applications ≡ ends_in r0.applications → AskAsBefore r0.applications r.applications → KeepsPosts a r.links.items → IsTurnedAwayAt key r
+    → IsTurnedAway key (end_at (ends_in r0.applications) key) d a (body_of key r0)
+turned_with key r r0 d a desk ends asks alike why =
+    subst (λ (e : desks.Desk). IsTurnedAway key (end_at (ends_in r0.applications) key) e a (body_of key r0)) desk
+    (subst (λ (es : Ends). IsTurnedAway key (end_at es key) r.desk a (body_of key r0)) ends (turned_as key (end_at (ends_in r.applications) key) r.desk a r.links.items (body_of key r) (body_of key r0) alike (kept_asks key r r0 asks) why))
+
+pub turned_on : (key : ℕ) (r r0 : code.Relay) (a : List Link) → r.desk ≡ r0.desk → ends_in r.applications ≡ ends_in r0.applications → AskAsBefore r0.applications r.applications → KeepsPosts a r.links.items → IsTurnedAwayAt key r
+    → IsTurnedAway key (end_at (ends_in r0.applications) key) r0.desk a (body_of key r0)
+turned_on key r r0 a desk ends asks alike why = turned_with key r r0 r0.desk a desk ends asks alike why
+
+pub turned_kept : (key : ℕ) (end : Option End) (d : desks.Desk) (links : List Link) (body : Body) → IsTurnedAway key end d links body → IsKept body
+turned_kept key end d links body (reasons.Unstarted why) = starts_kept key end d links body why
+turned_kept key end d links body (NoneBegun kept ready none) = kept
+turned_kept key end d links body (Unreset kept ready not) = kept
+
+-- ---- What is to keep its transaction
+
+pub renewed_as : (Stays : Type 0) (key : ℕ) (end : Option End) (d : desks.Desk) (a b : List Link) (body was : Body) → KeepsPosts a b → (IsKept body → was ≡ body) → IsUnrenewed Stays key end d b body → IsUnrenewed Stays key end d a was
+renewed_as Stays key end d a b body was alike same (reasons.Unkept resumes is stays) = reasons.Unkept resumes is stays
+renewed_as Stays key end d a b body was alike same (reasons.Unlent resumes hold its is) = reasons.Unlent resumes hold its is
+renewed_as Stays key end d a b body was alike same (reasons.Unserved resumes mid is why) = reasons.Unserved resumes mid is (turned_as key end mid a b body was alike same why)
+
+resume_as : (key : ℕ) (end : Option End) (d : desks.Desk) (a b : List Link) (body was : Body) → KeepsPosts a b → (IsKept body → was ≡ body) → CannotResume key end d b body → CannotResume key end d a was
+resume_as key end d a b body was alike same (inl x) = inl (x.0, turned_as key end d a b body was alike same x.1)
+resume_as key end d a b body was alike same (inr x) = inr (x.0, renewed_as (CannotMove key end (desk_in d)) key end d a b body was alike same x.1)
+
+pub not_as : (number : ℕ) (key : Option ℕ) (ends ends1 : Ends) (d : desks.Desk) (a b : List Link) (body was : Body) (other : ℕ) → ends ≡ ends1 → KeepsPosts a b → (IsKept body → was ≡ body) → ResumesNot number key ends d b body other
+    → ResumesNot number key ends1 d a was other
+not_as number key ends ends1 d a b body was other e alike same (inl x) =
+    inl (x.0, subst (λ (es : Ends). CannotResume other (end_at es other) d a was) e (resume_as other (end_at ends other) d a b body was alike same x.1))
+not_as number key ends ends1 d a b body was other e alike same (inr x) = inr x
+
+pub part_at : (key : ℕ) (end : Option End) (d e : desks.Desk) → desk_in d ≡ desk_in e → CannotPart key end d → CannotPart key end e
+part_at key end d e same (reasons.Out out) = reasons.Out out
+part_at key end d e same (reasons.Held mid leaving some) = reasons.Held mid (subst (λ (x : Desk). Leaving key x (desk_in mid)) same leaving) some
+
+begun_if : (over : Bool) (b : Body) → IsKept (if over then Closed else b) → b ≡ (if over then Closed else b)
+begun_if true b kept = absurd kept
+begun_if false b kept = refl
+
+-- one that begins
+pub begun_kept : (o : Option Application) (b : Application) (message : MessageKind) (g : Body) → o ≡ Some b → b.asking ≡ asking.Waits message false → b.held.items ≡ [] → IsKept (body_in o g) → Kept message [] false ≡ body_in o g
+begun_kept o b message g is asks held kept =
+    let from : body_in o g ≡ (if b.is_over then Closed else Kept message [] false) =
+    ap (λ (x : Option Application). body_in x g) is ∙ ap (λ (x : Asking). if b.is_over then Closed else body_by x b.held.items g) asks ∙ ap (λ (xs : List ℕ). if b.is_over then Closed else Kept message xs false) held in
+    begun_if b.is_over (Kept message [] false) (subst IsKept from kept) ∙ sym from
+
+asks_if : (over w : Bool) (b : Body) (why : Option FrontFault) (front : Front) (asks : Option Reset) → asks ≢ Some KeepTransaction → IsKept (if over then Closed else b) → ¬ AsksFor KeepTransaction (Some (if over then Over why else Open front w asks))
+asks_if true w b why front asks differs kept = absurd kept
+asks_if false w b why front asks differs kept = differs
+
+asks_none : (key : ℕ) (r : code.Relay) (a : Application) → Some a ≡ get r.applications key → (waits_in a.asking ≡ None) ⊎ (a.reset ≢ Some KeepTransaction) → IsKept (body_of key r) → ¬ AsksFor KeepTransaction (end_at (ends_in r.applications) key)
+asks_none key r a is (inl none) kept = absurd (no_both (body_of key r) kept (unkept_there key r a is none))
+asks_none key r a is (inr differs) kept =
+    subst (λ (o : Option End). ¬ AsksFor KeepTransaction o) (sym (end_there r.applications key a is))
+    (asks_if a.is_over a.is_withdrawn (body_by a.asking a.held.items (going_of key r)) a.fault a.front a.reset differs (subst (λ (o : Option Application). IsKept (body_in o (going_of key r))) (sym is) kept))
+
+pub asks_not : (key : ℕ) (r : code.Relay) (a : Application) → Some a ≡ get r.applications key → (waits_in a.asking ≡ None) ⊎ (a.reset ≢ Some KeepTransaction) → IsKept (body_of key r) → ¬ AsksFor KeepTransaction (end_at (ends_in r.applications) key)
+asks_not key r a is why kept = asks_none key r a is why kept
+
+back_if : (over w : Bool) (why : Option FrontFault) (front : Front) (asks : Option Reset) → w ≡ false → ¬ IsTakenBack (Some (if over then Over why else Open front w asks))
+back_if true w why front asks drained back = back
+back_if false w why front asks drained back = (let u : true ≡ false = sym back ∙ drained in let v : ⊥ = cc in v)
+
+-- whoever took nothing back
+pub back_not : (s : Slab Application) (key : ℕ) (a : Application) → Some a ≡ get s key → a.is_withdrawn ≡ false → ¬ IsTakenBack (end_at (ends_in s) key)
+back_not s key a is drained back = back_if a.is_over a.is_withdrawn a.fault a.front a.reset drained (subst IsTakenBack (end_there s key a is) back)
+
+pub resumes_for : (number key other : ℕ) (old : code.Relay) → other ≡ key → AsksFor KeepTransaction (end_at (ends_in old.applications) key)
+    → IsUnrenewed (CannotMove key (end_at (ends_in old.applications) key) (desk_in old.desk)) key (end_at (ends_in old.applications) key) old.desk old.links.items (body_of key old) → ResumesNotAt number key old other
+resumes_for number key other old same asks why = inl (ap (λ (k : ℕ). Some k) (sym same), subst (λ (k : ℕ). CannotResumeAt k old) (sym same) (inr (asks, why)))
+
+pub stays_for : (number key other : ℕ) (old : code.Relay) (d : Desk) → AsksFor KeepTransaction (end_at (ends_in old.applications) key) → d ≡ desk_in old.desk → (resumes : Bool) → (turn (desk_in old.desk) (Renews key resumes)).desk ≡ desk_in old.desk
+    → (other ≡ key) ⊎ (other ≢ key) → IsWho (holder d number) other × CannotMove other (end_at (ends_in old.applications) other) d → ResumesNotAt number key old other
+stays_for number key other old d asks is resumes still (inl same) why =
+    resumes_for number key other old same asks
+    (reasons.Unkept resumes still (subst (λ (k : ℕ). CannotMove k (end_at (ends_in old.applications) k) (desk_in old.desk)) same (subst (λ (e : Desk). CannotMove other (end_at (ends_in old.applications) other) e) is why.1)))
+stays_for number key other old d asks is resumes still (inr differs) why =
+    inr ((λ e. differs (let u : Some key ≡ Some other = e in cc)), subst (λ (e : Desk). IsWho (holder e number) other) is why.0)
+
+-- ---- A connection is written back
+
+flag_either : (b : Bool) (l m : Link) (o p : Option Link) → l.is_open ≡ m.is_open → option_map (λ (x : Link). x.is_open) o ≡ option_map (λ (x : Link). x.is_open) p
+    → option_map (λ (x : Link). x.is_open) (if b then Some l else o) ≡ option_map (λ (x : Link). x.is_open) (if b then Some m else p)
+flag_either true l m o p same rest = ap Some same
+flag_either false l m o p same rest = rest
+
+flags_same : (ls : List Link) (i : ℕ) (d m : Link) → m.number ≡ (slice_index_or ls i d).number → m.is_open ≡ (slice_index_or ls i d).is_open → (n : ℕ)
+    → option_map (λ (l : Link). l.is_open) (link_at n (slice_set ls i m)) ≡ option_map (λ (l : Link). l.is_open) (link_at n ls)
+flags_same [] i d m number same n = refl
+flags_same (x ∷ xs) zero d m number same n =
+    ap (λ (k : ℕ). option_map (λ (l : Link). l.is_open) (if k == n then Some m else link_at n xs)) number ∙ flag_either (x.number == n) m x (link_at n xs) (link_at n xs) same refl
+flags_same (x ∷ xs) (suc i) d m number same n = flag_either (x.number == n) x x (link_at n (slice_set xs i m)) (link_at n xs) refl (flags_same xs i d m number same n)
+
+open_if : (a b : Bool) (r s : Reading) → a ≡ b → IsSome (if a then Some r else None) → IsSome (if b then Some s else None)
+open_if true true r s e some = refl
+open_if true false r s e some = absurd (let u : true ≡ false = e in let v : ⊥ = cc in v)
+open_if false b r s e some = absurd (let u : false ≡ true = some in let v : ⊥ = cc in v)
+
+open_flag : (o p : Option Link) → option_map (λ (l : Link). l.is_open) o ≡ option_map (λ (l : Link). l.is_open) p → IsSome (open_of (option_map seen_of o)) → IsSome (open_of (option_map seen_of p))
+open_flag None p e some = absurd (let u : false ≡ true = some in let v : ⊥ = cc in v)
+open_flag (Some l) None e some = absurd (let u : Some l.is_open ≡ None = e in let v : ⊥ = cc in v)
+open_flag (Some l) (Some m) e some = open_if l.is_open m.is_open l.reader m.reader (let u : Some l.is_open ≡ Some m.is_open = e in cc) some
+
+-- with what waited there, and open as it was
+pub keeps_written : (ls : List Link) (i : ℕ) (d m : Link) → m.number ≡ (slice_index_or ls i d).number → post_in m.out ≡ post_in (slice_index_or ls i d).out → m.is_open ≡ (slice_index_or ls i d).is_open → KeepsPosts ls (slice_set ls i m)
+keeps_written ls i d m number post same = record {
+  posts = λ n. posts_same ls i d m number post n;
+  opens = λ n some. open_flag (link_at n (slice_set ls i m)) (link_at n ls) (flags_same ls i d m number same n) some;
+}
+
+-- ---- As a connection opens
+
+pub opens_for : (number other : ℕ) (old r : code.Relay) → r.desk ≡ old.desk → ends_in r.applications ≡ ends_in old.applications → AskAsBefore old.applications r.applications → IsOpened number old.links.items r.links.items
+    → IsWho (holder (desk_in r.desk) number) other × IsTurnedAwayAt other r → OpensFor number old other
+opens_for number other old r desk ends asks opened why =
+    inl (ap (λ (d : desks.Desk). holder (desk_in d) number) (sym desk) ∙ why.0, r.links.items, opened, turned_on other r old r.links.items desk ends asks (as_refl r.links.items) why.1)
+
+-- ---- One that is lent one
+
+pub lent_for : {A E : Type 0} (r : Result A E) (key : ℕ) (old mid new : code.Relay) → mid.desk ≡ old.desk → mid.applications ≡ old.applications → ((n : ℕ) → post_on n mid.links.items ≡ post_on n old.links.items)
+    → Sees old.links.items mid.links.items → ClosesOnly Nobody (register_in old) (register_in mid) → OnOk r (ClosesOnly (ItselfFor key (IsTurnedAwayAt key mid)) (register_in mid) (register_in new))
+    → OnOk r (ClosesOnly (ItselfFor key (IsTurnedAwayAt key old)) (register_in old) (register_in new))
+lent_for r key old mid new desk same posts sees first next =
+    closes_first r (ItselfFor key (IsTurnedAwayAt key old)) (register_in old) (register_in mid) (register_in new)
+    (for_that r key (IsTurnedAwayAt key mid) (IsTurnedAwayAt key old) (register_in mid) (register_in new)
+    (λ why. turned_on key mid old old.links.items desk (ap ends_in same) (λ k goes. ap (λ (s : Slab Application). body_in (get s k) goes) same) (as_seen old.links.items mid.links.items posts sees) why) next) first
