@@ -319,10 +319,6 @@ pub data HeardFor (number : ℕ) (bytes : List ℕ) (r : code.Relay) (other : �
   InLine : (mid : code.Relay)
       → StreamsAll number (open_at number r.links.items) (house_in r) r.desk.service bytes (open_at number mid.links.items) (house_in mid) mid.desk.service → IsWaiting (desk_in mid.desk).line other → HeardFor number bytes r other
 
--- what waits on the connection of this number
-abbrev pub post_on : ℕ → List Link → Option Post
-post_on number links = option_map (λ (l : Link). post_in l.out) (link_at number links)
-
 -- by a packet that has been handed on
 abbrev pub LosesAt : ℕ → Option Heard → code.Relay → ℕ → Type 0
 LosesAt number heard r other =

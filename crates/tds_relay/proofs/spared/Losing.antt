@@ -21,8 +21,8 @@ use Rattle.tds_relay.specs.Hall.{End, Ends, Open, Over, end_at, holder}
 use Rattle.tds_relay.specs.Handing.{HearsBy}
 use Rattle.tds_relay.specs.House.{House}
 use Rattle.tds_relay.specs.Posts.{Post, Posts, fits, post_at, post_in, posts_in}
-use Rattle.tds_relay.specs.Reads.{link_at, place_of}
-use Rattle.tds_relay.specs.Reasons.{Cleans, HasNoRoom, HasTakenBack, HearsNothing, IsHeardAs, IsIdle, IsOverfull, ItselfFor, LosesAt, LosesBy, LosesFor, LosesOn, OfPacket, OfSending, post_on}
+use Rattle.tds_relay.specs.Reads.{post_on, link_at, place_of}
+use Rattle.tds_relay.specs.Reasons.{Cleans, HasNoRoom, HasTakenBack, HearsNothing, IsHeardAs, IsIdle, IsOverfull, ItselfFor, LosesAt, LosesBy, LosesFor, LosesOn, OfPacket, OfSending}
 use Rattle.tds_relay.specs.Taking.{IsDeaf}
 use Rattle.tds_relay.specs.Ties.{desk_in}
 use Rattle.tds_relay.proofs.spared.Closings.{closes_both, closes_more}

@@ -3,6 +3,7 @@ ghost use Rattle.std.specs.Prelude.{◌≡◌, ℕ, true, None, OnOk, Some};
 ghost use Rattle.tds_packet.specs.declared.status.Reset.TheVariants.{KeepTransaction};
 ghost use Rattle.tds_relay.specs.Apart.{SparesOthers};
 ghost use Rattle.tds_relay.specs.Closings.{Anybody, ClosesOnly, register_in};
+ghost use Rattle.tds_relay.specs.Cleaning.{cleaned_in};
 ghost use Rattle.tds_relay.specs.Coming.{AllAlong, MayBeginAny};
 ghost use Rattle.tds_relay.specs.Fronts.{Moved, ends_in, hall_in};
 ghost use Rattle.tds_relay.specs.Hall.{AsksFor, IfOpen, IfWhose, IsBegun, MayPart, end_at, holder};
@@ -41,6 +42,7 @@ impl Relay {
         ensures closes { OnOk result (ClosesOnly Anybody
             (register_in self.old) (register_in self.new)) }
         ensures seated { IsSeated self.old → OnOk result (IsSeated self.new) }
+        ensures counts { cleaned_in self.new ≡ cleaned_in self.old }
         ensures opening { opens_in self.new.orders.items ≡ opens_in self.old.orders.items }
         ensures apart { OnOk result (OffGo number (Some key) self.old self.new) }
     {
@@ -84,6 +86,7 @@ impl Relay {
         ensures closes { OnOk result (ClosesOnly Anybody
             (register_in self.old) (register_in self.new)) }
         ensures seated { IsSeated self.old → OnOk result (IsSeated self.new) }
+        ensures counts { cleaned_in self.new ≡ cleaned_in self.old }
         ensures opening { opens_in self.new.orders.items ≡ opens_in self.old.orders.items }
         ensures apart { OnOk result (OffGo number (Some key) self.old self.new) }
     {
@@ -121,6 +124,7 @@ impl Relay {
         ensures closes { OnOk result (ClosesOnly Anybody
             (register_in self.old) (register_in self.new)) }
         ensures seated { IsSeated self.old → OnOk result (IsSeated self.new) }
+        ensures counts { cleaned_in self.new ≡ cleaned_in self.old }
         ensures opening { opens_in self.new.orders.items ≡ opens_in self.old.orders.items }
         ensures apart { OnOk result (OffGo number None self.old self.new) }
     {
