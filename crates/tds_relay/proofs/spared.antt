@@ -5,6 +5,7 @@ pub mod Brought
 pub mod Cleaned
 pub mod Closings
 pub mod Coming
+pub mod Counted
 pub mod Ended
 pub mod Few
 pub mod Filling
@@ -18,6 +19,7 @@ pub mod Lined
 pub mod Losing
 pub mod Marking
 pub mod Off
+pub mod Once
 pub mod Only
 pub mod Opening
 pub mod Ordered

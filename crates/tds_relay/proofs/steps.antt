@@ -1,4 +1,5 @@
 pub mod Asked
+pub mod Beginning
 pub mod Bodied
 pub mod Calling
 pub mod Carried

@@ -12,6 +12,9 @@ use Rattle.tds_service.specs.Service.{Service, step}
 use Rattle.tds_service.specs.Table.{client_of}
 use Rattle.tds_service.specs.Ties.{cancel_out}
 use Rattle.tds_relay.specs.declared.desk.Hold.{Hold}
+use Rattle.tds_relay.specs.declared.desk.coming.Heard.{Heard}
+use Rattle.tds_relay.specs.declared.desk.coming.What.{What}
+use Rattle.tds_relay.specs.declared.desk.coming.What.TheVariants as whats
 use Rattle.tds_relay.specs.declared.desk.leaving.Left.{Left}
 use Rattle.tds_relay.specs.declared.link.Link.{Link}
 use Rattle.tds_relay.specs.declared.relay.Relay as code
@@ -19,7 +22,7 @@ use Rattle.tds_relay.specs.Bodies.{ArePut}
 use Rattle.tds_relay.specs.Closings.{Settings}
 use Rattle.tds_relay.specs.Desk.{Brings, Desk, Way, find_key, next, turn}
 use Rattle.tds_relay.specs.Lent.{IsMade}
-use Rattle.tds_relay.specs.Reads.{bytes_on, open_waits, waits_on}
+use Rattle.tds_relay.specs.Reads.{bytes_on, open_at, open_waits, reader_at, waits_on}
 use Rattle.tds_relay.specs.Hall.{holder}
 use Rattle.tds_relay.specs.Ties.{desk_in}
 
@@ -116,6 +119,26 @@ cleaned_in r = (r.cleanings, r.failed)
 abbrev pub CountsHold : Option Hold → ℕ × ℕ → ℕ × ℕ → Type 0
 CountsHold None old new = new ≡ old
 CountsHold (Some hold) old new = (new ≡ (next old.0, old.1)) ⊎ (new ≡ (old.0, next old.1))
+
+-- Nothing is counted; or the connection of this number was closed instead, which nobody held: it is there no more.
+abbrev pub CountsLost : ℕ → code.Relay → code.Relay → Type 0
+CountsLost number old new = (cleaned_in new ≡ cleaned_in old) ⊎ ((cleaned_in new ≡ (old.cleanings, next old.failed)) × (reader_at number new.links.items ≡ None))
+
+-- it isn't open any more
+abbrev pub CountsGone : ℕ → code.Relay → code.Relay → Type 0
+CountsGone number old new = (cleaned_in new ≡ cleaned_in old) ⊎ ((cleaned_in new ≡ (old.cleanings, next old.failed)) × (open_at number new.links.items ≡ None))
+
+-- It is exactly where what came of it closes it, and is nobody's.
+abbrev pub CountsWhat : What → Option ℕ → ℕ → code.Relay → code.Relay → Type 0
+CountsWhat whats.Goes key number old new = cleaned_in new ≡ cleaned_in old
+CountsWhat whats.Finished key number old new = cleaned_in new ≡ cleaned_in old
+CountsWhat whats.Acknowledged key number old new = cleaned_in new ≡ cleaned_in old
+CountsWhat whats.Closed (Some key) number old new = cleaned_in new ≡ cleaned_in old
+CountsWhat whats.Closed None number old new = (cleaned_in new ≡ (old.cleanings, next old.failed)) × (reader_at number new.links.items ≡ None)
+
+abbrev pub CountsHeard : ℕ → Option Heard → code.Relay → code.Relay → Type 0
+CountsHeard number None old new = cleaned_in new ≡ cleaned_in old
+CountsHeard number (Some heard) old new = CountsWhat heard.what heard.key number old new
 
 -- ---- One that has come before any application asked is cleaned first
 

@@ -1,5 +1,5 @@
 -- Who is closed by a call, and that he is ordered closed.
-use Rattle.std.specs.Prelude.{◌≡◌, ◌⊎◌, ℕ, Bool, true, false, not, List, Option, Some, None, slice_index_or, slice_set}
+use Rattle.std.specs.Prelude.{◌≡◌, ◌≢◌, ◌⊎◌, ◌==◌, ℕ, suc, Bool, true, false, not, List, [], ◌∷◌, Option, Some, None, if◌then◌else◌, slice_index_or, slice_set}
 use Rattle.tds_packet.specs.declared.kind.Kind.{Kind}
 use Rattle.tds_packet.specs.declared.kind.Kind.TheVariants as kinds
 use Rattle.tds_wire.specs.declared.features.Features.{Features}
@@ -11,9 +11,9 @@ use Rattle.tds_relay.specs.declared.relay.Relay as code
 use Rattle.tds_relay.specs.Fronts.{ends_in}
 use Rattle.tds_relay.specs.Hall.{End, Ends, Open, Over, end_at, is_in}
 use Rattle.tds_relay.specs.Ordering.{IsOrdered, StayOrdered}
-use Rattle.tds_relay.specs.Posts.{Posts, names_of, post_at, posts_in}
+use Rattle.tds_relay.specs.Posts.{HasAll, Post, Posts, names_of, post_at, posts_in}
 use Rattle.tds_relay.specs.Reads.{Seen, seen_at}
-use Rattle.tds_relay.specs.Sending.{IsToWrite, IsWritten, called_at, sending_at}
+use Rattle.tds_relay.specs.Sending.{IsWritten, called_at, sending_at}
 
 -- How many connections there may be, how long packets are, and what the connections' logins acknowledge.
 pub record Settings : Type 0 where
@@ -81,6 +81,41 @@ pub data IsDue (May : ℕ → Type 0) (tag : ℕ) (old new : Register) : Type 0 
   OfApplication : (key : ℕ) → May key → open_name key old ≡ Some tag → open_name key new ≡ None → IsDue May tag old new
   OfConnection : (number : ℕ) → called_at number old.links ≡ Some tag → called_at number new.links ≡ None → IsDue May tag old new
 
+-- ---- How often
+
+pub data Named : Type 0 where
+  AnApplication : (key : ℕ) → Named
+  AConnection : (number : ℕ) → Named
+
+-- what an application is called that isn't to be closed, or a connection that is there
+abbrev pub name_in_register : Named → Register → Option ℕ
+name_in_register (AnApplication key) r = open_name key r
+name_in_register (AConnection number) r = called_at number r.links
+
+-- Nothing but one is called so.
+abbrev pub IsOneCalled : ℕ → Register → Type 0
+IsOneCalled tag r = (x y : Named) → name_in_register x r ≡ Some tag → name_in_register y r ≡ Some tag → x ≡ y
+
+-- how often what is called so is ordered closed
+abbrev pub times_closed : ℕ → List Order → ℕ
+times_closed tag [] = 0
+times_closed tag (orders.Open number ∷ all) = times_closed tag all
+times_closed tag (orders.Write named ∷ all) = times_closed tag all
+times_closed tag (orders.Close named ∷ all) = if named == tag then suc (times_closed tag all) else times_closed tag all
+
+-- As often as before; or once more, where one was called so, and nothing is now.
+abbrev pub ClosesOnce : ℕ → Register → Register → Type 0
+ClosesOnce tag old new =
+    (times_closed tag new.orders ≡ times_closed tag old.orders)
+    ⊎ ((times_closed tag new.orders ≡ suc (times_closed tag old.orders)) × ((x : Named) × (name_in_register x old ≡ Some tag)) × ((x : Named) → name_in_register x new ≢ Some tag))
+
+-- ---- What is done
+
+-- All that waits for whoever is called so fits, and is ordered to be written.
+abbrev pub IsToWriteAll : Option ℕ → Option Post → List Order → Type 0
+IsToWriteAll None post all = Unit {0}
+IsToWriteAll (Some tag) post all = HasAll post × IsOrdered (orders.Write tag) all
+
 -- What was ordered stays so. Whoever is to be closed now and wasn't before is one of these, and is ordered closed; and a connection that is to
 -- be opened now and wasn't before is ordered opened. Why one was closed for a packet's header is told as before; as many may be
 -- there, packets are as long, and the logins acknowledge the same.
@@ -92,8 +127,10 @@ pub record ClosesOnly (May : ℕ → Type 0) (old new : Register) : Type 0 where
   -- a connection that is there no more is ordered closed; and nobody else is than those, and these applications
   pub cuts : (number tag : ℕ) → called_at number old.links ≡ Some tag → (called_at number new.links ≡ Some tag) ⊎ IsOrdered (orders.Close tag) new.orders
   pub due : (tag : ℕ) → IsOrdered (orders.Close tag) new.orders → IsOrdered (orders.Close tag) old.orders ⊎ IsDue May tag old new
-  -- whoever something more waits for is ordered written to, and so is each connection on which more waits
-  pub writes : (key : ℕ) → (post_at new.posts key ≡ post_at old.posts key) ⊎ IsToWrite (open_name key new) new.orders
+  -- and each once, where no two are called so
+  pub once : (tag : ℕ) → IsOneCalled tag old → ClosesOnce tag old new
+  -- whoever something more waits for is ordered written to, and all of it fits; so is each connection on which more waits
+  pub writes : (key : ℕ) → (post_at new.posts key ≡ post_at old.posts key) ⊎ IsToWriteAll (open_name key new) (post_at new.posts key) new.orders
   pub writes_on : (number : ℕ) → (sending_at number new.links ≡ sending_at number old.links) ⊎ IsWritten (sending_at number new.links) new.orders
   -- nobody comes, and none is called anew
   pub were_open : (key tag : ℕ) → open_name key new ≡ Some tag → open_name key old ≡ Some tag

@@ -1,16 +1,18 @@
 -- What becomes of applications' requests as something comes on a connection, and how its packets are set anew.
-use Rattle.std.specs.Prelude.{◌≡◌, ◌⊎◌, ℕ, List, [], ◌∷◌, Option, Some, option_map}
+use Rattle.std.specs.Prelude.{◌≡◌, ◌⊎◌, ◌&&◌, ℕ, Bool, true, false, List, [], ◌∷◌, Option, Some, None, is_some}
 use Rattle.slab.specs.Slab.{Slab, get}
 use Rattle.tds_packet.specs.Reading.{Reading}
 use Rattle.tds_relay.specs.Bodies.{Astray, Body, Closed, Going, Kept, Nowhere, Spared, Starts, body_in, body_of}
-use Rattle.tds_relay.specs.Cutting.{at_its_beginning}
-use Rattle.tds_relay.specs.Desk.{owes_reset}
+use Rattle.tds_relay.specs.Desk.{owes_reset, whose}
 use Rattle.tds_relay.specs.Fronts.{house_in}
 use Rattle.tds_relay.specs.Handing.{PassesAs}
-use Rattle.tds_relay.specs.House.{House, Hands, Step, after}
-use Rattle.tds_relay.specs.Reads.{Comes, StaysAt, Streams, answer_at, open_at}
+use Rattle.tds_relay.specs.Hall.{done_by, what_in}
+use Rattle.tds_relay.specs.House.{House, Hands, Step, acknowledges, after}
+use Rattle.tds_relay.specs.Reads.{Comes, MayBegin, StaysAt, Streams, answer_at, if_open, open_answer, open_at}
 use Rattle.tds_relay.specs.Sparing.{IsUnkept}
 use Rattle.tds_relay.specs.declared.application.Application.{Application}
+use Rattle.tds_relay.specs.declared.desk.coming.Heard.{Heard}
+use Rattle.tds_relay.specs.declared.desk.coming.What.{What}
 use Rattle.tds_relay.specs.declared.link.Answer.{Answer}
 use Rattle.tds_relay.specs.declared.link.Link.{Link}
 use Rattle.tds_relay.specs.declared.relay.Relay as code
@@ -55,19 +57,32 @@ MayBeDone old new =
 
 -- ---- Packet by packet
 
--- What is known of the message stays, or the next one begins; or the connection is there no more.
-abbrev pub MayBegin : Option Answer → Option Answer → Type 0
-MayBegin old new = StaysAt old new ⊎ StaysAt (option_map at_its_beginning old) new
-
--- So it is on each.
+-- What is known of the message stays, or the next one begins, on each.
 pub record MayBeginAny (old new : List Link) : Type 0 where
   pub begins : (number : ℕ) → MayBegin (answer_at number old) (answer_at number new)
 
--- Each packet is handed on by what is known there, from before these steps to behind them.
+-- The next message may begin; or it doesn't yet.
+abbrev pub BeginsIf : Bool → Option Answer → Option Answer → Type 0
+BeginsIf true old new = MayBegin old new
+BeginsIf false old new = StaysAt old new
+
+pub record BeginAnyIf (may : Bool) (old new : List Link) : Type 0 where
+  pub begins : (number : ℕ) → BeginsIf may (answer_at number old) (answer_at number new)
+
+-- Whether this acknowledges what an application cancelled: then the next one of it may begin.
+abbrev pub acknowledges_to : Option ℕ → What → Bool
+acknowledges_to key what = is_some key && acknowledges what
+
+abbrev pub acknowledged_in : Option Heard → Bool
+acknowledged_in None = false
+acknowledged_in (Some heard) = acknowledges_to heard.key heard.what
+
+-- Each packet is handed on by what is known there, from before these steps to behind them: each one by what the one before has left.
 abbrev pub AreSetAnew : House → List Step → Option Answer → Option Answer → Type 0
-AreSetAnew h [] had now = MayBegin had now
+AreSetAnew h [] had now = StaysAt had now
 AreSetAnew h (Hands number header content part way manner ∷ steps) had now =
-    (from : Answer) × (next : Answer) × MayBegin had (Some from) × PassesAs (owes_reset number h.hall.desk) from header content manner next × AreSetAnew (after h (Hands number header content part way manner)) steps (Some next) now
+    (from : Answer) × (next : Answer) × (behind : Option Answer) × StaysAt had (Some from) × PassesAs (owes_reset number h.hall.desk) from header content part manner next
+    × BeginsIf (acknowledges_to (whose h.hall.desk number) (what_in (done_by h.hall.desk number part))) (Some next) behind × AreSetAnew (after h (Hands number header content part way manner)) steps behind now
 AreSetAnew h (step ∷ steps) had now = AreSetAnew (after h step) steps had now
 
 -- Bytes were heard up to these, and the packets among them handed on so.
@@ -75,14 +90,15 @@ pub record StreamsAnew (number : ℕ) (first : Option Answer) (had : Option Read
   pub streams : Streams number had old from bytes left now new to
   pub anew : AreSetAnew old streams.steps first last
 
--- Whatever was heard before, these bytes are heard behind it so.
-abbrev pub ContinuesAnew : ℕ → List ℕ → List ℕ → Option Answer → Option Reading → Option Answer → Option Reading → House → services.Service → House → services.Service → Type 0
-ContinuesAnew number left rest had now has next f at g to =
-    (first : Option Answer) (begun : Option Reading) (old : House) (from : services.Service) (bytes : List ℕ) → StreamsAnew number first begun old from bytes left had now f at
-    → StreamsAnew number first begun old from bytes rest has next g to
+-- Whatever was heard before, these bytes are heard behind it so; and where this acknowledges something the next message may begin.
+abbrev pub ContinuesAnew : ℕ → List ℕ → List ℕ → Option Heard → Option Answer → Option Reading → Option Answer → Option Reading → House → services.Service → House → services.Service → Type 0
+ContinuesAnew number left rest heard had now has next f at g to =
+    (first behind : Option Answer) (begun : Option Reading) (old : House) (from : services.Service) (bytes : List ℕ) → StreamsAnew number first begun old from bytes left had now f at
+    → BeginsIf (acknowledged_in heard) has behind → StreamsAnew number first begun old from bytes rest behind next g to
 
 -- In a call all of them are, and then those who wait are served: a message may begin anew where one is lent a connection.
 pub record ComesAnew (number : ℕ) (bytes : List ℕ) (old new : code.Relay) : Type 0 where
   pub comes : Comes number (open_at number old.links.items) (house_in old) old.desk.service bytes (open_at number new.links.items) (house_in new) new.desk.service
   pub behind : Option Answer
   pub anew : AreSetAnew (house_in old) comes.streams.streams.steps (answer_at number old.links.items) behind
+  pub begins : MayBegin (if_open comes.left behind) (open_answer number new.links.items)

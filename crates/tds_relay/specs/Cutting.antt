@@ -62,14 +62,16 @@ abbrev pub last_sent : ℕ → Bool → List ℕ → List ℕ
 last_sent id ends [] = if ends then sent_bytes Answer (end_bit ends) id [] else []
 last_sent id ends (byte ∷ bytes) = sent_bytes Answer (end_bit ends) id (byte ∷ bytes)
 
--- The bytes are packets of this PacketID, no longer than this, with these data, of which the last one ends the message or not.
+-- The bytes are packets of this PacketID, no longer than this, with these data, of which the last one ends the message or not: each but that is
+-- as long as may be, and behind another it has data.
 pub record IsAnew (size id : ℕ) (ends : Bool) (content bytes : List ℕ) : Type 0 where
   pub parts : List (List ℕ)
   pub last : List ℕ
   pub content_is : content ≡ joined parts ++ last
   pub bytes_are : bytes ≡ all_sent id parts ++ last_sent id ends last
-  pub fit : Each (λ part. 8 + length part ≤ size) parts
+  pub fill : Each (λ part. 8 + length part ≡ size) parts
   pub last_fits : 8 + length last ≤ size
+  pub has_data : last ≡ [] → parts ≡ []
 
 abbrev pub ends_in : Header → Bool
 ends_in header = has_bit (bits_of header.status) 1

@@ -5,7 +5,9 @@ use Rattle.tds_packet.specs.Layout.{IsPacket}
 use Rattle.tds_packet.specs.Reading as packets
 use Rattle.tds_packet.specs.Reading.{IsWhole, fault_of, up_to_end, with_taken}
 use Rattle.tds_packet.specs.Stream.{IsLess}
+use Rattle.tds_wire.specs.declared.told.Token.{Token}
 use Rattle.tds_wire.specs.Reading.{Reading}
+use Rattle.tds_service.specs.Parts.{Part}
 use Rattle.tds_relay.specs.declared.desk.coming.Heard.{Heard}
 use Rattle.tds_relay.specs.declared.desk.coming.What.TheVariants as whats
 use Rattle.tds_relay.specs.declared.link.Answer.{Answer}
@@ -16,7 +18,7 @@ use Rattle.tds_relay.specs.News.{holds_back}
 use Rattle.tds_relay.specs.Desk.{Way, owes_reset, whose}
 use Rattle.tds_relay.specs.Fronts.{IsWhat}
 use Rattle.tds_relay.specs.Hall.{done_by}
-use Rattle.tds_relay.specs.House.{House, Hands, IsTold, Manner, Whole, Without, Withheld, after, end_whose, handed, hears_of_reset, is_said, put_some}
+use Rattle.tds_relay.specs.House.{House, Hands, IsTold, Manner, Whole, Without, Withheld, after, end_whose, handed, hears_of_reset, is_said, news_in, put_some}
 use Rattle.tds_relay.specs.Posts.{Post}
 use Rattle.tds_relay.specs.Ties.{part_on}
 
@@ -61,12 +63,13 @@ KnowsOn r a new =
     (new ≡ a) ⊎ ((owed : Bool) × (header : Header) × (content : List ℕ) × IsPacket r.direction r.size r.taken header content × IsCutTo (awaited owed a) (ends_in header) content new)
 
 -- A packet is set anew where the server owes the news before it, or bytes before it were held back; from where its connection's walker
--- stands, in packets of that connection's size. By any other nothing is known of the message.
-abbrev pub PassesAs : Bool → Answer → Header → List ℕ → Manner → Answer → Type 0
-PassesAs owed a header content (Whole tells) new = new ≡ a
-PassesAs owed a header content (Without tells bytes) new =
+-- stands, in packets of that connection's size. It passes as it came where neither is so, or where the news is in it. By any other than
+-- those that are set anew nothing is known of the message.
+abbrev pub PassesAs : Bool → Answer → Header → List ℕ → Part Token → Manner → Answer → Type 0
+PassesAs owed a header content part (Whole tells) new = (new ≡ a) × (((owed || holds_back a.known) ≡ false) ⊎ (news_in owed part.items ≡ 1))
+PassesAs owed a header content part (Without tells bytes) new =
     ((owed || holds_back a.known) ≡ true) × IsCut (awaited owed a) header content bytes × IsCutTo (awaited owed a) (ends_in header) content new
-PassesAs owed a header content Withheld new = new ≡ a
+PassesAs owed a header content part Withheld new = new ≡ a
 
 -- ---- Which packet is handed on
 
@@ -82,7 +85,7 @@ pub record Passing (number : ℕ) (walker : Option Reading) (a next : Answer) (r
   pub has_walker : (key : ℕ) → whose old.hall.desk number ≡ Some key → IsSome walker
   pub goes : News
   pub by : IsFor (is_said heard.what (end_whose heard.key old.hall.ends)) goes a header content manner
-  pub cut : PassesAs (owes_reset number old.hall.desk) a header content manner next
+  pub cut : PassesAs (owes_reset number old.hall.desk) a header content (part_on walker content (ends_in header)) manner next
   pub told : IsTold (owes_reset number old.hall.desk) (hears_of_reset heard.what (end_whose heard.key old.hall.ends)) manner (part_on walker content (ends_in header))
   pub is : new ≡ after old (Hands number header content (part_on walker content (ends_in header)) way manner)
 

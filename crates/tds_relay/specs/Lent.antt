@@ -12,7 +12,7 @@ use Rattle.tds_relay.specs.Closings.{Register, open_name}
 use Rattle.tds_relay.specs.Fronts.{ends_in}
 use Rattle.tds_relay.specs.Desk.{find_key, find_number, key_of, without_number}
 use Rattle.tds_relay.specs.Hall.{end_at, holder, is_in}
-use Rattle.tds_relay.specs.Reads.{StaysAt, answer_at, link_at, waits_on}
+use Rattle.tds_relay.specs.Reads.{StaysAt, answer_at, link_at, post_on, waits_on}
 use Rattle.tds_relay.specs.Sparing.{Held, held_at}
 use Rattle.tds_relay.specs.Taking.{IsDeaf}
 use Rattle.tds_relay.specs.Ties.{desk_in}
@@ -25,10 +25,10 @@ pub record KeepsAnswers (old new : List Link) : Type 0 where
 abbrev pub BeginsOn : ℕ → List Link → List Link → Type 0
 BeginsOn number old new = StaysAt (option_map at_its_beginning (answer_at number old)) (answer_at number new)
 
--- Packets of this size are read there, set anew, and sent. Its login acknowledged these features, and no message has begun.
+-- Packets of this size are read there, set anew, and sent. Its login acknowledged these features, no message has begun, and what is put there fits.
 abbrev pub IsMade : ℕ → Features → Link → Type 0
 IsMade size features l =
-    (l.reader.size ≡ size) × (l.answer.size ≡ size) × (l.out.size ≡ size) × Begins COLUMNS features l.answer.walker × (l.answer.known ≡ knowns.None)
+    (l.reader.size ≡ size) × (l.answer.size ≡ size) × (l.out.size ≡ size) × Begins COLUMNS features l.answer.walker × (l.answer.known ≡ knowns.None) × (l.out.is_full ≡ false)
 
 abbrev pub IsMadeOn : ℕ → Features → ℕ → List Link → Type 0
 IsMadeOn size features number ls = IfSome (link_at number ls) (IsMade size features)
@@ -66,9 +66,9 @@ LastOrDeaf key old new = AllLast old new.links.items ⊎ IsDeaf (end_at (ends_in
 
 -- ---- What is put
 
--- What waited there waits, and nothing else; or the connection is there no more.
+-- What waited there waits, and nothing else, and is as full; or the connection is there no more.
 abbrev pub KeepsWaits : ℕ → List Link → List Link → Type 0
-KeepsWaits number old new = (waits_on number new ≡ None) ⊎ (waits_on number new ≡ waits_on number old)
+KeepsWaits number old new = (post_on number new ≡ None) ⊎ (post_on number new ≡ post_on number old)
 
 -- Nothing is put on the connection that somebody holds who waits for none, but on these; and where nobody held one, only where somebody does
 -- now.
@@ -82,11 +82,11 @@ pub record PutsOnly (But : ℕ → Type 0) (old new : code.Relay) : Type 0 where
 -- On each connection that this one doesn't hold the same waits, and who holds it does so still.
 abbrev pub OthersKeep : ℕ → List Hold → List Link → List Hold → List Link → Type 0
 OthersKeep key had old holds new =
-    (number : ℕ) → key_of (find_number number had) ≢ Some key → (find_number number holds ≡ find_number number had) × (waits_on number new ≡ waits_on number old)
+    (number : ℕ) → key_of (find_number number had) ≢ Some key → (find_number number holds ≡ find_number number had) × (post_on number new ≡ post_on number old)
 
 -- Who holds a connection does so still; or it is there no more.
 abbrev pub HoldsOrGone : List Hold → List Hold → List Link → Type 0
-HoldsOrGone had holds new = (number : ℕ) → (find_number number holds ≡ find_number number had) ⊎ ((find_number number holds ≡ None) × (waits_on number new ≡ None))
+HoldsOrGone had holds new = (number : ℕ) → (find_number number holds ≡ find_number number had) ⊎ ((find_number number holds ≡ None) × (post_on number new ≡ None))
 
 pub record KeepsToItsOwn (key : ℕ) (had : List Hold) (old : List Link) (holds : List Hold) (new : List Link) : Type 0 where
   pub others : OthersKeep key had old holds new
@@ -109,7 +109,7 @@ IsLetGo key had holds = (hold : Hold) → find_key key had ≡ Some hold → fin
 -- But on these connections the same waits, and who holds them does so still.
 abbrev pub FirstKeeps : (ℕ → Type 0) → code.Relay → code.Relay → Type 0
 FirstKeeps But old new = (number : ℕ)
-    → But number ⊎ ((find_number number new.desk.holds.items ≡ find_number number old.desk.holds.items) × (waits_on number new.links.items ≡ waits_on number old.links.items))
+    → But number ⊎ ((find_number number new.desk.holds.items ≡ find_number number old.desk.holds.items) × (post_on number new.links.items ≡ post_on number old.links.items))
 
 -- ---- Where those who wait are lent connections
 

@@ -26,6 +26,10 @@ tagged tag p = record { tag = Some tag; size = p.size; bytes = p.bytes; is_full 
 abbrev pub fits : Post → List ℕ → Bool
 fits p bytes = not p.is_full && nat_le (length p.bytes + length bytes) (p.size + 32768)
 
+-- All that was put for it fits.
+abbrev pub HasAll : Option Post → Type 0
+HasAll post = option_map (λ (p : Post). p.is_full) post ≡ Some false
+
 -- these bytes are put behind those that wait, all of them or none
 unfoldable pub put : List ℕ → Post → Post
 put bytes p =

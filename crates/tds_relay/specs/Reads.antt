@@ -9,8 +9,9 @@ use Rattle.tds_service.specs.declared.service.Service as services
 use Rattle.tds_relay.specs.declared.desk.coming.Heard.{Heard}
 use Rattle.tds_relay.specs.declared.link.Answer.{Answer}
 use Rattle.tds_relay.specs.declared.link.Link.{Link}
+use Rattle.tds_relay.specs.Cutting.{at_its_beginning}
 use Rattle.tds_relay.specs.Hall.{Moves}
-use Rattle.tds_relay.specs.Posts.{post_in}
+use Rattle.tds_relay.specs.Posts.{Post, post_in}
 use Rattle.tds_relay.specs.House.{House, Step, Hands, CausesStep, MayAll, after_all}
 use Rattle.tds_relay.specs.Promises.{Each}
 use Rattle.tds_relay.specs.Ties.{Cause, Connection}
@@ -73,13 +74,20 @@ bytes_on l = (post_in l.out).bytes
 abbrev pub waits_on : ℕ → List Link → Option (List ℕ)
 waits_on number ls = option_map bytes_on (link_at number ls)
 
+-- with whether all fits that was put there
+abbrev pub post_on : ℕ → List Link → Option Post
+post_on number ls = option_map (λ (l : Link). post_in l.out) (link_at number ls)
+
 -- if that is open
-abbrev pub if_open : Option Reading → Option (List ℕ) → Option (List ℕ)
-if_open None waits = None
-if_open (Some r) waits = waits
+abbrev pub if_open : {A : Type 0} → Option Reading → Option A → Option A
+if_open None o = None
+if_open (Some r) o = o
 
 abbrev pub open_waits : ℕ → List Link → Option (List ℕ)
 open_waits number ls = if_open (open_at number ls) (waits_on number ls)
+
+abbrev pub open_answer : ℕ → List Link → Option Answer
+open_answer number ls = if_open (open_at number ls) (answer_at number ls)
 
 -- It waits there still, in order, and more may have been put behind it; or the connection is there no more.
 abbrev pub FillsAt : Option (List ℕ) → Option (List ℕ) → Type 0
@@ -97,6 +105,10 @@ FillsBy out (Some old) (Some new) = new ≡ old ++ out
 abbrev pub StaysAt : {A : Type 0} → Option A → Option A → Type 0
 StaysAt old None = Unit {0}
 StaysAt old (Some new) = old ≡ Some new
+
+-- What is known of the message stays, or the next one begins; or the connection is there no more.
+abbrev pub MayBegin : Option Answer → Option Answer → Type 0
+MayBegin old new = StaysAt old new ⊎ StaysAt (option_map at_its_beginning old) new
 
 -- Another is there that is yet to be opened, and has no name.
 abbrev pub IsToOpen : Seen → Type 0
@@ -116,23 +128,26 @@ CalledAt (Some old) new = IsCalled old.1 old.2 new
 abbrev pub Sees : List Link → List Link → Type 0
 Sees old new = (number : ℕ) (had : Option Seen) → StaysAt had (seen_at number old) → StaysAt had (seen_at number new)
 
--- And what waited on one waits there still, and no more are there.
+-- And what waited on one waits there still, and no more are there; what is known of a message stays, or the next one begins.
 pub record Stays (old new : List Link) : Type 0 where
   pub few : length new ≤ length old
   pub seen : Sees old new
   pub fills : (number : ℕ) → FillsAt (waits_on number old) (waits_on number new)
+  pub begins : (number : ℕ) → MayBegin (answer_at number old) (answer_at number new)
 
 -- Each connection that is open was so, with the same of a packet, and what waited there waits still. Others may be there that are yet to be
--- opened. Each is called as it was.
+-- opened. Each is called as it was. What is known of a message stays, or the next one begins.
 pub record Opens (old new : List Link) : Type 0 where
   pub opens : (number : ℕ) → StaysAt (open_at number old) (open_at number new)
   pub fills : (number : ℕ) → FillsAt (open_waits number old) (open_waits number new)
+  pub begins : (number : ℕ) → MayBegin (open_answer number old) (open_answer number new)
   pub called : (number : ℕ) → CalledAt (seen_at number old) (seen_at number new)
 
 -- Of the one of this number that it was open, what waited there, and what it is called, alone.
 pub record OpensOthers (number : ℕ) (old new : List Link) : Type 0 where
   pub opens : (other : ℕ) → other ≢ number → StaysAt (open_at other old) (open_at other new)
   pub fills : (other : ℕ) → FillsAt (open_waits other old) (open_waits other new)
+  pub begins : (other : ℕ) → other ≢ number → MayBegin (open_answer other old) (open_answer other new)
   pub called : (other : ℕ) → CalledAt (seen_at other old) (seen_at other new)
 
 -- what has come of a packet on each that is open when the one of this number is opened
@@ -157,6 +172,7 @@ named_seen tag number other ls = if other == number then option_map (with_tag ta
 pub record OpensOne (number : ℕ) (old new : List Link) : Type 0 where
   pub opens : (other : ℕ) → StaysAt (opened_at number other old) (open_at other new)
   pub fills : (other : ℕ) → FillsAt (if_open (opened_at number other old) (waits_on other old)) (open_waits other new)
+  pub begins : (other : ℕ) → MayBegin (if_open (opened_at number other old) (answer_at other old)) (open_answer other new)
   pub called : (other : ℕ) → CalledAt (opened_seen number other old) (seen_at other new)
 
 -- One has come that is open, with nothing of a packet, and no other is open; or none has.

@@ -45,7 +45,7 @@ use Rattle.tds_relay.specs.House.{House}
 use Rattle.tds_relay.specs.Places.{HasNoTransaction, open_on}
 use Rattle.tds_relay.specs.Posts.{Post, Posts, acknowledgement, fits, give, post_at, post_in, posts_in}
 use Rattle.tds_relay.specs.Coming.{StreamsAnew}
-use Rattle.tds_relay.specs.Reads.{StreamsAll, answer_at, link_at, open_at}
+use Rattle.tds_relay.specs.Reads.{StreamsAll, answer_at, link_at, open_at, post_on}
 use Rattle.tds_relay.specs.Sparing.{IsKept}
 use Rattle.tds_relay.specs.Taking.{IsDeaf}
 use Rattle.tds_relay.specs.Ties.{Leaving, Turns, desk_in}
@@ -375,10 +375,6 @@ pub data HeardFor (number : ℕ) (bytes : List ℕ) (r : code.Relay) (other : �
   InLine : (mid : code.Relay)
       → StreamsAll number (open_at number r.links.items) (house_in r) r.desk.service bytes (open_at number mid.links.items) (house_in mid) mid.desk.service → IsWaiting (desk_in mid.desk).line other → HeardFor number bytes r other
 
--- what waits on the connection of this number
-abbrev pub post_on : ℕ → List Link → Option Post
-post_on number links = option_map (λ (l : Link). post_in l.out) (link_at number links)
-
 -- by a packet that has been handed on, by which nothing goes out
 abbrev pub ResumesAt : ℕ → Option Heard → code.Relay → ℕ → Type 0
 ResumesAt number None r other = ⊥
@@ -387,6 +383,7 @@ ResumesAt number (Some heard) r other =
     × (r.outbox.items ≡ [] → ResumesNot number heard.key (told_by (Some heard) (ends_in r.applications)) r.desk r.links.items (body_of other r) other)
 
 -- or where something does
+-- by a packet that has been handed on
 abbrev pub LosesAt : ℕ → Option Heard → code.Relay → ℕ → Type 0
 LosesAt number heard r other =
     LosesFor heard (ends_in r.applications) (posts_in r.applications) other ⊎ (((r.outbox.items ≢ []) × HasNoRoom number r.outbox.items r.links.items) ⊎ ResumesAt number heard r other)

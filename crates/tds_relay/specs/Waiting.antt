@@ -15,8 +15,8 @@ use Rattle.tds_relay.specs.Closings.{IsWaiting, IsWho}
 use Rattle.tds_relay.specs.Desk.{find_key}
 use Rattle.tds_relay.specs.Fronts.{end_of, ends_in}
 use Rattle.tds_relay.specs.Hall.{AsksFor, IfOpen, IsBegun, end_at, holder, is_in}
-use Rattle.tds_relay.specs.Reads.{open_at, opened_at}
-use Rattle.tds_relay.specs.Reasons.{IsTurnedAway, post_on}
+use Rattle.tds_relay.specs.Reads.{open_at, opened_at, post_on}
+use Rattle.tds_relay.specs.Reasons.{IsTurnedAway}
 use Rattle.tds_relay.specs.Sparing.{IsHeldBack, IsUnkept}
 use Rattle.tds_relay.specs.Taking.{IsDeaf}
 use Rattle.tds_relay.specs.Ties.{desk_in}

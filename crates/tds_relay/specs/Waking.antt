@@ -8,7 +8,7 @@ use Rattle.tds_relay.specs.declared.order.Order.TheVariants as orders
 use Rattle.tds_relay.specs.Fronts.{ends_in}
 use Rattle.tds_relay.specs.Hall.{Ends, end_at}
 use Rattle.tds_relay.specs.House.{is_said}
-use Rattle.tds_relay.specs.Posts.{Posts, names_of, post_at, posts_in}
+use Rattle.tds_relay.specs.Posts.{HasAll, Posts, names_of, post_at, posts_in}
 use Rattle.tds_relay.specs.Taking.{IsDeaf}
 
 -- It is among what is to be done.
@@ -19,9 +19,9 @@ IsToDo order all = (before : List Order) × (after : List Order) × (all ≡ bef
 abbrev pub name_at : Posts → ℕ → Option (Option ℕ)
 name_at posts key = slice_index_or (names_of posts) key None
 
--- Its bytes are to be written; or it is to be closed.
+-- Its bytes are to be written, and all fit; or it is to be closed.
 abbrev pub IsWoken : ℕ → Slab Application → List Order → Type 0
-IsWoken key slab all = IsDeaf (end_at (ends_in slab) key) ⊎ ((tag : ℕ) × (name_at (posts_in slab) key ≡ Some (Some tag)) × IsToDo (orders.Write tag) all)
+IsWoken key slab all = IsDeaf (end_at (ends_in slab) key) ⊎ ((tag : ℕ) × (name_at (posts_in slab) key ≡ Some (Some tag)) × IsToDo (orders.Write tag) all × HasAll (post_at (posts_in slab) key))
 
 -- For each application nothing was put since this waited; or it is woken.
 abbrev pub Wakes : Posts → Slab Application → List Order → Type 0

@@ -154,8 +154,7 @@ impl Application {
         }
     }
 
-    /// How many more bytes of its request may be kept: no more than fit on a connection to which nothing is
-    /// to be sent.
+    /// How many more bytes of its request may be kept: no more than fit on a connection with nothing to send.
     fn room_to_keep(&self) -> usize
         ensures most { result ≤ MOST_HELD - vec_len self.now.held }
         ensures is { result ≡ room_to_keep self.now }
@@ -186,8 +185,7 @@ impl Application {
         Ok(true)
     }
 
-    /// A packet of its answer has come. Unless that is of a request that it took back, it is told of the reset
-    /// that it asked for.
+    /// A packet of its answer has come: it is told of the reset that it asked for, unless it took that back.
     pub(crate) fn goes_on(&mut self)
         ensures post { post_of self.new ≡ post_of self.old }
         ensures end { end_of self.new ≡ hears (end_of self.old) }

@@ -5,10 +5,10 @@ ghost use Rattle.tds_relay.specs.Coming.{MayBeginAny};
 ghost use Rattle.tds_relay.specs.Cutting.{at_its_beginning};
 ghost use Rattle.tds_relay.specs.Lent.{KeepsAnswers};
 ghost use Rattle.tds_relay.specs.Linking.{ArePlaced};
-ghost use Rattle.tds_relay.specs.Reads.{answer_at, link_at};
+ghost use Rattle.tds_relay.specs.Reads.{answer_at, link_at, post_on};
 ghost use Rattle.tds_relay.specs.Reads.{Sees, Stays, named_seen, open_at, opened_at, opened_seen, place_of};
 ghost use Rattle.tds_relay.specs.Reads.{seen_at, waits_on, without_link};
-ghost use Rattle.tds_relay.specs.Reasons.{HasNoRoom, post_on};
+ghost use Rattle.tds_relay.specs.Reasons.{HasNoRoom};
 ghost use Rattle.tds_relay.specs.Told.{is_there};
 
 use crate::NoMemory;
@@ -119,6 +119,8 @@ pub(crate) fn append_to(links: &mut Links, number: u64, bytes: &[u8]) -> Result<
     ensures read { Stays links.old.items links.new.items }
     ensures others { (other : ℕ) → other ≢ number
         → waits_on other links.new.items ≡ waits_on other links.old.items }
+    ensures posts { (other : ℕ) → other ≢ number
+        → post_on other links.new.items ≡ post_on other links.old.items }
     ensures unfit { IfOk result (λ fits. fits ≡ false
         → waits_on number links.new.items ≡ waits_on number links.old.items) }
     ensures no_room { IfOk result (λ fits. fits ≡ false
@@ -160,6 +162,8 @@ pub(crate) fn set_tag(links: &mut Links, number: u64, tag: usize)
         → seen_at other links.new.items ≡ named_seen tag number other links.old.items }
     ensures waits { (other : ℕ)
         → waits_on other links.new.items ≡ waits_on other links.old.items }
+    ensures answers { (other : ℕ)
+        → answer_at other links.new.items ≡ answer_at other links.old.items }
 {
     let Some(place) = place_in(links, number) else {
         return;
@@ -198,6 +202,8 @@ pub(crate) fn set_open(links: &mut Links, number: u64)
     ensures posts { (other : ℕ)
         → post_on other links.new.items ≡ post_on other links.old.items }
     ensures many { length links.new.items ≡ length links.old.items }
+    ensures answers { (other : ℕ)
+        → answer_at other links.new.items ≡ answer_at other links.old.items }
 {
     let Some(place) = place_in(links, number) else {
         return;

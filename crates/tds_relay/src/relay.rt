@@ -33,6 +33,7 @@ mod asking;
 mod beginning;
 mod bringing;
 mod coming;
+mod hearing;
 mod leaving;
 mod lending;
 mod limiting;
@@ -108,6 +109,7 @@ impl Relay {
         ensures goes_out { IfOk result (λ relay. AllSized size relay.desk.service) }
         ensures most { IfOk result (λ relay. relay.most ≡ most) }
         ensures seated { IfOk result (λ relay. IsSeated relay) }
+        ensures counts { IfOk result (λ relay. (relay.cleanings ≡ 0) × (relay.failed ≡ 0)) }
     {
         let desk = Desk::new(alloc, mode, most, size, features)?;
         Ok(Relay {
@@ -336,6 +338,7 @@ impl Relay {
         ensures lines { OnOk result (StandsInLine key self.new) }
         ensures spares { OnOk result ((number : ℕ)
             → SparesOthers number (Some key) (hall_in self.old) (hall_in self.new)) }
+        ensures counts { cleaned_in self.new ≡ cleaned_in self.old }
         ensures closes { ClosesOnly Nobody (register_in self.old) (register_in self.new) }
         ensures seated { IsSeated self.old → OnOk result (IsSeated self.new) }
     {

@@ -1,5 +1,5 @@
 -- Data that are laid out in packets anew.
-use Rattle.std.proofs.Common.{◌≡◌, ◌⊎◌, ◌∙◌, ◌==◌, ◌++◌, ◌+◌, ◌≤◌, inl, inr, ℕ, Bool, true, false, List, [], ◌∷◌, length, take, drop, refl, sym, ap}
+use Rattle.std.proofs.Common.{◌≡◌, ◌⊎◌, ◌∙◌, ◌==◌, ◌++◌, ◌+◌, ◌<◌, ◌≤◌, arith, inl, inr, ℕ, Bool, true, false, List, [], ◌∷◌, length, take, drop, refl, sym, ap}
 use Rattle.std.proofs.lemmas.Bool.{false≢true}
 use Rattle.std.proofs.lemmas.List.{append_assoc, append-nil, take-append-drop}
 use Rattle.tds_packet.specs.declared.kind.Kind.TheVariants.{Answer}
@@ -44,23 +44,28 @@ some_last id ends (x ∷ xs) some = refl
 abbrev pub Fits : ℕ → List ℕ → Type 0
 Fits size part = 8 + length part ≤ size
 
+abbrev pub Fills : ℕ → List ℕ → Type 0
+Fills size part = 8 + length part ≡ size
+
 pub record Laid (size id : ℕ) (before now content rest : List ℕ) : Type 0 where
   pub parts : List (List ℕ)
   pub now_is : now ≡ before ++ all_sent id parts
   pub content_is : content ≡ joined parts ++ rest
-  pub fit : Each (Fits size) parts
+  pub fill : Each (Fills size) parts
+  pub has_data : rest ≡ [] → parts ≡ []
 
 pub laid_none : (size id : ℕ) (before content : List ℕ) → Laid size id before before content content
-laid_none size id before content = record { parts = []; now_is = sym (append-nil before); content_is = refl; fit = tt }
+laid_none size id before content = record { parts = []; now_is = sym (append-nil before); content_is = refl; fill = tt; has_data = λ none. refl }
 
 pub laid_more : (size id : ℕ) (before now now2 content rest first others : List ℕ) → Laid size id before now content rest → rest ≡ first ++ others
-    → now2 ≡ now ++ sent_bytes Answer 0 id first → Fits size first → Laid size id before now2 content others
-laid_more size id before now now2 content rest first others l split sent fits = record {
+    → now2 ≡ now ++ sent_bytes Answer 0 id first → Fills size first → (others ≡ [] → ⊥) → Laid size id before now2 content others
+laid_more size id before now now2 content rest first others l split sent fills some = record {
   parts = l.parts ++ first ∷ [];
   now_is = sent ∙ ap (λ (front : List ℕ). front ++ sent_bytes Answer 0 id first) l.now_is
       ∙ append_assoc before (all_sent id l.parts) (sent_bytes Answer 0 id first) ∙ ap (λ (more : List ℕ). before ++ more) (sym (sent_more id l.parts first));
   content_is = l.content_is ∙ ap (λ (more : List ℕ). joined l.parts ++ more) split ∙ sym (joined_more l.parts first others);
-  fit = each_more (Fits size) l.parts first l.fit fits;
+  fill = each_more (Fills size) l.parts first l.fill fills;
+  has_data = λ none. absurd (some none);
 }
 
 -- nothing more is sent, or the last one
@@ -71,13 +76,20 @@ pub anew_by : (size id : ℕ) (ends : Bool) (before now now2 content rest : List
     → now2 ≡ now ++ last_sent id ends rest → Anew size id ends content before now2
 anew_by size id ends before now now2 content rest l fits sent = (
   all_sent id l.parts ++ last_sent id ends rest,
-  record { parts = l.parts; last = rest; content_is = l.content_is; bytes_are = refl; fit = l.fit; last_fits = fits },
+  record { parts = l.parts; last = rest; content_is = l.content_is; bytes_are = refl; fill = l.fill; last_fits = fits; has_data = l.has_data },
   sent ∙ ap (λ (front : List ℕ). front ++ last_sent id ends rest) l.now_is ∙ append_assoc before (all_sent id l.parts) (last_sent id ends rest),
 )
 
 pub split_is : (rest first others : List ℕ) (n : ℕ) → first ≡ take n rest → others ≡ drop n rest → rest ≡ first ++ others
 split_is rest first others n front back =
     sym (take-append-drop n rest) ∙ ap (λ (f : List ℕ). f ++ drop n rest) (sym front) ∙ ap (λ (o : List ℕ). first ++ o) (sym back)
+
+-- something is left behind the first of them
+pub some_left : (rest first others : List ℕ) → rest ≡ first ++ others → length first < length rest → others ≡ [] → ⊥
+some_left rest first others split less none =
+    let same : length rest ≡ length first = ap (length {A = ℕ}) (split ∙ ap (λ (o : List ℕ). first ++ o) none ∙ append-nil first) in
+    let lt : length first < length rest = less in
+    let u : ⊥ = omega (arith, same, lt) in u
 
 pub none_sent : (id : ℕ) (ends : Bool) (now rest : List ℕ) → ends ≡ false → rest ≡ [] → now ≡ now ++ last_sent id ends rest
 none_sent id ends now rest unended none =

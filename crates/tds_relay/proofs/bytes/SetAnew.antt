@@ -1,5 +1,5 @@
 -- Packets that are set anew, one behind the other.
-use Rattle.std.proofs.Common.{◌≡◌, ◌≢◌, ◌⊎◌, ◌∙◌, ℕ, true, false, List, [], ◌∷◌, ◌++◌, Option, Some, None, inl, inr, refl, sym, ap, subst, drop, option_map, slice_index_or, slice_set}
+use Rattle.std.proofs.Common.{◌≡◌, ◌≢◌, ◌⊎◌, ◌∙◌, ℕ, Bool, true, false, List, [], ◌∷◌, ◌++◌, Option, Some, None, inl, inr, refl, sym, ap, subst, drop, option_map, slice_index_or, slice_set}
 use Rattle.std.proofs.lemmas.Bool.{cases_eq}
 use Rattle.std.specs.Prelude.{Result, Ok, Err, IfOk, IsNone, OnOk}
 use Rattle.tds_packet.specs.Reading as packets
@@ -13,15 +13,19 @@ use Rattle.tds_relay.specs.declared.link.Answer.{Answer}
 use Rattle.tds_relay.specs.declared.link.Link.{Link}
 use Rattle.tds_relay.specs.declared.relay.Relay as code
 use Rattle.tds_relay.specs.Cutting.{at_its_beginning, ends_in}
-use Rattle.tds_relay.specs.Desk.{Way, owes_reset}
-use Rattle.tds_relay.specs.Fronts.{Moved, MovedOn, hall_in, house_in}
-use Rattle.tds_relay.specs.Hall.{Hall, Move}
-use Rattle.tds_relay.specs.Handing.{Brings, Hears, HearsBy, PassesAs, fed}
+use Rattle.tds_relay.specs.Desk.{Way, owes_reset, whose}
+use Rattle.tds_relay.specs.Fronts.{IsWhat, Moved, MovedOn, hall_in, house_in}
+use Rattle.tds_relay.specs.Hall.{Hall, Move, done_by, what_in}
+use Rattle.tds_service.specs.History.{Done}
+use Rattle.tds_relay.specs.declared.desk.coming.What.{What}
+use Rattle.tds_relay.specs.declared.desk.coming.What.TheVariants as whats
+use Rattle.tds_relay.specs.Handing.{Brings, Hears, HearsBy, IsNothing, PassesAs, fed}
 use Rattle.tds_relay.specs.House.{House, Manner, Step, Admits, Hands, Makes, Removes, Takes, Writes, after, after_all}
 use Rattle.tds_relay.specs.Lent.{KeepsAnswers}
 use Rattle.tds_relay.specs.Posts.{Posts, posts_in}
-use Rattle.tds_relay.specs.Reads.{Opens, Stays, StaysAt, StreamsAll, answer_at, answer_on, if_heard, link_at, open_at, open_of, place_of, reader_at, seen_of}
-use Rattle.tds_relay.specs.Coming.{AreSetAnew, ComesAnew, ContinuesAnew, MayBegin, MayBeginAny, StreamsAnew}
+use Rattle.tds_relay.specs.Reads.{MayBegin, Opens, Stays, StaysAt, StreamsAll, answer_at, answer_on, if_heard, link_at, open_at, open_of, place_of, reader_at, seen_of}
+use Rattle.tds_relay.specs.Coming.{AreSetAnew, BeginAnyIf, BeginsIf, ComesAnew, ContinuesAnew, MayBeginAny, StreamsAnew, acknowledges_to, acknowledged_in}
+use Rattle.tds_relay.proofs.steps.Beginning.{begin_both, begin_refl}
 use Rattle.tds_relay.specs.Ties.{Connection, part_on}
 use Rattle.tds_relay.specs.Walkers.{AllStand, ReadsBy as WalksBy, ReadsOn}
 use Rattle.tds_relay.proofs.bytes.Streaming.{heard_stays, streams_begin, streams_brought, streams_moved, streams_unheard}
@@ -34,24 +38,32 @@ use Rattle.tds_relay.proofs.steps.Stepping.{makes_all}
 
 -- ---- What is known of a message
 
-pub begin_refl : (o : Option Answer) → MayBegin o o
-begin_refl o = inl (at_refl o)
+-- whether the next one may begin or not, it may stay
+pub stays_if : (may : Bool) (o p : Option Answer) → StaysAt o p → BeginsIf may o p
+stays_if true o p h = inl h
+stays_if false o p h = h
 
-mapped : (o p : Option Answer) → StaysAt o p → StaysAt (option_map at_its_beginning o) (option_map at_its_beginning p)
-mapped o None h = tt
-mapped o (Some a) h = ap (option_map at_its_beginning) h
+keeps_if : (may : Bool) (ls ms : List Link) → KeepsAnswers ls ms → BeginAnyIf may ls ms
+keeps_if may ls ms h = record { begins = λ n. stays_if may (answer_at n ls) (answer_at n ms) (h.keeps n) }
 
-twice : (o : Option Answer) → option_map at_its_beginning (option_map at_its_beginning o) ≡ option_map at_its_beginning o
-twice None = refl
-twice (Some a) = refl
+pub any_if : {A E : Type 0} (r : Result A E) (may : Bool) (ls ms : List Link) → OnOk r (KeepsAnswers ls ms) → OnOk r (BeginAnyIf may ls ms)
+any_if (Ok x) may ls ms h = keeps_if may ls ms h
+any_if (Err e) may ls ms h = tt
 
-pub begin_both : (o p q : Option Answer) → MayBegin o p → MayBegin p q → MayBegin o q
-begin_both o p q (inl h) (inl k) = inl (at_next o p q h k)
-begin_both o p q (inl h) (inr k) = inr (at_next (option_map at_its_beginning o) (option_map at_its_beginning p) q (mapped o p h) k)
-begin_both o p q (inr h) (inl k) = inr (at_next (option_map at_its_beginning o) p q h k)
-begin_both o p q (inr h) (inr k) =
-    inr (at_next (option_map at_its_beginning o) (option_map at_its_beginning p) q
-    (subst (λ (x : Option Answer). StaysAt x (option_map at_its_beginning p)) (twice o) (mapped (option_map at_its_beginning o) p h)) k)
+pub sent_if : (may : Bool) (ls ms ns : List Link) → ms ≡ ls → KeepsAnswers ms ns → BeginAnyIf may ls ns
+sent_if may ls ms ns same h = keeps_if may ls ns (subst (λ (xs : List Link). KeepsAnswers xs ns) same h)
+
+may_begin : (may : Bool) (ls ms : List Link) → may ≡ true → MayBeginAny ls ms → BeginAnyIf may ls ms
+may_begin may ls ms is h = subst (λ (b : Bool). BeginAnyIf b ls ms) (sym is) (record { begins = h.begins })
+
+pub begins_any : {A E : Type 0} (r : Result A E) (may : Bool) (ls ms : List Link) → may ≡ true → OnOk r (MayBeginAny ls ms) → OnOk r (BeginAnyIf may ls ms)
+begins_any (Ok x) may ls ms is h = may_begin may ls ms is h
+begins_any (Err e) may ls ms is h = tt
+
+-- it acknowledges what its application cancelled
+pub acknowledges_one : (o : Option Heard) (h : Heard) (key : ℕ) → o ≡ Some h → h.key ≡ Some key → h.what ≡ whats.Acknowledged → acknowledged_in o ≡ true
+acknowledges_one o h key is its what =
+    ap acknowledged_in is ∙ ap (λ (k : Option ℕ). acknowledges_to k h.what) its ∙ ap (λ (w : What). acknowledges_to (Some key) w) what
 
 pub any_refl : (ls : List Link) → MayBeginAny ls ls
 any_refl ls = record { begins = λ n. begin_refl (answer_at n ls) }
@@ -79,98 +91,114 @@ any_sent ls ms ns same k = any_keeps ls ns (subst (λ (xs : List Link). KeepsAns
 
 -- ---- Along steps
 
-set_stays : (h : House) (steps : List Step) (first b c : Option Answer) → AreSetAnew h steps first b → MayBegin b c → AreSetAnew h steps first c
-set_stays h [] first b c s k = begin_both first b c s k
+set_stays : (h : House) (steps : List Step) (first b c : Option Answer) → AreSetAnew h steps first b → StaysAt b c → AreSetAnew h steps first c
+set_stays h [] first b c s k = at_next first b c s k
 set_stays h (Hands number header content part way manner ∷ steps) first b c s k =
-    (s.0, s.1, s.2, s.3, set_stays (after h (Hands number header content part way manner)) steps (Some s.1) b c s.4 k)
+    (s.0, s.1, s.2, s.3, s.4, s.5, set_stays (after h (Hands number header content part way manner)) steps s.2 b c s.6 k)
 set_stays h (Makes move ∷ steps) first b c s k = set_stays (after h (Makes move)) steps first b c s k
 set_stays h (Takes key bytes ∷ steps) first b c s k = set_stays (after h (Takes key bytes)) steps first b c s k
 set_stays h (Writes key count ∷ steps) first b c s k = set_stays (after h (Writes key count)) steps first b c s k
 set_stays h (Admits key ends posts ∷ steps) first b c s k = set_stays (after h (Admits key ends posts)) steps first b c s k
 set_stays h (Removes key gives way ∷ steps) first b c s k = set_stays (after h (Removes key gives way)) steps first b c s k
 
-set_moves : (h : House) (moves : List Move) (b c : Option Answer) → MayBegin b c → AreSetAnew h (makes_all moves) b c
+set_moves : (h : House) (moves : List Move) (b c : Option Answer) → StaysAt b c → AreSetAnew h (makes_all moves) b c
 set_moves h [] b c k = k
 set_moves h (move ∷ moves) b c k = set_moves (after h (Makes move)) moves b c k
 
 set_quiet : (h : House) (steps : List Step) (moves : List Move) (first b : Option Answer) → AreSetAnew h steps first b → AreSetAnew h (steps ++ makes_all moves) first b
 set_quiet h [] moves first b s = set_moves h moves first b s
 set_quiet h (Hands number header content part way manner ∷ steps) moves first b s =
-    (s.0, s.1, s.2, s.3, set_quiet (after h (Hands number header content part way manner)) steps moves (Some s.1) b s.4)
+    (s.0, s.1, s.2, s.3, s.4, s.5, set_quiet (after h (Hands number header content part way manner)) steps moves s.2 b s.6)
 set_quiet h (Makes move ∷ steps) moves first b s = set_quiet (after h (Makes move)) steps moves first b s
 set_quiet h (Takes key bytes ∷ steps) moves first b s = set_quiet (after h (Takes key bytes)) steps moves first b s
 set_quiet h (Writes key count ∷ steps) moves first b s = set_quiet (after h (Writes key count)) steps moves first b s
 set_quiet h (Admits key ends posts ∷ steps) moves first b s = set_quiet (after h (Admits key ends posts)) steps moves first b s
 set_quiet h (Removes key gives way ∷ steps) moves first b s = set_quiet (after h (Removes key gives way)) steps moves first b s
 
-module _ (number : ℕ) (header : Header) (content : List ℕ) (part : Part Token) (way : Way) (manner : Manner) (from next : Answer) where
-  set_one : (h : House) (steps : List Step) (first : Option Answer) → AreSetAnew h steps first (Some from) → PassesAs (owes_reset number (after_all h steps).hall.desk) from header content manner next
-      → AreSetAnew h (steps ++ Hands number header content part way manner ∷ []) first (Some next)
-  set_one h [] first s cut = (from, next, s, cut, begin_refl (Some next))
-  set_one h (Hands other head more piece how so ∷ steps) first s cut =
-      (s.0, s.1, s.2, s.3, set_one (after h (Hands other head more piece how so)) steps (Some s.1) s.4 cut)
-  set_one h (Makes move ∷ steps) first s cut = set_one (after h (Makes move)) steps first s cut
-  set_one h (Takes key bytes ∷ steps) first s cut = set_one (after h (Takes key bytes)) steps first s cut
-  set_one h (Writes key count ∷ steps) first s cut = set_one (after h (Writes key count)) steps first s cut
-  set_one h (Admits key ends posts ∷ steps) first s cut = set_one (after h (Admits key ends posts)) steps first s cut
-  set_one h (Removes key gives how ∷ steps) first s cut = set_one (after h (Removes key gives how)) steps first s cut
+module _ (number : ℕ) (header : Header) (content : List ℕ) (part : Part Token) (way : Way) (manner : Manner) (from next : Answer) (behind : Option Answer) where
+  set_one : (h : House) (steps : List Step) (first : Option Answer) → AreSetAnew h steps first (Some from) → PassesAs (owes_reset number (after_all h steps).hall.desk) from header content part manner next
+      → BeginsIf (acknowledges_to (whose (after_all h steps).hall.desk number) (what_in (done_by (after_all h steps).hall.desk number part))) (Some next) behind
+      → AreSetAnew h (steps ++ Hands number header content part way manner ∷ []) first behind
+  set_one h [] first s cut begins = (from, next, behind, s, cut, begins, at_refl behind)
+  set_one h (Hands other head more piece how so ∷ steps) first s cut begins =
+      (s.0, s.1, s.2, s.3, s.4, s.5, set_one (after h (Hands other head more piece how so)) steps s.2 s.6 cut begins)
+  set_one h (Makes move ∷ steps) first s cut begins = set_one (after h (Makes move)) steps first s cut begins
+  set_one h (Takes key bytes ∷ steps) first s cut begins = set_one (after h (Takes key bytes)) steps first s cut begins
+  set_one h (Writes key count ∷ steps) first s cut begins = set_one (after h (Writes key count)) steps first s cut begins
+  set_one h (Admits key ends posts ∷ steps) first s cut begins = set_one (after h (Admits key ends posts)) steps first s cut begins
+  set_one h (Removes key gives how ∷ steps) first s cut begins = set_one (after h (Removes key gives how)) steps first s cut begins
 
 -- ---- Of bytes
 
 pub anew_begin : (number : ℕ) (first : Option Answer) (had : Option packets.Reading) (h : House) (s : Service) (bytes : List ℕ) → StreamsAnew number first had h s bytes bytes first had h s
-anew_begin number first had h s bytes = record { streams = streams_begin number had h s bytes; anew = begin_refl first }
+anew_begin number first had h s bytes = record { streams = streams_begin number had h s bytes; anew = at_refl first }
 
 pub anew_left : (number : ℕ) (first last : Option Answer) (had now : Option packets.Reading) (old h : House) (from to : Service) (bytes left rest : List ℕ) → rest ≡ left
     → StreamsAnew number first had old from bytes left last now h to → StreamsAnew number first had old from bytes rest last now h to
 anew_left number first last had now old h from to bytes left rest is s = subst (λ (xs : List ℕ). StreamsAnew number first had old from bytes xs last now h to) (sym is) s
 
+stays_unless : (may : Bool) (o p : Option Answer) → may ≡ false → BeginsIf may o p → StaysAt o p
+stays_unless may o p not begins = subst (λ (b : Bool). BeginsIf b o p) not begins
+
 -- nobody hears them, for the connection isn't there; or it will be so
-unheard_by : (number : ℕ) (piece : List ℕ) (count : ℕ) (now next : Option packets.Reading) (b c : Option Answer) (f g : House) (at to : Service) → next ≡ None → StaysAt b c → g ≡ f → AllStand at to
-    → ContinuesAnew number piece (drop count piece) b now c next f at g to
-unheard_by number piece count now next b c f g at to none same is stand = λ first begun old from bytes s.
-    subst (λ (o : Option packets.Reading). StreamsAnew number first begun old from bytes (drop count piece) c o g to) (sym none)
+unheard_by : (number : ℕ) (piece : List ℕ) (count : ℕ) (heard : Option Heard) (now next : Option packets.Reading) (b c : Option Answer) (f g : House) (at to : Service) → acknowledged_in heard ≡ false → next ≡ None → StaysAt b c → g ≡ f → AllStand at to
+    → ContinuesAnew number piece (drop count piece) heard b now c next f at g to
+unheard_by number piece count heard now next b c f g at to silent none same is stand = λ first behind begun old from bytes s begins.
+    subst (λ (o : Option packets.Reading). StreamsAnew number first begun old from bytes (drop count piece) behind o g to) (sym none)
     (record {
       streams = streams_unheard number begun now old f g from at to bytes piece count is stand s.streams;
-      anew = set_stays old s.streams.steps first b c s.anew (inl same);
+      anew = set_stays old s.streams.steps first b behind s.anew (at_next b c behind same (stays_unless (acknowledged_in heard) c behind silent begins));
     })
 
 as_it_is : (b c : Option Answer) (l m : Answer) → b ≡ Some l → c ≡ Some m → m ≡ l → StaysAt b c
 as_it_is b c l m had has same = subst (λ (o : Option Answer). StaysAt b o) (had ∙ ap Some (sym same) ∙ sym has) (at_refl b)
 
-brought : (number : ℕ) (first b c : Option Answer) (begun now : Option packets.Reading) (link next : Link) (old f g : House) (from at to : Service) (bytes left : List ℕ) (count : ℕ) (heard : Heard)
+nothing_silent : (h : Heard) → IsNothing h → acknowledged_in (Some h) ≡ false
+nothing_silent h nothing = ap (λ (k : Option ℕ). acknowledges_to k h.what) nothing.0
+
+same_what : (key : Option ℕ) (what : What) (dones : List (Done Token)) → IsWhat key what dones → acknowledges_to key what ≡ acknowledges_to key (what_in dones)
+same_what None what dones is = refl
+same_what (Some key) what dones is = ap (λ (w : What). acknowledges_to (Some key) w) is
+
+brought : (number : ℕ) (first b c behind : Option Answer) (begun now : Option packets.Reading) (link next : Link) (old f g : House) (from at to : Service) (bytes left : List ℕ) (count : ℕ) (heard : Heard)
     → b ≡ Some link.answer → c ≡ Some next.answer → now ≡ Some link.reader → f.hall.desk.service ≡ service_in at → Hears number (reading_on number at) link next left count heard f g → ReadsOn number (fed link.reader left) at to
-    → Brings number (reading_on number at) link.answer next.answer (fed link.reader left) heard f g → StreamsAnew number first begun old from bytes left b now f at
-    → StreamsAnew number first begun old from bytes (drop count left) c (Some next.reader) g to
-brought number first b c begun now link next old f g from at to bytes left count heard had has is its hears reads (inl none) s = record {
+    → Brings number (reading_on number at) link.answer next.answer (fed link.reader left) heard f g → BeginsIf (acknowledged_in (Some heard)) c behind → StreamsAnew number first begun old from bytes left b now f at
+    → StreamsAnew number first begun old from bytes (drop count left) behind (Some next.reader) g to
+brought number first b c behind begun now link next old f g from at to bytes left count heard had has is its hears reads (inl none) begins s = record {
   streams = streams_brought number begun now link next old f g from at to bytes left count heard is its hears reads (inl none) s.streams;
-  anew = set_stays old s.streams.steps first b c s.anew (inl (as_it_is b c link.answer next.answer had has none.3));
+  anew = set_stays old s.streams.steps first b behind s.anew
+      (at_next b c behind (as_it_is b c link.answer next.answer had has none.3) (stays_unless (acknowledged_in (Some heard)) c behind (nothing_silent heard none.2) begins));
 }
-brought number first b c begun now link next old f g from at to bytes left count heard had has is its hears reads (inr p) s =
+brought number first b c behind begun now link next old f g from at to bytes left count heard had has is its hears reads (inr p) begins s =
     let part = part_on (reading_on number at) p.content (ends_in p.header) in
     let before : AreSetAnew old s.streams.steps first (Some link.answer) = subst (λ (o : Option Answer). AreSetAnew old s.streams.steps first o) had s.anew in
-    let cut : PassesAs (owes_reset number (after_all old s.streams.steps).hall.desk) link.answer p.header p.content p.manner next.answer =
-    subst (λ (h : House). PassesAs (owes_reset number h.hall.desk) link.answer p.header p.content p.manner next.answer) (sym s.streams.are) p.cut in
+    let cut : PassesAs (owes_reset number (after_all old s.streams.steps).hall.desk) link.answer p.header p.content part p.manner next.answer =
+    subst (λ (h : House). PassesAs (owes_reset number h.hall.desk) link.answer p.header p.content part p.manner next.answer) (sym s.streams.are) p.cut in
+    let what : acknowledged_in (Some heard) ≡ acknowledges_to (whose f.hall.desk number) (what_in (done_by f.hall.desk number part)) =
+    same_what heard.key heard.what (done_by f.hall.desk number part) p.what_is ∙ ap (λ (k : Option ℕ). acknowledges_to k (what_in (done_by f.hall.desk number part))) p.whose_is in
+    let here : BeginsIf (acknowledges_to (whose f.hall.desk number) (what_in (done_by f.hall.desk number part))) (Some next.answer) behind =
+    subst (λ (may : Bool). BeginsIf may (Some next.answer) behind) what (subst (λ (o : Option Answer). BeginsIf (acknowledged_in (Some heard)) o behind) has begins) in
     record {
       streams = streams_brought number begun now link next old f g from at to bytes left count heard is its hears reads (inr p) s.streams;
-      anew = subst (λ (o : Option Answer). AreSetAnew old (s.streams.steps ++ Hands number p.header p.content part p.way p.manner ∷ []) first o) (sym has)
-          (set_one number p.header p.content part p.way p.manner link.answer next.answer old s.streams.steps first before cut);
+      anew = set_one number p.header p.content part p.way p.manner link.answer next.answer behind old s.streams.steps first before cut
+          (subst (λ (h : House). BeginsIf (acknowledges_to (whose h.hall.desk number) (what_in (done_by h.hall.desk number part))) (Some next.answer) behind) (sym s.streams.are) here);
     }
 
 -- ---- As calls answer
 
 hear_by : (number : ℕ) (link next : Link) (piece : List ℕ) (now behind : Option packets.Reading) (b c : Option Answer) (f g : House) (at to : Service) (count : ℕ) (heard : Option Heard)
     → b ≡ Some link.answer → c ≡ Some next.answer → now ≡ Some link.reader → behind ≡ Some next.reader → f.hall.desk.service ≡ service_in at → HearsBy number (reading_on number at) link next piece count heard f g
-    → WalksBy number (fed link.reader piece) heard at to → ContinuesAnew number piece (drop count piece) b now c (if_heard heard behind) f at g to
+    → WalksBy number (fed link.reader piece) heard at to → ContinuesAnew number piece (drop count piece) heard b now c (if_heard heard behind) f at g to
 hear_by number link next piece now behind b c f g at to count None had has is after its h walks =
-    unheard_by number piece count now None b c f g at to refl (as_it_is b c link.answer next.answer had has h.2) h.1 walks
-hear_by number link next piece now behind b c f g at to count (Some heard) had has is after its h walks = λ first begun old from bytes s.
-    subst (λ (o : Option packets.Reading). StreamsAnew number first begun old from bytes (drop count piece) c o g to) (sym after)
-    (brought number first b c begun now link next old f g from at to bytes piece count heard had has is its h walks h.brings s)
+    unheard_by number piece count None now None b c f g at to refl refl (as_it_is b c link.answer next.answer had has h.2) h.1 walks
+hear_by number link next piece now behind b c f g at to count (Some heard) had has is after its h walks = λ first on begun old from bytes s begins.
+    subst (λ (o : Option packets.Reading). StreamsAnew number first begun old from bytes (drop count piece) on o g to) (sym after)
+    (brought number first b c on begun now link next old f g from at to bytes piece count heard had has is its h walks h.brings begins s)
 
 hear_ok : {E : Type 0} (r : Result (ℕ × Option Heard) E) (number : ℕ) (link next : Link) (piece : List ℕ) (now behind : Option packets.Reading) (b c : Option Answer) (f : House) (g : Option Heard → House) (at to : Service)
     → b ≡ Some link.answer → c ≡ Some next.answer → now ≡ Some link.reader → behind ≡ Some next.reader → f.hall.desk.service ≡ service_in at
     → IfOk r (λ heard. HearsBy number (reading_on number at) link next piece heard.0 heard.1 f (g heard.1)) → IfOk r (λ heard. WalksBy number (fed link.reader piece) heard.1 at to)
-    → IfOk r (λ heard. ContinuesAnew number piece (drop heard.0 piece) b now c (if_heard heard.1 behind) f at (g heard.1) to)
+    → IfOk r (λ heard. ContinuesAnew number piece (drop heard.0 piece) heard.1 b now c (if_heard heard.1 behind) f at (g heard.1) to)
 hear_ok (Ok x) number link next piece now behind b c f g at to had has is after its h walks = hear_by number link next piece now behind b c f (g x.1) at to x.0 x.1 had has is after its h walks
 hear_ok (Err e) number link next piece now behind b c f g at to had has is after its h walks = tt
 
@@ -178,7 +206,7 @@ hear_ok (Err e) number link next piece now behind b c f g at to had has is after
 pub hear_at : {E : Type 0} (r : Result (ℕ × Option Heard) E) (number : ℕ) (ls : List Link) (place : ℕ) (l next : Link) (piece : List ℕ) (f : House) (g : Option Heard → House) (from to : Service)
     → place_of number ls ≡ Some place → l ≡ slice_index_or ls place l → next.number ≡ l.number → l.is_open ≡ true → next.is_open ≡ l.is_open → f.hall.desk.service ≡ service_in from
     → IfOk r (λ heard. HearsBy number (reading_on number from) l next piece heard.0 heard.1 f (g heard.1)) → IfOk r (λ heard. WalksBy number (fed l.reader piece) heard.1 from to)
-    → IfOk r (λ heard. ContinuesAnew number piece (drop heard.0 piece) (answer_at number ls) (open_at number ls) (answer_at number (slice_set ls place next)) (if_heard heard.1 (open_at number (slice_set ls place next))) f from (g heard.1) to)
+    → IfOk r (λ heard. ContinuesAnew number piece (drop heard.0 piece) heard.1 (answer_at number ls) (open_at number ls) (answer_at number (slice_set ls place next)) (if_heard heard.1 (open_at number (slice_set ls place next))) f from (g heard.1) to)
 hear_at r number ls place l next piece f g from to is there same is_open stays its h walks =
     let at : IsAt number ls place = is_at number ls place is in
     let found : link_at number ls ≡ Some l = at.found l ∙ ap Some (sym there) in
@@ -187,35 +215,35 @@ hear_at r number ls place l next piece f g from to is there same is_open stays i
     (ap (option_map answer_on) found) (ap (option_map answer_on) written) (is_open_at number ls l found is_open) (is_open_at number (slice_set ls place next) next written (stays ∙ is_open)) its h walks
 
 -- it isn't open
-pub unopened : (number : ℕ) (piece : List ℕ) (count : ℕ) (ls : List Link) (place : ℕ) (l : Link) (f : House) (at : Service) → place_of number ls ≡ Some place → l ≡ slice_index_or ls place l → l.is_open ≡ false
-    → ContinuesAnew number piece (drop count piece) (answer_at number ls) (open_at number ls) (answer_at number (slice_set ls place l)) (open_at number (slice_set ls place l)) f at f at
-unopened number piece count ls place l f at is there closed =
+pub unopened : (number : ℕ) (piece : List ℕ) (count : ℕ) (heard : Option Heard) (ls : List Link) (place : ℕ) (l : Link) (f : House) (at : Service) → acknowledged_in heard ≡ false → place_of number ls ≡ Some place → l ≡ slice_index_or ls place l → l.is_open ≡ false
+    → ContinuesAnew number piece (drop count piece) heard (answer_at number ls) (open_at number ls) (answer_at number (slice_set ls place l)) (open_at number (slice_set ls place l)) f at f at
+unopened number piece count heard ls place l f at silent is there closed =
     let here : IsAt number ls place = is_at number ls place is in
     let found : link_at number ls ≡ Some l = here.found l ∙ ap Some (sym there) in
     let written : link_at number (slice_set ls place l) ≡ Some l = here.written l l (ap (λ (x : Link). x.number) there) in
-    unheard_by number piece count (open_at number ls) (open_at number (slice_set ls place l)) (answer_at number ls) (answer_at number (slice_set ls place l)) f f at at
+    unheard_by number piece count heard (open_at number ls) (open_at number (slice_set ls place l)) (answer_at number ls) (answer_at number (slice_set ls place l)) f f at at silent
     (is_shut_at number (slice_set ls place l) l written closed) (as_it_is (answer_at number ls) (answer_at number (slice_set ls place l)) l.answer l.answer (ap (option_map answer_on) found) (ap (option_map answer_on) written) refl)
     refl (λ n r st. st)
 
 -- it isn't there
-pub unheard : (number : ℕ) (piece : List ℕ) (count : ℕ) (ls : List Link) (f : House) (at : Service) → place_of number ls ≡ None
-    → ContinuesAnew number piece (drop count piece) (answer_at number ls) (open_at number ls) (answer_at number ls) (open_at number ls) f at f at
-unheard number piece count ls f at is =
-    unheard_by number piece count (open_at number ls) (open_at number ls) (answer_at number ls) (answer_at number ls) f f at at
+pub unheard : (number : ℕ) (piece : List ℕ) (count : ℕ) (heard : Option Heard) (ls : List Link) (f : House) (at : Service) → acknowledged_in heard ≡ false → place_of number ls ≡ None
+    → ContinuesAnew number piece (drop count piece) heard (answer_at number ls) (open_at number ls) (answer_at number ls) (open_at number ls) f at f at
+unheard number piece count heard ls f at silent is =
+    unheard_by number piece count heard (open_at number ls) (open_at number ls) (answer_at number ls) (answer_at number ls) f f at at silent
     (ap (λ (o : Option Link). open_of (option_map seen_of o)) (is_nowhere number ls is)) (at_refl (answer_at number ls)) refl (λ n r st. st)
 
 -- bytes are heard, and what came of them is done
 pub anew_on : (number : ℕ) (first : Option Answer) (had : Option packets.Reading) (old f : House) (from at between to : Service) (h h1 : Hall) (ps ps1 : Posts) (bytes left rest : List ℕ) (heard : Option Heard) (b : Option Answer) (now : Option packets.Reading)
     (ls ms : List Link) → StreamsAnew number first had old from bytes left b now f at
-    → ContinuesAnew number left rest b now (answer_at number ls) (if_heard heard (open_at number ls)) f at (record { hall = h; posts = ps }) between
-    → Moved (Connection number) h h1 → ps1 ≡ ps → Stays ls ms → (IsNone heard → reader_at number ms ≡ None) → AllStand between to → MayBeginAny ls ms
+    → ContinuesAnew number left rest heard b now (answer_at number ls) (if_heard heard (open_at number ls)) f at (record { hall = h; posts = ps }) between
+    → Moved (Connection number) h h1 → ps1 ≡ ps → Stays ls ms → (IsNone heard → reader_at number ms ≡ None) → AllStand between to → BeginAnyIf (acknowledged_in heard) ls ms
     → StreamsAnew number first had old from bytes rest (answer_at number ms) (open_at number ms) (record { hall = h1; posts = ps1 }) to
 anew_on number first had old f from at between to h h1 ps ps1 bytes left rest heard b now ls ms s hears m kept stays gone stand begins =
-    let t = hears first had old from bytes s in
+    let t = hears first (answer_at number ms) had old from bytes s (begins.begins number) in
     let moves = (m h (no_moves (Connection number) h)).moves in
     record {
       streams = streams_moved number had (if_heard heard (open_at number ls)) (open_at number ms) old from between to h h1 ps ps1 bytes rest m kept (heard_stays number heard ls ms stays gone) stand t.streams;
-      anew = set_stays old (t.streams.steps ++ makes_all moves) first (answer_at number ls) (answer_at number ms) (set_quiet old t.streams.steps moves first (answer_at number ls) t.anew) (begins.begins number);
+      anew = set_quiet old t.streams.steps moves first (answer_at number ms) t.anew;
     }
 
 -- and then those who wait are served
@@ -238,6 +266,7 @@ comes_anew (Ok x) number bytes old mid new s on kept opens stand =
       };
       behind = answer_at number mid.links.items;
       anew = s.anew;
+      begins = opens.begins number;
     }
 comes_anew (Err e) number bytes old mid new s on kept opens stand = tt
 

@@ -31,6 +31,9 @@ answers_on (Err e) ls ms ns h k = tt
 pub answers_from : {A E : Type 0} (r : Result A E) (ls ms ns : List Link) → ms ≡ ls → OnOk r (KeepsAnswers ms ns) → OnOk r (KeepsAnswers ls ns)
 answers_from r ls ms ns e h = subst (λ (xs : List Link). OnOk r (KeepsAnswers xs ns)) e h
 
+pub answers_behind : (ls ms ns : List Link) → ms ≡ ls → KeepsAnswers ms ns → KeepsAnswers ls ns
+answers_behind ls ms ns e h = subst (λ (xs : List Link). KeepsAnswers xs ns) e h
+
 pub answers_then : {A E : Type 0} (r : Result A E) (ls ms ns : List Link) → KeepsAnswers ls ms → OnOk r (ns ≡ ms) → OnOk r (KeepsAnswers ls ns)
 answers_then (Ok x) ls ms ns h e = subst (λ (xs : List Link). KeepsAnswers ls xs) (sym e) h
 answers_then (Err x) ls ms ns h e = tt

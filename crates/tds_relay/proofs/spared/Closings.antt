@@ -3,15 +3,16 @@ use Rattle.std.proofs.Common.{◌≡◌, ◌⊎◌, ◌∙◌, ℕ, true, List, 
 use Rattle.std.specs.Prelude.{Result, Ok, Err, OnOk}
 use Rattle.tds_relay.specs.declared.order.Order.{Order}
 use Rattle.tds_relay.specs.declared.order.Order.TheVariants as orders
-use Rattle.tds_relay.specs.Closings.{Anybody, ClosesOnly, IsDue, KeptBeside, Nobody, OfApplication, OfConnection, Register, Settings, but_told, is_shut, is_shut_at, open_name}
+use Rattle.tds_relay.specs.Closings.{Anybody, ClosesOnly, IsDue, IsToWriteAll, KeptBeside, Nobody, OfApplication, OfConnection, Register, Settings, but_told, is_shut, is_shut_at, open_name}
 use Rattle.tds_relay.specs.Hall.{Ends, end_at}
 use Rattle.tds_relay.specs.Closings.{name_with}
 use Rattle.tds_relay.specs.Ordering.{IsOrdered, StayOrdered}
-use Rattle.tds_relay.specs.Posts.{Posts, names_of, post_at}
+use Rattle.tds_relay.specs.Posts.{HasAll, Post, Posts, names_of, post_at}
 use Rattle.tds_relay.specs.declared.fault.Refused.{Refused}
 use Rattle.tds_relay.specs.Reads.{seen_at}
 use Rattle.tds_relay.specs.Sending.{IsToWrite, IsWritten, Sending, called_at, name_in, sending_at}
 use Rattle.tds_relay.proofs.spared.Ordered.{ordered_both, ordered_refl}
+use Rattle.tds_relay.proofs.spared.Once.{once_as, once_then, one_called_on, same_named, were_named}
 use Rattle.tds_relay.proofs.spared.Sending.{is_ordered_on}
 
 -- ---- One behind the other
@@ -24,6 +25,7 @@ closes_refl May r = record {
   opens = λ number e. inl e;
   cuts = λ number tag e. inl e;
   due = λ tag o. inl o;
+  once = λ tag one. inl refl;
   writes = λ key. inl refl;
   writes_on = λ number. inl refl;
   were_open = λ key tag e. e;
@@ -77,13 +79,18 @@ write_as : (o p : Option ℕ) (xs ys : List Order) → ((tag : ℕ) → p ≡ So
 write_as o None xs ys were s w = tt
 write_as o (Some tag) xs ys were s w = is_ordered_on (orders.Write tag) xs ys s (subst (λ (q : Option ℕ). IsToWrite q xs) (were tag refl) w)
 
-writes_or : (May : ℕ → Type 0) (key : ℕ) (a b c : Register) → ClosesOnly May b c → post_at c.posts key ≡ post_at b.posts key → (post_at b.posts key ≡ post_at a.posts key) ⊎ IsToWrite (open_name key b) b.orders
-    → (post_at c.posts key ≡ post_at a.posts key) ⊎ IsToWrite (open_name key c) c.orders
-writes_or May key a b c k same (inl e) = inl (same ∙ e)
-writes_or May key a b c k same (inr w) = inr (write_as (open_name key b) (open_name key c) b.orders c.orders (k.were_open key) k.ordered w)
+write_all_as : (o p : Option ℕ) (x y : Option Post) (xs ys : List Order) → ((tag : ℕ) → p ≡ Some tag → o ≡ Some tag) → StayOrdered xs ys → y ≡ x → IsToWriteAll o x xs → IsToWriteAll p y ys
+write_all_as o None x y xs ys were s same w = tt
+write_all_as o (Some tag) x y xs ys were s same w =
+    let v = subst (λ (q : Option ℕ). IsToWriteAll q x xs) (were tag refl) w in (subst HasAll (sym same) v.0, is_ordered_on (orders.Write tag) xs ys s v.1)
 
-writes_then : (May : ℕ → Type 0) (key : ℕ) (a b c : Register) → ClosesOnly May a b → ClosesOnly May b c → (post_at c.posts key ≡ post_at b.posts key) ⊎ IsToWrite (open_name key c) c.orders
-    → (post_at c.posts key ≡ post_at a.posts key) ⊎ IsToWrite (open_name key c) c.orders
+writes_or : (May : ℕ → Type 0) (key : ℕ) (a b c : Register) → ClosesOnly May b c → post_at c.posts key ≡ post_at b.posts key → (post_at b.posts key ≡ post_at a.posts key) ⊎ IsToWriteAll (open_name key b) (post_at b.posts key) b.orders
+    → (post_at c.posts key ≡ post_at a.posts key) ⊎ IsToWriteAll (open_name key c) (post_at c.posts key) c.orders
+writes_or May key a b c k same (inl e) = inl (same ∙ e)
+writes_or May key a b c k same (inr w) = inr (write_all_as (open_name key b) (open_name key c) (post_at b.posts key) (post_at c.posts key) b.orders c.orders (k.were_open key) k.ordered same w)
+
+writes_then : (May : ℕ → Type 0) (key : ℕ) (a b c : Register) → ClosesOnly May a b → ClosesOnly May b c → (post_at c.posts key ≡ post_at b.posts key) ⊎ IsToWriteAll (open_name key c) (post_at c.posts key) c.orders
+    → (post_at c.posts key ≡ post_at a.posts key) ⊎ IsToWriteAll (open_name key c) (post_at c.posts key) c.orders
 writes_then May key a b c h k (inr w) = inr w
 writes_then May key a b c h k (inl e) = writes_or May key a b c k e (h.writes key)
 
@@ -124,6 +131,9 @@ closes_both May a b c h k = record {
   opens = λ number e. opens_then number a b c k.ordered h.opens (k.opens number e);
   cuts = λ number tag e. cuts_then May number tag b c k (h.cuts number tag e);
   due = λ tag o. due_then May tag a b c h k (k.due tag o);
+  once = λ tag one.
+      let were = were_named a b tag (λ key e. h.were_open key tag e) (λ number e. h.were_called number tag e) in
+      once_then tag a b c were (were_named b c tag (λ key e. k.were_open key tag e) (λ number e. k.were_called number tag e)) (h.once tag one) (k.once tag (one_called_on a b tag were one));
   writes = λ key. writes_then May key a b c h k (k.writes key);
   writes_on = λ number. sends_then May number a b c h k.ordered (k.writes_on number);
   were_open = λ key tag e. h.were_open key tag (k.were_open key tag e);
@@ -157,6 +167,7 @@ closes_more May More a b f h = record {
   opens = h.opens;
   cuts = h.cuts;
   due = λ tag o. due_may May More tag a b (IsOrdered (orders.Close tag) a.orders) f (h.due tag o);
+  once = h.once;
   writes = h.writes;
   writes_on = h.writes_on;
   were_open = h.were_open;
@@ -228,6 +239,8 @@ closes_heard May a b c h ends names sends shut are settings =
           subst (λ (o : Option ℕ). (o ≡ Some tag) ⊎ IsOrdered (orders.Close tag) c.orders) (sym (ap name_in (sends number)))
           (subst (λ (xs : List Order). (called_at number b.links ≡ Some tag) ⊎ IsOrdered (orders.Close tag) xs) (sym are) (h.cuts number tag e));
       due = λ tag o. heard_due May tag a b c first same sends (h.due tag (subst (IsOrdered (orders.Close tag)) are o));
+      once = λ tag one.
+          once_as tag (but_told b a) b (but_told c a) c (same_named (but_told b a) (but_told c a) first (λ number. refl)) (same_named b c same (λ number. ap name_in (sends number))) refl are (h.once tag) one;
       writes = λ key. inl refl;
       writes_on = λ number.
           subst (λ (s : Option Sending). (s ≡ sending_at number a.links) ⊎ IsWritten s c.orders) (sym (sends number))

@@ -10,15 +10,16 @@ use Rattle.tds_relay.specs.declared.link.Link.{Link}
 use Rattle.tds_relay.specs.declared.order.Order.{Order}
 use Rattle.tds_relay.specs.declared.order.Order.TheVariants as orders
 use Rattle.tds_relay.specs.declared.relay.Relay as code
-use Rattle.tds_relay.specs.Closings.{ClosesOnly, IsDue, Itself, OfApplication, OfConnection, Register, is_shut, name_with, open_name, register_in}
+use Rattle.tds_relay.specs.Closings.{AConnection, AnApplication, ClosesOnce, ClosesOnly, IsDue, IsToWriteAll, Itself, OfApplication, OfConnection, Register, IsOneCalled, Named, is_shut, name_in_register, name_with, open_name, register_in, times_closed}
 use Rattle.tds_relay.specs.Fronts.{end_of, ends_in}
 use Rattle.tds_relay.specs.Hall.{End, Ends, Open, Over, change_end, end_at, told}
 use Rattle.tds_relay.specs.Ordering.{IsOrdered, StayOrdered}
-use Rattle.tds_relay.specs.Posts.{Post, Posts, names_in, names_of, post_at, post_of, posts_in}
+use Rattle.tds_relay.specs.Posts.{HasAll, Post, Posts, names_in, names_of, post_at, post_of, posts_in}
 use Rattle.tds_relay.specs.Reads.{Sees, seen_at, without_link}
-use Rattle.tds_relay.specs.Sending.{IsToWrite, IsWritten, Sending, called_at, name_in, sending_at, sending_of}
+use Rattle.tds_relay.specs.Sending.{IsWritten, Sending, called_at, name_in, sending_at, sending_of}
 use Rattle.tds_relay.specs.Taking.{IsDeaf}
 use Rattle.tds_relay.specs.Waking.{IsWoken}
+use Rattle.tds_relay.proofs.spared.Once.{once_as, ordered_once, same_named, were_named}
 use Rattle.tds_relay.proofs.spared.Ordered.{ordered_same}
 use Rattle.tds_relay.proofs.spared.Sending.{ordered_last, ordered_or_last, taken_link}
 use Rattle.tds_relay.proofs.spared.Waits.{left_link}
@@ -26,25 +27,25 @@ use Rattle.tds_relay.proofs.spared.Shutting.{end_is, same_names, shut_stays}
 
 -- ---- What is put for an application
 
-woken_by : (o : Option End) (name : Option (Option ℕ)) (tag : ℕ) (all : List Order) → name ≡ Some (Some tag) → IsOrdered (orders.Write tag) all → IsToWrite (name_with o name) all
-woken_by None name tag all is w = tt
-woken_by (Some (Open front withdrawn asks)) name tag all is w = subst (λ (n : Option (Option ℕ)). IsToWrite (name_with (Some (Open front withdrawn asks)) n) all) (sym is) w
-woken_by (Some (Over why)) name tag all is w = tt
+woken_by : (o : Option End) (name : Option (Option ℕ)) (tag : ℕ) (post : Option Post) (all : List Order) → name ≡ Some (Some tag) → HasAll post → IsOrdered (orders.Write tag) all → IsToWriteAll (name_with o name) post all
+woken_by None name tag post all is has w = tt
+woken_by (Some (Open front withdrawn asks)) name tag post all is has w = subst (λ (n : Option (Option ℕ)). IsToWriteAll (name_with (Some (Open front withdrawn asks)) n) post all) (sym is) (has, w)
+woken_by (Some (Over why)) name tag post all is has w = tt
 
-deaf_name : (o : Option End) (name : Option (Option ℕ)) (all : List Order) → IsDeaf o → IsToWrite (name_with o name) all
-deaf_name None name all deaf = tt
-deaf_name (Some (Open front withdrawn asks)) name all deaf = absurd deaf
-deaf_name (Some (Over why)) name all deaf = tt
+deaf_name : (o : Option End) (name : Option (Option ℕ)) (post : Option Post) (all : List Order) → IsDeaf o → IsToWriteAll (name_with o name) post all
+deaf_name None name post all deaf = tt
+deaf_name (Some (Open front withdrawn asks)) name post all deaf = absurd deaf
+deaf_name (Some (Over why)) name post all deaf = tt
 
-pub woken_writes : (key : ℕ) (s : Slab Application) (all : List Order) → IsWoken key s all → IsToWrite (name_with (end_at (ends_in s) key) (slice_index_or (names_of (posts_in s)) key None)) all
-woken_writes key s all (inl deaf) = deaf_name (end_at (ends_in s) key) (slice_index_or (names_of (posts_in s)) key None) all deaf
-woken_writes key s all (inr w) = woken_by (end_at (ends_in s) key) (slice_index_or (names_of (posts_in s)) key None) w.0 all w.1 (record { before = w.2.0; behind = w.2.1; are = w.2.2 })
+pub woken_writes : (key : ℕ) (s : Slab Application) (all : List Order) → IsWoken key s all → IsToWriteAll (name_with (end_at (ends_in s) key) (slice_index_or (names_of (posts_in s)) key None)) (post_at (posts_in s) key) all
+woken_writes key s all (inl deaf) = deaf_name (end_at (ends_in s) key) (slice_index_or (names_of (posts_in s)) key None) (post_at (posts_in s) key) all deaf
+woken_writes key s all (inr w) = woken_by (end_at (ends_in s) key) (slice_index_or (names_of (posts_in s)) key None) w.0 (post_at (posts_in s) key) all w.1 w.3 (record { before = w.2.0; behind = w.2.1; are = w.2.2 })
 
-given_writes : (key other : ℕ) (a b c : Posts) (o : ℕ → Option ℕ) (all : List Order) → ((k : ℕ) → k ≢ key → post_at b k ≡ post_at a k) → IsToWrite (o key) all → (other ≡ key) ⊎ (other ≢ key)
-    → (post_at c other ≡ post_at b other) ⊎ IsToWrite (o other) all → (post_at c other ≡ post_at a other) ⊎ IsToWrite (o other) all
-given_writes key other a b c o all others w is (inr u) = inr u
-given_writes key other a b c o all others w (inl same) (inl e) = inr (subst (λ (k : ℕ). IsToWrite (o k) all) (sym same) w)
-given_writes key other a b c o all others w (inr differs) (inl e) = inl (e ∙ others other differs)
+given_writes : (key other : ℕ) (a b c : Posts) (Woken : ℕ → Type 0) → ((k : ℕ) → k ≢ key → post_at b k ≡ post_at a k) → Woken key → (other ≡ key) ⊎ (other ≢ key)
+    → (post_at c other ≡ post_at b other) ⊎ Woken other → (post_at c other ≡ post_at a other) ⊎ Woken other
+given_writes key other a b c Woken others w is (inr u) = inr u
+given_writes key other a b c Woken others w (inl same) (inl e) = inr (subst Woken (sym same) w)
+given_writes key other a b c Woken others w (inr differs) (inl e) = inl (e ∙ others other differs)
 
 given_due : (May : ℕ → Type 0) (tag : ℕ) (a b c : Register) → ((key : ℕ) → open_name key b ≡ open_name key a) → b.links ≡ a.links → IsDue May tag b c → IsDue May tag a c
 given_due May tag a b c names links (OfApplication key may was gone) = OfApplication key may (sym (names key) ∙ was) gone
@@ -57,7 +58,7 @@ given_was May tag a b c names links are (inr d) = inr (given_due May tag a b c n
 
 -- and it is woken behind that
 pub closes_given : (May : ℕ → Type 0) (key : ℕ) (a b c : Register) → b.ends ≡ a.ends → names_of b.posts ≡ names_of a.posts → ((k : ℕ) → k ≢ key → post_at b.posts k ≡ post_at a.posts k) → b.kept ≡ a.kept → b.links ≡ a.links
-    → b.orders ≡ a.orders → ClosesOnly May b c → IsToWrite (open_name key c) c.orders → ClosesOnly May a c
+    → b.orders ≡ a.orders → ClosesOnly May b c → IsToWriteAll (open_name key c) (post_at c.posts key) c.orders → ClosesOnly May a c
 closes_given May key a b c ends names others told links are h w =
     let same : (k : ℕ) → open_name k b ≡ open_name k a =
     λ k. ap (λ (es : Ends). name_with (end_at es k) (slice_index_or (names_of b.posts) k None)) ends
@@ -69,14 +70,15 @@ closes_given May key a b c ends names others told links are h w =
       opens = λ number e. subst (λ (ls : List Link). (is_shut (seen_at number ls) ≡ true) ⊎ IsOrdered (orders.Open number) c.orders) links (h.opens number e);
       cuts = λ number tag e. h.cuts number tag (ap (called_at number) links ∙ e);
       due = λ tag o. given_was May tag a b c same links are (h.due tag o);
-      writes = λ k. given_writes key k a.posts b.posts c.posts (λ (n : ℕ). open_name n c) c.orders others w (cases_eq k key) (h.writes k);
+      once = λ tag one. once_as tag b c a c (same_named b a (λ k. sym (same k)) (λ number. ap (called_at number) (sym links))) (λ x. refl) (sym are) refl (h.once tag) one;
+      writes = λ k. given_writes key k a.posts b.posts c.posts (λ (n : ℕ). IsToWriteAll (open_name n c) (post_at c.posts n) c.orders) others w (cases_eq k key) (h.writes k);
       writes_on = λ number. subst (λ (ls : List Link). (sending_at number c.links ≡ sending_at number ls) ⊎ IsWritten (sending_at number c.links) c.orders) links (h.writes_on number);
       were_open = λ k tag e. sym (same k) ∙ h.were_open k tag e;
       were_called = λ number tag e. ap (called_at number) (sym links) ∙ h.were_called number tag e;
     }
 
 pub closes_given_on : {A E : Type 0} (r : Result A E) (May : ℕ → Type 0) (key : ℕ) (a b c : Register) → b.ends ≡ a.ends → names_of b.posts ≡ names_of a.posts → ((k : ℕ) → k ≢ key → post_at b.posts k ≡ post_at a.posts k)
-    → b.kept ≡ a.kept → b.links ≡ a.links → b.orders ≡ a.orders → OnOk r (ClosesOnly May b c) → OnOk r (IsToWrite (open_name key c) c.orders) → OnOk r (ClosesOnly May a c)
+    → b.kept ≡ a.kept → b.links ≡ a.links → b.orders ≡ a.orders → OnOk r (ClosesOnly May b c) → OnOk r (IsToWriteAll (open_name key c) (post_at c.posts key) c.orders) → OnOk r (ClosesOnly May a c)
 closes_given_on (Ok x) May key a b c ends names others told links are h w = closes_given May key a b c ends names others told links are h w
 closes_given_on (Err e) May key a b c ends names others told links are h w = tt
 
@@ -126,6 +128,11 @@ cut_stays : (o : Option ℕ) (a b : List Order) → b ≡ cutting o a → StayOr
 cut_stays None a b are = ordered_same a b are
 cut_stays (Some t) a b are = (orders.Close t ∷ [], are)
 
+cut_once : (o : Option ℕ) (number tag : ℕ) (a b : Register) → called_at number a.links ≡ o → b.orders ≡ cutting o a.orders → called_at number b.links ≡ None
+    → ((x : Named) → name_in_register x b ≡ Some tag → name_in_register x a ≡ Some tag) → IsOneCalled tag a → ClosesOnce tag a b
+cut_once None number tag a b is are gone were one = inl (ap (times_closed tag) are)
+cut_once (Some t) number tag a b is are gone were one = ordered_once tag t (AConnection number) a b are is gone were one
+
 pub closes_removed : (May : ℕ → Type 0) (number : ℕ) (a b : Register) → b.ends ≡ a.ends → b.posts ≡ a.posts → b.kept ≡ a.kept → b.links ≡ without_link number a.links → Sees a.links b.links
     → b.orders ≡ cutting (called_at number a.links) a.orders → ClosesOnly May a b
 closes_removed May number a b ends posts told links sees are =
@@ -138,6 +145,9 @@ closes_removed May number a b ends posts told links sees are =
       opens = λ other e. inl (shut_stays a.links b.links sees other e);
       cuts = λ other tag e. subst (λ (ls : List Link). (called_at other ls ≡ Some tag) ⊎ IsOrdered (orders.Close tag) b.orders) (sym links) (cuts_one number other tag a.links a.orders b.orders are e (cases_eq other number));
       due = λ tag o. cut_due May number tag a b links (cut_or (called_at number a.links) tag a.orders b.orders are o);
+      once = λ tag one.
+          cut_once (called_at number a.links) number tag a b refl are (ap (called_at number) links ∙ ap (λ (o : Option Link). name_in (option_map sending_of o)) (taken_link number a.links))
+          (were_named a b tag (λ key e. sym (same_names a b ends posts key) ∙ e) (λ other e. cut_called (sending_at other a.links) (sending_at other b.links) tag (by other) e)) one;
       writes = λ key. inl (ap (λ (ps : Posts). post_at ps key) posts);
       writes_on = λ other. cut_sends (sending_at other a.links) (sending_at other b.links) b.orders (by other);
       were_open = λ key tag e. sym (same_names a b ends posts key) ∙ e;
@@ -190,6 +200,9 @@ closes_ended key named by old b over ends posts its there are told links =
       opens = λ number e. inl (ap (λ (ls : List Link). is_shut (seen_at number ls)) (sym links) ∙ e);
       cuts = λ number tag e. inl (ap (called_at number) links ∙ e);
       due = λ tag o. ended_due key tag named old b its gone (ordered_or_last (orders.Close tag) (orders.Close named) old.orders b.orders are o);
+      once = λ tag one.
+          ordered_once tag named (AnApplication key) old b are its gone
+          (were_named old b tag (λ k e. ended_open key k tag old b gone others (cases_eq k key) e) (λ number e. ap (called_at number) (sym links) ∙ e)) one;
       writes = λ k. inl (ap (λ (ps : Posts). post_at ps k) posts);
       writes_on = λ number. inl (ap (sending_at number) links);
       were_open = λ k tag e. ended_open key k tag old b gone others (cases_eq k key) e;

@@ -14,19 +14,33 @@ use Rattle.tds_relay.specs.Desk.{Desk, Serves, find_number, key_of, lent_in, ser
 use Rattle.tds_relay.specs.Lent.{FirstKeeps, HoldsOrGone, IsLetGo, IsOnItsOwn, IsWithHolder, KeepsToItsOwn, KeepsWaits, LendsInLine, MayForget, MayBeLent, OthersKeep, OthersKeepAt, PutsOnly}
 use Rattle.tds_relay.specs.Lent as filling
 use Rattle.tds_relay.specs.Hall.{holder, is_in}
-use Rattle.tds_relay.specs.Reads.{bytes_on, link_at, reader_at, waits_on}
+use Rattle.tds_relay.specs.Reads.{link_at, post_on, reader_at, reader_of, waits_on}
+use Rattle.tds_relay.specs.Posts.{Post, post_in}
 use Rattle.tds_relay.specs.Ties.{IsReached, IsServed, Serving, Turns, desk_in}
 use Rattle.tds_relay.specs.Closings.{Nobody}
 use Rattle.tds_relay.specs.Promises.{Each}
 use Rattle.tds_relay.proofs.held.Fewer.{none_left, same_left}
 use Rattle.tds_relay.proofs.held.Numbers.{Apart, apart_at}
-use Rattle.tds_relay.proofs.spared.Cleaned.{waits_none}
 use Rattle.tds_relay.proofs.spared.Held.{holder_is}
 use Rattle.tds_relay.proofs.steps.Placed.{differs_by}
 
+-- ---- What waits, of that
+
+bytes_of : (o : Option Link) → option_map (λ (p : Post). p.bytes) (option_map (λ (l : Link). post_in l.out) o) ≡ option_map (λ (l : Link). (post_in l.out).bytes) o
+bytes_of None = refl
+bytes_of (Some l) = refl
+
+unposted : (o : Option Link) → option_map reader_of o ≡ None → option_map (λ (l : Link). post_in l.out) o ≡ None
+unposted None e = refl
+unposted (Some l) e = absurd (let u : ⊥ = cc in u)
+
+pub waits_posted : (number : ℕ) (ls ms : List Link) → KeepsWaits number ls ms → (waits_on number ms ≡ None) ⊎ (waits_on number ms ≡ waits_on number ls)
+waits_posted number ls ms (inl none) = inl (sym (bytes_of (link_at number ms)) ∙ ap (option_map (λ (p : Post). p.bytes)) none)
+waits_posted number ls ms (inr same) = inr (sym (bytes_of (link_at number ms)) ∙ ap (option_map (λ (p : Post). p.bytes)) same ∙ bytes_of (link_at number ls))
+
 -- ---- What one application does
 
-pub own_same : (key : ℕ) (had : List Hold) (old : List Link) (holds : List Hold) (new : List Link) → holds ≡ had → ((number : ℕ) → waits_on number new ≡ waits_on number old) → KeepsToItsOwn key had old holds new
+pub own_same : (key : ℕ) (had : List Hold) (old : List Link) (holds : List Hold) (new : List Link) → holds ≡ had → ((number : ℕ) → post_on number new ≡ post_on number old) → KeepsToItsOwn key had old holds new
 own_same key had old holds new e w = record {
   others = λ number differs. (ap (find_number number) e, w number);
   own = λ number. inl (ap (find_number number) e);
@@ -39,9 +53,9 @@ nobody : (o : Option Hold) (key : ℕ) → o ≡ None → key_of o ≢ Some key
 nobody o key none e = let u : None ≡ Some key = ap key_of (sym none) ∙ e in let v : ⊥ = cc in v
 
 own_then : (key number : ℕ) (a b c : List Hold) (y z : List Link) → KeepsToItsOwn key b y c z
-    → (find_number number b ≡ find_number number a) ⊎ ((find_number number b ≡ None) × (waits_on number y ≡ None))
-    → (find_number number c ≡ find_number number b) ⊎ ((find_number number c ≡ None) × (waits_on number z ≡ None))
-    → (find_number number c ≡ find_number number a) ⊎ ((find_number number c ≡ None) × (waits_on number z ≡ None))
+    → (find_number number b ≡ find_number number a) ⊎ ((find_number number b ≡ None) × (post_on number y ≡ None))
+    → (find_number number c ≡ find_number number b) ⊎ ((find_number number c ≡ None) × (post_on number z ≡ None))
+    → (find_number number c ≡ find_number number a) ⊎ ((find_number number c ≡ None) × (post_on number z ≡ None))
 own_then key number a b c y z k (inl f) (inl g) = inl (g ∙ f)
 own_then key number a b c y z k (inl f) (inr g) = inr g
 own_then key number a b c y z k (inr f) g =
@@ -61,21 +75,21 @@ own_both key a b c x y z h k = record {
 
 -- something is put on what it holds
 pub own_put : (key number : ℕ) (had : List Hold) (old : List Link) (holds : List Hold) (new : List Link) → holds ≡ had → key_of (find_number number had) ≡ Some key
-    → ((other : ℕ) → other ≢ number → waits_on other new ≡ waits_on other old) → KeepsToItsOwn key had old holds new
+    → ((other : ℕ) → other ≢ number → post_on other new ≡ post_on other old) → KeepsToItsOwn key had old holds new
 own_put key number had old holds new e its w = record {
   others = λ n differs. (ap (find_number n) e, w n (λ same. differs (subst (λ (k : ℕ). key_of (find_number k had) ≡ Some key) (sym same) its)));
   own = λ n. inl (ap (find_number n) e);
 }
 
 -- or that is lost
-lost_here : (number n : ℕ) (had holds : List Hold) (new : List Link) → holds ≡ without_number number had → waits_on number new ≡ None → (n ≡ number) ⊎ (n ≢ number)
-    → (find_number n holds ≡ find_number n had) ⊎ ((find_number n holds ≡ None) × (waits_on n new ≡ None))
+lost_here : (number n : ℕ) (had holds : List Hold) (new : List Link) → holds ≡ without_number number had → post_on number new ≡ None → (n ≡ number) ⊎ (n ≢ number)
+    → (find_number n holds ≡ find_number n had) ⊎ ((find_number n holds ≡ None) × (post_on n new ≡ None))
 lost_here number n had holds new e gone (inl same) =
-    inr (ap (find_number n) e ∙ subst (λ (k : ℕ). find_number k (without_number number had) ≡ None) (sym same) (none_left number had), ap (λ (k : ℕ). waits_on k new) same ∙ gone)
+    inr (ap (find_number n) e ∙ subst (λ (k : ℕ). find_number k (without_number number had) ≡ None) (sym same) (none_left number had), ap (λ (k : ℕ). post_on k new) same ∙ gone)
 lost_here number n had holds new e gone (inr differs) = inl (ap (find_number n) e ∙ same_left number n had (λ s. differs (sym s)))
 
-pub own_lost : (key number : ℕ) (had : List Hold) (old : List Link) (holds : List Hold) (new : List Link) → holds ≡ without_number number had → waits_on number new ≡ None
-    → key_of (find_number number had) ≡ Some key → ((other : ℕ) → other ≢ number → waits_on other new ≡ waits_on other old) → KeepsToItsOwn key had old holds new
+pub own_lost : (key number : ℕ) (had : List Hold) (old : List Link) (holds : List Hold) (new : List Link) → holds ≡ without_number number had → post_on number new ≡ None
+    → key_of (find_number number had) ≡ Some key → ((other : ℕ) → other ≢ number → post_on other new ≡ post_on other old) → KeepsToItsOwn key had old holds new
 own_lost key number had old holds new e gone its w = record {
   others = λ n differs.
       let off : n ≢ number = λ same. differs (subst (λ (k : ℕ). key_of (find_number k had) ≡ Some key) (sym same) its) in (
@@ -86,9 +100,9 @@ own_lost key number had old holds new e gone its w = record {
 }
 
 pub own_lost_on : {A E : Type 0} (r : Result A E) (key number : ℕ) (had : List Hold) (old : List Link) (holds : List Hold) (new : List Link) → OnOk r (holds ≡ without_number number had)
-    → OnOk r (reader_at number new ≡ None) → OnOk r ((other : ℕ) → other ≢ number → waits_on other new ≡ waits_on other old) → key_of (find_number number had) ≡ Some key
+    → OnOk r (reader_at number new ≡ None) → OnOk r ((other : ℕ) → other ≢ number → post_on other new ≡ post_on other old) → key_of (find_number number had) ≡ Some key
     → OnOk r (KeepsToItsOwn key had old holds new)
-own_lost_on (Ok x) key number had old holds new e gone w its = own_lost key number had old holds new e (waits_none number new gone) its w
+own_lost_on (Ok x) key number had old holds new e gone w its = own_lost key number had old holds new e (unposted (link_at number new) gone) its w
 own_lost_on (Err x) key number had old holds new e gone w its = tt
 
 pub own_on : {A E : Type 0} (r : Result A E) (key : ℕ) (a b c : List Hold) (x y z : List Link) → KeepsToItsOwn key a x b y → OnOk r (KeepsToItsOwn key b y c z) → OnOk r (KeepsToItsOwn key a x c z)
@@ -98,7 +112,7 @@ own_on (Err v) key a b c x y z h k = tt
 -- its application is closed
 pub own_end : {A E : Type 0} (r : Result A E) (key : ℕ) (old new : code.Relay) → new.desk ≡ old.desk → OnOk r (new.links.items ≡ old.links.items) → OnOk r (IsOnItsOwn key old new)
 own_end (Ok v) key old new at links =
-    own_same key old.desk.holds.items old.links.items new.desk.holds.items new.links.items (ap (λ (d : desks.Desk). d.holds.items) at) (λ number. ap (waits_on number) links)
+    own_same key old.desk.holds.items old.links.items new.desk.holds.items new.links.items (ap (λ (d : desks.Desk). d.holds.items) at) (λ number. ap (post_on number) links)
 own_end (Err v) key old new at links = tt
 
 -- one more connection is there
@@ -108,7 +122,7 @@ pushed_link n l (x ∷ xs) differs = ap (λ (o : Option Link). if x.number == n 
 
 pub own_pushed : (key number : ℕ) (had : List Hold) (old new : List Link) (l : Link) → key_of (find_number number had) ≡ Some key → l.number ≡ number → new ≡ old ++ l ∷ [] → KeepsToItsOwn key had old had new
 own_pushed key number had old new l its is e =
-    own_put key number had old had new refl its (λ n differs. ap (waits_on n) e ∙ ap (option_map bytes_on) (pushed_link n l old (λ s. differs (sym s ∙ is))))
+    own_put key number had old had new refl its (λ n differs. ap (post_on n) e ∙ ap (option_map (λ (x : Link). post_in x.out)) (pushed_link n l old (λ s. differs (sym s ∙ is))))
 
 -- ---- Whoever has waited longest is lent one
 
@@ -135,7 +149,7 @@ added_none : (n : ℕ) (x : Hold) (hs : List Hold) → find_number n hs ≡ None
 added_none n x [] e = refl
 added_none n x (y ∷ ys) e = none_if (y.number == n) n x y ys (if x.number == n then Some x else None) e (λ f. added_none n x ys f)
 
-moved : (number : ℕ) (a b c : List Link) → KeepsWaits number a b → waits_on number c ≡ waits_on number b → KeepsWaits number a c
+moved : (number : ℕ) (a b c : List Link) → KeepsWaits number a b → post_on number c ≡ post_on number b → KeepsWaits number a c
 moved number a b c (inl none) w = inl (w ∙ none)
 moved number a b c (inr same) w = inr (w ∙ same)
 
@@ -145,7 +159,7 @@ some_now o p h same is = subst (λ (q : Option Hold). IsSome q) (sym (same ∙ i
 module _ (number : ℕ) (line : List ℕ) (h0 hm he hn : List Hold) (l0 lm ln : List Link) (x : Hold) (more : he ≡ hm ++ x ∷ []) (waited : is_in x.key line ≡ true) (own : KeepsToItsOwn x.key he lm hn ln) where
   -- somebody holds it now
   now_held : (h : Hold) → find_number number h0 ≡ None → find_number number he ≡ Some h
-      → (find_number number hn ≡ find_number number he) ⊎ ((find_number number hn ≡ None) × (waits_on number ln ≡ None)) → MayBeLent number line h0 l0 hn ln
+      → (find_number number hn ≡ find_number number he) ⊎ ((find_number number hn ≡ None) × (post_on number ln ≡ None)) → MayBeLent number line h0 l0 hn ln
   now_held h none is (inl same) = filling.Lends none (some_now (find_number number he) (find_number number hn) h same is)
   now_held h none is (inr gone) = filling.Keeps (gone.0 ∙ sym none) (inl gone.1)
 
@@ -224,7 +238,7 @@ pub key_some : (o : Option Hold) → IsSome o → IsSome (key_of o)
 key_some None s = s
 key_some (Some h) s = refl
 
-module _ (number : ℕ) (old mid new : code.Relay) (before : WaitedBefore old mid) (f : find_number number mid.desk.holds.items ≡ find_number number old.desk.holds.items) (w : waits_on number mid.links.items ≡ waits_on number old.links.items) where
+module _ (number : ℕ) (old mid new : code.Relay) (before : WaitedBefore old mid) (f : find_number number mid.desk.holds.items ≡ find_number number old.desk.holds.items) (w : post_on number mid.links.items ≡ post_on number old.links.items) where
   kept_on : KeepsWaits number mid.links.items new.links.items → KeepsWaits number old.links.items new.links.items
   kept_on (inl none) = inl none
   kept_on (inr same) = inr (same ∙ w)
@@ -246,14 +260,14 @@ module _ (number : ℕ) (old mid new : code.Relay) (before : WaitedBefore old mi
   free_line none (filling.Lends empty some) = inr (key_some (find_number number new.desk.holds.items) some)
 
 held_first : (But : ℕ → Type 0) (number key : ℕ) (old mid new : code.Relay) → WaitedBefore old mid
-    → But number ⊎ ((find_number number mid.desk.holds.items ≡ find_number number old.desk.holds.items) × (waits_on number mid.links.items ≡ waits_on number old.links.items))
+    → But number ⊎ ((find_number number mid.desk.holds.items ≡ find_number number old.desk.holds.items) × (post_on number mid.links.items ≡ post_on number old.links.items))
     → is_in key old.desk.line.items ≡ false → key_of (find_number number old.desk.holds.items) ≡ Some key
     → MayBeLent number mid.desk.line.items mid.desk.holds.items mid.links.items new.desk.holds.items new.links.items → But number ⊎ KeepsWaits number old.links.items new.links.items
 held_first But number key old mid new before (inl b) waits its l = inl b
 held_first But number key old mid new before (inr k) waits its l = inr (held_line number old mid new before k.0 k.1 key waits its l)
 
 free_first : (But : ℕ → Type 0) (number : ℕ) (old mid new : code.Relay) → WaitedBefore old mid
-    → But number ⊎ ((find_number number mid.desk.holds.items ≡ find_number number old.desk.holds.items) × (waits_on number mid.links.items ≡ waits_on number old.links.items))
+    → But number ⊎ ((find_number number mid.desk.holds.items ≡ find_number number old.desk.holds.items) × (post_on number mid.links.items ≡ post_on number old.links.items))
     → key_of (find_number number old.desk.holds.items) ≡ None
     → MayBeLent number mid.desk.line.items mid.desk.holds.items mid.links.items new.desk.holds.items new.links.items
     → But number ⊎ (KeepsWaits number old.links.items new.links.items ⊎ IsSome (key_of (find_number number new.desk.holds.items)))
@@ -284,34 +298,34 @@ first_by key (Some j) But k = first_is key j But (cases_eq j key) k
 pub first_own : (key : ℕ) (old mid : code.Relay) → OthersKeepAt key old mid → FirstKeeps (λ (n : ℕ). holder (desk_in old.desk) n ≡ Some key) old mid
 first_own key old mid k = λ number.
     first_by key (key_of (find_number number old.desk.holds.items))
-    ((find_number number mid.desk.holds.items ≡ find_number number old.desk.holds.items) × (waits_on number mid.links.items ≡ waits_on number old.links.items)) (k number)
+    ((find_number number mid.desk.holds.items ≡ find_number number old.desk.holds.items) × (post_on number mid.links.items ≡ post_on number old.links.items)) (k number)
 
 -- a connection is lost
 first_off : (number n : ℕ) (old mid : code.Relay) → mid.desk.holds.items ≡ without_number number old.desk.holds.items
-    → ((other : ℕ) → other ≢ number → waits_on other mid.links.items ≡ waits_on other old.links.items) → (n ≡ number) ⊎ (n ≢ number)
-    → (n ≡ number) ⊎ ((find_number n mid.desk.holds.items ≡ find_number n old.desk.holds.items) × (waits_on n mid.links.items ≡ waits_on n old.links.items))
+    → ((other : ℕ) → other ≢ number → post_on other mid.links.items ≡ post_on other old.links.items) → (n ≡ number) ⊎ (n ≢ number)
+    → (n ≡ number) ⊎ ((find_number n mid.desk.holds.items ≡ find_number n old.desk.holds.items) × (post_on n mid.links.items ≡ post_on n old.links.items))
 first_off number n old mid e w (inl same) = inl same
 first_off number n old mid e w (inr differs) = inr (ap (find_number n) e ∙ same_left number n old.desk.holds.items (λ s. differs (sym s)), w n differs)
 
 pub first_lost : (number : ℕ) (old mid : code.Relay) → mid.desk.holds.items ≡ without_number number old.desk.holds.items
-    → ((other : ℕ) → other ≢ number → waits_on other mid.links.items ≡ waits_on other old.links.items) → FirstKeeps (λ (n : ℕ). n ≡ number) old mid
+    → ((other : ℕ) → other ≢ number → post_on other mid.links.items ≡ post_on other old.links.items) → FirstKeeps (λ (n : ℕ). n ≡ number) old mid
 first_lost number old mid e w = λ n. first_off number n old mid e w (cases_eq n number)
 
 -- nothing
-pub first_none : (old mid : code.Relay) → mid.desk.holds.items ≡ old.desk.holds.items → ((n : ℕ) → waits_on n mid.links.items ≡ waits_on n old.links.items) → FirstKeeps Nobody old mid
+pub first_none : (old mid : code.Relay) → mid.desk.holds.items ≡ old.desk.holds.items → ((n : ℕ) → post_on n mid.links.items ≡ post_on n old.links.items) → FirstKeeps Nobody old mid
 first_none old mid e w = λ n. inr (ap (find_number n) e, w n)
 
 -- ---- Between relays
 
-pub own_first : (key : ℕ) (old mid : code.Relay) → mid.desk.holds.items ≡ old.desk.holds.items → ((number : ℕ) → waits_on number mid.links.items ≡ waits_on number old.links.items) → IsOnItsOwn key old mid
+pub own_first : (key : ℕ) (old mid : code.Relay) → mid.desk.holds.items ≡ old.desk.holds.items → ((number : ℕ) → post_on number mid.links.items ≡ post_on number old.links.items) → IsOnItsOwn key old mid
 own_first key old mid e w = own_same key old.desk.holds.items old.links.items mid.desk.holds.items mid.links.items e w
 
 pub own_behind : {A E : Type 0} (r : Result A E) (key : ℕ) (a b c : code.Relay) → IsOnItsOwn key a b → OnOk r (IsOnItsOwn key b c) → OnOk r (IsOnItsOwn key a c)
 own_behind r key a b c h k = own_on r key a.desk.holds.items b.desk.holds.items c.desk.holds.items a.links.items b.links.items c.links.items h k
 
 holder_or : (key number : ℕ) (old mid : code.Relay) (n : ℕ) → holder (desk_in old.desk) number ≡ Some key
-    → (holder (desk_in old.desk) n ≡ Some key) ⊎ ((find_number n mid.desk.holds.items ≡ find_number n old.desk.holds.items) × (waits_on n mid.links.items ≡ waits_on n old.links.items))
-    → IsWithHolder number old n ⊎ ((find_number n mid.desk.holds.items ≡ find_number n old.desk.holds.items) × (waits_on n mid.links.items ≡ waits_on n old.links.items))
+    → (holder (desk_in old.desk) n ≡ Some key) ⊎ ((find_number n mid.desk.holds.items ≡ find_number n old.desk.holds.items) × (post_on n mid.links.items ≡ post_on n old.links.items))
+    → IsWithHolder number old n ⊎ ((find_number n mid.desk.holds.items ≡ find_number n old.desk.holds.items) × (post_on n mid.links.items ≡ post_on n old.links.items))
 holder_or key number old mid n is (inl its) = inl (subst (λ (o : Option ℕ). IsSome o) (sym is) refl, its ∙ sym is)
 holder_or key number old mid n is (inr k) = inr k
 
@@ -325,14 +339,14 @@ first_holder (Err x) key number old mid is own = tt
 pub first_refl : (But : ℕ → Type 0) (r : code.Relay) → FirstKeeps But r r
 first_refl But r = λ n. inr (refl, refl)
 
-then_by : (number n : ℕ) (a b c : code.Relay) → b.desk ≡ a.desk → ((m : ℕ) → waits_on m b.links.items ≡ waits_on m a.links.items)
-    → IsWithHolder number b n ⊎ ((find_number n c.desk.holds.items ≡ find_number n b.desk.holds.items) × (waits_on n c.links.items ≡ waits_on n b.links.items))
-    → IsWithHolder number a n ⊎ ((find_number n c.desk.holds.items ≡ find_number n a.desk.holds.items) × (waits_on n c.links.items ≡ waits_on n a.links.items))
+then_by : (number n : ℕ) (a b c : code.Relay) → b.desk ≡ a.desk → ((m : ℕ) → post_on m b.links.items ≡ post_on m a.links.items)
+    → IsWithHolder number b n ⊎ ((find_number n c.desk.holds.items ≡ find_number n b.desk.holds.items) × (post_on n c.links.items ≡ post_on n b.links.items))
+    → IsWithHolder number a n ⊎ ((find_number n c.desk.holds.items ≡ find_number n a.desk.holds.items) × (post_on n c.links.items ≡ post_on n a.links.items))
 then_by number n a b c at w (inl with) =
     inl (subst (λ (d : desks.Desk). IsSome (holder (desk_in d) number) × (holder (desk_in d) n ≡ holder (desk_in d) number)) at with)
 then_by number n a b c at w (inr k) = inr (k.0 ∙ ap (λ (d : desks.Desk). find_number n d.holds.items) at, k.1 ∙ w n)
 
-pub first_then : (number : ℕ) (a b c : code.Relay) → b.desk ≡ a.desk → ((m : ℕ) → waits_on m b.links.items ≡ waits_on m a.links.items) → FirstKeeps (IsWithHolder number b) b c → FirstKeeps (IsWithHolder number a) a c
+pub first_then : (number : ℕ) (a b c : code.Relay) → b.desk ≡ a.desk → ((m : ℕ) → post_on m b.links.items ≡ post_on m a.links.items) → FirstKeeps (IsWithHolder number b) b c → FirstKeeps (IsWithHolder number a) a c
 first_then number a b c at w first = λ n. then_by number n a b c at w (first n)
 
 pub puts_nothing : (But : ℕ → Type 0) (r : code.Relay) → PutsOnly But r r

@@ -17,7 +17,7 @@ use Rattle.tds_relay.specs.Lent.{IsLetGo, LendsInLine, MayForget, MayBeLent, Oth
 use Rattle.tds_relay.specs.Lent as filling
 use Rattle.tds_relay.specs.Hall.{holder}
 use Rattle.tds_relay.specs.Promises.{Each}
-use Rattle.tds_relay.specs.Reads.{FillsAt, Opens as OpensLinks, if_open, open_at, open_waits, waits_on}
+use Rattle.tds_relay.specs.Reads.{FillsAt, Opens as OpensLinks, post_on, if_open, open_at, open_waits, waits_on}
 use Rattle.tds_relay.specs.Ties.{IsNumberOf, IsReached, Turns, desk_in}
 use Rattle.tds_relay.proofs.held.Fewer.{each_number, same_left}
 use Rattle.tds_relay.proofs.held.Lists.{found_key}
@@ -25,7 +25,7 @@ use Rattle.tds_relay.proofs.held.Numbers.{Apart, apart_at, found_number, its_hol
 use Rattle.tds_relay.proofs.held.Seated.{each_found_by}
 use Rattle.tds_relay.proofs.promises.Caring.{Sound}
 use Rattle.tds_relay.proofs.promises.Holding.{found_by_lease}
-use Rattle.tds_relay.proofs.spared.Filling.{key_some}
+use Rattle.tds_relay.proofs.spared.Filling.{waits_posted, key_some}
 use Rattle.tds_relay.proofs.spared.Held.{not_equal, sound_at}
 use Rattle.tds_relay.proofs.steps.Placed.{differs_by}
 
@@ -114,7 +114,7 @@ pub nobody_keeps : (key : ℕ) (gives : Bool) (way : desk.Way) (old mid : code.R
     → Turns (desk.Leaves key gives way) (desk_in old.desk) (desk_in d) before after → mid.desk ≡ d → mid.links.items ≡ old.links.items → OthersKeepAt key old mid
 nobody_keeps key gives way old mid d before after None same is t at links = λ n differs. (
   ap (λ (x : desks.Desk). find_number n x.holds.items) at ∙ ap (find_number n) (left_none key gives way (desk_in old.desk) (desk_in d) before after t (sym same)),
-  ap (waits_on n) links,
+  ap (post_on n) links,
 )
 nobody_keeps key gives way old mid d before after (Some h) same is t at links = absurd is
 
@@ -128,7 +128,7 @@ module _ (key : ℕ) (gives : Bool) (way : desk.Way) (left : Left) (old mid new 
   holds_behind h its = ap (λ (x : desks.Desk). x.holds.items) at ∙ left_some key gives way (desk_in old.desk) (desk_in d) before after h t its
 
   keeps_by : (o : Option Hold) → o ≡ find_key key old.desk.holds.items → IsNumberOf o (Some left) → MayForget left.number mid.desk.holds.items new.desk.holds.items
-      → ((other : ℕ) → other ≢ left.number → waits_on other new.links.items ≡ waits_on other mid.links.items) → OthersKeepAt key old new
+      → ((other : ℕ) → other ≢ left.number → post_on other new.links.items ≡ post_on other mid.links.items) → OthersKeepAt key old new
   keeps_by None same is may waits = absurd is
   keeps_by (Some h) same is may waits = λ n differs.
       let its : find_key key old.desk.holds.items ≡ Some h = sym same in
@@ -136,7 +136,7 @@ module _ (key : ℕ) (gives : Bool) (way : desk.Way) (left : Left) (old mid new 
       ap (λ (k : ℕ). key_of (find_number k old.desk.holds.items)) is ∙ its_holder key h old.desk.holds.items (apart_at (desk_in old.desk) reached) its in
       let off : n ≢ left.number = λ e. differs (ap (λ (k : ℕ). key_of (find_number k old.desk.holds.items)) e ∙ own) in (
         forget_other left.number n mid.desk.holds.items new.desk.holds.items may off ∙ ap (find_number n) (holds_behind h its) ∙ left_holds (desk_in old.desk) key h reached its n differs,
-        waits n off ∙ ap (waits_on n) links,
+        waits n off ∙ ap (post_on n) links,
       )
 
   frees_by : MayForget left.number mid.desk.holds.items new.desk.holds.items → IsLetGo key old.desk.holds.items new.desk.holds.items
@@ -146,7 +146,7 @@ module _ (key : ℕ) (gives : Bool) (way : desk.Way) (left : Left) (old mid new 
       ∙ gone_one hold.number hold old.desk.holds.items (apart_at (desk_in old.desk) reached) (found_number key hold old.desk.holds.items (apart_at (desk_in old.desk) reached) its))
 
   pub left_keeps : {A E : Type 0} (r : Result A E) (o : Option Hold) → o ≡ find_key key old.desk.holds.items → IsNumberOf o (Some left) → OnOk r (MayForget left.number mid.desk.holds.items new.desk.holds.items)
-      → OnOk r ((other : ℕ) → other ≢ left.number → waits_on other new.links.items ≡ waits_on other mid.links.items) → OnOk r (OthersKeepAt key old new)
+      → OnOk r ((other : ℕ) → other ≢ left.number → post_on other new.links.items ≡ post_on other mid.links.items) → OnOk r (OthersKeepAt key old new)
   left_keeps (Ok x) o same is may waits = keeps_by o same is may waits
   left_keeps (Err x) o same is may waits = tt
 
@@ -183,7 +183,7 @@ pub lent_or : (number : ℕ) (mid new : code.Relay) → find_number number mid.d
     → MayBeLent number mid.desk.line.items mid.desk.holds.items mid.links.items new.desk.holds.items new.links.items
     → IsSome (holder (desk_in new.desk) number) ⊎ ((waits_on number new.links.items ≡ None) ⊎ (waits_on number new.links.items ≡ waits_on number mid.links.items))
 lent_or number mid new none (filling.OfWaiting h is i) = absurd (let u : None ≡ Some h = sym none ∙ is in let v : ⊥ = cc in v)
-lent_or number mid new none (filling.Keeps e kept) = inr kept
+lent_or number mid new none (filling.Keeps e kept) = inr (waits_posted number mid.links.items new.links.items kept)
 lent_or number mid new none (filling.Lends e some) = inl (key_some (find_number number new.desk.holds.items) some)
 
 pub served_since : (key : ℕ) (old mid new : code.Relay) → OfItsHold WaitsAtEnd key old (λ (n : ℕ). waits_on n mid.links.items) → OpensLinks mid.links.items new.links.items

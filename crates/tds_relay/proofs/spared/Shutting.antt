@@ -9,7 +9,7 @@ use Rattle.tds_relay.specs.declared.application.Application.{Application}
 use Rattle.tds_relay.specs.declared.link.Link.{Link}
 use Rattle.tds_relay.specs.declared.order.Order.{Order}
 use Rattle.tds_relay.specs.declared.order.Order.TheVariants as orders
-use Rattle.tds_relay.specs.Closings.{ClosesOnly, IsDue, Nobody, OfApplication, OfConnection, Register, is_shut, is_shut_at, name_with, open_name}
+use Rattle.tds_relay.specs.Closings.{ClosesOnly, IsDue, IsToWriteAll, Nobody, OfApplication, OfConnection, Register, is_shut, is_shut_at, name_with, open_name, times_closed}
 use Rattle.tds_relay.specs.Fronts.{end_of, ends_in, goes_by, withdraws}
 use Rattle.tds_front.specs.declared.fault.FrontFault.{FrontFault}
 use Rattle.tds_relay.specs.declared.desk.coming.What.TheVariants as whats
@@ -18,6 +18,7 @@ use Rattle.tds_relay.specs.Ordering.{IsOrdered, StayOrdered}
 use Rattle.tds_relay.specs.Posts.{Posts, names_of, post_at}
 use Rattle.tds_relay.specs.Reads.{Seen, Sees, StaysAt, bytes_on, link_at, opened_seen, seen_at, seen_of, waits_on, with_open}
 use Rattle.tds_relay.specs.Sending.{IsToWrite, IsWritten, called_at, name_in, sending_at, sending_of}
+use Rattle.tds_relay.proofs.spared.Once.{times_other}
 use Rattle.tds_relay.proofs.spared.Ordered.{ordered_same}
 use Rattle.tds_relay.proofs.spared.Sending.{AreKept, Comes, Pushed, Same, called_filled, ordered_last, ordered_or_last, pushed, sending_kept, sending_opened, sending_other, written_by}
 use Rattle.tds_relay.proofs.steps.Fed.{ends_written}
@@ -40,9 +41,10 @@ shut_stays ls ms sees number e = shut_seen (seen_at number ls) (seen_at number m
 pub record NoneClosed (a b : List Order) : Type 0 where
   pub more : StayOrdered a b
   pub were : (tag : ℕ) → IsOrdered (orders.Close tag) b → IsOrdered (orders.Close tag) a
+  pub times : (tag : ℕ) → times_closed tag b ≡ times_closed tag a
 
 pub unclosed : (a b : List Order) → b ≡ a → NoneClosed a b
-unclosed a b is = record { more = ordered_same a b is; were = λ tag o. subst (IsOrdered (orders.Close tag)) is o }
+unclosed a b is = record { more = ordered_same a b is; were = λ tag o. subst (IsOrdered (orders.Close tag)) is o; times = λ tag. ap (times_closed tag) is }
 
 was_written : (tag to : ℕ) (a : List Order) → IsOrdered (orders.Close tag) a ⊎ (orders.Close tag ≡ orders.Write to) → IsOrdered (orders.Close tag) a
 was_written tag to a (inl o) = o
@@ -56,18 +58,20 @@ pub write_closes : (to : ℕ) (a b : List Order) → b ≡ a ++ orders.Write to 
 write_closes to a b is = record {
   more = (orders.Write to ∷ [], is);
   were = λ tag o. was_written tag to a (ordered_or_last (orders.Close tag) (orders.Write to) a b is o);
+  times = λ tag. times_other tag (orders.Write to) a b is refl;
 }
 
 open_closes : (number : ℕ) (a b : List Order) → b ≡ a ++ orders.Open number ∷ [] → NoneClosed a b
 open_closes number a b is = record {
   more = (orders.Open number ∷ [], is);
   were = λ tag o. was_opened tag number a (ordered_or_last (orders.Close tag) (orders.Open number) a b is o);
+  times = λ tag. times_other tag (orders.Open number) a b is refl;
 }
 
 -- each application is open as it was, and each connection called
 closes_same : (May : ℕ → Type 0) (a b : Register) → ((key : ℕ) → open_name key b ≡ open_name key a) → b.kept ≡ a.kept
     → ((number : ℕ) → is_shut_at number b ≡ true → (is_shut_at number a ≡ true) ⊎ IsOrdered (orders.Open number) b.orders)
-    → ((key : ℕ) → (post_at b.posts key ≡ post_at a.posts key) ⊎ IsToWrite (open_name key b) b.orders)
+    → ((key : ℕ) → (post_at b.posts key ≡ post_at a.posts key) ⊎ IsToWriteAll (open_name key b) (post_at b.posts key) b.orders)
     → ((number tag : ℕ) → called_at number b.links ≡ Some tag → called_at number a.links ≡ Some tag) → ((number tag : ℕ) → called_at number a.links ≡ Some tag → called_at number b.links ≡ Some tag)
     → ((number : ℕ) → (sending_at number b.links ≡ sending_at number a.links) ⊎ IsWritten (sending_at number b.links) b.orders) → NoneClosed a.orders b.orders → ClosesOnly May a b
 closes_same May a b names told shut posts called calls sends n = record {
@@ -77,6 +81,7 @@ closes_same May a b names told shut posts called calls sends n = record {
   opens = shut;
   cuts = λ number tag e. inl (calls number tag e);
   due = λ tag o. inl (n.were tag o);
+  once = λ tag one. inl (n.times tag);
   writes = posts;
   writes_on = sends;
   were_open = λ key tag e. sym (names key) ∙ e;
@@ -269,10 +274,10 @@ none_due tag b c links (inr (OfConnection number was gone)) = absurd (let u : No
 
 pub closes_filled_on : (May : ℕ → Type 0) (number : ℕ) (out : List ℕ) (a b c : Register) → c.ends ≡ a.ends → c.posts ≡ a.posts → b.kept ≡ a.kept → Sees a.links b.links
     → ((n : ℕ) → n ≢ number → waits_on n b.links ≡ waits_on n a.links) → waits_on number b.links ≡ option_map (λ (waits : List ℕ). waits ++ out) (waits_on number a.links) → b.orders ≡ a.orders
-    → c.links ≡ b.links → IsToWrite (called_at number c.links) c.orders → ClosesOnly Nobody b c → ClosesOnly May a c
-closes_filled_on May number out a b c ends posts told sees others waits are links w h =
+    → c.links ≡ b.links → IsToWrite (called_at number c.links) c.orders → ((tag : ℕ) → times_closed tag c.orders ≡ times_closed tag b.orders) → ClosesOnly Nobody b c → ClosesOnly May a c
+closes_filled_on May number out a b c ends posts told sees others waits are links w times h =
     closes_filled May number out a c ends posts (h.told ∙ told) (subst (λ (ls : List Link). Sees a.links ls) (sym links) sees) (λ n differs. ap (waits_on n) links ∙ others n differs) (ap (waits_on number) links ∙ waits)
-    (record { more = subst (λ (xs : List Order). StayOrdered xs c.orders) are h.ordered; were = λ tag o. subst (IsOrdered (orders.Close tag)) are (none_due tag b c links (h.due tag o)) }) w
+    (record { more = subst (λ (xs : List Order). StayOrdered xs c.orders) are h.ordered; were = λ tag o. subst (IsOrdered (orders.Close tag)) are (none_due tag b c links (h.due tag o)); times = λ tag. times tag ∙ ap (times_closed tag) are }) w
 
 unfit_waits : (number other : ℕ) (ls ms : List Link) → ((n : ℕ) → n ≢ number → waits_on n ms ≡ waits_on n ls) → waits_on number ms ≡ waits_on number ls → (other ≡ number) ⊎ (other ≢ number) → waits_on other ms ≡ waits_on other ls
 unfit_waits number other ls ms others same (inl is) = subst (λ (n : ℕ). waits_on n ms ≡ waits_on n ls) (sym is) same

@@ -25,9 +25,9 @@ use Rattle.tds_relay.specs.Fronts.{ends_in}
 use Rattle.tds_relay.specs.Hall.{AsksFor, End, Ends, IfOpen, IfOpenAsks, Open, Over, end_at, holder}
 use Rattle.tds_relay.specs.Waiting.{IsOpened, KeepsPosts, OpensFor}
 use Rattle.tds_relay.specs.Posts.{Post, fits, post_in}
-use Rattle.tds_relay.specs.Reads.{Seen, Sees, StaysAt, link_at, open_at, open_of, seen_at, seen_of}
+use Rattle.tds_relay.specs.Reads.{Seen, Sees, StaysAt, link_at, open_at, open_of, seen_at, seen_of, post_on}
 use Rattle.tds_relay.specs.Reasons as reasons
-use Rattle.tds_relay.specs.Reasons.{CannotAsk, CannotGoOn, CannotMove, CannotPart, CannotPut, CannotResume, CannotResumeAt, CannotStart, HasNoRoom, IsReadyThere, IsTurnedAway, IsTurnedAwayAt, IsUnbegun, IsUnheld, IsUnrenewed, ItselfFor, NoneBegun, ResumesNot, ResumesNotAt, Unreset, post_on}
+use Rattle.tds_relay.specs.Reasons.{CannotAsk, CannotGoOn, CannotMove, CannotPart, CannotPut, CannotResume, CannotResumeAt, CannotStart, HasNoRoom, IsReadyThere, IsTurnedAway, IsTurnedAwayAt, IsUnbegun, IsUnheld, IsUnrenewed, ItselfFor, NoneBegun, ResumesNot, ResumesNotAt, Unreset}
 use Rattle.tds_relay.specs.Sparing.{IsKept, IsUnkept}
 use Rattle.tds_relay.specs.Ties.{Leaving, desk_in}
 use Rattle.tds_relay.proofs.spared.Closings.{closes_first, closes_more_on}

@@ -4,7 +4,7 @@ use Rattle.std.proofs.lemmas.Bool.{eqb-true}
 use Rattle.tds_relay.specs.declared.link.Link.{Link}
 use Rattle.tds_relay.specs.Posts.{Post, fits, post_in, put}
 use Rattle.tds_relay.specs.Reasons.{HasNoRoom}
-use Rattle.tds_relay.specs.Reads.{FillsAt, link_at, place_of, waits_on, without_link}
+use Rattle.tds_relay.specs.Reads.{FillsAt, link_at, place_of, post_on, waits_on, without_link}
 use Rattle.tds_relay.proofs.steps.Placed.{IsAt, is_at, is_nowhere}
 use Rattle.tds_relay.proofs.steps.Staying.{fills_refl}
 use Rattle.tds_relay.proofs.visits.Waiting.{put_fills, put_fits}
@@ -54,6 +54,11 @@ others_link number ls place d m is same other differs =
 pub others_wait : (number : ℕ) (ls : List Link) (place : ℕ) (d m : Link) → place_of number ls ≡ Some place → m.number ≡ (slice_index_or ls place d).number
     → (other : ℕ) → other ≢ number → waits_on other (slice_set ls place m) ≡ waits_on other ls
 others_wait number ls place d m is same other differs = ap (option_map waits_of) (others_link number ls place d m is same other differs)
+
+-- with whether it fits
+pub others_post : (number : ℕ) (ls : List Link) (place : ℕ) (d m : Link) → place_of number ls ≡ Some place → m.number ≡ (slice_index_or ls place d).number
+    → (other : ℕ) → other ≢ number → post_on other (slice_set ls place m) ≡ post_on other ls
+others_post number ls place d m is same other differs = ap (option_map (λ (l : Link). post_in l.out)) (others_link number ls place d m is same other differs)
 
 -- its own changes with it
 pub one_waits : (by : List ℕ → List ℕ) (number : ℕ) (ls : List Link) (place : ℕ) (d m : Link) → place_of number ls ≡ Some place → m.number ≡ (slice_index_or ls place d).number
@@ -134,3 +139,6 @@ left_link number other (x ∷ xs) differs =
 
 pub left_wait : (number other : ℕ) (ls : List Link) → other ≢ number → waits_on other (without_link number ls) ≡ waits_on other ls
 left_wait number other ls differs = ap (option_map waits_of) (left_link number other ls differs)
+
+pub left_post : (number other : ℕ) (ls : List Link) → other ≢ number → post_on other (without_link number ls) ≡ post_on other ls
+left_post number other ls differs = ap (option_map (λ (l : Link). post_in l.out)) (left_link number other ls differs)

@@ -23,7 +23,7 @@ use Rattle.tds_relay.specs.Hall.{End, Ends, Open, Over, end_at}
 use Rattle.tds_relay.specs.Handing.{Brings, IsFor}
 use Rattle.tds_relay.specs.House.{House, Manner, Withheld, change_whose, end_whose, handed, is_said, put_some}
 use Rattle.tds_relay.specs.Ordering.{StayOrdered}
-use Rattle.tds_relay.specs.Posts.{Post, Posts, names_in, names_of, post_at, post_of, posts_in}
+use Rattle.tds_relay.specs.Posts.{HasAll, Post, Posts, names_in, names_of, post_at, post_of, posts_in}
 use Rattle.tds_relay.specs.Taking.{IsDeaf}
 use Rattle.tds_relay.specs.Ties.{Connection, desk_in}
 use Rattle.tds_relay.specs.Waking.{HandsTo, IsToDo, IsWoken, PutsFor, Wakes, name_at}
@@ -38,22 +38,27 @@ pub name_there : (s : Slab Application) (key : ℕ) (a : Application) → Some a
 name_there s key a is =
     get_or-map (option_map (λ (p : Post). p.tag)) (posts_in s) key None ∙ ap (option_map (λ (p : Post). p.tag)) (post_is s key ∙ ap (option_map post_of) (sym is))
 
+-- all of it fits
+pub all_there : (s : Slab Application) (key : ℕ) (a : Application) → Some a ≡ get s key → a.out.is_full ≡ false → HasAll (post_at (posts_in s) key)
+all_there s key a is fits = ap (option_map (λ (p : Post). p.is_full)) (post_is s key ∙ ap (option_map post_of) (sym is)) ∙ ap Some fits
+
 pub to_do_on : (x : Order) (a b : List Order) → IsToDo x a → StayOrdered a b → IsToDo x b
 to_do_on x a b d s = (d.0, d.1 ++ s.0, s.1 ∙ ap (λ (xs : List Order). xs ++ s.0) d.2 ∙ append_assoc d.0 (x ∷ d.1) s.0)
 
 pub to_do_last : (x : Order) (a b : List Order) → b ≡ a ++ x ∷ [] → IsToDo x b
 to_do_last x a b e = (a, [], e)
 
-pub woken_on : (key : ℕ) (s t : Slab Application) (a b : List Order) → IsWoken key s a → names_in t ≡ names_in s → StayOrdered a b → (IsDeaf (end_at (ends_in s) key) → IsDeaf (end_at (ends_in t) key)) → IsWoken key t b
-woken_on key s t a b (inl deaf) names more later = inl (later deaf)
-woken_on key s t a b (inr w) names more later =
-    inr (w.0, ap (λ (ns : List (Option (Option ℕ))). slice_index_or ns key None) names ∙ w.1, to_do_on (orders.Write w.0) a b w.2 more)
+pub woken_on : (key : ℕ) (s t : Slab Application) (a b : List Order) → IsWoken key s a → post_at (posts_in t) key ≡ post_at (posts_in s) key → names_in t ≡ names_in s → StayOrdered a b → (IsDeaf (end_at (ends_in s) key) → IsDeaf (end_at (ends_in t) key))
+    → IsWoken key t b
+woken_on key s t a b (inl deaf) same names more later = inl (later deaf)
+woken_on key s t a b (inr w) same names more later =
+    inr (w.0, ap (λ (ns : List (Option (Option ℕ))). slice_index_or ns key None) names ∙ w.1, to_do_on (orders.Write w.0) a b w.2 more, subst HasAll (sym same) w.3)
 
 wakes_by : (key : ℕ) (old : Posts) (s t : Slab Application) (a b : List Order) → (post_at (posts_in s) key ≡ post_at old key) ⊎ IsWoken key s a → (post_at (posts_in t) key ≡ post_at (posts_in s) key) ⊎ IsWoken key t b
     → names_in t ≡ names_in s → StayOrdered a b → (IsDeaf (end_at (ends_in s) key) → IsDeaf (end_at (ends_in t) key)) → (post_at (posts_in t) key ≡ post_at old key) ⊎ IsWoken key t b
 wakes_by key old s t a b h (inr w) names more later = inr w
 wakes_by key old s t a b (inl e) (inl f) names more later = inl (f ∙ e)
-wakes_by key old s t a b (inr w) (inl f) names more later = inr (woken_on key s t a b w names more later)
+wakes_by key old s t a b (inr w) (inl f) names more later = inr (woken_on key s t a b w f names more later)
 
 pub wakes_both : (old : Posts) (s t : Slab Application) (a b : List Order) → Wakes old s a → Wakes (posts_in s) t b → names_in t ≡ names_in s → StayOrdered a b → ((key : ℕ) → IsDeaf (end_at (ends_in s) key) → IsDeaf (end_at (ends_in t) key))
     → Wakes old t b

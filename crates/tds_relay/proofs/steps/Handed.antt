@@ -1,9 +1,11 @@
 -- Packets that are handed on, and what steps they are.
-use Rattle.std.proofs.Common.{◌≡◌, ◌∙◌, ℕ, Bool, true, false, List, Option, Some, None, inl, inr, refl, sym, ap, subst, not, ◌&&◌, ◌||◌, ◌∷◌, if◌then◌else◌, slice_set, option_map, [], ◌++◌, take}
+use Rattle.std.proofs.Common.{◌≡◌, ◌⊎◌, ◌∙◌, ℕ, Bool, true, false, List, Option, Some, None, inl, inr, refl, sym, ap, subst, not, ◌&&◌, ◌||◌, ◌∷◌, if◌then◌else◌, slice_set, option_map, [], ◌++◌, take}
 use Rattle.std.proofs.lemmas.List.{set-get_or}
 use Rattle.std.specs.Prelude.{IsSome}
 use Rattle.slab.specs.Slab.{Slab, get, with_value}
+use Rattle.tds_wire.specs.declared.told.Token.{Token}
 use Rattle.tds_wire.specs.Reading.{Reading}
+use Rattle.tds_service.specs.Parts.{Part}
 use Rattle.tds_packet.specs.declared.header.Header.{Header}
 use Rattle.tds_packet.specs.Layout.{IsPacket}
 use Rattle.tds_packet.specs.Reading as packets
@@ -27,7 +29,8 @@ use Rattle.tds_relay.specs.Hall as hall
 use Rattle.tds_relay.specs.Hall.{End, Ends, Open, Over, done_by, end_at, told, what_in}
 use Rattle.tds_relay.specs.Handing.{Brings, Hears, IsBy, PassesAs, IsDone, IsFor, IsKnown, IsKnownBy, IsOf, KnowsOn, Passing, fed, news_for}
 use Rattle.tds_relay.specs.News.{holds_back}
-use Rattle.tds_relay.specs.House.{House, IsHanded, IsRight, IsTold, Manner, MayHand, Withheld, behind_news, change_whose, closes, end_whose, handed, hears_of_reset, is_said, put_all, put_some}
+use Rattle.tds_relay.specs.House.{House, IsHanded, IsRight, IsTold, Manner, MayHand, Withheld, behind_news, change_whose, closes, end_whose, handed, hears_of_reset, is_said, news_in, put_all, put_some}
+use Rattle.tds_relay.specs.Promises.{one_if}
 use Rattle.tds_relay.specs.Posts.{Post, Posts, change, post_at, post_of, posts_in, put, put_news}
 use Rattle.tds_relay.specs.Ties.{Turns, part_on}
 use Rattle.tds_relay.proofs.steps.Fronts.{end_is, told_whose}
@@ -190,7 +193,7 @@ has_walker d number key cs is h =
 pub passing : (number : ℕ) (walker : Option Reading) (goes : News) (a b : Answer) (r : packets.Reading) (heard : Heard) (d d1 : Desk) (es : Ends) (p p1 : Posts) (h : Header) (content : List ℕ) (ends : Bool) (way : Way) (manner : Manner) (before after : List ℕ)
     → IsPacket r.direction r.size r.taken h content → ends ≡ ends_in h → Turns (Comes number (part_on walker content ends) way) d d1 before after
     → heard.key ≡ whose d number → IsWhat heard.key heard.what (done_by d number (part_on walker content ends)) → ((key : ℕ) → whose d number ≡ Some key → IsSome walker)
-    → IsFor (is_said heard.what (end_whose heard.key es)) goes a h content manner → PassesAs (owes_reset number d) a h content manner b → IsTold (owes_reset number d) (hears_of_reset heard.what (end_whose heard.key es)) manner (part_on walker content ends) → p1 ≡ change_whose (whose d number) (put_some (handed manner h content)) p
+    → IsFor (is_said heard.what (end_whose heard.key es)) goes a h content manner → PassesAs (owes_reset number d) a h content (part_on walker content ends) manner b → IsTold (owes_reset number d) (hears_of_reset heard.what (end_whose heard.key es)) manner (part_on walker content ends) → p1 ≡ change_whose (whose d number) (put_some (handed manner h content)) p
     → Brings number walker a b r heard (house_with d es p) (house_with d1 (told_by (Some heard) es) p1)
 passing number walker goes a b r heard d d1 es p p1 h content ends way manner before behind packet last turned its what there by cut tells is =
     let turns = subst (λ (b : Bool). Turns (Comes number (part_on walker content b) way) d d1 before behind) last turned in
@@ -208,7 +211,7 @@ passing number walker goes a b r heard d d1 es p p1 h content ends way manner be
       has_walker = there;
       goes = goes;
       by = by;
-      cut = cut;
+      cut = subst (λ (x : Bool). PassesAs (owes_reset number d) a h content (part_on walker content x) manner b) last cut;
       told = hears;
       is =
           ap (λ (e : Desk). house_with e (told_by (Some heard) es) p1) turns.desk_is
@@ -252,20 +255,29 @@ done_keeps number walker a b r s next heard old new (inr p) same whole less =
 
 -- ---- As what is known has it
 
-cut_of : (tells cut owed : Bool) (a : Answer) (h : Header) (content : List ℕ) (manner : Manner) (new : Answer) → (cut ≡ true → (owed || holds_back a.known) ≡ true) → IsOf tells cut (awaited owed a) h content manner
-    → IsKnownBy cut owed a h content new → PassesAs owed a h content manner new
-cut_of tells false owed a h content manner new why by known = subst (λ (m : Manner). PassesAs owed a h content m new) (sym by) known
-cut_of tells true owed a h content manner new why by known = subst (λ (m : Manner). PassesAs owed a h content m new) (sym by.1) (why refl, by.2, known)
+cut_of : (tells cut owed : Bool) (a : Answer) (h : Header) (content : List ℕ) (part : Part Token) (manner : Manner) (new : Answer) → (cut ≡ true → (owed || holds_back a.known) ≡ true)
+    → (cut ≡ false → ((owed || holds_back a.known) ≡ false) ⊎ (news_in owed part.items ≡ 1)) → IsOf tells cut (awaited owed a) h content manner → IsKnownBy cut owed a h content new → PassesAs owed a h content part manner new
+cut_of tells false owed a h content part manner new why not_why by known = subst (λ (m : Manner). PassesAs owed a h content part m new) (sym by) (known, not_why refl)
+cut_of tells true owed a h content part manner new why not_why by known = subst (λ (m : Manner). PassesAs owed a h content part m new) (sym by.1) (why refl, by.2, known)
+
+-- it isn't cut: nothing is owed or held, or the news is in it
+whole_for : (asks is_in due : Bool) (count : ℕ) → count ≡ one_if is_in → (due && not (asks && is_in)) ≡ false → (due ≡ false) ⊎ (count ≡ 1)
+whole_for asks is_in false count counted e = inl refl
+whole_for true true true count counted e = inr counted
+whole_for true false true count counted e = absurd (let u : ⊥ = cc in u)
+whole_for false is_in true count counted e = absurd (let u : ⊥ = cc in u)
 
 and_first : (a b : Bool) → (a && b) ≡ true → a ≡ true
 and_first true b e = refl
 and_first false b e = absurd (let u : ⊥ = cc in u)
 
-pub cut_as : (asks is_in owed held : Bool) (a : Answer) (h : Header) (content : List ℕ) (manner : Manner) (new : Answer) → held ≡ holds_back a.known → IsBy (news_for asks is_in owed held) a h content manner
-    → IsKnown (news_for asks is_in owed held) a h content new → PassesAs owed a h content manner new
-cut_as asks is_in owed held a h content manner new holds by known =
-    cut_of (asks && not is_in) ((owed || held) && not (asks && is_in)) owed a h content manner new
-    (λ e. ap (λ (b : Bool). owed || b) (sym holds) ∙ and_first (owed || held) (not (asks && is_in)) e) by known
+pub cut_as : (asks is_in owed held : Bool) (a : Answer) (h : Header) (content : List ℕ) (part : Part Token) (manner : Manner) (new : Answer) → held ≡ holds_back a.known → news_in owed part.items ≡ one_if is_in
+    → IsBy (news_for asks is_in owed held) a h content manner → IsKnown (news_for asks is_in owed held) a h content new → PassesAs owed a h content part manner new
+cut_as asks is_in owed held a h content part manner new holds counted by known =
+    let same : (owed || held) ≡ (owed || holds_back a.known) = ap (λ (b : Bool). owed || b) holds in
+    cut_of (asks && not is_in) ((owed || held) && not (asks && is_in)) owed a h content part manner new
+    (λ e. sym same ∙ and_first (owed || held) (not (asks && is_in)) e)
+    (λ e. subst (λ (b : Bool). (b ≡ false) ⊎ (news_in owed part.items ≡ 1)) same (whole_for asks is_in (owed || held) (news_in owed part.items) counted e)) by known
 
 -- ---- What is known behind it
 

@@ -4,7 +4,8 @@ use Rattle.std.specs.Prelude.{IfSome}
 use Rattle.std.proofs.lemmas.Bool.{eqb-false, eqb-true}
 use Rattle.tds_packet.specs.Reading.{Reading}
 use Rattle.tds_relay.specs.declared.link.Link.{Link}
-use Rattle.tds_relay.specs.Reads.{FillsAt, Opens, OpensFirst, OpensOthers, StaysAt, Stays, bytes_on, if_open, link_at, open_at, open_of, open_waits, opened_at, place_from, place_of, reader_at, reader_of, seen_at, seen_of}
+use Rattle.tds_relay.specs.Reads.{FillsAt, Opens, OpensFirst, OpensOthers, StaysAt, Stays, answer_at, bytes_on, if_open, link_at, open_at, open_of, open_waits, opened_at, place_from, place_of, reader_at, reader_of, seen_at, seen_of}
+use Rattle.tds_relay.proofs.steps.Beginning.{other_answer, same_begins}
 use Rattle.tds_relay.proofs.steps.Naming.{written_called}
 use Rattle.tds_relay.proofs.steps.Staying.{at_refl, fills_refl, shut, either_reader, opens_both, stays_opens, waits_of}
 
@@ -132,6 +133,10 @@ others_written number ls place d m is same is_open tag bytes = record {
   opens = λ other differs.
       subst (λ (o : Option Reading). StaysAt (open_at other ls) o) (sym (other_open number other ls place d m (is_at number ls place is) same (λ e. differs (sym e)))) (at_refl (open_at other ls));
   fills = λ other. written_fills ls place d m same is_open bytes other;
+  begins = λ other differs.
+      same_begins (open_at other ls) (open_at other (slice_set ls place m)) (answer_at other ls) (answer_at other (slice_set ls place m))
+      (other_open number other ls place d m (is_at number ls place is) same (λ e. differs (sym e)))
+      (other_answer ls place d m other same (ap (λ (k : ℕ). k == other) ((is_at number ls place is).named d) ∙ differs_by (number == other) number other refl (λ e. differs (sym e))));
   called = λ other. written_called ls place d m same (is_open, tag) other;
 }
 

@@ -1,25 +1,26 @@
 //! What comes on connections.
-ghost use Rattle.std.specs.Prelude.{◌≡◌, ◌≢◌, ◌⊎◌, ◌≤◌, ◌+◌, ◌&&◌, [], ℕ, not, None, Some, drop, false};
-ghost use Rattle.std.specs.Prelude.{IfOk, IsNone, OnOk, length, true};
+ghost use Rattle.std.specs.Prelude.{◌≡◌, ◌⊎◌, ◌≤◌, ◌+◌, ◌&&◌, [], ℕ, not, None, Some, drop, false};
+ghost use Rattle.std.specs.Prelude.{IfOk, OnOk, length, true};
 ghost use Rattle.tds_service.specs.Table.{reading_on};
 ghost use Rattle.tds_relay.specs.Apart.{LosesOnly, SparesOthers};
 ghost use Rattle.tds_relay.specs.Bodies.{AskAsBefore, Body, body_in};
+ghost use Rattle.tds_relay.specs.Cleaning.{CountsGone, CountsLost, cleaned_in};
 ghost use Rattle.tds_relay.specs.Closings.{ClosesOnly, but_told, is_shut};
 ghost use Rattle.tds_relay.specs.Closings.{register_in, settings_in};
-ghost use Rattle.tds_relay.specs.Coming.{AllAlong, ComesAnew, ContinuesAnew, MayBeginAny, StreamsAnew};
+ghost use Rattle.tds_relay.specs.Coming.{AllAlong, ComesAnew, ContinuesAnew, StreamsAnew};
 ghost use Rattle.tds_relay.specs.Faults.{IsHeaderOf, IsRefusedOn};
 ghost use Rattle.tds_relay.specs.Few.{Few, HearsSeat, IsSeated, IsSeatedBehind, NobodyWaits, NoneNew};
-ghost use Rattle.tds_relay.specs.Fronts.{Moved, end_of, ends_in, hall_in, hall_of_ends, told_by, house_in, house_of};
+ghost use Rattle.tds_relay.specs.Fronts.{end_of, ends_in, hall_in, told_by, house_in, house_of};
 ghost use Rattle.tds_relay.specs.Fronts.{house_with};
 ghost use Rattle.tds_relay.specs.Hall.{told};
-ghost use Rattle.tds_relay.specs.Handing.{Brings, HearsBy, IsKnown, KnowsOn, Passes, heard_key, news_for, fed};
+ghost use Rattle.tds_relay.specs.Handing.{Brings, HearsBy, IsKnown, KnowsOn, Passes, news_for, fed};
 ghost use Rattle.tds_relay.specs.House.{Steps};
 ghost use Rattle.tds_relay.specs.Reasons.{Cleans, HeardFor, IsHeardAs, IsIdle, HearsNothing, LosesAt};
 ghost use Rattle.tds_relay.specs.Posts.{names_in, post_of, posts_in};
 ghost use Rattle.tds_packet.specs.Stream.{IsLess};
-ghost use Rattle.tds_relay.specs.Reads.{Comes, IsLessAt, OpensOthers, Stays, StreamsAll};
+ghost use Rattle.tds_relay.specs.Reads.{Comes, IsLessAt, OpensOthers, StreamsAll};
 ghost use Rattle.tds_relay.specs.Reads.{answer_at, if_heard, open_at};
-ghost use Rattle.tds_relay.specs.Reads.{reader_at, seen_at, waits_on};
+ghost use Rattle.tds_relay.specs.Reads.{post_on, seen_at};
 ghost use Rattle.tds_relay.specs.Bounds.{IsRoom};
 ghost use Rattle.tds_relay.specs.Ordering.{GrowsByOrders, OpensNew, StayOrdered, opens_in};
 ghost use Rattle.tds_relay.specs.Sending.{sending_at};
@@ -72,6 +73,7 @@ impl Relay {
         ensures seated { IsSeated self.old → OnOk result (IsSeated self.new) }
         ensures opening { OnOk result (OpensNew self.old self.new) }
         ensures many { OnOk result (GrowsByOrders self.old self.new) }
+        ensures counts { OnOk result (CountsGone number self.old self.new) }
         ensures apart { OnOk result (OffGo number None self.old self.new) }
     {
         self.hear_all(number, piece)?;
@@ -107,6 +109,7 @@ impl Relay {
         ensures seated { IsSeated self.old → OnOk result (IsSeated self.new) }
         ensures opening { opens_in self.new.orders.items ≡ opens_in self.old.orders.items }
         ensures many { OnOk result (length self.new.links.items ≤ length self.old.links.items) }
+        ensures counts { OnOk result (CountsLost number self.old self.new) }
         ensures apart { OnOk result (OffGo number None self.old self.new) }
     {
         let mut rest = piece;
@@ -132,7 +135,7 @@ impl Relay {
         ensures ends { OnOk result (ends_in self.new.applications
             ≡ ends_in self.old.applications) }
         ensures continues { IfOk result (λ heard. ContinuesAnew number piece.now
-            (drop heard.0 piece.now) (answer_at number self.old.links.items)
+            (drop heard.0 piece.now) heard.1 (answer_at number self.old.links.items)
             (open_at number self.old.links.items) (answer_at number self.new.links.items)
             (if_heard heard.1 (open_at number self.new.links.items)) (house_in self.old)
             self.old.desk.service (house_with (desk_in self.new.desk)
@@ -162,6 +165,7 @@ impl Relay {
             (told_by heard.1 (ends_in self.old.applications)) (posts_in self.new.applications))) }
         ensures seated { IsSeated self.old → IfOk result (λ heard.
             IsSeatedBehind heard.1 number self.new) }
+        ensures counts { cleaned_in self.new ≡ cleaned_in self.old }
         ensures off { OnOk result (OffHold number self.old.desk self.new.desk) }
     {
         let Relay {
@@ -181,62 +185,6 @@ impl Relay {
             return Ok((piece.len(), Some(NOTHING)));
         }
         hear_on(desk, applications, link, refused, number, outbox, piece)
-    }
-
-    /// What came of a packet is done.
-    fn heard(&mut self, number: u64, heard: Option<Heard>) -> Result<(), NoMemory>
-        ensures goes { OnOk result (Goes (Connection number)
-            (desk_in self.old.desk) (desk_in self.new.desk)) }
-        ensures kept { OnOk result (posts_in self.new.applications
-            ≡ posts_in self.old.applications) }
-        ensures moves { OnOk result (Moved (Connection number) (hall_of_ends
-            (desk_in self.old.desk) (told_by heard (ends_in self.old.applications)))
-            (hall_in self.new)) }
-        ensures read { OnOk result (Stays self.old.links.items self.new.links.items) }
-        ensures gone { IsNone heard → OnOk result (reader_at number self.new.links.items ≡ None) }
-        ensures stand { OnOk result (AllStand self.old.desk.service
-            self.new.desk.service) }
-        ensures bodies { IsReached (desk_in self.old.desk)
-            → OnOk result (AllAlong self.old self.new) }
-        ensures ordered { OnOk result (StayOrdered self.old.orders.items self.new.orders.items) }
-        ensures wakes { OnOk result ((key : ℕ) → HandsTo heard key (ends_in self.old.applications)
-            → IsWoken key self.new.applications self.new.orders.items) }
-        ensures others { IsNotAcknowledged heard → OnOk result ((other : ℕ) → other ≢ number
-            → waits_on other self.new.links.items ≡ waits_on other self.old.links.items) }
-        ensures begins { OnOk result (MayBeginAny self.old.links.items self.new.links.items) }
-        ensures spares { IsReached (desk_in self.old.desk) → OnOk result (SparesOthers number
-            (heard_key heard) (hall_in self.old) (hall_in self.new)) }
-        ensures closes { OnOk result (ClosesOnly (LosesAt number heard self.old)
-            (register_in self.old) (register_in self.new)) }
-        ensures seated { IsSeatedBehind heard number self.old
-            → OnOk result (IsSeated self.new) }
-        ensures opening { opens_in self.new.orders.items ≡ opens_in self.old.orders.items }
-        ensures apart { OnOk result (OffGo number (heard_key heard) self.old self.new) }
-    {
-        let Some(heard) = heard else {
-            return self.lose(number);
-        };
-        let resumes = self.tell(heard)?;
-        self.send_on(number)?;
-        match (heard.what, heard.key) {
-            (What::Goes, Some(key)) => self.order_write(key),
-            (What::Goes, None) => Ok(()),
-            (What::Finished, Some(key)) => self.order_write(key),
-            (What::Finished, None) => Ok(()),
-            (What::Acknowledged, Some(key)) => {
-                if resumes {
-                    self.resume(number, key)
-                } else {
-                    self.order_write(key)
-                }
-            }
-            (What::Acknowledged, None) => Ok(()),
-            (What::Closed, Some(_)) => self.close_link(number),
-            (What::Closed, None) => {
-                self.failed = self.failed.saturating_add(1);
-                self.close_link(number)
-            }
-        }
     }
 }
 

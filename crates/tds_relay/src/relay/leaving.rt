@@ -4,27 +4,21 @@ ghost use Rattle.slab.specs.Slab.{get};
 ghost use Rattle.tds_relay.specs.Apart.{Alone, LendsInTurn, LosesOnly};
 ghost use Rattle.tds_relay.specs.Bodies.{AskAsBefore, AskOn, Body, Closed, body_in};
 ghost use Rattle.tds_relay.specs.Cleaning.{CountsHold, OfItsHold, WaitsAtEnd, WaitsSinceEnd, cleaned_in};
-ghost use Rattle.tds_relay.specs.Desk.{Loses, find_key, find_number, key_of, turn, without};
-ghost use Rattle.tds_relay.specs.Desk.{without_number};
-ghost use Rattle.tds_relay.specs.Lent.{IsLetGo, IsOnItsOwn, OthersKeepAt, PutsOnly};
+ghost use Rattle.tds_relay.specs.Desk.{Loses, find_key, find_number, key_of, turn, without, without_number};
+ghost use Rattle.tds_relay.specs.Lent.{IsLetGo, IsOnItsOwn, OthersKeepAt, PutsOnly, AllLastBut, KeepsAnswers, LastBesides};
 ghost use Rattle.tds_relay.specs.Few.{Few, IsSeated, IsSeatedOff, NobodyWaits};
-ghost use Rattle.tds_relay.specs.Fronts.{LetsGoFirst, Moved, MovedOn, ends_in, hall_in, hall_of_ends};
-ghost use Rattle.tds_relay.specs.Fronts.{house_in};
-ghost use Rattle.tds_relay.specs.Hall.{change_end, change_whose, closes, closes_for, end_at, holder};
-ghost use Rattle.tds_relay.specs.Hall.{lets_go};
+ghost use Rattle.tds_relay.specs.Fronts.{LetsGoFirst, Moved, MovedOn, ends_in, hall_in, hall_of_ends, house_in};
+ghost use Rattle.tds_relay.specs.Hall.{change_end, change_whose, closes, closes_for, end_at, holder, lets_go};
 ghost use Rattle.tds_relay.specs.House.{Steps, StepsOn};
-ghost use Rattle.tds_relay.specs.Closings.{ClosesOnly, IsWaiting, IsWho, Itself, Nobody, WhoOrWaiting};
-ghost use Rattle.tds_relay.specs.Closings.{register_in, without_key};
-ghost use Rattle.tds_relay.specs.Lent.{AllLastBut, KeepsAnswers, LastBesides};
+ghost use Rattle.tds_relay.specs.Closings.{ClosesOnly, IsWaiting, IsWho, Itself, Nobody, WhoOrWaiting, register_in, without_key};
 ghost use Rattle.tds_relay.specs.Law.{closing};
 ghost use Rattle.tds_relay.specs.Places.{held_by};
 ghost use Rattle.tds_relay.specs.Posts.{names_in, posts_in};
 ghost use Rattle.tds_relay.specs.Ordering.{GrowsByOrders, OpensNew, StayOrdered, opens_in};
-ghost use Rattle.tds_relay.specs.Reads.{Opens, Stays, reader_at, waits_on};
+ghost use Rattle.tds_relay.specs.Reads.{Opens, Stays, post_on, reader_at, waits_on};
 ghost use Rattle.tds_relay.specs.Sparing.{AllGo, AllRest, OthersRest};
 ghost use Rattle.tds_relay.specs.Taking.{IsDeaf};
-ghost use Rattle.tds_relay.specs.Ties.{Application, Goes, GoesOn, IsReached, Leaving};
-ghost use Rattle.tds_relay.specs.Ties.{desk_in};
+ghost use Rattle.tds_relay.specs.Ties.{Application, Goes, GoesOn, IsReached, Leaving, desk_in};
 ghost use Rattle.tds_relay.specs.Walkers.{AllStand};
 
 use super::Relay;
@@ -102,6 +96,7 @@ impl Relay {
         ensures lasts { OnOk result (LastBesides (λ other. other ≡ number)
             (IsWaiting (desk_in self.old.desk).line) (register_in self.old)
             (register_in self.new)) }
+        ensures counts { cleaned_in self.new ≡ cleaned_in self.old }
         ensures opening { OnOk result (OpensNew self.old self.new) }
         ensures many { OnOk result (GrowsByOrders self.old self.new) }
         ensures puts { IsReached (desk_in self.old.desk)
@@ -288,6 +283,8 @@ impl Relay {
         ensures ordered { OnOk result (StayOrdered self.old.orders.items self.new.orders.items) }
         ensures others { OnOk result ((other : ℕ) → other ≢ number
             → waits_on other self.new.links.items ≡ waits_on other self.old.links.items) }
+        ensures posts { OnOk result ((other : ℕ) → other ≢ number
+            → post_on other self.new.links.items ≡ post_on other self.old.links.items) }
         ensures answers { OnOk result (KeepsAnswers self.old.links.items self.new.links.items) }
         ensures closes { OnOk result (ClosesOnly (IsWho (holder (desk_in self.old.desk) number))
             (register_in self.old) (register_in self.new)) }
@@ -348,6 +345,8 @@ impl Relay {
         ensures asks { OnOk result (AskAsBefore self.old.applications self.new.applications) }
         ensures others { OnOk result ((other : ℕ) → other ≢ number
             → waits_on other self.new.links.items ≡ waits_on other self.old.links.items) }
+        ensures posts { OnOk result ((other : ℕ) → other ≢ number
+            → post_on other self.new.links.items ≡ post_on other self.old.links.items) }
         ensures ordered { OnOk result (StayOrdered self.old.orders.items self.new.orders.items) }
         ensures answers { OnOk result (KeepsAnswers self.old.links.items self.new.links.items) }
         ensures closes { OnOk result (ClosesOnly Nobody
@@ -378,6 +377,8 @@ impl Relay {
         ensures asks { OnOk result (AskOn self.old.applications self.new.applications) }
         ensures others { OnOk result ((other : ℕ) → other ≢ number
             → waits_on other self.new.links.items ≡ waits_on other self.old.links.items) }
+        ensures posts { OnOk result ((other : ℕ) → other ≢ number
+            → post_on other self.new.links.items ≡ post_on other self.old.links.items) }
         ensures shuts { OnOk result ((other : ℕ) → key ≡ Some other → (goes : Body)
             → body_in (get self.new.applications other) goes ≡ Closed) }
         ensures ordered { OnOk result (StayOrdered self.old.orders.items self.new.orders.items) }

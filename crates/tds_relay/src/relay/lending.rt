@@ -15,9 +15,9 @@ ghost use Rattle.tds_relay.specs.Lent.{AllLast, BeginsOn, IsMade, IsMadeOn, Keep
 ghost use Rattle.tds_relay.specs.Waiting.{OpensFor};
 ghost use Rattle.tds_relay.specs.Posts.{names_in, posts_in};
 ghost use Rattle.tds_relay.specs.Cutting.{at_its_beginning};
-ghost use Rattle.tds_relay.specs.Reads.{Opens, OpensOne, Stays, answer_at, named_seen, open_at, bytes_on, link_at, opened_at, opened_seen, seen_at, waits_on};
+ghost use Rattle.tds_relay.specs.Reads.{Opens, OpensOne, Stays, answer_at, named_seen, open_at, bytes_on, link_at, opened_at, opened_seen, post_on, seen_at, waits_on};
 ghost use Rattle.tds_relay.specs.Ordering.{GrowsByOrders, OpensNew, StayOrdered, opens_if, opens_in};
-ghost use Rattle.tds_relay.specs.Reasons.{CannotPut, CannotStartAt, HasNoRoom, IsTurnedAwayAt, ItselfFor, post_on};
+ghost use Rattle.tds_relay.specs.Reasons.{CannotPut, CannotStartAt, HasNoRoom, IsTurnedAwayAt, ItselfFor};
 ghost use Rattle.tds_relay.specs.Sending.{IsToWrite, called_at};
 ghost use Rattle.tds_relay.specs.Coming.{MayBeginAny};
 ghost use Rattle.tds_relay.specs.Sparing.{AllGo, AllRest, IsHeldBack, IsUnkept, OthersRest, StartsOn, StartsThere};
@@ -58,6 +58,8 @@ impl Relay {
             ≡ named_seen tag number other self.old.links.items }
         ensures waits { (other : ℕ) → waits_on other self.new.links.items
             ≡ waits_on other self.old.links.items }
+        ensures answers { (other : ℕ) → answer_at other self.new.links.items
+            ≡ answer_at other self.old.links.items }
         ensures rest { AllRest self.old self.new }
         ensures tells { TellsTheSame self.old self.new }
         ensures orders { self.new.orders.items ≡ self.old.orders.items }
@@ -86,6 +88,7 @@ impl Relay {
             self.new.orders.items) }
         ensures closes { OnOk result (ClosesOnly (OpensFor number self.old)
             (register_in self.old) (register_in self.new)) }
+        ensures counts { cleaned_in self.new ≡ cleaned_in self.old }
         ensures seated { IsSeated self.old → OnOk result (IsSeated self.new) }
         ensures lasts { OnOk result (LastBut
             (WhoOrWaiting (holder (desk_in self.old.desk) number) (desk_in self.old.desk).line)
@@ -113,12 +116,15 @@ impl Relay {
             ≡ opened_seen number other self.old.links.items }
         ensures waits { (other : ℕ) → waits_on other self.new.links.items
             ≡ waits_on other self.old.links.items }
+        ensures answers { (other : ℕ) → answer_at other self.new.links.items
+            ≡ answer_at other self.old.links.items }
         ensures posts { (other : ℕ) → post_on other self.new.links.items
             ≡ post_on other self.old.links.items }
         ensures asks { AskAsBefore self.old.applications self.new.applications }
         ensures same { AllRest self.old self.new }
         ensures orders { self.new.orders.items ≡ self.old.orders.items }
         ensures many { length self.new.links.items ≡ length self.old.links.items }
+        ensures counts { cleaned_in self.new ≡ cleaned_in self.old }
         ensures closes { ClosesOnly Nobody (register_in self.old) (register_in self.new) }
     {
         set_open(&mut self.links, number);
@@ -142,6 +148,7 @@ impl Relay {
             → key_of (find_number number (desk_in self.old.desk).holds) ≡ Some key
             → StartsThere key self.old self.new) }
         ensures ordered { OnOk result (StayOrdered self.old.orders.items self.new.orders.items) }
+        ensures counts { cleaned_in self.new ≡ cleaned_in self.old }
         ensures closes { OnOk result (ClosesOnly
             (λ other. IsWho (holder (desk_in self.old.desk) number) other
             × IsTurnedAwayAt other self.old) (register_in self.old) (register_in self.new)) }

@@ -1,6 +1,7 @@
 //! How many connections there may be.
 ghost use Rattle.std.specs.Prelude.{◌≡◌, OnOk, false, true};
 ghost use Rattle.tds_relay.specs.Apart.{LendsInTurn, UnlessServed};
+ghost use Rattle.tds_relay.specs.Cleaning.{cleaned_in};
 ghost use Rattle.tds_relay.specs.Closings.{ClosesOnly, IsWaiting, Nobody};
 ghost use Rattle.tds_relay.specs.Closings.{register_in, with_most};
 ghost use Rattle.tds_relay.specs.Lent.{LastBut, PutsOnly};
@@ -40,6 +41,7 @@ impl Relay {
         ensures lasts { OnOk result (LastBut (IsWaiting (desk_in self.old.desk).line)
             (with_most most (register_in self.old)) (register_in self.new)) }
         ensures seated { IsSeated self.old → OnOk result (IsSeated self.new) }
+        ensures counts { cleaned_in self.new ≡ cleaned_in self.old }
         ensures opening { OnOk result (OpensNew self.old self.new) }
         ensures many { OnOk result (GrowsByOrders self.old self.new) }
         ensures puts { IsReached (desk_in self.old.desk)

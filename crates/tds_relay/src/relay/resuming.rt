@@ -3,6 +3,7 @@ ghost use Rattle.std.specs.Prelude.{◌≡◌, ℕ, false, true, None, OnOk, Som
 ghost use Rattle.tds_packet.specs.declared.status.Reset.TheVariants.{KeepTransaction};
 ghost use Rattle.tds_relay.specs.Apart.{SparesOthers};
 ghost use Rattle.tds_relay.specs.Bodies.{body_of};
+ghost use Rattle.tds_relay.specs.Cleaning.{cleaned_in};
 ghost use Rattle.tds_relay.specs.Closings.{ClosesOnly, IsWho, register_in};
 ghost use Rattle.tds_relay.specs.Coming.{AllAlong, MayBeginAny};
 ghost use Rattle.tds_relay.specs.Fronts.{Moved, ends_in, hall_in};
@@ -43,6 +44,7 @@ impl Relay {
         ensures closes { OnOk result (ClosesOnly (ResumesNotAt number key self.old)
             (register_in self.old) (register_in self.new)) }
         ensures seated { IsSeated self.old → OnOk result (IsSeated self.new) }
+        ensures counts { cleaned_in self.new ≡ cleaned_in self.old }
         ensures opening { opens_in self.new.orders.items ≡ opens_in self.old.orders.items }
         ensures apart { OnOk result (OffGo number (Some key) self.old self.new) }
     {
@@ -89,6 +91,7 @@ impl Relay {
             → OnOk result (ClosesOnly (ResumesNotAt number key self.old)
             (register_in self.old) (register_in self.new)) }
         ensures seated { IsSeated self.old → OnOk result (IsSeated self.new) }
+        ensures counts { cleaned_in self.new ≡ cleaned_in self.old }
         ensures opening { opens_in self.new.orders.items ≡ opens_in self.old.orders.items }
         ensures apart { OnOk result (OffGo number (Some key) self.old self.new) }
     {
@@ -128,6 +131,7 @@ impl Relay {
             (end_at (ends_in self.old.applications) other) (desk_in self.old.desk))
             (register_in self.old) (register_in self.new)) }
         ensures seated { IsSeated self.old → OnOk result (IsSeated self.new) }
+        ensures counts { cleaned_in self.new ≡ cleaned_in self.old }
         ensures opening { opens_in self.new.orders.items ≡ opens_in self.old.orders.items }
         ensures apart { OnOk result (OffGo number None self.old self.new) }
     {

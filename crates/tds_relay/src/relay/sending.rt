@@ -5,7 +5,7 @@ ghost use Rattle.slab.specs.Slab.{get};
 ghost use Rattle.tds_relay.specs.Apart.{Alone, SparesOthers};
 ghost use Rattle.tds_relay.specs.Bodies.{AskAsBefore, AskOn};
 ghost use Rattle.tds_relay.specs.Bounds.{most_for};
-ghost use Rattle.tds_relay.specs.Closings.{ClosesOnly, IsWho, Nobody, register_in};
+ghost use Rattle.tds_relay.specs.Closings.{ClosesOnly, IsWho, Nobody, register_in, times_closed};
 ghost use Rattle.tds_relay.specs.Desk.{find_key, find_number};
 ghost use Rattle.tds_relay.specs.declared.desk.Hold.{Hold};
 ghost use Rattle.tds_relay.specs.Fronts.{MovedOn, ends_in, hall_in, house_in};
@@ -16,7 +16,7 @@ ghost use Rattle.tds_relay.specs.Ordering.{StayOrdered, opens_in};
 ghost use Rattle.tds_relay.specs.Posts.{change, post_at, posts_in, unsent_of, without_first};
 ghost use Rattle.tds_relay.specs.Reasons.{HasNoRoom, IsOverfull, ItselfFor};
 ghost use Rattle.tds_relay.specs.Law.{waiting_on};
-ghost use Rattle.tds_relay.specs.Reads.{FillsBy, Sees, Stays, waits_on};
+ghost use Rattle.tds_relay.specs.Reads.{FillsBy, Sees, Stays, post_on, waits_on};
 ghost use Rattle.tds_relay.specs.Sending.{IsToWrite, called_at};
 ghost use Rattle.tds_relay.specs.Sparing.{AllRest, OthersRest, SendsOn};
 ghost use Rattle.tds_relay.specs.Ties.{GoesOn, IsReached, Neither, desk_in};
@@ -139,6 +139,8 @@ impl Relay {
         ensures idle { self.old.outbox.items ≡ [] → OnOk result (self.new ≡ self.old) }
         ensures others { OnOk result ((other : ℕ) → other ≢ number
             → waits_on other self.new.links.items ≡ waits_on other self.old.links.items) }
+        ensures posts { OnOk result ((other : ℕ) → other ≢ number
+            → post_on other self.new.links.items ≡ post_on other self.old.links.items) }
         ensures ordered { OnOk result (StayOrdered self.old.orders.items self.new.orders.items) }
         ensures answers { OnOk result (KeepsAnswers self.old.links.items self.new.links.items) }
         ensures closes { OnOk result (ClosesOnly Nobody
@@ -190,6 +192,7 @@ impl Relay {
         ensures idle { self.old.outbox.items ≡ [] → OnOk result (self.new ≡ self.old) }
         ensures gone { IsSeatedBut number false self.old
             → OnOk result (IsSeatedBut number false self.new) }
+        ensures counts { cleaned_in self.new ≡ cleaned_in self.old }
         ensures opening { opens_in self.new.orders.items ≡ opens_in self.old.orders.items }
     {
         let fits = self.fits_on(number)?;
@@ -248,6 +251,8 @@ impl Relay {
         ensures seated { IsSeated self.old → OnOk result (IsSeated self.new) }
         ensures others { OnOk result ((other : ℕ) → other ≢ number
             → waits_on other self.new.links.items ≡ waits_on other self.old.links.items) }
+        ensures posts { OnOk result ((other : ℕ) → other ≢ number
+            → post_on other self.new.links.items ≡ post_on other self.old.links.items) }
         ensures counts { cleaned_in self.new ≡ cleaned_in self.old }
         ensures opening { opens_in self.new.orders.items ≡ opens_in self.old.orders.items }
         ensures holds { OnOk result (MayForget number self.old.desk.holds.items
@@ -277,6 +282,7 @@ impl Relay {
         ensures closes { OnOk result (ClosesOnly (ItselfFor key
             (IsOverfull (post_at (posts_in self.old.applications) key)))
             (register_in self.old) (register_in self.new)) }
+        ensures counts { cleaned_in self.new ≡ cleaned_in self.old }
         ensures opening { opens_in self.new.orders.items ≡ opens_in self.old.orders.items }
     {
         let Some(application) = self.applications.get(key) else {
@@ -302,6 +308,8 @@ impl Relay {
         ensures ordered { OnOk result (StayOrdered self.old.orders.items self.new.orders.items) }
         ensures writes { OnOk result (IsToWrite (called_at number self.new.links.items)
             self.new.orders.items) }
+        ensures times { OnOk result ((tag : ℕ) → times_closed tag self.new.orders.items
+            ≡ times_closed tag self.old.orders.items) }
         ensures closes { OnOk result (ClosesOnly Nobody
             (register_in self.old) (register_in self.new)) }
         ensures counts { cleaned_in self.new ≡ cleaned_in self.old }

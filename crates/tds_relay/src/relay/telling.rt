@@ -4,6 +4,7 @@ ghost use Rattle.std.specs.Prelude.{IfOk, OnOk};
 ghost use Rattle.slab.specs.Slab.{get};
 ghost use Rattle.tds_relay.specs.Bodies.{AskAsBefore, Body, Spared, body_in};
 ghost use Rattle.tds_relay.specs.Closings.{ClosesOnly, Nobody, register_in};
+ghost use Rattle.tds_relay.specs.Cleaning.{cleaned_in};
 ghost use Rattle.tds_relay.specs.Coming.{MayBeDone};
 ghost use Rattle.tds_relay.specs.Fronts.{ends_in};
 ghost use Rattle.tds_relay.specs.Hall.{change_end, change_whose, end_at, told};
@@ -38,6 +39,7 @@ impl Relay {
             → self.new.outbox.items ≡ self.old.outbox.items }
         ensures resumes { IfOk result (λ resumes. resumes ≡ true
             → HasTakenBack heard.key (ends_in self.old.applications)) }
+        ensures counts { cleaned_in self.new ≡ cleaned_in self.old }
         ensures closes { OnOk result (ClosesOnly (λ other. heard.what ≡ whats.Closed)
             (register_in self.old) (register_in self.new)) }
         ensures opening { opens_in self.new.orders.items ≡ opens_in self.old.orders.items }
@@ -75,6 +77,7 @@ impl Relay {
         ensures orders { self.new.orders.items ≡ self.old.orders.items }
         ensures outbox { self.new.outbox.items ≡ self.old.outbox.items }
         ensures asks { AskAsBefore self.old.applications self.new.applications }
+        ensures counts { cleaned_in self.new ≡ cleaned_in self.old }
         ensures closes { ClosesOnly Nobody (register_in self.old) (register_in self.new) }
     {
         match self.applications.get_mut(key) {
@@ -93,6 +96,7 @@ impl Relay {
         ensures orders { self.new.orders.items ≡ self.old.orders.items }
         ensures outbox { self.new.outbox.items ≡ self.old.outbox.items }
         ensures asks { MayBeDone self.old.applications self.new.applications }
+        ensures counts { cleaned_in self.new ≡ cleaned_in self.old }
         ensures closes { ClosesOnly Nobody (register_in self.old) (register_in self.new) }
         ensures others { (other : ℕ) → other ≢ key
             → get self.new.applications other ≡ get self.old.applications other }
@@ -117,6 +121,7 @@ impl Relay {
             → is_said whats.Acknowledged (end_at (ends_in self.old.applications) key) ≡ false }
         ensures resumes { result ≡ true
             → HasTakenBack (Some key) (ends_in self.old.applications) }
+        ensures counts { cleaned_in self.new ≡ cleaned_in self.old }
         ensures closes { ClosesOnly Nobody (register_in self.old) (register_in self.new) }
         ensures others { (other : ℕ) → other ≢ key
             → get self.new.applications other ≡ get self.old.applications other }

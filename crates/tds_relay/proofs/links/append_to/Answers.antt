@@ -7,19 +7,20 @@ use Rattle.tds_relay.proofs.spared.Waits.{fills_put, no_room, none_waits, one_wa
 use Rattle.tds_relay.proofs.steps.Staying.{fills_same, stays_written}
 use Rattle.tds_relay.proofs.spared.Begun.{answers_refl, answers_written}
 use Rattle.tds_relay.proofs.indexed.Placing.{placed_written}
+use Rattle.tds_relay.proofs.spared.Waits.{others_post}
 use Rattle.tds_relay.proofs.links.append_to.Goals as goal
 
 pub returns-clause-read : goal.returns-clause-read
 returns-clause-read c = rw (← c.links.view_is) (
     stays_written c.links.inside.list.items c.in-Some.place c.index_mut-link.result.now _
     (ap (λ (l : Link). l.number) c.index_mut-link.ensures.value) (ap seen_of c.index_mut-link.ensures.value)
-    (fills_put c.args.bytes.now _ _ _ c.in_ok-append.ensures.post (ap bytes_on c.index_mut-link.ensures.value)))
+    (fills_put c.args.bytes.now _ _ _ c.in_ok-append.ensures.post (ap bytes_on c.index_mut-link.ensures.value)) (ap (λ (l : Link). l.answer) c.index_mut-link.ensures.value))
 
 pub returns-in_err-append-clause-read : goal.returns-in_err-append-clause-read
 returns-in_err-append-clause-read c = rw (← c.links.view_is) (
     stays_written c.links.inside.list.items c.in-Some.place c.index_mut-link.result.now _
     (ap (λ (l : Link). l.number) c.index_mut-link.ensures.value) (ap seen_of c.index_mut-link.ensures.value)
-    (fills_same _ _ (ap (λ (p : Post). p.bytes) c.in_err-append.ensures.kept ∙ ap bytes_on c.index_mut-link.ensures.value)))
+    (fills_same _ _ (ap (λ (p : Post). p.bytes) c.in_err-append.ensures.kept ∙ ap bytes_on c.index_mut-link.ensures.value)) (ap (λ (l : Link). l.answer) c.index_mut-link.ensures.value))
 
 pub returns-clause-others : goal.returns-clause-others
 returns-clause-others c = rw (← c.links.view_is) (
@@ -80,3 +81,15 @@ invariant_of-links c =
 pub invariant_of-links-2 : goal.invariant_of-links-2
 invariant_of-links-2 c =
     placed_written c.links.inside.list.items c.links.inside.places.items c.in-Some.place c.index_mut-link.result.now _ c.links.invariant (ap (λ (l : Link). l.number) c.index_mut-link.ensures.value)
+
+pub returns-clause-posts : goal.returns-clause-posts
+returns-clause-posts c = rw (← c.links.view_is) (
+    others_post c.args.number c.links.inside.list.items c.in-Some.place c.index_mut-link.result.now _
+    (ap (λ (v : Linked). place_of c.args.number v.items) c.links.view_is ∙ sym c.place_in.ensures.is ∙ c.in-Some.is)
+    (ap (λ (l : Link). l.number) c.index_mut-link.ensures.value))
+
+pub returns-in_err-append-clause-posts : goal.returns-in_err-append-clause-posts
+returns-in_err-append-clause-posts c = rw (← c.links.view_is) (
+    others_post c.args.number c.links.inside.list.items c.in-Some.place c.index_mut-link.result.now _
+    (ap (λ (v : Linked). place_of c.args.number v.items) c.links.view_is ∙ sym c.place_in.ensures.is ∙ c.in-Some.is)
+    (ap (λ (l : Link). l.number) c.index_mut-link.ensures.value))

@@ -8,15 +8,17 @@ use Rattle.tds_relay.proofs.steps.Placed.{IsAt, is_at, is_nowhere}
 use Rattle.tds_relay.proofs.spared.Waits.{waits_same}
 use Rattle.tds_relay.proofs.spared.Turned.{posts_same}
 use Rattle.tds_relay.proofs.steps.Staying.{fills_same, stays_written}
+use Rattle.tds_relay.proofs.steps.Staying.{fills_same, stays_restarted}
 use Rattle.tds_relay.proofs.indexed.Placing.{placed_written}
 use Rattle.tds_relay.proofs.bytes.SetAnew.{any_refl, any_written}
+use Rattle.tds_relay.proofs.spared.Sending.{written_as}
 use Rattle.tds_relay.proofs.links.restart.Goals as goal
 
 pub returns-clause-read : goal.returns-clause-read
 returns-clause-read c = rw (← c.links.view_is) (
-    stays_written c.links.inside.list.items c.in-Some.place c.index_mut-link.result.now _
+    stays_restarted c.links.inside.list.items c.in-Some.place c.index_mut-link.result.now _
     (ap (λ (l : Link). l.number) c.index_mut-link.ensures.value) (ap seen_of c.index_mut-link.ensures.value)
-    (fills_same _ _ (ap bytes_on c.index_mut-link.ensures.value)))
+    (fills_same _ _ (ap bytes_on c.index_mut-link.ensures.value)) (c.restart.ensures ∙ ap (λ (l : Link). at_its_beginning l.answer) c.index_mut-link.ensures.value))
 
 pub returns-clause-waits : goal.returns-clause-waits
 returns-clause-waits c = rw (← c.links.view_is) (
@@ -53,4 +55,5 @@ returns-clause-any c = rw (← c.links.view_is) (
 pub returns-clause-posts : goal.returns-clause-posts
 returns-clause-posts c = rw (← c.links.view_is) (
     posts_same c.links.inside.list.items c.in-Some.place c.index_mut-link.result.now _
+    written_as (λ (l : Link). post_in l.out) c.links.inside.list.items c.in-Some.place c.index_mut-link.result.now _
     (ap (λ (l : Link). l.number) c.index_mut-link.ensures.value) (ap (λ (l : Link). post_in l.out) c.index_mut-link.ensures.value))

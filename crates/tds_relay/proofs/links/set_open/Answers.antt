@@ -11,6 +11,8 @@ use Rattle.tds_relay.proofs.steps.Renaming.{seen_written, unseen_written}
 use Rattle.tds_relay.specs.Reads.{Seen, with_open}
 use Rattle.tds_relay.proofs.indexed.Placing.{placed_written}
 use Rattle.std.proofs.Common.{length-set}
+use Rattle.tds_relay.specs.Reads.{answer_on}
+use Rattle.tds_relay.proofs.spared.Sending.{written_as}
 use Rattle.tds_relay.proofs.links.set_open.Goals as goal
 
 pub returns-in_default-clause-opens : goal.returns-in_default-clause-opens
@@ -46,7 +48,12 @@ invariant_of-links c =
 pub returns-clause-many : goal.returns-clause-many
 returns-clause-many c = rw (← c.links.view_is) (length-set c.links.inside.list.items c.in-Some.place _)
 
+pub returns-clause-answers : goal.returns-clause-answers
+returns-clause-answers c = rw (← c.links.view_is) (
+    written_as answer_on c.links.inside.list.items c.in-Some.place c.index_mut-link.result.now _
+    (ap (λ (l : Link). l.number) c.index_mut-link.ensures.value) (ap (λ (l : Link). l.answer) c.index_mut-link.ensures.value))
+
 pub returns-clause-posts : goal.returns-clause-posts
 returns-clause-posts c = rw (← c.links.view_is) (
-    posts_same c.links.inside.list.items c.in-Some.place c.index_mut-link.result.now _
+    written_as (λ (l : Link). post_in l.out) c.links.inside.list.items c.in-Some.place c.index_mut-link.result.now _
     (ap (λ (l : Link). l.number) c.index_mut-link.ensures.value) (ap (λ (l : Link). post_in l.out) c.index_mut-link.ensures.value))

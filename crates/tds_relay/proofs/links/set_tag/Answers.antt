@@ -7,6 +7,8 @@ use Rattle.tds_relay.proofs.spared.Waits.{waits_same}
 use Rattle.tds_relay.proofs.steps.Placed.{is_nowhere}
 use Rattle.tds_relay.proofs.steps.Renaming.{seen_written, unseen_written}
 use Rattle.tds_relay.proofs.indexed.Placing.{placed_written}
+use Rattle.tds_relay.specs.Reads.{answer_on}
+use Rattle.tds_relay.proofs.spared.Sending.{written_as}
 use Rattle.tds_relay.proofs.links.set_tag.Goals as goal
 
 pub returns-in_default-clause-named : goal.returns-in_default-clause-named
@@ -28,3 +30,8 @@ returns-clause-waits c = rw (← c.links.view_is) (
 pub invariant_of-links : goal.invariant_of-links
 invariant_of-links c =
     placed_written c.links.inside.list.items c.links.inside.places.items c.in-Some.place c.index_mut-link.result.now _ c.links.invariant (ap (λ (l : Link). l.number) c.index_mut-link.ensures.value)
+
+pub returns-clause-answers : goal.returns-clause-answers
+returns-clause-answers c = rw (← c.links.view_is) (
+    written_as answer_on c.links.inside.list.items c.in-Some.place c.index_mut-link.result.now _
+    (ap (λ (l : Link). l.number) c.index_mut-link.ensures.value) (ap (λ (l : Link). l.answer) c.index_mut-link.ensures.value))

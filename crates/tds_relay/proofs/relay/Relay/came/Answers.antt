@@ -23,6 +23,7 @@ use Rattle.tds_relay.proofs.bytes.SetAnew.{comes_anew}
 use Rattle.tds_relay.proofs.spared.Opening.{goes_last, opens_new_on, opens_same}
 use Rattle.tds_relay.proofs.spared.Off.{served_off}
 use Rattle.tds_relay.proofs.spared.Opening.{grows_few, grows_on}
+use Rattle.tds_relay.proofs.spared.Counted.{lost_served}
 use Rattle.tds_relay.proofs.relay.Relay.came.Goals as goal
 
 pub returns-clause-steps : goal.returns-clause-steps
@@ -87,3 +88,9 @@ returns-clause-apart c = served_off c.serve_line.result c.args.number c.args.sel
 
 pub returns-clause-many : goal.returns-clause-many
 returns-clause-many c = grows_on c.serve_line.result c.args.self.now c.hear_all.new.self c.serve_line.new.self (grows_few c.args.self.now c.hear_all.new.self c.hear_all.ensures.opening c.in_ok-hear_all.ensures.many) c.serve_line.ensures.many
+
+pub returns-clause-counts : goal.returns-clause-counts
+returns-clause-counts c = lost_served c.serve_line.result c.args.number c.args.self.now c.hear_all.new.self c.serve_line.new.self c.serve_line.ensures.opens c.serve_line.ensures.counts c.in_ok-hear_all.ensures.counts
+
+pub returns-clause-goes : goal.returns-clause-goes
+returns-clause-goes c = ok_more c.serve_line.result _ _ (λ g from h. g (Connection c.args.number) from (c.in_ok-hear_all.ensures.goes from h)) c.serve_line.ensures.goes

@@ -9,6 +9,8 @@ use Rattle.tds_relay.proofs.spared.Ended.{closes_removed, cutting}
 use Rattle.tds_relay.proofs.spared.Begun.{answers_without}
 use Rattle.tds_relay.proofs.spared.Opening.{opens_pushed}
 use Rattle.tds_relay.specs.declared.order.Order.TheVariants as orders
+use Rattle.tds_relay.specs.Reads.{post_on}
+use Rattle.tds_relay.proofs.spared.Waits.{left_post}
 use Rattle.tds_relay.proofs.relay.Relay.close_link.Goals as goal
 
 pub returns-in_ok-push-in-Some-clause-read : goal.returns-in_ok-push-in-Some-clause-read
@@ -47,3 +49,9 @@ returns-in-None-clause-answers c = answers_without c.args.number _ _ c.remove_li
 
 pub returns-in_ok-push-in-Some-clause-opening : goal.returns-in_ok-push-in-Some-clause-opening
 returns-in_ok-push-in-Some-clause-opening c = opens_pushed (orders.Close c.in-Some.tag) c.args.self.now.orders.items c.push.new.self.items c.in_ok-push-in-Some.ensures.items refl
+
+pub returns-in_ok-push-in-Some-clause-posts : goal.returns-in_ok-push-in-Some-clause-posts
+returns-in_ok-push-in-Some-clause-posts c = λ other differs. ap (post_on other) c.remove_link.ensures ∙ left_post c.args.number other c.args.self.now.links.items differs
+
+pub returns-in-None-clause-posts : goal.returns-in-None-clause-posts
+returns-in-None-clause-posts c = λ other differs. ap (post_on other) c.remove_link.ensures ∙ left_post c.args.number other c.args.self.now.links.items differs

@@ -16,7 +16,7 @@ returns-then-not-fits-clause-closes c = closes_kept Nobody _ _ refl refl refl (u
 pub returns-clause-closes : goal.returns-clause-closes
 returns-clause-closes c =
     closes_filled_on Nobody c.args.number c.deref.result.now (register_in c.args.self.now) _ _ c.in_ok-order_write_on.ensures.ends c.in_ok-order_write_on.ensures.kept refl c.append_to.ensures.read.seen c.append_to.ensures.others (c.in_ok-fits.ensures.appends (search rules)) refl
-    c.in_ok-order_write_on.ensures.links c.in_ok-order_write_on.ensures.writes c.in_ok-order_write_on.ensures.closes
+    c.in_ok-order_write_on.ensures.links c.in_ok-order_write_on.ensures.writes c.in_ok-order_write_on.ensures.times c.in_ok-order_write_on.ensures.closes
 
 pub returns-clause-answers : goal.returns-clause-answers
 returns-clause-answers c = answers_both _ _ _ c.append_to.ensures.answers (answers_same _ _ c.in_ok-order_write_on.ensures.links)

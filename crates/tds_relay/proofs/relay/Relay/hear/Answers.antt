@@ -26,13 +26,18 @@ use Rattle.tds_relay.proofs.seats.Relays.{behind_on}
 use Rattle.tds_relay.proofs.seats.Linked.{heard_there, seated_as}
 use Rattle.std.proofs.Common.{length-set}
 use Rattle.tds_relay.specs.Posts.{post_in}
-use Rattle.tds_relay.specs.declared.outgoing.Outgoing.{Outgoing}
 use Rattle.tds_relay.proofs.spared.Turned.{as_refl, keeps_written}
+use Rattle.tds_relay.specs.declared.desk.coming.What.TheVariants as whats
+use Rattle.std.proofs.Common.{None, Some}
 use Rattle.tds_relay.proofs.relay.Relay.hear.Goals as goal
+
+-- what comes where nothing is
+abbrev nothing : Option Heard
+nothing = Some (record { key = None; what = whats.Goes })
 
 pub returns-in_default-clause-continues : goal.returns-in_default-clause-continues
 returns-in_default-clause-continues c =
-    unheard c.args.number c.args.piece.now (length c.args.piece.now) c.args.self.now.links.items (house_in c.args.self.now) c.args.self.now.desk.service
+    unheard c.args.number c.args.piece.now (length c.args.piece.now) nothing c.args.self.now.links.items (house_in c.args.self.now) c.args.self.now.desk.service refl
     (sym c.place_in.ensures.is ∙ c.in_default.is)
 
 pub returns-clause-continues : goal.returns-clause-continues
@@ -45,7 +50,7 @@ returns-clause-continues c = rw (← c.links.view_is) (
 
 pub returns-then-not-link-clause-continues : goal.returns-then-not-link-clause-continues
 returns-then-not-link-clause-continues c = rw (← c.links.view_is) (
-    unopened c.args.number c.args.piece.now (length c.args.piece.now) c.links.inside.list.items c.in-Some.place c.index_mut-link.result.now (house_in c.args.self.now) c.args.self.now.desk.service
+    unopened c.args.number c.args.piece.now (length c.args.piece.now) nothing c.links.inside.list.items c.in-Some.place c.index_mut-link.result.now (house_in c.args.self.now) c.args.self.now.desk.service refl
     (ap (λ (v : Linked). place_of c.args.number v.items) c.links.view_is ∙ sym c.place_in.ensures.is ∙ c.in-Some.is)
     c.index_mut-link.ensures.value (search rules))
 

@@ -24,6 +24,7 @@ use Rattle.tds_relay.proofs.spared.Only.{one_spares, spares_refl}
 use Rattle.tds_relay.proofs.spared.Off.{off_none, one_off}
 use Rattle.std.proofs.Common.{None}
 use Rattle.tds_relay.proofs.spared.Opening.{many_on}
+use Rattle.tds_relay.proofs.spared.Counted.{one_lost}
 use Rattle.tds_relay.proofs.relay.Relay.hear_all.Goals as goal
 
 pub taking-init : goal.taking-init
@@ -44,6 +45,7 @@ taking-init c = record {
   opening = refl;
   apart = off_none c.args.number None c.args.self.now;
   many = (stays_refl c.args.self.now.links.items).few;
+  counts = inl refl;
 }
 
 pub taking-preserved : goal.taking-preserved
@@ -84,6 +86,9 @@ taking-preserved c = record {
   apart =
       one_off c.args.number c.taking.rest.now _ c.args.self.now c.taking.self c.hear.new.self c.heard.new.self _ c.taking.invariant.goes c.taking.invariant.apart c.taking.invariant.spares
       c.in_ok-count.ensures.hears c.in_ok-count.ensures.goes c.in_ok-count.ensures.off (λ other. (c.in_ok-count.ensures.same other).0) c.in_ok-count.ensures.asks c.in_ok-heard.ensures.apart;
+  counts =
+      one_lost c.args.number c.taking.rest.now _ c.args.self.now c.taking.self c.hear.new.self c.heard.new.self _ c.in_ok-count.ensures.hears c.hear.ensures.counts (λ other. (c.in_ok-count.ensures.same other).0) c.in_ok-heard.ensures.read
+      c.in_ok-heard.ensures.counts c.taking.invariant.counts;
   opening = c.heard.ensures.opening ∙ ap opens_in c.hear.ensures.orders ∙ c.taking.invariant.opening;
   many = many_on (length c.args.self.now.links.items) (length c.taking.self.links.items) (length c.hear.new.self.links.items) (length c.heard.new.self.links.items) c.taking.invariant.many c.in_ok-count.ensures.many c.in_ok-heard.ensures.read.few;
 }

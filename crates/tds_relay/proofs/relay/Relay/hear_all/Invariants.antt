@@ -1,4 +1,5 @@
 use Rattle.std.proofs.Common.{◌≡◌, ◌≤◌, length}
+use Rattle.tds_relay.specs.Cleaning.{CountsLost}
 use Rattle.tds_relay.specs.Closings.{ClosesOnly, but_told, register_in}
 use Rattle.tds_relay.specs.Reasons.{HeardFor}
 use Rattle.tds_relay.specs.Coming.{AllAlong, StreamsAnew}
@@ -35,5 +36,6 @@ invariant-taking l = record {
   seated : IsSeated l.fn.self → IsSeated l.self;
   apart : OffGo l.fn.number None l.fn.self l.self;
   many : length l.self.links.items ≤ length l.fn.self.links.items;
+  counts : CountsLost l.fn.number l.fn.self l.self;
   opening : opens_in l.self.orders.items ≡ opens_in l.fn.self.orders.items;
 }

@@ -119,7 +119,7 @@ returns-clause-opening c =
 pub returns-then-served-clause-own : goal.returns-then-served-clause-own
 returns-then-served-clause-own c = λ reached its.
     own_behind c.start_kept.result c.args.served.hold.key c.args.self.now c.restart.new.self c.start_kept.new.self
-    (own_first c.args.served.hold.key c.args.self.now c.restart.new.self (ap (λ (d : code.Desk). d.holds.items) c.restart.ensures.desk) c.restart.ensures.waits)
+    (own_first c.args.served.hold.key c.args.self.now c.restart.new.self (ap (λ (d : code.Desk). d.holds.items) c.restart.ensures.desk) c.restart.ensures.posts)
     (c.start_kept.ensures.own (subst (λ (d : code.Desk). IsReached (desk_in d)) (sym c.restart.ensures.desk) reached))
 
 pub returns-clause-own : goal.returns-clause-own

@@ -79,7 +79,7 @@ returns-clause-puts c = λ reached.
     let old = c.args.self.now in
     let mid = c.lose.new.self in
     puts_on c.serve_line.result (λ (other : ℕ). other ≡ c.args.number) old mid c.serve_line.new.self reached (λ key e. ap (is_in key) (sym c.in_ok-lose.ensures.line) ∙ e)
-    (first_lost c.args.number old mid c.in_ok-lose.ensures.holds c.in_ok-lose.ensures.others)
+    (first_lost c.args.number old mid c.in_ok-lose.ensures.holds c.in_ok-lose.ensures.posts)
     (c.serve_line.ensures.fills (reached_on_does (desk_in old.desk) (desk_in mid.desk) c.in_ok-lose.ensures.goes reached))
 
 pub returns-clause-many : goal.returns-clause-many

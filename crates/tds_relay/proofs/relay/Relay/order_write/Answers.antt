@@ -4,7 +4,7 @@ use Rattle.tds_relay.specs.Taking.{IsDeaf}
 use Rattle.tds_relay.specs.Ties.{desk_in}
 use Rattle.tds_relay.specs.declared.order.Order.TheVariants as orders
 use Rattle.tds_relay.proofs.spared.Ordered.{ordered_closing, ordered_refl}
-use Rattle.tds_relay.proofs.spared.Waking.{name_there, to_do_last}
+use Rattle.tds_relay.proofs.spared.Waking.{all_there, name_there, to_do_last}
 use Rattle.tds_relay.proofs.steps.Fronts.{moves_closes}
 use Rattle.tds_relay.proofs.steps.Reaching.{ok_more}
 use Rattle.tds_relay.proofs.steps.Told.{deaf_closed}
@@ -33,7 +33,7 @@ returns-then-is_full-clause-wakes c = ok_more c.end.result _ _ (λ e. inl (subst
 
 pub returns-clause-wakes : goal.returns-clause-wakes
 returns-clause-wakes c =
-    inr (c.in-Some.application.now.tag, name_there c.args.self.now.applications c.args.key c.in-Some.application.now c.in-Some.ensures, to_do_last (orders.Write c.in-Some.application.now.tag) c.args.self.now.orders.items c.push.new.self.items (search rules))
+    inr (c.in-Some.application.now.tag, name_there c.args.self.now.applications c.args.key c.in-Some.application.now c.in-Some.ensures, to_do_last (orders.Write c.in-Some.application.now.tag) c.args.self.now.orders.items c.push.new.self.items (search rules), all_there c.args.self.now.applications c.args.key c.in-Some.application.now c.in-Some.ensures (search rules))
 
 pub returns-clause-closes : goal.returns-clause-closes
 returns-clause-closes c = closes_kept _ _ _ refl refl refl (kept_refl c.args.self.now.links.items) (write_closes _ _ _ c.in_ok-push.ensures.items)

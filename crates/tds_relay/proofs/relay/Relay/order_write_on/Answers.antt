@@ -5,6 +5,7 @@ use Rattle.tds_relay.specs.Sending.{IsToWrite, called_at}
 use Rattle.tds_relay.proofs.spared.Sending.{kept_refl, ordered_last}
 use Rattle.tds_relay.proofs.spared.Shutting.{closes_kept, write_closes}
 use Rattle.tds_relay.proofs.spared.Opening.{opens_pushed}
+use Rattle.tds_relay.proofs.spared.Once.{times_other}
 use Rattle.tds_relay.proofs.relay.Relay.order_write_on.Goals as goal
 
 pub returns-in_ok-push-in-Some-clause-ordered : goal.returns-in_ok-push-in-Some-clause-ordered
@@ -25,3 +26,6 @@ returns-in_ok-push-in-Some-clause-closes c = closes_kept Nobody _ _ refl refl re
 
 pub returns-in_ok-push-in-Some-clause-opening : goal.returns-in_ok-push-in-Some-clause-opening
 returns-in_ok-push-in-Some-clause-opening c = opens_pushed (orders.Write c.in-Some.tag) c.args.self.now.orders.items c.push.new.self.items c.in_ok-push-in-Some.ensures.items refl
+
+pub returns-in_ok-push-in-Some-clause-times : goal.returns-in_ok-push-in-Some-clause-times
+returns-in_ok-push-in-Some-clause-times c = λ tag. times_other tag (orders.Write c.in-Some.tag) c.args.self.now.orders.items c.push.new.self.items c.in_ok-push-in-Some.ensures.items refl

@@ -103,3 +103,12 @@ returns-in-Some-clause-holds c = inl (ap (λ (d : code.Desk). d.holds.items) c.f
 
 pub returns-in-None-clause-holds : goal.returns-in-None-clause-holds
 returns-in-None-clause-holds c = ok_more c.lose.result _ _ (λ e. inr (e ∙ ap (λ (d : code.Desk). without_number c.args.number d.holds.items) c.fits_on.ensures.desk)) c.lose.ensures.holds
+
+pub returns-then-fits-clause-posts : goal.returns-then-fits-clause-posts
+returns-then-fits-clause-posts c = c.in_ok-fits.ensures.posts
+
+pub returns-in-Some-clause-posts : goal.returns-in-Some-clause-posts
+returns-in-Some-clause-posts c = c.in_ok-fits.ensures.posts
+
+pub returns-in-None-clause-posts : goal.returns-in-None-clause-posts
+returns-in-None-clause-posts c = ok_more c.lose.result _ _ (λ h other differs. h other differs ∙ c.in_ok-fits.ensures.posts other differs) c.lose.ensures.posts

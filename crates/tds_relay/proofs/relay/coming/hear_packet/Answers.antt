@@ -7,7 +7,7 @@ use Rattle.tds_relay.specs.declared.desk.coming.What.TheVariants as whats
 use Rattle.tds_relay.specs.Fronts.{end_of, ends_in}
 use Rattle.tds_relay.specs.Hall.{End}
 use Rattle.tds_relay.specs.Handing.{IsBy, PassesAs, IsKnown, news_for}
-use Rattle.tds_relay.specs.House.{IsTold, Withheld, closes, end_whose, handed, hears_of_reset, is_said}
+use Rattle.tds_relay.specs.House.{IsTold, Withheld, closes, end_whose, handed, hears_of_reset, is_said, news_in}
 use Rattle.tds_relay.specs.Posts.{posts_in}
 use Rattle.tds_relay.specs.Ties.{Connection, desk_in, part_on}
 use Rattle.tds_relay.proofs.steps.Fronts.{ends_kept}
@@ -123,9 +123,10 @@ returns-clause-brings c =
     subst (λ (n : News). IsBy n c.args.link.now.answer header content passes.manner) c.news_for-news.ensures passes.by in
     let known : IsKnown (news_for c.is_told-asks.result (c.owes_reset-owed.result && not c.owes_reset.result) c.owes_reset-owed.result c.holds.result) c.args.link.now.answer header content c.hand_on.new.answer =
     subst (λ (n : News). IsKnown n c.args.link.now.answer header content c.hand_on.new.answer) c.news_for-news.ensures c.in_ok-hand_on.ensures.known in
-    let cut : PassesAs (owes_reset number d) c.args.link.now.answer header content passes.manner c.hand_on.new.answer =
-    subst (λ (b : Bool). PassesAs b c.args.link.now.answer header content passes.manner c.hand_on.new.answer) c.owes_reset-owed.ensures
-    (cut_as c.is_told-asks.result (c.owes_reset-owed.result && not c.owes_reset.result) c.owes_reset-owed.result c.holds.result c.args.link.now.answer header content passes.manner c.hand_on.new.answer c.holds.ensures by known) in
+    let counted = ap (λ (b : Bool). news_in b part.items) c.owes_reset-owed.ensures ∙ told in
+    let cut : PassesAs (owes_reset number d) c.args.link.now.answer header content part passes.manner c.hand_on.new.answer =
+    subst (λ (b : Bool). PassesAs b c.args.link.now.answer header content part passes.manner c.hand_on.new.answer) c.owes_reset-owed.ensures
+    (cut_as c.is_told-asks.result (c.owes_reset-owed.result && not c.owes_reset.result) c.owes_reset-owed.result c.holds.result c.args.link.now.answer header content part passes.manner c.hand_on.new.answer c.holds.ensures counted by known) in
     let tells : IsTold (owes_reset number d) (hears_of_reset heard.what (end_whose heard.key es)) passes.manner part =
     subst (λ (b : Bool). IsTold (owes_reset number d) b passes.manner part) asks
     (told_for (owes_reset number d) c.is_told-asks.result (c.owes_reset-owed.result && not c.owes_reset.result) c.owes_reset-owed.result c.holds.result c.args.link.now.answer header content passes.manner part told

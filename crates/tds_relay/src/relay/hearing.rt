@@ -1,0 +1,121 @@
+//! What is done behind a packet that was heard.
+ghost use Rattle.std.specs.Prelude.{◌≡◌, ◌≢◌, ℕ, None, Some};
+ghost use Rattle.std.specs.Prelude.{IsNone, OnOk};
+ghost use Rattle.tds_relay.specs.Apart.{SparesOthers};
+ghost use Rattle.tds_relay.specs.Cleaning.{CountsHeard};
+ghost use Rattle.tds_relay.specs.Closings.{ClosesOnly};
+ghost use Rattle.tds_relay.specs.Closings.{register_in};
+ghost use Rattle.tds_relay.specs.Coming.{AllAlong, BeginAnyIf, acknowledged_in};
+ghost use Rattle.tds_relay.specs.Few.{IsSeated, IsSeatedBehind};
+ghost use Rattle.tds_relay.specs.Fronts.{Moved, ends_in, hall_in, hall_of_ends, told_by};
+ghost use Rattle.tds_relay.specs.Handing.{heard_key};
+ghost use Rattle.tds_relay.specs.Reasons.{LosesAt};
+ghost use Rattle.tds_relay.specs.Posts.{posts_in};
+ghost use Rattle.tds_relay.specs.Reads.{Stays};
+ghost use Rattle.tds_relay.specs.Reads.{reader_at, waits_on};
+ghost use Rattle.tds_relay.specs.Ordering.{StayOrdered, opens_in};
+ghost use Rattle.tds_relay.specs.Sparing.{OffGo};
+ghost use Rattle.tds_relay.specs.Ties.{Connection, Goes, IsReached, desk_in};
+ghost use Rattle.tds_relay.specs.Waiting.{IsNotAcknowledged};
+ghost use Rattle.tds_relay.specs.Waking.{HandsTo, IsWoken};
+ghost use Rattle.tds_relay.specs.Walkers.{AllStand};
+
+use super::Relay;
+use crate::NoMemory;
+use crate::desk::{Heard, What};
+
+impl Relay {
+    /// What came of a packet is done; a header that isn't one loses its connection.
+    pub(super) fn heard(&mut self, number: u64, heard: Option<Heard>) -> Result<(), NoMemory>
+        ensures goes { OnOk result (Goes (Connection number)
+            (desk_in self.old.desk) (desk_in self.new.desk)) }
+        ensures kept { OnOk result (posts_in self.new.applications
+            ≡ posts_in self.old.applications) }
+        ensures moves { OnOk result (Moved (Connection number) (hall_of_ends
+            (desk_in self.old.desk) (told_by heard (ends_in self.old.applications)))
+            (hall_in self.new)) }
+        ensures read { OnOk result (Stays self.old.links.items self.new.links.items) }
+        ensures gone { IsNone heard → OnOk result (reader_at number self.new.links.items ≡ None) }
+        ensures stand { OnOk result (AllStand self.old.desk.service
+            self.new.desk.service) }
+        ensures bodies { IsReached (desk_in self.old.desk)
+            → OnOk result (AllAlong self.old self.new) }
+        ensures ordered { OnOk result (StayOrdered self.old.orders.items self.new.orders.items) }
+        ensures wakes { OnOk result ((key : ℕ) → HandsTo heard key (ends_in self.old.applications)
+            → IsWoken key self.new.applications self.new.orders.items) }
+        ensures others { IsNotAcknowledged heard → OnOk result ((other : ℕ) → other ≢ number
+            → waits_on other self.new.links.items ≡ waits_on other self.old.links.items) }
+        ensures begins { OnOk result (BeginAnyIf (acknowledged_in heard)
+            self.old.links.items self.new.links.items) }
+        ensures spares { IsReached (desk_in self.old.desk) → OnOk result (SparesOthers number
+            (heard_key heard) (hall_in self.old) (hall_in self.new)) }
+        ensures closes { OnOk result (ClosesOnly (LosesAt number heard self.old)
+            (register_in self.old) (register_in self.new)) }
+        ensures seated { IsSeatedBehind heard number self.old
+            → OnOk result (IsSeated self.new) }
+        ensures opening { opens_in self.new.orders.items ≡ opens_in self.old.orders.items }
+        ensures counts { OnOk result (CountsHeard number heard self.old self.new) }
+        ensures apart { OnOk result (OffGo number (heard_key heard) self.old self.new) }
+    {
+        match heard {
+            Some(heard) => self.heard_packet(number, heard),
+            None => self.lose(number),
+        }
+    }
+
+    /// What came of a packet is done.
+    fn heard_packet(&mut self, number: u64, heard: Heard) -> Result<(), NoMemory>
+        ensures goes { OnOk result (Goes (Connection number)
+            (desk_in self.old.desk) (desk_in self.new.desk)) }
+        ensures kept { OnOk result (posts_in self.new.applications
+            ≡ posts_in self.old.applications) }
+        ensures moves { OnOk result (Moved (Connection number) (hall_of_ends
+            (desk_in self.old.desk) (told_by (Some heard) (ends_in self.old.applications)))
+            (hall_in self.new)) }
+        ensures read { OnOk result (Stays self.old.links.items self.new.links.items) }
+        ensures stand { OnOk result (AllStand self.old.desk.service
+            self.new.desk.service) }
+        ensures bodies { IsReached (desk_in self.old.desk)
+            → OnOk result (AllAlong self.old self.new) }
+        ensures ordered { OnOk result (StayOrdered self.old.orders.items self.new.orders.items) }
+        ensures wakes { OnOk result ((key : ℕ)
+            → HandsTo (Some heard) key (ends_in self.old.applications)
+            → IsWoken key self.new.applications self.new.orders.items) }
+        ensures others { IsNotAcknowledged (Some heard) → OnOk result ((other : ℕ)
+            → other ≢ number → waits_on other self.new.links.items
+            ≡ waits_on other self.old.links.items) }
+        ensures begins { OnOk result (BeginAnyIf (acknowledged_in (Some heard))
+            self.old.links.items self.new.links.items) }
+        ensures spares { IsReached (desk_in self.old.desk) → OnOk result (SparesOthers number
+            (heard_key (Some heard)) (hall_in self.old) (hall_in self.new)) }
+        ensures closes { OnOk result (ClosesOnly (LosesAt number (Some heard) self.old)
+            (register_in self.old) (register_in self.new)) }
+        ensures seated { IsSeatedBehind (Some heard) number self.old
+            → OnOk result (IsSeated self.new) }
+        ensures opening { opens_in self.new.orders.items ≡ opens_in self.old.orders.items }
+        ensures counts { OnOk result (CountsHeard number (Some heard) self.old self.new) }
+        ensures apart { OnOk result (OffGo number (heard_key (Some heard)) self.old self.new) }
+    {
+        let resumes = self.tell(heard)?;
+        self.send_on(number)?;
+        match (heard.what, heard.key) {
+            (What::Goes, Some(key)) => self.order_write(key),
+            (What::Goes, None) => Ok(()),
+            (What::Finished, Some(key)) => self.order_write(key),
+            (What::Finished, None) => Ok(()),
+            (What::Acknowledged, Some(key)) => {
+                if resumes {
+                    self.resume(number, key)
+                } else {
+                    self.order_write(key)
+                }
+            }
+            (What::Acknowledged, None) => Ok(()),
+            (What::Closed, Some(_)) => self.close_link(number),
+            (What::Closed, None) => {
+                self.failed = self.failed.saturating_add(1);
+                self.close_link(number)
+            }
+        }
+    }
+}
