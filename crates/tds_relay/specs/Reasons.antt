@@ -45,7 +45,7 @@ use Rattle.tds_relay.specs.House.{House}
 use Rattle.tds_relay.specs.Places.{HasNoTransaction, open_on}
 use Rattle.tds_relay.specs.Posts.{Post, Posts, acknowledgement, fits, give, post_at, post_in, posts_in}
 use Rattle.tds_relay.specs.Coming.{StreamsAnew}
-use Rattle.tds_relay.specs.Reads.{StreamsAll, answer_at, link_at, open_at, post_on}
+use Rattle.tds_relay.specs.Reads.{StreamsAll, answer_at, link_at, open_at}
 use Rattle.tds_relay.specs.Sparing.{IsKept}
 use Rattle.tds_relay.specs.Taking.{IsDeaf}
 use Rattle.tds_relay.specs.Ties.{Leaving, Turns, desk_in}

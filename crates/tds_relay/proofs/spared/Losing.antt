@@ -1,5 +1,5 @@
 -- Why an application is closed by what comes: a packet behind the other.
-use Rattle.std.proofs.Common.{◌≡◌, ◌≢◌, ◌⊎◌, ◌∙◌, ◌==◌, length, ℕ, Bool, true, false, List, [], Option, Some, None, inl, inr, refl, sym, ap, subst, option_map, if◌then◌else◌, slice_index_or, slice_set}
+use Rattle.std.proofs.Common.{◌≡◌, ◌≢◌, ◌⊎◌, ◌∙◌, ◌==◌, length, ℕ, Bool, true, false, List, [], Option, Some, None, inl, inr, refl, sym, ap, subst, if◌then◌else◌, slice_index_or}
 use Rattle.std.specs.Prelude.{IfOk, Result, Ok, Err}
 use Rattle.slab.specs.Slab.{Slab, get}
 use Rattle.tds_front.specs.declared.fault.FrontFault.{FrontFault}
@@ -24,7 +24,7 @@ use Rattle.tds_relay.specs.Hall.{End, Ends, Open, Over, end_at, holder}
 use Rattle.tds_relay.specs.Handing.{HearsBy, IsNothing}
 use Rattle.tds_relay.specs.House.{House}
 use Rattle.tds_relay.specs.Posts.{Posts, post_at, posts_in}
-use Rattle.tds_relay.specs.Reads.{link_at, place_of}
+use Rattle.tds_relay.specs.Reads.{place_of}
 use Rattle.tds_relay.specs.Reasons.{Cleans, HasNoRoom, HasTakenBack, HearsNothing, IsHeardAs, IsIdle, IsOverfull, ItselfFor, LosesAt, LosesBy, LosesFor, LosesOn, OfPacket, OfResuming, OfSending, ResumesAt, ResumesNot, ResumesNotAt}
 use Rattle.tds_relay.specs.Sparing.{IsKept}
 use Rattle.tds_relay.specs.Waiting.{KeepsPosts}

@@ -1,7 +1,7 @@
 -- Why an application is closed by what it says: piece by piece, and by a loan behind them.
 use Rattle.std.proofs.Common.{◌≡◌, ◌≢◌, ◌⊎◌, ◌<◌, ◌∙◌, ℕ, Bool, true, false, List, [], ◌++◌, length, Option, Some, None, inl, inr, refl, sym, ap, subst, option_map, if◌then◌else◌}
 use Rattle.std.proofs.lemmas.Bool.{cases_eq}
-use Rattle.std.specs.Prelude.{IfNone, IfSome, IsSome, Result, OnOk}
+use Rattle.std.specs.Prelude.{IfNone, IfSome, Result, OnOk}
 use Rattle.slab.specs.Slab.{Slab, get}
 use Rattle.tds_packet.specs.declared.kind.Kind.{Kind}
 use Rattle.tds_packet.specs.declared.status.Reset.{Reset}

@@ -1,6 +1,6 @@
 -- Who is turned away from the connection that it holds: that is ready for its request, and doesn't take it.
 use Rattle.std.proofs.Common.{◌≡◌, ◌≢◌, ◌⊎◌, ◌∙◌, ◌==◌, ◌++◌, ℕ, zero, suc, Bool, true, false, List, [], ◌∷◌, Option, Some, None, inl, inr, refl, sym, ap, subst, option_map, slice_index_or, slice_set, if◌then◌else◌}
-use Rattle.std.specs.Prelude.{IsSome, Result, Ok, Err, OnOk, is_some}
+use Rattle.std.specs.Prelude.{IsSome, Result, OnOk, is_some}
 use Rattle.slab.specs.Slab.{Slab, get}
 use Rattle.tds_client.specs.declared.message.MessageKind.{MessageKind}
 use Rattle.tds_front.specs.declared.fault.FrontFault.{FrontFault}
@@ -8,7 +8,6 @@ use Rattle.tds_front.specs.declared.front.Front.{Front}
 use Rattle.tds_packet.specs.Reading.{Reading}
 use Rattle.tds_packet.specs.declared.status.Reset.{Reset}
 use Rattle.tds_packet.specs.declared.status.Reset.TheVariants.{KeepTransaction}
-use Rattle.tds_service.specs.declared.service.Service as services
 use Rattle.tds_relay.specs.declared.application.Application.{Application}
 use Rattle.tds_relay.specs.declared.application.Asking.{Asking}
 use Rattle.tds_relay.specs.declared.application.Asking.TheVariants as asking
@@ -18,7 +17,7 @@ use Rattle.tds_relay.specs.declared.link.Link.{Link}
 use Rattle.tds_relay.specs.declared.relay.Relay as code
 use Rattle.tds_relay.specs.Anew.{ResetsFor}
 use Rattle.tds_relay.specs.Asking.{IsTakenBack, waits_in}
-use Rattle.tds_relay.specs.Bodies.{AskAsBefore, Astray, Body, Closed, Going, Kept, Nowhere, body_by, body_in, body_of, going, going_of}
+use Rattle.tds_relay.specs.Bodies.{AskAsBefore, Astray, Body, Closed, Going, Kept, Nowhere, body_by, body_in, body_of, going_of}
 use Rattle.tds_relay.specs.Closings.{ClosesOnly, IsWho, Nobody, Register, register_in}
 use Rattle.tds_relay.specs.Desk.{Desk, Renews, find_key, turn}
 use Rattle.tds_relay.specs.Fronts.{ends_in}

@@ -6,8 +6,6 @@ use Rattle.tds_relay.specs.Cutting.{at_its_beginning}
 use Rattle.tds_relay.specs.Reads.{answer_on, bytes_on, link_at, place_of, seen_of}
 use Rattle.tds_relay.proofs.steps.Placed.{IsAt, is_at, is_nowhere}
 use Rattle.tds_relay.proofs.spared.Waits.{waits_same}
-use Rattle.tds_relay.proofs.spared.Turned.{posts_same}
-use Rattle.tds_relay.proofs.steps.Staying.{fills_same, stays_written}
 use Rattle.tds_relay.proofs.steps.Staying.{fills_same, stays_restarted}
 use Rattle.tds_relay.proofs.indexed.Placing.{placed_written}
 use Rattle.tds_relay.proofs.bytes.SetAnew.{any_refl, any_written}
@@ -54,6 +52,5 @@ returns-clause-any c = rw (← c.links.view_is) (
 
 pub returns-clause-posts : goal.returns-clause-posts
 returns-clause-posts c = rw (← c.links.view_is) (
-    posts_same c.links.inside.list.items c.in-Some.place c.index_mut-link.result.now _
     written_as (λ (l : Link). post_in l.out) c.links.inside.list.items c.in-Some.place c.index_mut-link.result.now _
     (ap (λ (l : Link). l.number) c.index_mut-link.ensures.value) (ap (λ (l : Link). post_in l.out) c.index_mut-link.ensures.value))

@@ -4,7 +4,6 @@ use Rattle.tds_relay.specs.Linking.{Linked}
 use Rattle.tds_relay.specs.Posts.{post_in}
 use Rattle.tds_relay.specs.Reads.{place_of}
 use Rattle.tds_relay.proofs.spared.Waits.{waits_same}
-use Rattle.tds_relay.proofs.spared.Turned.{posts_same}
 use Rattle.tds_relay.proofs.steps.Placed.{opened_nowhere, opened_written}
 use Rattle.tds_relay.proofs.steps.Placed.{is_nowhere}
 use Rattle.tds_relay.proofs.steps.Renaming.{seen_written, unseen_written}

@@ -1,4 +1,4 @@
-use Rattle.std.proofs.Common.{Option, Some, None, refl, subst, sym, ℕ}
+use Rattle.std.proofs.Common.{Option, refl, subst, sym, ℕ}
 use Rattle.std.specs.Prelude.{OnOk}
 use Rattle.tds_relay.specs.declared.desk.coming.Heard.{Heard}
 use Rattle.tds_relay.specs.Apart.{SparesOthers}

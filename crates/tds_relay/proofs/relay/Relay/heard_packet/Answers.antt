@@ -1,31 +1,30 @@
 use Rattle.std.proofs.Common.{◌≡◌, ◌∙◌, Some, ap, false, refl, rules, subst, sym}
 use Rattle.tds_relay.specs.Fronts.{ends_in, hall_in}
 use Rattle.tds_relay.specs.Ties.{Connection, IsReached, Reaches, desk_in}
-use Rattle.tds_relay.proofs.steps.Fronts.{moves_same, told_none, told_some}
+use Rattle.tds_relay.proofs.steps.Fronts.{moves_same, told_some}
 use Rattle.tds_relay.proofs.steps.Reaching.{ok_more, ok_if}
 use Rattle.tds_relay.proofs.steps.Staying.{stays_both, stays_on, stays_same}
 use Rattle.tds_relay.proofs.bytes.Calls.{stand_at, stand_back, stand_on}
-use Rattle.tds_relay.proofs.spared.Coming.{along_both, along_on, asks_along, asks_along_on, done_along, rest_along, same_along_on}
+use Rattle.tds_relay.proofs.spared.Coming.{along_both, along_on, asks_along, asks_along_on, done_along, same_along_on}
 use Rattle.tds_relay.proofs.spared.Ordered.{ordered_both, ordered_on}
 use Rattle.tds_relay.specs.declared.desk.Desk as desks
 use Rattle.tds_relay.proofs.spared.Resting.{put_reached}
-use Rattle.tds_relay.proofs.spared.Waking.{hands_as, hands_nobody, not_closed, not_nobody, woken_mine}
+use Rattle.tds_relay.proofs.spared.Waking.{hands_as, not_closed, not_nobody, woken_mine}
 use Rattle.tds_relay.specs.Reasons.{LosesAt, ResumesNotAt}
 use Rattle.tds_relay.specs.Posts.{posts_in}
-use Rattle.tds_relay.proofs.spared.Closings.{closes_behind, closes_more_on, closes_with}
-use Rattle.tds_relay.proofs.spared.Losing.{nothing_loses, resumes_loses, sent_closes, write_loses}
+use Rattle.tds_relay.proofs.spared.Closings.{closes_behind, closes_with}
+use Rattle.tds_relay.proofs.spared.Losing.{resumes_loses, sent_closes, write_loses}
 use Rattle.tds_relay.specs.Reads.{waits_on}
 use Rattle.tds_relay.proofs.spared.Lined.{acknowledges}
-use Rattle.tds_relay.proofs.spared.Only.{spares_for, spares_lost_on, spares_none, spares_sent, spares_shut, spares_wrote}
+use Rattle.tds_relay.proofs.spared.Only.{spares_for, spares_sent, spares_shut, spares_wrote}
 use Rattle.tds_relay.proofs.bytes.SetAnew.{acknowledges_one, any_if, any_on, any_sent, begins_any, sent_if}
 use Rattle.tds_relay.proofs.spared.Begun.{answers_behind, answers_on, answers_then}
 use Rattle.tds_relay.specs.Coming.{acknowledged_in}
-use Rattle.tds_relay.proofs.seats.Relays.{behind_none, behind_out, behind_stays, but_kept, closed_end, kept_end, kept_seated, links_there}
-use Rattle.tds_relay.proofs.seats.Desks.{off_of}
+use Rattle.tds_relay.proofs.seats.Relays.{behind_out, behind_stays, but_kept, closed_end, kept_end, kept_seated, links_there}
 use Rattle.tds_relay.specs.Few.{is_left}
 use Rattle.tds_relay.specs.declared.desk.coming.What.TheVariants as whats
-use Rattle.tds_relay.proofs.spared.Off.{all_off, asks_more, behind_sent, link_off, same_off, sent_off, whose_off}
-use Rattle.tds_relay.proofs.spared.Counted.{counts_free, counts_held, counts_left, counts_nothing}
+use Rattle.tds_relay.proofs.spared.Off.{asks_more, behind_sent, link_off, same_off, sent_off, whose_off}
+use Rattle.tds_relay.proofs.spared.Counted.{counts_free, counts_held, counts_left}
 use Rattle.tds_relay.proofs.relay.Relay.heard_packet.Goals as goal
 
 pub returns-in-Goes-Some-clause-moves : goal.returns-in-Goes-Some-clause-moves

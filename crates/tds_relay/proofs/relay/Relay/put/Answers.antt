@@ -29,7 +29,6 @@ use Rattle.tds_relay.proofs.seats.Relays.{desk_kept, kept_end, lasting_seated}
 use Rattle.tds_relay.proofs.seats.Desks.{gone_on, seated_on}
 use Rattle.tds_relay.proofs.spared.Filling.{own_behind, own_end, own_first, own_put}
 use Rattle.tds_relay.proofs.held.Numbers.{apart_at, its_holder}
-use Rattle.tds_relay.specs.Reads.{waits_on}
 use Rattle.tds_relay.proofs.relay.Relay.put.Goals as goal
 
 pub returns-in_default-clause-moves : goal.returns-in_default-clause-moves

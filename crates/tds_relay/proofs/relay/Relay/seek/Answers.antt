@@ -1,13 +1,9 @@
-use Rattle.std.proofs.Common.{refl, rules, sym, ◌∙◌}
+use Rattle.std.proofs.Common.{refl, rules, ◌∙◌}
 use Rattle.tds_relay.specs.Ties.{Application}
 use Rattle.tds_relay.proofs.steps.Reaching.{ok_if, ok_more}
 use Rattle.tds_relay.proofs.steps.Staying.{stays_refl, stays_same}
 use Rattle.tds_relay.specs.Bodies.{body_of}
 use Rattle.tds_relay.proofs.steps.Bodied.{same_starts}
-use Rattle.tds_relay.specs.Desk.{find_key}
-use Rattle.tds_relay.specs.Ties.{desk_in}
-use Rattle.tds_relay.proofs.spared.Lined.{has_some}
-use Rattle.tds_relay.proofs.spared.Reasons.{for_reason}
 use Rattle.tds_relay.proofs.spared.Closings.{closes_nobody}
 use Rattle.tds_relay.proofs.spared.Cleaned.{not_both}
 use Rattle.tds_relay.proofs.spared.Speaking.{waited_rest}
