@@ -1,5 +1,6 @@
-"""pgbouncer before PostgreSQL, for who asks beside: a session pool of another protocol, measured in the same run as
-tdsrelay (bench/relay latency). On Debian: pgbouncer and postgresql. Neither runs as root."""
+"""pgbouncer before PostgreSQL, for who asks beside: a pool of another protocol, measured in the same run as tdsrelay
+(bench/relay latency and share). On Debian: pgbouncer and postgresql. Neither runs as root."""
+import asyncio
 import glob
 import os
 import shutil
@@ -44,11 +45,15 @@ def until_ready(link):
             return size
 
 
+def login():
+    words = f"user\0{USER}\0database\0{USER}\0\0".encode()
+    return struct.pack(">II", len(words) + 8, 196608) + words
+
+
 def logged_in(port):
     link = socket.create_connection(("127.0.0.1", port))
     link.setsockopt(socket.IPPROTO_TCP, socket.TCP_NODELAY, 1)
-    words = f"user\0{USER}\0database\0{USER}\0\0".encode()
-    link.sendall(struct.pack(">II", len(words) + 8, 196608) + words)
+    link.sendall(login())
     until_ready(link)
     return link
 
@@ -58,10 +63,38 @@ def size_of(link):
     return until_ready(link)
 
 
-class Pgbouncer:
-    """A PostgreSQL of its own in this room, and pgbouncer before it, a session a connection."""
+class Application:
+    """One of many that stay: what it is to ask is said as to tdsrelay's."""
 
-    def __init__(self, room, paths):
+    SAYS = {"begin": b"begin", "rollback": b"rollback"}
+
+    def __init__(self, port, asks=False):
+        self.port = port
+
+    async def connect(self):
+        self.reader, self.writer = await asyncio.open_connection("127.0.0.1", self.port)
+        self.writer.write(login())
+        await self.until_ready()
+        return self
+
+    async def ask(self, text):
+        self.writer.write(ask(self.SAYS.get(text, QUERY)))
+        await self.until_ready()
+
+    async def until_ready(self):
+        kind = b""
+        while kind != b"Z":
+            kind, length = struct.unpack(">cI", await self.reader.readexactly(5))
+            await self.reader.readexactly(length - 4)
+            if kind == b"E":
+                raise OSError("an error was answered")
+
+
+class Pgbouncer:
+    """A PostgreSQL of its own in this room, and pgbouncer before it, so many connections at the most, each lent for a
+    session or for a transaction."""
+
+    def __init__(self, room, paths, mode="session", most=16):
         self.children = []
         initdb, postgres, pgbouncer = paths
         place = f"{room}/pg"
@@ -76,7 +109,7 @@ class Pgbouncer:
         with open(f"{place}/pgbouncer.ini", "w", encoding="ascii") as it:
             it.write(f"[databases]\n{USER} = host=127.0.0.1 port={self.direct} dbname={USER}\n[pgbouncer]\n"
                      f"listen_addr = 127.0.0.1\nlisten_port = {self.port}\nauth_type = trust\nauth_file = {place}/users\n"
-                     "pool_mode = session\ndefault_pool_size = 16\nunix_socket_dir =\n")
+                     f"pool_mode = {mode}\ndefault_pool_size = {most}\nmax_client_conn = 1000\nunix_socket_dir =\n")
         self.start([pgbouncer, f"{place}/pgbouncer.ini"], self.port)
 
     def run(self, words, call):

@@ -1,6 +1,7 @@
 """The share part of bench/relay: how much is served of many applications on few connections, by sessions and by
-transactions, and of as many that connect to the server themselves. Each answer is looked at, as in tests/relay_turns. And
-what a request takes of the relay where nobody waits, by instructions (callgrind)."""
+transactions, and of as many that connect to the server themselves. Each answer is looked at, as in tests/relay_turns. The
+same of pgbouncer before PostgreSQL, where they are installed. And what a request takes of the relay where nobody waits, by
+instructions (callgrind)."""
 
 import asyncio
 import contextlib
@@ -19,6 +20,7 @@ from relay_told import Relay
 from turn_applications import Application, Wrong
 from turn_server import Server
 from turn_tokens import BATCH, END, PREPARE, headers, packets, text_of
+import pgbouncer
 
 # So many applications on so many connections, who think so many seconds between requests, on average, for so long.
 CROWDS = (500, 10, 4, 20), (5_000, 64, 20, 40)
@@ -38,15 +40,16 @@ def serves(way):
 class Many:
     """Applications that stay, ask, think and ask again: what was served from when all had logged in."""
 
-    def __init__(self, crowd, transactions, prepare):
+    def __init__(self, crowd, transactions, prepare, kind=Application):
         self.count, _, self.thinks, self.seconds = crowd
+        self.kind = kind
         self.transactions, self.prepare = transactions, prepare
         self.took, self.served, self.wrong, self.is_over = [], set(), [], False
         self.there, self.begun = 0, asyncio.Event()
 
     async def one(self, port, asks, place):
         rng = random.Random(place)
-        it = await Application(port, asks=asks).connect()
+        it = await self.kind(port, asks=asks).connect()
         self.there += 1
         await self.begun.wait()
         prepares = rng.random() * 100 < self.prepare
@@ -96,9 +99,9 @@ def served():
         server.join()
 
 
-def line(crowd, name, way, kind, port, relay=None):
+def line(crowd, name, way, kind, port, relay=None, of=Application):
     """One row of the table, and what was wrong."""
-    many = Many(crowd, *kind)
+    many = Many(crowd, *kind, of)
     asyncio.run(many.run(port, way != "session"))
     took = sorted(many.took) or [0]
     half, most = (1000 * took[int(share * (len(took) - 1))] for share in (0.5, 0.99))
@@ -106,6 +109,22 @@ def line(crowd, name, way, kind, port, relay=None):
     kept = f"{100 * (1 - found['total_done_partings'] / len(took)):.0f}" if way == "transaction" else ""
     print(f"| {name} | {way} | {len(many.took) / many.seconds:.0f} | {len(many.served)} | {half:.1f} | {most:.1f} | {kept} |", flush=True)
     return many.wrong
+
+
+def beside(crowd, paths):
+    """The rows of pgbouncer, whose applications prepare nothing; what was wrong."""
+    wrong = []
+    for name, kind in KINDS.items():
+        for mode in ("session", "transaction"):
+            if kind[1]:
+                continue
+            with tempfile.TemporaryDirectory() as room:
+                pool = pgbouncer.Pgbouncer(room, paths, mode, crowd[1])
+                try:
+                    wrong += line(crowd, name, f"pgbouncer, {mode}", kind, pool.port, of=pgbouncer.Application)
+                finally:
+                    pool.end()
+    return wrong
 
 
 def tables(program, crowd):
@@ -125,6 +144,9 @@ def tables(program, crowd):
                 else:
                     with Relay(program, port, "--most", str(connections), "--wait", "0", "--share", way) as relay:
                         wrong += line(crowd, name, way, kind, relay.port, relay)
+    paths = pgbouncer.programs()
+    if paths and count <= CROWDS[0][0]:
+        wrong += beside(crowd, paths)
     print()
     return wrong
 
