@@ -40,16 +40,16 @@ def serves(way):
 class Many:
     """Applications that stay, ask, think and ask again: what was served from when all had logged in."""
 
-    def __init__(self, crowd, transactions, prepare, kind=Application):
+    def __init__(self, crowd, transactions, prepare, application=Application):
         self.count, _, self.thinks, self.seconds = crowd
-        self.kind = kind
+        self.application = application
         self.transactions, self.prepare = transactions, prepare
         self.took, self.served, self.wrong, self.is_over = [], set(), [], False
         self.there, self.begun = 0, asyncio.Event()
 
     async def one(self, port, asks, place):
         rng = random.Random(place)
-        it = await self.kind(port, asks=asks).connect()
+        it = await self.application(port, asks=asks).connect()
         self.there += 1
         await self.begun.wait()
         prepares = rng.random() * 100 < self.prepare
@@ -99,9 +99,9 @@ def served():
         server.join()
 
 
-def line(crowd, name, way, kind, port, relay=None, of=Application):
+def line(crowd, name, way, kind, port, relay=None, application=Application):
     """One row of the table, and what was wrong."""
-    many = Many(crowd, *kind, of)
+    many = Many(crowd, *kind, application)
     asyncio.run(many.run(port, way != "session"))
     took = sorted(many.took) or [0]
     half, most = (1000 * took[int(share * (len(took) - 1))] for share in (0.5, 0.99))
@@ -121,7 +121,7 @@ def beside(crowd, paths):
             with tempfile.TemporaryDirectory() as room:
                 pool = pgbouncer.Pgbouncer(room, paths, mode, crowd[1])
                 try:
-                    wrong += line(crowd, name, f"pgbouncer, {mode}", kind, pool.port, of=pgbouncer.Application)
+                    wrong += line(crowd, name, f"pgbouncer, {mode}", kind, pool.port, application=pgbouncer.Application)
                 finally:
                     pool.end()
     return wrong
