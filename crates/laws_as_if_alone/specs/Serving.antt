@@ -24,12 +24,8 @@ Request V = Session V → Served V
 
 -- All but the news of a reset (MS-TDS 2.2.7.9, type 18).
 abbrev pub is_news : Sign → Bool
-is_news signs.Nothing = false
 is_news (signs.Change changes.ResetDone) = true
-is_news (signs.Change (changes.Begin d)) = false
-is_news (signs.Change (changes.Commit d)) = false
-is_news (signs.Change (changes.Rollback d)) = false
-is_news (signs.Done kind status) = false
+is_news other = false
 
 abbrev pub but_news : List (Item Token) → List (Item Token)
 but_news items = filter (λ (item : Item Token). not (is_news item.sign)) items

@@ -39,12 +39,7 @@ moved_by reset descriptor change.ResetDone = header_descriptor reset descriptor
 
 abbrev pub moved : Option Reset → ℕ → Token → ℕ
 moved reset descriptor (token.Env change) = moved_by reset descriptor change
-moved reset descriptor (token.Info m) = descriptor
-moved reset descriptor (token.Error m) = descriptor
-moved reset descriptor (token.ReturnStatus v) = descriptor
-moved reset descriptor (token.Columns cs) = descriptor
-moved reset descriptor (token.Row vs) = descriptor
-moved reset descriptor (token.Done status cur_cmd rows) = descriptor
+moved reset descriptor other = descriptor
 
 -- Tokens, one after the other, and then the rest.
 abbrev pub said_tokens : Option Reset → ℕ → Kept → List Token → List (Step Kept Token) → List (Step Kept Token)

@@ -30,12 +30,8 @@ part_at bytes from to =
 
 -- the number that four bytes spell, the lowest one first
 unfoldable pub long_of : List ℕ → ℕ
-long_of [] = 0
-long_of (a ∷ []) = 0
-long_of (a ∷ b ∷ []) = 0
-long_of (a ∷ b ∷ c ∷ []) = 0
 long_of (a ∷ b ∷ c ∷ d ∷ []) = from_le_bytes w32 (a ∷ b ∷ c ∷ d ∷ [])
-long_of (a ∷ b ∷ c ∷ d ∷ e ∷ more) = 0
+long_of other = 0
 
 -- the same from this place on; 0 where they haven't come
 abbrev pub long_at : List ℕ → ℕ → ℕ

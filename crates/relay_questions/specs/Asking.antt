@@ -52,22 +52,8 @@ left_by steps (Some answer) = steps_left steps (answer ∷ [])
 
 -- the step is to be cancelled as soon as something comes, and isn't yet
 abbrev pub is_waiting_step : Step → Bool
-is_waiting_step steps.Set = false
-is_waiting_step steps.Reset = false
-is_waiting_step steps.SetAgain = false
-is_waiting_step steps.Isolate = false
-is_waiting_step steps.MakeTable = false
-is_waiting_step steps.MakeTableAgain = false
-is_waiting_step steps.OpenCursor = false
-is_waiting_step steps.Lock = false
-is_waiting_step steps.Begin = false
-is_waiting_step steps.ResetButTransaction = false
-is_waiting_step steps.ResetTransaction = false
-is_waiting_step steps.Prepare = false
-is_waiting_step steps.Unprepare = false
 is_waiting_step steps.SetAndWait = true
-is_waiting_step steps.AskOnceMore = false
-is_waiting_step steps.ResetAll = false
+is_waiting_step other = false
 
 abbrev pub is_waiting : List Step → Bool
 is_waiting [] = false

@@ -56,7 +56,6 @@ wait_text = two_bytes_each (codes "set lock_timeout 5; raiserror('tdsrelay', 0, 
 
 abbrev pub text_of : Step → List ℕ
 text_of Set = set_text
-text_of Reset = select_text
 text_of SetAgain = set_text
 text_of Isolate = isolate_text
 text_of MakeTable = make_table_text
@@ -64,50 +63,19 @@ text_of MakeTableAgain = make_table_text
 text_of OpenCursor = open_cursor_text
 text_of Lock = lock_text
 text_of Begin = begin_text
-text_of ResetButTransaction = select_text
-text_of ResetTransaction = select_text
 text_of Prepare = prepare_call
 text_of Unprepare = unprepare_call
 text_of SetAndWait = wait_text
-text_of AskOnceMore = select_text
-text_of ResetAll = select_text
+text_of other = select_text
 
 -- which of them close a handle, and which are calls
 abbrev pub is_unprepare : Step → Bool
-is_unprepare Set = false
-is_unprepare Reset = false
-is_unprepare SetAgain = false
-is_unprepare Isolate = false
-is_unprepare MakeTable = false
-is_unprepare MakeTableAgain = false
-is_unprepare OpenCursor = false
-is_unprepare Lock = false
-is_unprepare Begin = false
-is_unprepare ResetButTransaction = false
-is_unprepare ResetTransaction = false
-is_unprepare Prepare = false
 is_unprepare Unprepare = true
-is_unprepare SetAndWait = false
-is_unprepare AskOnceMore = false
-is_unprepare ResetAll = false
+is_unprepare other = false
 
 abbrev pub is_prepare : Step → Bool
-is_prepare Set = false
-is_prepare Reset = false
-is_prepare SetAgain = false
-is_prepare Isolate = false
-is_prepare MakeTable = false
-is_prepare MakeTableAgain = false
-is_prepare OpenCursor = false
-is_prepare Lock = false
-is_prepare Begin = false
-is_prepare ResetButTransaction = false
-is_prepare ResetTransaction = false
 is_prepare Prepare = true
-is_prepare Unprepare = false
-is_prepare SetAndWait = false
-is_prepare AskOnceMore = false
-is_prepare ResetAll = false
+is_prepare other = false
 
 abbrev pub is_call : Step → Bool
 is_call step = is_prepare step || is_unprepare step

@@ -21,11 +21,8 @@ all_steps =
 -- what each is about
 abbrev pub question_of : Step → Question
 question_of Set = questions.Setting
-question_of Reset = questions.Reset
-question_of SetAgain = questions.Reset
 question_of Isolate = questions.Isolation
 question_of MakeTable = questions.Table
-question_of MakeTableAgain = questions.Reset
 question_of OpenCursor = questions.Cursor
 question_of Lock = questions.Lock
 question_of Begin = questions.Transaction
@@ -35,45 +32,24 @@ question_of Prepare = questions.Handle
 question_of Unprepare = questions.Handle
 question_of SetAndWait = questions.Cancel
 question_of AskOnceMore = questions.Cancel
-question_of ResetAll = questions.Reset
+question_of other = questions.Reset
 
 -- the reset that it asks for (MS-TDS 2.2.3.1.2)
 abbrev pub reset_of : Step → Option resets.Reset
 reset_of Set = None
-reset_of Reset = Some Full
 reset_of SetAgain = None
-reset_of Isolate = Some Full
-reset_of MakeTable = Some Full
-reset_of MakeTableAgain = Some Full
-reset_of OpenCursor = Some Full
-reset_of Lock = Some Full
-reset_of Begin = Some Full
 reset_of ResetButTransaction = Some KeepTransaction
-reset_of ResetTransaction = Some Full
-reset_of Prepare = Some Full
 reset_of Unprepare = None
-reset_of SetAndWait = Some Full
 reset_of AskOnceMore = None
-reset_of ResetAll = Some Full
+reset_of other = Some Full
 
 -- whether the session must rest behind its answer, by all that was said
 abbrev pub must_rest : Step → Bool
-must_rest Set = false
 must_rest Reset = true
-must_rest SetAgain = false
-must_rest Isolate = false
-must_rest MakeTable = false
-must_rest MakeTableAgain = false
-must_rest OpenCursor = false
-must_rest Lock = false
-must_rest Begin = false
-must_rest ResetButTransaction = false
 must_rest ResetTransaction = true
-must_rest Prepare = false
 must_rest Unprepare = true
-must_rest SetAndWait = false
-must_rest AskOnceMore = false
 must_rest ResetAll = true
+must_rest other = false
 
 -- ---- The verdict
 

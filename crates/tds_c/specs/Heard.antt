@@ -48,15 +48,7 @@ told_in s = if tells s.stage then Tell else Drop
 abbrev pub HearsFrom : ClientSession → Sign → TdsClient → Result Told Stop → Type 0
 HearsFrom s sign new (Ok told) = (next : ClientSession) × (signed Any s sign ≡ Ok next) × (new ≡ value_of next 0) × (told ≡ told_in s)
 HearsFrom s sign new (Err (stops.Client fault)) = (signed Any s sign ≡ Err fault) × (new ≡ value_of (broken_by s fault) 0)
-HearsFrom s sign new (Err stops.NoClient) = ⊥
-HearsFrom s sign new (Err stops.NoRoom) = ⊥
-HearsFrom s sign new (Err stops.OutOfRange) = ⊥
-HearsFrom s sign new (Err stops.WantsBytes) = ⊥
-HearsFrom s sign new (Err stops.NoPacket) = ⊥
-HearsFrom s sign new (Err stops.NoPlace) = ⊥
-HearsFrom s sign new (Err (stops.Refused refusal)) = ⊥
-HearsFrom s sign new (Err (stops.Packet fault)) = ⊥
-HearsFrom s sign new (Err (stops.Token fault)) = ⊥
+HearsFrom s sign new other = ⊥
 
 abbrev pub HearsBy : Option ClientSession → Sign → TdsClient → TdsClient → Result Told Stop → Type 0
 HearsBy None sign old new result = (result ≡ Err stops.NoClient) × (new ≡ old)
@@ -80,15 +72,7 @@ abbrev pub EndsFrom : ClientSession → TdsClient → Result Taken Stop → Type
 EndsFrom s new (Ok answer) =
     (next : ClientSession) × (message_ended Any s ≡ Ok (record { answer = answer; session = next })) × (new ≡ value_of next 0)
 EndsFrom s new (Err (stops.Client fault)) = (message_ended Any s ≡ Err fault) × (new ≡ value_of (broken_by s fault) 0)
-EndsFrom s new (Err stops.NoClient) = ⊥
-EndsFrom s new (Err stops.NoRoom) = ⊥
-EndsFrom s new (Err stops.OutOfRange) = ⊥
-EndsFrom s new (Err stops.WantsBytes) = ⊥
-EndsFrom s new (Err stops.NoPacket) = ⊥
-EndsFrom s new (Err stops.NoPlace) = ⊥
-EndsFrom s new (Err (stops.Refused refusal)) = ⊥
-EndsFrom s new (Err (stops.Packet fault)) = ⊥
-EndsFrom s new (Err (stops.Token fault)) = ⊥
+EndsFrom s new other = ⊥
 
 abbrev pub EndsBy : Option ClientSession → TdsClient → TdsClient → Result Taken Stop → Type 0
 EndsBy None old new result = (result ≡ Err stops.NoClient) × (new ≡ old)

@@ -36,14 +36,7 @@ abbrev pub Unread : Direction → ℕ → List ℕ → Stop → Type 0
 Unread direction size bytes stops.WantsBytes =
     (length bytes < 8) ⊎ ((header_fault direction size bytes ≡ None) × (length bytes < length_field bytes))
 Unread direction size bytes (stops.Packet fault) = (8 ≤ length bytes) × (header_fault direction size bytes ≡ Some fault)
-Unread direction size bytes stops.NoClient = ⊥
-Unread direction size bytes stops.NoRoom = ⊥
-Unread direction size bytes stops.OutOfRange = ⊥
-Unread direction size bytes stops.NoPacket = ⊥
-Unread direction size bytes stops.NoPlace = ⊥
-Unread direction size bytes (stops.Refused refusal) = ⊥
-Unread direction size bytes (stops.Token fault) = ⊥
-Unread direction size bytes (stops.Client fault) = ⊥
+Unread direction size bytes other = ⊥
 
 -- ---- A packet as a plain value
 

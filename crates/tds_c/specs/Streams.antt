@@ -98,15 +98,9 @@ PutStops old keep bytes buffer stops.NoClient = (waiting_in old keep ≡ None) �
 PutStops old keep bytes buffer stops.NoRoom =
     (s : ClientSession) × (waiting_in old keep ≡ Some s) × (buffer.count ≡ s.size)
     × ((length buffer.before < s.size) ⊎ (length keep.before + 8 < s.size))
-PutStops old keep bytes buffer stops.OutOfRange = ⊥
-PutStops old keep bytes buffer stops.WantsBytes = ⊥
-PutStops old keep bytes buffer stops.NoPacket = ⊥
-PutStops old keep bytes buffer stops.NoPlace = ⊥
 PutStops old keep bytes buffer (stops.Refused refusal) =
     (s : ClientSession) × (waiting_in old keep ≡ Some s) × IsRefusal (refusal_of (put s bytes)) refusal × (buffer.count ≡ 0)
-PutStops old keep bytes buffer (stops.Packet fault) = ⊥
-PutStops old keep bytes buffer (stops.Token fault) = ⊥
-PutStops old keep bytes buffer (stops.Client fault) = ⊥
+PutStops old keep bytes buffer other = ⊥
 
 -- Nothing was done.
 pub record HasNotPut (old new : TdsClient) (keep : Keep) (taken : ℕ) (buffer : Buffer) : Type 0 where

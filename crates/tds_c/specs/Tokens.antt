@@ -67,14 +67,7 @@ ReadsUnder columns content old new (Ok None) = (drop old.at content ≡ []) × (
 ReadsUnder columns content old new (Err (stops.Token fault)) =
     (wrong_token columns (drop old.at content) ≡ Some fault) × (new.at ≡ length content) × (new.columns ≡ old.columns)
 ReadsUnder columns content old new (Err stops.NoPlace) = (length content < old.at) × (new ≡ old)
-ReadsUnder columns content old new (Err stops.NoClient) = ⊥
-ReadsUnder columns content old new (Err stops.NoRoom) = ⊥
-ReadsUnder columns content old new (Err stops.OutOfRange) = ⊥
-ReadsUnder columns content old new (Err stops.WantsBytes) = ⊥
-ReadsUnder columns content old new (Err stops.NoPacket) = ⊥
-ReadsUnder columns content old new (Err (stops.Refused refusal)) = ⊥
-ReadsUnder columns content old new (Err (stops.Packet fault)) = ⊥
-ReadsUnder columns content old new (Err (stops.Client fault)) = ⊥
+ReadsUnder columns content old new other = ⊥
 
 abbrev pub ReadsBy : Option (Option ℕ) → List ℕ → TdsCursor → TdsCursor → Result (Option TdsToken) Stop → Type 0
 ReadsBy None content old new result = (result ≡ Err stops.NoPlace) × (new ≡ old)

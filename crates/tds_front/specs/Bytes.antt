@@ -38,13 +38,9 @@ fails f fault = record { front = record f { stage = stages.Broken fault }; bring
 
 -- how many of the bytes that were taken are the body's
 abbrev pub body_in : Said → ℕ
-body_in said.Nothing = 0
-body_in (said.Begin kind reset) = 0
 body_in (said.Body count) = count
 body_in (said.End count) = count
-body_in (said.Forget gone) = 0
-body_in said.Acknowledge = 0
-body_in said.HandOn = 0
+body_in other = 0
 
 -- at most so many bytes were taken, and the body's are among them
 abbrev pub IsWithin : ℕ → Result Fed FrontFault → Type 0
@@ -68,13 +64,10 @@ part_of kinds.Transaction = Low
 
 -- how many bytes are read at once, of so many that are there
 abbrev pub run_of : Part → ℕ → ℕ
-run_of Low there = 1
-run_of (High low) there = 1
-run_of (Third count) there = 1
-run_of (Fourth count) there = 1
 run_of (Headers left) there = min left there
 run_of Body there = there
 run_of Dropped there = there
+run_of other there = 1
 
 -- what is due behind so many, of which this is the first one; nothing where there is no such length
 abbrev pub part_behind : Part → ℕ → ℕ → Option Part
@@ -88,34 +81,22 @@ part_behind Dropped byte run = Some Dropped
 
 -- how many of them are the body's
 abbrev pub body_of : Part → ℕ → ℕ
-body_of Low run = 0
-body_of (High low) run = 0
-body_of (Third count) run = 0
-body_of (Fourth count) run = 0
-body_of (Headers left) run = 0
 body_of Body run = run
-body_of Dropped run = 0
+body_of other run = 0
 
 -- a request has ended: its headers must have come
 abbrev pub ended_in : Front → ℕ → ℕ → Part → Step
-ended_in f count body Low = fails f faults.WrongHeaders
-ended_in f count body (High low) = fails f faults.WrongHeaders
-ended_in f count body (Third length) = fails f faults.WrongHeaders
-ended_in f count body (Fourth length) = fails f faults.WrongHeaders
-ended_in f count body (Headers left) = fails f faults.WrongHeaders
 ended_in f count body Body = says f count (said.End body)
 ended_in f count body Dropped = says f count said.Nothing
+ended_in f count body other = fails f faults.WrongHeaders
 
 abbrev pub told : ℕ → Said
 told body = if body == 0 then said.Nothing else said.Body body
 
 -- behind the data of a packet
 abbrev pub packet_done : Front → Stage → ℕ → ℕ → Step
-packet_done f stages.Quiet count body = says f count (told body)
-packet_done f (stages.Receiving kind gone) count body = says f count (told body)
 packet_done f (stages.Underway gone) count body = ended_in f count body f.part
-packet_done f stages.Stopping count body = says f count (told body)
-packet_done f (stages.Broken fault) count body = says f count (told body)
+packet_done f other count body = says f count (told body)
 
 abbrev pub with_due : Front → Due → Front
 with_due f next = record { most = f.most; stage = f.stage; due = next; part = f.part }
@@ -198,11 +179,8 @@ fed_by (due.Rest head left) f byte there = with_rest f head left
 fed_by (due.Data left) f byte there = data_taken f left byte there
 
 abbrev pub fed_unless : Stage → Front → ℕ → ℕ → Step
-fed_unless stages.Quiet f byte there = fed_by f.due f byte there
-fed_unless (stages.Receiving kind gone) f byte there = fed_by f.due f byte there
-fed_unless (stages.Underway gone) f byte there = fed_by f.due f byte there
-fed_unless stages.Stopping f byte there = fed_by f.due f byte there
 fed_unless (stages.Broken fault) f byte there = record { front = f; brings = Err fault }
+fed_unless other f byte there = fed_by f.due f byte there
 
 unfoldable pub fed : Front → List ℕ → Step
 fed f [] = says f 0 said.Nothing
@@ -212,21 +190,12 @@ fed f (byte ∷ bytes) = fed_unless f.stage f byte (length (byte ∷ bytes))
 
 -- a byte of it is due at least
 abbrev pub is_due_some : Due → Bool
-is_due_some due.Type = true
-is_due_some (due.Status kind) = true
-is_due_some (due.HighLength kind status) = true
-is_due_some (due.LowLength kind status high) = true
-is_due_some (due.Rest head left) = true
 is_due_some (due.Data left) = not (left == 0)
+is_due_some other = true
 
 abbrev pub is_part_some : Part → Bool
-is_part_some Low = true
-is_part_some (High low) = true
-is_part_some (Third count) = true
-is_part_some (Fourth count) = true
 is_part_some (Headers left) = not (left == 0)
-is_part_some Body = true
-is_part_some Dropped = true
+is_part_some other = true
 
 -- Of bytes, where there are any, one is taken at least.
 abbrev pub TakesSome : Front → Type 0

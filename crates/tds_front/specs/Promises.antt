@@ -33,39 +33,24 @@ one_if true = 1
 one_if false = 0
 
 abbrev pub is_here : Result Deed FrontFault → Bool
-is_here (Ok (Begin kind reset)) = false
-is_here (Ok Go) = false
-is_here (Ok (Forget gone)) = false
 is_here (Ok Acknowledge) = true
-is_here (Ok HandOn) = false
-is_here (Err fault) = false
+is_here other = false
 
 abbrev pub is_handed_on : Result Deed FrontFault → Bool
-is_handed_on (Ok (Begin kind reset)) = false
-is_handed_on (Ok Go) = false
-is_handed_on (Ok (Forget gone)) = false
-is_handed_on (Ok Acknowledge) = false
 is_handed_on (Ok HandOn) = true
-is_handed_on (Err fault) = false
+is_handed_on other = false
 
 abbrev pub is_taken : Result Deed FrontFault → Bool
 is_taken (Ok deed) = true
 is_taken (Err fault) = false
 
 abbrev pub is_attention : Kind → Bool
-is_attention kinds.Batch = false
-is_attention kinds.Procedure = false
-is_attention kinds.Answer = false
 is_attention kinds.Attention = true
-is_attention kinds.BulkLoad = false
-is_attention kinds.Transaction = false
+is_attention other = false
 
 abbrev pub is_stopping : Stage → Bool
-is_stopping Quiet = false
-is_stopping (Receiving kind gone) = false
-is_stopping (Underway gone) = false
 is_stopping Stopping = true
-is_stopping (Broken fault) = false
+is_stopping other = false
 
 -- of one event, met at a stage: an attention that was taken; one that is acknowledged here; one that was handed on; the server's
 -- acknowledgement of one
@@ -104,10 +89,7 @@ count of stage (event ∷ events) = of stage event + count of (stage_by stage ev
 abbrev pub is_passed : Result Deed FrontFault → Bool
 is_passed (Ok (Begin kind reset)) = true
 is_passed (Ok Go) = true
-is_passed (Ok (Forget gone)) = false
-is_passed (Ok Acknowledge) = false
-is_passed (Ok HandOn) = false
-is_passed (Err fault) = false
+is_passed other = false
 
 -- a request is whole, or its attention isn't acknowledged
 abbrev pub is_whole : Stage → Bool

@@ -21,11 +21,8 @@ breaks fault = record { stage = Broken fault; does = Err fault }
 
 -- the first fault stays
 abbrev pub refuses : Stage → FrontFault → Move
-refuses Quiet fault = breaks fault
-refuses (Receiving kind gone) fault = breaks fault
-refuses (Underway gone) fault = breaks fault
-refuses Stopping fault = breaks fault
 refuses (Broken first) fault = breaks first
+refuses other fault = breaks fault
 
 -- ---- A packet of a request
 
@@ -81,12 +78,9 @@ attended stage head =
 -- ---- Any packet
 
 abbrev pub taken_as : Kind → Stage → Head → Move
-taken_as kinds.Batch stage head = of_request stage head
-taken_as kinds.Procedure stage head = of_request stage head
-taken_as kinds.BulkLoad stage head = of_request stage head
-taken_as kinds.Transaction stage head = of_request stage head
 taken_as kinds.Attention stage head = attended stage head
 taken_as kinds.Answer stage head = refuses stage faults.UnknownType
+taken_as other stage head = of_request stage head
 
 abbrev pub taken : Stage → Head → Move
 taken stage head = taken_as head.kind stage head

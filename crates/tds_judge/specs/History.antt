@@ -58,20 +58,7 @@ is_found number (finding ∷ others) = (number_of finding.name == number) || is_
 abbrev pub acknowledged_by : Event → Bool → Bool
 acknowledged_by events.Answer before = false
 acknowledged_by (events.Says token) before = before || acknowledges token
-acknowledged_by (events.Packet size fills) before = before
-acknowledged_by events.Unfinished before = before
-acknowledged_by (events.Request status bulk) before = before
-acknowledged_by events.Login before = before
-acknowledged_by (events.Attention size status) before = before
-acknowledged_by (events.Later status) before = before
-acknowledged_by (events.Names descriptor) before = before
-acknowledged_by (events.Headers fault) before = before
-acknowledged_by events.Ignored before = before
-acknowledged_by (events.Answered whole) before = before
-acknowledged_by events.TakenUp before = before
-acknowledged_by (events.Stops ending value) before = before
-acknowledged_by events.Borrowed before = before
-acknowledged_by events.Closed before = before
+acknowledged_by other before = before
 
 unfoldable pub is_acknowledged : List Said → Bool
 is_acknowledged [] = false
@@ -81,20 +68,7 @@ is_acknowledged (x ∷ past) = acknowledged_by x.event (is_acknowledged past)
 abbrev pub out_by : Event → Bool → Bool → Bool
 out_by (events.Attention size status) acknowledged before = true
 out_by (events.Answered whole) acknowledged before = before && not acknowledged
-out_by events.Answer acknowledged before = before
-out_by (events.Says token) acknowledged before = before
-out_by (events.Packet size fills) acknowledged before = before
-out_by events.Unfinished acknowledged before = before
-out_by (events.Request status bulk) acknowledged before = before
-out_by events.Login acknowledged before = before
-out_by (events.Later status) acknowledged before = before
-out_by (events.Names descriptor) acknowledged before = before
-out_by (events.Headers fault) acknowledged before = before
-out_by events.Ignored acknowledged before = before
-out_by events.TakenUp acknowledged before = before
-out_by (events.Stops ending value) acknowledged before = before
-out_by events.Borrowed acknowledged before = before
-out_by events.Closed acknowledged before = before
+out_by other acknowledged before = before
 
 unfoldable pub is_out : List Said → Bool
 is_out [] = false
@@ -135,18 +109,8 @@ underway_by (events.Request status bulk) acknowledged out since twice forgotten 
 underway_by events.Login acknowledged out since twice forgotten before = true
 underway_by (events.Answered whole) acknowledged out since twice forgotten before = left_underway acknowledged out since twice before
 underway_by events.Ignored acknowledged out since twice forgotten before = false
-underway_by (events.Attention size status) acknowledged out since twice forgotten before = before
 underway_by events.Answer acknowledged out since twice forgotten before = before || forgotten
-underway_by (events.Says token) acknowledged out since twice forgotten before = before
-underway_by (events.Packet size fills) acknowledged out since twice forgotten before = before
-underway_by events.Unfinished acknowledged out since twice forgotten before = before
-underway_by (events.Later status) acknowledged out since twice forgotten before = before
-underway_by (events.Names descriptor) acknowledged out since twice forgotten before = before
-underway_by (events.Headers fault) acknowledged out since twice forgotten before = before
-underway_by events.TakenUp acknowledged out since twice forgotten before = before
-underway_by (events.Stops ending value) acknowledged out since twice forgotten before = before
-underway_by events.Borrowed acknowledged out since twice forgotten before = before
-underway_by events.Closed acknowledged out since twice forgotten before = before
+underway_by other acknowledged out since twice forgotten before = before
 
 -- since the attention that is out, the answer of its request has ended
 abbrev pub ended_by : Event → (acknowledged underway before : Bool) → Bool
@@ -190,20 +154,7 @@ has_asked_since past = (course_of past).since
 abbrev pub asks_by : Event → Reset → Reset
 asks_by (events.Request status bulk) before = reset_of status
 asks_by events.Login before = resets.None
-asks_by (events.Answered whole) before = before
-asks_by events.Ignored before = before
-asks_by (events.Attention size status) before = before
-asks_by events.Answer before = before
-asks_by (events.Says token) before = before
-asks_by (events.Packet size fills) before = before
-asks_by events.Unfinished before = before
-asks_by (events.Later status) before = before
-asks_by (events.Names descriptor) before = before
-asks_by (events.Headers fault) before = before
-asks_by events.TakenUp before = before
-asks_by (events.Stops ending value) before = before
-asks_by events.Borrowed before = before
-asks_by events.Closed before = before
+asks_by other before = before
 
 unfoldable pub asks_of : List Said → Reset
 asks_of [] = resets.None
@@ -248,29 +199,12 @@ last_by_change type changes.Other owes before = before
 abbrev pub last_by_token : ℕ → Told → Reset → Transaction → Transaction
 last_by_token kind (told.Change change) owes before = last_by_change change.kind change.value owes before
 last_by_token kind told.Unclear owes before = if kind == 0xE3 then transactions.Unknown else before
-last_by_token kind (told.Done done) owes before = before
-last_by_token kind (told.Message message) owes before = before
-last_by_token kind (told.ReturnStatus value) owes before = before
-last_by_token kind (told.SessionState state) owes before = before
-last_by_token kind told.Other owes before = before
+last_by_token kind other owes before = before
 
 abbrev pub last_by : Event → Reset → Transaction → Transaction
 last_by (events.Says token) owes before = last_by_token token.kind token.told owes before
 last_by events.Login owes before = transactions.Told 0
-last_by (events.Request status bulk) owes before = before
-last_by (events.Answered whole) owes before = before
-last_by events.Ignored owes before = before
-last_by (events.Attention size status) owes before = before
-last_by events.Answer owes before = before
-last_by (events.Packet size fills) owes before = before
-last_by events.Unfinished owes before = before
-last_by (events.Later status) owes before = before
-last_by (events.Names descriptor) owes before = before
-last_by (events.Headers fault) owes before = before
-last_by events.TakenUp owes before = before
-last_by (events.Stops ending value) owes before = before
-last_by events.Borrowed owes before = before
-last_by events.Closed owes before = before
+last_by other owes before = before
 
 unfoldable pub last_told : List Said → Transaction
 last_told [] = transactions.Unknown
@@ -281,59 +215,17 @@ last_told (x ∷ past) = last_by x.event (owed_of past) (last_told past)
 -- what is so where an attention is sent, and nowhere else
 abbrev pub of_attention : Event → Bool → Bool
 of_attention (events.Attention size status) is = is
-of_attention (events.Packet size fills) is = false
-of_attention events.Unfinished is = false
-of_attention (events.Request status bulk) is = false
-of_attention events.Login is = false
-of_attention (events.Later status) is = false
-of_attention (events.Names descriptor) is = false
-of_attention (events.Headers fault) is = false
-of_attention events.Ignored is = false
-of_attention events.Answer is = false
-of_attention (events.Says token) is = false
-of_attention (events.Answered whole) is = false
-of_attention events.TakenUp is = false
-of_attention (events.Stops ending value) is = false
-of_attention events.Borrowed is = false
-of_attention events.Closed is = false
+of_attention other is = false
 
 -- what is so of a request's beginning, by its status, and of nothing else
 abbrev pub of_request : Event → (ℕ → Bool) → Bool
 of_request (events.Request status bulk) is = is status
-of_request (events.Packet size fills) is = false
-of_request events.Unfinished is = false
-of_request events.Login is = false
-of_request (events.Attention size status) is = false
-of_request (events.Later status) is = false
-of_request (events.Names descriptor) is = false
-of_request (events.Headers fault) is = false
-of_request events.Ignored is = false
-of_request events.Answer is = false
-of_request (events.Says token) is = false
-of_request (events.Answered whole) is = false
-of_request events.TakenUp is = false
-of_request (events.Stops ending value) is = false
-of_request events.Borrowed is = false
-of_request events.Closed is = false
+of_request other is = false
 
 -- what is so of the descriptor that a request names, and of nothing else
 abbrev pub of_names : Event → (ℕ → Bool) → Bool
 of_names (events.Names descriptor) is = is descriptor
-of_names (events.Headers fault) is = false
-of_names (events.Packet size fills) is = false
-of_names events.Unfinished is = false
-of_names (events.Request status bulk) is = false
-of_names events.Login is = false
-of_names (events.Attention size status) is = false
-of_names (events.Later status) is = false
-of_names events.Ignored is = false
-of_names events.Answer is = false
-of_names (events.Says token) is = false
-of_names (events.Answered whole) is = false
-of_names events.TakenUp is = false
-of_names (events.Stops ending value) is = false
-of_names events.Borrowed is = false
-of_names events.Closed is = false
+of_names other is = false
 
 -- an attention, while another one is out
 abbrev pub is_second_attention : List Said → Event → Bool

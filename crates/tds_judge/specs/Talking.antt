@@ -75,12 +75,7 @@ is_told (transactions.Told descriptor) = true
 -- a DONE with bit 0020 (MS-TDS 2.2.1.7)
 abbrev pub told_acknowledges : Told → Bool
 told_acknowledges (told.Done done) = done.status / 32 % 2 == 1
-told_acknowledges (told.Change change) = false
-told_acknowledges (told.Message message) = false
-told_acknowledges (told.ReturnStatus value) = false
-told_acknowledges (told.SessionState state) = false
-told_acknowledges told.Unclear = false
-told_acknowledges told.Other = false
+told_acknowledges other = false
 
 abbrev pub acknowledges : Token → Bool
 acknowledges token = told_acknowledges token.told
@@ -100,12 +95,7 @@ ignores_early status = (status / 2 % 2 == 1) && not (status % 2 == 1)
 -- a DONE that says that more come (MS-TDS 2.2.7.6)
 abbrev pub told_more : Told → Bool
 told_more (told.Done done) = done.status % 2 == 1
-told_more (told.Change change) = false
-told_more (told.Message message) = false
-told_more (told.ReturnStatus value) = false
-told_more (told.SessionState state) = false
-told_more told.Unclear = false
-told_more told.Other = false
+told_more other = false
 
 abbrev pub says_more : Token → Bool
 says_more token = told_more token.told
@@ -114,28 +104,17 @@ says_more token = told_more token.told
 
 -- what is so of a change, and of no other token
 abbrev pub of_change : Told → (ℕ → ChangeValue → Bool) → Bool
-of_change (told.Done done) is = false
 of_change (told.Change change) is = is change.kind change.value
-of_change (told.Message message) is = false
-of_change (told.ReturnStatus value) is = false
-of_change (told.SessionState state) is = false
-of_change told.Unclear is = false
-of_change told.Other is = false
+of_change other is = false
 
 -- what is so of a transaction's change, by its new and its old value
 abbrev pub of_both : ChangeValue → (ℕ → ℕ → Bool) → Bool
 of_both (changes.Transaction new old) is = is new old
-of_both changes.ResetDone is = false
-of_both (changes.PacketSize size) is = false
-of_both (changes.Values new old) is = false
-of_both changes.Other is = false
+of_both other is = false
 
 abbrev pub is_reset_done : ChangeValue → Bool
-is_reset_done (changes.Transaction new old) = false
 is_reset_done changes.ResetDone = true
-is_reset_done (changes.PacketSize size) = false
-is_reset_done (changes.Values new old) = false
-is_reset_done changes.Other = false
+is_reset_done other = false
 
 -- type 18
 abbrev pub tells_reset : Token → Bool
@@ -157,19 +136,11 @@ ends_none last token = of_change token.told (λ type value. of_both value (λ ne
 
 abbrev pub old_of : ChangeValue → ℕ
 old_of (changes.Transaction new old) = old
-old_of changes.ResetDone = 0
-old_of (changes.PacketSize size) = 0
-old_of (changes.Values new old) = 0
-old_of changes.Other = 0
+old_of other = 0
 
 abbrev pub told_old : Told → ℕ
-told_old (told.Done done) = 0
 told_old (told.Change change) = old_of change.value
-told_old (told.Message message) = 0
-told_old (told.ReturnStatus value) = 0
-told_old (told.SessionState state) = 0
-told_old told.Unclear = 0
-told_old told.Other = 0
+told_old other = 0
 
 abbrev pub ended_descriptor : Token → ℕ
 ended_descriptor token = told_old token.told
@@ -180,13 +151,8 @@ begun_as type new = if type == 11 then transactions.Unknown else transactions.To
 
 -- an ENVCHANGE whose fields don't fit its length
 abbrev pub unclear_by : ℕ → Told → Bool
-unclear_by kind (told.Done done) = false
-unclear_by kind (told.Change change) = false
-unclear_by kind (told.Message message) = false
-unclear_by kind (told.ReturnStatus value) = false
-unclear_by kind (told.SessionState state) = false
 unclear_by kind told.Unclear = kind == 0xE3
-unclear_by kind told.Other = false
+unclear_by kind other = false
 
 abbrev pub is_unclear : Token → Bool
 is_unclear token = unclear_by token.kind token.told
@@ -198,12 +164,7 @@ is_long done = nat_lt done.count 4294967296
 
 abbrev pub told_short : Told → Bool
 told_short (told.Done done) = not (is_long done)
-told_short (told.Change change) = false
-told_short (told.Message message) = false
-told_short (told.ReturnStatus value) = false
-told_short (told.SessionState state) = false
-told_short told.Unclear = false
-told_short told.Other = false
+told_short other = false
 
 abbrev pub is_short : Token → Bool
 is_short token = told_short token.told
@@ -295,11 +256,8 @@ unclear_heard t unclear = if unclear then record t { transaction = transactions.
 abbrev pub told_heard : Talk → ℕ → ℕ → Told → Talk
 told_heard t time kind (told.Done done) = is_done t done
 told_heard t time kind (told.Change change) = change_heard t time change.kind change.value
-told_heard t time kind (told.Message message) = t
-told_heard t time kind (told.ReturnStatus value) = t
-told_heard t time kind (told.SessionState state) = t
 told_heard t time kind told.Unclear = unclear_heard t (kind == 0xE3)
-told_heard t time kind told.Other = t
+told_heard t time kind other = t
 
 -- by its first byte
 abbrev pub kind_heard : Talk → ℕ → Talk
@@ -338,22 +296,17 @@ ends_answer t time whole =
 
 -- and what has been said then
 unfoldable pub talk_by : Talk → ℕ → Event → Talk
-talk_by t time (events.Packet size fills) = t
-talk_by t time events.Unfinished = t
 talk_by t time (events.Request status bulk) = begins_request t status bulk
 talk_by t time events.Login = begins_login t
 talk_by t time (events.Attention size status) = cancels t
 talk_by t time (events.Later status) = record t { asking = t.asking && not (status % 2 == 1) }
 talk_by t time (events.Names descriptor) = has_named t
-talk_by t time (events.Headers fault) = t
 talk_by t time events.Ignored = record t { underway = false; forgotten = true }
 talk_by t time events.Answer = begins_answer t
 talk_by t time (events.Says token) = token_heard t time token
 talk_by t time (events.Answered whole) = ends_answer t time whole
-talk_by t time events.TakenUp = t
-talk_by t time (events.Stops ending value) = t
 talk_by t time events.Borrowed = record t { borrowed = true }
-talk_by t time events.Closed = t
+talk_by t time other = t
 
 -- before anything was seen
 abbrev pub new_talk : Talk

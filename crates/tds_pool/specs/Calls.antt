@@ -33,38 +33,23 @@ refusal_number refusals.NumbersUsedUp = 7
 
 abbrev pub is_leased : Place → Bool
 is_leased places.Leased = true
-is_leased places.Kept = false
-is_leased places.Free = false
-is_leased places.Draining = false
-is_leased places.Cleaning = false
+is_leased other = false
 
 abbrev pub is_kept : Place → Bool
-is_kept places.Leased = false
 is_kept places.Kept = true
-is_kept places.Free = false
-is_kept places.Draining = false
-is_kept places.Cleaning = false
+is_kept other = false
 
 abbrev pub is_free : Place → Bool
-is_free places.Leased = false
-is_free places.Kept = false
 is_free places.Free = true
-is_free places.Draining = false
-is_free places.Cleaning = false
+is_free other = false
 
 abbrev pub is_draining : Place → Bool
-is_draining places.Leased = false
-is_draining places.Kept = false
-is_draining places.Free = false
 is_draining places.Draining = true
-is_draining places.Cleaning = false
+is_draining other = false
 
 abbrev pub is_cleaning : Place → Bool
-is_cleaning places.Leased = false
-is_cleaning places.Kept = false
-is_cleaning places.Free = false
-is_cleaning places.Draining = false
 is_cleaning places.Cleaning = true
+is_cleaning other = false
 
 -- where it meets the test
 abbrev pub only : (Connection → Bool) → Option Connection → Option Connection
@@ -94,17 +79,11 @@ kept_for ticket cs = standing (is_kept_for ticket.turn) ticket.key ticket.number
 
 abbrev pub is_idle : Stage → Bool
 is_idle Idle = true
-is_idle (Sending kind left packets) = false
-is_idle Reading = false
-is_idle Cancelling = false
-is_idle (Broken fault) = false
+is_idle other = false
 
 abbrev pub is_broken : Stage → Bool
-is_broken Idle = false
-is_broken (Sending kind left packets) = false
-is_broken Reading = false
-is_broken Cancelling = false
 is_broken (Broken fault) = true
+is_broken other = false
 
 -- where a connection stands that nobody holds: it is free if its client is idle, it drains if its client is not, and if that is
 -- broken it is taken out
@@ -323,13 +302,8 @@ cleaning number request cs =
 -- behind a refusal the client is as it was, but where memory was wanting it is marked for a full reset, as the next lease
 -- marks it too
 abbrev pub behind_refusal : PoolRefusal → ClientSession → ClientSession
-behind_refusal refusals.AllInUse s = s
-behind_refusal refusals.Unknown s = s
-behind_refusal refusals.NotIdle s = s
-behind_refusal refusals.NoTransaction s = s
-behind_refusal refusals.Broken s = s
 behind_refusal refusals.Memory s = marked s Full
-behind_refusal refusals.NumbersUsedUp s = s
+behind_refusal other s = s
 
 abbrev pub not_cleaned : PoolRefusal → ℕ → List Connection → List Connection
 not_cleaned refusal number cs = changed number (λ (c : Connection). record c { client = behind_refusal refusal c.client }) cs
@@ -351,10 +325,7 @@ rests_clean s (Broken fault) = None
 abbrev pub cleaned_to : ℕ → Option Place → List Connection → Returned
 cleaned_to number None cs = record { answer = given.Closed number; connections = taken_out number cs }
 cleaned_to number (Some places.Free) cs = record { answer = given.Free number; connections = at_place number places.Free cs }
-cleaned_to number (Some places.Draining) cs = record { answer = given.Draining number; connections = cs }
-cleaned_to number (Some places.Leased) cs = record { answer = given.Draining number; connections = cs }
-cleaned_to number (Some places.Kept) cs = record { answer = given.Draining number; connections = cs }
-cleaned_to number (Some places.Cleaning) cs = record { answer = given.Draining number; connections = cs }
+cleaned_to number other cs = record { answer = given.Draining number; connections = cs }
 
 abbrev pub looked_at_clean : Option Connection → List Connection → Returned
 looked_at_clean None cs = record { answer = given.Unknown; connections = cs }

@@ -142,8 +142,5 @@ pub record IsBehind (start : ClientSession) (c : Connection) : Type 0 where
 
 -- Whether an attention is out.
 abbrev pub is_cancelling : Stage → Bool
-is_cancelling Idle = false
-is_cancelling (Sending kind left packets) = false
-is_cancelling Reading = false
 is_cancelling Cancelling = true
-is_cancelling (Broken fault) = false
+is_cancelling other = false

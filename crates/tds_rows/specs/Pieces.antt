@@ -39,12 +39,8 @@ after_byte Beyond b = Beyond
 
 -- the bytes of parts are the value's own
 abbrev pub own_byte : PartsAt → ℕ → List ℕ
-own_byte (InLength seen ones) b = []
-own_byte (InCount came) b = []
 own_byte (InPart left) b = b ∷ []
-own_byte PartsOver b = []
-own_byte PartsNull b = []
-own_byte Beyond b = []
+own_byte other b = []
 
 unfoldable pub parts_after : PartsAt → List ℕ → PartsAt
 parts_after at [] = at
@@ -67,28 +63,17 @@ value_is_over PartsNull = true
 value_is_over Beyond = true
 
 abbrev pub is_null_value : PartsAt → Bool
-is_null_value (InLength seen ones) = false
-is_null_value (InCount came) = false
-is_null_value (InPart left) = false
-is_null_value PartsOver = false
 is_null_value PartsNull = true
-is_null_value Beyond = false
+is_null_value other = false
 
 abbrev pub is_in_prefix : PartsAt → Bool
 is_in_prefix (InLength seen ones) = true
 is_in_prefix (InCount came) = true
-is_in_prefix (InPart left) = false
-is_in_prefix PartsOver = false
-is_in_prefix PartsNull = false
-is_in_prefix Beyond = false
+is_in_prefix other = false
 
 abbrev pub is_in_part : PartsAt → Bool
-is_in_part (InLength seen ones) = false
-is_in_part (InCount came) = false
 is_in_part (InPart left) = true
-is_in_part PartsOver = false
-is_in_part PartsNull = false
-is_in_part Beyond = false
+is_in_part other = false
 
 -- behind so many bytes of a part of which so many were left
 abbrev pub left_after : ℕ → ℕ → PartsAt

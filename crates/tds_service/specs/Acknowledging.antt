@@ -14,51 +14,25 @@ has_ack (item ∷ items) = is_acknowledgement item.sign || has_ack items
 -- What may be answered to a part that comes, where an attention is out or not, by whether it ends its message, and whether that has
 -- an acknowledgement: a cancelled request is settled exactly at the end of a message that has one, any other at its message's end.
 abbrev pub Settles : (out ends acknowledged : Bool) → Answer → Type 0
-Settles out ends acknowledged (Refused why) = ⊥
-Settles out ends acknowledged Marked = ⊥
-Settles out ends acknowledged (Asked request descriptor) = ⊥
-Settles out ends acknowledged Sent = ⊥
-Settles out ends acknowledged Nothing = ⊥
-Settles out ends acknowledged Already = ⊥
-Settles out ends acknowledged (Unsent request) = ⊥
-Settles out ends acknowledged (Stopped request) = ⊥
 Settles out ends acknowledged More = (if out then (ends && acknowledged) else ends) ≡ false
 Settles out ends acknowledged (Finished request) = (out ≡ false) × (ends ≡ true)
 Settles out ends acknowledged (Acked request) = (out ≡ true) × ((ends && acknowledged) ≡ true)
 Settles out ends acknowledged (Fault fault) = Unit {0}
-Settles out ends acknowledged Lost = ⊥
+Settles out ends acknowledged other = ⊥
 
 abbrev pub SettlesBy : {T : Type 0} → Bool → Bool → Act T → Answer → Type 0
-SettlesBy out seen (Mark reset) answer = Unit {0}
-SettlesBy out seen Ask answer = Unit {0}
-SettlesBy out seen (Send last) answer = Unit {0}
-SettlesBy out seen Cancel answer = Unit {0}
 SettlesBy out seen (Come part) answer = Settles out (is_end part.close) (seen || has_ack part.items) answer
-SettlesBy out seen Lose answer = Unit {0}
+SettlesBy out seen other answer = Unit {0}
 
 -- Whether an attention is out behind this answer, and whether the message that comes has had an acknowledgement.
 abbrev pub out_by : Bool → Answer → Bool
-out_by out (Refused why) = out
-out_by out Marked = out
-out_by out (Asked request descriptor) = out
-out_by out Sent = out
-out_by out Nothing = out
-out_by out Already = out
-out_by out (Unsent request) = out
 out_by out (Stopped request) = true
-out_by out More = out
-out_by out (Finished request) = out
 out_by out (Acked request) = false
-out_by out (Fault fault) = out
-out_by out Lost = out
+out_by out other = out
 
 abbrev pub seen_by : {T : Type 0} → Bool → Act T → Bool
-seen_by seen (Mark reset) = seen
-seen_by seen Ask = seen
-seen_by seen (Send last) = seen
-seen_by seen Cancel = seen
 seen_by seen (Come part) = if (is_end part.close) then false else (seen || has_ack part.items)
-seen_by seen Lose = seen
+seen_by seen other = seen
 
 abbrev pub SettlesRight : {T : Type 0} → Bool → Bool → List (Done T) → Type 0
 SettlesRight out seen [] = Unit {0}

@@ -15,48 +15,21 @@ awaited b (d ∷ ds) = awaited (awaited_by_answer (awaited_by_packets b d.sent) 
 
 -- A connection that somebody had before is lent only where nothing is awaited on it.
 abbrev pub LendsIdle : {T : Type 0} → List (Step T) → Reply → Type 0
-LendsIdle before Unknown = Unit {0}
-LendsIdle before AllInUse = Unit {0}
-LendsIdle before NotNow = Unit {0}
-LendsIdle before (No why) = Unit {0}
-LendsIdle before NoMemory = Unit {0}
 LendsIdle before (Lent lease number true) = awaited false (on number before) ≡ false
-LendsIdle before (Lent lease number false) = Unit {0}
-LendsIdle before (Ticket ticket) = Unit {0}
-LendsIdle before Did = Unit {0}
-LendsIdle before (Back place) = Unit {0}
+LendsIdle before other = Unit {0}
 
 -- What is marked as it is lent again: a full reset, and for a ticket the one that keeps the transaction.
 abbrev pub reset_of : {T : Type 0} → Call T → Reset
 reset_of (Resume ticket) = KeepTransaction
-reset_of Lease = Full
-reset_of (Ask lease) = Full
-reset_of (Put lease count) = Full
-reset_of (Finish lease count) = Full
-reset_of (Cancel lease) = Full
-reset_of (GiveBack lease) = Full
-reset_of (Clean number) = Full
-reset_of (Cleaned lease) = Full
-reset_of (Keep lease) = Full
-reset_of (Abandon ticket) = Full
-reset_of (Came number part) = Full
-reset_of (Lost number) = Full
-reset_of (Without call) = Full
+reset_of other = Full
 
 abbrev pub marking : {T : Type 0} → Reset → Done T
 marking reset = record { act = line.Mark reset; answer = line.Marked; sent = []; told = line.Nobody }
 
 abbrev pub MarksBy : {T : Type 0} → Call T → Reply → List (Done T) → Type 0
-MarksBy call Unknown ds = Unit {0}
-MarksBy call AllInUse ds = Unit {0}
-MarksBy call NotNow ds = Unit {0}
-MarksBy call (No why) ds = Unit {0}
-MarksBy call NoMemory ds = Unit {0}
 MarksBy call (Lent lease number true) ds = ds ≡ marking (reset_of call) ∷ []
 MarksBy call (Lent lease number false) ds = ds ≡ []
-MarksBy call (Ticket ticket) ds = Unit {0}
-MarksBy call Did ds = Unit {0}
-MarksBy call (Back place) ds = Unit {0}
+MarksBy call other ds = Unit {0}
 
 abbrev pub MarksReused : {T : Type 0} → List (Call T) → List (Step T) → Type 0
 MarksReused [] [] = Unit {0}
@@ -70,37 +43,20 @@ leased T s = (step {T = T} s Lease).reply
 
 -- Whether a call is made with this lease.
 abbrev pub IsWith : {T : Type 0} → ℕ → Call T → Type 0
-IsWith lease Lease = ⊥
-IsWith lease (Resume ticket) = ⊥
 IsWith lease (Ask other) = other ≡ lease
 IsWith lease (Put other count) = other ≡ lease
 IsWith lease (Finish other count) = other ≡ lease
 IsWith lease (Cancel other) = other ≡ lease
 IsWith lease (GiveBack other) = other ≡ lease
-IsWith lease (Clean number) = ⊥
 IsWith lease (Cleaned other) = other ≡ lease
 IsWith lease (Keep other) = other ≡ lease
-IsWith lease (Abandon ticket) = ⊥
-IsWith lease (Came number part) = ⊥
-IsWith lease (Lost number) = ⊥
-IsWith lease (Without call) = ⊥
+IsWith lease other = ⊥
 
 -- Whether a call is made with this ticket.
 abbrev pub IsWithTicket : {T : Type 0} → ℕ → Call T → Type 0
-IsWithTicket ticket Lease = ⊥
 IsWithTicket ticket (Resume other) = other ≡ ticket
-IsWithTicket ticket (Ask lease) = ⊥
-IsWithTicket ticket (Put lease count) = ⊥
-IsWithTicket ticket (Finish lease count) = ⊥
-IsWithTicket ticket (Cancel lease) = ⊥
-IsWithTicket ticket (GiveBack lease) = ⊥
-IsWithTicket ticket (Clean number) = ⊥
-IsWithTicket ticket (Cleaned lease) = ⊥
-IsWithTicket ticket (Keep lease) = ⊥
 IsWithTicket ticket (Abandon other) = other ≡ ticket
-IsWithTicket ticket (Came number part) = ⊥
-IsWithTicket ticket (Lost number) = ⊥
-IsWithTicket ticket (Without call) = ⊥
+IsWithTicket ticket other = ⊥
 
 -- It reaches no connection, and the table stays.
 abbrev pub nothing_known_of : (T : Type 0) → Service → Step T

@@ -206,11 +206,8 @@ comes l part (Broken fault) = breaks_as l fault
 -- ---- All
 
 abbrev pub loses : {T : Type 0} → Line → Stage → Turn T
-loses l Idle = quiet (at l (Broken faults.Lost)) Lost
-loses l (Sending begun) = quiet (at l (Broken faults.Lost)) Lost
-loses l Reading = quiet (at l (Broken faults.Lost)) Lost
-loses l Cancelling = quiet (at l (Broken faults.Lost)) Lost
 loses l (Broken fault) = quiet l Lost
+loses l other = quiet (at l (Broken faults.Lost)) Lost
 
 abbrev pub turn : {T : Type 0} → Line → Act T → Turn T
 turn l (Mark reset) = marks l reset l.stage

@@ -5,35 +5,17 @@ use Rattle.tds_service.specs.History.{Done}
 
 -- The number of the newest request behind an answer.
 abbrev pub newest_by : ℕ → Answer → ℕ
-newest_by n (Refused why) = n
-newest_by n Marked = n
 newest_by n (Asked request descriptor) = request
-newest_by n Sent = n
-newest_by n Nothing = n
-newest_by n Already = n
-newest_by n (Unsent request) = n
-newest_by n (Stopped request) = n
-newest_by n More = n
-newest_by n (Finished request) = n
-newest_by n (Acked request) = n
-newest_by n (Fault fault) = n
-newest_by n Lost = n
+newest_by n other = n
 
 -- A request that is asked has the next number. One that is cancelled, answered or acknowledged is the newest.
 abbrev pub NamesBy : ℕ → Answer → Type 0
-NamesBy n (Refused why) = Unit {0}
-NamesBy n Marked = Unit {0}
 NamesBy n (Asked request descriptor) = request ≡ suc n
-NamesBy n Sent = Unit {0}
-NamesBy n Nothing = Unit {0}
-NamesBy n Already = Unit {0}
 NamesBy n (Unsent request) = request ≡ n
 NamesBy n (Stopped request) = request ≡ n
-NamesBy n More = Unit {0}
 NamesBy n (Finished request) = request ≡ n
 NamesBy n (Acked request) = request ≡ n
-NamesBy n (Fault fault) = Unit {0}
-NamesBy n Lost = Unit {0}
+NamesBy n other = Unit {0}
 
 abbrev pub NamesNewest : {T : Type 0} → ℕ → List (Done T) → Type 0
 NamesNewest n [] = Unit {0}

@@ -11,19 +11,8 @@ pub record Asker : Type 0 where
   pub request : ℕ
 
 abbrev pub asked_in : ℕ → Option Asker → Answer → Option Asker
-asked_in lease before (line.Refused why) = before
-asked_in lease before line.Marked = before
 asked_in lease before (line.Asked request descriptor) = Some (record { lease = lease; request = request })
-asked_in lease before line.Sent = before
-asked_in lease before line.Nothing = before
-asked_in lease before line.Already = before
-asked_in lease before (line.Unsent request) = before
-asked_in lease before (line.Stopped request) = before
-asked_in lease before line.More = before
-asked_in lease before (line.Finished request) = before
-asked_in lease before (line.Acked request) = before
-asked_in lease before (line.Fault fault) = before
-asked_in lease before line.Lost = before
+asked_in lease before other = before
 
 abbrev pub asked_among : {T : Type 0} → ℕ → Option Asker → List (Done T) → Option Asker
 asked_among lease before [] = before
@@ -31,20 +20,8 @@ asked_among lease before (d ∷ ds) = asked_among lease (asked_in lease before d
 
 -- Who asked the newest request, behind a call that did this.
 abbrev pub asker_by : {T : Type 0} → Option Asker → Call T → List (Done T) → Option Asker
-asker_by before Lease ds = before
-asker_by before (Resume ticket) ds = before
 asker_by before (Ask lease) ds = asked_among lease before ds
-asker_by before (Put lease count) ds = before
-asker_by before (Finish lease count) ds = before
-asker_by before (Cancel lease) ds = before
-asker_by before (GiveBack lease) ds = before
-asker_by before (Clean number) ds = before
-asker_by before (Cleaned lease) ds = before
-asker_by before (Keep lease) ds = before
-asker_by before (Abandon ticket) ds = before
-asker_by before (Came number part) ds = before
-asker_by before (Lost number) ds = before
-asker_by before (Without call) ds = before
+asker_by before other ds = before
 
 -- What is told is told to a request that the lease asked which holds the connection.
 abbrev pub IsOwn : {T : Type 0} → Option Asker → Option ℕ → Told T → Type 0

@@ -26,36 +26,19 @@ ends_request r (Attention ∷ packets) = ends_request r packets
 
 -- Whether the answer says that nobody waits on: a fault, a cancel of a request that was out, a loss.
 abbrev pub leaves_off : Answer → Bool
-leaves_off (Refused why) = false
-leaves_off Marked = false
-leaves_off (Asked request descriptor) = false
-leaves_off Sent = false
-leaves_off Nothing = false
-leaves_off Already = false
-leaves_off (Unsent request) = false
 leaves_off (Stopped request) = true
-leaves_off More = false
-leaves_off (Finished request) = false
-leaves_off (Acked request) = false
 leaves_off (Fault fault) = true
 leaves_off Lost = true
+leaves_off other = false
 
 -- What comes in one call, and whether the message ends with it.
 abbrev pub coming : {T : Type 0} → Act T → List T
-coming (Mark reset) = []
-coming Ask = []
-coming (Send last) = []
-coming Cancel = []
 coming (Come part) = told part.items
-coming Lose = []
+coming other = []
 
 abbrev pub ends_message : {T : Type 0} → Act T → Bool
-ends_message (Mark reset) = false
-ends_message Ask = false
-ends_message (Send last) = false
-ends_message Cancel = false
 ends_message (Come part) = (is_end part.close)
-ends_message Lose = false
+ends_message other = false
 
 -- The next message that comes: the tokens of its parts, in order, up to its end; or up to where it is left off.
 abbrev pub next_message : {T : Type 0} → List (Done T) → List T
@@ -83,34 +66,15 @@ awaited_by_packets b (Ignore request ∷ packets) = awaited_by_packets b packets
 awaited_by_packets b (Attention ∷ packets) = true
 
 abbrev pub awaited_by_answer : Bool → Answer → Bool
-awaited_by_answer b (Refused why) = b
-awaited_by_answer b Marked = b
-awaited_by_answer b (Asked request descriptor) = b
-awaited_by_answer b Sent = b
-awaited_by_answer b Nothing = b
-awaited_by_answer b Already = b
-awaited_by_answer b (Unsent request) = b
-awaited_by_answer b (Stopped request) = b
-awaited_by_answer b More = b
 awaited_by_answer b (Finished request) = false
 awaited_by_answer b (Acked request) = false
 awaited_by_answer b (Fault fault) = false
 awaited_by_answer b Lost = false
+awaited_by_answer b other = b
 
 abbrev pub IsFault : Answer → Type 0
-IsFault (Refused why) = ⊥
-IsFault Marked = ⊥
-IsFault (Asked request descriptor) = ⊥
-IsFault Sent = ⊥
-IsFault Nothing = ⊥
-IsFault Already = ⊥
-IsFault (Unsent request) = ⊥
-IsFault (Stopped request) = ⊥
-IsFault More = ⊥
-IsFault (Finished request) = ⊥
-IsFault (Acked request) = ⊥
 IsFault (Fault fault) = Unit {0}
-IsFault Lost = ⊥
+IsFault other = ⊥
 
 abbrev pub FaultsUnless : {T : Type 0} → Bool → Act T → Answer → Type 0
 FaultsUnless awaited (Mark reset) answer = Unit {0}
@@ -129,19 +93,9 @@ FaultsUnawaited awaited (d ∷ ds) =
 
 -- A request is asked, and a reset marked, only where nothing is awaited.
 abbrev pub FreeFor : Bool → Answer → Type 0
-FreeFor awaited (Refused why) = Unit {0}
 FreeFor awaited Marked = awaited ≡ false
 FreeFor awaited (Asked request descriptor) = awaited ≡ false
-FreeFor awaited Sent = Unit {0}
-FreeFor awaited Nothing = Unit {0}
-FreeFor awaited Already = Unit {0}
-FreeFor awaited (Unsent request) = Unit {0}
-FreeFor awaited (Stopped request) = Unit {0}
-FreeFor awaited More = Unit {0}
-FreeFor awaited (Finished request) = Unit {0}
-FreeFor awaited (Acked request) = Unit {0}
-FreeFor awaited (Fault fault) = Unit {0}
-FreeFor awaited Lost = Unit {0}
+FreeFor awaited other = Unit {0}
 
 abbrev pub AsksUnawaited : {T : Type 0} → Bool → List (Done T) → Type 0
 AsksUnawaited awaited [] = Unit {0}
@@ -150,19 +104,9 @@ AsksUnawaited awaited (d ∷ ds) = FreeFor awaited d.answer × AsksUnawaited (aw
 -- ---- after_cancel
 
 abbrev pub IsSilent : {T : Type 0} → Answer → List (Done T) → Type 0
-IsSilent (Refused why) ds = Unit {0}
-IsSilent Marked ds = Unit {0}
-IsSilent (Asked request descriptor) ds = Unit {0}
-IsSilent Sent ds = Unit {0}
-IsSilent Nothing ds = Unit {0}
-IsSilent Already ds = Unit {0}
 IsSilent (Unsent request) ds = given request ds ≡ []
 IsSilent (Stopped request) ds = given request ds ≡ []
-IsSilent More ds = Unit {0}
-IsSilent (Finished request) ds = Unit {0}
-IsSilent (Acked request) ds = Unit {0}
-IsSilent (Fault fault) ds = Unit {0}
-IsSilent Lost ds = Unit {0}
+IsSilent other ds = Unit {0}
 
 -- Behind its cancel a request is given nothing.
 abbrev pub NothingBehindCancel : {T : Type 0} → List (Done T) → Type 0
@@ -178,19 +122,8 @@ attentions_in (Ignore request ∷ packets) = attentions_in packets
 attentions_in (Attention ∷ packets) = 1 + attentions_in packets
 
 abbrev pub one_if_acked : Answer → ℕ
-one_if_acked (Refused why) = 0
-one_if_acked Marked = 0
-one_if_acked (Asked request descriptor) = 0
-one_if_acked Sent = 0
-one_if_acked Nothing = 0
-one_if_acked Already = 0
-one_if_acked (Unsent request) = 0
-one_if_acked (Stopped request) = 0
-one_if_acked More = 0
-one_if_acked (Finished request) = 0
 one_if_acked (Acked request) = 1
-one_if_acked (Fault fault) = 0
-one_if_acked Lost = 0
+one_if_acked other = 0
 
 abbrev pub attentions : {T : Type 0} → List (Done T) → ℕ
 attentions [] = 0
@@ -229,29 +162,15 @@ known_by_items k [] = k
 known_by_items k (item ∷ items) = known_by_items (known_by_sign k item.sign) items
 
 abbrev pub is_marked : Answer → Bool
-is_marked (Refused why) = false
 is_marked Marked = true
-is_marked (Asked request descriptor) = false
-is_marked Sent = false
-is_marked Nothing = false
-is_marked Already = false
-is_marked (Unsent request) = false
-is_marked (Stopped request) = false
-is_marked More = false
-is_marked (Finished request) = false
-is_marked (Acked request) = false
-is_marked (Fault fault) = false
-is_marked Lost = false
+is_marked other = false
 
 -- A reset is owed from where it was marked up to where its end is heard. Of two the stronger one is.
 abbrev pub known_by : {T : Type 0} → Known → Act T → Answer → Known
 known_by k (Mark reset) answer =
     if is_marked answer then record { owed = strongest (Some reset) k.owed; transaction = k.transaction } else k
-known_by k Ask answer = k
-known_by k (Send last) answer = k
-known_by k Cancel answer = k
 known_by k (Come part) answer = known_by_items k part.items
-known_by k Lose answer = k
+known_by k other answer = k
 
 -- The first packet of a request asks for the reset that is owed, and no other packet asks for one.
 abbrev pub AsksFor : Option Reset → List Packet → Type 0
@@ -267,19 +186,8 @@ AsksAsOwed k (d ∷ ds) = AsksFor k.owed d.sent × AsksAsOwed (known_by k d.act 
 
 -- A request that has its whole answer leaves none owed: where none was told to be done, the answer is a fault.
 abbrev pub Leaves : Option Reset → Answer → Type 0
-Leaves owed (Refused why) = Unit {0}
-Leaves owed Marked = Unit {0}
-Leaves owed (Asked request descriptor) = Unit {0}
-Leaves owed Sent = Unit {0}
-Leaves owed Nothing = Unit {0}
-Leaves owed Already = Unit {0}
-Leaves owed (Unsent request) = Unit {0}
-Leaves owed (Stopped request) = Unit {0}
-Leaves owed More = Unit {0}
 Leaves owed (Finished request) = owed ≡ None
-Leaves owed (Acked request) = Unit {0}
-Leaves owed (Fault fault) = Unit {0}
-Leaves owed Lost = Unit {0}
+Leaves owed other = Unit {0}
 
 abbrev pub LeavesNoneOwed : {T : Type 0} → Known → List (Done T) → Type 0
 LeavesNoneOwed k [] = Unit {0}
@@ -290,19 +198,8 @@ abbrev pub named : Known → ℕ
 named k = header_descriptor k.owed k.transaction
 
 abbrev pub Names : Known → Answer → Type 0
-Names k (Refused why) = Unit {0}
-Names k Marked = Unit {0}
 Names k (Asked request descriptor) = descriptor ≡ named k
-Names k Sent = Unit {0}
-Names k Nothing = Unit {0}
-Names k Already = Unit {0}
-Names k (Unsent request) = Unit {0}
-Names k (Stopped request) = Unit {0}
-Names k More = Unit {0}
-Names k (Finished request) = Unit {0}
-Names k (Acked request) = Unit {0}
-Names k (Fault fault) = Unit {0}
-Names k Lost = Unit {0}
+Names k other = Unit {0}
 
 abbrev pub NamesAsHeard : {T : Type 0} → Known → List (Done T) → Type 0
 NamesAsHeard k [] = Unit {0}

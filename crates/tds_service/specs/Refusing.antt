@@ -7,18 +7,7 @@ use Rattle.tds_service.specs.Line.{Act, Answer}
 -- Why the machine refuses, if it does.
 abbrev pub refusal_in : Answer → Option ClientRefusal
 refusal_in (line.Refused why) = Some why
-refusal_in line.Marked = None
-refusal_in (line.Asked request descriptor) = None
-refusal_in line.Sent = None
-refusal_in line.Nothing = None
-refusal_in line.Already = None
-refusal_in (line.Unsent request) = None
-refusal_in (line.Stopped request) = None
-refusal_in line.More = None
-refusal_in (line.Finished request) = None
-refusal_in (line.Acked request) = None
-refusal_in (line.Fault fault) = None
-refusal_in line.Lost = None
+refusal_in other = None
 
 -- So many packets of a request, none the last.
 abbrev pub packets : {T : Type 0} → ℕ → List (Act T)

@@ -88,11 +88,8 @@ holds lease Free = false
 holds lease Draining = false
 
 abbrev pub keeps : ℕ → Place → Bool
-keeps ticket (Leased lease) = false
-keeps ticket (Cleaning lease) = false
 keeps ticket (Kept other) = other == ticket
-keeps ticket Free = false
-keeps ticket Draining = false
+keeps ticket other = false
 
 -- The lease that holds a connection, where one does.
 abbrev pub lease_in : Place → Option ℕ
@@ -107,18 +104,12 @@ lease_at None = None
 lease_at (Some c) = lease_in c.place
 
 abbrev pub is_free : Place → Bool
-is_free (Leased lease) = false
-is_free (Cleaning lease) = false
-is_free (Kept ticket) = false
 is_free Free = true
-is_free Draining = false
+is_free other = false
 
 abbrev pub is_idle : Stage → Bool
 is_idle Idle = true
-is_idle (Sending begun) = false
-is_idle Reading = false
-is_idle Cancelling = false
-is_idle (Broken fault) = false
+is_idle other = false
 
 abbrev pub has_lease : ℕ → Seat → Bool
 has_lease lease c = holds lease c.place
@@ -251,11 +242,8 @@ rests_cleaned s test c (Some place) = does s s.given test c place [] (Back place
 
 -- only one that is lent for this is looked at
 abbrev pub clean_place : Place → Line → Option (Option Place)
-clean_place (Leased lease) l = None
 clean_place (Cleaning lease) l = rests_clean (is_clean l.heard.mark l.heard.descriptor) l.stage
-clean_place (Kept ticket) l = None
-clean_place Free l = None
-clean_place Draining l = None
+clean_place other l = None
 
 abbrev pub cleaned : {T : Type 0} → Service → (Seat → Bool) → Option Seat → Step T
 cleaned s test None = nothing s Unknown

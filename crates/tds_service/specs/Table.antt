@@ -101,15 +101,11 @@ RefusedBy first refusal = (why : ClientRefusal) × (refusal ≡ refusal_of why) 
 
 -- Whether a reply says that nothing was done.
 abbrev pub is_refused : Reply → Bool
-is_refused Unknown = true
-is_refused AllInUse = true
-is_refused NotNow = true
-is_refused (No why) = true
-is_refused NoMemory = true
 is_refused (Lent lease number had) = false
 is_refused (Ticket ticket) = false
 is_refused Did = false
 is_refused (Back place) = false
+is_refused other = true
 
 -- Numbers of leases and of connections are left: there are 2^64 - 1 of each.
 abbrev pub HasNumbers : Service → Type 0

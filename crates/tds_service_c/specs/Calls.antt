@@ -135,11 +135,8 @@ Loses number old new n = (answer : Result (Unit {0}) Stop) × (n ≡ done_number
 
 -- A connection that drains is free once it is idle, as the machine puts it behind what came.
 abbrev pub drained_rest : Place → Stage → Option (Option Place)
-drained_rest (Leased lease) stage = None
-drained_rest (Cleaning lease) stage = None
-drained_rest (Kept ticket) stage = None
-drained_rest Free stage = None
 drained_rest Draining stage = Some (Some (drained Draining stage))
+drained_rest other stage = None
 
 pub record Drains (number : ℕ) (s new : Service) (rest : Rest) : Type 0 where
   pub seat : Seat
@@ -151,11 +148,7 @@ pub record Drains (number : ℕ) (s new : Service) (rest : Rest) : Type 0 where
 abbrev pub DrainsNot : ℕ → Service → Refusal → Type 0
 DrainsNot number s refusals.Unknown = find_by (has_number number) s.seats ≡ None
 DrainsNot number s refusals.NotNow = (c : Seat) × (find_by (has_number number) s.seats ≡ Some c) × (drained_rest c.place c.line.stage ≡ None)
-DrainsNot number s refusals.AllInUse = ⊥
-DrainsNot number s refusals.NotIdle = ⊥
-DrainsNot number s refusals.NotSending = ⊥
-DrainsNot number s refusals.Broken = ⊥
-DrainsNot number s refusals.Memory = ⊥
+DrainsNot number s other = ⊥
 
 abbrev pub Settling : ℕ → (old new : Held) → Result Rest Stop → Type 0
 Settling number old new (Ok rest) =

@@ -63,12 +63,9 @@ cancelled_seat c = record c { client = record c.client { stage = stage_cancelled
 
 -- What goes out for that.
 abbrev pub cancel_bytes_at : code.Stage → Kind → (packets : ℕ) → List ℕ
-cancel_bytes_at stages.Idle kind packets = []
-cancel_bytes_at stages.Unsent kind packets = []
 cancel_bytes_at stages.Sending kind packets = ignore kind packets ++ attention
 cancel_bytes_at stages.Reading kind packets = attention
-cancel_bytes_at stages.Cancelling kind packets = []
-cancel_bytes_at stages.Broken kind packets = []
+cancel_bytes_at other kind packets = []
 
 abbrev pub cancel_bytes : TdsSeat → List ℕ
 cancel_bytes c = cancel_bytes_at (seen (stage_of c.client)) (kind_at c.client.kind) c.client.packets

@@ -42,11 +42,8 @@ pub record KeptOn (c z : TdsSeat) : Type 0 where
   pub apart_is : apart z.client ≡ apart c.client
 
 abbrev pub is_reading : Stage → Bool
-is_reading line.Idle = false
-is_reading (line.Sending begun) = false
 is_reading line.Reading = true
-is_reading line.Cancelling = false
-is_reading (line.Broken fault) = false
+is_reading other = false
 
 -- ---- Where it stands
 

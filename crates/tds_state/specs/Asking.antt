@@ -27,14 +27,9 @@ is_plain_letter letter =
 
 -- `sp_` or `xp_` stands in front: it may be a system's procedure
 unfoldable pub is_system_part : List ℕ → Bool
-is_system_part [] = false
-is_system_part (a ∷ []) = false
-is_system_part (a ∷ b ∷ []) = false
-is_system_part (a ∷ b ∷ c ∷ []) = false
-is_system_part (a ∷ b ∷ c ∷ d ∷ []) = false
-is_system_part (a ∷ b ∷ c ∷ d ∷ e ∷ []) = false
 is_system_part (a ∷ b ∷ c ∷ d ∷ e ∷ f ∷ others) =
     ((letter_of a b == 115) || (letter_of a b == 120)) && ((letter_of c d == 112) && (letter_of e f == 95))
+is_system_part other = false
 
 -- the first letter is one of a plain name: a letter, a digit, `_`, or a dot with no such part behind it
 unfoldable pub is_plain_first : List ℕ → Bool

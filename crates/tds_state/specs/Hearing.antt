@@ -13,12 +13,8 @@ use Rattle.tds_state.specs.States.{Listed, behind_state, states_listed, spot_wit
 -- ---- FEATUREEXTACK (MS-TDS 2.2.7.11): features, each its number, the length of its data in four bytes, and these; FF behind the last one
 
 unfoldable pub feature_at : List ℕ → Option StateSpot
-feature_at [] = None
-feature_at (id ∷ []) = None
-feature_at (id ∷ a ∷ []) = None
-feature_at (id ∷ a ∷ b ∷ []) = None
-feature_at (id ∷ a ∷ b ∷ c ∷ []) = None
 feature_at (id ∷ a ∷ b ∷ c ∷ d ∷ behind) = if id == 255 then None else spot_with id 5 (from_le_bytes w32 (a ∷ b ∷ c ∷ d ∷ [])) (length behind)
+feature_at other = None
 
 abbrev pub recovery_by : (List ℕ → Option (List ℕ)) → List ℕ → Option StateSpot → Option (List ℕ)
 recovery_by others bytes None = None
@@ -42,13 +38,9 @@ abbrev pub value_length : ℕ → ℕ → ℕ
 value_length type count = if type == 7 then count else 2 * count
 
 unfoldable pub new_value : ℕ → List ℕ → Option (List ℕ)
-new_value type [] = None
-new_value type (a ∷ []) = None
-new_value type (a ∷ b ∷ []) = None
-new_value type (a ∷ b ∷ c ∷ []) = None
-new_value type (a ∷ b ∷ c ∷ d ∷ []) = None
 new_value type (a ∷ b ∷ c ∷ d ∷ count ∷ behind) =
     if nat_lt (length behind) (value_length type count) then None else Some (take (value_length type count) behind)
+new_value type other = None
 
 -- ---- RETURNVALUE (2.2.7.19): its place, the length of its name, a byte (1: of a parameter), six more, its type (26 04: a number of four
 -- bytes) and its value behind its length

@@ -8,9 +8,5 @@ bytes_stand bytes at part = bytes_eq (take (length part) (drop at bytes)) part
 
 -- the number that four bytes spell, and no more than these, the lowest first
 unfoldable pub four_bytes : List ℕ → Option ℕ
-four_bytes [] = None
-four_bytes (a ∷ []) = None
-four_bytes (a ∷ b ∷ []) = None
-four_bytes (a ∷ b ∷ c ∷ []) = None
 four_bytes (a ∷ b ∷ c ∷ d ∷ []) = Some (from_le_bytes w32 (a ∷ b ∷ c ∷ d ∷ []))
-four_bytes (a ∷ b ∷ c ∷ d ∷ e ∷ others) = None
+four_bytes other = None

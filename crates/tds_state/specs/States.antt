@@ -12,11 +12,8 @@ abbrev pub spot_with : ℕ → ℕ → ℕ → ℕ → Option StateSpot
 spot_with id start n behind = if nat_lt behind n then None else Some (record { id = id; start = start; length = n })
 
 abbrev pub long_spot : ℕ → List ℕ → Option StateSpot
-long_spot id [] = None
-long_spot id (a ∷ []) = None
-long_spot id (a ∷ b ∷ []) = None
-long_spot id (a ∷ b ∷ c ∷ []) = None
 long_spot id (a ∷ b ∷ c ∷ d ∷ behind) = spot_with id 6 (from_le_bytes w32 (a ∷ b ∷ c ∷ d ∷ [])) (length behind)
+long_spot id other = None
 
 -- where the state stands that bytes begin with
 unfoldable pub state_spot : List ℕ → Option StateSpot
