@@ -25,7 +25,7 @@ Request V = Session V → Served V
 -- All but the news of a reset (MS-TDS 2.2.7.9, type 18).
 abbrev pub is_news : Sign → Bool
 is_news (signs.Change changes.ResetDone) = true
-is_news other = false
+is_news _ = false
 
 abbrev pub but_news : List (Item Token) → List (Item Token)
 but_news items = filter (λ (item : Item Token). not (is_news item.sign)) items

@@ -39,7 +39,7 @@ moved_by reset descriptor change.ResetDone = header_descriptor reset descriptor
 
 abbrev pub moved : Option Reset → ℕ → Token → ℕ
 moved reset descriptor (token.Env change) = moved_by reset descriptor change
-moved reset descriptor other = descriptor
+moved reset descriptor _ = descriptor
 
 -- Tokens, one after the other, and then the rest.
 abbrev pub said_tokens : Option Reset → ℕ → Kept → List Token → List (Step Kept Token) → List (Step Kept Token)

@@ -31,7 +31,7 @@ part_at bytes from to =
 -- the number that four bytes spell, the lowest one first
 unfoldable pub long_of : List ℕ → ℕ
 long_of (a ∷ b ∷ c ∷ d ∷ []) = from_le_bytes w32 (a ∷ b ∷ c ∷ d ∷ [])
-long_of other = 0
+long_of _ = 0
 
 -- the same from this place on; 0 where they haven't come
 abbrev pub long_at : List ℕ → ℕ → ℕ

@@ -53,7 +53,7 @@ left_by steps (Some answer) = steps_left steps (answer ∷ [])
 -- the step is to be cancelled as soon as something comes, and isn't yet
 abbrev pub is_waiting_step : Step → Bool
 is_waiting_step steps.SetAndWait = true
-is_waiting_step other = false
+is_waiting_step _ = false
 
 abbrev pub is_waiting : List Step → Bool
 is_waiting [] = false

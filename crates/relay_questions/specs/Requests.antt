@@ -66,16 +66,16 @@ text_of Begin = begin_text
 text_of Prepare = prepare_call
 text_of Unprepare = unprepare_call
 text_of SetAndWait = wait_text
-text_of other = select_text
+text_of _ = select_text
 
 -- which of them close a handle, and which are calls
 abbrev pub is_unprepare : Step → Bool
 is_unprepare Unprepare = true
-is_unprepare other = false
+is_unprepare _ = false
 
 abbrev pub is_prepare : Step → Bool
 is_prepare Prepare = true
-is_prepare other = false
+is_prepare _ = false
 
 abbrev pub is_call : Step → Bool
 is_call step = is_prepare step || is_unprepare step

@@ -32,7 +32,7 @@ question_of Prepare = questions.Handle
 question_of Unprepare = questions.Handle
 question_of SetAndWait = questions.Cancel
 question_of AskOnceMore = questions.Cancel
-question_of other = questions.Reset
+question_of _ = questions.Reset
 
 -- the reset that it asks for (MS-TDS 2.2.3.1.2)
 abbrev pub reset_of : Step → Option resets.Reset
@@ -41,7 +41,7 @@ reset_of SetAgain = None
 reset_of ResetButTransaction = Some KeepTransaction
 reset_of Unprepare = None
 reset_of AskOnceMore = None
-reset_of other = Some Full
+reset_of _ = Some Full
 
 -- whether the session must rest behind its answer, by all that was said
 abbrev pub must_rest : Step → Bool
@@ -49,7 +49,7 @@ must_rest Reset = true
 must_rest ResetTransaction = true
 must_rest Unprepare = true
 must_rest ResetAll = true
-must_rest other = false
+must_rest _ = false
 
 -- ---- The verdict
 

@@ -48,7 +48,7 @@ told_in s = if tells s.stage then Tell else Drop
 abbrev pub HearsFrom : ClientSession → Sign → TdsClient → Result Told Stop → Type 0
 HearsFrom s sign new (Ok told) = (next : ClientSession) × (signed Any s sign ≡ Ok next) × (new ≡ value_of next 0) × (told ≡ told_in s)
 HearsFrom s sign new (Err (stops.Client fault)) = (signed Any s sign ≡ Err fault) × (new ≡ value_of (broken_by s fault) 0)
-HearsFrom s sign new other = ⊥
+HearsFrom s sign new _ = ⊥
 
 abbrev pub HearsBy : Option ClientSession → Sign → TdsClient → TdsClient → Result Told Stop → Type 0
 HearsBy None sign old new result = (result ≡ Err stops.NoClient) × (new ≡ old)
@@ -72,7 +72,7 @@ abbrev pub EndsFrom : ClientSession → TdsClient → Result Taken Stop → Type
 EndsFrom s new (Ok answer) =
     (next : ClientSession) × (message_ended Any s ≡ Ok (record { answer = answer; session = next })) × (new ≡ value_of next 0)
 EndsFrom s new (Err (stops.Client fault)) = (message_ended Any s ≡ Err fault) × (new ≡ value_of (broken_by s fault) 0)
-EndsFrom s new other = ⊥
+EndsFrom s new _ = ⊥
 
 abbrev pub EndsBy : Option ClientSession → TdsClient → TdsClient → Result Taken Stop → Type 0
 EndsBy None old new result = (result ≡ Err stops.NoClient) × (new ≡ old)

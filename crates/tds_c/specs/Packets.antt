@@ -36,7 +36,7 @@ abbrev pub Unread : Direction → ℕ → List ℕ → Stop → Type 0
 Unread direction size bytes stops.WantsBytes =
     (length bytes < 8) ⊎ ((header_fault direction size bytes ≡ None) × (length bytes < length_field bytes))
 Unread direction size bytes (stops.Packet fault) = (8 ≤ length bytes) × (header_fault direction size bytes ≡ Some fault)
-Unread direction size bytes other = ⊥
+Unread direction size bytes _ = ⊥
 
 -- ---- A packet as a plain value
 

@@ -47,20 +47,20 @@ stage_number (stages.Broken fault) = 4
 -- The type of the request's packets, and how many are out: of a request that is being sent.
 abbrev pub kind_number : StageParts → ℕ
 kind_number (stages.Sending kind packets) = kind_byte kind
-kind_number other = 0
+kind_number _ = 0
 
 abbrev pub packets_number : StageParts → ℕ
 packets_number (stages.Sending kind packets) = packets
-packets_number other = 0
+packets_number _ = 0
 
 -- The fault that broke it, and the token's fault in it.
 abbrev pub token_fault_number : ClientFault → ℕ
 token_fault_number (faults.Token fault) = token.fault_number fault
-token_fault_number other = 0
+token_fault_number _ = 0
 
 abbrev pub broken_number : (ClientFault → ℕ) → StageParts → ℕ
 broken_number number (stages.Broken fault) = number fault
-broken_number number other = 0
+broken_number number _ = 0
 
 -- The value of these parts, where so many bytes of the request's message are out.
 unfoldable pub plain_of : ClientParts → ℕ → TdsClient
@@ -155,7 +155,7 @@ parts_from c = do
 -- What is out and what is left is no more than memory can have.
 unfoldable pub have_room : StageParts → ℕ → Bool
 have_room (stages.Sending kind packets) left = nat_lt (packets + left) (2 ^ 63)
-have_room other left = true
+have_room _ left = true
 
 -- The client that a value is, with these bytes of the message left. None where it is no client's.
 unfoldable pub client_of : TdsClient → List ℕ → Option ClientSession

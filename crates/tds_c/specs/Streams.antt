@@ -100,7 +100,7 @@ PutStops old keep bytes buffer stops.NoRoom =
     × ((length buffer.before < s.size) ⊎ (length keep.before + 8 < s.size))
 PutStops old keep bytes buffer (stops.Refused refusal) =
     (s : ClientSession) × (waiting_in old keep ≡ Some s) × IsRefusal (refusal_of (put s bytes)) refusal × (buffer.count ≡ 0)
-PutStops old keep bytes buffer other = ⊥
+PutStops old keep bytes buffer _ = ⊥
 
 -- Nothing was done.
 pub record HasNotPut (old new : TdsClient) (keep : Keep) (taken : ℕ) (buffer : Buffer) : Type 0 where

@@ -67,7 +67,7 @@ ReadsUnder columns content old new (Ok None) = (drop old.at content ≡ []) × (
 ReadsUnder columns content old new (Err (stops.Token fault)) =
     (wrong_token columns (drop old.at content) ≡ Some fault) × (new.at ≡ length content) × (new.columns ≡ old.columns)
 ReadsUnder columns content old new (Err stops.NoPlace) = (length content < old.at) × (new ≡ old)
-ReadsUnder columns content old new other = ⊥
+ReadsUnder columns content old new _ = ⊥
 
 abbrev pub ReadsBy : Option (Option ℕ) → List ℕ → TdsCursor → TdsCursor → Result (Option TdsToken) Stop → Type 0
 ReadsBy None content old new result = (result ≡ Err stops.NoPlace) × (new ≡ old)

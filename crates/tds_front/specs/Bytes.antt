@@ -40,7 +40,7 @@ fails f fault = record { front = record f { stage = stages.Broken fault }; bring
 abbrev pub body_in : Said → ℕ
 body_in (said.Body count) = count
 body_in (said.End count) = count
-body_in other = 0
+body_in _ = 0
 
 -- at most so many bytes were taken, and the body's are among them
 abbrev pub IsWithin : ℕ → Result Fed FrontFault → Type 0
@@ -67,7 +67,7 @@ abbrev pub run_of : Part → ℕ → ℕ
 run_of (Headers left) there = min left there
 run_of Body there = there
 run_of Dropped there = there
-run_of other there = 1
+run_of _ there = 1
 
 -- what is due behind so many, of which this is the first one; nothing where there is no such length
 abbrev pub part_behind : Part → ℕ → ℕ → Option Part
@@ -82,13 +82,13 @@ part_behind Dropped byte run = Some Dropped
 -- how many of them are the body's
 abbrev pub body_of : Part → ℕ → ℕ
 body_of Body run = run
-body_of other run = 0
+body_of _ run = 0
 
 -- a request has ended: its headers must have come
 abbrev pub ended_in : Front → ℕ → ℕ → Part → Step
 ended_in f count body Body = says f count (said.End body)
 ended_in f count body Dropped = says f count said.Nothing
-ended_in f count body other = fails f faults.WrongHeaders
+ended_in f count body _ = fails f faults.WrongHeaders
 
 abbrev pub told : ℕ → Said
 told body = if body == 0 then said.Nothing else said.Body body
@@ -96,7 +96,7 @@ told body = if body == 0 then said.Nothing else said.Body body
 -- behind the data of a packet
 abbrev pub packet_done : Front → Stage → ℕ → ℕ → Step
 packet_done f (stages.Underway gone) count body = ended_in f count body f.part
-packet_done f other count body = says f count (told body)
+packet_done f _ count body = says f count (told body)
 
 abbrev pub with_due : Front → Due → Front
 with_due f next = record { most = f.most; stage = f.stage; due = next; part = f.part }
@@ -180,7 +180,7 @@ fed_by (due.Data left) f byte there = data_taken f left byte there
 
 abbrev pub fed_unless : Stage → Front → ℕ → ℕ → Step
 fed_unless (stages.Broken fault) f byte there = record { front = f; brings = Err fault }
-fed_unless other f byte there = fed_by f.due f byte there
+fed_unless _ f byte there = fed_by f.due f byte there
 
 unfoldable pub fed : Front → List ℕ → Step
 fed f [] = says f 0 said.Nothing
@@ -191,11 +191,11 @@ fed f (byte ∷ bytes) = fed_unless f.stage f byte (length (byte ∷ bytes))
 -- a byte of it is due at least
 abbrev pub is_due_some : Due → Bool
 is_due_some (due.Data left) = not (left == 0)
-is_due_some other = true
+is_due_some _ = true
 
 abbrev pub is_part_some : Part → Bool
 is_part_some (Headers left) = not (left == 0)
-is_part_some other = true
+is_part_some _ = true
 
 -- Of bytes, where there are any, one is taken at least.
 abbrev pub TakesSome : Front → Type 0

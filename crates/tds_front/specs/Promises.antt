@@ -34,11 +34,11 @@ one_if false = 0
 
 abbrev pub is_here : Result Deed FrontFault → Bool
 is_here (Ok Acknowledge) = true
-is_here other = false
+is_here _ = false
 
 abbrev pub is_handed_on : Result Deed FrontFault → Bool
 is_handed_on (Ok HandOn) = true
-is_handed_on other = false
+is_handed_on _ = false
 
 abbrev pub is_taken : Result Deed FrontFault → Bool
 is_taken (Ok deed) = true
@@ -46,11 +46,11 @@ is_taken (Err fault) = false
 
 abbrev pub is_attention : Kind → Bool
 is_attention kinds.Attention = true
-is_attention other = false
+is_attention _ = false
 
 abbrev pub is_stopping : Stage → Bool
 is_stopping Stopping = true
-is_stopping other = false
+is_stopping _ = false
 
 -- of one event, met at a stage: an attention that was taken; one that is acknowledged here; one that was handed on; the server's
 -- acknowledgement of one
@@ -89,7 +89,7 @@ count of stage (event ∷ events) = of stage event + count of (stage_by stage ev
 abbrev pub is_passed : Result Deed FrontFault → Bool
 is_passed (Ok (Begin kind reset)) = true
 is_passed (Ok Go) = true
-is_passed other = false
+is_passed _ = false
 
 -- a request is whole, or its attention isn't acknowledged
 abbrev pub is_whole : Stage → Bool

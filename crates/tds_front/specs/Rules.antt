@@ -22,7 +22,7 @@ breaks fault = record { stage = Broken fault; does = Err fault }
 -- the first fault stays
 abbrev pub refuses : Stage → FrontFault → Move
 refuses (Broken first) fault = breaks first
-refuses other fault = breaks fault
+refuses _ fault = breaks fault
 
 -- ---- A packet of a request
 
@@ -80,7 +80,7 @@ attended stage head =
 abbrev pub taken_as : Kind → Stage → Head → Move
 taken_as kinds.Attention stage head = attended stage head
 taken_as kinds.Answer stage head = refuses stage faults.UnknownType
-taken_as other stage head = of_request stage head
+taken_as _ stage head = of_request stage head
 
 abbrev pub taken : Stage → Head → Move
 taken stage head = taken_as head.kind stage head

@@ -58,7 +58,7 @@ is_found number (finding ∷ others) = (number_of finding.name == number) || is_
 abbrev pub acknowledged_by : Event → Bool → Bool
 acknowledged_by events.Answer before = false
 acknowledged_by (events.Says token) before = before || acknowledges token
-acknowledged_by other before = before
+acknowledged_by _ before = before
 
 unfoldable pub is_acknowledged : List Said → Bool
 is_acknowledged [] = false
@@ -68,7 +68,7 @@ is_acknowledged (x ∷ past) = acknowledged_by x.event (is_acknowledged past)
 abbrev pub out_by : Event → Bool → Bool → Bool
 out_by (events.Attention size status) acknowledged before = true
 out_by (events.Answered whole) acknowledged before = before && not acknowledged
-out_by other acknowledged before = before
+out_by _ acknowledged before = before
 
 unfoldable pub is_out : List Said → Bool
 is_out [] = false
@@ -110,7 +110,7 @@ underway_by events.Login acknowledged out since twice forgotten before = true
 underway_by (events.Answered whole) acknowledged out since twice forgotten before = left_underway acknowledged out since twice before
 underway_by events.Ignored acknowledged out since twice forgotten before = false
 underway_by events.Answer acknowledged out since twice forgotten before = before || forgotten
-underway_by other acknowledged out since twice forgotten before = before
+underway_by _ acknowledged out since twice forgotten before = before
 
 -- since the attention that is out, the answer of its request has ended
 abbrev pub ended_by : Event → (acknowledged underway before : Bool) → Bool
@@ -154,7 +154,7 @@ has_asked_since past = (course_of past).since
 abbrev pub asks_by : Event → Reset → Reset
 asks_by (events.Request status bulk) before = reset_of status
 asks_by events.Login before = resets.None
-asks_by other before = before
+asks_by _ before = before
 
 unfoldable pub asks_of : List Said → Reset
 asks_of [] = resets.None
@@ -199,12 +199,12 @@ last_by_change type changes.Other owes before = before
 abbrev pub last_by_token : ℕ → Told → Reset → Transaction → Transaction
 last_by_token kind (told.Change change) owes before = last_by_change change.kind change.value owes before
 last_by_token kind told.Unclear owes before = if kind == 0xE3 then transactions.Unknown else before
-last_by_token kind other owes before = before
+last_by_token kind _ owes before = before
 
 abbrev pub last_by : Event → Reset → Transaction → Transaction
 last_by (events.Says token) owes before = last_by_token token.kind token.told owes before
 last_by events.Login owes before = transactions.Told 0
-last_by other owes before = before
+last_by _ owes before = before
 
 unfoldable pub last_told : List Said → Transaction
 last_told [] = transactions.Unknown
@@ -215,17 +215,17 @@ last_told (x ∷ past) = last_by x.event (owed_of past) (last_told past)
 -- what is so where an attention is sent, and nowhere else
 abbrev pub of_attention : Event → Bool → Bool
 of_attention (events.Attention size status) is = is
-of_attention other is = false
+of_attention _ is = false
 
 -- what is so of a request's beginning, by its status, and of nothing else
 abbrev pub of_request : Event → (ℕ → Bool) → Bool
 of_request (events.Request status bulk) is = is status
-of_request other is = false
+of_request _ is = false
 
 -- what is so of the descriptor that a request names, and of nothing else
 abbrev pub of_names : Event → (ℕ → Bool) → Bool
 of_names (events.Names descriptor) is = is descriptor
-of_names other is = false
+of_names _ is = false
 
 -- an attention, while another one is out
 abbrev pub is_second_attention : List Said → Event → Bool

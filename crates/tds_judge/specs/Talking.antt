@@ -75,7 +75,7 @@ is_told (transactions.Told descriptor) = true
 -- a DONE with bit 0020 (MS-TDS 2.2.1.7)
 abbrev pub told_acknowledges : Told → Bool
 told_acknowledges (told.Done done) = done.status / 32 % 2 == 1
-told_acknowledges other = false
+told_acknowledges _ = false
 
 abbrev pub acknowledges : Token → Bool
 acknowledges token = told_acknowledges token.told
@@ -95,7 +95,7 @@ ignores_early status = (status / 2 % 2 == 1) && not (status % 2 == 1)
 -- a DONE that says that more come (MS-TDS 2.2.7.6)
 abbrev pub told_more : Told → Bool
 told_more (told.Done done) = done.status % 2 == 1
-told_more other = false
+told_more _ = false
 
 abbrev pub says_more : Token → Bool
 says_more token = told_more token.told
@@ -105,16 +105,16 @@ says_more token = told_more token.told
 -- what is so of a change, and of no other token
 abbrev pub of_change : Told → (ℕ → ChangeValue → Bool) → Bool
 of_change (told.Change change) is = is change.kind change.value
-of_change other is = false
+of_change _ is = false
 
 -- what is so of a transaction's change, by its new and its old value
 abbrev pub of_both : ChangeValue → (ℕ → ℕ → Bool) → Bool
 of_both (changes.Transaction new old) is = is new old
-of_both other is = false
+of_both _ is = false
 
 abbrev pub is_reset_done : ChangeValue → Bool
 is_reset_done changes.ResetDone = true
-is_reset_done other = false
+is_reset_done _ = false
 
 -- type 18
 abbrev pub tells_reset : Token → Bool
@@ -136,11 +136,11 @@ ends_none last token = of_change token.told (λ type value. of_both value (λ ne
 
 abbrev pub old_of : ChangeValue → ℕ
 old_of (changes.Transaction new old) = old
-old_of other = 0
+old_of _ = 0
 
 abbrev pub told_old : Told → ℕ
 told_old (told.Change change) = old_of change.value
-told_old other = 0
+told_old _ = 0
 
 abbrev pub ended_descriptor : Token → ℕ
 ended_descriptor token = told_old token.told
@@ -152,7 +152,7 @@ begun_as type new = if type == 11 then transactions.Unknown else transactions.To
 -- an ENVCHANGE whose fields don't fit its length
 abbrev pub unclear_by : ℕ → Told → Bool
 unclear_by kind told.Unclear = kind == 0xE3
-unclear_by kind other = false
+unclear_by kind _ = false
 
 abbrev pub is_unclear : Token → Bool
 is_unclear token = unclear_by token.kind token.told
@@ -164,7 +164,7 @@ is_long done = nat_lt done.count 4294967296
 
 abbrev pub told_short : Told → Bool
 told_short (told.Done done) = not (is_long done)
-told_short other = false
+told_short _ = false
 
 abbrev pub is_short : Token → Bool
 is_short token = told_short token.told
@@ -257,7 +257,7 @@ abbrev pub told_heard : Talk → ℕ → ℕ → Told → Talk
 told_heard t time kind (told.Done done) = is_done t done
 told_heard t time kind (told.Change change) = change_heard t time change.kind change.value
 told_heard t time kind told.Unclear = unclear_heard t (kind == 0xE3)
-told_heard t time kind other = t
+told_heard t time kind _ = t
 
 -- by its first byte
 abbrev pub kind_heard : Talk → ℕ → Talk
@@ -306,7 +306,7 @@ talk_by t time events.Answer = begins_answer t
 talk_by t time (events.Says token) = token_heard t time token
 talk_by t time (events.Answered whole) = ends_answer t time whole
 talk_by t time events.Borrowed = record t { borrowed = true }
-talk_by t time other = t
+talk_by t time _ = t
 
 -- before anything was seen
 abbrev pub new_talk : Talk

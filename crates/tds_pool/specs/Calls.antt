@@ -33,23 +33,23 @@ refusal_number refusals.NumbersUsedUp = 7
 
 abbrev pub is_leased : Place → Bool
 is_leased places.Leased = true
-is_leased other = false
+is_leased _ = false
 
 abbrev pub is_kept : Place → Bool
 is_kept places.Kept = true
-is_kept other = false
+is_kept _ = false
 
 abbrev pub is_free : Place → Bool
 is_free places.Free = true
-is_free other = false
+is_free _ = false
 
 abbrev pub is_draining : Place → Bool
 is_draining places.Draining = true
-is_draining other = false
+is_draining _ = false
 
 abbrev pub is_cleaning : Place → Bool
 is_cleaning places.Cleaning = true
-is_cleaning other = false
+is_cleaning _ = false
 
 -- where it meets the test
 abbrev pub only : (Connection → Bool) → Option Connection → Option Connection
@@ -79,11 +79,11 @@ kept_for ticket cs = standing (is_kept_for ticket.turn) ticket.key ticket.number
 
 abbrev pub is_idle : Stage → Bool
 is_idle Idle = true
-is_idle other = false
+is_idle _ = false
 
 abbrev pub is_broken : Stage → Bool
 is_broken (Broken fault) = true
-is_broken other = false
+is_broken _ = false
 
 -- where a connection stands that nobody holds: it is free if its client is idle, it drains if its client is not, and if that is
 -- broken it is taken out
@@ -303,7 +303,7 @@ cleaning number request cs =
 -- marks it too
 abbrev pub behind_refusal : PoolRefusal → ClientSession → ClientSession
 behind_refusal refusals.Memory s = marked s Full
-behind_refusal other s = s
+behind_refusal _ s = s
 
 abbrev pub not_cleaned : PoolRefusal → ℕ → List Connection → List Connection
 not_cleaned refusal number cs = changed number (λ (c : Connection). record c { client = behind_refusal refusal c.client }) cs
@@ -325,7 +325,7 @@ rests_clean s (Broken fault) = None
 abbrev pub cleaned_to : ℕ → Option Place → List Connection → Returned
 cleaned_to number None cs = record { answer = given.Closed number; connections = taken_out number cs }
 cleaned_to number (Some places.Free) cs = record { answer = given.Free number; connections = at_place number places.Free cs }
-cleaned_to number other cs = record { answer = given.Draining number; connections = cs }
+cleaned_to number _ cs = record { answer = given.Draining number; connections = cs }
 
 abbrev pub looked_at_clean : Option Connection → List Connection → Returned
 looked_at_clean None cs = record { answer = given.Unknown; connections = cs }

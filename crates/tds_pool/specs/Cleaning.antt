@@ -143,4 +143,4 @@ pub record IsBehind (start : ClientSession) (c : Connection) : Type 0 where
 -- Whether an attention is out.
 abbrev pub is_cancelling : Stage → Bool
 is_cancelling Cancelling = true
-is_cancelling other = false
+is_cancelling _ = false

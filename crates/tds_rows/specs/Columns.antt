@@ -25,7 +25,7 @@ is_scaled kind = (kind == 0x29) || (kind == 0x2A) || (kind == 0x2B)
 
 abbrev pub fixed_size : Shape → ℕ
 fixed_size (shape.Fixed n) = n
-fixed_size other = 0
+fixed_size _ = 0
 
 -- the most bytes that a value has, by the type and what stands behind its byte; 0 where nothing says it
 abbrev pub size_of : ℕ → TypeInfo → List ℕ → ℕ
@@ -41,11 +41,11 @@ size_of kind info.Unknown bytes = 0
 -- of a decimal
 abbrev pub precision_of : TypeInfo → List ℕ → ℕ
 precision_of (info.Info n s) bytes = if n == 3 then get_or bytes 1 0 else 0
-precision_of other bytes = 0
+precision_of _ bytes = 0
 
 abbrev pub scale_of : ℕ → TypeInfo → List ℕ → ℕ
 scale_of kind (info.Info n s) bytes = if n == 3 then get_or bytes 2 0 else if is_scaled kind then get_or bytes 0 0 else 0
-scale_of kind other bytes = 0
+scale_of kind _ bytes = 0
 
 -- five bytes from this one on
 abbrev pub five_from : ℕ → List ℕ → List ℕ

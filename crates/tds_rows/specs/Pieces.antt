@@ -40,7 +40,7 @@ after_byte Beyond b = Beyond
 -- the bytes of parts are the value's own
 abbrev pub own_byte : PartsAt → ℕ → List ℕ
 own_byte (InPart left) b = b ∷ []
-own_byte other b = []
+own_byte _ b = []
 
 unfoldable pub parts_after : PartsAt → List ℕ → PartsAt
 parts_after at [] = at
@@ -64,16 +64,16 @@ value_is_over Beyond = true
 
 abbrev pub is_null_value : PartsAt → Bool
 is_null_value PartsNull = true
-is_null_value other = false
+is_null_value _ = false
 
 abbrev pub is_in_prefix : PartsAt → Bool
 is_in_prefix (InLength seen ones) = true
 is_in_prefix (InCount came) = true
-is_in_prefix other = false
+is_in_prefix _ = false
 
 abbrev pub is_in_part : PartsAt → Bool
 is_in_part (InPart left) = true
-is_in_part other = false
+is_in_part _ = false
 
 -- behind so many bytes of a part of which so many were left
 abbrev pub left_after : ℕ → ℕ → PartsAt

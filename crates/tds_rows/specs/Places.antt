@@ -37,7 +37,7 @@ is_absent shape.Parts bytes = (four_from 0 bytes == 4294967295) && (four_from 4 
 -- the empty part behind a value in parts
 abbrev pub value_closing : Shape → Bool → ℕ
 value_closing shape.Parts absent = if absent then 0 else 4
-value_closing other absent = 0
+value_closing _ absent = 0
 
 abbrev pub null_mark : Bool → ℕ
 null_mark absent = if absent then 1 else 0

@@ -4,7 +4,6 @@ use Rattle.std.proofs.Math.ListN.{set}
 use Rattle.std.proofs.lemmas.List.{append-nil}
 use Rattle.std.specs.Prelude.{Option, Some}
 use Rattle.tds_wire.specs.declared.told.Token.{Token}
-use Rattle.tds_wire.specs.Reading.{Reading}
 use Rattle.tds_service.specs.declared.refusal.Refusal.TheVariants as refusals
 use Rattle.tds_service.specs.declared.seat.Seat as code
 use Rattle.tds_service.specs.Parts.{Part}
@@ -76,8 +75,8 @@ reading_behind number items lent news i here y same changed numbered =
     ap (reading_by (has_number number)) (changed ∙ ap (λ (cs : List code.Seat). set cs i y) same)
     ∙ reading_set (has_number number) y items i here.first.within here.first.before (ap (λ (n : ℕ). n == number) numbered ∙ meets_here (has_number number) items lent i here)
 
-pub same_reading : (r s : Reading) → Some r ≡ Some s → r ≡ s
-same_reading r s e = let u : r ≡ s = cc in u
+pub same_inside : {A : Type 0} (x y : A) → Some x ≡ Some y → x ≡ y
+same_inside x y e = let u : x ≡ y = cc in u
 
 pub wants_memory : (s : Service) (number : ℕ) (part : Part Token) (items lent : List code.Seat) (i : ℕ) (here : Here (has_number number) items lent i) → s.seats ≡ seats_in items
     → RefusesIn s (hears s (has_number number) part (find_by (has_number number) s.seats)) refusals.Memory

@@ -13,7 +13,7 @@ use Rattle.tds_service.specs.declared.seat.Seat as code
 use Rattle.tds_service.specs.Index.{IsIndex, FindEachOther, PutsAt, AddsId, ForgetsAny, ForgetsId, holder_in, holders_in, holder_of, number_held, one_held, held_among}
 use Rattle.tds_service.specs.Line.{Stage}
 use Rattle.tds_service.specs.Rising.{RiseFrom, numbers_in}
-use Rattle.tds_service.specs.Service.{Place, Leased, Cleaning, Kept, Free, Draining, Seat, holds, keeps, drained, find_by, is_free, is_idle}
+use Rattle.tds_service.specs.Service.{Place, Leased, Cleaning, Kept, Free, Draining, holds, keeps, drained, find_by, is_free, is_idle}
 use Rattle.tds_service.specs.Table.{FirstMet, IsAt, met, place_of, rest_of, seat_in, seats_in, test_of, id_of, without_closed}
 use Rattle.tds_service.proofs.Ids.{numbered, clash, either, none_newer, some_same, same_number}
 use Rattle.tds_service.proofs.Holders.{Holder, holder_at, holder_set, holder_taken, count_set, count_taken, fewer_held}

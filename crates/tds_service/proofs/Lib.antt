@@ -19,6 +19,7 @@ pub mod Owing
 pub mod Acknowledging
 pub mod Alike
 pub mod Coming
+pub mod Ending
 pub mod Alone
 pub mod Naming
 pub mod Others

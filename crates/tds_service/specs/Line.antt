@@ -207,7 +207,7 @@ comes l part (Broken fault) = breaks_as l fault
 
 abbrev pub loses : {T : Type 0} → Line → Stage → Turn T
 loses l (Broken fault) = quiet l Lost
-loses l other = quiet (at l (Broken faults.Lost)) Lost
+loses l _ = quiet (at l (Broken faults.Lost)) Lost
 
 abbrev pub turn : {T : Type 0} → Line → Act T → Turn T
 turn l (Mark reset) = marks l reset l.stage

@@ -3,7 +3,7 @@ use Rattle.std.specs.Prelude.{◌≡◌, ℕ, ◌==◌, Bool, true, false, List,
 use Rattle.tds_service.specs.Line as line
 use Rattle.tds_service.specs.Line.{Answer, Told, Nobody, To}
 use Rattle.tds_service.specs.History.{Done}
-use Rattle.tds_service.specs.Service.{Call, Lease, Resume, Ask, Put, Finish, Cancel, GiveBack, Clean, Cleaned, Keep, Abandon, Came, Lost, Without, Service, lease_at, seat_numbered, step}
+use Rattle.tds_service.specs.Service.{Call, Ask, Service, lease_at, seat_numbered, step}
 
 -- By which lease a request was asked.
 pub record Asker : Type 0 where
@@ -12,7 +12,7 @@ pub record Asker : Type 0 where
 
 abbrev pub asked_in : ℕ → Option Asker → Answer → Option Asker
 asked_in lease before (line.Asked request descriptor) = Some (record { lease = lease; request = request })
-asked_in lease before other = before
+asked_in lease before _ = before
 
 abbrev pub asked_among : {T : Type 0} → ℕ → Option Asker → List (Done T) → Option Asker
 asked_among lease before [] = before
@@ -21,7 +21,7 @@ asked_among lease before (d ∷ ds) = asked_among lease (asked_in lease before d
 -- Who asked the newest request, behind a call that did this.
 abbrev pub asker_by : {T : Type 0} → Option Asker → Call T → List (Done T) → Option Asker
 asker_by before (Ask lease) ds = asked_among lease before ds
-asker_by before other ds = before
+asker_by before _ ds = before
 
 -- What is told is told to a request that the lease asked which holds the connection.
 abbrev pub IsOwn : {T : Type 0} → Option Asker → Option ℕ → Told T → Type 0

@@ -11,7 +11,7 @@ use Rattle.tds_client.specs.declared.sign.Sign.{Sign}
 use Rattle.tds_client.specs.declared.sign.Sign.TheVariants as signs
 use Rattle.tds_service.specs.Line.{Act, Mark, Ask, Send, Cancel, Come, Lose}
 use Rattle.tds_service.specs.Line.{Packet, OfRequest, Ignore, Attention}
-use Rattle.tds_service.specs.Line.{Answer, Refused, Marked, Asked, Sent, Nothing, Already, Unsent, Stopped, More, Finished, Acked, Fault, Lost}
+use Rattle.tds_service.specs.Line.{Answer, Marked, Asked, Unsent, Stopped, Finished, Acked, Fault, Lost}
 use Rattle.tds_service.specs.History.{Done, given}
 
 -- ---- paired
@@ -29,16 +29,16 @@ abbrev pub leaves_off : Answer → Bool
 leaves_off (Stopped request) = true
 leaves_off (Fault fault) = true
 leaves_off Lost = true
-leaves_off other = false
+leaves_off _ = false
 
 -- What comes in one call, and whether the message ends with it.
 abbrev pub coming : {T : Type 0} → Act T → List T
 coming (Come part) = told part.items
-coming other = []
+coming _ = []
 
 abbrev pub ends_message : {T : Type 0} → Act T → Bool
 ends_message (Come part) = (is_end part.close)
-ends_message other = false
+ends_message _ = false
 
 -- The next message that comes: the tokens of its parts, in order, up to its end; or up to where it is left off.
 abbrev pub next_message : {T : Type 0} → List (Done T) → List T
@@ -70,11 +70,11 @@ awaited_by_answer b (Finished request) = false
 awaited_by_answer b (Acked request) = false
 awaited_by_answer b (Fault fault) = false
 awaited_by_answer b Lost = false
-awaited_by_answer b other = b
+awaited_by_answer b _ = b
 
 abbrev pub IsFault : Answer → Type 0
 IsFault (Fault fault) = Unit {0}
-IsFault other = ⊥
+IsFault _ = ⊥
 
 abbrev pub FaultsUnless : {T : Type 0} → Bool → Act T → Answer → Type 0
 FaultsUnless awaited (Mark reset) answer = Unit {0}
@@ -95,7 +95,7 @@ FaultsUnawaited awaited (d ∷ ds) =
 abbrev pub FreeFor : Bool → Answer → Type 0
 FreeFor awaited Marked = awaited ≡ false
 FreeFor awaited (Asked request descriptor) = awaited ≡ false
-FreeFor awaited other = Unit {0}
+FreeFor awaited _ = Unit {0}
 
 abbrev pub AsksUnawaited : {T : Type 0} → Bool → List (Done T) → Type 0
 AsksUnawaited awaited [] = Unit {0}
@@ -106,7 +106,7 @@ AsksUnawaited awaited (d ∷ ds) = FreeFor awaited d.answer × AsksUnawaited (aw
 abbrev pub IsSilent : {T : Type 0} → Answer → List (Done T) → Type 0
 IsSilent (Unsent request) ds = given request ds ≡ []
 IsSilent (Stopped request) ds = given request ds ≡ []
-IsSilent other ds = Unit {0}
+IsSilent _ ds = Unit {0}
 
 -- Behind its cancel a request is given nothing.
 abbrev pub NothingBehindCancel : {T : Type 0} → List (Done T) → Type 0
@@ -123,7 +123,7 @@ attentions_in (Attention ∷ packets) = 1 + attentions_in packets
 
 abbrev pub one_if_acked : Answer → ℕ
 one_if_acked (Acked request) = 1
-one_if_acked other = 0
+one_if_acked _ = 0
 
 abbrev pub attentions : {T : Type 0} → List (Done T) → ℕ
 attentions [] = 0
@@ -163,14 +163,14 @@ known_by_items k (item ∷ items) = known_by_items (known_by_sign k item.sign) i
 
 abbrev pub is_marked : Answer → Bool
 is_marked Marked = true
-is_marked other = false
+is_marked _ = false
 
 -- A reset is owed from where it was marked up to where its end is heard. Of two the stronger one is.
 abbrev pub known_by : {T : Type 0} → Known → Act T → Answer → Known
 known_by k (Mark reset) answer =
     if is_marked answer then record { owed = strongest (Some reset) k.owed; transaction = k.transaction } else k
 known_by k (Come part) answer = known_by_items k part.items
-known_by k other answer = k
+known_by k _ answer = k
 
 -- The first packet of a request asks for the reset that is owed, and no other packet asks for one.
 abbrev pub AsksFor : Option Reset → List Packet → Type 0
@@ -187,7 +187,7 @@ AsksAsOwed k (d ∷ ds) = AsksFor k.owed d.sent × AsksAsOwed (known_by k d.act 
 -- A request that has its whole answer leaves none owed: where none was told to be done, the answer is a fault.
 abbrev pub Leaves : Option Reset → Answer → Type 0
 Leaves owed (Finished request) = owed ≡ None
-Leaves owed other = Unit {0}
+Leaves owed _ = Unit {0}
 
 abbrev pub LeavesNoneOwed : {T : Type 0} → Known → List (Done T) → Type 0
 LeavesNoneOwed k [] = Unit {0}
@@ -199,7 +199,7 @@ named k = header_descriptor k.owed k.transaction
 
 abbrev pub Names : Known → Answer → Type 0
 Names k (Asked request descriptor) = descriptor ≡ named k
-Names k other = Unit {0}
+Names k _ = Unit {0}
 
 abbrev pub NamesAsHeard : {T : Type 0} → Known → List (Done T) → Type 0
 NamesAsHeard k [] = Unit {0}

@@ -7,7 +7,7 @@ use Rattle.tds_service.specs.Line.{Act, Answer}
 -- Why the machine refuses, if it does.
 abbrev pub refusal_in : Answer → Option ClientRefusal
 refusal_in (line.Refused why) = Some why
-refusal_in other = None
+refusal_in _ = None
 
 -- So many packets of a request, none the last.
 abbrev pub packets : {T : Type 0} → ℕ → List (Act T)

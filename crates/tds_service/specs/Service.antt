@@ -89,7 +89,7 @@ holds lease Draining = false
 
 abbrev pub keeps : ℕ → Place → Bool
 keeps ticket (Kept other) = other == ticket
-keeps ticket other = false
+keeps ticket _ = false
 
 -- The lease that holds a connection, where one does.
 abbrev pub lease_in : Place → Option ℕ
@@ -105,11 +105,11 @@ lease_at (Some c) = lease_in c.place
 
 abbrev pub is_free : Place → Bool
 is_free Free = true
-is_free other = false
+is_free _ = false
 
 abbrev pub is_idle : Stage → Bool
 is_idle Idle = true
-is_idle other = false
+is_idle _ = false
 
 abbrev pub has_lease : ℕ → Seat → Bool
 has_lease lease c = holds lease c.place
@@ -243,7 +243,7 @@ rests_cleaned s test c (Some place) = does s s.given test c place [] (Back place
 -- only one that is lent for this is looked at
 abbrev pub clean_place : Place → Line → Option (Option Place)
 clean_place (Cleaning lease) l = rests_clean (is_clean l.heard.mark l.heard.descriptor) l.stage
-clean_place other l = None
+clean_place _ l = None
 
 abbrev pub cleaned : {T : Type 0} → Service → (Seat → Bool) → Option Seat → Step T
 cleaned s test None = nothing s Unknown

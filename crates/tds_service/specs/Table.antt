@@ -105,7 +105,7 @@ is_refused (Lent lease number had) = false
 is_refused (Ticket ticket) = false
 is_refused Did = false
 is_refused (Back place) = false
-is_refused other = true
+is_refused _ = true
 
 -- Numbers of leases and of connections are left: there are 2^64 - 1 of each.
 abbrev pub HasNumbers : Service → Type 0
@@ -162,6 +162,10 @@ pub record Comes (s new : Service) (number : ℕ) (part : Part Token) (lease : O
   pub told : after ≡ before ++ told_in (step s (calls.Came number part)).dones
   pub owner : AllTo request (step s (calls.Came number part)).dones
   pub holder : lease_at (find_by (has_number number) s.seats) ≡ lease
+
+-- It is the number of the connection's newest request.
+abbrev pub IsNewest : ℕ → ℕ → Service → Type 0
+IsNewest number request s = (c : Seat) → find_by (has_number number) s.seats ≡ Some c → request ≡ c.line.asked
 
 -- The same where nobody is told: what would be told is such a list.
 abbrev pub ComesUntold : (s new : Service) → ℕ → Part Token → Option ℕ → ℕ → Answer → Type 0

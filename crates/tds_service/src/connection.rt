@@ -330,6 +330,7 @@ impl Connection {
         ensures fault { IfErr result (λ fault. Hears (end_at self.old.walker) (line_in self.old)
             (line_in self.new) (line.Fault fault) []) }
         ensures anew { self.new.walker ≡ restarted self.old.walker }
+        ensures memory { result ≡ Ok Taken.NoMemory → ⊥ }
         ensures size { self.new.client.size ≡ self.old.client.size }
     {
         hear_end(&mut self.client, &mut self.walker)

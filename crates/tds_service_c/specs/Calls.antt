@@ -136,7 +136,7 @@ Loses number old new n = (answer : Result (Unit {0}) Stop) × (n ≡ done_number
 -- A connection that drains is free once it is idle, as the machine puts it behind what came.
 abbrev pub drained_rest : Place → Stage → Option (Option Place)
 drained_rest Draining stage = Some (Some (drained Draining stage))
-drained_rest other stage = None
+drained_rest _ stage = None
 
 pub record Drains (number : ℕ) (s new : Service) (rest : Rest) : Type 0 where
   pub seat : Seat
@@ -148,7 +148,7 @@ pub record Drains (number : ℕ) (s new : Service) (rest : Rest) : Type 0 where
 abbrev pub DrainsNot : ℕ → Service → Refusal → Type 0
 DrainsNot number s refusals.Unknown = find_by (has_number number) s.seats ≡ None
 DrainsNot number s refusals.NotNow = (c : Seat) × (find_by (has_number number) s.seats ≡ Some c) × (drained_rest c.place c.line.stage ≡ None)
-DrainsNot number s other = ⊥
+DrainsNot number s _ = ⊥
 
 abbrev pub Settling : ℕ → (old new : Held) → Result Rest Stop → Type 0
 Settling number old new (Ok rest) =

@@ -65,7 +65,7 @@ cancelled_seat c = record c { client = record c.client { stage = stage_cancelled
 abbrev pub cancel_bytes_at : code.Stage → Kind → (packets : ℕ) → List ℕ
 cancel_bytes_at stages.Sending kind packets = ignore kind packets ++ attention
 cancel_bytes_at stages.Reading kind packets = attention
-cancel_bytes_at other kind packets = []
+cancel_bytes_at _ kind packets = []
 
 abbrev pub cancel_bytes : TdsSeat → List ℕ
 cancel_bytes c = cancel_bytes_at (seen (stage_of c.client)) (kind_at c.client.kind) c.client.packets

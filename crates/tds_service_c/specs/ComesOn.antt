@@ -43,7 +43,7 @@ pub record KeptOn (c z : TdsSeat) : Type 0 where
 
 abbrev pub is_reading : Stage → Bool
 is_reading line.Reading = true
-is_reading other = false
+is_reading _ = false
 
 -- ---- Where it stands
 

@@ -13,7 +13,8 @@ ghost use Rattle.tds_service.specs.Beginning.{MakesAlike};
 ghost use Rattle.tds_service.specs.Index.{holders_in};
 ghost use Rattle.tds_service.specs.Rising.{numbers_in};
 ghost use Rattle.tds_service.specs.Sizes.{KeepsSize, sizes_in};
-ghost use Rattle.tds_service.specs.Table.{Comes, ComesUntold, KeepsClientsOff, KeepsOthers, ReadsAt};
+ghost use Rattle.tds_service.specs.Table.{Comes, ComesUntold, IsNewest, KeepsClientsOff, KeepsOthers};
+ghost use Rattle.tds_service.specs.Table.{ReadsAt};
 ghost use Rattle.tds_service.specs.Table.{Refuses, place_of};
 ghost use Rattle.tds_service.specs.Table.{reading_by, reading_on, service_in};
 ghost use Rattle.tds_service.specs.Ties.{Hears, line_in};
@@ -122,6 +123,7 @@ impl Service {
         ensures reads { IfOk result (λ came. (r : Reading) → reading_on number self.old ≡ Some r
             → (next : Reading) × (reading_on number self.new ≡ Some next)
             × Reads came.outcome ends (tokens_in r bytes.now).stop next) }
+        ensures asked { IfOk result (λ came. IsNewest number came.request (service_in self.old)) }
         ensures others { KeepsOthers number self.old self.new }
         ensures clients { OnOk result (KeepsClientsOff number self.old self.new) }
         ensures refused { IfErr result (λ refusal. (r : Reading)
@@ -164,6 +166,7 @@ impl Service {
         ensures reads { IfOk result (λ came. (r : Reading) → reading_on number self.old ≡ Some r
             → (next : Reading) × (reading_on number self.new ≡ Some next)
             × Reads came.outcome ends (tokens_in r bytes.now).stop next) }
+        ensures asked { IfOk result (λ came. IsNewest number came.request (service_in self.old)) }
         ensures others { KeepsOthers number self.old self.new }
         ensures clients { OnOk result (KeepsClientsOff number self.old self.new) }
         ensures refused { IfErr result (λ refusal. (r : Reading)
@@ -189,6 +192,7 @@ impl Service {
         ensures reads { IfOk result (λ came. (r : Reading) → reading_on number self.old ≡ Some r
             → (next : Reading) × (reading_on number self.new ≡ Some next)
             × Reads came.outcome ends (tokens_in r bytes.now).stop next) }
+        ensures asked { IfOk result (λ came. IsNewest number came.request (service_in self.old)) }
         ensures others { KeepsOthers number self.old self.new }
         ensures clients { OnOk result (KeepsClientsOff number self.old self.new) }
         ensures refused { IfErr result (λ refusal. (r : Reading)

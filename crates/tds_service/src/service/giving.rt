@@ -184,6 +184,7 @@ impl Service {
         ensures stops { OnOk result (CancelsOut lease self.old out.old.items out.new.items) }
         ensures refused { IfErr result (Refuses (calls.GiveBack lease) (service_in self.old)) }
         ensures err { OnErr result (service_in self.new ≡ service_in self.old) }
+        ensures same { OnErr result (self.new ≡ self.old) }
         ensures nothing { OnErr result (out.new.items ≡ out.old.items) }
         ensures keeps { IfOk result (λ done. KeepsBy done.1 done.0 self.old self.new) }
         ensures keeps_all { OnErr result (Keeps self.old self.new) }
@@ -212,6 +213,7 @@ impl Service {
             (service_in self.new) (calls.Back (rest_of done.1)) done.0 [] []) }
         ensures refused { IfErr result (Refuses (calls.Cleaned lease) (service_in self.old)) }
         ensures err { OnErr result (service_in self.new ≡ service_in self.old) }
+        ensures same { OnErr result (self.new ≡ self.old) }
         ensures keeps { IfOk result (λ done. KeepsBy done.1 done.0 self.old self.new) }
         ensures keeps_all { OnErr result (Keeps self.old self.new) }
         ensures clients { KeepsClients lease self.old self.new }
@@ -237,6 +239,7 @@ impl Service {
             (service_in self.old) (service_in self.new) (calls.Ticket ticket) number [] []) }
         ensures refused { IfErr result (Refuses (calls.Keep lease) (service_in self.old)) }
         ensures err { OnErr result (service_in self.new ≡ service_in self.old) }
+        ensures same { OnErr result (self.new ≡ self.old) }
         ensures keeps { Keeps self.old self.new }
         ensures clients { KeepsClients lease self.old self.new }
         ensures sizes { KeepsSize self.old self.new }
@@ -262,6 +265,7 @@ impl Service {
             (service_in self.new) (calls.Back (rest_of done.1)) done.0 [] []) }
         ensures refused { IfErr result (Refuses (calls.Abandon ticket) (service_in self.old)) }
         ensures err { OnErr result (service_in self.new ≡ service_in self.old) }
+        ensures same { OnErr result (self.new ≡ self.old) }
         ensures keeps { IfOk result (λ done. KeepsBy done.1 done.0 self.old self.new) }
         ensures keeps_all { OnErr result (Keeps self.old self.new) }
         ensures clients { (l : ℕ) → client_of l self.new ≡ client_of l self.old }
@@ -285,6 +289,8 @@ impl Service {
             (service_in self.new) (calls.Back None) number [] []) }
         ensures refused { IfErr result (Refuses (calls.Lost number) (service_in self.old)) }
         ensures err { OnErr result (service_in self.new ≡ service_in self.old) }
+        ensures same { OnErr result (self.new ≡ self.old) }
+        ensures unknown { IfErr result (λ refusal. refusal ≡ Refusal.Unknown) }
         ensures keeps { KeepsOthers number self.old self.new }
         ensures clients { KeepsClientsOff number self.old self.new }
         ensures sizes { KeepsSize self.old self.new }

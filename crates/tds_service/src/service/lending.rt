@@ -192,6 +192,7 @@ impl Service {
             (service_in self.new) (calls.Lent lent.lease lent.number lent.had) lent.number [] []) }
         ensures refused { IfErr result (Refuses (calls.Resume ticket) (service_in self.old)) }
         ensures err { OnErr result (service_in self.new ≡ service_in self.old) }
+        ensures same { OnErr result (self.new ≡ self.old) }
         ensures keeps { Keeps self.old self.new }
         ensures clients { KeepsClients (self.old.given + 1) self.old self.new }
         ensures sizes { KeepsSize self.old self.new }
@@ -222,6 +223,7 @@ impl Service {
             (service_in self.new) (calls.Lent lent.lease lent.number lent.had) lent.number [] []) }
         ensures refused { IfErr result (Refuses (calls.Clean number) (service_in self.old)) }
         ensures err { OnErr result (service_in self.new ≡ service_in self.old) }
+        ensures same { OnErr result (self.new ≡ self.old) }
         ensures keeps { Keeps self.old self.new }
         ensures clients { KeepsClients (self.old.given + 1) self.old self.new }
         ensures sizes { KeepsSize self.old self.new }

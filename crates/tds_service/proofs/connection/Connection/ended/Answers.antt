@@ -1,4 +1,5 @@
 use Rattle.tds_service.proofs.Coming.{ends_ok, ends_fault}
+use Rattle.tds_service.proofs.Ending.{end_needs_none}
 use Rattle.tds_service.proofs.Sizing.{end_keeps}
 use Rattle.tds_service.proofs.connection.Connection.ended.Goals as goal
 
@@ -12,3 +13,6 @@ returns-clause-fault c =
 
 pub returns-clause-size : goal.returns-clause-size
 returns-clause-size c = end_keeps c.args.self.now.client c.hear_end.new.client c.args.self.now.walker c.hear_end.result c.hear_end.ensures.exact c.hear_end.ensures.leaves
+
+pub returns-clause-memory : goal.returns-clause-memory
+returns-clause-memory c = end_needs_none c.args.self.now.client c.hear_end.new.client c.args.self.now.walker c.hear_end.result c.hear_end.ensures.exact

@@ -6,12 +6,12 @@ use Rattle.tds_service.specs.declared.seat.Seat as code
 use Rattle.tds_wire.specs.Reading.{Reading}
 use Rattle.tds_listen.specs.Hearing.{tokens_in}
 use Rattle.tds_service.specs.Packets.{Reads, packet_part, told_of_part, outcome_answer}
-use Rattle.tds_service.specs.Service.{Service, has_number, find_by, hears}
-use Rattle.tds_service.specs.Table.{Comes, ReadsAt, RefusesIn, reading_by, service_in, seats_in}
+use Rattle.tds_service.specs.Service.{Seat, Service, has_number, find_by, hears}
+use Rattle.tds_service.specs.Table.{Comes, ReadsAt, RefusesIn, reading_by, seat_in, service_in, seats_in}
 use Rattle.tds_service.specs.Ties.{line_in}
 use Rattle.tds_service.proofs.Numbered.{same_number}
 use Rattle.tds_service.proofs.Tables.{with_seats, here_in, found_here, meets_here, on_err}
-use Rattle.tds_service.proofs.Arriving.{comes_here, reading_here, reading_behind, same_reading, wants_memory}
+use Rattle.tds_service.proofs.Arriving.{comes_here, reading_here, reading_behind, same_inside, wants_memory}
 use Rattle.tds_service.proofs.Holding.{off_here, on_done}
 use Rattle.tds_service.proofs.Sizing.{keeps_sizes}
 use Rattle.tds_service.proofs.service.Service.came_by.Goals as goal
@@ -41,6 +41,15 @@ returns-in-Some-clause-ok c =
     ))
     c.came_at.ensures.ok
 
+pub returns-in-Some-clause-asked : goal.returns-in-Some-clause-asked
+returns-in-Some-clause-asked c =
+    let items = c.args.self.now.seats.items in
+    let here = here_in (has_number c.args.number) items items c.deref_mut.result.now c.in-Some.index refl c.deref_mut.ensures.value c.in-Some.ensures.first in
+    let found = found_here (has_number c.args.number) items c.deref_mut.result.now c.in-Some.index here in
+    IfOk-weaker c.came_at.result _ _
+    (λ came h seat e. (h here.seat here.at_lent).5 ∙ ap (λ (x : Seat). x.line.asked) (same_inside (seat_in here.seat) seat (sym found ∙ e)))
+    c.came_at.ensures.ok
+
 pub returns-in-Some-clause-reads : goal.returns-in-Some-clause-reads
 returns-in-Some-clause-reads c =
     let items = c.args.self.now.seats.items in
@@ -54,7 +63,7 @@ returns-in-Some-clause-reads c =
     (λ came h r e.
     let k = h here.seat here.at_lent in
     let now = reading_behind c.args.number items lent news index here k.0 c.deref_mut.ensures.value k.1 k.2 in
-    let was = same_reading _ r (sym (reading_here (has_number c.args.number) items lent index here) ∙ e) in (
+    let was = same_inside _ r (sym (reading_here (has_number c.args.number) items lent index here) ∙ e) in (
       k.0.connection.walker,
       ap (reading_by (has_number c.args.number)) items_are ∙ now,
       subst (λ (r : Reading). Reads came.outcome c.args.ends (tokens_in r c.args.bytes.now).stop k.0.connection.walker) was k.3,
