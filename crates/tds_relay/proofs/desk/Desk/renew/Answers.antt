@@ -1,7 +1,8 @@
+use Rattle.std.proofs.Common.{is_some}
 use Rattle.std.proofs.Common.{◌≡◌, ◌∷◌, ◌++◌, [], true, rules}
 use Rattle.std.specs.Prelude.{Some}
 use Rattle.tds_service.specs.Table.{service_in}
-use Rattle.tds_relay.specs.Desk.{find_key, holding, without_lease}
+use Rattle.tds_relay.specs.Desk.{find_key, holding, ticket_in, without_lease}
 use Rattle.tds_relay.specs.Ties.{desk_in}
 use Rattle.tds_relay.proofs.steps.Made.{renewed}
 use Rattle.tds_service.specs.Service as calls

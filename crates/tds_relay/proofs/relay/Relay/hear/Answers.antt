@@ -1,3 +1,4 @@
+use Rattle.tds_relay.specs.Desk.{whose}
 use Rattle.std.proofs.Common.{Option, ap, length, refl, sym, ◌∙◌, rules}
 use Rattle.tds_relay.specs.declared.link.Link.{Link}
 use Rattle.tds_relay.specs.Linking.{Linked}
