@@ -150,9 +150,6 @@ IsNoRequest kinds.Transaction = ⊥
 abbrev pub Nobody : ℕ → Type 0
 Nobody other = ⊥
 
-abbrev pub Anybody : ℕ → Type 0
-Anybody other = Unit {0}
-
 abbrev pub Itself : ℕ → ℕ → Type 0
 Itself key other = other ≡ key
 
@@ -162,10 +159,6 @@ IsWho who other = who ≡ Some other
 -- whose requests wait for a connection
 abbrev pub IsWaiting : List ℕ → ℕ → Type 0
 IsWaiting line other = is_in other line ≡ true
-
--- An application's bytes close it; where others wait, one of them may be lent a connection then that doesn't take its request.
-abbrev pub ItselfOrWaiting : ℕ → List ℕ → ℕ → Type 0
-ItselfOrWaiting key line other = Itself key other ⊎ IsWaiting line other
 
 -- What comes of a connection closes who holds that, or who waits and is lent one.
 abbrev pub WhoOrWaiting : Option ℕ → List ℕ → ℕ → Type 0

@@ -123,11 +123,10 @@ abbrev pub BringsSeat : Option Left → Service → Service → Type 0
 BringsSeat None old new = KeepsSeats old new
 BringsSeat (Some left) old new = SeatIs left.is_there left.number old new
 
--- one that is renewed stays, but where it is to be closed;
+-- one that is renewed stays;
 abbrev pub RenewsSeat : Renewed → Service → Service → Type 0
 RenewsSeat (renewals.Kept hold) old new = KeepsSeats old new
 RenewsSeat renewals.NotKept old new = KeepsSeats old new
-RenewsSeat (renewals.Closed number) old new = SeatStays false number old new
 
 -- and so does one of which a packet was heard.
 abbrev pub HearsSeat : Option Heard → ℕ → Service → Service → Type 0

@@ -34,21 +34,23 @@ use Rattle.tds_relay.specs.declared.relay.Relay as code
 use Rattle.tds_relay.specs.Anew.{ResetsFor}
 use Rattle.tds_relay.specs.Asking.{IsTakenBack}
 use Rattle.tds_relay.specs.Bodies.{Astray, Body, Carries, ClientPuts, ClientStops, Closed, Going, Kept, Nowhere, body_of, last_of}
-use Rattle.tds_relay.specs.Cleaning.{IsBatch, IsPutBehind, MayClean, text_of_cleaning}
+use Rattle.tds_relay.specs.Cleaning.{MayClean}
 use Rattle.tds_relay.specs.Closings.{IsNoRequest, IsWaiting, IsWho}
 use Rattle.tds_relay.specs.Desk as desk
-use Rattle.tds_relay.specs.Desk.{Desk, find_key, turn, without_number}
-use Rattle.tds_relay.specs.Fronts.{ends_in, house_in, told_by}
+use Rattle.tds_relay.specs.Desk.{Desk, find_key, turn}
+use Rattle.tds_relay.specs.Few.{IsSeated}
+use Rattle.tds_relay.specs.Fronts.{MovedOn, ends_in, hall_in, house_in}
 use Rattle.tds_relay.specs.Hall.{AsksFor, End, Ends, IfOpen, IfOpenAsks, Open, Over, asks_by, end_at, holder}
 use Rattle.tds_relay.specs.Handing.{HearsBy, IsNothing}
 use Rattle.tds_relay.specs.House.{House}
 use Rattle.tds_relay.specs.Places.{HasNoTransaction, open_on}
 use Rattle.tds_relay.specs.Posts.{Post, Posts, acknowledgement, fits, give, post_at, post_in, posts_in}
 use Rattle.tds_relay.specs.Coming.{StreamsAnew}
-use Rattle.tds_relay.specs.Reads.{StreamsAll, answer_at, link_at, open_at}
-use Rattle.tds_relay.specs.Sparing.{IsKept}
+use Rattle.tds_relay.specs.Lent.{MayBeLent}
+use Rattle.tds_relay.specs.Reads.{Opens as OpensLinks, OpensOthers, Stays, StreamsAll, answer_at, link_at, open_at}
+use Rattle.tds_relay.specs.Sparing.{AllGo, IsKept, MayKeep}
 use Rattle.tds_relay.specs.Taking.{IsDeaf}
-use Rattle.tds_relay.specs.Ties.{Leaving, Turns, desk_in}
+use Rattle.tds_relay.specs.Ties.{IsReached, Leaving, Turns, desk_in}
 use Rattle.tds_relay.specs.Told.{room_to_keep}
 
 -- ---- Bytes of a request aren't put on the connection that its application holds
@@ -114,11 +116,11 @@ pub data CannotAsk (kind : MessageKind) (bytes : List ℕ) (whole : Bool) (key :
   Unput : (hold : Hold) → find_key key d.holds.items ≡ Some hold → (mid : desks.Desk) → Turns (desk.Does key desk.Asks) (desk_in d) (desk_in mid) [] [] → Opens kind hold.lease d.service mid.service
       → CannotPut whole bytes key end mid links → CannotAsk kind bytes whole key end d links
 
--- Its application holds none; or that is ready for it, and it isn't asked there.
+-- That is ready for it, and it isn't asked there.
 abbrev pub CannotStart : ℕ → Option End → desks.Desk → List Link → Body → Type 0
 CannotStart key end d links Closed = ⊥
 CannotStart key end d links Nowhere = ⊥
-CannotStart key end d links (Kept kind bytes whole) = IsUnheld key d ⊎ (IsReadyThere key end d links × CannotAsk kind bytes whole key end d links)
+CannotStart key end d links (Kept kind bytes whole) = IsReadyThere key end d links × CannotAsk kind bytes whole key end d links
 CannotStart key end d links Astray = ⊥
 CannotStart key end d links (Going number client waits) = ⊥
 
@@ -126,7 +128,7 @@ CannotStart key end d links (Going number client waits) = ⊥
 abbrev pub CannotStartAt : ℕ → code.Relay → Type 0
 CannotStartAt key r = CannotStart key (end_at (ends_in r.applications) key) r.desk r.links.items (body_of key r)
 
--- Or it is ready, and none has begun; or the reset that the request asks for isn't done with it there.
+-- Or it is ready, and none has begun, to which no call leads; or the reset that the request asks for isn't done with it there.
 pub data IsTurnedAway (key : ℕ) (end : Option End) (d : desks.Desk) (links : List Link) (body : Body) : Type 0 where
   Unstarted : CannotStart key end d links body → IsTurnedAway key end d links body
   NoneBegun : IsKept body → IsReadyThere key end d links → IfOpen (IsUnbegun false) end → IsTurnedAway key end d links body
@@ -142,8 +144,8 @@ abbrev pub room_left : Option Application → ℕ
 room_left None = 0
 room_left (Some a) = room_to_keep a
 
--- They are more than may be kept of a request that waits; or none has begun; or with them it is turned away where its application holds a
--- connection.
+-- They are more than may be kept of a request that waits; or none has begun; or with them it is turned away from the connection that its
+-- application holds.
 abbrev pub CannotGoOn : Bool → List ℕ → ℕ → Option End → ℕ → desks.Desk → List Link → Body → Type 0
 CannotGoOn whole more key end room d links Closed = Unit {0}
 CannotGoOn whole more key end room d links Nowhere = Unit {0}
@@ -174,21 +176,19 @@ pub data CannotPart (key : ℕ) (end : Option End) (d : desks.Desk) : Type 0 whe
 abbrev pub HasTransaction : Desk → ℕ → Type 0
 HasTransaction d key = (hold : Hold) × (find_key key d.holds ≡ Some hold) × (open_on d hold.number ≡ Some true)
 
--- What it holds isn't lent to it by another lease, and has to stay; or that is lost so, for want of memory; or it is lent so, and turns its
--- request away.
+-- What it holds isn't lent to it by another lease, and has to stay; or it is lent so, and turns its request away.
 pub data IsUnrenewed (Stays : Type 0) (key : ℕ) (end : Option End) (d : desks.Desk) (links : List Link) (body : Body) : Type 0 where
   Unkept : (resumes : Bool) → (turn (desk_in d) (desk.Renews key resumes)).desk ≡ desk_in d → Stays → IsUnrenewed Stays key end d links body
-  Unlent : (resumes : Bool) (hold : Hold) → find_key key d.holds.items ≡ Some hold → (turn (desk_in d) (desk.Renews key resumes)).desk.holds ≡ without_number hold.number d.holds.items → IsUnrenewed Stays key end d links body
-  Unserved : (resumes : Bool) (mid : desks.Desk) → desk_in mid ≡ (turn (desk_in d) (desk.Renews key resumes)).desk → IsTurnedAway key end mid links body → IsUnrenewed Stays key end d links body
+  Unserved : (resumes : Bool) (mid : desks.Desk) → MayKeep (desk_in d) key → desk_in mid ≡ (turn (desk_in d) (desk.Renews key resumes)).desk → IsTurnedAway key end mid links body → IsUnrenewed Stays key end d links body
 
 -- Packets of its type are no request. Or it isn't asked on the connection that its application holds; or one that is to keep its transaction
--- doesn't: this is open still, and the acknowledgement of what was taken back isn't what it waits for; or it isn't parted from it. Nor is one
--- that asks for a full reset.
+-- doesn't: this is open still, and the acknowledgement of what was taken back isn't what it waits for; or it isn't parted from it. That is so of
+-- one that asks for a full reset too, but no call leads to it: who begins has nothing out, and holds none behind letting it go.
 abbrev pub CannotBegin : Kind → Option Reset → ℕ → Option End → desks.Desk → List Link → Type 0
 CannotBegin kind None key end d links = IsNoRequest kind ⊎ (IsReadyThere key end d links × (message : MessageKind) × (packets_are message ≡ kind) × CannotAsk message [] false key end d links)
 CannotBegin kind (Some KeepTransaction) key end d links =
     IsNoRequest kind
-    ⊎ ((IsTakenBack end → HasNoTransaction (desk_in d) key) × (message : MessageKind) × (packets_are message ≡ kind)
+    ⊎ (IsSome (find_key key d.holds.items) × (IsTakenBack end → HasNoTransaction (desk_in d) key) × (message : MessageKind) × (packets_are message ≡ kind)
     × IsUnrenewed (HasTransaction (desk_in d) key ⊎ CannotPart key end d) key end d links (Kept message [] false))
 CannotBegin kind (Some Full) key end d links = IsNoRequest kind ⊎ CannotPart key end d
 
@@ -277,10 +277,31 @@ ReasonBy bytes key r (Some (Over why)) = ⊥
 abbrev pub GivesReason : List ℕ → ℕ → code.Relay → Type 0
 GivesReason bytes key r = ReasonBy bytes key r (end_at (ends_in r.applications) key)
 
--- By one piece of these, behind others. Or its request waits behind them, and one that waits may be lent a connection that doesn't take it.
+-- One that waits is lent a connection, in turn, and turned away there. Each that is open was so, and what waited there waits still; on this one
+-- nothing else does, unless who waits held it.
+pub record IsLentInVain (r : code.Relay) (other : ℕ) : Type 0 where
+  pub waits : IsWaiting (desk_in r.desk).line other
+  pub free : desks.Desk
+  pub at : code.Relay
+  pub lent : Turns desk.Serves (desk_in free) (desk_in at.desk) [] []
+  pub moved : MovedOn (hall_in r) (hall_in at)
+  pub goes : AllGo r at
+  pub opens : OpensLinks r.links.items at.links.items
+  pub posts : IsReached (desk_in r.desk) → (number : ℕ) → MayBeLent number r.desk.line.items r.desk.holds.items r.links.items free.holds.items at.links.items
+  pub turned : IsTurnedAwayAt other at
+
+-- So it is behind these bytes. A connection that is open behind them was so, and what waited there waits still.
+pub record IsLentBehind (key : ℕ) (bytes : List ℕ) (r : code.Relay) (other : ℕ) : Type 0 where
+  pub mid : code.Relay
+  pub carries : Carries key (house_in r) bytes [] (body_of key r) (body_of key mid) (house_in mid)
+  pub stays : Stays r.links.items mid.links.items
+  pub lent : IsLentInVain mid other
+
+-- By one piece of these, behind others, by which none was opened, and what waited on one waits still. Or behind them it is lent a connection
+-- that doesn't take its request.
 pub data HasReason (key : ℕ) (bytes : List ℕ) (r : code.Relay) : Type 0 where
-  ByPiece : (mid : code.Relay) (left : List ℕ) → Carries key (house_in r) bytes left (body_of key r) (body_of key mid) (house_in mid) → GivesReason left key mid → HasReason key bytes r
-  ByLoan : (mid : code.Relay) → Carries key (house_in r) bytes [] (body_of key r) (body_of key mid) (house_in mid) → IsWaiting (desk_in mid.desk).line key → HasReason key bytes r
+  ByPiece : (mid : code.Relay) (left : List ℕ) → Carries key (house_in r) bytes left (body_of key r) (body_of key mid) (house_in mid) → Stays r.links.items mid.links.items → GivesReason left key mid → HasReason key bytes r
+  ByLoan : IsLentBehind key bytes r key → HasReason key bytes r
 
 -- ---- Whom it may close
 
@@ -288,10 +309,10 @@ pub data HasReason (key : ℕ) (bytes : List ℕ) (r : code.Relay) : Type 0 wher
 abbrev pub ItselfFor : ℕ → Type 0 → ℕ → Type 0
 ItselfFor key Reason other = (other ≡ key) × Reason
 
--- An application's bytes close it for a reason that they have; where others wait, one of them may be lent a connection then that doesn't take
--- its request.
+-- An application's bytes close it for a reason that they have; of others only one that waited, and is lent a connection behind them that
+-- doesn't take its request.
 abbrev pub ForReasonOrWaiting : ℕ → List ℕ → code.Relay → ℕ → Type 0
-ForReasonOrWaiting key bytes r other = ItselfFor key (HasReason key bytes r) other ⊎ ((other ≢ key) × IsWaiting (desk_in r.desk).line other)
+ForReasonOrWaiting key bytes r other = ItselfFor key (HasReason key bytes r) other ⊎ ((other ≢ key) × IsWaiting (desk_in r.desk).line other × IsLentBehind key bytes r other)
 
 -- ---- By what is heard of a packet
 
@@ -299,12 +320,12 @@ ForReasonOrWaiting key bytes r other = ItselfFor key (HasReason key bytes r) oth
 abbrev pub HasTakenBack : Option ℕ → Ends → Type 0
 HasTakenBack key ends = (whose : ℕ) × (key ≡ Some whose) × (IsTakenBack (end_at ends whose) ⊎ IsDeaf (end_at ends whose))
 
--- Whoever is handed it is closed where more would wait for it than may. A connection that is closed for what its server said is its end too.
+-- Whoever is handed it is closed where more would wait for it than may, or its connection is closed for what the server said there.
 abbrev pub LosesBy : What → Option ℕ → Ends → Posts → ℕ → Type 0
 LosesBy whats.Goes key ends posts other = (key ≡ Some other) × IsOverfull (post_at posts other)
 LosesBy whats.Finished key ends posts other = (key ≡ Some other) × IsOverfull (post_at posts other)
 LosesBy whats.Acknowledged key ends posts other = (key ≡ Some other) × IsOverfull (post_at posts other)
-LosesBy whats.Closed key ends posts other = Unit {0}
+LosesBy whats.Closed key ends posts other = key ≡ Some other
 
 -- It isn't parted from its connection, and stays: something is out there, or none has begun; or a transaction is open, or it isn't one that asks
 -- to keep that.
@@ -316,37 +337,35 @@ abbrev pub CannotResume : ℕ → Option End → desks.Desk → List Link → Bo
 CannotResume key end d links body =
     ((¬ AsksFor KeepTransaction end) × IsTurnedAway key end d links body) ⊎ (AsksFor KeepTransaction end × IsUnrenewed (CannotMove key end (desk_in d)) key end d links body)
 
-abbrev pub CannotResumeAt : ℕ → code.Relay → Type 0
-CannotResumeAt key r = CannotResume key (end_at (ends_in r.applications) key) r.desk r.links.items (body_of key r)
-
--- This one was told so, and what it asks doesn't go on; or another holds the connection of this number, which no call leads to.
+-- This one was told so, and what it asks doesn't go on. Or it holds none, or another holds the connection of this number: to these no call leads.
 abbrev pub ResumesNot : ℕ → Option ℕ → Ends → desks.Desk → List Link → Body → ℕ → Type 0
 ResumesNot number key ends d links body other =
-    ((key ≡ Some other) × CannotResume other (end_at ends other) d links body) ⊎ ((key ≢ Some other) × IsWho (holder (desk_in d) number) other)
+    ((key ≡ Some other) × (IsUnheld other d ⊎ CannotResume other (end_at ends other) d links body)) ⊎ ((key ≢ Some other) × IsWho (holder (desk_in d) number) other)
 
 abbrev pub ResumesNotAt : ℕ → ℕ → code.Relay → ℕ → Type 0
 ResumesNotAt number key r other = ResumesNot number (Some key) (ends_in r.applications) r.desk r.links.items (body_of other r) other
 
--- So it is where a header isn't one.
-abbrev pub LosesFor : Option Heard → Ends → Posts → ℕ → Type 0
-LosesFor None ends posts other = Unit {0}
-LosesFor (Some heard) ends posts other = LosesBy heard.what heard.key ends posts other
+-- So is who holds it, where a header isn't one.
+abbrev pub LosesFor : ℕ → Option Heard → Desk → Ends → Posts → ℕ → Type 0
+LosesFor number None d ends posts other = IsWho (holder d number) other
+LosesFor number (Some heard) d ends posts other = LosesBy heard.what heard.key ends posts other
 
--- What goes out there by it is nothing, or a cleaning of what is nobody's, where the connection stays.
-abbrev pub Cleans : Option Heard → List ℕ → List ℕ → Type 0
-Cleans None before after = Unit {0}
-Cleans (Some heard) before after = heard.what ≢ whats.Closed → MayClean heard.key before after
+-- The connection stays.
+abbrev pub IsLeftOpen : Option Heard → Type 0
+IsLeftOpen None = ⊥
+IsLeftOpen (Some heard) = heard.what ≢ whats.Closed
 
--- A cleaning doesn't fit behind what waits.
-abbrev pub IsUnsendable : ℕ → List ℕ → List Link → Type 0
-IsUnsendable number out links = IsPutBehind (IsBatch text_of_cleaning) [] out × HasNoRoom number out links
+-- What goes out there by it is nothing then, or a cleaning of what is nobody's.
+abbrev pub Cleans : Option ℕ → Option Heard → List ℕ → List ℕ → Type 0
+Cleans who heard before after = IsLeftOpen heard → MayClean who before after
 
 -- ---- By bytes that come
 
--- These bytes of a connection are heard so, up to the end of a packet: by its reader, and by the service.
+-- These bytes of a connection that is open are heard so, up to the end of a packet: by its reader, and by the service.
 pub record IsHeardAs (number : ℕ) (left : List ℕ) (heard : Option Heard) (r : code.Relay) (new : House) : Type 0 where
   pub link : Link
   pub there : link_at number r.links.items ≡ Some link
+  pub is_open : link.is_open ≡ true
   pub next : Link
   pub count : ℕ
   pub hears : HearsBy number (reading_on number r.desk.service) link next left count heard (house_in r) new
@@ -360,30 +379,22 @@ HearsNothing (Some heard) = IsNothing heard
 abbrev pub IsIdle : code.Relay → code.Relay → Type 0
 IsIdle old new = (new.desk ≡ old.desk) × (new.outbox.items ≡ [])
 
--- It closes this one; or a cleaning does that goes out by one that is nobody's; or behind what it took back its next request doesn't go on.
+-- It closes this one; or behind what it took back its next request doesn't go on.
 pub data LosesOn (number : ℕ) (left : List ℕ) (r : code.Relay) (other : ℕ) : Type 0 where
-  OfPacket : (heard : Option Heard) (new : House) → IsHeardAs number left heard r new → LosesFor heard (ends_in r.applications) new.posts other → LosesOn number left r other
-  OfSending : (heard : Heard) (new : House) → IsHeardAs number left (Some heard) r new → heard.key ≡ None → (out : List ℕ) → IsUnsendable number out r.links.items → LosesOn number left r other
+  OfPacket : (heard : Option Heard) (new : House) → IsHeardAs number left heard r new → LosesFor number heard (desk_in r.desk) (ends_in r.applications) new.posts other → LosesOn number left r other
   OfResuming : (heard : Heard) (new : House) → IsHeardAs number left (Some heard) r new → heard.what ≡ whats.Acknowledged → HasTakenBack heard.key (ends_in r.applications)
       → (d : desks.Desk) → desk_in d ≡ new.hall.desk → ResumesNot number heard.key new.hall.ends d r.links.items (body_of other r) other → LosesOn number left r other
 
--- They come behind others. Or all have come, and one that waits may be lent a connection that doesn't take its request.
-pub data HeardFor (number : ℕ) (bytes : List ℕ) (r : code.Relay) (other : ℕ) : Type 0 where
+-- They come behind others, by which none was opened, and what waited on one waits still. Or all have come, and one that waits is lent a
+-- connection that doesn't take its request.
+pub data HasHeard (number : ℕ) (bytes : List ℕ) (r : code.Relay) (other : ℕ) : Type 0 where
   ByPacket : (mid : code.Relay) (left : List ℕ)
       → StreamsAnew number (answer_at number r.links.items) (open_at number r.links.items) (house_in r) r.desk.service bytes left (answer_at number mid.links.items) (open_at number mid.links.items) (house_in mid) mid.desk.service
-      → LosesOn number left mid other → HeardFor number bytes r other
+      → OpensOthers number r.links.items mid.links.items → LosesOn number left mid other → HasHeard number bytes r other
   InLine : (mid : code.Relay)
-      → StreamsAll number (open_at number r.links.items) (house_in r) r.desk.service bytes (open_at number mid.links.items) (house_in mid) mid.desk.service → IsWaiting (desk_in mid.desk).line other → HeardFor number bytes r other
+      → StreamsAll number (open_at number r.links.items) (house_in r) r.desk.service bytes (open_at number mid.links.items) (house_in mid) mid.desk.service
+      → OpensOthers number r.links.items mid.links.items → IsLentInVain mid other → HasHeard number bytes r other
 
--- by a packet that has been handed on, by which nothing goes out
-abbrev pub ResumesAt : ℕ → Option Heard → code.Relay → ℕ → Type 0
-ResumesAt number None r other = ⊥
-ResumesAt number (Some heard) r other =
-    (heard.what ≡ whats.Acknowledged) × HasTakenBack heard.key (ends_in r.applications)
-    × (r.outbox.items ≡ [] → ResumesNot number heard.key (told_by (Some heard) (ends_in r.applications)) r.desk r.links.items (body_of other r) other)
-
--- or where something does
--- by a packet that has been handed on
-abbrev pub LosesAt : ℕ → Option Heard → code.Relay → ℕ → Type 0
-LosesAt number heard r other =
-    LosesFor heard (ends_in r.applications) (posts_in r.applications) other ⊎ (((r.outbox.items ≢ []) × HasNoRoom number r.outbox.items r.links.items) ⊎ ResumesAt number heard r other)
+-- where the service has the connections that the relay has, as it has behind each call
+abbrev pub HeardFor : ℕ → List ℕ → code.Relay → ℕ → Type 0
+HeardFor number bytes r other = IsSeated r → HasHeard number bytes r other

@@ -1,10 +1,12 @@
 -- What one application does leaves the requests of all others as they are.
-use Rattle.std.specs.Prelude.{◌≡◌, ◌≢◌, ◌≤◌, ◌⊎◌, true, ◌++◌, ℕ, Bool, List, [], ◌∷◌, Option, Some, None, option_map}
+use Rattle.std.specs.Prelude.{◌≡◌, ◌≢◌, ◌≤◌, ◌⊎◌, true, ◌++◌, ℕ, Bool, List, [], ◌∷◌, IsSome, Option, Some, None, option_map}
 use Rattle.tds_client.specs.declared.message.MessageKind.{MessageKind}
 use Rattle.tds_client.specs.Session.{ClientSession}
 use Rattle.tds_client.specs.Streams.{opened}
 use Rattle.tds_service.specs.declared.service.Service as services
-use Rattle.tds_service.specs.Service.{Seat, Service, has_lease}
+use Rattle.tds_wire.specs.declared.told.Token.{Token}
+use Rattle.tds_service.specs.Service as calls
+use Rattle.tds_service.specs.Service.{Seat, Service, has_lease, step}
 use Rattle.tds_service.specs.Table.{client_of, reading_on, service_in}
 use Rattle.tds_relay.specs.declared.desk.Desk as desks
 use Rattle.tds_relay.specs.declared.desk.Hold.{Hold}
@@ -13,7 +15,7 @@ use Rattle.tds_relay.specs.declared.desk.leaving.Renewed.TheVariants as renewals
 use Rattle.tds_relay.specs.declared.relay.Relay as code
 use Rattle.tds_relay.specs.Asking.{IsTakenBack}
 use Rattle.tds_relay.specs.Bodies.{ArePut, Astray, Body, Closed, Going, Kept, Nowhere, Spared, Starts, body_of}
-use Rattle.tds_relay.specs.Desk.{find_key, find_lease, without_lease, without_number}
+use Rattle.tds_relay.specs.Desk.{Desk, find_key, find_lease, ticket_in, without_lease}
 use Rattle.tds_relay.specs.Fronts.{ends_in}
 use Rattle.tds_relay.specs.Hall.{end_at, holder}
 use Rattle.tds_relay.specs.Promises.{Each}
@@ -73,20 +75,20 @@ AsideHeld number holds old new =
     (h : Hold) (client : ClientSession) → find_lease h.lease holds ≡ Some h → IsAside h.lease number (service_in old) → client_of h.lease old ≡ Some client
     → client_of h.lease new ≡ Some client
 
--- An application keeps its connection by another lease, the last one that is held; or nothing has changed; or that connection is there no
--- more.
+-- An application keeps its connection by another lease, the last one that is held; or nothing has changed.
 abbrev pub IsRenewed : Renewed → ℕ → desks.Desk → desks.Desk → Type 0
 IsRenewed (renewals.Kept hold) key old new =
     (was : Hold) × (find_key key old.holds.items ≡ Some was) × (hold.key ≡ key) × (new.holds.items ≡ without_lease was.lease old.holds.items ++ hold ∷ [])
 IsRenewed renewals.NotKept key old new = desk_in new ≡ desk_in old
-IsRenewed (renewals.Closed number) key old new =
-    (was : Hold) × (find_key key old.holds.items ≡ Some was) × (number ≡ was.number) × (IsLed (service_in old.service) → reading_on number new.service ≡ None)
 
--- where that is there no more, nobody holds it
-abbrev pub IsLostBy : Renewed → ℕ → desks.Desk → desks.Desk → Type 0
-IsLostBy (renewals.Kept hold) key old new = Unit {0}
-IsLostBy renewals.NotKept key old new = Unit {0}
-IsLostBy (renewals.Closed number) key old new = (was : Hold) × (find_key key old.holds.items ≡ Some was) × (new.holds.items ≡ without_number was.number old.holds.items)
+-- The service keeps the connection that this application holds.
+abbrev pub MayKeep : Desk → ℕ → Type 0
+MayKeep d key = (hold : Hold) × (find_key key d.holds ≡ Some hold) × IsSome (ticket_in (step {T = Token} d.service (calls.Keep hold.lease)).reply)
+
+-- Where that is kept, it does.
+abbrev pub IsKeptBy : Renewed → ℕ → Desk → Type 0
+IsKeptBy (renewals.Kept hold) key d = MayKeep d key
+IsKeptBy renewals.NotKept key d = Unit {0}
 
 -- ---- At a relay
 

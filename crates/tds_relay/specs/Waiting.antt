@@ -1,5 +1,5 @@
 -- That no request is forgotten which waits, and why it is turned away as its connection opens.
-use Rattle.std.specs.Prelude.{◌≡◌, ◌≢◌, ◌≤◌, ◌⊎◌, ◌++◌, ℕ, Bool, true, false, length, List, IsSome, Option, Some, None}
+use Rattle.std.specs.Prelude.{◌≡◌, ◌≢◌, ◌≤◌, ◌⊎◌, ◌++◌, ℕ, Bool, true, false, length, List, [], IsSome, Option, Some, None}
 use Rattle.tds_packet.specs.declared.status.Reset.TheVariants.{KeepTransaction}
 use Rattle.tds_client.specs.declared.message.MessageKind.{MessageKind}
 use Rattle.tds_front.specs.declared.front.Said.{Said}
@@ -13,10 +13,11 @@ use Rattle.tds_relay.specs.declared.relay.Relay as code
 use Rattle.tds_relay.specs.Bodies.{Body, Kept, body_of, last_of}
 use Rattle.tds_relay.specs.Closings.{IsWaiting, IsWho}
 use Rattle.tds_relay.specs.Desk.{find_key}
-use Rattle.tds_relay.specs.Fronts.{end_of, ends_in}
+use Rattle.tds_relay.specs.Fronts.{end_of, ends_in, told_by}
+use Rattle.tds_relay.specs.Posts.{posts_in}
 use Rattle.tds_relay.specs.Hall.{AsksFor, IfOpen, IsBegun, end_at, holder, is_in}
 use Rattle.tds_relay.specs.Reads.{open_at, opened_at, post_on}
-use Rattle.tds_relay.specs.Reasons.{IsTurnedAway}
+use Rattle.tds_relay.specs.Reasons.{HasNoRoom, HasTakenBack, IsLeftOpen, IsTurnedAway, IsTurnedAwayAt, IsUnheld, LosesFor, ResumesNot}
 use Rattle.tds_relay.specs.Sparing.{IsHeldBack, IsUnkept}
 use Rattle.tds_relay.specs.Taking.{IsDeaf}
 use Rattle.tds_relay.specs.Ties.{desk_in}
@@ -77,3 +78,22 @@ OpensFor number r other =
 pub record KeepsPosts (old new : List Link) : Type 0 where
   pub posts : (number : ℕ) → post_on number new ≡ post_on number old
   pub opens : (number : ℕ) → IsSome (open_at number new) → IsSome (open_at number old)
+
+-- An application holds none; or it is turned away.
+abbrev pub IsUnheldOrTurnedAway : ℕ → code.Relay → Type 0
+IsUnheldOrTurnedAway key r = IsUnheld key r.desk ⊎ IsTurnedAwayAt key r
+
+-- ---- By a packet that has been handed on
+
+-- Where nothing goes out by it, what its application asks behind what it took back doesn't go on.
+abbrev pub ResumesAt : ℕ → Option Heard → code.Relay → ℕ → Type 0
+ResumesAt number None r other = ⊥
+ResumesAt number (Some heard) r other =
+    (heard.what ≡ whats.Acknowledged) × HasTakenBack heard.key (ends_in r.applications)
+    × (r.outbox.items ≡ [] → ResumesNot number heard.key (told_by (Some heard) (ends_in r.applications)) r.desk r.links.items (body_of other r) other)
+
+-- It closes this one; or what goes out by it to who holds the connection doesn't fit, where that stays.
+abbrev pub LosesAt : ℕ → Option Heard → code.Relay → ℕ → Type 0
+LosesAt number heard r other =
+    LosesFor number heard (desk_in r.desk) (ends_in r.applications) (posts_in r.applications) other
+    ⊎ ((IsWho (holder (desk_in r.desk) number) other × (IsLeftOpen heard → (r.outbox.items ≢ []) × HasNoRoom number r.outbox.items r.links.items)) ⊎ ResumesAt number heard r other)

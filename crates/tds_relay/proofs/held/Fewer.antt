@@ -192,7 +192,7 @@ whose_holds d n key reached e =
     let found : find_number handed.hold.number d.holds ≡ Some handed.hold = leased_number handed.hold.lease handed.hold d.holds (apart_at d reached) handed.its in
     ap (λ (k : ℕ). key_of (find_number k d.holds)) (sym here) ∙ ap key_of found ∙ ap (λ (k : ℕ). Some k) handed.key_is
 
--- ---- One is kept by another lease
+-- ---- Who holds one
 
 each_number_by : (P : Hold → Type 0) (n : ℕ) (h x : Hold) (xs : List Hold) (b : Bool) → P x → (if b then Some x else find_number n xs) ≡ Some h → (find_number n xs ≡ Some h → P h) → P h
 each_number_by P n h x xs true p e f = let same : x ≡ h = cc in subst P same p
@@ -202,11 +202,37 @@ pub each_number : (P : Hold → Type 0) (n : ℕ) (h : Hold) (hs : List Hold) �
 each_number P n h [] k e = absurd (let u : ⊥ = cc in u)
 each_number P n h (x ∷ xs) k e = each_number_by P n h x xs (x.number == n) k.0 e (λ f. each_number P n h xs k.1 f)
 
+none_each_by : (key : ℕ) (x : Hold) (xs : List Hold) (b : Bool) → (x.key == key) ≡ b → (if b then Some x else find_key key xs) ≡ None → (find_key key xs ≡ None → Each (λ (y : Hold). y.key ≢ key) xs) → Each (λ (y : Hold). y.key ≢ key) (x ∷ xs)
+none_each_by key x xs true is e rest = absurd (let u : Some x ≡ None = e in let v : ⊥ = cc in v)
+none_each_by key x xs false is e rest = ((λ same. (let u : true ≡ false = sym (eq-eqb x.key key same) ∙ is in let v : ⊥ = cc in v)), rest e)
+
+none_each : (key : ℕ) (hs : List Hold) → find_key key hs ≡ None → Each (λ (y : Hold). y.key ≢ key) hs
+none_each key [] e = tt
+none_each key (x ∷ xs) e = none_each_by key x xs (x.key == key) refl e (λ f. none_each key xs f)
+
+last_each : (P : Hold → Type 0) (h : Hold) (hs : List Hold) → Each P (hs ++ h ∷ []) → P h
+last_each P h [] k = k.0
+last_each P h (x ∷ xs) k = last_each P h xs k.1
+
+-- whoever is lent one
+pub last_held : (key : ℕ) (h : Hold) (hs : List Hold) → h.key ≡ key → find_key key (hs ++ h ∷ []) ≡ None → ⊥
+last_held key h hs its none = last_each (λ (y : Hold). y.key ≢ key) h hs (none_each key (hs ++ h ∷ []) none) its
+
+held_by : (number key : ℕ) (hs : List Hold) (o : Option Hold) → find_number number hs ≡ o → key_of o ≡ Some key → find_key key hs ≡ None → ⊥
+held_by number key hs None is its none = (let u : None ≡ Some key = its in let v : ⊥ = cc in v)
+held_by number key hs (Some h) is its none = each_number (λ (y : Hold). y.key ≢ key) number h hs (none_each key hs none) is (let u : Some h.key ≡ Some key = its in cc)
+
+-- whoever holds the connection of a number
+pub who_held : (number key : ℕ) (hs : List Hold) → key_of (find_number number hs) ≡ Some key → find_key key hs ≡ None → ⊥
+who_held number key hs its none = held_by number key hs (find_number number hs) refl its none
+
+-- ---- One is kept by another lease
+
 number_by : (n : ℕ) (h x : Hold) (xs : List Hold) (b : Bool) → (x.number == n) ≡ b → (if b then Some x else find_number n xs) ≡ Some h → (find_number n xs ≡ Some h → h.number ≡ n) → h.number ≡ n
 number_by n h x xs true is e f = let same : x ≡ h = cc in ap (λ (y : Hold). y.number) (sym same) ∙ eqb-true x.number n is
 number_by n h x xs false is e f = f e
 
-number_is : (n : ℕ) (h : Hold) (hs : List Hold) → find_number n hs ≡ Some h → h.number ≡ n
+pub number_is : (n : ℕ) (h : Hold) (hs : List Hold) → find_number n hs ≡ Some h → h.number ≡ n
 number_is n h [] e = absurd (let u : ⊥ = cc in u)
 number_is n h (x ∷ xs) e = number_by n h x xs (x.number == n) refl e (λ f. number_is n h xs f)
 

@@ -3,7 +3,7 @@ use Rattle.std.proofs.Common.{◌≡◌, ◌⊎◌, ◌∙◌, ℕ, true, List, 
 use Rattle.std.specs.Prelude.{Result, Ok, Err, OnOk}
 use Rattle.tds_relay.specs.declared.order.Order.{Order}
 use Rattle.tds_relay.specs.declared.order.Order.TheVariants as orders
-use Rattle.tds_relay.specs.Closings.{Anybody, ClosesOnly, IsDue, IsToWriteAll, KeptBeside, Nobody, OfApplication, OfConnection, Register, Settings, but_told, is_shut, is_shut_at, open_name}
+use Rattle.tds_relay.specs.Closings.{ClosesOnly, IsDue, IsToWriteAll, KeptBeside, Nobody, OfApplication, OfConnection, Register, Settings, but_told, is_shut, is_shut_at, open_name}
 use Rattle.tds_relay.specs.Hall.{Ends, end_at}
 use Rattle.tds_relay.specs.Closings.{name_with}
 use Rattle.tds_relay.specs.Ordering.{IsOrdered, StayOrdered}
@@ -197,16 +197,6 @@ closes_first r May a b c k h = closes_on r May a b c k (closes_nobody May a b h)
 -- whoever is, then, is one of these
 pub closes_next : {A E : Type 0} (r : Result A E) (May More : ℕ → Type 0) (a b c : Register) → ((key : ℕ) → May key → More key) → OnOk r (ClosesOnly May b c) → ClosesOnly Nobody a b → OnOk r (ClosesOnly More a c)
 closes_next r May More a b c f k h = closes_on r More a b c (closes_more_on r May More b c f k) (closes_nobody More a b h)
-
--- somebody
-pub anybody : (May : ℕ → Type 0) (a b : Register) → ClosesOnly May a b → ClosesOnly Anybody a b
-anybody May a b h = closes_more May Anybody a b (λ key may. tt) h
-
-pub anybody_on : {A E : Type 0} (r : Result A E) (May : ℕ → Type 0) (a b c : Register) → OnOk r (ClosesOnly May b c) → ClosesOnly Anybody a b → OnOk r (ClosesOnly Anybody a c)
-anybody_on r May a b c k h = closes_with r May Anybody a b c (λ key may. tt) k h
-
-pub anybody_then : {A E : Type 0} (r : Result A E) (May : ℕ → Type 0) (a b : Register) → OnOk r (ClosesOnly May a b) → OnOk r (ClosesOnly Anybody a b)
-anybody_then r May a b h = closes_more_on r May Anybody a b (λ key may. tt) h
 
 -- ---- A packet that comes
 

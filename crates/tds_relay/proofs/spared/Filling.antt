@@ -126,7 +126,7 @@ own_pushed key number had old new l its is e =
 
 -- ---- Whoever has waited longest is lent one
 
-lent_holds : (d e : Desk) (served : Served) (others : List ℕ) → e ≡ (turn d Serves).desk → d.line ≡ served.hold.key ∷ others
+pub lent_holds : (d e : Desk) (served : Served) (others : List ℕ) → e ≡ (turn d Serves).desk → d.line ≡ served.hold.key ∷ others
     → (step {T = Token} d.service calls.Lease).reply ≡ Lent served.hold.lease served.hold.number served.had → e.holds ≡ d.holds ++ served.hold ∷ []
 lent_holds d e served others is line reply =
     ap (λ (x : Desk). x.holds) is ∙ ap (λ (ks : List ℕ). (serves d ks).desk.holds) line ∙ ap (λ (r : Reply). (serves_by d served.hold.key others (lent_in r)).desk.holds) reply

@@ -6,7 +6,7 @@ use Rattle.tds_service.specs.Service as calls
 use Rattle.tds_service.specs.Service.{Call, Service, lease_at, seat_numbered, step}
 use Rattle.tds_relay.specs.declared.desk.Hold.{Hold}
 use Rattle.tds_relay.specs.declared.desk.Served.{Served}
-use Rattle.tds_relay.specs.Closings.{IsWaiting, ItselfOrWaiting}
+use Rattle.tds_relay.specs.Closings.{IsWaiting, Itself}
 use Rattle.tds_relay.specs.Desk as desk
 use Rattle.tds_relay.specs.Desk.{Deed, Desk, Event, Hearing, Loan, Way, brings_by, comes, comes_by, desk_after, does, find_key, hearing, keeps_by, leaves, lent_in, renews, renews_by, serves, serves_by, ticket_in, turn}
 use Rattle.tds_relay.specs.Hall.{Hall, is_in}
@@ -134,6 +134,10 @@ pub waited_left : (left : ℕ) (old new : Desk) → Leaving left old new → (ke
 waited_left left old new l key there =
     let mid = (turn old (desk.Leaves left l.0 l.1)).desk in
     was_in (is_in key old.line) key old.line mid.line refl (leaves_out old key left l.0 l.1 (find_key left old.holds)) (waited_on mid new l.2 key there)
+
+-- it, or one that waits
+abbrev pub ItselfOrWaiting : ℕ → List ℕ → ℕ → Type 0
+ItselfOrWaiting key line other = Itself key other ⊎ IsWaiting line other
 
 itself_or : (asking : ℕ) (old new : Desk) (key : ℕ) → (key ≡ asking) ⊎ (key ≢ asking) → Goes (Application asking) old new → IsWaiting new.line key → ItselfOrWaiting asking old.line key
 itself_or asking old new key (inl same) goes there = inl same

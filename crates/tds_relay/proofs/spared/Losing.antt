@@ -1,6 +1,6 @@
 -- Why an application is closed by what comes: a packet behind the other.
 use Rattle.std.proofs.Common.{◌≡◌, ◌≢◌, ◌⊎◌, ◌∙◌, ◌==◌, length, ℕ, Bool, true, false, List, [], Option, Some, None, inl, inr, refl, sym, ap, subst, if◌then◌else◌, slice_index_or}
-use Rattle.std.specs.Prelude.{IfOk, Result, Ok, Err}
+use Rattle.std.specs.Prelude.{IfOk, Result, Ok, Err, is_some}
 use Rattle.slab.specs.Slab.{Slab, get}
 use Rattle.tds_front.specs.declared.fault.FrontFault.{FrontFault}
 use Rattle.tds_front.specs.declared.front.Front.{Front}
@@ -15,7 +15,16 @@ use Rattle.tds_relay.specs.declared.relay.Relay as code
 use Rattle.tds_relay.specs.Asking.{IsTakenBack}
 use Rattle.tds_relay.specs.Bodies.{AskAsBefore, Nowhere, Spared, body_in, body_of, going_of}
 use Rattle.tds_relay.specs.Coming.{MayBeDone}
-use Rattle.tds_relay.specs.Desk.{find_key}
+use Rattle.tds_relay.specs.Desk.{Desk, find_key, find_lease, find_number, key_of, whose, whose_by}
+use Rattle.tds_relay.specs.declared.desk.Hold.{Hold}
+use Rattle.tds_relay.specs.Few.{AreSeated, IsSeated}
+use Rattle.tds_relay.specs.Told.{is_there}
+use Rattle.tds_service.specs.Service.{Leased, Place, Seat, Service, lease_at, lease_in, seat_numbered}
+use Rattle.tds_relay.proofs.held.Fewer.{each_number, number_is}
+use Rattle.tds_relay.proofs.held.Seated.{both_each, each_found_by}
+use Rattle.tds_relay.proofs.held.Sitting.{Sits}
+use Rattle.tds_relay.proofs.spared.Held.{sits_at, sound_at}
+use Rattle.tds_relay.proofs.spared.Only.{apart_or}
 use Rattle.tds_relay.specs.declared.desk.Desk as desks
 use Rattle.tds_relay.specs.Cleaning.{MayClean}
 use Rattle.tds_relay.specs.Closings.{ClosesOnly, IsWho, register_in}
@@ -24,10 +33,10 @@ use Rattle.tds_relay.specs.Hall.{End, Ends, Open, Over, end_at, holder}
 use Rattle.tds_relay.specs.Handing.{HearsBy, IsNothing}
 use Rattle.tds_relay.specs.House.{House}
 use Rattle.tds_relay.specs.Posts.{Posts, post_at, posts_in}
-use Rattle.tds_relay.specs.Reads.{place_of}
-use Rattle.tds_relay.specs.Reasons.{Cleans, HasNoRoom, HasTakenBack, HearsNothing, IsHeardAs, IsIdle, IsOverfull, ItselfFor, LosesAt, LosesBy, LosesFor, LosesOn, OfPacket, OfResuming, OfSending, ResumesAt, ResumesNot, ResumesNotAt}
+use Rattle.tds_relay.specs.Reads.{link_at, place_of}
+use Rattle.tds_relay.specs.Reasons.{Cleans, HasNoRoom, HasTakenBack, HearsNothing, IsHeardAs, IsIdle, IsLeftOpen, IsOverfull, ItselfFor, LosesBy, LosesFor, LosesOn, OfPacket, OfResuming, ResumesNot, ResumesNotAt}
 use Rattle.tds_relay.specs.Sparing.{IsKept}
-use Rattle.tds_relay.specs.Waiting.{KeepsPosts}
+use Rattle.tds_relay.specs.Waiting.{KeepsPosts, LosesAt, ResumesAt}
 use Rattle.tds_relay.specs.Taking.{IsDeaf}
 use Rattle.tds_relay.specs.Ties.{desk_in}
 use Rattle.tds_relay.proofs.spared.Closings.{closes_both, closes_more}
@@ -49,27 +58,27 @@ taken_or_deaf s key a is withdrawn = subst (λ (o : Option End). IsTakenBack o �
 -- ---- A packet
 
 pub heard_as : {E : Type 0} (r : Result (ℕ × Option Heard) E) (Idle : Type 0) (number : ℕ) (piece : List ℕ) (place : ℕ) (l m : Link) (old : code.Relay) (new : Option Heard → House) → place_of number old.links.items ≡ Some place
-    → l ≡ slice_index_or old.links.items place l → IfOk r (λ heard. HearsBy number (reading_on number old.desk.service) l m piece heard.0 heard.1 (house_in old) (new heard.1))
+    → l ≡ slice_index_or old.links.items place l → l.is_open ≡ true → IfOk r (λ heard. HearsBy number (reading_on number old.desk.service) l m piece heard.0 heard.1 (house_in old) (new heard.1))
     → IfOk r (λ heard. (HearsNothing heard.1 × Idle) ⊎ IsHeardAs number piece heard.1 old (new heard.1))
-heard_as (Ok x) Idle number piece place l m old new is value h =
+heard_as (Ok x) Idle number piece place l m old new is value opened h =
     let at : IsAt number old.links.items place = is_at number old.links.items place is in
-    inr (record { link = l; there = at.found l ∙ ap Some (sym value); next = m; count = x.0; hears = h })
-heard_as (Err e) Idle number piece place l m old new is value h = tt
+    inr (record { link = l; there = at.found l ∙ ap Some (sym value); is_open = opened; next = m; count = x.0; hears = h })
+heard_as (Err e) Idle number piece place l m old new is value opened h = tt
 
 full_by : (what : What) (key : Option ℕ) (ends : Ends) (posts : Posts) (other : ℕ) → key ≡ Some other → IsOverfull (post_at posts other) → LosesBy what key ends posts other
 full_by whats.Goes key ends posts other its full = (its, full)
 full_by whats.Finished key ends posts other its full = (its, full)
 full_by whats.Acknowledged key ends posts other its full = (its, full)
-full_by whats.Closed key ends posts other its full = tt
+full_by whats.Closed key ends posts other its full = its
 
-as_heard : (o : Option Heard) (h : Heard) (ends : Ends) (posts : Posts) (other : ℕ) → o ≡ Some h → LosesBy h.what h.key ends posts other → LosesFor o ends posts other
-as_heard o h ends posts other is loses = subst (λ (x : Option Heard). LosesFor x ends posts other) (sym is) loses
+as_heard : (number : ℕ) (d : Desk) (o : Option Heard) (h : Heard) (ends : Ends) (posts : Posts) (other : ℕ) → o ≡ Some h → LosesBy h.what h.key ends posts other → LosesFor number o d ends posts other
+as_heard number d o h ends posts other is loses = subst (λ (x : Option Heard). LosesFor number x d ends posts other) (sym is) loses
 
 -- who is written to is full
 pub write_loses : (number : ℕ) (o : Option Heard) (h : Heard) (key : ℕ) (old : code.Relay) (posts : Posts) → o ≡ Some h → h.key ≡ Some key → posts ≡ posts_in old.applications
     → (other : ℕ) → ItselfFor key (IsOverfull (post_at posts key)) other → LosesAt number o old other
 write_loses number o h key old posts is its same other x =
-    inl (as_heard o h (ends_in old.applications) (posts_in old.applications) other is
+    inl (as_heard number (desk_in old.desk) o h (ends_in old.applications) (posts_in old.applications) other is
     (full_by h.what h.key (ends_in old.applications) (posts_in old.applications) other (its ∙ ap Some (sym x.0)) (subst (λ (n : ℕ). IsOverfull (post_at (posts_in old.applications) n)) (sym x.0) (subst (λ (ps : Posts). IsOverfull (post_at ps key)) same x.1))))
 
 done_kept : (key : ℕ) (r r0 : code.Relay) → (Spared (body_in (get r0.applications key) (going_of key r)) (body_in (get r.applications key) (going_of key r)))
@@ -94,12 +103,12 @@ resumes_loses number o h key old told sent is what taken its desk links out ends
     (subst (λ (ls : List Link). KeepsPosts ls told.links.items) links (as_refl told.links.items)) (done_kept other told old (done other (going_of other told))) here)) in
     inr (inr (subst (λ (x : Option Heard). ResumesAt number x old other) (sym is) (what, taken, at)))
 
-closed_loses : (number : ℕ) (o : Option Heard) (h : Heard) (old : code.Relay) → o ≡ Some h → h.what ≡ whats.Closed → (other : ℕ) → LosesAt number o old other
-closed_loses number o h old is what other =
-    inl (as_heard o h (ends_in old.applications) (posts_in old.applications) other is (subst (λ (w : What). LosesBy w h.key (ends_in old.applications) (posts_in old.applications) other) (sym what) tt))
+closed_loses : (number : ℕ) (o : Option Heard) (h : Heard) (old : code.Relay) → o ≡ Some h → h.what ≡ whats.Closed → (other : ℕ) → h.key ≡ Some other → LosesAt number o old other
+closed_loses number o h old is what other its =
+    inl (as_heard number (desk_in old.desk) o h (ends_in old.applications) (posts_in old.applications) other is (subst (λ (w : What). LosesBy w h.key (ends_in old.applications) (posts_in old.applications) other) (sym what) its))
 
-pub nothing_loses : (number : ℕ) (o : Option Heard) (old : code.Relay) → o ≡ None → (other : ℕ) → LosesAt number o old other
-nothing_loses number o old is other = inl (subst (λ (x : Option Heard). LosesFor x (ends_in old.applications) (posts_in old.applications) other) (sym is) tt)
+pub nothing_loses : (number : ℕ) (o : Option Heard) (old : code.Relay) → o ≡ None → (other : ℕ) → IsWho (holder (desk_in old.desk) number) other → LosesAt number o old other
+nothing_loses number o old is other who = inl (subst (λ (x : Option Heard). LosesFor number x (desk_in old.desk) (ends_in old.applications) (posts_in old.applications) other) (sym is) who)
 
 is_closed : (what : What) → (what ≡ whats.Closed) ⊎ (what ≢ whats.Closed)
 is_closed whats.Goes = inr (λ e. (let u : whats.Goes ≡ whats.Closed = e in cc))
@@ -108,24 +117,50 @@ is_closed whats.Acknowledged = inr (λ e. (let u : whats.Acknowledged ≡ whats.
 is_closed whats.Closed = inl refl
 
 -- what goes out doesn't fit
-unsent_loses : (number : ℕ) (o : Option Heard) (h : Heard) (old told : code.Relay) → o ≡ Some h → told.links.items ≡ old.links.items → (h.what ≢ whats.Closed → told.outbox.items ≡ old.outbox.items) → (other : ℕ)
-    → (h.what ≡ whats.Closed) ⊎ (h.what ≢ whats.Closed) → HasNoRoom number told.outbox.items told.links.items → told.outbox.items ≢ [] → LosesAt number o old other
-unsent_loses number o h old told is links out other (inl closed) none some = closed_loses number o h old is closed other
-unsent_loses number o h old told is links out other (inr lasts) none some = inr (inl (
-  (λ e. some (out lasts ∙ e)),
-  subst (λ (xs : List ℕ). HasNoRoom number xs old.links.items) (out lasts) (subst (λ (ls : List Link). HasNoRoom number told.outbox.items ls) links none),
-))
+unsent_loses : (number : ℕ) (o : Option Heard) (h : Heard) (old told : code.Relay) → o ≡ Some h → told.desk ≡ old.desk → told.links.items ≡ old.links.items → (h.what ≢ whats.Closed → told.outbox.items ≡ old.outbox.items) → (other : ℕ)
+    → IsWho (holder (desk_in told.desk) number) other → HasNoRoom number told.outbox.items told.links.items → told.outbox.items ≢ [] → LosesAt number o old other
+unsent_loses number o h old told is same links out other who none some =
+    inr (inl (
+      ap (λ (d : desks.Desk). holder (desk_in d) number) (sym same) ∙ who,
+      (λ left.
+          let lasts : h.what ≢ whats.Closed = subst IsLeftOpen is left in (
+            (λ e. some (out lasts ∙ e)),
+            subst (λ (xs : List ℕ). HasNoRoom number xs old.links.items) (out lasts) (subst (λ (ls : List Link). HasNoRoom number told.outbox.items ls) links none),
+          )),
+    ))
 
 -- it is told, and what goes out is sent
-pub sent_closes : (number : ℕ) (o : Option Heard) (h : Heard) (old told sent : code.Relay) → o ≡ Some h → (h.what ≢ whats.Closed → told.outbox.items ≡ old.outbox.items) → told.links.items ≡ old.links.items
-    → ClosesOnly (λ other. h.what ≡ whats.Closed) (register_in old) (register_in told)
+pub sent_closes : (number : ℕ) (o : Option Heard) (h : Heard) (old told sent : code.Relay) → o ≡ Some h → (h.what ≢ whats.Closed → told.outbox.items ≡ old.outbox.items) → told.desk ≡ old.desk → told.links.items ≡ old.links.items
+    → ClosesOnly (λ other. (h.key ≡ Some other) × (h.what ≡ whats.Closed)) (register_in old) (register_in told)
     → ClosesOnly (λ other. IsWho (holder (desk_in told.desk) number) other × HasNoRoom number told.outbox.items told.links.items × (told.outbox.items ≢ [])) (register_in told) (register_in sent)
     → ClosesOnly (LosesAt number o old) (register_in old) (register_in sent)
-sent_closes number o h old told sent is out links tells sends =
+sent_closes number o h old told sent is out same links tells sends =
     closes_both (LosesAt number o old) (register_in old) (register_in told) (register_in sent)
-    (closes_more (λ other. h.what ≡ whats.Closed) (LosesAt number o old) (register_in old) (register_in told) (λ other closed. closed_loses number o h old is closed other) tells)
+    (closes_more (λ other. (h.key ≡ Some other) × (h.what ≡ whats.Closed)) (LosesAt number o old) (register_in old) (register_in told) (λ other x. closed_loses number o h old is x.1 other x.0) tells)
     (closes_more (λ other. IsWho (holder (desk_in told.desk) number) other × HasNoRoom number told.outbox.items told.links.items × (told.outbox.items ≢ [])) (LosesAt number o old) (register_in told) (register_in sent)
-    (λ other x. unsent_loses number o h old told is links (λ lasts. out lasts) other (is_closed h.what) x.1 x.2) sends)
+    (λ other x. unsent_loses number o h old told is same links (λ lasts. out lasts) other x.0 x.1 x.2) sends)
+
+-- ---- Whose it is that somebody holds
+
+key_found : (d : Desk) (number other : ℕ) (o : Option Hold) → find_number number d.holds ≡ o → key_of o ≡ Some other → (hold : Hold) × (find_number number d.holds ≡ Some hold) × (hold.key ≡ other)
+key_found d number other None is key = absurd (let u : None ≡ Some other = key in let v : ⊥ = cc in v)
+key_found d number other (Some h) is key = (h, is, (let u : Some h.key ≡ Some other = key in cc))
+
+seat_found : (number : ℕ) (s : Service) (o : Option Seat) → seat_numbered number s.seats ≡ o → is_some o ≡ true → (c : Seat) × (seat_numbered number s.seats ≡ Some c)
+seat_found number s None is some = absurd (let u : false ≡ true = some in let v : ⊥ = cc in v)
+seat_found number s (Some c) is some = (c, is)
+
+holder_whose : (d : Desk) (ls : List Link) (number other : ℕ) → AreSeated d ls → is_there number ls ≡ true → holder d number ≡ Some other → whose d number ≡ Some other
+holder_whose d ls number other s there is =
+    let hs = d.holds in
+    let P : Hold → Type 0 = λ (y : Hold). Sits d.service y in
+    let Q : Hold → Type 0 = λ (y : Hold). find_lease y.lease hs ≡ Some y in
+    let x = key_found d number other (find_number number hs) refl is in
+    let h : Hold = x.0 in
+    let has : P h × Q h = each_number (λ (y : Hold). P y × Q y) number h hs (both_each P Q hs (sits_at d s.reached) (each_found_by 0 d.service.given hs (sound_at d s.reached).rising)) x.1 in
+    let c = seat_found number d.service (seat_numbered number d.service.seats) refl (s.each number ∙ there) in
+    let lent : c.0.place ≡ Leased h.lease = has.0.lent c.0 (ap (λ (n : ℕ). seat_numbered n d.service.seats) (number_is number h hs x.1) ∙ c.1) in
+    ap (λ (o : Option Seat). whose_by (lease_at o) hs) c.1 ∙ ap (λ (p : Place). whose_by (lease_in p) hs) lent ∙ ap key_of has.1 ∙ ap (λ (k : ℕ). Some k) x.2
 
 -- ---- In a call
 
@@ -135,71 +170,111 @@ nothing_key key what ends posts other none goes loses =
     (let u : None ≡ Some other = sym none ∙ x.0 in cc)
 
 -- of what nothing came nobody is
-of_nothing : (number : ℕ) (left : List ℕ) (o : Option Heard) (mid : code.Relay) (ends : Ends) (posts : Posts) (other : ℕ) → HearsNothing o → LosesFor o ends posts other → LosesOn number left mid other
-of_nothing number left None mid ends posts other none loses = absurd none
-of_nothing number left (Some h) mid ends posts other none loses = absurd (nothing_key h.key h.what ends posts other none.0 none.1 loses)
+of_nothing : (number : ℕ) (left : List ℕ) (o : Option Heard) (mid : code.Relay) (d : Desk) (ends : Ends) (posts : Posts) (other : ℕ) → HearsNothing o → LosesFor number o d ends posts other → LosesOn number left mid other
+of_nothing number left None mid d ends posts other none loses = absurd none
+of_nothing number left (Some h) mid d ends posts other none loses = absurd (nothing_key h.key h.what ends posts other none.0 none.1 loses)
 
-by_packet : (number : ℕ) (left : List ℕ) (o : Option Heard) (mid : code.Relay) (new : House) (other : ℕ) (Idle : Type 0) → (HearsNothing o × Idle) ⊎ IsHeardAs number left o mid new → LosesFor o (ends_in mid.applications) new.posts other → LosesOn number left mid other
-by_packet number left o mid new other Idle (inl none) loses = of_nothing number left o mid (ends_in mid.applications) new.posts other none.0 loses
-by_packet number left o mid new other Idle (inr heard) loses = OfPacket o new heard loses
+-- who holds it where a header isn't one held it before
+for_before : (number : ℕ) (left : List ℕ) (o : Option Heard) (mid next : code.Relay) (new : House) (ends : Ends) (posts : Posts) (other : ℕ) → IsHeardAs number left o mid new → desk_in next.desk ≡ new.hall.desk
+    → LosesFor number o (desk_in next.desk) ends posts other → LosesFor number o (desk_in mid.desk) ends posts other
+for_before number left None mid next new ends posts other heard is loses = ap (λ (d : Desk). holder d number) (sym (is ∙ ap (λ (h : House). h.hall.desk) heard.hears.1)) ∙ loses
+for_before number left (Some h) mid next new ends posts other heard is loses = loses
 
-sends_by : (number : ℕ) (left out : List ℕ) (h : Heard) (mid : code.Relay) (new : House) (other : ℕ) → IsHeardAs number left (Some h) mid new → MayClean h.key [] out → out ≢ [] → HasNoRoom number out mid.links.items → LosesOn number left mid other
-sends_by number left out h mid new other heard (inl same) some none = absurd (some same)
-sends_by number left out h mid new other heard (inr cleans) some none = OfSending h new heard cleans.0 out (cleans.1, none)
+by_packet : (number : ℕ) (left : List ℕ) (o : Option Heard) (mid next : code.Relay) (new : House) (other : ℕ) (Idle : Type 0) → (HearsNothing o × Idle) ⊎ IsHeardAs number left o mid new → desk_in next.desk ≡ new.hall.desk
+    → LosesFor number o (desk_in next.desk) (ends_in mid.applications) new.posts other → LosesOn number left mid other
+by_packet number left o mid next new other Idle (inl none) is loses = of_nothing number left o mid (desk_in next.desk) (ends_in mid.applications) new.posts other none.0 loses
+by_packet number left o mid next new other Idle (inr heard) is loses = OfPacket o new heard (for_before number left o mid next new (ends_in mid.applications) new.posts other heard is loses)
 
-sends_or : (number : ℕ) (left out : List ℕ) (h : Heard) (mid : code.Relay) (new : House) (other : ℕ) → IsHeardAs number left (Some h) mid new → Cleans (Some h) [] out → out ≢ [] → HasNoRoom number out mid.links.items
-    → (h.what ≡ whats.Closed) ⊎ (h.what ≢ whats.Closed) → LosesOn number left mid other
-sends_or number left out h mid new other heard cleans some none (inl closed) =
-    OfPacket (Some h) new heard (subst (λ (w : What). LosesBy w h.key (ends_in mid.applications) new.posts other) (sym closed) tt)
-sends_or number left out h mid new other heard cleans some none (inr lasts) = sends_by number left out h mid new other heard (cleans lasts) some none
+there_as : (number : ℕ) (ls : List Link) (l : Link) → link_at number ls ≡ Some l → is_there number ls ≡ true
+there_as number ls l is = ap (λ (o : Option Link). is_some o) is
 
-by_sending : (number : ℕ) (left out : List ℕ) (o : Option Heard) (mid : code.Relay) (new : House) (other : ℕ) → IsHeardAs number left o mid new → Cleans o [] out → out ≢ [] → HasNoRoom number out mid.links.items → LosesOn number left mid other
-by_sending number left out None mid new other heard cleans some none = OfPacket None new heard tt
-by_sending number left out (Some h) mid new other heard cleans some none = sends_or number left out h mid new other heard cleans some none (is_closed h.what)
+-- whoever holds it behind that, it is his
+whose_as : (number : ℕ) (left : List ℕ) (o : Option Heard) (mid next : code.Relay) (new : House) (other : ℕ) → IsSeated mid → IsHeardAs number left o mid new → desk_in next.desk ≡ new.hall.desk → IsWho (holder (desk_in next.desk) number) other
+    → whose (desk_in mid.desk) number ≡ Some other
+whose_as number left o mid next new other s heard is who =
+    holder_whose (desk_in mid.desk) mid.links.items number other s (there_as number mid.links.items heard.link heard.there)
+    ((apart_or number left o mid next new s.reached (inr heard) (sym is)).fewer number other who)
 
-sending_or : (number : ℕ) (left : List ℕ) (o : Option Heard) (mid next : code.Relay) (new : House) (other : ℕ) → (HearsNothing o × IsIdle mid next) ⊎ IsHeardAs number left o mid new → Cleans o [] next.outbox.items → next.outbox.items ≢ []
-    → HasNoRoom number next.outbox.items mid.links.items → LosesOn number left mid other
-sending_or number left o mid next new other (inl idle) cleans some none = absurd (some idle.1.1)
-sending_or number left o mid next new other (inr heard) cleans some none = by_sending number left next.outbox.items o mid new other heard cleans some none
+-- and he is told
+its_key : (number : ℕ) (left : List ℕ) (h : Heard) (mid : code.Relay) (new : House) (other : ℕ) → IsHeardAs number left (Some h) mid new → h.what ≡ whats.Closed → whose (desk_in mid.desk) number ≡ Some other → h.key ≡ Some other
+its_key number left h mid new other heard closed is =
+    elim heard.hears.brings [
+      | inl none ↦ absurd (let u : whats.Goes ≡ whats.Closed = sym none.2.1 ∙ closed in let v : ⊥ = cc in v)
+      | inr p ↦ p.whose_is ∙ is
+    ]
 
-held_idle : (key : Option ℕ) (ends : Ends) (out : List ℕ) → HasTakenBack key ends → MayClean key [] out → out ≡ []
-held_idle key ends out taken (inl same) = same
-held_idle key ends out taken (inr cleans) = absurd (let u : None ≡ Some taken.0 = sym cleans.0 ∙ taken.1 in let v : ⊥ = cc in v)
+cleans_none : (who : Option ℕ) (out : List ℕ) (other : ℕ) → who ≡ Some other → out ≢ [] → MayClean who [] out → ⊥
+cleans_none who out other is some (inl same) = some same
+cleans_none who out other is some (inr cleans) = (let u : None ≡ Some other = sym cleans.0 ∙ is in let v : ⊥ = cc in v)
+
+sent_or : (number : ℕ) (left out : List ℕ) (h : Heard) (mid next : code.Relay) (new : House) (other : ℕ) → IsSeated mid → IsHeardAs number left (Some h) mid new → desk_in next.desk ≡ new.hall.desk → IsWho (holder (desk_in next.desk) number) other
+    → Cleans (whose (desk_in mid.desk) number) (Some h) [] out → (IsLeftOpen (Some h) → (out ≢ []) × HasNoRoom number out next.links.items) → (h.what ≡ whats.Closed) ⊎ (h.what ≢ whats.Closed) → LosesOn number left mid other
+sent_or number left out h mid next new other s heard is who cleans sends (inl closed) =
+    OfPacket (Some h) new heard (subst (λ (w : What). LosesBy w h.key (ends_in mid.applications) new.posts other) (sym closed)
+    (its_key number left h mid new other heard closed (whose_as number left (Some h) mid next new other s heard is who)))
+sent_or number left out h mid next new other s heard is who cleans sends (inr lasts) =
+    absurd (cleans_none (whose (desk_in mid.desk) number) out other (whose_as number left (Some h) mid next new other s heard is who) (sends lasts).0 (cleans lasts))
+
+by_sending : (number : ℕ) (left out : List ℕ) (o : Option Heard) (mid next : code.Relay) (new : House) (other : ℕ) → IsSeated mid → IsHeardAs number left o mid new → desk_in next.desk ≡ new.hall.desk → IsWho (holder (desk_in next.desk) number) other
+    → Cleans (whose (desk_in mid.desk) number) o [] out → (IsLeftOpen o → (out ≢ []) × HasNoRoom number out next.links.items) → LosesOn number left mid other
+by_sending number left out None mid next new other s heard is who cleans sends = OfPacket None new heard (for_before number left None mid next new (ends_in mid.applications) new.posts other heard is who)
+by_sending number left out (Some h) mid next new other s heard is who cleans sends = sent_or number left out h mid next new other s heard is who cleans sends (is_closed h.what)
+
+idle_left : (o : Option Heard) → HearsNothing o → IsLeftOpen o
+idle_left None none = absurd none
+idle_left (Some h) none = λ e. (let u : whats.Goes ≡ whats.Closed = sym none.1 ∙ e in cc)
+
+sending_or : (number : ℕ) (left : List ℕ) (o : Option Heard) (mid next : code.Relay) (new : House) (other : ℕ) → IsSeated mid → (HearsNothing o × IsIdle mid next) ⊎ IsHeardAs number left o mid new → desk_in next.desk ≡ new.hall.desk
+    → IsWho (holder (desk_in next.desk) number) other → Cleans (whose (desk_in mid.desk) number) o [] next.outbox.items → (IsLeftOpen o → (next.outbox.items ≢ []) × HasNoRoom number next.outbox.items next.links.items) → LosesOn number left mid other
+sending_or number left o mid next new other s (inl idle) is who cleans sends = absurd ((sends (idle_left o idle.0)).0 idle.1.1)
+sending_or number left o mid next new other s (inr heard) is who cleans sends = by_sending number left next.outbox.items o mid next new other s heard is who cleans sends
+
+-- nothing goes out to who took something back
+held_idle : (number : ℕ) (left out : List ℕ) (h : Heard) (mid : code.Relay) (new : House) (ends : Ends) → IsHeardAs number left (Some h) mid new → HasTakenBack h.key ends → MayClean (whose (desk_in mid.desk) number) [] out → out ≡ []
+held_idle number left out h mid new ends heard taken (inl same) = same
+held_idle number left out h mid new ends heard taken (inr cleans) =
+    absurd (elim heard.hears.brings [
+      | inl none ↦ (let u : None ≡ Some taken.0 = sym none.2.0 ∙ taken.1 in let v : ⊥ = cc in v)
+      | inr p ↦ (let u : None ≡ Some taken.0 = sym cleans.0 ∙ sym p.whose_is ∙ taken.1 in let v : ⊥ = cc in v)
+    ])
 
 resumes_by : (number : ℕ) (left : List ℕ) (h : Heard) (mid next : code.Relay) (new : House) (other : ℕ) → IsHeardAs number left (Some h) mid new → desk_in next.desk ≡ new.hall.desk → told_by (Some h) (ends_in next.applications) ≡ new.hall.ends
-    → ends_in next.applications ≡ ends_in mid.applications → Cleans (Some h) [] next.outbox.items → KeepsPosts mid.links.items next.links.items → AskAsBefore mid.applications next.applications → ResumesAt number (Some h) next other
-    → LosesOn number left mid other
+    → ends_in next.applications ≡ ends_in mid.applications → Cleans (whose (desk_in mid.desk) number) (Some h) [] next.outbox.items → KeepsPosts mid.links.items next.links.items → AskAsBefore mid.applications next.applications
+    → ResumesAt number (Some h) next other → LosesOn number left mid other
 resumes_by number left h mid next new other heard desk told ends cleans same asks at =
     let lasts : h.what ≢ whats.Closed = λ e. (let u : whats.Acknowledged ≡ whats.Closed = sym at.0 ∙ e in cc) in
     OfResuming h new heard at.0 (subst (λ (es : Ends). HasTakenBack h.key es) ends at.1) next.desk desk
     (not_as number h.key (told_by (Some h) (ends_in next.applications)) new.hall.ends next.desk mid.links.items next.links.items (body_of other next) (body_of other mid) other told same (kept_asks other next mid asks)
-    (at.2 (held_idle h.key (ends_in next.applications) next.outbox.items at.1 (cleans lasts))))
+    (at.2 (held_idle number left next.outbox.items h mid new (ends_in next.applications) heard at.1 (cleans lasts))))
 
 none_resumes : (number : ℕ) (h : Heard) (r : code.Relay) (other : ℕ) → IsNothing h → ResumesAt number (Some h) r other → ⊥
 none_resumes number h r other none at = (let u : whats.Acknowledged ≡ whats.Goes = sym at.0 ∙ none.1 in cc)
 
 resumes_or : (number : ℕ) (left : List ℕ) (o : Option Heard) (mid next : code.Relay) (new : House) (other : ℕ) → (HearsNothing o × IsIdle mid next) ⊎ IsHeardAs number left o mid new → desk_in next.desk ≡ new.hall.desk
-    → told_by o (ends_in next.applications) ≡ new.hall.ends → ends_in next.applications ≡ ends_in mid.applications → Cleans o [] next.outbox.items → KeepsPosts mid.links.items next.links.items
+    → told_by o (ends_in next.applications) ≡ new.hall.ends → ends_in next.applications ≡ ends_in mid.applications → Cleans (whose (desk_in mid.desk) number) o [] next.outbox.items → KeepsPosts mid.links.items next.links.items
     → AskAsBefore mid.applications next.applications → ResumesAt number o next other → LosesOn number left mid other
 resumes_or number left None mid next new other heard desk told ends cleans same asks at = absurd at
 resumes_or number left (Some h) mid next new other (inl idle) desk told ends cleans same asks at = absurd (none_resumes number h next other idle.0 at)
 resumes_or number left (Some h) mid next new other (inr heard) desk told ends cleans same asks at = resumes_by number left h mid next new other heard desk told ends cleans same asks at
 
 loses_or : (number : ℕ) (left : List ℕ) (o : Option Heard) (mid next : code.Relay) (new : House) (other : ℕ) → (HearsNothing o × IsIdle mid next) ⊎ IsHeardAs number left o mid new → desk_in next.desk ≡ new.hall.desk
-    → told_by o (ends_in next.applications) ≡ new.hall.ends → ends_in next.applications ≡ ends_in mid.applications → posts_in next.applications ≡ new.posts → Cleans o [] next.outbox.items → KeepsPosts mid.links.items next.links.items
-    → AskAsBefore mid.applications next.applications → LosesAt number o next other → LosesOn number left mid other
-loses_or number left o mid next new other heard desk told ends posts cleans same asks (inl loses) =
-    by_packet number left o mid new other (IsIdle mid next) heard
-    (subst (λ (ps : Posts). LosesFor o (ends_in mid.applications) ps other) posts (subst (λ (es : Ends). LosesFor o es (posts_in next.applications) other) ends loses))
-loses_or number left o mid next new other heard desk told ends posts cleans same asks (inr (inl x)) =
-    sending_or number left o mid next new other heard cleans x.0 (room_as number next.outbox.items mid.links.items next.links.items (same.posts number) x.1)
-loses_or number left o mid next new other heard desk told ends posts cleans same asks (inr (inr at)) = resumes_or number left o mid next new other heard desk told ends cleans same asks at
+    → told_by o (ends_in next.applications) ≡ new.hall.ends → ends_in next.applications ≡ ends_in mid.applications → posts_in next.applications ≡ new.posts → Cleans (whose (desk_in mid.desk) number) o [] next.outbox.items
+    → KeepsPosts mid.links.items next.links.items → AskAsBefore mid.applications next.applications → IsSeated mid → LosesAt number o next other → LosesOn number left mid other
+loses_or number left o mid next new other heard desk told ends posts cleans same asks s (inl loses) =
+    by_packet number left o mid next new other (IsIdle mid next) heard desk
+    (subst (λ (ps : Posts). LosesFor number o (desk_in next.desk) (ends_in mid.applications) ps other) posts (subst (λ (es : Ends). LosesFor number o (desk_in next.desk) es (posts_in next.applications) other) ends loses))
+loses_or number left o mid next new other heard desk told ends posts cleans same asks s (inr (inl x)) = sending_or number left o mid next new other s heard desk x.0 cleans x.1
+loses_or number left o mid next new other heard desk told ends posts cleans same asks s (inr (inr at)) = resumes_or number left o mid next new other heard desk told ends cleans same asks at
 
 pub loses_by : (number : ℕ) (left : List ℕ) (o : Option Heard) (mid next : code.Relay) (es : Ends) (other : ℕ) → (HearsNothing o × IsIdle mid next) ⊎ IsHeardAs number left o mid (house_with (desk_in next.desk) (told_by o es) (posts_in next.applications))
-    → es ≡ ends_in mid.applications → ends_in next.applications ≡ ends_in mid.applications → Cleans o [] next.outbox.items → KeepsPosts mid.links.items next.links.items → AskAsBefore mid.applications next.applications → LosesAt number o next other
-    → LosesOn number left mid other
-loses_by number left o mid next es other heard was ends cleans same asks why =
-    loses_or number left o mid next (house_with (desk_in next.desk) (told_by o es) (posts_in next.applications)) other heard refl (ap (told_by o) (ends ∙ sym was)) ends refl cleans same asks why
+    → es ≡ ends_in mid.applications → ends_in next.applications ≡ ends_in mid.applications → Cleans (whose (desk_in mid.desk) number) o [] next.outbox.items → KeepsPosts mid.links.items next.links.items
+    → AskAsBefore mid.applications next.applications → IsSeated mid → LosesAt number o next other → LosesOn number left mid other
+loses_by number left o mid next es other heard was ends cleans same asks s why =
+    loses_or number left o mid next (house_with (desk_in next.desk) (told_by o es) (posts_in next.applications)) other heard refl (ap (told_by o) (ends ∙ sym was)) ends refl cleans same asks s why
+
+-- as a desk tells whose it is
+pub cleans_as : (what : What) (key who : Option ℕ) (before after : List ℕ) → key ≡ who → (what ≢ whats.Closed → MayClean key before after) → what ≢ whats.Closed → MayClean who before after
+cleans_as what key who before after same h lasts = subst (λ (k : Option ℕ). MayClean k before after) same (h lasts)
 
 -- ---- Something is to be sent
 

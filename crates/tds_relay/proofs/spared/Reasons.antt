@@ -24,18 +24,18 @@ use Rattle.tds_relay.specs.declared.desk.Hold.{Hold}
 use Rattle.tds_relay.specs.declared.link.Link.{Link}
 use Rattle.tds_relay.specs.declared.relay.Relay as code
 use Rattle.tds_relay.specs.Bodies.{Body, Carries, ClientPuts, ClientStops, Closed, IsHalting, Kept, Nowhere, Spared, body_by, body_in, body_of, going, going_by}
-use Rattle.tds_relay.specs.Closings.{ClosesOnly, IsNoRequest, IsWaiting, Itself, ItselfOrWaiting, Register}
+use Rattle.tds_relay.specs.Closings.{ClosesOnly, IsNoRequest, Itself, Register}
 use Rattle.tds_relay.specs.Desk.{find_key}
 use Rattle.tds_relay.specs.Fronts.{house_in}
 use Rattle.tds_relay.specs.Hall.{End, IfOpen}
 use Rattle.tds_relay.specs.Posts.{Post, Posts, post_at, post_of, posts_in}
-use Rattle.tds_relay.specs.Reads.{waits_on}
+use Rattle.tds_relay.specs.Reads.{Stays, waits_on}
 use Rattle.tds_relay.specs.Holding.{Held}
-use Rattle.tds_relay.specs.Reasons.{ByLoan, CannotAsk, CannotBegin, CannotForget, CannotGoOn, CannotPut, CannotStart, CannotUnask, ForReasonOrWaiting, HasNoRoom, IsAstray, IsOverfull, IsReadyThere, IsReason, IsTurnedAway, IsUnbegun, IsUncancelled, IsUnheld, IsUnstopped, ItselfFor, MayClose, RefusesThere, StopsUnfit, room_left}
+use Rattle.tds_relay.specs.Reasons.{ByLoan, CannotAsk, CannotBegin, CannotForget, CannotGoOn, CannotPut, CannotStart, CannotUnask, ForReasonOrWaiting, HasNoRoom, IsAstray, IsLentBehind, IsLentInVain, IsOverfull, IsReadyThere, IsReason, IsTurnedAway, IsUnbegun, IsUncancelled, IsUnheld, IsUnstopped, ItselfFor, MayClose, RefusesThere, StopsUnfit, room_left}
 use Rattle.tds_relay.specs.Ties.{Application as ByApplication, Goes, desk_in}
 use Rattle.tds_relay.specs.Told.{room_to_keep}
 use Rattle.tds_relay.proofs.spared.Closings.{closes_more_on}
-use Rattle.tds_relay.proofs.spared.Lines.{waited_or}
+use Rattle.tds_relay.proofs.spared.Lines.{ItselfOrWaiting, waited_or}
 use Rattle.tds_relay.proofs.steps.Posting.{post_is}
 
 pub for_reason : {A E : Type 0} (r : Result A E) (key : ℕ) (R : Type 0) (a b : Register) → R → OnOk r (ClosesOnly (Itself key) a b) → OnOk r (ClosesOnly (ItselfFor key R) a b)
@@ -121,7 +121,7 @@ no_request kind (Some Full) key end d links none = inl none
 -- ---- It isn't asked where it begins
 
 abbrev CannotAskNow : ℕ → Option End → desks.Desk → List Link → MessageKind → Type 0
-CannotAskNow key end d links message = IsUnheld key d ⊎ (IsReadyThere key end d links × CannotAsk message [] false key end d links)
+CannotAskNow key end d links message = IsReadyThere key end d links × CannotAsk message [] false key end d links
 
 asks_by : (over : Bool) (key : ℕ) (end : Option End) (d : desks.Desk) (links : List Link) (message : MessageKind) → CannotStart key end d links (if over then Closed else Kept message [] false) → CannotAskNow key end d links message
 asks_by true key end d links message why = absurd why
@@ -212,13 +212,13 @@ may_before answer taken key end next room after d links posts given body was end
     (subst (λ (ps : Posts). MayClose answer taken key end room d links ps was) same
     (subst (λ (n : ℕ). MayClose answer taken key end n d links given was) rooms (subst (λ (e : Option End). MayClose answer taken key e after d links given was) ends why)))
 
-lent_or : (key : ℕ) (bytes : List ℕ) (a b : code.Relay) (other : ℕ) → (other ≡ key) ⊎ (other ≢ key) → Carries key (house_in a) bytes [] (body_of key a) (body_of key b) (house_in b) → IsWaiting (desk_in b.desk).line other
-    → ItselfOrWaiting key (desk_in a.desk).line other → ForReasonOrWaiting key bytes a other
-lent_or key bytes a b other (inl same) carries waits was = inl (same, ByLoan b carries (subst (λ (n : ℕ). IsWaiting (desk_in b.desk).line n) same waits))
-lent_or key bytes a b other (inr differs) carries waits (inl same) = absurd (differs same)
-lent_or key bytes a b other (inr differs) carries waits (inr was) = inr (differs, was)
+lent_or : (key : ℕ) (bytes : List ℕ) (a : code.Relay) (other : ℕ) → (other ≡ key) ⊎ (other ≢ key) → IsLentBehind key bytes a other → ItselfOrWaiting key (desk_in a.desk).line other → ForReasonOrWaiting key bytes a other
+lent_or key bytes a other (inl same) lent was = inl (same, ByLoan (subst (λ (n : ℕ). IsLentBehind key bytes a n) same lent))
+lent_or key bytes a other (inr differs) lent (inl same) = absurd (differs same)
+lent_or key bytes a other (inr differs) lent (inr was) = inr (differs, was, lent)
 
 -- those who wait behind them are served
-pub lent_behind : (key : ℕ) (bytes : List ℕ) (a b : code.Relay) → Carries key (house_in a) bytes [] (body_of key a) (body_of key b) (house_in b) → Goes (ByApplication key) (desk_in a.desk) (desk_in b.desk)
-    → (other : ℕ) → IsWaiting (desk_in b.desk).line other → ForReasonOrWaiting key bytes a other
-lent_behind key bytes a b carries goes other waits = lent_or key bytes a b other (cases_eq other key) carries waits (waited_or key (desk_in a.desk) (desk_in b.desk) goes other waits)
+pub lent_behind : (key : ℕ) (bytes : List ℕ) (a b : code.Relay) → Carries key (house_in a) bytes [] (body_of key a) (body_of key b) (house_in b) → Stays a.links.items b.links.items
+    → Goes (ByApplication key) (desk_in a.desk) (desk_in b.desk) → (other : ℕ) → IsLentInVain b other → ForReasonOrWaiting key bytes a other
+lent_behind key bytes a b carries stays goes other lent =
+    lent_or key bytes a other (cases_eq other key) (record { mid = b; carries = carries; stays = stays; lent = lent }) (waited_or key (desk_in a.desk) (desk_in b.desk) goes other lent.waits)

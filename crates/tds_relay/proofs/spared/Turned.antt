@@ -19,16 +19,24 @@ use Rattle.tds_relay.specs.Anew.{ResetsFor}
 use Rattle.tds_relay.specs.Asking.{IsTakenBack, waits_in}
 use Rattle.tds_relay.specs.Bodies.{AskAsBefore, Astray, Body, Closed, Going, Kept, Nowhere, body_by, body_in, body_of, going_of}
 use Rattle.tds_relay.specs.Closings.{ClosesOnly, IsWho, Nobody, Register, register_in}
-use Rattle.tds_relay.specs.Desk.{Desk, Renews, find_key, turn}
-use Rattle.tds_relay.specs.Fronts.{ends_in}
+use Rattle.tds_relay.specs.Desk.{Desk, Renews, Serves, find_key, turn, without_lease}
+use Rattle.tds_relay.specs.declared.desk.leaving.Renewed.TheVariants as renewals
+use Rattle.tds_relay.proofs.held.Fewer.{last_held, who_held}
+use Rattle.tds_relay.proofs.spared.Filling.{lent_holds}
+use Rattle.tds_relay.specs.declared.desk.Served.{Served}
+use Rattle.tds_relay.specs.Fronts.{MovedOn, ends_in, hall_in}
 use Rattle.tds_relay.specs.Hall.{AsksFor, End, Ends, IfOpen, IfOpenAsks, Open, Over, end_at, holder}
-use Rattle.tds_relay.specs.Waiting.{IsOpened, KeepsPosts, OpensFor}
+use Rattle.tds_relay.specs.Waiting.{IsOpened, IsUnheldOrTurnedAway, KeepsPosts, OpensFor}
 use Rattle.tds_relay.specs.Posts.{Post, fits, post_in}
-use Rattle.tds_relay.specs.Reads.{Seen, Sees, StaysAt, link_at, open_at, open_of, seen_at, seen_of, post_on}
+use Rattle.tds_relay.specs.Reads.{Opens, Seen, Sees, StaysAt, link_at, open_at, open_of, seen_at, seen_of, post_on}
 use Rattle.tds_relay.specs.Reasons as reasons
-use Rattle.tds_relay.specs.Reasons.{CannotAsk, CannotGoOn, CannotMove, CannotPart, CannotPut, CannotResume, CannotResumeAt, CannotStart, HasNoRoom, IsReadyThere, IsTurnedAway, IsTurnedAwayAt, IsUnbegun, IsUnheld, IsUnrenewed, ItselfFor, NoneBegun, ResumesNot, ResumesNotAt, Unreset}
-use Rattle.tds_relay.specs.Sparing.{IsKept, IsUnkept}
-use Rattle.tds_relay.specs.Ties.{Leaving, desk_in}
+use Rattle.tds_relay.specs.Reasons.{CannotAsk, CannotGoOn, CannotMove, CannotPart, CannotPut, CannotResume, CannotStart, CannotStartAt, HasNoRoom, IsLentInVain, IsReadyThere, IsTurnedAway, IsTurnedAwayAt, IsUnbegun, IsUnheld, IsUnrenewed, ItselfFor, NoneBegun, ResumesNot, ResumesNotAt, Unreset}
+use Rattle.tds_relay.specs.Sparing.{AllGo, IsKept, IsRenewed, IsUnkept}
+use Rattle.tds_relay.specs.Ties.{IsReached, Leaving, Serving, Turns, desk_in}
+use Rattle.tds_relay.specs.Lent.{LendsInLine}
+use Rattle.tds_relay.proofs.spared.Apart.{Unserved}
+use Rattle.tds_relay.proofs.spared.Lines.{served_waited}
+use Rattle.tds_relay.proofs.steps.Fronts.{moves_does}
 use Rattle.tds_relay.proofs.spared.Closings.{closes_first, closes_more_on}
 use Rattle.tds_relay.proofs.spared.Reasons.{for_that}
 use Rattle.tds_relay.proofs.spared.Starting.{unkept_going, unkept_there}
@@ -89,12 +97,31 @@ turned_goes whole was more key end room d links o p a b g h kind is there asks o
     (subst (λ (x : Asking). CannotGoOn whole more key end room d links (if a.is_over then Closed else body_by x a.held.items g)) (sym asks)
     (grown b.is_over a.is_over whole was more key end room d links kind a.held.items over (subst (IsTurnedAway key end d links) from why)))
 
+-- ---- Who holds one
+
+pub unstarted_or : (key : ℕ) (r : code.Relay) → IsUnheld key r.desk ⊎ CannotStartAt key r → IsUnheldOrTurnedAway key r
+unstarted_or key r (inl none) = inl none
+unstarted_or key r (inr why) = inr (reasons.Unstarted why)
+
+turned_or : (key : ℕ) (r : code.Relay) → (IsUnheld key r.desk → ⊥) → IsUnheldOrTurnedAway key r → IsTurnedAwayAt key r
+turned_or key r held (inl none) = absurd (held none)
+turned_or key r held (inr why) = why
+
+pub turned_held : (key : ℕ) (hold : Hold) (r : code.Relay) → find_key key r.desk.holds.items ≡ Some hold → IsUnheldOrTurnedAway key r → IsTurnedAwayAt key r
+turned_held key hold r its why = turned_or key r (λ none. (let u : None ≡ Some hold = sym none ∙ its in let v : ⊥ = cc in v)) why
+
+pub turned_there : (key number : ℕ) (r : code.Relay) → holder (desk_in r.desk) number ≡ Some key → IsUnheldOrTurnedAway key r → IsTurnedAwayAt key r
+turned_there key number r its why = turned_or key r (λ none. who_held number key r.desk.holds.items its none) why
+
+pub renewed_held : (key : ℕ) (old d : desks.Desk) (r : code.Relay) (hold : Hold) → IsRenewed (renewals.Kept hold) key old d → r.desk ≡ d → IsUnheldOrTurnedAway key r → IsTurnedAwayAt key r
+renewed_held key old d r hold is same why =
+    turned_or key r (λ none. last_held key hold (without_lease is.0.lease old.holds.items) is.2 (ap (find_key key) (sym is.3) ∙ ap (λ (e : desks.Desk). find_key key e.holds.items) (sym same) ∙ none)) why
+
 -- ---- It begins
 
--- who holds one
-pub held_asks : (key : ℕ) (end : Option End) (d : desks.Desk) (links : List Link) (A : Type 0) → IsSome (find_key key d.holds.items) → IsUnheld key d ⊎ A → A
-held_asks key end d links A held (inl none) = absurd (let u : false ≡ true = subst (λ (o : Option Hold). IsSome o) none held in let v : ⊥ = cc in v)
-held_asks key end d links A held (inr why) = why
+pub held_asks : (key : ℕ) (d : desks.Desk) (A : Type 0) → IsSome (find_key key d.holds.items) → IsUnheld key d ⊎ A → A
+held_asks key d A held (inl none) = absurd (let u : false ≡ true = subst (λ (o : Option Hold). IsSome o) none held in let v : ⊥ = cc in v)
+held_asks key d A held (inr why) = why
 
 -- ---- A connection opens
 
@@ -165,10 +192,9 @@ starts_kept key end d links (Kept kind bytes whole) why = tt
 starts_kept key end d links Astray why = why
 starts_kept key end d links (Going number client waits) why = why
 
-asks_as : (kind : MessageKind) (bytes : List ℕ) (whole : Bool) (key : ℕ) (end : Option End) (d : desks.Desk) (a b : List Link) → KeepsPosts a b → IsUnheld key d ⊎ (IsReadyThere key end d b × CannotAsk kind bytes whole key end d b)
-    → IsUnheld key d ⊎ (IsReadyThere key end d a × CannotAsk kind bytes whole key end d a)
-asks_as kind bytes whole key end d a b alike (inl none) = inl none
-asks_as kind bytes whole key end d a b alike (inr why) = inr (ready_as key end d a b alike why.0, ask_as kind bytes whole key end d a b alike why.1)
+asks_as : (kind : MessageKind) (bytes : List ℕ) (whole : Bool) (key : ℕ) (end : Option End) (d : desks.Desk) (a b : List Link) → KeepsPosts a b → IsReadyThere key end d b × CannotAsk kind bytes whole key end d b
+    → IsReadyThere key end d a × CannotAsk kind bytes whole key end d a
+asks_as kind bytes whole key end d a b alike why = (ready_as key end d a b alike why.0, ask_as kind bytes whole key end d a b alike why.1)
 
 start_as : (key : ℕ) (end : Option End) (d : desks.Desk) (a b : List Link) (body : Body) → KeepsPosts a b → CannotStart key end d b body → CannotStart key end d a body
 start_as key end d a b Closed alike why = why
@@ -223,8 +249,7 @@ turned_kept key end d links body (Unreset kept ready not) = kept
 
 pub renewed_as : (Stays : Type 0) (key : ℕ) (end : Option End) (d : desks.Desk) (a b : List Link) (body was : Body) → KeepsPosts a b → (IsKept body → was ≡ body) → IsUnrenewed Stays key end d b body → IsUnrenewed Stays key end d a was
 renewed_as Stays key end d a b body was alike same (reasons.Unkept resumes is stays) = reasons.Unkept resumes is stays
-renewed_as Stays key end d a b body was alike same (reasons.Unlent resumes hold its is) = reasons.Unlent resumes hold its is
-renewed_as Stays key end d a b body was alike same (reasons.Unserved resumes mid is why) = reasons.Unserved resumes mid is (turned_as key end mid a b body was alike same why)
+renewed_as Stays key end d a b body was alike same (reasons.Unserved resumes mid may is why) = reasons.Unserved resumes mid may is (turned_as key end mid a b body was alike same why)
 
 resume_as : (key : ℕ) (end : Option End) (d : desks.Desk) (a b : List Link) (body was : Body) → KeepsPosts a b → (IsKept body → was ≡ body) → CannotResume key end d b body → CannotResume key end d a was
 resume_as key end d a b body was alike same (inl x) = inl (x.0, turned_as key end d a b body was alike same x.1)
@@ -233,7 +258,10 @@ resume_as key end d a b body was alike same (inr x) = inr (x.0, renewed_as (Cann
 pub not_as : (number : ℕ) (key : Option ℕ) (ends ends1 : Ends) (d : desks.Desk) (a b : List Link) (body was : Body) (other : ℕ) → ends ≡ ends1 → KeepsPosts a b → (IsKept body → was ≡ body) → ResumesNot number key ends d b body other
     → ResumesNot number key ends1 d a was other
 not_as number key ends ends1 d a b body was other e alike same (inl x) =
-    inl (x.0, subst (λ (es : Ends). CannotResume other (end_at es other) d a was) e (resume_as other (end_at ends other) d a b body was alike same x.1))
+    inl (x.0, elim x.1 [
+      | inl none ↦ inl none
+      | inr why ↦ inr (subst (λ (es : Ends). CannotResume other (end_at es other) d a was) e (resume_as other (end_at ends other) d a b body was alike same why))
+    ])
 not_as number key ends ends1 d a b body was other e alike same (inr x) = inr x
 
 pub part_at : (key : ℕ) (end : Option End) (d e : desks.Desk) → desk_in d ≡ desk_in e → CannotPart key end d → CannotPart key end e
@@ -272,9 +300,17 @@ back_if false w why front asks drained back = (let u : true ≡ false = sym back
 pub back_not : (s : Slab Application) (key : ℕ) (a : Application) → Some a ≡ get s key → a.is_withdrawn ≡ false → ¬ IsTakenBack (end_at (ends_in s) key)
 back_not s key a is drained back = back_if a.is_over a.is_withdrawn a.fault a.front a.reset drained (subst IsTakenBack (end_there s key a is) back)
 
+-- with what a relay has
+abbrev pub CannotResumeAt : ℕ → code.Relay → Type 0
+CannotResumeAt key r = CannotResume key (end_at (ends_in r.applications) key) r.desk r.links.items (body_of key r)
+
+pub resume_or : (key : ℕ) (r : code.Relay) → (IsKept (body_of key r) → ¬ AsksFor KeepTransaction (end_at (ends_in r.applications) key)) → IsUnheldOrTurnedAway key r → IsUnheld key r.desk ⊎ CannotResumeAt key r
+resume_or key r not (inl none) = inl none
+resume_or key r not (inr why) = inr (inl (not (turned_kept key (end_at (ends_in r.applications) key) r.desk r.links.items (body_of key r) why), why))
+
 pub resumes_for : (number key other : ℕ) (old : code.Relay) → other ≡ key → AsksFor KeepTransaction (end_at (ends_in old.applications) key)
     → IsUnrenewed (CannotMove key (end_at (ends_in old.applications) key) (desk_in old.desk)) key (end_at (ends_in old.applications) key) old.desk old.links.items (body_of key old) → ResumesNotAt number key old other
-resumes_for number key other old same asks why = inl (ap (λ (k : ℕ). Some k) (sym same), subst (λ (k : ℕ). CannotResumeAt k old) (sym same) (inr (asks, why)))
+resumes_for number key other old same asks why = inl (ap (λ (k : ℕ). Some k) (sym same), inr (subst (λ (k : ℕ). CannotResumeAt k old) (sym same) (inr (asks, why))))
 
 pub stays_for : (number key other : ℕ) (old : code.Relay) (d : Desk) → AsksFor KeepTransaction (end_at (ends_in old.applications) key) → d ≡ desk_in old.desk → (resumes : Bool) → (turn (desk_in old.desk) (Renews key resumes)).desk ≡ desk_in old.desk
     → (other ≡ key) ⊎ (other ≢ key) → IsWho (holder d number) other × CannotMove other (end_at (ends_in old.applications) other) d → ResumesNotAt number key old other
@@ -325,9 +361,34 @@ opens_for number other old r desk ends asks opened why =
 -- ---- One that is lent one
 
 pub lent_for : {A E : Type 0} (r : Result A E) (key : ℕ) (old mid new : code.Relay) → mid.desk ≡ old.desk → mid.applications ≡ old.applications → ((n : ℕ) → post_on n mid.links.items ≡ post_on n old.links.items)
-    → Sees old.links.items mid.links.items → ClosesOnly Nobody (register_in old) (register_in mid) → OnOk r (ClosesOnly (ItselfFor key (IsTurnedAwayAt key mid)) (register_in mid) (register_in new))
-    → OnOk r (ClosesOnly (ItselfFor key (IsTurnedAwayAt key old)) (register_in old) (register_in new))
+    → Sees old.links.items mid.links.items → ClosesOnly Nobody (register_in old) (register_in mid) → OnOk r (ClosesOnly (ItselfFor key (IsUnheldOrTurnedAway key mid)) (register_in mid) (register_in new))
+    → OnOk r (ClosesOnly (ItselfFor key (IsUnheldOrTurnedAway key old)) (register_in old) (register_in new))
 lent_for r key old mid new desk same posts sees first next =
-    closes_first r (ItselfFor key (IsTurnedAwayAt key old)) (register_in old) (register_in mid) (register_in new)
-    (for_that r key (IsTurnedAwayAt key mid) (IsTurnedAwayAt key old) (register_in mid) (register_in new)
-    (λ why. turned_on key mid old old.links.items desk (ap ends_in same) (λ k goes. ap (λ (s : Slab Application). body_in (get s k) goes) same) (as_seen old.links.items mid.links.items posts sees) why) next) first
+    closes_first r (ItselfFor key (IsUnheldOrTurnedAway key old)) (register_in old) (register_in mid) (register_in new)
+    (for_that r key (IsUnheldOrTurnedAway key mid) (IsUnheldOrTurnedAway key old) (register_in mid) (register_in new) (λ why. elim why [
+      | inl none ↦ inl (subst (λ (d : desks.Desk). IsUnheld key d) desk none)
+      | inr away ↦ inr (turned_on key mid old old.links.items desk (ap ends_in same) (λ k goes. ap (λ (s : Slab Application). body_in (get s k) goes) same) (as_seen old.links.items mid.links.items posts sees) away)
+    ]) next) first
+
+abbrev at_desk : code.Relay → desks.Desk → code.Relay
+at_desk r d = record r { desk = d }
+
+-- in turn
+pub lent_in_vain : (start mid : code.Relay) (after : desks.Desk) (o : Option Served) (served : Served) (key : ℕ) → Unserved (hall_in start) (hall_in mid) → Serving (desk_in mid.desk) o → o ≡ Some served
+    → Turns Serves (desk_in mid.desk) (desk_in after) [] [] → MovedOn (hall_in start) (hall_in mid) → AllGo start (at_desk mid after) → Opens start.links.items mid.links.items → (IsReached (desk_in start.desk) → LendsInLine start mid)
+    → key ≡ served.hold.key → IsUnheldOrTurnedAway served.hold.key (at_desk mid after) → IsLentInVain start key
+lent_in_vain start mid after o served key unserved serving is turns moved goes opens posts same turned = record {
+  waits = served_waited (hall_in start) (hall_in mid) o served unserved serving is key same;
+  free = mid.desk;
+  at = at_desk mid after;
+  lent = turns;
+  moved = λ by from h. moves_does by from _ _ _ _ _ _ _ turns tt tt refl (moved by from h);
+  goes = goes;
+  opens = opens;
+  posts = posts;
+  turned =
+      let s = subst (Serving (desk_in mid.desk)) is serving in
+      let held : after.holds.items ≡ mid.desk.holds.items ++ served.hold ∷ [] = lent_holds (desk_in mid.desk) (desk_in after) served s.0 turns.desk_is s.1 s.2 in
+      subst (λ (k : ℕ). IsTurnedAwayAt k (at_desk mid after)) (sym same)
+      (turned_or served.hold.key (at_desk mid after) (λ none. last_held served.hold.key served.hold mid.desk.holds.items refl (ap (find_key served.hold.key) (sym held) ∙ none)) turned);
+}

@@ -4,7 +4,7 @@ ghost use Rattle.tds_service.specs.Table.{KeepsClientsOff, client_of, reading_on
 ghost use Rattle.tds_relay.specs.Cleaning.{CleansFirst, GoesOutAtEnd, GoesOutBy, IsBatch, IsCleaning, IsLentBy, IsPutBehind};
 ghost use Rattle.tds_relay.specs.Desk.{Brings, Leaves, Loses, Renews, Way, cleaning, find_key, find_number};
 ghost use Rattle.tds_relay.specs.Desk.{key_of, releasing, without_number};
-ghost use Rattle.tds_relay.specs.Sparing.{AsideStay, IsLostBy, IsRenewed, OffHold, OthersHold};
+ghost use Rattle.tds_relay.specs.Sparing.{AsideStay, IsKeptBy, IsRenewed, OffHold, OthersHold};
 ghost use Rattle.tds_relay.specs.Ties.{IsNumberOf, IsReached, Makes, Turns, desk_in, is_sent, lost_by};
 ghost use Rattle.tds_relay.specs.Walkers.{AllStand, IsLed};
 ghost use Rattle.tds_relay.specs.Cleaning.{text_of_cleaning};
@@ -32,8 +32,6 @@ pub enum Renewed {
     Kept(Hold),
     /// There is no transaction to be kept. Nothing has changed.
     NotKept,
-    /// The connection of this number is to be closed.
-    Closed(u64),
 }
 
 /// What a cleaning asks for, of two bytes a unit: the reset that goes with it leaves the isolation level as it is.
@@ -193,7 +191,7 @@ impl Desk {
         ensures seats { IsReached (desk_in self.old) → IfOk result (λ renewed. RenewsSeat renewed
             (desk_in self.old).service (desk_in self.new).service) }
         ensures is { IfOk result (λ renewed. IsRenewed renewed key self.old self.new) }
-        ensures lost { IfOk result (λ renewed. IsLostBy renewed key self.old self.new) }
+        ensures keeps { IfOk result (λ renewed. IsKeptBy renewed key (desk_in self.old)) }
         ensures others { OnOk result (OthersHold key self.old self.new) }
     {
         let Some(hold) = find_key(&self.holds, key) else {
@@ -205,9 +203,7 @@ impl Desk {
             Err(_) => return Ok(Renewed::NotKept),
         };
         let Ok(lent) = self.service.resume(ticket) else {
-            forget(&mut self.service, hold.number)?;
-            remove_number(&mut self.holds, hold.number);
-            return Ok(Renewed::Closed(hold.number));
+            return Err(AllocError);
         };
         let renewed = Hold {
             key: hold.key,

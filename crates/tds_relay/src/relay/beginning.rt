@@ -180,7 +180,6 @@ impl Relay {
                     self.change(key)
                 }
             }
-            Renewed::Closed(number) => self.close(number, Some(key)),
         }
     }
 }

@@ -8,6 +8,7 @@ ghost use Rattle.tds_relay.specs.Cleaning.{CountsGone, CountsLost, cleaned_in};
 ghost use Rattle.tds_relay.specs.Closings.{ClosesOnly, but_told, is_shut};
 ghost use Rattle.tds_relay.specs.Closings.{register_in, settings_in};
 ghost use Rattle.tds_relay.specs.Coming.{AllAlong, ComesAnew, ContinuesAnew, StreamsAnew};
+ghost use Rattle.tds_relay.specs.Desk.{whose};
 ghost use Rattle.tds_relay.specs.Faults.{IsHeaderOf, IsRefusedOn};
 ghost use Rattle.tds_relay.specs.Few.{Few, HearsSeat, IsSeated, IsSeatedBehind, NobodyWaits, NoneNew};
 ghost use Rattle.tds_relay.specs.Fronts.{end_of, ends_in, hall_in, told_by, house_in, house_of};
@@ -15,7 +16,7 @@ ghost use Rattle.tds_relay.specs.Fronts.{house_with};
 ghost use Rattle.tds_relay.specs.Hall.{told};
 ghost use Rattle.tds_relay.specs.Handing.{Brings, HearsBy, IsKnown, KnowsOn, Passes, news_for, fed};
 ghost use Rattle.tds_relay.specs.House.{Steps};
-ghost use Rattle.tds_relay.specs.Reasons.{Cleans, HeardFor, IsHeardAs, IsIdle, HearsNothing, LosesAt};
+ghost use Rattle.tds_relay.specs.Reasons.{Cleans, HeardFor, IsHeardAs, IsIdle, HearsNothing};
 ghost use Rattle.tds_relay.specs.Posts.{names_in, post_of, posts_in};
 ghost use Rattle.tds_packet.specs.Stream.{IsLess};
 ghost use Rattle.tds_relay.specs.Reads.{Comes, IsLessAt, OpensOthers, StreamsAll};
@@ -157,7 +158,8 @@ impl Relay {
             × (is_shut (seen_at other self.new.links.items)
             ≡ is_shut (seen_at other self.old.links.items))) }
         ensures posts { OnOk result (KeepsPosts self.old.links.items self.new.links.items) }
-        ensures cleans { IfOk result (λ heard. Cleans heard.1 [] self.new.outbox.items) }
+        ensures cleans { IfOk result (λ heard. Cleans (whose (desk_in self.old.desk) number)
+            heard.1 [] self.new.outbox.items) }
         ensures refused { OnOk result (IsRefusedOn number self.old.refused self.new.refused) }
         ensures hears { IfOk result (λ heard.
             (HearsNothing heard.1 × IsIdle self.old self.new)
@@ -227,7 +229,8 @@ fn hear_on(
         (fed link.old.reader piece.now) heard.1 refused.old refused.new) }
     ensures known { OnOk result (KnowsOn (fed link.old.reader piece.now) link.old.answer
         link.new.answer) }
-    ensures cleans { IfOk result (λ heard. Cleans heard.1 outbox.old.items outbox.new.items) }
+    ensures cleans { IfOk result (λ heard. Cleans (whose (desk_in desk.old) number) heard.1
+        outbox.old.items outbox.new.items) }
     ensures seats { IsReached (desk_in desk.old) → IfOk result (λ heard. HearsSeat heard.1 number
         (desk_in desk.old).service (desk_in desk.new).service) }
     ensures off { OnOk result (OffHold number desk.old desk.new) }
@@ -270,8 +273,8 @@ fn hear_packet(
     ensures ends { OnOk result (ends_in applications.new ≡ ends_in applications.old) }
     ensures asks { OnOk result (AskAsBefore applications.old applications.new) }
     ensures known { OnOk result (KnowsOn link.old.reader link.old.answer link.new.answer) }
-    ensures cleans { IfOk result (λ heard. Cleans (Some heard) outbox.old.items
-        outbox.new.items) }
+    ensures cleans { IfOk result (λ heard. Cleans (whose (desk_in desk.old) number) (Some heard)
+        outbox.old.items outbox.new.items) }
     ensures seats { IsReached (desk_in desk.old) → IfOk result (λ heard. HearsSeat (Some heard)
         number (desk_in desk.old).service (desk_in desk.new).service) }
     ensures off { OnOk result (OffHold number desk.old desk.new) }

@@ -9,14 +9,13 @@ ghost use Rattle.tds_relay.specs.Coming.{AllAlong, BeginAnyIf, acknowledged_in};
 ghost use Rattle.tds_relay.specs.Few.{IsSeated, IsSeatedBehind};
 ghost use Rattle.tds_relay.specs.Fronts.{Moved, ends_in, hall_in, hall_of_ends, told_by};
 ghost use Rattle.tds_relay.specs.Handing.{heard_key};
-ghost use Rattle.tds_relay.specs.Reasons.{LosesAt};
 ghost use Rattle.tds_relay.specs.Posts.{posts_in};
 ghost use Rattle.tds_relay.specs.Reads.{Stays};
 ghost use Rattle.tds_relay.specs.Reads.{reader_at, waits_on};
 ghost use Rattle.tds_relay.specs.Ordering.{StayOrdered, opens_in};
 ghost use Rattle.tds_relay.specs.Sparing.{OffGo};
 ghost use Rattle.tds_relay.specs.Ties.{Connection, Goes, IsReached, desk_in};
-ghost use Rattle.tds_relay.specs.Waiting.{IsNotAcknowledged};
+ghost use Rattle.tds_relay.specs.Waiting.{IsNotAcknowledged, LosesAt};
 ghost use Rattle.tds_relay.specs.Waking.{HandsTo, IsWoken};
 ghost use Rattle.tds_relay.specs.Walkers.{AllStand};
 

@@ -12,12 +12,12 @@ ghost use Rattle.tds_relay.specs.Fronts.{MovedOn, ends_in, hall_in, house_in};
 ghost use Rattle.tds_relay.specs.Hall.{IsReset, end_at, holder};
 ghost use Rattle.tds_relay.specs.House.{StepsOn};
 ghost use Rattle.tds_relay.specs.Lent.{AllLast, BeginsOn, IsMade, IsMadeOn, KeepsAnswers, LastBut, LastOrDeaf};
-ghost use Rattle.tds_relay.specs.Waiting.{OpensFor};
+ghost use Rattle.tds_relay.specs.Waiting.{IsUnheldOrTurnedAway, OpensFor};
 ghost use Rattle.tds_relay.specs.Posts.{names_in, posts_in};
 ghost use Rattle.tds_relay.specs.Cutting.{at_its_beginning};
 ghost use Rattle.tds_relay.specs.Reads.{Opens, OpensOne, Stays, answer_at, named_seen, open_at, bytes_on, link_at, opened_at, opened_seen, post_on, seen_at, waits_on};
 ghost use Rattle.tds_relay.specs.Ordering.{GrowsByOrders, OpensNew, StayOrdered, opens_if, opens_in};
-ghost use Rattle.tds_relay.specs.Reasons.{CannotPut, CannotStartAt, HasNoRoom, IsTurnedAwayAt, ItselfFor};
+ghost use Rattle.tds_relay.specs.Reasons.{CannotPut, CannotStartAt, HasNoRoom, IsLentInVain, IsTurnedAwayAt, IsUnheld, ItselfFor};
 ghost use Rattle.tds_relay.specs.Sending.{IsToWrite, called_at};
 ghost use Rattle.tds_relay.specs.Coming.{MayBeginAny};
 ghost use Rattle.tds_relay.specs.Sparing.{AllGo, AllRest, IsHeldBack, IsUnkept, OthersRest, StartsOn, StartsThere};
@@ -189,6 +189,8 @@ impl Relay {
             (register_in self.old) (register_in self.new)) }
         ensures lasts { OnOk result (LastBut (IsWaiting (desk_in self.old.desk).line)
             (register_in self.old) (register_in self.new)) }
+        ensures vain { OnOk result (ClosesOnly (IsLentInVain self.old) (register_in self.old)
+            (register_in self.new)) }
         ensures seated { IsSeated self.old → OnOk result (IsSeated self.new) }
         ensures counts { cleaned_in self.new ≡ cleaned_in self.old }
         ensures opening { OnOk result (OpensNew self.old self.new) }
@@ -235,7 +237,7 @@ impl Relay {
             → OnOk result (IsMadeOn self.old.size self.old.features served.hold.number
             self.new.links.items) }
         ensures closes { OnOk result (ClosesOnly
-            (ItselfFor served.hold.key (IsTurnedAwayAt served.hold.key self.old))
+            (ItselfFor served.hold.key (IsUnheldOrTurnedAway served.hold.key self.old))
             (register_in self.old) (register_in self.new)) }
         ensures lasts { OnOk result (LastBut (Itself served.hold.key)
             (register_in self.old) (register_in self.new)) }
@@ -309,8 +311,8 @@ impl Relay {
         ensures placed { OnOk result (GoesOrWaits key self.new) }
         ensures behind { OnOk result (StartsThere key self.old self.new) }
         ensures answers { OnOk result (KeepsAnswers self.old.links.items self.new.links.items) }
-        ensures closes { OnOk result (ClosesOnly (ItselfFor key (CannotStartAt key self.old))
-            (register_in self.old) (register_in self.new)) }
+        ensures closes { OnOk result (ClosesOnly (ItselfFor key (IsUnheld key self.old.desk
+            ⊎ CannotStartAt key self.old)) (register_in self.old) (register_in self.new)) }
         ensures lasts { OnOk result (LastBut (Itself key)
             (register_in self.old) (register_in self.new)) }
         ensures seated { IsSeated self.old → OnOk result (IsSeated self.new) }

@@ -101,7 +101,6 @@ impl Relay {
                 self.start_kept(key)
             }
             Renewed::NotKept => self.replace(number),
-            Renewed::Closed(number) => self.close(number, Some(key)),
         }
     }
 

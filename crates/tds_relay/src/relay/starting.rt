@@ -13,10 +13,10 @@ ghost use Rattle.tds_relay.specs.Hall.{IfOpen, IfOpenAsks, IsBegun, IsReset, end
 ghost use Rattle.tds_relay.specs.Ordering.{StayOrdered, opens_in};
 ghost use Rattle.tds_relay.specs.Posts.{posts_in};
 ghost use Rattle.tds_relay.specs.Reads.{Stays, open_at, waits_on};
-ghost use Rattle.tds_relay.specs.Reasons.{IsReadyThere, IsTurnedAwayAt, IsUnbegun, ItselfFor};
+ghost use Rattle.tds_relay.specs.Reasons.{IsReadyThere, IsUnbegun, ItselfFor};
 ghost use Rattle.tds_relay.specs.Sparing.{IsHeldBack, IsKept, IsUnkept, OthersRest, StartsThere};
 ghost use Rattle.tds_relay.specs.Ties.{GoesOn, IsReached, desk_in};
-ghost use Rattle.tds_relay.specs.Waiting.{GoesOrWaits};
+ghost use Rattle.tds_relay.specs.Waiting.{GoesOrWaits, IsUnheldOrTurnedAway};
 ghost use Rattle.tds_relay.specs.Walkers.{AllStand};
 ghost use Rattle.tds_relay.specs.Few.{IsSeated};
 ghost use Rattle.tds_relay.specs.Cleaning.{cleaned_in};
@@ -50,8 +50,8 @@ impl Relay {
         ensures placed { OnOk result (GoesOrWaits key self.new) }
         ensures behind { OnOk result (StartsThere key self.old self.new) }
         ensures answers { OnOk result (KeepsAnswers self.old.links.items self.new.links.items) }
-        ensures closes { OnOk result (ClosesOnly (ItselfFor key (IsTurnedAwayAt key self.old))
-            (register_in self.old) (register_in self.new)) }
+        ensures closes { OnOk result (ClosesOnly (ItselfFor key (IsUnheldOrTurnedAway key
+            self.old)) (register_in self.old) (register_in self.new)) }
         ensures lasts { OnOk result (LastBut (Itself key)
             (register_in self.old) (register_in self.new)) }
         ensures seated { IsSeated self.old → OnOk result (IsSeated self.new) }

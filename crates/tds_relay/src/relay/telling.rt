@@ -40,8 +40,8 @@ impl Relay {
         ensures resumes { IfOk result (λ resumes. resumes ≡ true
             → HasTakenBack heard.key (ends_in self.old.applications)) }
         ensures counts { cleaned_in self.new ≡ cleaned_in self.old }
-        ensures closes { OnOk result (ClosesOnly (λ other. heard.what ≡ whats.Closed)
-            (register_in self.old) (register_in self.new)) }
+        ensures closes { OnOk result (ClosesOnly (λ other. (heard.key ≡ Some other)
+            × (heard.what ≡ whats.Closed)) (register_in self.old) (register_in self.new)) }
         ensures opening { opens_in self.new.orders.items ≡ opens_in self.old.orders.items }
         ensures others { OnOk result ((key : ℕ) → heard.key ≢ Some key → (goes : Body)
             → Spared (body_in (get self.old.applications key) goes)

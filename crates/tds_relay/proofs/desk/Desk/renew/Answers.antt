@@ -1,7 +1,8 @@
+use Rattle.std.proofs.Common.{is_some}
 use Rattle.std.proofs.Common.{◌≡◌, ◌∷◌, ◌++◌, [], true, rules}
 use Rattle.std.specs.Prelude.{Some}
 use Rattle.tds_service.specs.Table.{service_in}
-use Rattle.tds_relay.specs.Desk.{find_key, holding, without_lease}
+use Rattle.tds_relay.specs.Desk.{find_key, holding, ticket_in, without_lease}
 use Rattle.tds_relay.specs.Ties.{desk_in}
 use Rattle.tds_relay.proofs.steps.Made.{renewed}
 use Rattle.tds_service.specs.Service as calls
@@ -31,9 +32,6 @@ returns-clause-turns c =
           c.in-Ok.ensures.ok.1 c.in-Ok-resume.ensures.ok held,
     )
 
-pub returns-in_default-resume-clause-stand : goal.returns-in_default-resume-clause-stand
-returns-in_default-resume-clause-stand c = λ n r h. c.in_ok-forget.ensures.stand n r (same_stand c.keep.new.self c.resume.new.self c.in_default-resume.ensures.err c.in_default-resume.ensures.makes c.in_default-resume.ensures.keeps n r (keeps_stand c.args.self.now.service c.keep.new.self (calls.Keep c.in-Some.hold.lease) c.in-Ok.ensures.ok.1.service_is (λ opens. opens) c.in-Ok.ensures.makes c.in-Ok.ensures.keeps n r h))
-
 pub returns-clause-stand : goal.returns-clause-stand
 returns-clause-stand c = λ n r h. keeps_stand c.keep.new.self c.resume.new.self (calls.Resume c.in-Ok.ticket) c.in-Ok-resume.ensures.ok.service_is (λ opens. opens) c.in-Ok-resume.ensures.makes c.in-Ok-resume.ensures.keeps n r (keeps_stand c.args.self.now.service c.keep.new.self (calls.Keep c.in-Some.hold.lease) c.in-Ok.ensures.ok.1.service_is (λ opens. opens) c.in-Ok.ensures.makes c.in-Ok.ensures.keeps n r h)
 
@@ -45,14 +43,6 @@ returns-in_default-clause-seats c = λ reached n. refl
 
 pub returns-in-Err-clause-seats : goal.returns-in-Err-clause-seats
 returns-in-Err-clause-seats c = λ reached. same_keeps (service_in c.args.self.now.service) (service_in c.keep.new.self) c.in-Err.ensures.err
-
-pub returns-in_default-resume-clause-seats : goal.returns-in_default-resume-clause-seats
-returns-in_default-resume-clause-seats c = λ reached.
-    let s = service_in c.args.self.now.service in
-    let t = service_in c.keep.new.self in
-    then_forgot true c.in-Some.hold.number s t (service_in c.forget.new.service) (kept_stays c.in-Some.hold.number s t (calls.Keep c.in-Some.hold.lease) tt c.in-Ok.ensures.ok.1.service_is)
-    (led_on s t (calls.Keep c.in-Some.hold.lease) c.in-Ok.ensures.ok.1.service_is (led_at (desk_in c.args.self.now) reached))
-    (c.in_ok-forget.ensures.lost ∙ ap (λ (x : Service). lost_by x c.in-Some.hold.number) c.in_default-resume.ensures.err)
 
 pub returns-clause-seats : goal.returns-clause-seats
 returns-clause-seats c = λ reached.
@@ -66,22 +56,14 @@ returns-in_default-clause-others c = deed_refl c.args.self.now c.args.key
 pub returns-in-Err-clause-others : goal.returns-in-Err-clause-others
 returns-in-Err-clause-others c = deed_others c.args.self.now _ c.args.key c.in-Some.hold (search rules) refl c.in-Err.ensures.clients
 
-pub returns-in_default-resume-clause-others : goal.returns-in_default-resume-clause-others
-returns-in_default-resume-clause-others c =
-    unkept_others c.args.self.now _ c.args.key c.in-Some.hold c.keep.new.self c.resume.new.self (search rules) (search rules) c.in-Ok.ensures.ok.1.service_is c.in-Ok.ensures.clients c.in_default-resume.ensures.err c.in_default-resume.ensures.clients c.in_ok-forget.ensures.clients
-
 pub returns-clause-others : goal.returns-clause-others
 returns-clause-others c =
     renewed_others c.args.self.now _ c.args.key c.in-Some.hold (holding c.in-Some.hold.key c.in-Ok-resume.lent.lease c.in-Ok-resume.lent.number) c.keep.new.self (search rules) (search rules) c.in-Ok.ensures.ok.1.service_is c.in-Ok.ensures.clients c.in-Ok-resume.ensures.clients
-
-pub returns-in_default-resume-clause-is : goal.returns-in_default-resume-clause-is
-returns-in_default-resume-clause-is c =
-    (c.in-Some.hold, search rules, refl, λ led. c.in_ok-forget.ensures.gone (led_kept c.args.self.now.service c.keep.new.self c.resume.new.self c.in-Some.hold.lease c.in-Ok.ensures.ok.1.service_is c.in_default-resume.ensures.err led))
 
 pub returns-clause-is : goal.returns-clause-is
 returns-clause-is c =
     let its : find_key c.args.key c.args.self.now.holds.items ≡ Some c.in-Some.hold = search rules in
     (c.in-Some.hold, its, eqb-true c.in-Some.hold.key c.args.key (found_key c.args.key c.in-Some.hold c.args.self.now.holds.items its), search rules)
 
-pub returns-in_default-resume-clause-lost : goal.returns-in_default-resume-clause-lost
-returns-in_default-resume-clause-lost c = (c.in-Some.hold, search rules, search rules)
+pub returns-clause-keeps : goal.returns-clause-keeps
+returns-clause-keeps c = (c.in-Some.hold, search rules, ap (λ (r : calls.Reply). is_some (ticket_in r)) c.in-Ok.ensures.ok.1.reply_is)

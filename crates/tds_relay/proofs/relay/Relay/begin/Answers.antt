@@ -124,6 +124,7 @@ returns-then-may_keep_later-clause-closes c = (closes_kept _ _ _ (ends_kept c.ar
 pub returns-else-may_keep_later-clause-closes : goal.returns-else-may_keep_later-clause-closes
 returns-else-may_keep_later-clause-closes c =
     let keeps : c.args.reset ≡ Some KeepTransaction = search rules in
+    let held : IsSome (find_key c.args.key (desk_in c.args.self.now.desk).holds) = search rules in
     let r = c.args.self.now in
     let key = c.args.key in
     let s = r.applications in
@@ -135,6 +136,7 @@ returns-else-may_keep_later-clause-closes c =
     (for_that c.renew.result key _ _ _ _
     (λ why. subst (λ (o : Option Reset). CannotBegin c.args.kind o key (end_at (ends_in s) key) d r.links.items) (sym keeps)
     (inr (
+      held,
       subst (λ (es : Ends). IsTakenBack (end_at es key) → HasNoTransaction (desk_in d) key) same (c.may_keep_later.ensures.not (search rules)),
       c.in-Some-message_kind.kind,
       search rules,
@@ -191,8 +193,7 @@ returns-in-true-None-clause-closes c =
     let held : IsSome (find_key key (desk_in d).holds) = search rules in
     let asked : IsReadyThere key (end_at (ends_in s) key) d links × CannotAsk m [] false key (end_at (ends_in s) key) d links =
     subst (λ (es : Ends). IsReadyThere key (end_at es key) d links × CannotAsk m [] false key (end_at es key) d links) same
-    (held_asks key end d links (IsReadyThere key end d links × CannotAsk m [] false key end d links) held
-    (begun_asks key end d links (get (with_value s key b) key) _ b m (written_there s key a b c.in-Some.ensures.value) c.forget.ensures.asking c.forget.ensures.body.1 why)) in
+    (begun_asks key end d links (get (with_value s key b) key) _ b m (written_there s key a b c.in-Some.ensures.value) c.forget.ensures.asking c.forget.ensures.body.1 (held_asks key d _ held why)) in
     inr (asked.0, c.in-Some-message_kind.kind, search rules, asked.1))) c.start.ensures.closes)
     (closes_kept _ _ _ same (posts_kept s c.args.key a b c.in-Some.ensures.value c.forget.ensures.post) refl (kept_refl c.args.self.now.links.items) (unclosed _ _ refl))
 

@@ -15,7 +15,7 @@ use Rattle.tds_relay.proofs.spared.Waking.{wakes_on}
 use Rattle.tds_relay.proofs.steps.Reaching.{ok_more, reached_on}
 use Rattle.tds_relay.proofs.steps.Told.{deaf_led_on}
 use Rattle.tds_relay.specs.Closings.{IsWaiting, register_in}
-use Rattle.tds_relay.specs.Reasons.{HeardFor, InLine}
+use Rattle.tds_relay.specs.Reasons.{HeardFor, InLine, IsLentInVain}
 use Rattle.tds_relay.proofs.spared.Closings.{closes_done_on}
 use Rattle.tds_relay.proofs.spared.Few.{few_behind, most_kept}
 use Rattle.tds_relay.proofs.spared.Only.{only_on}
@@ -57,8 +57,8 @@ returns-clause-wakes c =
 
 pub returns-clause-closes : goal.returns-clause-closes
 returns-clause-closes c =
-    closes_done_on c.serve_line.result (IsWaiting (desk_in c.hear_all.new.self.desk).line) (HeardFor c.args.number c.args.piece.now c.args.self.now) (register_in c.args.self.now) (register_in c.hear_all.new.self) (register_in c.serve_line.new.self)
-    (λ key waits. InLine c.hear_all.new.self c.in_ok-hear_all.ensures.streams waits) c.serve_line.ensures.closes c.serve_line.ensures.kept c.in_ok-hear_all.ensures.closes
+    closes_done_on c.serve_line.result (IsLentInVain c.hear_all.new.self) (HeardFor c.args.number c.args.piece.now c.args.self.now) (register_in c.args.self.now) (register_in c.hear_all.new.self) (register_in c.serve_line.new.self)
+    (λ key lent seated. InLine c.hear_all.new.self c.in_ok-hear_all.ensures.streams c.in_ok-hear_all.ensures.others lent) c.serve_line.ensures.vain c.serve_line.ensures.kept c.in_ok-hear_all.ensures.closes
 
 pub returns-clause-few : goal.returns-clause-few
 returns-clause-few c = few_behind c.serve_line.result _ _ _ _ _ (most_kept _ _ (c.in_ok-hear_all.ensures.closes.told)) (c.in_ok-hear_all.ensures.none) c.serve_line.ensures.few

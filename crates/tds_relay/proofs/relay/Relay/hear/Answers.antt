@@ -1,3 +1,4 @@
+use Rattle.tds_relay.specs.Desk.{whose}
 use Rattle.std.proofs.Common.{Option, ap, length, refl, sym, ◌∙◌, rules}
 use Rattle.tds_relay.specs.declared.link.Link.{Link}
 use Rattle.tds_relay.specs.Linking.{Linked}
@@ -145,7 +146,7 @@ returns-then-not-link-clause-cleans c = λ not. inl (search rules)
 
 pub returns-clause-cleans : goal.returns-clause-cleans
 returns-clause-cleans c =
-    subst (λ (xs : List ℕ). IfOk c.hear_on.result (λ heard. Cleans heard.1 xs c.hear_on.new.outbox.items)) (search rules) c.hear_on.ensures.cleans
+    subst (λ (xs : List ℕ). IfOk c.hear_on.result (λ heard. Cleans (whose (desk_in c.args.self.now.desk) c.args.number) heard.1 xs c.hear_on.new.outbox.items)) (search rules) c.hear_on.ensures.cleans
 
 pub returns-in_default-clause-posts : goal.returns-in_default-clause-posts
 returns-in_default-clause-posts c = as_refl c.args.self.now.links.items
@@ -167,7 +168,7 @@ returns-clause-hears c =
     heard_as c.hear_on.result _ c.args.number c.args.piece.now c.in-Some.place c.index_mut-link.result.now c.hear_on.new.link c.args.self.now
     (λ (heard : Option Heard). house_with (desk_in c.hear_on.new.desk) (told_by heard (ends_in c.args.self.now.applications)) (posts_in c.hear_on.new.applications))
     (sym c.place_in.ensures.is ∙ c.in-Some.is)
-    (subst (λ (v : Linked). c.index_mut-link.result.now ≡ slice_index_or v.items c.in-Some.place c.index_mut-link.result.now) c.links.view_is c.index_mut-link.ensures.value) c.hear_on.ensures.hears
+    (subst (λ (v : Linked). c.index_mut-link.result.now ≡ slice_index_or v.items c.in-Some.place c.index_mut-link.result.now) c.links.view_is c.index_mut-link.ensures.value) (search rules) c.hear_on.ensures.hears
 
 pub returns-in_default-clause-refused : goal.returns-in_default-clause-refused
 returns-in_default-clause-refused c = inl refl

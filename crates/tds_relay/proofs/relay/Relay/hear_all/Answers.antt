@@ -1,4 +1,5 @@
 use Rattle.std.proofs.Common.{◌≡◌, ◌∙◌, [], ap, inl, length, refl, suc, sym, rules}
+use Rattle.tds_relay.specs.Waiting.{LosesAt}
 use Rattle.tds_relay.specs.Fronts.{hall_in, house_in, told_by}
 use Rattle.tds_relay.specs.Ordering.{opens_in}
 use Rattle.tds_relay.specs.Posts.{names_of, posts_in}
@@ -16,7 +17,7 @@ use Rattle.tds_relay.proofs.steps.Asked.{empty_is}
 use Rattle.tds_relay.proofs.bytes.Streaming.{heard_stays}
 use Rattle.tds_relay.proofs.bytes.Turns.{some_is, streams_all, turned, turns_begin, turns_end}
 use Rattle.tds_relay.specs.Closings.{register_in}
-use Rattle.tds_relay.specs.Reasons.{ByPacket, HeardFor, LosesAt}
+use Rattle.tds_relay.specs.Reasons.{ByPacket, HeardFor}
 use Rattle.tds_relay.proofs.spared.Losing.{loses_by}
 use Rattle.tds_relay.proofs.spared.Closings.{closes_refl, one_closes}
 use Rattle.tds_relay.proofs.spared.Few.{none_both, none_heard, none_refl, none_stays}
@@ -66,8 +67,8 @@ taking-preserved c = record {
       one_along c.args.number c.args.self.now c.taking.self c.hear.new.self c.heard.new.self reached (c.taking.invariant.bodies reached) c.taking.invariant.goes c.in_ok-count.ensures.goes c.in_ok-count.ensures.asks c.in_ok-heard.ensures.bodies;
   closes =
       one_closes (LosesAt c.args.number c.in_ok-count.heard c.hear.new.self) (HeardFor c.args.number c.args.piece.now c.args.self.now) (register_in c.args.self.now) (register_in c.taking.self) (register_in c.hear.new.self) (register_in c.heard.new.self)
-      (λ key why. ByPacket c.taking.self c.taking.rest.now c.taking.invariant.anew
-      (loses_by c.args.number c.taking.rest.now _ c.taking.self c.hear.new.self _ key c.in_ok-count.ensures.hears refl c.in_ok-count.ensures.ends c.in_ok-count.ensures.cleans c.in_ok-count.ensures.posts c.in_ok-count.ensures.asks why))
+      (λ key why seated. ByPacket c.taking.self c.taking.rest.now c.taking.invariant.anew c.taking.invariant.others
+      (loses_by c.args.number c.taking.rest.now _ c.taking.self c.hear.new.self _ key c.in_ok-count.ensures.hears refl c.in_ok-count.ensures.ends c.in_ok-count.ensures.cleans c.in_ok-count.ensures.posts c.in_ok-count.ensures.asks (c.taking.invariant.seated seated) why))
       c.taking.invariant.closes c.in_ok-count.ensures.ends c.in_ok-count.ensures.names c.in_ok-count.ensures.same c.hear.ensures.orders c.hear.ensures.settings c.in_ok-heard.ensures.closes c.in_ok-heard.ensures.kept;
   spares = λ reached.
       one_spares c.args.number c.taking.rest.now _ (hall_in c.args.self.now) c.taking.self c.hear.new.self c.heard.new.self _ (reached_on (Connection c.args.number) _ _ c.taking.invariant.goes reached) (c.taking.invariant.spares reached)

@@ -8,10 +8,9 @@ use Rattle.tds_relay.specs.Coming.{BeginAnyIf, acknowledged_in}
 use Rattle.tds_relay.specs.Few.{IsSeatedBehind}
 use Rattle.tds_relay.specs.Fronts.{Moved, ends_in, hall_in, hall_of_ends, told_by}
 use Rattle.tds_relay.specs.Handing.{heard_key}
-use Rattle.tds_relay.specs.Reasons.{LosesAt}
 use Rattle.tds_relay.specs.Sparing.{OffGo}
 use Rattle.tds_relay.specs.Ties.{Connection, desk_in}
-use Rattle.tds_relay.specs.Waiting.{IsNotAcknowledged}
+use Rattle.tds_relay.specs.Waiting.{IsNotAcknowledged, LosesAt}
 use Rattle.tds_relay.specs.Waking.{HandsTo, IsWoken}
 use Rattle.tds_relay.proofs.bytes.SetAnew.{any_if}
 use Rattle.tds_relay.proofs.seats.Desks.{off_of}
@@ -40,7 +39,7 @@ pub returns-in-None-clause-wakes : goal.returns-in-None-clause-wakes
 returns-in-None-clause-wakes c = ok_if c.lose.result _ (λ key h. absurd (hands_nobody c.args.heard key _ c.in-None.is h))
 
 pub returns-in-None-clause-closes : goal.returns-in-None-clause-closes
-returns-in-None-clause-closes c = closes_more_on c.lose.result _ (LosesAt c.args.number c.args.heard c.args.self.now) _ _ (λ other who. nothing_loses c.args.number c.args.heard c.args.self.now c.in-None.is other) c.lose.ensures.closes
+returns-in-None-clause-closes c = closes_more_on c.lose.result _ (LosesAt c.args.number c.args.heard c.args.self.now) _ _ (λ other who. nothing_loses c.args.number c.args.heard c.args.self.now c.in-None.is other who) c.lose.ensures.closes
 
 pub returns-in-None-clause-spares : goal.returns-in-None-clause-spares
 returns-in-None-clause-spares c = λ reached. ok_more c.lose.result _ _ (λ h. spares_none c.args.number _ (hall_in c.args.self.now) (hall_in c.lose.new.self) h) (spares_lost_on c.lose.result c.args.number (hall_in c.args.self.now) (hall_in c.lose.new.self) c.lose.ensures.ends c.lose.ensures.line c.lose.ensures.moves)

@@ -1,4 +1,5 @@
 use Rattle.std.proofs.Common.{◌≡◌, ◌∙◌, Some, ap, false, refl, rules, subst, sym}
+use Rattle.tds_relay.specs.Waiting.{LosesAt}
 use Rattle.tds_relay.specs.Fronts.{ends_in, hall_in}
 use Rattle.tds_relay.specs.Ties.{Connection, IsReached, Reaches, desk_in}
 use Rattle.tds_relay.proofs.steps.Fronts.{moves_same, told_some}
@@ -10,7 +11,7 @@ use Rattle.tds_relay.proofs.spared.Ordered.{ordered_both, ordered_on}
 use Rattle.tds_relay.specs.declared.desk.Desk as desks
 use Rattle.tds_relay.proofs.spared.Resting.{put_reached}
 use Rattle.tds_relay.proofs.spared.Waking.{hands_as, not_closed, not_nobody, woken_mine}
-use Rattle.tds_relay.specs.Reasons.{LosesAt, ResumesNotAt}
+use Rattle.tds_relay.specs.Reasons.{ResumesNotAt}
 use Rattle.tds_relay.specs.Posts.{posts_in}
 use Rattle.tds_relay.proofs.spared.Closings.{closes_behind, closes_with}
 use Rattle.tds_relay.proofs.spared.Losing.{resumes_loses, sent_closes, write_loses}
@@ -192,31 +193,31 @@ pub returns-in-Closed-None-clause-wakes : goal.returns-in-Closed-None-clause-wak
 returns-in-Closed-None-clause-wakes c = ok_if c.close_link-in-Closed-None.result _ (λ key h. absurd (not_closed c.args.heard key _ (search rules) (hands_as (Some c.args.heard) c.args.heard key _ refl h)))
 
 pub returns-in-Goes-Some-clause-closes : goal.returns-in-Goes-Some-clause-closes
-returns-in-Goes-Some-clause-closes c = closes_with c.order_write.result _ (LosesAt c.args.number (Some c.args.heard) c.args.self.now) _ _ _ (write_loses c.args.number (Some c.args.heard) c.args.heard c.in-Goes-Some.key c.args.self.now (posts_in c.send_on.new.self.applications) refl (search rules) (c.in_ok-send_on.ensures.kept ∙ c.in_ok-resumes.ensures.kept)) c.order_write.ensures.closes (sent_closes c.args.number (Some c.args.heard) c.args.heard c.args.self.now c.tell.new.self c.send_on.new.self refl c.tell.ensures.outbox c.in_ok-resumes.ensures.links c.in_ok-resumes.ensures.closes c.in_ok-send_on.ensures.closes)
+returns-in-Goes-Some-clause-closes c = closes_with c.order_write.result _ (LosesAt c.args.number (Some c.args.heard) c.args.self.now) _ _ _ (write_loses c.args.number (Some c.args.heard) c.args.heard c.in-Goes-Some.key c.args.self.now (posts_in c.send_on.new.self.applications) refl (search rules) (c.in_ok-send_on.ensures.kept ∙ c.in_ok-resumes.ensures.kept)) c.order_write.ensures.closes (sent_closes c.args.number (Some c.args.heard) c.args.heard c.args.self.now c.tell.new.self c.send_on.new.self refl c.tell.ensures.outbox c.tell.ensures.desk c.in_ok-resumes.ensures.links c.in_ok-resumes.ensures.closes c.in_ok-send_on.ensures.closes)
 
 pub returns-in-Finished-Some-clause-closes : goal.returns-in-Finished-Some-clause-closes
-returns-in-Finished-Some-clause-closes c = closes_with c.order_write-in-Finished-Some.result _ (LosesAt c.args.number (Some c.args.heard) c.args.self.now) _ _ _ (write_loses c.args.number (Some c.args.heard) c.args.heard c.in-Finished-Some.key c.args.self.now (posts_in c.send_on.new.self.applications) refl (search rules) (c.in_ok-send_on.ensures.kept ∙ c.in_ok-resumes.ensures.kept)) c.order_write-in-Finished-Some.ensures.closes (sent_closes c.args.number (Some c.args.heard) c.args.heard c.args.self.now c.tell.new.self c.send_on.new.self refl c.tell.ensures.outbox c.in_ok-resumes.ensures.links c.in_ok-resumes.ensures.closes c.in_ok-send_on.ensures.closes)
+returns-in-Finished-Some-clause-closes c = closes_with c.order_write-in-Finished-Some.result _ (LosesAt c.args.number (Some c.args.heard) c.args.self.now) _ _ _ (write_loses c.args.number (Some c.args.heard) c.args.heard c.in-Finished-Some.key c.args.self.now (posts_in c.send_on.new.self.applications) refl (search rules) (c.in_ok-send_on.ensures.kept ∙ c.in_ok-resumes.ensures.kept)) c.order_write-in-Finished-Some.ensures.closes (sent_closes c.args.number (Some c.args.heard) c.args.heard c.args.self.now c.tell.new.self c.send_on.new.self refl c.tell.ensures.outbox c.tell.ensures.desk c.in_ok-resumes.ensures.links c.in_ok-resumes.ensures.closes c.in_ok-send_on.ensures.closes)
 
 pub returns-else-resumes-clause-closes : goal.returns-else-resumes-clause-closes
-returns-else-resumes-clause-closes c = closes_with c.order_write-else-resumes.result _ (LosesAt c.args.number (Some c.args.heard) c.args.self.now) _ _ _ (write_loses c.args.number (Some c.args.heard) c.args.heard c.in-Acknowledged-Some.key c.args.self.now (posts_in c.send_on.new.self.applications) refl (search rules) (c.in_ok-send_on.ensures.kept ∙ c.in_ok-resumes.ensures.kept)) c.order_write-else-resumes.ensures.closes (sent_closes c.args.number (Some c.args.heard) c.args.heard c.args.self.now c.tell.new.self c.send_on.new.self refl c.tell.ensures.outbox c.in_ok-resumes.ensures.links c.in_ok-resumes.ensures.closes c.in_ok-send_on.ensures.closes)
+returns-else-resumes-clause-closes c = closes_with c.order_write-else-resumes.result _ (LosesAt c.args.number (Some c.args.heard) c.args.self.now) _ _ _ (write_loses c.args.number (Some c.args.heard) c.args.heard c.in-Acknowledged-Some.key c.args.self.now (posts_in c.send_on.new.self.applications) refl (search rules) (c.in_ok-send_on.ensures.kept ∙ c.in_ok-resumes.ensures.kept)) c.order_write-else-resumes.ensures.closes (sent_closes c.args.number (Some c.args.heard) c.args.heard c.args.self.now c.tell.new.self c.send_on.new.self refl c.tell.ensures.outbox c.tell.ensures.desk c.in_ok-resumes.ensures.links c.in_ok-resumes.ensures.closes c.in_ok-send_on.ensures.closes)
 
 pub returns-then-resumes-clause-closes : goal.returns-then-resumes-clause-closes
-returns-then-resumes-clause-closes c = closes_with c.resume.result (ResumesNotAt c.args.number c.in-Acknowledged-Some.key c.send_on.new.self) (LosesAt c.args.number (Some c.args.heard) c.args.self.now) _ _ _ (resumes_loses c.args.number (Some c.args.heard) c.args.heard c.in-Acknowledged-Some.key c.args.self.now c.tell.new.self c.send_on.new.self refl (search rules) (c.in_ok-resumes.ensures.resumes (search rules)) (search rules) c.tell.ensures.desk c.in_ok-resumes.ensures.links c.tell.ensures.outbox c.in_ok-resumes.ensures.ends c.in_ok-resumes.ensures.asks c.in_ok-send_on.ensures.idle) c.resume.ensures.closes (sent_closes c.args.number (Some c.args.heard) c.args.heard c.args.self.now c.tell.new.self c.send_on.new.self refl c.tell.ensures.outbox c.in_ok-resumes.ensures.links c.in_ok-resumes.ensures.closes c.in_ok-send_on.ensures.closes)
+returns-then-resumes-clause-closes c = closes_with c.resume.result (ResumesNotAt c.args.number c.in-Acknowledged-Some.key c.send_on.new.self) (LosesAt c.args.number (Some c.args.heard) c.args.self.now) _ _ _ (resumes_loses c.args.number (Some c.args.heard) c.args.heard c.in-Acknowledged-Some.key c.args.self.now c.tell.new.self c.send_on.new.self refl (search rules) (c.in_ok-resumes.ensures.resumes (search rules)) (search rules) c.tell.ensures.desk c.in_ok-resumes.ensures.links c.tell.ensures.outbox c.in_ok-resumes.ensures.ends c.in_ok-resumes.ensures.asks c.in_ok-send_on.ensures.idle) c.resume.ensures.closes (sent_closes c.args.number (Some c.args.heard) c.args.heard c.args.self.now c.tell.new.self c.send_on.new.self refl c.tell.ensures.outbox c.tell.ensures.desk c.in_ok-resumes.ensures.links c.in_ok-resumes.ensures.closes c.in_ok-send_on.ensures.closes)
 
 pub returns-in-Closed-Some-clause-closes : goal.returns-in-Closed-Some-clause-closes
-returns-in-Closed-Some-clause-closes c = closes_behind c.close_link.result (LosesAt c.args.number (Some c.args.heard) c.args.self.now) _ _ _ c.close_link.ensures.closes (sent_closes c.args.number (Some c.args.heard) c.args.heard c.args.self.now c.tell.new.self c.send_on.new.self refl c.tell.ensures.outbox c.in_ok-resumes.ensures.links c.in_ok-resumes.ensures.closes c.in_ok-send_on.ensures.closes)
+returns-in-Closed-Some-clause-closes c = closes_behind c.close_link.result (LosesAt c.args.number (Some c.args.heard) c.args.self.now) _ _ _ c.close_link.ensures.closes (sent_closes c.args.number (Some c.args.heard) c.args.heard c.args.self.now c.tell.new.self c.send_on.new.self refl c.tell.ensures.outbox c.tell.ensures.desk c.in_ok-resumes.ensures.links c.in_ok-resumes.ensures.closes c.in_ok-send_on.ensures.closes)
 
 pub returns-in-Closed-None-clause-closes : goal.returns-in-Closed-None-clause-closes
-returns-in-Closed-None-clause-closes c = closes_behind c.close_link-in-Closed-None.result (LosesAt c.args.number (Some c.args.heard) c.args.self.now) _ _ _ c.close_link-in-Closed-None.ensures.closes (sent_closes c.args.number (Some c.args.heard) c.args.heard c.args.self.now c.tell.new.self c.send_on.new.self refl c.tell.ensures.outbox c.in_ok-resumes.ensures.links c.in_ok-resumes.ensures.closes c.in_ok-send_on.ensures.closes)
+returns-in-Closed-None-clause-closes c = closes_behind c.close_link-in-Closed-None.result (LosesAt c.args.number (Some c.args.heard) c.args.self.now) _ _ _ c.close_link-in-Closed-None.ensures.closes (sent_closes c.args.number (Some c.args.heard) c.args.heard c.args.self.now c.tell.new.self c.send_on.new.self refl c.tell.ensures.outbox c.tell.ensures.desk c.in_ok-resumes.ensures.links c.in_ok-resumes.ensures.closes c.in_ok-send_on.ensures.closes)
 
 pub returns-in-Goes-None-clause-closes : goal.returns-in-Goes-None-clause-closes
-returns-in-Goes-None-clause-closes c = sent_closes c.args.number (Some c.args.heard) c.args.heard c.args.self.now c.tell.new.self c.send_on.new.self refl c.tell.ensures.outbox c.in_ok-resumes.ensures.links c.in_ok-resumes.ensures.closes c.in_ok-send_on.ensures.closes
+returns-in-Goes-None-clause-closes c = sent_closes c.args.number (Some c.args.heard) c.args.heard c.args.self.now c.tell.new.self c.send_on.new.self refl c.tell.ensures.outbox c.tell.ensures.desk c.in_ok-resumes.ensures.links c.in_ok-resumes.ensures.closes c.in_ok-send_on.ensures.closes
 
 pub returns-in-Finished-None-clause-closes : goal.returns-in-Finished-None-clause-closes
-returns-in-Finished-None-clause-closes c = sent_closes c.args.number (Some c.args.heard) c.args.heard c.args.self.now c.tell.new.self c.send_on.new.self refl c.tell.ensures.outbox c.in_ok-resumes.ensures.links c.in_ok-resumes.ensures.closes c.in_ok-send_on.ensures.closes
+returns-in-Finished-None-clause-closes c = sent_closes c.args.number (Some c.args.heard) c.args.heard c.args.self.now c.tell.new.self c.send_on.new.self refl c.tell.ensures.outbox c.tell.ensures.desk c.in_ok-resumes.ensures.links c.in_ok-resumes.ensures.closes c.in_ok-send_on.ensures.closes
 
 pub returns-in-Acknowledged-None-clause-closes : goal.returns-in-Acknowledged-None-clause-closes
-returns-in-Acknowledged-None-clause-closes c = sent_closes c.args.number (Some c.args.heard) c.args.heard c.args.self.now c.tell.new.self c.send_on.new.self refl c.tell.ensures.outbox c.in_ok-resumes.ensures.links c.in_ok-resumes.ensures.closes c.in_ok-send_on.ensures.closes
+returns-in-Acknowledged-None-clause-closes c = sent_closes c.args.number (Some c.args.heard) c.args.heard c.args.self.now c.tell.new.self c.send_on.new.self refl c.tell.ensures.outbox c.tell.ensures.desk c.in_ok-resumes.ensures.links c.in_ok-resumes.ensures.closes c.in_ok-send_on.ensures.closes
 
 pub returns-in-Goes-Some-clause-others : goal.returns-in-Goes-Some-clause-others
 returns-in-Goes-Some-clause-others c = λ not. ok_more c.order_write.result _ _ (λ same other differs. ap (waits_on other) same ∙ c.in_ok-send_on.ensures.others other differs ∙ ap (waits_on other) c.in_ok-resumes.ensures.links) c.order_write.ensures.links

@@ -1,4 +1,5 @@
 use Rattle.std.proofs.Common.{ap, refl, subst, sym}
+use Rattle.tds_relay.specs.Waiting.{IsUnheldOrTurnedAway}
 use Rattle.tds_relay.specs.declared.desk.Desk as code
 use Rattle.tds_relay.specs.Ties.{Connection, Reaches, desk_in}
 use Rattle.tds_relay.proofs.steps.Fronts.{moves_closes, moves_does, moves_same}
@@ -17,8 +18,8 @@ use Rattle.slab.specs.Slab.{Slab, get}
 use Rattle.tds_relay.specs.declared.application.Application as an
 use Rattle.tds_relay.specs.Bodies.{body_in}
 use Rattle.tds_relay.specs.Desk.{Desk}
-use Rattle.tds_relay.specs.Reasons.{IsTurnedAwayAt, ItselfFor, ResumesNotAt, Unlent, Unserved}
-use Rattle.tds_relay.proofs.spared.Turned.{as_seen, resumes_for, stays_for, turned_with}
+use Rattle.tds_relay.specs.Reasons.{ItselfFor, ResumesNotAt, Unserved}
+use Rattle.tds_relay.proofs.spared.Turned.{as_seen, renewed_held, resumes_for, stays_for, turned_with}
 use Rattle.tds_relay.proofs.spared.Only.{spares_alone_on, spares_both, spares_changed, spares_none, spares_on, spares_renewed}
 use Rattle.tds_relay.specs.Fronts.{ends_in, hall_in, hall_of_ends}
 use Rattle.tds_relay.specs.Hall.{closes}
@@ -31,7 +32,7 @@ use Rattle.tds_relay.proofs.spared.Resting.{all_others, others_both, others_on}
 use Rattle.tds_relay.proofs.spared.Speaking.{closed_rest, done_as}
 use Rattle.tds_relay.proofs.steps.Reaching.{reached_turn}
 use Rattle.tds_relay.specs.declared.desk.leaving.Renewed.{Renewed}
-use Rattle.tds_relay.specs.Sparing.{IsLostBy, IsRenewed}
+use Rattle.tds_relay.specs.Sparing.{IsKeptBy, IsRenewed}
 use Rattle.tds_relay.proofs.relay.Relay.keep.Goals as goal
 
 pub returns-in-Kept-clause-goes : goal.returns-in-Kept-clause-goes
@@ -43,9 +44,6 @@ returns-in-Kept-clause-goes c =
 pub returns-in-NotKept-clause-goes : goal.returns-in-NotKept-clause-goes
 returns-in-NotKept-clause-goes c = ok_more c.replace.result _ _ (λ g from h. g from (reaches_turn (Connection c.args.number) from _ _ _ _ _ c.in_ok-hold.ensures.turns.1 tt h)) c.replace.ensures.goes
 
-pub returns-in-Closed-clause-goes : goal.returns-in-Closed-clause-goes
-returns-in-Closed-clause-goes c = ok_if c.close.result _ (λ from h. subst (λ (d : code.Desk). Reaches (Connection c.args.number) from (desk_in d)) (sym c.close.ensures.desk) (reaches_turn (Connection c.args.number) from _ _ _ _ _ c.in_ok-hold.ensures.turns.1 tt h))
-
 pub returns-in-Kept-clause-moves : goal.returns-in-Kept-clause-moves
 returns-in-Kept-clause-moves c =
     ok_more c.start_kept.result _ _
@@ -55,10 +53,6 @@ returns-in-Kept-clause-moves c =
 pub returns-in-NotKept-clause-moves : goal.returns-in-NotKept-clause-moves
 returns-in-NotKept-clause-moves c = ok_more c.replace.result _ _ (λ m asks from h. m from (moves_does (Connection c.args.number) from _ _ _ _ _ _ _ c.in_ok-hold.ensures.turns.1 asks tt refl h)) c.replace.ensures.moves
 
-pub returns-in-Closed-clause-moves : goal.returns-in-Closed-clause-moves
-returns-in-Closed-clause-moves c =
-    ok_more c.close.result _ _ (λ e asks from h. moves_closes (Connection c.args.number) from _ _ _ _ c.args.key (ap desk_in c.close.ensures.desk) e (moves_does (Connection c.args.number) from _ _ _ _ _ _ _ c.in_ok-hold.ensures.turns.1 asks tt refl h)) c.close.ensures.ends
-
 pub returns-in-Kept-clause-read : goal.returns-in-Kept-clause-read
 returns-in-Kept-clause-read c = stays_on c.start_kept.result _ _ _ c.restart.ensures.read c.start_kept.ensures.read
 
@@ -67,9 +61,6 @@ returns-in-Kept-clause-stand c = stand_on c.start_kept.result _ _ _ (stand_at _ 
 
 pub returns-in-NotKept-clause-stand : goal.returns-in-NotKept-clause-stand
 returns-in-NotKept-clause-stand c = stand_on c.replace.result _ _ _ c.in_ok-hold.ensures.stand c.replace.ensures.stand
-
-pub returns-in-Closed-clause-stand : goal.returns-in-Closed-clause-stand
-returns-in-Closed-clause-stand c = ok_if c.close.result _ (stand_at _ _ _ c.in_ok-hold.ensures.stand c.close.ensures.desk)
 
 pub returns-in-Kept-clause-bodies : goal.returns-in-Kept-clause-bodies
 returns-in-Kept-clause-bodies c = λ reached.
@@ -85,9 +76,6 @@ returns-in-NotKept-clause-bodies c = λ reached.
     (c.replace.ensures.bodies
     (reached_on (Connection c.args.number) (desk_in c.args.self.now.desk) _ (λ from h. reaches_turn (Connection c.args.number) from _ _ _ _ _ c.in_ok-hold.ensures.turns.1 tt h) reached))
 
-pub returns-in-Closed-clause-bodies : goal.returns-in-Closed-clause-bodies
-returns-in-Closed-clause-bodies c = λ reached. asks_along_on c.close.result c.args.self.now c.close.new.self c.close.ensures.asks
-
 pub returns-in-Kept-clause-ordered : goal.returns-in-Kept-clause-ordered
 returns-in-Kept-clause-ordered c = ordered_on c.start_kept.result _ _ _ c.start_kept.ensures.ordered (ordered_same _ _ c.restart.ensures.orders)
 
@@ -97,10 +85,10 @@ returns-in-Kept-clause-closes c = λ asks.
     let key = c.args.key in
     let at = c.restart.new.self in
     closes_first c.start_kept.result (ResumesNotAt c.args.number key old) _ _ _
-    (closes_more_on c.start_kept.result (ItselfFor key (IsTurnedAwayAt key at)) (ResumesNotAt c.args.number key old) _ _
-    (λ other e. resumes_for c.args.number key other old e.0 asks (Unserved c.in_ok-hold.ensures.turns.0 c.renew.new.self c.in_ok-hold.ensures.turns.1.desk_is
+    (closes_more_on c.start_kept.result (ItselfFor key (IsUnheldOrTurnedAway key at)) (ResumesNotAt c.args.number key old) _ _
+    (λ other e. resumes_for c.args.number key other old e.0 asks (Unserved c.in_ok-hold.ensures.turns.0 c.renew.new.self (subst (λ (r : Renewed). IsKeptBy r key (desk_in old.desk)) c.in-Kept.is c.in_ok-hold.ensures.keeps) c.in_ok-hold.ensures.turns.1.desk_is
     (turned_with key at old c.renew.new.self old.links.items c.restart.ensures.desk (ap ends_in c.restart.ensures.same) (λ k goes. ap (λ (s : Slab an.Application). body_in (get s k) goes) c.restart.ensures.same)
-    (as_seen old.links.items at.links.items c.restart.ensures.posts c.restart.ensures.read.seen) e.1))) c.start_kept.ensures.closes) c.restart.ensures.closes
+    (as_seen old.links.items at.links.items c.restart.ensures.posts c.restart.ensures.read.seen) (renewed_held key old.desk c.renew.new.self at c.in-Kept.hold (subst (λ (r : Renewed). IsRenewed r key old.desk c.renew.new.self) c.in-Kept.is c.in_ok-hold.ensures.is) c.restart.ensures.desk e.1)))) c.start_kept.ensures.closes) c.restart.ensures.closes
 
 pub returns-in-NotKept-clause-closes : goal.returns-in-NotKept-clause-closes
 returns-in-NotKept-clause-closes c = λ asks.
@@ -109,14 +97,6 @@ returns-in-NotKept-clause-closes c = λ asks.
     let is = subst (λ (r : Renewed). IsRenewed r key old.desk c.renew.new.self) c.in-NotKept.is c.in_ok-hold.ensures.is in
     closes_more_on c.replace.result _ (ResumesNotAt c.args.number key old) _ _
     (λ other e. stays_for c.args.number key other old (desk_in c.renew.new.self) asks is c.in_ok-hold.ensures.turns.0 (sym c.in_ok-hold.ensures.turns.1.desk_is ∙ is) (cases_eq other key) e) c.replace.ensures.closes
-
-pub returns-in-Closed-clause-closes : goal.returns-in-Closed-clause-closes
-returns-in-Closed-clause-closes c = λ asks.
-    let old = c.args.self.now in
-    let key = c.args.key in
-    let lost = subst (λ (r : Renewed). IsLostBy r key old.desk c.renew.new.self) c.in-Closed.is c.in_ok-hold.ensures.lost in
-    closes_more_on c.close.result (IsWho (Some key)) (ResumesNotAt c.args.number key old) _ _
-    (λ other e. resumes_for c.args.number key other old (let u : Some key ≡ Some other = e in cc) asks (Unlent c.in_ok-hold.ensures.turns.0 lost.0 lost.1 (ap (λ (d : Desk). d.holds) (sym c.in_ok-hold.ensures.turns.1.desk_is) ∙ lost.2))) c.close.ensures.closes
 
 pub returns-in-Kept-clause-spares : goal.returns-in-Kept-clause-spares
 returns-in-Kept-clause-spares c = λ reached.
@@ -138,20 +118,8 @@ returns-in-NotKept-clause-spares c = λ reached.
     (spares_renewed c.args.number c.args.key c.in_ok-hold.ensures.turns.0 old mid reached c.in_ok-hold.ensures.turns.1.desk_is refl)
     (ok_more c.replace.result _ _ (λ h. spares_none c.args.number (Some c.args.key) mid new h) (c.replace.ensures.spares there))
 
-pub returns-in-Closed-clause-spares : goal.returns-in-Closed-clause-spares
-returns-in-Closed-clause-spares c = λ reached.
-    let old = hall_in c.args.self.now in
-    let mid = hall_of_ends (desk_in c.renew.new.self) (ends_in c.args.self.now.applications) in
-    let new = hall_in c.close.new.self in
-    ok_more c.close.result _ _
-    (λ e. spares_both c.args.number (Some c.args.key) old mid new (spares_renewed c.args.number c.args.key c.in_ok-hold.ensures.turns.0 old mid reached c.in_ok-hold.ensures.turns.1.desk_is refl)
-    (spares_changed c.args.number (Some c.args.key) closes mid new (ap desk_in c.close.ensures.desk) e)) c.close.ensures.ends
-
 pub returns-in-Kept-clause-begins : goal.returns-in-Kept-clause-begins
 returns-in-Kept-clause-begins c = any_kept c.start_kept.result _ _ _ c.restart.ensures.any c.start_kept.ensures.answers
-
-pub returns-in-Closed-clause-begins : goal.returns-in-Closed-clause-begins
-returns-in-Closed-clause-begins c = any_kept c.close.result _ _ _ (any_refl c.args.self.now.links.items) c.close.ensures.answers
 
 pub returns-in-Kept-clause-seated : goal.returns-in-Kept-clause-seated
 returns-in-Kept-clause-seated c = λ s.
@@ -160,11 +128,6 @@ returns-in-Kept-clause-seated c = λ s.
 pub returns-in-NotKept-clause-seated : goal.returns-in-NotKept-clause-seated
 returns-in-NotKept-clause-seated c = λ s.
     c.replace.ensures.seated (renewed_on c.args.key c.in_ok-hold.ensures.turns.0 c.args.self.now.desk c.renew.new.self _ _ c.args.self.now.links.items c.in_ok-hold.ensures.turns.1 s (renews_keep _ (renewals.NotKept) _ _ c.in-NotKept.is (c.in_ok-hold.ensures.seats s.reached)))
-
-pub returns-in-Closed-clause-seated : goal.returns-in-Closed-clause-seated
-returns-in-Closed-clause-seated c = λ s.
-    closed_end c.close.result c.in-Closed.number c.renew.new.self c.args.self.now.links.items c.close.new.self c.close.ensures.desk c.close.ensures.gone c.close.ensures.others
-    (renewed_out c.args.key c.in_ok-hold.ensures.turns.0 c.args.self.now.desk c.renew.new.self _ _ c.args.self.now.links.items c.in_ok-hold.ensures.turns.1 s c.in-Closed.number (renews_keep _ (renewals.Closed c.in-Closed.number) _ _ c.in-Closed.is (c.in_ok-hold.ensures.seats s.reached)))
 
 pub returns-in-Kept-clause-apart : goal.returns-in-Kept-clause-apart
 returns-in-Kept-clause-apart c =
@@ -178,10 +141,3 @@ pub returns-in-NotKept-clause-apart : goal.returns-in-NotKept-clause-apart
 returns-in-NotKept-clause-apart c =
     renewed_off c.replace.result c.args.number c.args.key c.in_ok-hold.ensures.turns.0 c.args.self.now _ c.replace.new.self (λ reached. done_as c.args.key c.args.self.now _ reached c.in_ok-hold.ensures.others refl (λ k goes. refl))
     c.in_ok-hold.ensures.turns.1 refl (off_more c.replace.result c.args.number (Some c.args.key) _ c.replace.new.self c.replace.ensures.apart)
-
-pub returns-in-Closed-clause-apart : goal.returns-in-Closed-clause-apart
-returns-in-Closed-clause-apart c =
-    others_off_on c.close.result c.args.number c.args.key c.args.self.now c.close.new.self
-    (λ reached.
-    let is = subst (λ (r : Renewed). IsRenewed r c.args.key c.args.self.now.desk c.renew.new.self) c.in-Closed.is c.in_ok-hold.ensures.is in
-    closed_rest c.close.result c.args.key c.in-Closed.number is.0 c.args.self.now c.close.new.self _ reached is.1 is.2 c.in_ok-hold.ensures.others c.close.ensures.desk c.close.ensures.others c.close.ensures.asks)

@@ -1,4 +1,5 @@
 use Rattle.std.proofs.Common.{List, inl, refl, ap, subst, sym, rules}
+use Rattle.tds_relay.specs.Waiting.{IsUnheldOrTurnedAway}
 use Rattle.tds_relay.specs.declared.link.Link.{Link}
 use Rattle.tds_relay.specs.Lent.{IsMadeOn}
 use Rattle.tds_relay.specs.Ties.{desk_in, IsReached}
@@ -14,7 +15,7 @@ use Rattle.tds_relay.proofs.spared.Ordered.{ordered_on, ordered_same}
 use Rattle.tds_relay.specs.Closings.{Itself, register_in}
 use Rattle.tds_relay.proofs.spared.Closings.{closes_nobody}
 use Rattle.tds_relay.proofs.spared.Turned.{lent_for}
-use Rattle.tds_relay.specs.Reasons.{IsTurnedAwayAt, ItselfFor}
+use Rattle.tds_relay.specs.Reasons.{ItselfFor}
 use Rattle.tds_relay.proofs.spared.Shutting.{closes_pushed}
 use Rattle.tds_relay.proofs.spared.Begun.{begins_on, pushed_made}
 use Rattle.tds_relay.proofs.spared.Few.{few_again, few_pushed, none_stays}
@@ -69,7 +70,7 @@ pub returns-then-served-clause-closes : goal.returns-then-served-clause-closes
 returns-then-served-clause-closes c = lent_for c.start_kept.result c.args.served.hold.key c.args.self.now c.restart.new.self c.start_kept.new.self c.restart.ensures.desk c.restart.ensures.same c.restart.ensures.posts c.restart.ensures.read.seen c.restart.ensures.closes c.start_kept.ensures.closes
 
 pub returns-clause-closes : goal.returns-clause-closes
-returns-clause-closes c = closes_pushed (ItselfFor c.args.served.hold.key (IsTurnedAwayAt c.args.served.hold.key c.args.self.now)) _ _ _ c.args.served.hold.number refl refl refl c.in_ok-push.ensures.items c.in_ok-link.ensures.number c.in_ok-link.ensures.unnamed c.in_ok-link.ensures.nothing c.in_ok-push-2.ensures.items
+returns-clause-closes c = closes_pushed (ItselfFor c.args.served.hold.key (IsUnheldOrTurnedAway c.args.served.hold.key c.args.self.now)) _ _ _ c.args.served.hold.number refl refl refl c.in_ok-push.ensures.items c.in_ok-link.ensures.number c.in_ok-link.ensures.unnamed c.in_ok-link.ensures.nothing c.in_ok-push-2.ensures.items
 
 pub returns-then-served-clause-begins : goal.returns-then-served-clause-begins
 returns-then-served-clause-begins c = λ had. begins_on c.start_kept.result c.args.served.hold.number _ _ _ c.restart.ensures.begins c.start_kept.ensures.answers

@@ -1,4 +1,5 @@
 use Rattle.std.proofs.Common.{ap, inl, inr, refl, rules, subst, sym, ◌≡◌, ◌∙◌, Some}
+use Rattle.tds_relay.specs.Waiting.{IsUnheldOrTurnedAway}
 use Rattle.tds_relay.specs.declared.desk.Desk as code
 use Rattle.tds_relay.proofs.steps.Fronts.{moves_closes, moves_does, moves_same}
 use Rattle.tds_relay.proofs.steps.Reaching.{ok_if, ok_more, reaches_turn}
@@ -13,8 +14,8 @@ use Rattle.tds_relay.proofs.steps.Going.{waits_from}
 use Rattle.tds_relay.specs.Closings.{IsWho}
 use Rattle.tds_relay.specs.Desk.{Desk}
 use Rattle.tds_relay.specs.Fronts.{ends_in}
-use Rattle.tds_relay.specs.Reasons.{HasTransaction, IsTurnedAwayAt, Unkept, Unlent, Unserved}
-use Rattle.tds_relay.proofs.spared.Turned.{as_seen, part_at, turned_with}
+use Rattle.tds_relay.specs.Reasons.{HasTransaction, Unkept, Unserved}
+use Rattle.tds_relay.proofs.spared.Turned.{as_seen, part_at, renewed_held, turned_with}
 use Rattle.tds_relay.proofs.spared.Closings.{closes_first, closes_more_on}
 use Rattle.tds_relay.proofs.spared.Reasons.{for_reason, for_that}
 use Rattle.tds_relay.proofs.seats.Relays.{closed_end, desk_lasting, renewed_on, renewed_out, renews_keep}
@@ -25,7 +26,7 @@ use Rattle.tds_relay.proofs.spared.Resting.{all_others, others_both, others_on}
 use Rattle.tds_relay.proofs.steps.Reaching.{reached_turn}
 use Rattle.tds_relay.proofs.spared.Speaking.{closed_rest}
 use Rattle.tds_relay.specs.declared.desk.leaving.Renewed.{Renewed}
-use Rattle.tds_relay.specs.Sparing.{IsLostBy, IsRenewed}
+use Rattle.tds_relay.specs.Sparing.{IsKeptBy, IsRenewed}
 use Rattle.tds_relay.proofs.relay.Relay.renew.Goals as goal
 
 pub returns-in-Kept-clause-goes : goal.returns-in-Kept-clause-goes
@@ -37,9 +38,6 @@ returns-in-Kept-clause-goes c =
 pub returns-else-has_transaction-clause-goes : goal.returns-else-has_transaction-clause-goes
 returns-else-has_transaction-clause-goes c = ok_more c.change.result _ _ (λ g from h. g from (reaches_turn (Application c.args.key) from _ _ _ _ _ c.in_ok-hold.ensures.turns.1 refl h)) c.change.ensures.goes
 
-pub returns-in-Closed-clause-goes : goal.returns-in-Closed-clause-goes
-returns-in-Closed-clause-goes c = ok_if c.close.result _ (λ from h. subst (λ (d : code.Desk). Reaches (Application c.args.key) from (desk_in d)) (sym c.close.ensures.desk) (reaches_turn (Application c.args.key) from _ _ _ _ _ c.in_ok-hold.ensures.turns.1 refl h))
-
 pub returns-in-Kept-clause-moves : goal.returns-in-Kept-clause-moves
 returns-in-Kept-clause-moves c =
     ok_more c.start_kept.result _ _
@@ -49,10 +47,6 @@ returns-in-Kept-clause-moves c =
 
 pub returns-else-has_transaction-clause-moves : goal.returns-else-has_transaction-clause-moves
 returns-else-has_transaction-clause-moves c = ok_more c.change.result _ _ (λ m asks begun from h. m (inr (asks, c.has_transaction.ensures.none (search rules))) begun from (moves_does (Application c.args.key) from _ _ _ _ _ _ _ c.in_ok-hold.ensures.turns.1 asks refl refl h)) c.change.ensures.moves
-
-pub returns-in-Closed-clause-moves : goal.returns-in-Closed-clause-moves
-returns-in-Closed-clause-moves c =
-    ok_more c.close.result _ _ (λ e asks begun from h. moves_closes (Application c.args.key) from _ _ _ _ c.args.key (ap desk_in c.close.ensures.desk) e (moves_does (Application c.args.key) from _ _ _ _ _ _ _ c.in_ok-hold.ensures.turns.1 asks refl refl h)) c.close.ensures.ends
 
 pub returns-in-Kept-clause-read : goal.returns-in-Kept-clause-read
 returns-in-Kept-clause-read c = stays_on c.start_kept.result _ _ _ c.restart.ensures.read c.start_kept.ensures.read
@@ -66,9 +60,6 @@ returns-in-Kept-clause-stand c = stand_on c.start_kept.result _ _ _ (stand_at _ 
 pub returns-else-has_transaction-clause-stand : goal.returns-else-has_transaction-clause-stand
 returns-else-has_transaction-clause-stand c = stand_on c.change.result _ _ _ c.in_ok-hold.ensures.stand c.change.ensures.stand
 
-pub returns-in-Closed-clause-stand : goal.returns-in-Closed-clause-stand
-returns-in-Closed-clause-stand c = ok_if c.close.result _ (stand_at _ _ _ c.in_ok-hold.ensures.stand c.close.ensures.desk)
-
 pub returns-in-Kept-clause-body : goal.returns-in-Kept-clause-body
 returns-in-Kept-clause-body c = λ whole waits.
     ok_more c.start_kept.result _ _ (λ s. waits_from (get c.args.self.now.applications c.args.key) (get c.restart.new.self.applications c.args.key) whole (going_of c.args.key c.args.self.now) (going_of c.args.key c.restart.new.self) (body_of c.args.key c.start_kept.new.self) waits
@@ -77,9 +68,6 @@ returns-in-Kept-clause-body c = λ whole waits.
 pub returns-else-has_transaction-clause-body : goal.returns-else-has_transaction-clause-body
 returns-else-has_transaction-clause-body c = λ whole waits.
     ok_more c.change.result _ _ (λ s. waits_from (get c.args.self.now.applications c.args.key) (get c.args.self.now.applications c.args.key) whole (going_of c.args.key c.args.self.now) _ (body_of c.args.key c.change.new.self) waits refl s) (c.change.ensures.body whole waits)
-
-pub returns-in-Closed-clause-body : goal.returns-in-Closed-clause-body
-returns-in-Closed-clause-body c = λ whole waits. ok_more c.close.result _ _ (λ e. closed_starts (body_of c.args.key c.args.self.now) (body_of c.args.key c.close.new.self) (closed_body c.args.key c.close.new.self.applications _ (going_of c.args.key c.close.new.self) e)) c.close.ensures.ends
 
 pub returns-then-has_transaction-clause-goes : goal.returns-then-has_transaction-clause-goes
 returns-then-has_transaction-clause-goes c = ok_more c.expel.result _ _ (λ g from h. g from (reaches_turn (Application c.args.key) from _ _ _ _ _ c.in_ok-hold.ensures.turns.1 refl h)) c.expel.ensures.goes
@@ -105,17 +93,10 @@ returns-in-Kept-clause-closes c =
     let key = c.args.key in
     let at = c.restart.new.self in
     closes_first c.start_kept.result _ _ _ _
-    (for_that c.start_kept.result key (IsTurnedAwayAt key at) _ _ _
-    (λ why. Unserved c.in_ok-hold.ensures.turns.0 c.renew.new.self c.in_ok-hold.ensures.turns.1.desk_is
+    (for_that c.start_kept.result key (IsUnheldOrTurnedAway key at) _ _ _
+    (λ why. Unserved c.in_ok-hold.ensures.turns.0 c.renew.new.self (subst (λ (r : Renewed). IsKeptBy r key (desk_in old.desk)) c.in-Kept.is c.in_ok-hold.ensures.keeps) c.in_ok-hold.ensures.turns.1.desk_is
     (turned_with key at old c.renew.new.self old.links.items c.restart.ensures.desk (ap ends_in c.restart.ensures.same) (λ k goes. ap (λ (s : Slab an.Application). body_in (get s k) goes) c.restart.ensures.same)
-    (as_seen old.links.items at.links.items c.restart.ensures.posts c.restart.ensures.read.seen) why)) c.start_kept.ensures.closes) c.restart.ensures.closes
-
-pub returns-in-Closed-clause-closes : goal.returns-in-Closed-clause-closes
-returns-in-Closed-clause-closes c =
-    let key = c.args.key in
-    let lost = subst (λ (r : Renewed). IsLostBy r key c.args.self.now.desk c.renew.new.self) c.in-Closed.is c.in_ok-hold.ensures.lost in
-    closes_more_on c.close.result (IsWho (Some key)) _ _ _
-    (λ other e. ((let u : Some key ≡ Some other = e in cc), Unlent c.in_ok-hold.ensures.turns.0 lost.0 lost.1 (ap (λ (d : Desk). d.holds) (sym c.in_ok-hold.ensures.turns.1.desk_is) ∙ lost.2))) c.close.ensures.closes
+    (as_seen old.links.items at.links.items c.restart.ensures.posts c.restart.ensures.read.seen) (renewed_held key old.desk c.renew.new.self at c.in-Kept.hold (subst (λ (r : Renewed). IsRenewed r key old.desk c.renew.new.self) c.in-Kept.is c.in_ok-hold.ensures.is) c.restart.ensures.desk why))) c.start_kept.ensures.closes) c.restart.ensures.closes
 
 pub returns-then-has_transaction-clause-closes : goal.returns-then-has_transaction-clause-closes
 returns-then-has_transaction-clause-closes c =
@@ -142,11 +123,6 @@ pub returns-else-has_transaction-clause-seated : goal.returns-else-has_transacti
 returns-else-has_transaction-clause-seated c = λ s.
     c.change.ensures.seated (renewed_on c.args.key c.in_ok-hold.ensures.turns.0 c.args.self.now.desk c.renew.new.self _ _ c.args.self.now.links.items c.in_ok-hold.ensures.turns.1 s (renews_keep _ (renewals.NotKept) _ _ c.in-NotKept.is (c.in_ok-hold.ensures.seats s.reached)))
 
-pub returns-in-Closed-clause-seated : goal.returns-in-Closed-clause-seated
-returns-in-Closed-clause-seated c = λ s.
-    closed_end c.close.result c.in-Closed.number c.renew.new.self c.args.self.now.links.items c.close.new.self c.close.ensures.desk c.close.ensures.gone c.close.ensures.others
-    (renewed_out c.args.key c.in_ok-hold.ensures.turns.0 c.args.self.now.desk c.renew.new.self _ _ c.args.self.now.links.items c.in_ok-hold.ensures.turns.1 s c.in-Closed.number (renews_keep _ (renewals.Closed c.in-Closed.number) _ _ c.in-Closed.is (c.in_ok-hold.ensures.seats s.reached)))
-
 pub returns-in-Kept-clause-others : goal.returns-in-Kept-clause-others
 returns-in-Kept-clause-others c = λ reached.
     let led = reached_turn _ _ _ _ _ c.in_ok-hold.ensures.turns.1 reached in
@@ -162,8 +138,3 @@ pub returns-else-has_transaction-clause-others : goal.returns-else-has_transacti
 returns-else-has_transaction-clause-others c = λ reached.
     others_on c.change.result c.args.key c.args.self.now _ c.change.new.self (c.change.ensures.others (reached_turn _ _ _ _ _ c.in_ok-hold.ensures.turns.1 reached))
     (done_as c.args.key c.args.self.now _ reached c.in_ok-hold.ensures.others refl (λ k goes. refl))
-
-pub returns-in-Closed-clause-others : goal.returns-in-Closed-clause-others
-returns-in-Closed-clause-others c = λ reached.
-    let is = subst (λ (r : Renewed). IsRenewed r c.args.key c.args.self.now.desk c.renew.new.self) c.in-Closed.is c.in_ok-hold.ensures.is in
-    closed_rest c.close.result c.args.key c.in-Closed.number is.0 c.args.self.now c.close.new.self _ reached is.1 is.2 c.in_ok-hold.ensures.others c.close.ensures.desk c.close.ensures.others c.close.ensures.asks

@@ -1,10 +1,10 @@
-use Rattle.std.proofs.Common.{ℕ, Some, ap, inl, inr, rules, subst, sym}
+use Rattle.std.proofs.Common.{◌⊎◌, ℕ, Some, ap, inl, inr, rules, subst, sym}
+use Rattle.tds_relay.specs.Waiting.{IsUnheldOrTurnedAway}
 use Rattle.tds_relay.proofs.steps.Reaching.{ok_if, ok_more}
 use Rattle.tds_relay.proofs.spared.Coming.{start_along}
 use Rattle.tds_relay.proofs.spared.Closings.{closes_more_on}
-use Rattle.tds_relay.proofs.spared.Turned.{turned_kept}
-use Rattle.tds_relay.specs.Bodies.{body_of}
-use Rattle.tds_relay.specs.Reasons.{CannotResumeAt, IsTurnedAwayAt, ItselfFor, ResumesNotAt}
+use Rattle.tds_relay.proofs.spared.Turned.{CannotResumeAt, resume_or}
+use Rattle.tds_relay.specs.Reasons.{IsUnheld, ItselfFor, ResumesNotAt}
 use Rattle.tds_relay.proofs.spared.Only.{spares_alone_on}
 use Rattle.tds_relay.specs.Fronts.{hall_in}
 use Rattle.tds_relay.proofs.bytes.SetAnew.{any_kept, any_refl}
@@ -22,10 +22,10 @@ pub returns-else-asks_to_keep-clause-closes : goal.returns-else-asks_to_keep-cla
 returns-else-asks_to_keep-clause-closes c =
     let r = c.args.self.now in
     let key = c.args.key in
-    closes_more_on c.start_kept.result (ItselfFor key (IsTurnedAwayAt key r)) (ResumesNotAt c.args.number key r) _ _
+    closes_more_on c.start_kept.result (ItselfFor key (IsUnheldOrTurnedAway key r)) (ResumesNotAt c.args.number key r) _ _
     (λ other e. inl (
       ap (λ (k : ℕ). Some k) (sym e.0),
-      subst (λ (k : ℕ). CannotResumeAt k r) (sym e.0) (inl (c.asks_to_keep.ensures.not (search rules) (turned_kept key _ r.desk r.links.items (body_of key r) e.1), e.1)),
+      subst (λ (k : ℕ). IsUnheld k r.desk ⊎ CannotResumeAt k r) (sym e.0) (resume_or key r (c.asks_to_keep.ensures.not (search rules)) e.1),
     ))
     c.start_kept.ensures.closes
 

@@ -10,8 +10,7 @@ use Rattle.tds_relay.proofs.steps.Carried.{carries_ok}
 use Rattle.tds_relay.proofs.steps.Reaching.{ok_more, reached_on}
 use Rattle.tds_relay.specs.Posts.{names_in}
 use Rattle.tds_relay.proofs.steps.Renaming.{names_on}
-use Rattle.tds_relay.specs.Closings.{IsWaiting}
-use Rattle.tds_relay.specs.Reasons.{ForReasonOrWaiting}
+use Rattle.tds_relay.specs.Reasons.{ForReasonOrWaiting, IsLentInVain}
 use Rattle.std.proofs.Common.{inl}
 use Rattle.tds_relay.proofs.spared.Closings.{closes_more, closes_with}
 use Rattle.tds_relay.proofs.spared.Reasons.{lent_behind}
@@ -54,7 +53,7 @@ returns-clause-few c = few_behind c.serve_line.result _ _ _ _ _ (most_kept _ _ (
 pub returns-clause-closes : goal.returns-clause-closes
 returns-clause-closes c =
     let all = ForReasonOrWaiting c.args.key c.args.piece.now c.args.self.now in
-    closes_with c.serve_line.result (IsWaiting (desk_in c.take_all.new.self.desk).line) all _ _ _ (lent_behind c.args.key c.args.piece.now c.args.self.now c.take_all.new.self c.in_ok-take_all.ensures.carries c.in_ok-take_all.ensures.goes) c.serve_line.ensures.closes
+    closes_with c.serve_line.result (IsLentInVain c.take_all.new.self) all _ _ _ (lent_behind c.args.key c.args.piece.now c.args.self.now c.take_all.new.self c.in_ok-take_all.ensures.carries c.in_ok-take_all.ensures.read c.in_ok-take_all.ensures.goes) c.serve_line.ensures.vain
     (closes_more _ all _ _ (λ other x. inl x) c.in_ok-take_all.ensures.closes)
 
 pub returns-clause-seated : goal.returns-clause-seated

@@ -1,3 +1,4 @@
+use Rattle.std.proofs.Common.{sym}
 use Rattle.std.proofs.Common.{refl, rules, ◌∙◌}
 use Rattle.tds_relay.specs.Ties.{Application}
 use Rattle.tds_relay.proofs.steps.Reaching.{ok_if, ok_more}
@@ -5,6 +6,8 @@ use Rattle.tds_relay.proofs.steps.Staying.{stays_refl, stays_same}
 use Rattle.tds_relay.specs.Bodies.{body_of}
 use Rattle.tds_relay.proofs.steps.Bodied.{same_starts}
 use Rattle.tds_relay.proofs.spared.Closings.{closes_nobody}
+use Rattle.tds_relay.proofs.spared.Reasons.{for_that}
+use Rattle.tds_relay.proofs.spared.Turned.{turned_held}
 use Rattle.tds_relay.proofs.spared.Cleaned.{not_both}
 use Rattle.tds_relay.proofs.spared.Speaking.{waited_rest}
 use Rattle.tds_relay.proofs.relay.Relay.seek.Goals as goal
@@ -34,7 +37,7 @@ pub returns-in-None-clause-stays : goal.returns-in-None-clause-stays
 returns-in-None-clause-stays c = λ none. ok_if c.wait.result _ (c.wait.ensures.body c.args.key)
 
 pub returns-in-Some-clause-closes : goal.returns-in-Some-clause-closes
-returns-in-Some-clause-closes c = c.start_kept.ensures.closes
+returns-in-Some-clause-closes c = for_that c.start_kept.result c.args.key _ _ _ _ (λ why. turned_held c.args.key _ c.args.self.now (sym c.hold_of.ensures ∙ c.in-Some.is) why) c.start_kept.ensures.closes
 
 pub returns-in-Some-clause-others : goal.returns-in-Some-clause-others
 returns-in-Some-clause-others c = c.start_kept.ensures.others

@@ -7,6 +7,8 @@ use Rattle.tds_relay.proofs.steps.Reaching.{reaches_turn}
 use Rattle.tds_relay.proofs.steps.Staying.{opens_both, opens_refl}
 use Rattle.tds_relay.proofs.spared.Resting.{go_both, go_refl, reached_on_does, reached_serves, served_go}
 use Rattle.tds_relay.specs.Closings.{IsWaiting, Itself, register_in}
+use Rattle.tds_relay.specs.Reasons.{IsLentInVain}
+use Rattle.tds_relay.proofs.spared.Turned.{lent_in_vain}
 use Rattle.tds_relay.specs.Fronts.{hall_in}
 use Rattle.tds_relay.specs.Ties.{desk_in}
 use Rattle.tds_relay.proofs.spared.Lines.{served_waited}
@@ -43,6 +45,7 @@ line-init c =
       counts = refl;
       opening = opens_none old;
       closes = closes_refl may (register_in old);
+      vain = closes_refl (IsLentInVain old) (register_in old);
       fills = λ r. lends_refl old;
       many = grows_refl old;
     }
@@ -63,6 +66,11 @@ line-preserved c = record {
       closes_both (IsWaiting (desk_in c.args.self.now.desk).line) _ _ _ c.line.invariant.closes
       (closes_more _ (IsWaiting (desk_in c.args.self.now.desk).line) _ _
       (λ key e. served_waited (hall_in c.args.self.now) (hall_in c.line.self) _ c.in-Some.served c.line.invariant.unserved c.in_ok-served.ensures.ok.1 c.in-Some.is key e.0) c.in_ok-lend-in-Some.ensures.closes);
+  vain =
+      closes_both (IsLentInVain c.args.self.now) _ _ _ c.line.invariant.vain
+      (closes_more _ (IsLentInVain c.args.self.now) _ _
+      (λ key e. lent_in_vain c.args.self.now c.line.self c.serve.new.self _ c.in-Some.served key c.line.invariant.unserved c.in_ok-served.ensures.ok.1 c.in-Some.is c.in_ok-served.ensures.ok.0 c.line.invariant.moves
+      (served_go _ _ _ c.line.invariant.goes c.line.invariant.going c.in_ok-served.ensures.holds refl refl) c.line.invariant.opens c.line.invariant.fills e.0 e.1) c.in_ok-lend-in-Some.ensures.closes);
   shorter =
       let gone : suc (length c.serve.new.self.line.items) ≡ length c.line.self.desk.line.items =
       served_shorter (desk_in c.line.self.desk) (desk_in c.serve.new.self) _ c.in-Some.served _ _ c.in_ok-served.ensures.ok.1 c.in-Some.is c.in_ok-served.ensures.ok.0 in

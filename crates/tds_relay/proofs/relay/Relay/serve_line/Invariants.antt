@@ -12,6 +12,7 @@ use Rattle.tds_relay.specs.Lent.{LendsInLine}
 use Rattle.tds_relay.specs.Walkers.{AllStand}
 use Rattle.tds_relay.proofs.spared.Apart.{Unserved}
 use Rattle.tds_relay.specs.Closings.{ClosesOnly, IsWaiting, register_in}
+use Rattle.tds_relay.specs.Reasons.{IsLentInVain}
 use Rattle.tds_relay.specs.Few.{IsSeated}
 use Rattle.tds_relay.specs.Cleaning.{cleaned_in}
 use Rattle.tds_relay.proofs.relay.Relay.serve_line.Given as goal
@@ -31,6 +32,7 @@ invariant-line l = record {
   shorter : l.turn + length l.self.desk.line.items ≡ length l.fn.self.desk.line.items;
   lasting : LastBut (IsWaiting (desk_in l.fn.self.desk).line) (register_in l.fn.self) (register_in l.self);
   closes : ClosesOnly (IsWaiting (desk_in l.fn.self.desk).line) (register_in l.fn.self) (register_in l.self);
+  vain : ClosesOnly (IsLentInVain l.fn.self) (register_in l.fn.self) (register_in l.self);
   seated : IsSeated l.fn.self → IsSeated l.self;
   counts : cleaned_in l.self ≡ cleaned_in l.fn.self;
   opening : OpensNew l.fn.self l.self;

@@ -129,7 +129,7 @@ pub returns-in-Ok-clause-closes : goal.returns-in-Ok-clause-closes
 returns-in-Ok-clause-closes c =
     let ready = ready_there c.args.key c.args.self.now.applications c.args.self.now.desk c.args.self.now.links.items c.in-Some.application.now c.in-Some-hold_of.hold c.in-Some.ensures c.if-application.false (search rules)
     (sym c.hold_of.ensures ∙ c.in-Some-hold_of.is) (c.is_open.ensures.open (search rules)) in
-    for_that c.put_held.result c.args.key _ _ _ _ (λ why. subst (λ (b : Body). CannotStart c.args.key (end_at (ends_in c.args.self.now.applications) c.args.key) c.args.self.now.desk c.args.self.now.links.items b) (sym (kept_at (get c.args.self.now.applications c.args.key) (going_of c.args.key c.args.self.now) c.in-Some.application.now c.in-Waits.kind c.in-Waits.whole c.in-Some.ensures c.if-application.false c.in-Waits.is)) (inr (ready, Unput _ c.in-Ok.ensures.whose c.ask.new.self c.in-Ok.ensures.ok c.in-Ok.ensures.opened why))) c.put_held.ensures.closes
+    for_that c.put_held.result c.args.key _ _ _ _ (λ why. inr (subst (λ (b : Body). CannotStart c.args.key (end_at (ends_in c.args.self.now.applications) c.args.key) c.args.self.now.desk c.args.self.now.links.items b) (sym (kept_at (get c.args.self.now.applications c.args.key) (going_of c.args.key c.args.self.now) c.in-Some.application.now c.in-Waits.kind c.in-Waits.whole c.in-Some.ensures c.if-application.false c.in-Waits.is)) (ready, Unput _ c.in-Ok.ensures.whose c.ask.new.self c.in-Ok.ensures.ok c.in-Ok.ensures.opened why))) c.put_held.ensures.closes
 
 pub returns-in_default-clause-placed : goal.returns-in_default-clause-placed
 returns-in_default-clause-placed c = inl (unkept_none c.args.self.now.applications c.args.key _ (search rules))
@@ -233,13 +233,13 @@ returns-in_ok-unless_memory-in-Err-clause-closes c =
     (sym c.hold_of.ensures ∙ c.in-Some-hold_of.is) (c.is_open.ensures.open (search rules)) in
     let its = sym c.hold_of.ensures ∙ c.in-Some-hold_of.is in
     for_reason c.fail.result c.args.key _ _ _
-    (subst (λ (b : Body). CannotStart c.args.key (end_at (ends_in c.args.self.now.applications) c.args.key) c.args.self.now.desk c.args.self.now.links.items b) (sym (kept_at (get c.args.self.now.applications c.args.key) (going_of c.args.key c.args.self.now) c.in-Some.application.now c.in-Waits.kind c.in-Waits.whole c.in-Some.ensures c.if-application.false c.in-Waits.is))
-    (inr (ready, Unasked (record { hold = c.in-Some-hold_of.hold; its = its; refusal = c.in-Err.refusal; reason = c.in_ok-unless_memory-in-Err.ensures; refuses = λ count. c.in-Err.ensures.refused c.in-Some-hold_of.hold its })))) c.fail.ensures.closes
+    (inr (subst (λ (b : Body). CannotStart c.args.key (end_at (ends_in c.args.self.now.applications) c.args.key) c.args.self.now.desk c.args.self.now.links.items b) (sym (kept_at (get c.args.self.now.applications c.args.key) (going_of c.args.key c.args.self.now) c.in-Some.application.now c.in-Waits.kind c.in-Waits.whole c.in-Some.ensures c.if-application.false c.in-Waits.is))
+    (ready, Unasked (record { hold = c.in-Some-hold_of.hold; its = its; refusal = c.in-Err.refusal; reason = c.in_ok-unless_memory-in-Err.ensures; refuses = λ count. c.in-Err.ensures.refused c.in-Some-hold_of.hold its })))) c.fail.ensures.closes
 
 pub returns-in_default-hold_of-clause-closes : goal.returns-in_default-hold_of-clause-closes
 returns-in_default-hold_of-clause-closes c =
     let none : c.hold_of.result ≡ None = search rules in
-    for_reason c.end.result c.args.key _ _ _ (subst (λ (b : Body). CannotStart c.args.key (end_at (ends_in c.args.self.now.applications) c.args.key) c.args.self.now.desk c.args.self.now.links.items b) (sym (kept_at (get c.args.self.now.applications c.args.key) (going_of c.args.key c.args.self.now) c.in-Some.application.now c.in-Waits.kind c.in-Waits.whole c.in-Some.ensures c.if-application.false c.in-Waits.is)) (inl (sym c.hold_of.ensures ∙ none))) c.end.ensures.closes
+    for_reason c.end.result c.args.key _ _ _ (inl (sym c.hold_of.ensures ∙ none)) c.end.ensures.closes
 
 pub returns-in_default-clause-behind : goal.returns-in_default-clause-behind
 returns-in_default-clause-behind c = λ hold its. sparing.Stays

@@ -1,4 +1,5 @@
 use Rattle.std.proofs.Common.{◌≡◌, ◌∙◌, None, Some, inl, rules, sym}
+use Rattle.tds_relay.specs.Waiting.{IsUnheldOrTurnedAway}
 use Rattle.tds_relay.specs.Asking.{Closes}
 use Rattle.tds_relay.specs.Bodies.{Stays, body_of, going_of}
 use Rattle.tds_relay.specs.Fronts.{hall_in}
@@ -17,8 +18,9 @@ use Rattle.tds_relay.specs.Closings.{Itself, register_in}
 use Rattle.tds_relay.proofs.spared.Lasting.{last_closed, last_start}
 use Rattle.tds_relay.proofs.spared.Closings.{closes_refl}
 use Rattle.tds_relay.proofs.spared.Reasons.{for_reason, for_that}
-use Rattle.tds_relay.proofs.spared.Turned.{turned_by}
-use Rattle.tds_relay.specs.Reasons.{IsTurnedAwayAt, ItselfFor, Unstarted}
+use Rattle.tds_relay.proofs.spared.Turned.{turned_by, unstarted_or}
+use Rattle.tds_relay.specs.Reasons.{ItselfFor}
+use Rattle.std.proofs.Common.{inr}
 use Rattle.tds_relay.proofs.spared.Filling.{own_refl}
 use Rattle.tds_relay.proofs.relay.Relay.start_kept.Goals as goal
 
@@ -85,10 +87,10 @@ returns-clause-lasts c =
     last_closed c.fail.result c.args.key named.0 (register_in c.args.self.now) (register_in c.fail.new.self) named.1 c.fail.ensures.over
 
 pub returns-in_default-clause-closes : goal.returns-in_default-clause-closes
-returns-in_default-clause-closes c = for_that c.start.result c.args.key _ _ _ _ (λ why. Unstarted why) c.start.ensures.closes
+returns-in_default-clause-closes c = for_that c.start.result c.args.key _ _ _ _ (λ why. unstarted_or c.args.key c.args.self.now why) c.start.ensures.closes
 
 pub returns-then-may_ask-clause-closes : goal.returns-then-may_ask-clause-closes
-returns-then-may_ask-clause-closes c = for_that c.start-then-may_ask.result c.args.key _ _ _ _ (λ why. Unstarted why) c.start-then-may_ask.ensures.closes
+returns-then-may_ask-clause-closes c = for_that c.start-then-may_ask.result c.args.key _ _ _ _ (λ why. unstarted_or c.args.key c.args.self.now why) c.start-then-may_ask.ensures.closes
 
 pub returns-then-is_held_back-clause-behind : goal.returns-then-is_held_back-clause-behind
 returns-then-is_held_back-clause-behind c = λ hold its. sparing.Stays
@@ -109,12 +111,12 @@ pub returns-clause-own : goal.returns-clause-own
 returns-clause-own c = λ reached. c.fail.ensures.own
 
 pub returns-then-is_held_back-clause-closes : goal.returns-then-is_held_back-clause-closes
-returns-then-is_held_back-clause-closes c = closes_refl (ItselfFor c.args.key (IsTurnedAwayAt c.args.key c.args.self.now)) (register_in c.args.self.now)
+returns-then-is_held_back-clause-closes c = closes_refl (ItselfFor c.args.key (IsUnheldOrTurnedAway c.args.key c.args.self.now)) (register_in c.args.self.now)
 
 pub returns-clause-closes : goal.returns-clause-closes
 returns-clause-closes c =
     let r = c.args.self.now in
     let its = sym c.hold_of.ensures ∙ c.in-Some.is in
-    for_reason c.fail.result c.args.key (IsTurnedAwayAt c.args.key r) _ _
-    (turned_by c.args.key _ r.desk r.links.items (body_of c.args.key r) c.in-Some.hold its (c.is_held_back.ensures.waits (search rules)) (c.is_held_back.ensures.ready its (search rules)) (c.may_ask.ensures.not (search rules)))
+    for_reason c.fail.result c.args.key (IsUnheldOrTurnedAway c.args.key r) _ _
+    (inr (turned_by c.args.key _ r.desk r.links.items (body_of c.args.key r) c.in-Some.hold its (c.is_held_back.ensures.waits (search rules)) (c.is_held_back.ensures.ready its (search rules)) (c.may_ask.ensures.not (search rules))))
     c.fail.ensures.closes

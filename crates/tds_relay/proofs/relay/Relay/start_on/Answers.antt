@@ -1,4 +1,5 @@
 use Rattle.std.proofs.Common.{sym, ◌∙◌, ◌⊎◌, ℕ, ap, subst, Some}
+use Rattle.tds_relay.specs.Waiting.{IsUnheldOrTurnedAway}
 use Rattle.tds_relay.specs.Reasons.{IsTurnedAwayAt, ItselfFor}
 use Rattle.tds_relay.proofs.spared.Resting.{go_on_one, go_refl}
 use Rattle.tds_relay.specs.Bodies.{body_of}
@@ -8,6 +9,7 @@ use Rattle.tds_relay.specs.Closings.{IsWho, Itself}
 use Rattle.tds_relay.specs.Hall.{holder}
 use Rattle.tds_relay.specs.Ties.{desk_in}
 use Rattle.tds_relay.proofs.spared.Closings.{closes_more_on}
+use Rattle.tds_relay.proofs.spared.Turned.{turned_there}
 use Rattle.tds_relay.proofs.spared.Lasting.{last_more_on, last_start}
 use Rattle.tds_relay.specs.Closings.{register_in}
 use Rattle.tds_relay.proofs.spared.Apart.{none_alone, who_alone}
@@ -32,8 +34,8 @@ pub returns-in-Some-clause-closes : goal.returns-in-Some-clause-closes
 returns-in-Some-clause-closes c =
     let r = c.args.self.now in
     let number = c.args.number in
-    closes_more_on c.start_kept.result (ItselfFor c.in-Some.key (IsTurnedAwayAt c.in-Some.key r)) (λ other. IsWho (holder (desk_in r.desk) number) other × IsTurnedAwayAt other r) _ _
-    (λ key e. (sym c.key_on.ensures ∙ c.in-Some.is ∙ ap (λ (k : ℕ). Some k) (sym e.0), subst (λ (k : ℕ). IsTurnedAwayAt k r) (sym e.0) e.1)) c.start_kept.ensures.closes
+    closes_more_on c.start_kept.result (ItselfFor c.in-Some.key (IsUnheldOrTurnedAway c.in-Some.key r)) (λ other. IsWho (holder (desk_in r.desk) number) other × IsTurnedAwayAt other r) _ _
+    (λ key e. (sym c.key_on.ensures ∙ c.in-Some.is ∙ ap (λ (k : ℕ). Some k) (sym e.0), subst (λ (k : ℕ). IsTurnedAwayAt k r) (sym e.0) (turned_there c.in-Some.key number r (sym c.key_on.ensures ∙ c.in-Some.is) e.1))) c.start_kept.ensures.closes
 
 pub returns-in-Some-clause-lasts : goal.returns-in-Some-clause-lasts
 returns-in-Some-clause-lasts c = last_more_on c.start_kept.result (Itself c.in-Some.key) (IsWho (holder (desk_in c.args.self.now.desk) c.args.number)) _ _ (λ key e. sym c.key_on.ensures ∙ c.in-Some.is ∙ ap (λ (k : ℕ). Some k) (sym e)) c.start_kept.ensures.lasts

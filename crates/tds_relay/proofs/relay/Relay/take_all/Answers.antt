@@ -38,7 +38,7 @@ taking-preserved c = record {
   asks = asks_left c.args.key _ _ _ _ _ _ c.behind-rest.ensures (c.in_ok-count.ensures.asks (house_in c.args.self.now) c.args.piece.now c.taking.invariant.asks);
   read = stays_both _ _ _ c.taking.invariant.read c.in_ok-count.ensures.read;
   closes = closes_both (ItselfFor c.args.key (HasReason c.args.key c.args.piece.now c.args.self.now)) _ _ _ c.taking.invariant.closes
-      (closes_more _ (ItselfFor c.args.key (HasReason c.args.key c.args.piece.now c.args.self.now)) _ _ (λ other x. (x.0, ByPiece c.taking.self c.taking.rest.now c.taking.invariant.carries x.1)) c.in_ok-count.ensures.closes);
+      (closes_more _ (ItselfFor c.args.key (HasReason c.args.key c.args.piece.now c.args.self.now)) _ _ (λ other x. (x.0, ByPiece c.taking.self c.taking.rest.now c.taking.invariant.carries c.taking.invariant.read x.1)) c.in_ok-count.ensures.closes);
   carries = carries_left c.args.key _ _ _ _ _ _ _ c.behind-rest.ensures (c.in_ok-count.ensures.carries (house_in c.args.self.now) c.args.piece.now (body_of c.args.key c.args.self.now) c.taking.invariant.carries);
   stand = λ n r h. c.in_ok-count.ensures.stand n r (c.taking.invariant.stand n r h);
   seated = λ s. c.in_ok-count.ensures.seated (c.taking.invariant.seated s);

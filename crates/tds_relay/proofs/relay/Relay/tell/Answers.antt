@@ -1,3 +1,4 @@
+use Rattle.std.proofs.Common.{◌∙◌, ap, Some}
 use Rattle.std.proofs.Common.{Option, subst, sym, ℕ}
 use Rattle.tds_relay.specs.Fronts.{ends_in}
 use Rattle.tds_relay.specs.Reasons.{HasTakenBack}
@@ -43,7 +44,7 @@ pub returns-in-Acknowledged-clause-closes : goal.returns-in-Acknowledged-clause-
 returns-in-Acknowledged-clause-closes c = closes_nobody _ _ _ c.acknowledged.ensures.closes
 
 pub returns-in_ok-end-in-Closed-clause-closes : goal.returns-in_ok-end-in-Closed-clause-closes
-returns-in_ok-end-in-Closed-clause-closes c = closes_more (Itself c.in-Some.key) _ _ _ (λ other same. c.in-Closed.is) c.in_ok-end-in-Closed.ensures.closes
+returns-in_ok-end-in-Closed-clause-closes c = closes_more (Itself c.in-Some.key) _ _ _ (λ other same. (c.in-Some.is ∙ ap (λ (k : ℕ). Some k) (sym same), c.in-Closed.is)) c.in_ok-end-in-Closed.ensures.closes
 
 pub returns-in-Acknowledged-clause-resumes : goal.returns-in-Acknowledged-clause-resumes
 returns-in-Acknowledged-clause-resumes c = λ resumes. subst (λ (o : Option ℕ). HasTakenBack o (ends_in c.args.self.now.applications)) (sym c.in-Some.is) (c.acknowledged.ensures.resumes resumes)

@@ -20,6 +20,7 @@ use Rattle.tds_relay.proofs.steps.Renaming.{names_handed}
 use Rattle.tds_relay.specs.Posts.{names_of}
 use Rattle.tds_relay.proofs.steps.Bodied.{asks_kept}
 use Rattle.tds_relay.proofs.seats.Counting.{stays_refl}
+use Rattle.tds_relay.proofs.spared.Losing.{cleans_as}
 use Rattle.tds_relay.proofs.relay.coming.hear_packet.Goals as goal
 
 -- where it isn't handed on
@@ -195,19 +196,19 @@ pub returns-in_default-get_mut-clause-asks : goal.returns-in_default-get_mut-cla
 returns-in_default-get_mut-clause-asks c = λ key goes. refl
 
 pub returns-then-matches-clause-cleans : goal.returns-then-matches-clause-cleans
-returns-then-matches-clause-cleans c = c.in_ok-heard.ensures.cleans
+returns-then-matches-clause-cleans c = cleans_as _ _ _ _ _ c.in_ok-heard.ensures.whose c.in_ok-heard.ensures.cleans
 
 pub returns-in_default-key-clause-cleans : goal.returns-in_default-key-clause-cleans
-returns-in_default-key-clause-cleans c = c.in_ok-heard.ensures.cleans
+returns-in_default-key-clause-cleans c = cleans_as _ _ _ _ _ c.in_ok-heard.ensures.whose c.in_ok-heard.ensures.cleans
 
 pub returns-in_default-get_mut-clause-cleans : goal.returns-in_default-get_mut-clause-cleans
-returns-in_default-get_mut-clause-cleans c = c.in_ok-heard.ensures.cleans
+returns-in_default-get_mut-clause-cleans c = cleans_as _ _ _ _ _ c.in_ok-heard.ensures.whose c.in_ok-heard.ensures.cleans
 
 pub returns-then-not-hears-clause-cleans : goal.returns-then-not-hears-clause-cleans
-returns-then-not-hears-clause-cleans c = c.in_ok-heard.ensures.cleans
+returns-then-not-hears-clause-cleans c = cleans_as _ _ _ _ _ c.in_ok-heard.ensures.whose c.in_ok-heard.ensures.cleans
 
 pub returns-clause-cleans : goal.returns-clause-cleans
-returns-clause-cleans c = c.in_ok-heard.ensures.cleans
+returns-clause-cleans c = cleans_as _ _ _ _ _ c.in_ok-heard.ensures.whose c.in_ok-heard.ensures.cleans
 
 pub returns-in_default-clause-cleans : goal.returns-in_default-clause-cleans
 returns-in_default-clause-cleans c = λ not. inl refl
