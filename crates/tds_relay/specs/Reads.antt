@@ -78,6 +78,16 @@ waits_on number ls = option_map bytes_on (link_at number ls)
 abbrev pub post_on : ℕ → List Link → Option Post
 post_on number ls = option_map (λ (l : Link). post_in l.out) (link_at number ls)
 
+-- and what is known of the message that comes there
+abbrev pub Carried : Type 0
+Carried = Post × Answer
+
+abbrev pub carried_by : Link → Carried
+carried_by l = (post_in l.out, l.answer)
+
+abbrev pub carried_on : ℕ → List Link → Option Carried
+carried_on number ls = option_map carried_by (link_at number ls)
+
 -- if that is open
 abbrev pub if_open : {A : Type 0} → Option Reading → Option A → Option A
 if_open None o = None

@@ -125,6 +125,8 @@ impl Relay {
             (register_in self.old) (register_in self.new)) }
         ensures seated { IsSeated self.old → OnOk result (IsSeated self.new) }
         ensures opening { opens_in self.new.orders.items ≡ opens_in self.old.orders.items }
+        ensures aside { IsReached (desk_in self.old.desk)
+            → OnOk result (OthersKeepAt key self.old self.new) }
     {
         self.expel_for(key, None)
     }
@@ -150,6 +152,8 @@ impl Relay {
             (register_in self.old) (register_in self.new)) }
         ensures seated { IsSeated self.old → OnOk result (IsSeated self.new) }
         ensures opening { opens_in self.new.orders.items ≡ opens_in self.old.orders.items }
+        ensures aside { IsReached (desk_in self.old.desk)
+            → OnOk result (OthersKeepAt key self.old self.new) }
     {
         self.end_for(key, why)?;
         self.release(key)
