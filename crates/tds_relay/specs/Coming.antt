@@ -62,7 +62,7 @@ MayBeDone old new =
 pub record MayBeginAny (old new : List Link) : Type 0 where
   pub begins : (number : ℕ) → MayBegin (answer_at number old) (answer_at number new)
 
--- The next message may begin; or it doesn't yet.
+-- The next message may begin, or what is known stays; or that stays.
 abbrev pub BeginsIf : Bool → Option Answer → Option Answer → Type 0
 BeginsIf true old new = MayBegin old new
 BeginsIf false old new = StaysAt old new

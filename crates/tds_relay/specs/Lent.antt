@@ -12,7 +12,7 @@ use Rattle.tds_relay.specs.Closings.{Register, open_name}
 use Rattle.tds_relay.specs.Fronts.{ends_in}
 use Rattle.tds_relay.specs.Desk.{find_key, find_number, key_of, without_number}
 use Rattle.tds_relay.specs.Hall.{end_at, holder, is_in}
-use Rattle.tds_relay.specs.Reads.{StaysAt, answer_at, carried_on, link_at, waits_on}
+use Rattle.tds_relay.specs.Reads.{StaysAt, answer_at, carried_there, link_at, waits_on}
 use Rattle.tds_relay.specs.Sparing.{Held, held_at}
 use Rattle.tds_relay.specs.Taking.{IsDeaf}
 use Rattle.tds_relay.specs.Ties.{desk_in}
@@ -47,7 +47,7 @@ pub record HasClosed (May : ℕ → Type 0) (old new : Register) : Type 0 where
   pub was : open_name key old ≡ Some tag
   pub closed : open_name key new ≡ None
 
--- Each that was there is there; or one is closed that doesn't take the request of such an application, and this is too.
+-- Each that was there is there; or one of these applications is closed, and then any may be gone.
 abbrev pub LastBut : (ℕ → Type 0) → Register → Register → Type 0
 LastBut May old new = AllLast old.links new.links ⊎ HasClosed May old new
 
@@ -69,7 +69,7 @@ LastOrDeaf key old new = AllLast old new.links.items ⊎ IsDeaf (end_at (ends_in
 -- What waited there waits, and nothing else, and is as full, and the same is known of the message that comes there; or the connection is there no
 -- more.
 abbrev pub KeepsWaits : ℕ → List Link → List Link → Type 0
-KeepsWaits number old new = (carried_on number new ≡ None) ⊎ (carried_on number new ≡ carried_on number old)
+KeepsWaits number old new = (carried_there number new ≡ None) ⊎ (carried_there number new ≡ carried_there number old)
 
 -- Nothing is put, and no message begins anew, on the connection that somebody holds who waits for none, but on these; and where nobody held one,
 -- only where somebody does now.
@@ -83,11 +83,11 @@ pub record PutsOnly (But : ℕ → Type 0) (old new : code.Relay) : Type 0 where
 -- On each connection that this one doesn't hold the same waits, the same is known of the message, and who holds it does so still.
 abbrev pub OthersKeep : ℕ → List Hold → List Link → List Hold → List Link → Type 0
 OthersKeep key had old holds new =
-    (number : ℕ) → key_of (find_number number had) ≢ Some key → (find_number number holds ≡ find_number number had) × (carried_on number new ≡ carried_on number old)
+    (number : ℕ) → key_of (find_number number had) ≢ Some key → (find_number number holds ≡ find_number number had) × (carried_there number new ≡ carried_there number old)
 
 -- Who holds a connection does so still; or it is there no more.
 abbrev pub HoldsOrGone : List Hold → List Hold → List Link → Type 0
-HoldsOrGone had holds new = (number : ℕ) → (find_number number holds ≡ find_number number had) ⊎ ((find_number number holds ≡ None) × (carried_on number new ≡ None))
+HoldsOrGone had holds new = (number : ℕ) → (find_number number holds ≡ find_number number had) ⊎ ((find_number number holds ≡ None) × (carried_there number new ≡ None))
 
 pub record KeepsToItsOwn (key : ℕ) (had : List Hold) (old : List Link) (holds : List Hold) (new : List Link) : Type 0 where
   pub others : OthersKeep key had old holds new
@@ -110,7 +110,7 @@ IsLetGo key had holds = (hold : Hold) → find_key key had ≡ Some hold → fin
 -- But on these connections the same waits, the same is known of the message, and who holds them does so still.
 abbrev pub FirstKeeps : (ℕ → Type 0) → code.Relay → code.Relay → Type 0
 FirstKeeps But old new = (number : ℕ)
-    → But number ⊎ ((find_number number new.desk.holds.items ≡ find_number number old.desk.holds.items) × (carried_on number new.links.items ≡ carried_on number old.links.items))
+    → But number ⊎ ((find_number number new.desk.holds.items ≡ find_number number old.desk.holds.items) × (carried_there number new.links.items ≡ carried_there number old.links.items))
 
 -- ---- Where those who wait are lent connections
 

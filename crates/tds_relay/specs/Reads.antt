@@ -85,8 +85,8 @@ Carried = Post × Answer
 abbrev pub carried_by : Link → Carried
 carried_by l = (post_in l.out, l.answer)
 
-abbrev pub carried_on : ℕ → List Link → Option Carried
-carried_on number ls = option_map carried_by (link_at number ls)
+abbrev pub carried_there : ℕ → List Link → Option Carried
+carried_there number ls = option_map carried_by (link_at number ls)
 
 -- if that is open
 abbrev pub if_open : {A : Type 0} → Option Reading → Option A → Option A
@@ -116,7 +116,7 @@ abbrev pub StaysAt : {A : Type 0} → Option A → Option A → Type 0
 StaysAt old None = Unit {0}
 StaysAt old (Some new) = old ≡ Some new
 
--- What is known of the message stays, or the next one begins; or the connection is there no more.
+-- What is known of the message stays, or the next one begins, for whatever reason; or the connection is there no more.
 abbrev pub MayBegin : Option Answer → Option Answer → Type 0
 MayBegin old new = StaysAt old new ⊎ StaysAt (option_map at_its_beginning old) new
 

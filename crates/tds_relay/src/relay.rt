@@ -33,6 +33,7 @@ mod asking;
 mod beginning;
 mod bringing;
 mod coming;
+mod expelling;
 mod hearing;
 mod leaving;
 mod lending;

@@ -14,7 +14,7 @@ use Rattle.tds_relay.specs.Desk as desk
 use Rattle.tds_relay.specs.Desk.{Desk, find_key, find_number, key_of, keeps_by, lent_in, renews, renews_by, ticket_in, turn, without_lease}
 use Rattle.tds_relay.specs.Hall.{holder, is_in}
 use Rattle.tds_relay.specs.Lent.{IsOnItsOwn, KeepsAnswers, KeepsToItsOwn, KeepsWaits, LendsInLine, MayBeLent, OthersKeep, OthersKeepAt, PutsOnly}
-use Rattle.tds_relay.specs.Reads.{StaysAt, answer_at, carried_on, post_on}
+use Rattle.tds_relay.specs.Reads.{StaysAt, answer_at, carried_there, post_on}
 use Rattle.tds_relay.specs.Sparing.{held_at}
 use Rattle.tds_relay.specs.Ties.{Application as ByApplication, Goes, IsReached, desk_in}
 use Rattle.tds_relay.proofs.held.Fewer.{same_left}
@@ -31,7 +31,7 @@ aside_refl key r = λ n differs. (refl, refl)
 
 -- what is held and the connections are as they were
 pub aside_same : (key : ℕ) (a b : code.Relay) → b.desk.holds.items ≡ a.desk.holds.items → b.links.items ≡ a.links.items → OthersKeepAt key a b
-aside_same key a b h l = λ n differs. (ap (find_number n) h, ap (carried_on n) l)
+aside_same key a b h l = λ n differs. (ap (find_number n) h, ap (carried_there n) l)
 
 pub keeps_both : (key : ℕ) (a b c : List Hold) (x y z : List Link) → OthersKeep key a x b y → OthersKeep key b y c z → OthersKeep key a x c z
 keeps_both key a b c x y z h k = λ n differs.
@@ -60,7 +60,7 @@ keeps_own (Ok v) key a b x y own = own.others
 keeps_own (Err v) key a b x y own = tt
 
 pub keeps_waited : {A E : Type 0} (r : Result A E) (key : ℕ) (a b : List Hold) (x y : List Link) → OnOk r (b ≡ a) → y ≡ x → OnOk r (OthersKeep key a x b y)
-keeps_waited (Ok v) key a b x y holds links = λ n differs. (ap (find_number n) holds, ap (carried_on n) links)
+keeps_waited (Ok v) key a b x y holds links = λ n differs. (ap (find_number n) holds, ap (carried_there n) links)
 keeps_waited (Err v) key a b x y holds links = tt
 
 pub aside_waits : {A E : Type 0} (r : Result A E) (key : ℕ) (a b c : code.Relay) → OthersKeepAt key a b → OnOk r (c.desk.holds.items ≡ b.desk.holds.items) → c.links.items ≡ b.links.items → OnOk r (OthersKeepAt key a c)
@@ -81,10 +81,10 @@ filled_own key number hold a b reached its same at w k =
 
 -- a message begins there
 pub begun_own : (number : ℕ) (ls ms : List Link) → ((other : ℕ) → post_on other ms ≡ post_on other ls) → ((other : ℕ) → other ≢ number → answer_at other ms ≡ answer_at other ls)
-    → (other : ℕ) → other ≢ number → carried_on other ms ≡ carried_on other ls
+    → (other : ℕ) → other ≢ number → carried_there other ms ≡ carried_there other ls
 begun_own number ls ms w k other differs = carried_same other ls ms (w other) (k other differs)
 
-pub begun_aside : (key number : ℕ) (holds : List Hold) (ls ms : List Link) → key_of (find_number number holds) ≡ Some key → ((other : ℕ) → other ≢ number → carried_on other ms ≡ carried_on other ls) → OthersKeep key holds ls holds ms
+pub begun_aside : (key number : ℕ) (holds : List Hold) (ls ms : List Link) → key_of (find_number number holds) ≡ Some key → ((other : ℕ) → other ≢ number → carried_there other ms ≡ carried_there other ls) → OthersKeep key holds ls holds ms
 begun_aside key number holds ls ms its w = λ n differs. (refl, w n (λ same. differs (subst (λ (k : ℕ). key_of (find_number k holds) ≡ Some key) (sym same) its)))
 
 pub closed_aside : {A E : Type 0} (r : Result A E) (key number : ℕ) (had mid holds : List Hold) (ls ms : List Link) → key_of (find_number number had) ≡ Some key
@@ -139,7 +139,7 @@ module _ (key number : ℕ) (old mid new : code.Relay) (goes : Goes (ByApplicati
   said_before other differs j same there (inr waits) = waits
 
   said_held : (other : ℕ) → key_of (find_number number old.desk.holds.items) ≡ Some other → is_in other old.desk.line.items ≡ false
-      → (key_of (find_number number old.desk.holds.items) ≢ Some key → (find_number number mid.desk.holds.items ≡ find_number number old.desk.holds.items) × (carried_on number mid.links.items ≡ carried_on number old.links.items))
+      → (key_of (find_number number old.desk.holds.items) ≢ Some key → (find_number number mid.desk.holds.items ≡ find_number number old.desk.holds.items) × (carried_there number mid.links.items ≡ carried_there number old.links.items))
       → MayBeLent number mid.desk.line.items mid.desk.holds.items mid.links.items new.desk.holds.items new.links.items → (other ≡ key) ⊎ (other ≢ key)
       → (holder (desk_in old.desk) number ≡ Some key) ⊎ KeepsWaits number old.links.items new.links.items
   said_held other its waits keeps lends (inl same) = inl (its ∙ ap (λ (k : ℕ). Some k) same)

@@ -17,7 +17,7 @@ use Rattle.tds_relay.specs.Lent.{IsLetGo, KeepsAnswers, LendsInLine, MayForget, 
 use Rattle.tds_relay.specs.Lent as filling
 use Rattle.tds_relay.specs.Hall.{holder}
 use Rattle.tds_relay.specs.Promises.{Each}
-use Rattle.tds_relay.specs.Reads.{FillsAt, Opens as OpensLinks, carried_on, post_on, if_open, open_at, open_waits, waits_on}
+use Rattle.tds_relay.specs.Reads.{FillsAt, Opens as OpensLinks, carried_there, post_on, if_open, open_at, open_waits, waits_on}
 use Rattle.tds_relay.specs.Ties.{IsNumberOf, IsReached, Turns, desk_in}
 use Rattle.tds_relay.proofs.held.Fewer.{each_number, same_left}
 use Rattle.tds_relay.proofs.held.Lists.{found_key}
@@ -114,7 +114,7 @@ pub nobody_keeps : (key : ℕ) (gives : Bool) (way : desk.Way) (old mid : code.R
     → Turns (desk.Leaves key gives way) (desk_in old.desk) (desk_in d) before after → mid.desk ≡ d → mid.links.items ≡ old.links.items → OthersKeepAt key old mid
 nobody_keeps key gives way old mid d before after None same is t at links = λ n differs. (
   ap (λ (x : desks.Desk). find_number n x.holds.items) at ∙ ap (find_number n) (left_none key gives way (desk_in old.desk) (desk_in d) before after t (sym same)),
-  ap (carried_on n) links,
+  ap (carried_there n) links,
 )
 nobody_keeps key gives way old mid d before after (Some h) same is t at links = absurd is
 
@@ -136,7 +136,7 @@ module _ (key : ℕ) (gives : Bool) (way : desk.Way) (left : Left) (old mid new 
       ap (λ (k : ℕ). key_of (find_number k old.desk.holds.items)) is ∙ its_holder key h old.desk.holds.items (apart_at (desk_in old.desk) reached) its in
       let off : n ≢ left.number = λ e. differs (ap (λ (k : ℕ). key_of (find_number k old.desk.holds.items)) e ∙ own) in (
         forget_other left.number n mid.desk.holds.items new.desk.holds.items may off ∙ ap (find_number n) (holds_behind h its) ∙ left_holds (desk_in old.desk) key h reached its n differs,
-        carried n mid.links.items new.links.items (waits n off) (known.keeps n) ∙ ap (carried_on n) links,
+        carried n mid.links.items new.links.items (waits n off) (known.keeps n) ∙ ap (carried_there n) links,
       )
 
   frees_by : MayForget left.number mid.desk.holds.items new.desk.holds.items → IsLetGo key old.desk.holds.items new.desk.holds.items

@@ -6,7 +6,7 @@ use Rattle.tds_relay.proofs.spared.Reasons.{asked_not, is_asked}
 use Rattle.tds_relay.proofs.seats.Relays.{desk_seated}
 use Rattle.tds_relay.proofs.seats.Desks.{deed_seated}
 use Rattle.tds_relay.specs.Ties.{desk_in}
-use Rattle.tds_relay.specs.Desk.{Stops}
+use Rattle.tds_relay.specs.Desk.{Desk, Stops}
 use Rattle.std.proofs.Common.{ap, ◌≡◌, List, false, inr, ℕ, refl, rules, subst}
 use Rattle.tds_relay.proofs.spared.Speaking.{done_as}
 use Rattle.tds_relay.proofs.spared.Reasons.{refused_there, unstopped}
