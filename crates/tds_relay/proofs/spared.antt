@@ -6,6 +6,7 @@ pub mod Cleaned
 pub mod Closings
 pub mod Coming
 pub mod Counted
+pub mod Elsewhere
 pub mod Ended
 pub mod Few
 pub mod Filling

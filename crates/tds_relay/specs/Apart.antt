@@ -11,7 +11,7 @@ pub record Alone (key : ℕ) (old new : Hall) : Type 0 where
 abbrev pub UnlessServed : Hall → Hall → Type 0
 UnlessServed old new = (key : ℕ) → is_in key old.desk.line ≡ false → end_at new.ends key ≡ end_at old.ends key
 
--- Of those who wait the first ones were lent a connection, and wait no more: the end of each other application is as it was.
+-- Of those who wait the first ones wait no more: the end of each other application is as it was.
 pub record LendsInTurn (line : List ℕ) (ends : Ends) (new : Hall) : Type 0 where
   pub lent : List ℕ
   pub are : line ≡ lent ++ new.desk.line

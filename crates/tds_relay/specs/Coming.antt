@@ -1,15 +1,16 @@
 -- What becomes of applications' requests as something comes on a connection, and how its packets are set anew.
-use Rattle.std.specs.Prelude.{◌≡◌, ◌⊎◌, ◌&&◌, ℕ, Bool, true, false, List, [], ◌∷◌, Option, Some, None, is_some}
+use Rattle.std.specs.Prelude.{◌≡◌, ◌⊎◌, ◌&&◌, ℕ, Bool, true, false, IsSome, List, [], ◌∷◌, Option, Some, None, is_some}
 use Rattle.slab.specs.Slab.{Slab, get}
 use Rattle.tds_packet.specs.Reading.{Reading}
 use Rattle.tds_relay.specs.Bodies.{Astray, Body, Closed, Going, Kept, Nowhere, Spared, Starts, body_in, body_of}
 use Rattle.tds_relay.specs.Desk.{owes_reset, whose}
-use Rattle.tds_relay.specs.Fronts.{house_in}
+use Rattle.tds_relay.specs.Fronts.{hall_in, house_in}
 use Rattle.tds_relay.specs.Handing.{PassesAs}
-use Rattle.tds_relay.specs.Hall.{done_by, what_in}
+use Rattle.tds_relay.specs.Hall.{Hall, done_by, holder, is_in, what_in}
 use Rattle.tds_relay.specs.House.{House, Hands, Step, acknowledges, after}
 use Rattle.tds_relay.specs.Reads.{Comes, MayBegin, StaysAt, Streams, answer_at, if_open, open_answer, open_at}
 use Rattle.tds_relay.specs.Sparing.{IsUnkept}
+use Rattle.tds_relay.specs.Ties.{IsReached, desk_in}
 use Rattle.tds_relay.specs.declared.application.Application.{Application}
 use Rattle.tds_relay.specs.declared.desk.coming.Heard.{Heard}
 use Rattle.tds_relay.specs.declared.desk.coming.What.{What}
@@ -61,7 +62,7 @@ MayBeDone old new =
 pub record MayBeginAny (old new : List Link) : Type 0 where
   pub begins : (number : ℕ) → MayBegin (answer_at number old) (answer_at number new)
 
--- The next message may begin; or it doesn't yet.
+-- The next message may begin, or what is known stays; or that stays.
 abbrev pub BeginsIf : Bool → Option Answer → Option Answer → Type 0
 BeginsIf true old new = MayBegin old new
 BeginsIf false old new = StaysAt old new
@@ -96,9 +97,17 @@ ContinuesAnew number left rest heard had now has next f at g to =
     (first behind : Option Answer) (begun : Option Reading) (old : House) (from : services.Service) (bytes : List ℕ) → StreamsAnew number first begun old from bytes left had now f at
     → BeginsIf (acknowledged_in heard) has behind → StreamsAnew number first begun old from bytes rest behind next g to
 
--- In a call all of them are, and then those who wait are served: a message may begin anew where one is lent a connection.
+-- Nobody held the connection of this number, and somebody does now; or who held it waits.
+abbrev pub IsLentSince : ℕ → Hall → Hall → Type 0
+IsLentSince number old new = ((holder old.desk number ≡ None) × IsSome (holder new.desk number)) ⊎ ((key : ℕ) × (holder old.desk number ≡ Some key) × (is_in key old.desk.line ≡ true))
+
+-- What is known of the message stays; or it is lent since, and the next one may begin.
+abbrev pub BeginsLent : ℕ → Hall → Hall → Option Answer → Option Answer → Type 0
+BeginsLent number old new had now = StaysAt had now ⊎ (IsLentSince number old new × MayBegin had now)
+
+-- In a call all of them are, and then those who wait are served: a message may begin anew there alone, where one is lent a connection.
 pub record ComesAnew (number : ℕ) (bytes : List ℕ) (old new : code.Relay) : Type 0 where
   pub comes : Comes number (open_at number old.links.items) (house_in old) old.desk.service bytes (open_at number new.links.items) (house_in new) new.desk.service
   pub behind : Option Answer
   pub anew : AreSetAnew (house_in old) comes.streams.streams.steps (answer_at number old.links.items) behind
-  pub begins : MayBegin (if_open comes.left behind) (open_answer number new.links.items)
+  pub begins : IsReached (desk_in old.desk) → BeginsLent number comes.mid.hall (hall_in new) (if_open comes.left behind) (open_answer number new.links.items)

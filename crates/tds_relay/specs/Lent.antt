@@ -12,7 +12,7 @@ use Rattle.tds_relay.specs.Closings.{Register, open_name}
 use Rattle.tds_relay.specs.Fronts.{ends_in}
 use Rattle.tds_relay.specs.Desk.{find_key, find_number, key_of, without_number}
 use Rattle.tds_relay.specs.Hall.{end_at, holder, is_in}
-use Rattle.tds_relay.specs.Reads.{StaysAt, answer_at, link_at, post_on, waits_on}
+use Rattle.tds_relay.specs.Reads.{StaysAt, answer_at, carried_there, link_at, waits_on}
 use Rattle.tds_relay.specs.Sparing.{Held, held_at}
 use Rattle.tds_relay.specs.Taking.{IsDeaf}
 use Rattle.tds_relay.specs.Ties.{desk_in}
@@ -47,7 +47,7 @@ pub record HasClosed (May : ℕ → Type 0) (old new : Register) : Type 0 where
   pub was : open_name key old ≡ Some tag
   pub closed : open_name key new ≡ None
 
--- Each that was there is there; or one is closed that doesn't take the request of such an application, and this is too.
+-- Each that was there is there; or one of these applications is closed, and then any may be gone.
 abbrev pub LastBut : (ℕ → Type 0) → Register → Register → Type 0
 LastBut May old new = AllLast old.links new.links ⊎ HasClosed May old new
 
@@ -66,12 +66,13 @@ LastOrDeaf key old new = AllLast old new.links.items ⊎ IsDeaf (end_at (ends_in
 
 -- ---- What is put
 
--- What waited there waits, and nothing else, and is as full; or the connection is there no more.
+-- What waited there waits, and nothing else, and is as full, and the same is known of the message that comes there; or the connection is there no
+-- more.
 abbrev pub KeepsWaits : ℕ → List Link → List Link → Type 0
-KeepsWaits number old new = (post_on number new ≡ None) ⊎ (post_on number new ≡ post_on number old)
+KeepsWaits number old new = (carried_there number new ≡ None) ⊎ (carried_there number new ≡ carried_there number old)
 
--- Nothing is put on the connection that somebody holds who waits for none, but on these; and where nobody held one, only where somebody does
--- now.
+-- Nothing is put, and no message begins anew, on the connection that somebody holds who waits for none, but on these; and where nobody held one,
+-- only where somebody does now.
 pub record PutsOnly (But : ℕ → Type 0) (old new : code.Relay) : Type 0 where
   pub held : (key : ℕ) (at : Held) → is_in key (desk_in old.desk).line ≡ false → held_at key old.desk ≡ Some at → But at.0 ⊎ KeepsWaits at.0 old.links.items new.links.items
   pub free : (number : ℕ) → holder (desk_in old.desk) number ≡ None
@@ -79,14 +80,14 @@ pub record PutsOnly (But : ℕ → Type 0) (old new : code.Relay) : Type 0 where
 
 -- ---- What one application does
 
--- On each connection that this one doesn't hold the same waits, and who holds it does so still.
+-- On each connection that this one doesn't hold the same waits, the same is known of the message, and who holds it does so still.
 abbrev pub OthersKeep : ℕ → List Hold → List Link → List Hold → List Link → Type 0
 OthersKeep key had old holds new =
-    (number : ℕ) → key_of (find_number number had) ≢ Some key → (find_number number holds ≡ find_number number had) × (post_on number new ≡ post_on number old)
+    (number : ℕ) → key_of (find_number number had) ≢ Some key → (find_number number holds ≡ find_number number had) × (carried_there number new ≡ carried_there number old)
 
 -- Who holds a connection does so still; or it is there no more.
 abbrev pub HoldsOrGone : List Hold → List Hold → List Link → Type 0
-HoldsOrGone had holds new = (number : ℕ) → (find_number number holds ≡ find_number number had) ⊎ ((find_number number holds ≡ None) × (post_on number new ≡ None))
+HoldsOrGone had holds new = (number : ℕ) → (find_number number holds ≡ find_number number had) ⊎ ((find_number number holds ≡ None) × (carried_there number new ≡ None))
 
 pub record KeepsToItsOwn (key : ℕ) (had : List Hold) (old : List Link) (holds : List Hold) (new : List Link) : Type 0 where
   pub others : OthersKeep key had old holds new
@@ -106,14 +107,14 @@ MayForget number had holds = (holds ≡ had) ⊎ (holds ≡ without_number numbe
 abbrev pub IsLetGo : ℕ → List Hold → List Hold → Type 0
 IsLetGo key had holds = (hold : Hold) → find_key key had ≡ Some hold → find_number hold.number holds ≡ None
 
--- But on these connections the same waits, and who holds them does so still.
+-- But on these connections the same waits, the same is known of the message, and who holds them does so still.
 abbrev pub FirstKeeps : (ℕ → Type 0) → code.Relay → code.Relay → Type 0
 FirstKeeps But old new = (number : ℕ)
-    → But number ⊎ ((find_number number new.desk.holds.items ≡ find_number number old.desk.holds.items) × (post_on number new.links.items ≡ post_on number old.links.items))
+    → But number ⊎ ((find_number number new.desk.holds.items ≡ find_number number old.desk.holds.items) × (carried_there number new.links.items ≡ carried_there number old.links.items))
 
 -- ---- Where those who wait are lent connections
 
--- It was held by one of these, who wait; or who holds it does so still, and nothing was put there; or it was lent.
+-- It was held by one of these, who wait; or who holds it does so still, nothing was put there, and no message begins anew; or it was lent.
 pub data MayBeLent (number : ℕ) (line : List ℕ) (had : List Hold) (old : List Link) (holds : List Hold) (new : List Link) : Type 0 where
   OfWaiting : (hold : Hold) → find_number number had ≡ Some hold → is_in hold.key line ≡ true → MayBeLent number line had old holds new
   Keeps : find_number number holds ≡ find_number number had → KeepsWaits number old new → MayBeLent number line had old holds new

@@ -78,6 +78,16 @@ waits_on number ls = option_map bytes_on (link_at number ls)
 abbrev pub post_on : ℕ → List Link → Option Post
 post_on number ls = option_map (λ (l : Link). post_in l.out) (link_at number ls)
 
+-- and what is known of the message that comes there
+abbrev pub Carried : Type 0
+Carried = Post × Answer
+
+abbrev pub carried_by : Link → Carried
+carried_by l = (post_in l.out, l.answer)
+
+abbrev pub carried_there : ℕ → List Link → Option Carried
+carried_there number ls = option_map carried_by (link_at number ls)
+
 -- if that is open
 abbrev pub if_open : {A : Type 0} → Option Reading → Option A → Option A
 if_open None o = None
@@ -106,7 +116,7 @@ abbrev pub StaysAt : {A : Type 0} → Option A → Option A → Type 0
 StaysAt old None = Unit {0}
 StaysAt old (Some new) = old ≡ Some new
 
--- What is known of the message stays, or the next one begins; or the connection is there no more.
+-- What is known of the message stays, or the next one begins, for whatever reason; or the connection is there no more.
 abbrev pub MayBegin : Option Answer → Option Answer → Type 0
 MayBegin old new = StaysAt old new ⊎ StaysAt (option_map at_its_beginning old) new
 

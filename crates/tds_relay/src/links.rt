@@ -5,6 +5,7 @@ ghost use Rattle.tds_relay.specs.Coming.{MayBeginAny};
 ghost use Rattle.tds_relay.specs.Cutting.{at_its_beginning};
 ghost use Rattle.tds_relay.specs.Lent.{KeepsAnswers};
 ghost use Rattle.tds_relay.specs.Linking.{ArePlaced};
+ghost use Rattle.tds_relay.specs.Posts.{without_first};
 ghost use Rattle.tds_relay.specs.Reads.{answer_at, link_at, post_on};
 ghost use Rattle.tds_relay.specs.Reads.{Sees, Stays, named_seen, open_at, opened_at, opened_seen, place_of};
 ghost use Rattle.tds_relay.specs.Reads.{seen_at, waits_on, without_link};
@@ -148,6 +149,8 @@ pub(crate) fn restart(links: &mut Links, number: u64)
     ensures begins { answer_at number links.new.items
         ≡ option_map at_its_beginning (answer_at number links.old.items) }
     ensures any { MayBeginAny links.old.items links.new.items }
+    ensures others { (other : ℕ) → other ≢ number
+        → answer_at other links.new.items ≡ answer_at other links.old.items }
 {
     let Some(place) = place_in(links, number) else {
         return;
@@ -182,6 +185,10 @@ pub(crate) fn forget_sent(links: &mut Links, number: u64, count: usize) -> bool
     ensures found { result ≡ is_there number links.old.items }
     ensures fewer { waits_on number links.new.items
         ≡ option_map (drop count) (waits_on number links.old.items) }
+    ensures posts { post_on number links.new.items
+        ≡ option_map (without_first count) (post_on number links.old.items) }
+    ensures keeps { (other : ℕ) → other ≢ number
+        → post_on other links.new.items ≡ post_on other links.old.items }
 {
     let Some(place) = place_in(links, number) else {
         return false;

@@ -33,6 +33,7 @@ mod asking;
 mod beginning;
 mod bringing;
 mod coming;
+mod expelling;
 mod hearing;
 mod leaving;
 mod lending;
@@ -341,6 +342,8 @@ impl Relay {
         ensures counts { cleaned_in self.new ≡ cleaned_in self.old }
         ensures closes { ClosesOnly Nobody (register_in self.old) (register_in self.new) }
         ensures seated { IsSeated self.old → OnOk result (IsSeated self.new) }
+        ensures holds { OnOk result (self.new.desk.holds.items
+            ≡ self.old.desk.holds.items) }
     {
         if self.is_away(key) {
             self.desk.wait(key)

@@ -13,7 +13,7 @@ use Rattle.tds_relay.specs.declared.link.Answer.{Answer}
 use Rattle.tds_relay.specs.declared.link.Link.{Link}
 use Rattle.tds_relay.specs.declared.relay.Relay as code
 use Rattle.tds_relay.specs.Cutting.{at_its_beginning, ends_in}
-use Rattle.tds_relay.specs.Desk.{Way, owes_reset, whose}
+use Rattle.tds_relay.specs.Desk.{Way, find_number, key_of, owes_reset, whose}
 use Rattle.tds_relay.specs.Fronts.{IsWhat, Moved, MovedOn, hall_in, house_in}
 use Rattle.tds_relay.specs.Hall.{Hall, Move, done_by, what_in}
 use Rattle.tds_service.specs.History.{Done}
@@ -21,15 +21,17 @@ use Rattle.tds_relay.specs.declared.desk.coming.What.{What}
 use Rattle.tds_relay.specs.declared.desk.coming.What.TheVariants as whats
 use Rattle.tds_relay.specs.Handing.{Brings, Hears, HearsBy, IsNothing, PassesAs, fed}
 use Rattle.tds_relay.specs.House.{House, Manner, Step, Admits, Hands, Makes, Removes, Takes, Writes, after, after_all}
-use Rattle.tds_relay.specs.Lent.{KeepsAnswers}
+use Rattle.tds_relay.specs.Lent.{KeepsAnswers, KeepsWaits, LendsInLine, MayBeLent}
+use Rattle.tds_relay.specs.Lent as lent
 use Rattle.tds_relay.specs.Posts.{Posts, posts_in}
-use Rattle.tds_relay.specs.Reads.{MayBegin, Opens, Stays, StaysAt, StreamsAll, answer_at, answer_on, if_heard, link_at, open_at, open_of, place_of, reader_at, seen_of}
-use Rattle.tds_relay.specs.Coming.{AreSetAnew, BeginAnyIf, BeginsIf, ComesAnew, ContinuesAnew, MayBeginAny, StreamsAnew, acknowledges_to, acknowledged_in}
+use Rattle.tds_relay.specs.Reads.{Carried, MayBegin, Opens, Stays, StaysAt, StreamsAll, answer_at, answer_on, carried_by, if_heard, if_open, link_at, open_answer, open_at, open_of, place_of, reader_at, seen_of}
+use Rattle.tds_relay.specs.Coming.{AreSetAnew, BeginAnyIf, BeginsIf, BeginsLent, ComesAnew, ContinuesAnew, MayBeginAny, StreamsAnew, acknowledges_to, acknowledged_in}
 use Rattle.tds_relay.proofs.steps.Beginning.{begin_both, begin_refl}
-use Rattle.tds_relay.specs.Ties.{Connection, part_on}
+use Rattle.tds_relay.specs.Ties.{Connection, IsReached, desk_in, part_on}
 use Rattle.tds_relay.specs.Walkers.{AllStand, ReadsBy as WalksBy, ReadsOn}
 use Rattle.tds_relay.proofs.bytes.Streaming.{heard_stays, streams_begin, streams_brought, streams_moved, streams_unheard}
 use Rattle.tds_relay.proofs.spared.Begun.{at_next}
+use Rattle.tds_relay.proofs.spared.Filling.{key_some}
 use Rattle.tds_relay.proofs.spared.Waits.{others_link}
 use Rattle.tds_relay.proofs.steps.Fronts.{no_moves}
 use Rattle.tds_relay.proofs.steps.Placed.{IsAt, is_at, is_nowhere, is_open_at, is_shut_at}
@@ -247,11 +249,40 @@ anew_on number first had old f from at between to h h1 ps ps1 bytes left rest he
     }
 
 -- and then those who wait are served
+gone_answer : (x : Option packets.Reading) (o : Option Link) → option_map carried_by o ≡ None → if_open x (option_map answer_on o) ≡ None
+gone_answer None o e = refl
+gone_answer (Some r) None e = refl
+gone_answer (Some r) (Some l) e = absurd (let u : ⊥ = cc in u)
+
+same_answer : (o p : Option packets.Reading) (a b : Option Answer) → StaysAt o p → b ≡ a → StaysAt (if_open o a) (if_open p b)
+same_answer o None a b stays e = tt
+same_answer o (Some r) a b stays e = subst (λ (x : Option packets.Reading). StaysAt (if_open x a) b) (sym stays) (subst (λ (y : Option Answer). StaysAt a y) (sym e) (at_refl a))
+
+abbrev known_of : (o : Option Carried) → Option Answer
+known_of o = option_map (λ (c : Carried). c.1) o
+
+known_is : (o : Option Link) → known_of (option_map carried_by o) ≡ option_map answer_on o
+known_is None = refl
+known_is (Some l) = refl
+
+begins_kept : (number : ℕ) (mid new : code.Relay) → Opens mid.links.items new.links.items → KeepsWaits number mid.links.items new.links.items → StaysAt (open_answer number mid.links.items) (open_answer number new.links.items)
+begins_kept number mid new opens (inl none) =
+    subst (λ (o : Option Answer). StaysAt (open_answer number mid.links.items) o) (sym (gone_answer (open_at number new.links.items) (link_at number new.links.items) none)) tt
+begins_kept number mid new opens (inr same) =
+    same_answer (open_at number mid.links.items) (open_at number new.links.items) (answer_at number mid.links.items) (answer_at number new.links.items) (opens.opens number)
+    (sym (known_is (link_at number new.links.items)) ∙ ap known_of same ∙ known_is (link_at number mid.links.items))
+
+begins_by : (number : ℕ) (mid new : code.Relay) → Opens mid.links.items new.links.items → MayBeLent number mid.desk.line.items mid.desk.holds.items mid.links.items new.desk.holds.items new.links.items
+    → BeginsLent number (hall_in mid) (hall_in new) (open_answer number mid.links.items) (open_answer number new.links.items)
+begins_by number mid new opens (lent.OfWaiting h is i) = inr (inr (h.key, ap key_of is, i), opens.begins number)
+begins_by number mid new opens (lent.Keeps e kept) = inl (begins_kept number mid new opens kept)
+begins_by number mid new opens (lent.Lends none some) = inr (inl (ap key_of none, key_some (find_number number new.desk.holds.items) some), opens.begins number)
+
 pub comes_anew : {A E : Type 0} (r : Result A E) (number : ℕ) (bytes : List ℕ) (old mid new : code.Relay)
     → StreamsAnew number (answer_at number old.links.items) (open_at number old.links.items) (house_in old) old.desk.service bytes [] (answer_at number mid.links.items) (open_at number mid.links.items) (house_in mid) mid.desk.service
     → OnOk r (MovedOn (hall_in mid) (hall_in new)) → OnOk r (posts_in new.applications ≡ posts_in mid.applications) → OnOk r (Opens mid.links.items new.links.items) → OnOk r (AllStand mid.desk.service new.desk.service)
-    → OnOk r (ComesAnew number bytes old new)
-comes_anew (Ok x) number bytes old mid new s on kept opens stand =
+    → (IsReached (desk_in old.desk) → IsReached (desk_in mid.desk)) → (IsReached (desk_in mid.desk) → OnOk r (LendsInLine mid new)) → OnOk r (ComesAnew number bytes old new)
+comes_anew (Ok x) number bytes old mid new s on kept opens stand led lends =
     let all : StreamsAll number (open_at number old.links.items) (house_in old) old.desk.service bytes (open_at number mid.links.items) (house_in mid) mid.desk.service = record { left = []; streams = s.streams; all = refl } in
     record {
       comes = record {
@@ -266,9 +297,9 @@ comes_anew (Ok x) number bytes old mid new s on kept opens stand =
       };
       behind = answer_at number mid.links.items;
       anew = s.anew;
-      begins = opens.begins number;
+      begins = λ reached. begins_by number mid new opens (lends (led reached) number);
     }
-comes_anew (Err e) number bytes old mid new s on kept opens stand = tt
+comes_anew (Err e) number bytes old mid new s on kept opens stand led lends = tt
 
 pub anew_all : (number : ℕ) (first last : Option Answer) (had now : Option packets.Reading) (old h : House) (from to : Service) (bytes left : List ℕ) → left ≡ []
     → StreamsAnew number first had old from bytes left last now h to → StreamsAnew number first had old from bytes [] last now h to

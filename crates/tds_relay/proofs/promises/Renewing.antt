@@ -151,3 +151,60 @@ pub renews_sound : (d : Desk) (key : ℕ) (resumes : Bool) (o : Option Hold) →
 renews_sound d key resumes None e sound = rests_sound d d.line sound
 renews_sound d key resumes (Some h) e sound =
     keeps_by_found d h resumes (find_by (has_lease h.lease) d.service.seats) sound (found_by_lease key 0 d.service.given h d.holds sound.rising e) refl
+
+-- ---- It is the connection that was held
+
+lent_number : (loan : desk.Loan) (o : Option desk.Loan) (lease number : ℕ) → o ≡ Some (record { lease = lease; number = number }) → o ≡ Some loan → loan.number ≡ number
+lent_number loan o lease number e is =
+    let same : record { lease = lease; number = number } ≡ loan = (let u : Some (record { lease = lease; number = number }) ≡ Some loan = sym e ∙ is in cc) in
+    ap (λ (l : desk.Loan). l.number) (sym same)
+
+number_found : (d : Desk) (h : Hold) (loan : desk.Loan) (s : Service) (o : Option Seat) → find_by (has_ticket s.given) s.seats ≡ o → Each (Phase h.number (IsIdleAt (Kept s.given)) (CaresFor d.holds)) s.seats
+    → lent_in (step {T = Token} s (calls.Resume s.given)).reply ≡ Some loan → loan.number ≡ h.number
+number_found d h loan s None e phase is =
+    let none : lent_in (step {T = Token} s (calls.Resume s.given)).reply ≡ None = rw e refl in
+    absurd (let u : None ≡ Some loan = sym none ∙ is in let v : ⊥ = cc in v)
+number_found d h loan s (Some c2) e phase is =
+    let both = one_by (c2.number == h.number) (IsIdleAt (Kept s.given) c2) (CaresFor d.holds c2) (((c2.number == h.number) ≡ true) × IsIdleAt (Kept s.given) c2)
+    (each_found (Phase h.number (IsIdleAt (Kept s.given)) (CaresFor d.holds)) (has_ticket s.given) c2 s.seats phase e)
+    (λ o. not_kept d.holds s.given c2.number c2.place c2.line o (found_meets (has_ticket s.given) c2 s.seats e)) (λ one x. (one, x)) in
+    let idle : is_idle c2.line.stage ≡ true = rw both.1.idle refl in
+    let done : step {T = Token} s (calls.Resume s.given) ≡ does {T = Token} s (suc s.given) (has_ticket s.given) c2 (Some (Leased (suc s.given))) (line.Mark KeepTransaction ∷ []) (calls.Lent (suc s.given) c2.number true) = rw (e, idle) refl in
+    let lent : lent_in (step {T = Token} s (calls.Resume s.given)).reply ≡ Some (record { lease = suc s.given; number = c2.number }) = ap (λ (t : calls.Step Token). lent_in t.reply) done in
+    lent_number loan _ (suc s.given) c2.number lent is ∙ eqb-true c2.number h.number both.0
+
+number_kept : (d : Desk) (h : Hold) (c : Seat) (ticket : ℕ) (loan : desk.Loan) (may : Bool) → may_keep c ≡ may → Sound d → find_lease h.lease d.holds ≡ Some h → find_by (has_lease h.lease) d.service.seats ≡ Some c
+    → ticket_in (step {T = Token} d.service (calls.Keep h.lease)).reply ≡ Some ticket
+    → lent_in (step {T = Token} (step {T = Token} d.service (calls.Keep h.lease)).service (calls.Resume ticket)).reply ≡ Some loan → loan.number ≡ h.number
+number_kept d h c ticket loan false may sound held e t is =
+    let none : ticket_in (step {T = Token} d.service (calls.Keep h.lease)).reply ≡ None = rw (e, may) refl in
+    absurd (let u : None ≡ Some ticket = sym none ∙ t in let v : ⊥ = cc in v)
+number_kept d h c ticket loan true may sound held e t is =
+    let s = (step {T = Token} d.service (calls.Keep h.lease)).service in
+    let at = found_held d h c sound held e in
+    let first : ticket_in (step {T = Token} d.service (calls.Keep h.lease)).reply ≡ Some (suc d.service.given) = rw (e, may) refl in
+    let given : s.given ≡ suc d.service.given = rw (e, may) refl in
+    let seats : s.seats ≡ change_by (has_lease h.lease) (Some (Kept (suc d.service.given))) c.line d.service.seats = rw (e, may) refl in
+    let idle : c.line.stage ≡ line.Idle = idle_is c.line.stage (and_first (is_idle c.line.stage) (is_open c.line.heard.mark c.line.heard.descriptor) may) in
+    let one : (c.number == h.number) ≡ true = eq-eqb c.number h.number (sym at.1) in
+    let X : Seat → Type 0 = IsIdleAt (Kept (suc d.service.given)) in
+    let phase : Each (Phase h.number X (CaresFor d.holds)) s.seats = subst (λ (cs : List Seat). Each (Phase h.number X (CaresFor d.holds)) cs) (sym seats)
+    (phase_changed h.number (CaresFor d.holds) X (CaresFor d.holds) (has_lease h.lease) (Some (Kept (suc d.service.given))) c.line c d.service.seats sound.tidy.distinct
+    (same_phase h.number (CaresFor d.holds) d.service.seats sound.cared) e one (record { is_at = refl; idle = idle })) in
+    let phase2 : Each (Phase h.number (IsIdleAt (Kept s.given)) (CaresFor d.holds)) s.seats =
+    subst (λ (k : ℕ). Each (Phase h.number (IsIdleAt (Kept k)) (CaresFor d.holds)) s.seats) (sym given) phase in
+    let same : ticket ≡ s.given = (let u : Some (suc d.service.given) ≡ Some ticket = sym first ∙ t in cc) in
+    number_found d h loan s (find_by (has_ticket s.given) s.seats) refl phase2 (subst (λ (k : ℕ). lent_in (step {T = Token} s (calls.Resume k)).reply ≡ Some loan) same is)
+
+number_by : (d : Desk) (h : Hold) (o : Option Seat) (ticket : ℕ) (loan : desk.Loan) → Sound d → find_lease h.lease d.holds ≡ Some h → find_by (has_lease h.lease) d.service.seats ≡ o
+    → ticket_in (step {T = Token} d.service (calls.Keep h.lease)).reply ≡ Some ticket
+    → lent_in (step {T = Token} (step {T = Token} d.service (calls.Keep h.lease)).service (calls.Resume ticket)).reply ≡ Some loan → loan.number ≡ h.number
+number_by d h None ticket loan sound held e t is =
+    let none : ticket_in (step {T = Token} d.service (calls.Keep h.lease)).reply ≡ None = rw e refl in
+    absurd (let u : None ≡ Some ticket = sym none ∙ t in let v : ⊥ = cc in v)
+number_by d h (Some c) ticket loan sound held e t is = number_kept d h c ticket loan (may_keep c) refl sound held e t is
+
+pub renewed_number : (d : Desk) (key : ℕ) (h : Hold) (ticket : ℕ) (loan : desk.Loan) → find_key key d.holds ≡ Some h → Sound d → ticket_in (step {T = Token} d.service (calls.Keep h.lease)).reply ≡ Some ticket
+    → lent_in (step {T = Token} (step {T = Token} d.service (calls.Keep h.lease)).service (calls.Resume ticket)).reply ≡ Some loan → loan.number ≡ h.number
+renewed_number d key h ticket loan e sound t is =
+    number_by d h (find_by (has_lease h.lease) d.service.seats) ticket loan sound (found_by_lease key 0 d.service.given h d.holds sound.rising e) refl t is

@@ -8,13 +8,14 @@ use Rattle.tds_service.specs.Service.{AllInUse, Lent, Reply, step}
 use Rattle.tds_relay.specs.declared.desk.Desk as desks
 use Rattle.tds_relay.specs.declared.desk.Hold.{Hold}
 use Rattle.tds_relay.specs.declared.desk.Served.{Served}
+use Rattle.tds_relay.specs.declared.link.Answer.{Answer}
 use Rattle.tds_relay.specs.declared.link.Link.{Link}
 use Rattle.tds_relay.specs.declared.relay.Relay as code
 use Rattle.tds_relay.specs.Desk.{Desk, Serves, find_number, key_of, lent_in, serves, serves_by, turn, without_number}
-use Rattle.tds_relay.specs.Lent.{FirstKeeps, HoldsOrGone, IsLetGo, IsOnItsOwn, IsWithHolder, KeepsToItsOwn, KeepsWaits, LendsInLine, MayForget, MayBeLent, OthersKeep, OthersKeepAt, PutsOnly}
+use Rattle.tds_relay.specs.Lent.{FirstKeeps, KeepsAnswers, HoldsOrGone, IsLetGo, IsOnItsOwn, IsWithHolder, KeepsToItsOwn, KeepsWaits, LendsInLine, MayForget, MayBeLent, OthersKeep, OthersKeepAt, PutsOnly}
 use Rattle.tds_relay.specs.Lent as filling
 use Rattle.tds_relay.specs.Hall.{holder, is_in}
-use Rattle.tds_relay.specs.Reads.{link_at, post_on, reader_at, reader_of, waits_on}
+use Rattle.tds_relay.specs.Reads.{Carried, StaysAt, answer_at, answer_on, carried_by, carried_there, link_at, post_on, reader_at, reader_of, waits_on}
 use Rattle.tds_relay.specs.Posts.{Post, post_in}
 use Rattle.tds_relay.specs.Ties.{IsReached, IsServed, Serving, Turns, desk_in}
 use Rattle.tds_relay.specs.Closings.{Nobody}
@@ -26,21 +27,42 @@ use Rattle.tds_relay.proofs.steps.Placed.{differs_by}
 
 -- ---- What waits, of that
 
-bytes_of : (o : Option Link) → option_map (λ (p : Post). p.bytes) (option_map (λ (l : Link). post_in l.out) o) ≡ option_map (λ (l : Link). (post_in l.out).bytes) o
+bytes_of : (o : Option Link) → option_map (λ (c : Carried). c.0.bytes) (option_map carried_by o) ≡ option_map (λ (l : Link). (post_in l.out).bytes) o
 bytes_of None = refl
 bytes_of (Some l) = refl
 
-unposted : (o : Option Link) → option_map reader_of o ≡ None → option_map (λ (l : Link). post_in l.out) o ≡ None
+unposted : (o : Option Link) → option_map reader_of o ≡ None → option_map carried_by o ≡ None
 unposted None e = refl
 unposted (Some l) e = absurd (let u : ⊥ = cc in u)
 
 pub waits_posted : (number : ℕ) (ls ms : List Link) → KeepsWaits number ls ms → (waits_on number ms ≡ None) ⊎ (waits_on number ms ≡ waits_on number ls)
-waits_posted number ls ms (inl none) = inl (sym (bytes_of (link_at number ms)) ∙ ap (option_map (λ (p : Post). p.bytes)) none)
-waits_posted number ls ms (inr same) = inr (sym (bytes_of (link_at number ms)) ∙ ap (option_map (λ (p : Post). p.bytes)) same ∙ bytes_of (link_at number ls))
+waits_posted number ls ms (inl none) = inl (sym (bytes_of (link_at number ms)) ∙ ap (option_map (λ (c : Carried). c.0.bytes)) none)
+waits_posted number ls ms (inr same) = inr (sym (bytes_of (link_at number ms)) ∙ ap (option_map (λ (c : Carried). c.0.bytes)) same ∙ bytes_of (link_at number ls))
+
+-- It carries the same where the same waits, and the same is known.
+carried_of : (o p : Option Link) → option_map (λ (l : Link). post_in l.out) p ≡ option_map (λ (l : Link). post_in l.out) o → StaysAt (option_map answer_on o) (option_map answer_on p)
+    → option_map carried_by p ≡ option_map carried_by o
+carried_of None None w k = refl
+carried_of None (Some m) w k = absurd (let u : ⊥ = cc in u)
+carried_of (Some l) None w k = absurd (let u : ⊥ = cc in u)
+carried_of (Some l) (Some m) w k =
+    let post : post_in m.out ≡ post_in l.out = (let u : Some (post_in m.out) ≡ Some (post_in l.out) = w in cc) in
+    let known : m.answer ≡ l.answer = (let u : Some l.answer ≡ Some m.answer = k in cc) in
+    ap (λ (p : Post). let c : Carried = (p, m.answer) in Some c) post ∙ ap (λ (a : Answer). let c : Carried = (post_in l.out, a) in Some c) known
+
+pub carried : (number : ℕ) (ls ms : List Link) → post_on number ms ≡ post_on number ls → StaysAt (answer_at number ls) (answer_at number ms) → carried_there number ms ≡ carried_there number ls
+carried number ls ms w k = carried_of (link_at number ls) (link_at number ms) w k
+
+known_same : (o p : Option Answer) → p ≡ o → StaysAt o p
+known_same o None e = tt
+known_same o (Some a) e = sym e
+
+pub carried_same : (number : ℕ) (ls ms : List Link) → post_on number ms ≡ post_on number ls → answer_at number ms ≡ answer_at number ls → carried_there number ms ≡ carried_there number ls
+carried_same number ls ms w k = carried number ls ms w (known_same (answer_at number ls) (answer_at number ms) k)
 
 -- ---- What one application does
 
-pub own_same : (key : ℕ) (had : List Hold) (old : List Link) (holds : List Hold) (new : List Link) → holds ≡ had → ((number : ℕ) → post_on number new ≡ post_on number old) → KeepsToItsOwn key had old holds new
+pub own_same : (key : ℕ) (had : List Hold) (old : List Link) (holds : List Hold) (new : List Link) → holds ≡ had → ((number : ℕ) → carried_there number new ≡ carried_there number old) → KeepsToItsOwn key had old holds new
 own_same key had old holds new e w = record {
   others = λ number differs. (ap (find_number number) e, w number);
   own = λ number. inl (ap (find_number number) e);
@@ -53,9 +75,9 @@ nobody : (o : Option Hold) (key : ℕ) → o ≡ None → key_of o ≢ Some key
 nobody o key none e = let u : None ≡ Some key = ap key_of (sym none) ∙ e in let v : ⊥ = cc in v
 
 own_then : (key number : ℕ) (a b c : List Hold) (y z : List Link) → KeepsToItsOwn key b y c z
-    → (find_number number b ≡ find_number number a) ⊎ ((find_number number b ≡ None) × (post_on number y ≡ None))
-    → (find_number number c ≡ find_number number b) ⊎ ((find_number number c ≡ None) × (post_on number z ≡ None))
-    → (find_number number c ≡ find_number number a) ⊎ ((find_number number c ≡ None) × (post_on number z ≡ None))
+    → (find_number number b ≡ find_number number a) ⊎ ((find_number number b ≡ None) × (carried_there number y ≡ None))
+    → (find_number number c ≡ find_number number b) ⊎ ((find_number number c ≡ None) × (carried_there number z ≡ None))
+    → (find_number number c ≡ find_number number a) ⊎ ((find_number number c ≡ None) × (carried_there number z ≡ None))
 own_then key number a b c y z k (inl f) (inl g) = inl (g ∙ f)
 own_then key number a b c y z k (inl f) (inr g) = inr g
 own_then key number a b c y z k (inr f) g =
@@ -75,21 +97,21 @@ own_both key a b c x y z h k = record {
 
 -- something is put on what it holds
 pub own_put : (key number : ℕ) (had : List Hold) (old : List Link) (holds : List Hold) (new : List Link) → holds ≡ had → key_of (find_number number had) ≡ Some key
-    → ((other : ℕ) → other ≢ number → post_on other new ≡ post_on other old) → KeepsToItsOwn key had old holds new
+    → ((other : ℕ) → other ≢ number → carried_there other new ≡ carried_there other old) → KeepsToItsOwn key had old holds new
 own_put key number had old holds new e its w = record {
   others = λ n differs. (ap (find_number n) e, w n (λ same. differs (subst (λ (k : ℕ). key_of (find_number k had) ≡ Some key) (sym same) its)));
   own = λ n. inl (ap (find_number n) e);
 }
 
 -- or that is lost
-lost_here : (number n : ℕ) (had holds : List Hold) (new : List Link) → holds ≡ without_number number had → post_on number new ≡ None → (n ≡ number) ⊎ (n ≢ number)
-    → (find_number n holds ≡ find_number n had) ⊎ ((find_number n holds ≡ None) × (post_on n new ≡ None))
+lost_here : (number n : ℕ) (had holds : List Hold) (new : List Link) → holds ≡ without_number number had → carried_there number new ≡ None → (n ≡ number) ⊎ (n ≢ number)
+    → (find_number n holds ≡ find_number n had) ⊎ ((find_number n holds ≡ None) × (carried_there n new ≡ None))
 lost_here number n had holds new e gone (inl same) =
-    inr (ap (find_number n) e ∙ subst (λ (k : ℕ). find_number k (without_number number had) ≡ None) (sym same) (none_left number had), ap (λ (k : ℕ). post_on k new) same ∙ gone)
+    inr (ap (find_number n) e ∙ subst (λ (k : ℕ). find_number k (without_number number had) ≡ None) (sym same) (none_left number had), ap (λ (k : ℕ). carried_there k new) same ∙ gone)
 lost_here number n had holds new e gone (inr differs) = inl (ap (find_number n) e ∙ same_left number n had (λ s. differs (sym s)))
 
-pub own_lost : (key number : ℕ) (had : List Hold) (old : List Link) (holds : List Hold) (new : List Link) → holds ≡ without_number number had → post_on number new ≡ None
-    → key_of (find_number number had) ≡ Some key → ((other : ℕ) → other ≢ number → post_on other new ≡ post_on other old) → KeepsToItsOwn key had old holds new
+pub own_lost : (key number : ℕ) (had : List Hold) (old : List Link) (holds : List Hold) (new : List Link) → holds ≡ without_number number had → carried_there number new ≡ None
+    → key_of (find_number number had) ≡ Some key → ((other : ℕ) → other ≢ number → carried_there other new ≡ carried_there other old) → KeepsToItsOwn key had old holds new
 own_lost key number had old holds new e gone its w = record {
   others = λ n differs.
       let off : n ≢ number = λ same. differs (subst (λ (k : ℕ). key_of (find_number k had) ≡ Some key) (sym same) its) in (
@@ -100,10 +122,11 @@ own_lost key number had old holds new e gone its w = record {
 }
 
 pub own_lost_on : {A E : Type 0} (r : Result A E) (key number : ℕ) (had : List Hold) (old : List Link) (holds : List Hold) (new : List Link) → OnOk r (holds ≡ without_number number had)
-    → OnOk r (reader_at number new ≡ None) → OnOk r ((other : ℕ) → other ≢ number → post_on other new ≡ post_on other old) → key_of (find_number number had) ≡ Some key
+    → OnOk r (reader_at number new ≡ None) → OnOk r ((other : ℕ) → other ≢ number → post_on other new ≡ post_on other old) → OnOk r (KeepsAnswers old new) → key_of (find_number number had) ≡ Some key
     → OnOk r (KeepsToItsOwn key had old holds new)
-own_lost_on (Ok x) key number had old holds new e gone w its = own_lost key number had old holds new e (unposted (link_at number new) gone) its w
-own_lost_on (Err x) key number had old holds new e gone w its = tt
+own_lost_on (Ok x) key number had old holds new e gone w k its =
+    own_lost key number had old holds new e (unposted (link_at number new) gone) its (λ other differs. carried other old new (w other differs) (k.keeps other))
+own_lost_on (Err x) key number had old holds new e gone w k its = tt
 
 pub own_on : {A E : Type 0} (r : Result A E) (key : ℕ) (a b c : List Hold) (x y z : List Link) → KeepsToItsOwn key a x b y → OnOk r (KeepsToItsOwn key b y c z) → OnOk r (KeepsToItsOwn key a x c z)
 own_on (Ok v) key a b c x y z h k = own_both key a b c x y z h k
@@ -112,7 +135,7 @@ own_on (Err v) key a b c x y z h k = tt
 -- its application is closed
 pub own_end : {A E : Type 0} (r : Result A E) (key : ℕ) (old new : code.Relay) → new.desk ≡ old.desk → OnOk r (new.links.items ≡ old.links.items) → OnOk r (IsOnItsOwn key old new)
 own_end (Ok v) key old new at links =
-    own_same key old.desk.holds.items old.links.items new.desk.holds.items new.links.items (ap (λ (d : desks.Desk). d.holds.items) at) (λ number. ap (post_on number) links)
+    own_same key old.desk.holds.items old.links.items new.desk.holds.items new.links.items (ap (λ (d : desks.Desk). d.holds.items) at) (λ number. ap (carried_there number) links)
 own_end (Err v) key old new at links = tt
 
 -- one more connection is there
@@ -122,7 +145,7 @@ pushed_link n l (x ∷ xs) differs = ap (λ (o : Option Link). if x.number == n 
 
 pub own_pushed : (key number : ℕ) (had : List Hold) (old new : List Link) (l : Link) → key_of (find_number number had) ≡ Some key → l.number ≡ number → new ≡ old ++ l ∷ [] → KeepsToItsOwn key had old had new
 own_pushed key number had old new l its is e =
-    own_put key number had old had new refl its (λ n differs. ap (post_on n) e ∙ ap (option_map (λ (x : Link). post_in x.out)) (pushed_link n l old (λ s. differs (sym s ∙ is))))
+    own_put key number had old had new refl its (λ n differs. ap (carried_there n) e ∙ ap (option_map carried_by) (pushed_link n l old (λ s. differs (sym s ∙ is))))
 
 -- ---- Whoever has waited longest is lent one
 
@@ -149,7 +172,7 @@ added_none : (n : ℕ) (x : Hold) (hs : List Hold) → find_number n hs ≡ None
 added_none n x [] e = refl
 added_none n x (y ∷ ys) e = none_if (y.number == n) n x y ys (if x.number == n then Some x else None) e (λ f. added_none n x ys f)
 
-moved : (number : ℕ) (a b c : List Link) → KeepsWaits number a b → post_on number c ≡ post_on number b → KeepsWaits number a c
+moved : (number : ℕ) (a b c : List Link) → KeepsWaits number a b → carried_there number c ≡ carried_there number b → KeepsWaits number a c
 moved number a b c (inl none) w = inl (w ∙ none)
 moved number a b c (inr same) w = inr (w ∙ same)
 
@@ -159,7 +182,7 @@ some_now o p h same is = subst (λ (q : Option Hold). IsSome q) (sym (same ∙ i
 module _ (number : ℕ) (line : List ℕ) (h0 hm he hn : List Hold) (l0 lm ln : List Link) (x : Hold) (more : he ≡ hm ++ x ∷ []) (waited : is_in x.key line ≡ true) (own : KeepsToItsOwn x.key he lm hn ln) where
   -- somebody holds it now
   now_held : (h : Hold) → find_number number h0 ≡ None → find_number number he ≡ Some h
-      → (find_number number hn ≡ find_number number he) ⊎ ((find_number number hn ≡ None) × (post_on number ln ≡ None)) → MayBeLent number line h0 l0 hn ln
+      → (find_number number hn ≡ find_number number he) ⊎ ((find_number number hn ≡ None) × (carried_there number ln ≡ None)) → MayBeLent number line h0 l0 hn ln
   now_held h none is (inl same) = filling.Lends none (some_now (find_number number he) (find_number number hn) h same is)
   now_held h none is (inr gone) = filling.Keeps (gone.0 ∙ sym none) (inl gone.1)
 
@@ -205,7 +228,7 @@ pub each_last : (P : Hold → Type 0) (x : Hold) (hs : List Hold) → Each P (hs
 each_last P x [] e = e.0
 each_last P x (y ∷ ys) e = each_last P x ys e.1
 
-last_found : (x : Hold) (hs : List Hold) → Apart (hs ++ x ∷ []) → find_number x.number (hs ++ x ∷ []) ≡ Some x
+pub last_found : (x : Hold) (hs : List Hold) → Apart (hs ++ x ∷ []) → find_number x.number (hs ++ x ∷ []) ≡ Some x
 last_found x [] apart = let here : (x.number == x.number) ≡ true = eq-eqb x.number x.number refl in rw here refl
 last_found x (y ∷ ys) apart =
     let other : (y.number == x.number) ≡ false = differs_by (y.number == x.number) y.number x.number refl (λ s. each_last (λ (z : Hold). z.number ≢ y.number) x ys apart.0 (sym s)) in
@@ -238,21 +261,21 @@ pub key_some : (o : Option Hold) → IsSome o → IsSome (key_of o)
 key_some None s = s
 key_some (Some h) s = refl
 
-module _ (number : ℕ) (old mid new : code.Relay) (before : WaitedBefore old mid) (f : find_number number mid.desk.holds.items ≡ find_number number old.desk.holds.items) (w : post_on number mid.links.items ≡ post_on number old.links.items) where
+module _ (number : ℕ) (old mid new : code.Relay) (before : (key : ℕ) → key_of (find_number number old.desk.holds.items) ≡ Some key → is_in key mid.desk.line.items ≡ true → is_in key old.desk.line.items ≡ true) (f : find_number number mid.desk.holds.items ≡ find_number number old.desk.holds.items) (w : carried_there number mid.links.items ≡ carried_there number old.links.items) where
   kept_on : KeepsWaits number mid.links.items new.links.items → KeepsWaits number old.links.items new.links.items
   kept_on (inl none) = inl none
   kept_on (inr same) = inr (same ∙ w)
 
-  held_line : (key : ℕ) → is_in key old.desk.line.items ≡ false → key_of (find_number number old.desk.holds.items) ≡ Some key
+  pub held_line : (key : ℕ) → is_in key old.desk.line.items ≡ false → key_of (find_number number old.desk.holds.items) ≡ Some key
       → MayBeLent number mid.desk.line.items mid.desk.holds.items mid.links.items new.desk.holds.items new.links.items → KeepsWaits number old.links.items new.links.items
   held_line key waits its (filling.OfWaiting h is i) =
       let one : h.key ≡ key = (let u : Some h.key ≡ Some key = ap key_of (sym is ∙ f) ∙ its in cc) in
-      let there : is_in key old.desk.line.items ≡ true = before key (subst (λ (k : ℕ). is_in k mid.desk.line.items ≡ true) one i) in
+      let there : is_in key old.desk.line.items ≡ true = before key its (subst (λ (k : ℕ). is_in k mid.desk.line.items ≡ true) one i) in
       absurd (let u : true ≡ false = sym there ∙ waits in let v : ⊥ = cc in v)
   held_line key waits its (filling.Keeps e kept) = kept_on kept
   held_line key waits its (filling.Lends none some) = absurd (let u : None ≡ Some key = ap key_of (sym none ∙ f) ∙ its in let v : ⊥ = cc in v)
 
-  free_line : key_of (find_number number old.desk.holds.items) ≡ None
+  pub free_line : key_of (find_number number old.desk.holds.items) ≡ None
       → MayBeLent number mid.desk.line.items mid.desk.holds.items mid.links.items new.desk.holds.items new.links.items
       → KeepsWaits number old.links.items new.links.items ⊎ IsSome (key_of (find_number number new.desk.holds.items))
   free_line none (filling.OfWaiting h is i) = absurd (let u : Some h.key ≡ None = ap key_of (sym is ∙ f) ∙ none in let v : ⊥ = cc in v)
@@ -260,19 +283,19 @@ module _ (number : ℕ) (old mid new : code.Relay) (before : WaitedBefore old mi
   free_line none (filling.Lends empty some) = inr (key_some (find_number number new.desk.holds.items) some)
 
 held_first : (But : ℕ → Type 0) (number key : ℕ) (old mid new : code.Relay) → WaitedBefore old mid
-    → But number ⊎ ((find_number number mid.desk.holds.items ≡ find_number number old.desk.holds.items) × (post_on number mid.links.items ≡ post_on number old.links.items))
+    → But number ⊎ ((find_number number mid.desk.holds.items ≡ find_number number old.desk.holds.items) × (carried_there number mid.links.items ≡ carried_there number old.links.items))
     → is_in key old.desk.line.items ≡ false → key_of (find_number number old.desk.holds.items) ≡ Some key
     → MayBeLent number mid.desk.line.items mid.desk.holds.items mid.links.items new.desk.holds.items new.links.items → But number ⊎ KeepsWaits number old.links.items new.links.items
 held_first But number key old mid new before (inl b) waits its l = inl b
-held_first But number key old mid new before (inr k) waits its l = inr (held_line number old mid new before k.0 k.1 key waits its l)
+held_first But number key old mid new before (inr k) waits its l = inr (held_line number old mid new (λ j is. before j) k.0 k.1 key waits its l)
 
 free_first : (But : ℕ → Type 0) (number : ℕ) (old mid new : code.Relay) → WaitedBefore old mid
-    → But number ⊎ ((find_number number mid.desk.holds.items ≡ find_number number old.desk.holds.items) × (post_on number mid.links.items ≡ post_on number old.links.items))
+    → But number ⊎ ((find_number number mid.desk.holds.items ≡ find_number number old.desk.holds.items) × (carried_there number mid.links.items ≡ carried_there number old.links.items))
     → key_of (find_number number old.desk.holds.items) ≡ None
     → MayBeLent number mid.desk.line.items mid.desk.holds.items mid.links.items new.desk.holds.items new.links.items
     → But number ⊎ (KeepsWaits number old.links.items new.links.items ⊎ IsSome (key_of (find_number number new.desk.holds.items)))
 free_first But number old mid new before (inl b) none l = inl b
-free_first But number old mid new before (inr k) none l = inr (free_line number old mid new before k.0 k.1 none l)
+free_first But number old mid new before (inr k) none l = inr (free_line number old mid new (λ j is. before j) k.0 k.1 none l)
 
 pub puts_line : (But : ℕ → Type 0) (old mid new : code.Relay) → IsReached (desk_in old.desk) → WaitedBefore old mid → FirstKeeps But old mid → LendsInLine mid new → PutsOnly But old new
 puts_line But old mid new reached before first lends = record {
@@ -298,34 +321,34 @@ first_by key (Some j) But k = first_is key j But (cases_eq j key) k
 pub first_own : (key : ℕ) (old mid : code.Relay) → OthersKeepAt key old mid → FirstKeeps (λ (n : ℕ). holder (desk_in old.desk) n ≡ Some key) old mid
 first_own key old mid k = λ number.
     first_by key (key_of (find_number number old.desk.holds.items))
-    ((find_number number mid.desk.holds.items ≡ find_number number old.desk.holds.items) × (post_on number mid.links.items ≡ post_on number old.links.items)) (k number)
+    ((find_number number mid.desk.holds.items ≡ find_number number old.desk.holds.items) × (carried_there number mid.links.items ≡ carried_there number old.links.items)) (k number)
 
 -- a connection is lost
 first_off : (number n : ℕ) (old mid : code.Relay) → mid.desk.holds.items ≡ without_number number old.desk.holds.items
-    → ((other : ℕ) → other ≢ number → post_on other mid.links.items ≡ post_on other old.links.items) → (n ≡ number) ⊎ (n ≢ number)
-    → (n ≡ number) ⊎ ((find_number n mid.desk.holds.items ≡ find_number n old.desk.holds.items) × (post_on n mid.links.items ≡ post_on n old.links.items))
+    → ((other : ℕ) → other ≢ number → carried_there other mid.links.items ≡ carried_there other old.links.items) → (n ≡ number) ⊎ (n ≢ number)
+    → (n ≡ number) ⊎ ((find_number n mid.desk.holds.items ≡ find_number n old.desk.holds.items) × (carried_there n mid.links.items ≡ carried_there n old.links.items))
 first_off number n old mid e w (inl same) = inl same
 first_off number n old mid e w (inr differs) = inr (ap (find_number n) e ∙ same_left number n old.desk.holds.items (λ s. differs (sym s)), w n differs)
 
 pub first_lost : (number : ℕ) (old mid : code.Relay) → mid.desk.holds.items ≡ without_number number old.desk.holds.items
-    → ((other : ℕ) → other ≢ number → post_on other mid.links.items ≡ post_on other old.links.items) → FirstKeeps (λ (n : ℕ). n ≡ number) old mid
+    → ((other : ℕ) → other ≢ number → carried_there other mid.links.items ≡ carried_there other old.links.items) → FirstKeeps (λ (n : ℕ). n ≡ number) old mid
 first_lost number old mid e w = λ n. first_off number n old mid e w (cases_eq n number)
 
 -- nothing
-pub first_none : (old mid : code.Relay) → mid.desk.holds.items ≡ old.desk.holds.items → ((n : ℕ) → post_on n mid.links.items ≡ post_on n old.links.items) → FirstKeeps Nobody old mid
+pub first_none : (old mid : code.Relay) → mid.desk.holds.items ≡ old.desk.holds.items → ((n : ℕ) → carried_there n mid.links.items ≡ carried_there n old.links.items) → FirstKeeps Nobody old mid
 first_none old mid e w = λ n. inr (ap (find_number n) e, w n)
 
 -- ---- Between relays
 
-pub own_first : (key : ℕ) (old mid : code.Relay) → mid.desk.holds.items ≡ old.desk.holds.items → ((number : ℕ) → post_on number mid.links.items ≡ post_on number old.links.items) → IsOnItsOwn key old mid
+pub own_first : (key : ℕ) (old mid : code.Relay) → mid.desk.holds.items ≡ old.desk.holds.items → ((number : ℕ) → carried_there number mid.links.items ≡ carried_there number old.links.items) → IsOnItsOwn key old mid
 own_first key old mid e w = own_same key old.desk.holds.items old.links.items mid.desk.holds.items mid.links.items e w
 
 pub own_behind : {A E : Type 0} (r : Result A E) (key : ℕ) (a b c : code.Relay) → IsOnItsOwn key a b → OnOk r (IsOnItsOwn key b c) → OnOk r (IsOnItsOwn key a c)
 own_behind r key a b c h k = own_on r key a.desk.holds.items b.desk.holds.items c.desk.holds.items a.links.items b.links.items c.links.items h k
 
 holder_or : (key number : ℕ) (old mid : code.Relay) (n : ℕ) → holder (desk_in old.desk) number ≡ Some key
-    → (holder (desk_in old.desk) n ≡ Some key) ⊎ ((find_number n mid.desk.holds.items ≡ find_number n old.desk.holds.items) × (post_on n mid.links.items ≡ post_on n old.links.items))
-    → IsWithHolder number old n ⊎ ((find_number n mid.desk.holds.items ≡ find_number n old.desk.holds.items) × (post_on n mid.links.items ≡ post_on n old.links.items))
+    → (holder (desk_in old.desk) n ≡ Some key) ⊎ ((find_number n mid.desk.holds.items ≡ find_number n old.desk.holds.items) × (carried_there n mid.links.items ≡ carried_there n old.links.items))
+    → IsWithHolder number old n ⊎ ((find_number n mid.desk.holds.items ≡ find_number n old.desk.holds.items) × (carried_there n mid.links.items ≡ carried_there n old.links.items))
 holder_or key number old mid n is (inl its) = inl (subst (λ (o : Option ℕ). IsSome o) (sym is) refl, its ∙ sym is)
 holder_or key number old mid n is (inr k) = inr k
 
@@ -339,14 +362,14 @@ first_holder (Err x) key number old mid is own = tt
 pub first_refl : (But : ℕ → Type 0) (r : code.Relay) → FirstKeeps But r r
 first_refl But r = λ n. inr (refl, refl)
 
-then_by : (number n : ℕ) (a b c : code.Relay) → b.desk ≡ a.desk → ((m : ℕ) → post_on m b.links.items ≡ post_on m a.links.items)
-    → IsWithHolder number b n ⊎ ((find_number n c.desk.holds.items ≡ find_number n b.desk.holds.items) × (post_on n c.links.items ≡ post_on n b.links.items))
-    → IsWithHolder number a n ⊎ ((find_number n c.desk.holds.items ≡ find_number n a.desk.holds.items) × (post_on n c.links.items ≡ post_on n a.links.items))
+then_by : (number n : ℕ) (a b c : code.Relay) → b.desk ≡ a.desk → ((m : ℕ) → carried_there m b.links.items ≡ carried_there m a.links.items)
+    → IsWithHolder number b n ⊎ ((find_number n c.desk.holds.items ≡ find_number n b.desk.holds.items) × (carried_there n c.links.items ≡ carried_there n b.links.items))
+    → IsWithHolder number a n ⊎ ((find_number n c.desk.holds.items ≡ find_number n a.desk.holds.items) × (carried_there n c.links.items ≡ carried_there n a.links.items))
 then_by number n a b c at w (inl with) =
     inl (subst (λ (d : desks.Desk). IsSome (holder (desk_in d) number) × (holder (desk_in d) n ≡ holder (desk_in d) number)) at with)
 then_by number n a b c at w (inr k) = inr (k.0 ∙ ap (λ (d : desks.Desk). find_number n d.holds.items) at, k.1 ∙ w n)
 
-pub first_then : (number : ℕ) (a b c : code.Relay) → b.desk ≡ a.desk → ((m : ℕ) → post_on m b.links.items ≡ post_on m a.links.items) → FirstKeeps (IsWithHolder number b) b c → FirstKeeps (IsWithHolder number a) a c
+pub first_then : (number : ℕ) (a b c : code.Relay) → b.desk ≡ a.desk → ((m : ℕ) → carried_there m b.links.items ≡ carried_there m a.links.items) → FirstKeeps (IsWithHolder number b) b c → FirstKeeps (IsWithHolder number a) a c
 first_then number a b c at w first = λ n. then_by number n a b c at w (first n)
 
 pub puts_nothing : (But : ℕ → Type 0) (r : code.Relay) → PutsOnly But r r

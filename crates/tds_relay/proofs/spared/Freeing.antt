@@ -13,11 +13,11 @@ use Rattle.tds_relay.specs.Cleaning.{OfItsHold, WaitsAtEnd, WaitsBehindEnd, Wait
 use Rattle.tds_relay.specs.Cleaning as cleaning
 use Rattle.tds_relay.specs.Desk as desk
 use Rattle.tds_relay.specs.Desk.{Desk, find_key, find_lease, find_number, key_of, without_lease, without_number}
-use Rattle.tds_relay.specs.Lent.{IsLetGo, LendsInLine, MayForget, MayBeLent, OthersKeepAt}
+use Rattle.tds_relay.specs.Lent.{IsLetGo, KeepsAnswers, LendsInLine, MayForget, MayBeLent, OthersKeepAt}
 use Rattle.tds_relay.specs.Lent as filling
 use Rattle.tds_relay.specs.Hall.{holder}
 use Rattle.tds_relay.specs.Promises.{Each}
-use Rattle.tds_relay.specs.Reads.{FillsAt, Opens as OpensLinks, post_on, if_open, open_at, open_waits, waits_on}
+use Rattle.tds_relay.specs.Reads.{FillsAt, Opens as OpensLinks, carried_there, post_on, if_open, open_at, open_waits, waits_on}
 use Rattle.tds_relay.specs.Ties.{IsNumberOf, IsReached, Turns, desk_in}
 use Rattle.tds_relay.proofs.held.Fewer.{each_number, same_left}
 use Rattle.tds_relay.proofs.held.Lists.{found_key}
@@ -25,7 +25,7 @@ use Rattle.tds_relay.proofs.held.Numbers.{Apart, apart_at, found_number, its_hol
 use Rattle.tds_relay.proofs.held.Seated.{each_found_by}
 use Rattle.tds_relay.proofs.promises.Caring.{Sound}
 use Rattle.tds_relay.proofs.promises.Holding.{found_by_lease}
-use Rattle.tds_relay.proofs.spared.Filling.{waits_posted, key_some}
+use Rattle.tds_relay.proofs.spared.Filling.{carried, key_some, waits_posted}
 use Rattle.tds_relay.proofs.spared.Held.{not_equal, sound_at}
 use Rattle.tds_relay.proofs.steps.Placed.{differs_by}
 
@@ -70,7 +70,7 @@ module _ (d : Desk) (key : ℕ) (h : Hold) (reached : IsReached d) (its : find_k
       kept_first (λ (x : Hold). not (x.lease == h.lease)) n g d.holds is
       (not_equal (g.lease == h.lease) g.lease h.lease refl (other_lease n g is (λ e. differs (ap (λ (k : ℕ). Some k) e))))
 
-  left_holds : (n : ℕ) → key_of (find_number n d.holds) ≢ Some key → find_number n (without_lease h.lease d.holds) ≡ find_number n d.holds
+  pub left_holds : (n : ℕ) → key_of (find_number n d.holds) ≢ Some key → find_number n (without_lease h.lease d.holds) ≡ find_number n d.holds
   left_holds n differs = without_by n (find_number n d.holds) refl differs
 
 -- where it held none
@@ -114,7 +114,7 @@ pub nobody_keeps : (key : ℕ) (gives : Bool) (way : desk.Way) (old mid : code.R
     → Turns (desk.Leaves key gives way) (desk_in old.desk) (desk_in d) before after → mid.desk ≡ d → mid.links.items ≡ old.links.items → OthersKeepAt key old mid
 nobody_keeps key gives way old mid d before after None same is t at links = λ n differs. (
   ap (λ (x : desks.Desk). find_number n x.holds.items) at ∙ ap (find_number n) (left_none key gives way (desk_in old.desk) (desk_in d) before after t (sym same)),
-  ap (post_on n) links,
+  ap (carried_there n) links,
 )
 nobody_keeps key gives way old mid d before after (Some h) same is t at links = absurd is
 
@@ -128,15 +128,15 @@ module _ (key : ℕ) (gives : Bool) (way : desk.Way) (left : Left) (old mid new 
   holds_behind h its = ap (λ (x : desks.Desk). x.holds.items) at ∙ left_some key gives way (desk_in old.desk) (desk_in d) before after h t its
 
   keeps_by : (o : Option Hold) → o ≡ find_key key old.desk.holds.items → IsNumberOf o (Some left) → MayForget left.number mid.desk.holds.items new.desk.holds.items
-      → ((other : ℕ) → other ≢ left.number → post_on other new.links.items ≡ post_on other mid.links.items) → OthersKeepAt key old new
-  keeps_by None same is may waits = absurd is
-  keeps_by (Some h) same is may waits = λ n differs.
+      → ((other : ℕ) → other ≢ left.number → post_on other new.links.items ≡ post_on other mid.links.items) → KeepsAnswers mid.links.items new.links.items → OthersKeepAt key old new
+  keeps_by None same is may waits known = absurd is
+  keeps_by (Some h) same is may waits known = λ n differs.
       let its : find_key key old.desk.holds.items ≡ Some h = sym same in
       let own : key_of (find_number left.number old.desk.holds.items) ≡ Some key =
       ap (λ (k : ℕ). key_of (find_number k old.desk.holds.items)) is ∙ its_holder key h old.desk.holds.items (apart_at (desk_in old.desk) reached) its in
       let off : n ≢ left.number = λ e. differs (ap (λ (k : ℕ). key_of (find_number k old.desk.holds.items)) e ∙ own) in (
         forget_other left.number n mid.desk.holds.items new.desk.holds.items may off ∙ ap (find_number n) (holds_behind h its) ∙ left_holds (desk_in old.desk) key h reached its n differs,
-        waits n off ∙ ap (post_on n) links,
+        carried n mid.links.items new.links.items (waits n off) (known.keeps n) ∙ ap (carried_there n) links,
       )
 
   frees_by : MayForget left.number mid.desk.holds.items new.desk.holds.items → IsLetGo key old.desk.holds.items new.desk.holds.items
@@ -146,9 +146,9 @@ module _ (key : ℕ) (gives : Bool) (way : desk.Way) (left : Left) (old mid new 
       ∙ gone_one hold.number hold old.desk.holds.items (apart_at (desk_in old.desk) reached) (found_number key hold old.desk.holds.items (apart_at (desk_in old.desk) reached) its))
 
   pub left_keeps : {A E : Type 0} (r : Result A E) (o : Option Hold) → o ≡ find_key key old.desk.holds.items → IsNumberOf o (Some left) → OnOk r (MayForget left.number mid.desk.holds.items new.desk.holds.items)
-      → OnOk r ((other : ℕ) → other ≢ left.number → post_on other new.links.items ≡ post_on other mid.links.items) → OnOk r (OthersKeepAt key old new)
-  left_keeps (Ok x) o same is may waits = keeps_by o same is may waits
-  left_keeps (Err x) o same is may waits = tt
+      → OnOk r ((other : ℕ) → other ≢ left.number → post_on other new.links.items ≡ post_on other mid.links.items) → OnOk r (KeepsAnswers mid.links.items new.links.items) → OnOk r (OthersKeepAt key old new)
+  left_keeps (Ok x) o same is may waits known = keeps_by o same is may waits known
+  left_keeps (Err x) o same is may waits known = tt
 
   pub left_frees : {A E : Type 0} (r : Result A E) → OnOk r (MayForget left.number mid.desk.holds.items new.desk.holds.items) → OnOk r (IsLetGo key old.desk.holds.items new.desk.holds.items)
   left_frees (Ok x) may = frees_by may

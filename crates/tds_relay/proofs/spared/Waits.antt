@@ -73,6 +73,17 @@ none_waits by number ls is =
     let none : link_at number ls ≡ None = is_nowhere number ls is in
     ap (option_map waits_of) none ∙ sym (ap (λ (o : Option Link). option_map by (option_map waits_of o)) none)
 
+pub one_post : (by : Post → Post) (number : ℕ) (ls : List Link) (place : ℕ) (d m : Link) → place_of number ls ≡ Some place → m.number ≡ (slice_index_or ls place d).number
+    → post_in m.out ≡ by (post_in (slice_index_or ls place d).out) → post_on number (slice_set ls place m) ≡ option_map by (post_on number ls)
+one_post by number ls place d m is same post =
+    let at : IsAt number ls place = is_at number ls place is in
+    ap (option_map (λ (l : Link). post_in l.out)) (at.written d m same) ∙ ap Some post ∙ sym (ap (λ (o : Option Link). option_map by (option_map (λ (l : Link). post_in l.out) o)) (at.found d))
+
+pub none_post : (by : Post → Post) (number : ℕ) (ls : List Link) → place_of number ls ≡ None → post_on number ls ≡ option_map by (post_on number ls)
+none_post by number ls is =
+    let none : link_at number ls ≡ None = is_nowhere number ls is in
+    ap (option_map (λ (l : Link). post_in l.out)) none ∙ sym (ap (λ (o : Option Link). option_map by (option_map (λ (l : Link). post_in l.out) o)) none)
+
 -- ---- What is put there, or sent
 
 put_by : (b : Bool) (bytes : List ℕ) (p : Post) → fits p bytes ≡ b → (put bytes p).is_full ≡ false → (put bytes p).bytes ≡ p.bytes ++ bytes

@@ -9,8 +9,9 @@ ghost use Rattle.tds_relay.specs.Closings.{ClosesOnly, register_in};
 ghost use Rattle.tds_relay.specs.Desk.{find_key};
 ghost use Rattle.tds_relay.specs.Few.{Few, IsSeated, NobodyWaits};
 ghost use Rattle.tds_relay.specs.Fronts.{FedOn, Moved, ends_in, given_by, hall_in, house_in};
-ghost use Rattle.tds_relay.specs.Hall.{IfOpen, IsBegun, end_at};
+ghost use Rattle.tds_relay.specs.Hall.{IfOpen, IsBegun, end_at, holder};
 ghost use Rattle.tds_relay.specs.House.{Steps};
+ghost use Rattle.tds_relay.specs.Lent.{OthersKeepAt, PutsOnly};
 ghost use Rattle.tds_relay.specs.Posts.{names_in, posts_in};
 ghost use Rattle.tds_relay.specs.Reads.{Opens, Stays};
 ghost use Rattle.tds_relay.specs.Reasons.{CannotGoOnAt, ForReasonOrWaiting};
@@ -56,6 +57,8 @@ impl Relay {
         ensures others { OnOk result (OthersGo key self.old self.new) }
         ensures opening { OnOk result (OpensNew self.old self.new) }
         ensures many { OnOk result (GrowsByOrders self.old self.new) }
+        ensures puts { IsReached (desk_in self.old.desk) → OnOk result (PutsOnly
+            (λ number. holder (desk_in self.old.desk) number ≡ Some key) self.old self.new) }
     {
         self.take_all(key, piece)?;
         self.serve_line()
@@ -82,6 +85,8 @@ impl Relay {
         ensures others { IsReached (desk_in self.old.desk)
             → OnOk result (OthersRest key self.old self.new) }
         ensures opening { opens_in self.new.orders.items ≡ opens_in self.old.orders.items }
+        ensures aside { IsReached (desk_in self.old.desk)
+            → OnOk result (OthersKeepAt key self.old self.new) }
     {
         let mut rest = piece;
         'taking: for _ in 0..piece.len() {
@@ -117,6 +122,8 @@ impl Relay {
         ensures others { IsReached (desk_in self.old.desk)
             → OnOk result (OthersRest key self.old self.new) }
         ensures opening { opens_in self.new.orders.items ≡ opens_in self.old.orders.items }
+        ensures aside { IsReached (desk_in self.old.desk)
+            → OnOk result (OthersKeepAt key self.old self.new) }
     {
         let Some(application) = self.applications.get_mut(key) else {
             return Ok(piece.len());
@@ -161,6 +168,8 @@ impl Relay {
         ensures others { IsReached (desk_in self.old.desk)
             → OnOk result (OthersRest key self.old self.new) }
         ensures opening { opens_in self.new.orders.items ≡ opens_in self.old.orders.items }
+        ensures aside { IsReached (desk_in self.old.desk)
+            → OnOk result (OthersKeepAt key self.old self.new) }
     {
         bytes_are_packets();
         match said {
@@ -201,6 +210,8 @@ impl Relay {
         ensures others { IsReached (desk_in self.old.desk)
             → OnOk result (OthersRest key self.old self.new) }
         ensures opening { opens_in self.new.orders.items ≡ opens_in self.old.orders.items }
+        ensures aside { IsReached (desk_in self.old.desk)
+            → OnOk result (OthersKeepAt key self.old self.new) }
     {
         match self.desk.hold_of(key) {
             Some(_) => self.start_kept(key),
@@ -235,6 +246,8 @@ impl Relay {
         ensures others { IsReached (desk_in self.old.desk)
             → OnOk result (OthersRest key self.old self.new) }
         ensures opening { opens_in self.new.orders.items ≡ opens_in self.old.orders.items }
+        ensures aside { IsReached (desk_in self.old.desk)
+            → OnOk result (OthersKeepAt key self.old self.new) }
     {
         let Some(application) = self.applications.get_mut(key) else {
             return Ok(());

@@ -11,6 +11,7 @@ ghost use Rattle.tds_relay.specs.Closings.{ClosesOnly, IsNoRequest, register_in}
 ghost use Rattle.tds_relay.specs.Few.{IsSeated};
 ghost use Rattle.tds_relay.specs.Fronts.{Moved, ends_in, hall_in};
 ghost use Rattle.tds_relay.specs.Hall.{AsksFor, AsksToPart, IfAsked, IfOpen, IsBegun, end_at};
+ghost use Rattle.tds_relay.specs.Lent.{OthersKeepAt};
 ghost use Rattle.tds_relay.specs.Ordering.{opens_in};
 ghost use Rattle.tds_relay.specs.Places.{HasNoTransaction};
 ghost use Rattle.tds_relay.specs.Posts.{posts_in};
@@ -60,6 +61,8 @@ impl Relay {
             → OnOk result (OthersRest key self.old self.new) }
         ensures seated { IsSeated self.old → OnOk result (IsSeated self.new) }
         ensures opening { opens_in self.new.orders.items ≡ opens_in self.old.orders.items }
+        ensures aside { IsReached (desk_in self.old.desk)
+            → OnOk result (OthersKeepAt key self.old self.new) }
     {
         let Some(application) = self.applications.get_mut(key) else {
             return Ok(());
@@ -129,6 +132,8 @@ impl Relay {
             → OnOk result (OthersRest key self.old self.new) }
         ensures seated { IsSeated self.old → OnOk result (IsSeated self.new) }
         ensures opening { opens_in self.new.orders.items ≡ opens_in self.old.orders.items }
+        ensures aside { IsReached (desk_in self.old.desk)
+            → OnOk result (OthersKeepAt key self.old self.new) }
     {
         if !self.has_nothing_out(key) {
             return self.expel(key);
@@ -167,6 +172,8 @@ impl Relay {
             → OnOk result (OthersRest key self.old self.new) }
         ensures seated { IsSeated self.old → OnOk result (IsSeated self.new) }
         ensures opening { opens_in self.new.orders.items ≡ opens_in self.old.orders.items }
+        ensures aside { IsReached (desk_in self.old.desk)
+            → OnOk result (OthersKeepAt key self.old self.new) }
     {
         match self.desk.renew(key)? {
             Renewed::Kept(hold) => {

@@ -7,8 +7,8 @@ ghost use Rattle.tds_relay.specs.Cleaning.{CountsHold, OfItsHold, WaitsAtEnd, Wa
 ghost use Rattle.tds_relay.specs.Desk.{Loses, find_key, find_number, key_of, turn, without, without_number};
 ghost use Rattle.tds_relay.specs.Lent.{IsLetGo, IsOnItsOwn, OthersKeepAt, PutsOnly, AllLastBut, KeepsAnswers, LastBesides};
 ghost use Rattle.tds_relay.specs.Few.{Few, IsSeated, IsSeatedOff, NobodyWaits};
-ghost use Rattle.tds_relay.specs.Fronts.{LetsGoFirst, Moved, MovedOn, ends_in, hall_in, hall_of_ends, house_in};
-ghost use Rattle.tds_relay.specs.Hall.{change_end, change_whose, closes, closes_for, end_at, holder, lets_go};
+ghost use Rattle.tds_relay.specs.Fronts.{LetsGoFirst, MovedOn, ends_in, hall_in, house_in};
+ghost use Rattle.tds_relay.specs.Hall.{change_end, change_whose, closes, closes_for, holder, lets_go};
 ghost use Rattle.tds_relay.specs.House.{Steps, StepsOn};
 ghost use Rattle.tds_relay.specs.Closings.{ClosesOnly, IsWaiting, IsWho, Itself, Nobody, WhoOrWaiting, register_in, without_key};
 ghost use Rattle.tds_relay.specs.Law.{closing};
@@ -17,8 +17,7 @@ ghost use Rattle.tds_relay.specs.Posts.{names_in, posts_in};
 ghost use Rattle.tds_relay.specs.Ordering.{GrowsByOrders, OpensNew, StayOrdered, opens_in};
 ghost use Rattle.tds_relay.specs.Reads.{Opens, Stays, post_on, reader_at, waits_on};
 ghost use Rattle.tds_relay.specs.Sparing.{AllGo, AllRest, OthersRest};
-ghost use Rattle.tds_relay.specs.Taking.{IsDeaf};
-ghost use Rattle.tds_relay.specs.Ties.{Application, Goes, GoesOn, IsReached, Leaving, desk_in};
+ghost use Rattle.tds_relay.specs.Ties.{Application, GoesOn, IsReached, Leaving, desk_in};
 ghost use Rattle.tds_relay.specs.Walkers.{AllStand};
 
 use super::Relay;
@@ -106,55 +105,6 @@ impl Relay {
         self.serve_line()
     }
 
-    /// Nothing more of an application is taken, and it is to be closed. Its connection is given back.
-    pub(super) fn expel(&mut self, key: usize) -> Result<(), NoMemory>
-        ensures goes { OnOk result (Goes (Application key)
-            (desk_in self.old.desk) (desk_in self.new.desk)) }
-        ensures kept { OnOk result (posts_in self.new.applications
-            ≡ posts_in self.old.applications) }
-        ensures moves { OnOk result (Moved (Application key) (hall_of_ends (desk_in self.old.desk)
-            (change_end key closes (ends_in self.old.applications))) (hall_in self.new)) }
-        ensures over { OnOk result (IsDeaf (end_at (ends_in self.new.applications) key)) }
-        ensures read { OnOk result (Stays self.old.links.items self.new.links.items) }
-        ensures stand { OnOk result (AllStand self.old.desk.service
-            self.new.desk.service) }
-        ensures asks { OnOk result (AskOn self.old.applications self.new.applications) }
-        ensures others { IsReached (desk_in self.old.desk)
-            → OnOk result (OthersRest key self.old self.new) }
-        ensures closes { OnOk result (ClosesOnly (Itself key)
-            (register_in self.old) (register_in self.new)) }
-        ensures seated { IsSeated self.old → OnOk result (IsSeated self.new) }
-        ensures opening { opens_in self.new.orders.items ≡ opens_in self.old.orders.items }
-    {
-        self.expel_for(key, None)
-    }
-
-    /// The same of one that did what the protocol doesn't allow, or of any other.
-    #[tactic(auto, using(crate::proofs::steps::Reaching::reaches_left))]
-    pub(super) fn expel_for(&mut self, key: usize, why: Option<FrontFault>) -> Result<(), NoMemory>
-        ensures goes { OnOk result (Goes (Application key)
-            (desk_in self.old.desk) (desk_in self.new.desk)) }
-        ensures kept { OnOk result (posts_in self.new.applications
-            ≡ posts_in self.old.applications) }
-        ensures moves { OnOk result (Moved (Application key) (hall_of_ends (desk_in self.old.desk)
-            (change_end key (closes_for why) (ends_in self.old.applications)))
-            (hall_in self.new)) }
-        ensures over { OnOk result (IsDeaf (end_at (ends_in self.new.applications) key)) }
-        ensures read { OnOk result (Stays self.old.links.items self.new.links.items) }
-        ensures stand { OnOk result (AllStand self.old.desk.service
-            self.new.desk.service) }
-        ensures asks { OnOk result (AskOn self.old.applications self.new.applications) }
-        ensures others { IsReached (desk_in self.old.desk)
-            → OnOk result (OthersRest key self.old self.new) }
-        ensures closes { OnOk result (ClosesOnly (Itself key)
-            (register_in self.old) (register_in self.new)) }
-        ensures seated { IsSeated self.old → OnOk result (IsSeated self.new) }
-        ensures opening { opens_in self.new.orders.items ≡ opens_in self.old.orders.items }
-    {
-        self.end_for(key, why)?;
-        self.release(key)
-    }
-
     /// It is to be closed.
     pub(super) fn end(&mut self, key: usize) -> Result<(), NoMemory>
         ensures desk { self.new.desk ≡ self.old.desk }
@@ -177,7 +127,7 @@ impl Relay {
     }
 
     /// It is to be closed, for this where that is what it did.
-    fn end_for(&mut self, key: usize, why: Option<FrontFault>) -> Result<(), NoMemory>
+    pub(super) fn end_for(&mut self, key: usize, why: Option<FrontFault>) -> Result<(), NoMemory>
         ensures desk { self.new.desk ≡ self.old.desk }
         ensures kept { OnOk result (posts_in self.new.applications
             ≡ posts_in self.old.applications) }

@@ -281,6 +281,8 @@ impl Relay {
         ensures closes { ClosesOnly Nobody (register_in self.old) (register_in self.new) }
         ensures lasts { AllLast self.old.links.items self.new.links.items }
         ensures counts { cleaned_in self.new ≡ cleaned_in self.old }
+        ensures others { (other : ℕ) → other ≢ number → answer_at other self.new.links.items
+            ≡ answer_at other self.old.links.items }
     {
         restart(&mut self.links, number);
     }

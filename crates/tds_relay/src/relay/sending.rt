@@ -11,7 +11,7 @@ ghost use Rattle.tds_relay.specs.declared.desk.Hold.{Hold};
 ghost use Rattle.tds_relay.specs.Fronts.{MovedOn, ends_in, hall_in, house_in};
 ghost use Rattle.tds_relay.specs.Hall.{holder};
 ghost use Rattle.tds_relay.specs.House.{Steps};
-ghost use Rattle.tds_relay.specs.Lent.{AllLast, KeepsAnswers, MayForget};
+ghost use Rattle.tds_relay.specs.Lent.{AllLast, KeepsAnswers, MayForget, OthersKeepAt};
 ghost use Rattle.tds_relay.specs.Ordering.{StayOrdered, opens_in};
 ghost use Rattle.tds_relay.specs.Posts.{change, post_at, posts_in, unsent_of, without_first};
 ghost use Rattle.tds_relay.specs.Reasons.{HasNoRoom, IsOverfull, ItselfFor};
@@ -111,6 +111,10 @@ impl Relay {
         ensures tells { TellsTheSame self.old self.new }
         ensures orders { self.new.orders.items ≡ self.old.orders.items }
         ensures seated { IsSeated self.old → IsSeated self.new }
+        ensures posts { post_on number self.new.links.items
+            ≡ option_map (without_first count) (post_on number self.old.links.items) }
+        ensures keeps { (other : ℕ) → other ≢ number
+            → post_on other self.new.links.items ≡ post_on other self.old.links.items }
     {
         if !forget_sent(&mut self.links, number, count) {
             return None;
@@ -217,6 +221,9 @@ impl Relay {
             → find_key key (desk_in self.old.desk).holds ≡ Some hold → hold.number ≡ number
             → OnOk result (OthersRest key self.old self.new) }
         ensures opening { opens_in self.new.orders.items ≡ opens_in self.old.orders.items }
+        ensures aside { IsReached (desk_in self.old.desk) → (hold : Hold)
+            → find_key key (desk_in self.old.desk).holds ≡ Some hold → hold.number ≡ number
+            → OnOk result (OthersKeepAt key self.old self.new) }
     {
         let fits = self.fits_on(number)?;
         if fits {
@@ -257,6 +264,7 @@ impl Relay {
         ensures opening { opens_in self.new.orders.items ≡ opens_in self.old.orders.items }
         ensures holds { OnOk result (MayForget number self.old.desk.holds.items
             self.new.desk.holds.items) }
+        ensures answers { OnOk result (KeepsAnswers self.old.links.items self.new.links.items) }
     {
         let fits = self.fits_on(number)?;
         if fits {

@@ -11,6 +11,7 @@ ghost use Rattle.tds_relay.specs.Desk.{Does, Stops, Unwaits, find_key};
 ghost use Rattle.tds_relay.specs.declared.desk.Hold.{Hold};
 ghost use Rattle.tds_relay.specs.Fronts.{FedOn, Moved, MovedOn, ends_in, hall_in, hall_of_ends, withdraws};
 ghost use Rattle.tds_relay.specs.Hall.{Ends, IfOpen, IsHere, change_end, end_at};
+ghost use Rattle.tds_relay.specs.Lent.{OthersKeepAt};
 ghost use Rattle.tds_relay.specs.Posts.{acknowledgement, give, post_at, posts_in};
 ghost use Rattle.tds_relay.specs.Reads.{Stays};
 ghost use Rattle.tds_relay.specs.Reasons.{CannotForget, CannotStop, CannotUnask, HasNoRoom};
@@ -53,6 +54,8 @@ impl Relay {
             → OnOk result (OthersRest key self.old self.new) }
         ensures seated { IsSeated self.old → OnOk result (IsSeated self.new) }
         ensures opening { opens_in self.new.orders.items ≡ opens_in self.old.orders.items }
+        ensures aside { IsReached (desk_in self.old.desk)
+            → OnOk result (OthersKeepAt key self.old self.new) }
     {
         let was_asked = self.forget_request(key);
         if was_asked { self.unask(key) } else { Ok(()) }
@@ -104,6 +107,8 @@ impl Relay {
             → OnOk result (OthersRest key self.old self.new) }
         ensures seated { IsSeated self.old → OnOk result (IsSeated self.new) }
         ensures opening { opens_in self.new.orders.items ≡ opens_in self.old.orders.items }
+        ensures aside { IsReached (desk_in self.old.desk)
+            → OnOk result (OthersKeepAt key self.old self.new) }
     {
         if !self.has_nothing_out(key) {
             return self.expel(key);
@@ -140,6 +145,8 @@ impl Relay {
             → OnOk result (OthersRest key self.old self.new) }
         ensures seated { IsSeated self.old → OnOk result (IsSeated self.new) }
         ensures opening { opens_in self.new.orders.items ≡ opens_in self.old.orders.items }
+        ensures aside { IsReached (desk_in self.old.desk)
+            → OnOk result (OthersKeepAt key self.old self.new) }
     {
         let _ = self.forget_request(key);
         match self.stop(key)? {
@@ -174,6 +181,7 @@ impl Relay {
             → OthersRest key self.old self.new }
         ensures seated { IsSeated self.old → IsSeated self.new }
         ensures opening { opens_in self.new.orders.items ≡ opens_in self.old.orders.items }
+        ensures holds { self.new.desk.holds.items ≡ self.old.desk.holds.items }
     {
         self.outbox.clear();
         match self.desk.cancel(key, &mut self.outbox) {
@@ -250,6 +258,8 @@ impl Relay {
             → OnOk result (OthersRest key self.old self.new) }
         ensures seated { IsSeated self.old → OnOk result (IsSeated self.new) }
         ensures opening { opens_in self.new.orders.items ≡ opens_in self.old.orders.items }
+        ensures aside { IsReached (desk_in self.old.desk)
+            → OnOk result (OthersKeepAt key self.old self.new) }
     {
         match self.stop(key)? {
             Some(number) => self.send_stop(key, number),
@@ -276,6 +286,9 @@ impl Relay {
             → OnOk result (OthersRest key self.old self.new) }
         ensures seated { IsSeated self.old → OnOk result (IsSeated self.new) }
         ensures opening { opens_in self.new.orders.items ≡ opens_in self.old.orders.items }
+        ensures aside { IsReached (desk_in self.old.desk) → (hold : Hold)
+            → find_key key (desk_in self.old.desk).holds ≡ Some hold → hold.number ≡ number
+            → OnOk result (OthersKeepAt key self.old self.new) }
     {
         let fits = self.fits_on(number)?;
         if fits { Ok(()) } else { self.fail(key, number) }

@@ -1,11 +1,11 @@
-use Rattle.std.proofs.Common.{None, Option, Some, ap, option_map, sym, ◌∙◌, ◌≡◌}
+use Rattle.std.proofs.Common.{refl, None, Option, Some, ap, option_map, sym, ◌∙◌, ◌≡◌}
 use Rattle.tds_relay.specs.declared.link.Link.{Link}
 use Rattle.tds_relay.specs.Linking.{Linked}
 use Rattle.tds_relay.specs.Posts.{post_in}
 use Rattle.tds_relay.specs.Cutting.{at_its_beginning}
 use Rattle.tds_relay.specs.Reads.{answer_on, bytes_on, link_at, place_of, seen_of}
 use Rattle.tds_relay.proofs.steps.Placed.{IsAt, is_at, is_nowhere}
-use Rattle.tds_relay.proofs.spared.Waits.{waits_same}
+use Rattle.tds_relay.proofs.spared.Waits.{others_link, waits_same}
 use Rattle.tds_relay.proofs.steps.Staying.{fills_same, stays_restarted}
 use Rattle.tds_relay.proofs.indexed.Placing.{placed_written}
 use Rattle.tds_relay.proofs.bytes.SetAnew.{any_refl, any_written}
@@ -54,3 +54,13 @@ pub returns-clause-posts : goal.returns-clause-posts
 returns-clause-posts c = rw (← c.links.view_is) (
     written_as (λ (l : Link). post_in l.out) c.links.inside.list.items c.in-Some.place c.index_mut-link.result.now _
     (ap (λ (l : Link). l.number) c.index_mut-link.ensures.value) (ap (λ (l : Link). post_in l.out) c.index_mut-link.ensures.value))
+
+pub returns-in_default-clause-others : goal.returns-in_default-clause-others
+returns-in_default-clause-others c = λ other differs. refl
+
+pub returns-clause-others : goal.returns-clause-others
+returns-clause-others c = λ other differs. rw (← c.links.view_is) (
+    ap (option_map answer_on)
+    (others_link c.args.number c.links.inside.list.items c.in-Some.place c.index_mut-link.result.now _
+    (ap (λ (v : Linked). place_of c.args.number v.items) c.links.view_is ∙ sym c.place_in.ensures.is ∙ c.in-Some.is)
+    (ap (λ (l : Link). l.number) c.index_mut-link.ensures.value) other differs))

@@ -32,6 +32,8 @@ use Rattle.tds_relay.specs.Reasons.{CannotAsk, HasTransaction, IsReadyThere, IsU
 use Rattle.tds_relay.proofs.spared.Turned.{as_refl, begun_kept, held_asks, renewed_as}
 use Rattle.std.proofs.Common.{[]}
 use Rattle.tds_relay.specs.Hall.{IfOpen, IsBegun}
+use Rattle.tds_relay.proofs.spared.Elsewhere.{aside_own, aside_refl, aside_waits}
+use Rattle.tds_relay.proofs.spared.Elsewhere.{keeps_own, keeps_waited}
 use Rattle.tds_relay.proofs.relay.Relay.begin.Goals as goal
 
 pub returns-in-false-default-clause-goes : goal.returns-in-false-default-clause-goes
@@ -199,3 +201,24 @@ returns-in-true-None-clause-closes c =
 
 pub returns-then-may_keep_later-clause-underway : goal.returns-then-may_keep_later-clause-underway
 returns-then-may_keep_later-clause-underway c = c.may_keep_later.ensures.later (search rules)
+
+pub returns-in_default-clause-aside : goal.returns-in_default-clause-aside
+returns-in_default-clause-aside c = λ reached. aside_refl c.args.key c.args.self.now
+
+pub returns-in_default-message_kind-clause-aside : goal.returns-in_default-message_kind-clause-aside
+returns-in_default-message_kind-clause-aside c = λ reached. c.expel.ensures.aside reached
+
+pub returns-in-false-default-clause-aside : goal.returns-in-false-default-clause-aside
+returns-in-false-default-clause-aside c = λ reached. keeps_waited c.wait.result c.args.key c.args.self.now.desk.holds.items c.wait.new.self.desk.holds.items c.args.self.now.links.items c.wait.new.self.links.items c.wait.ensures.holds c.wait.ensures.links
+
+pub returns-in-true-None-clause-aside : goal.returns-in-true-None-clause-aside
+returns-in-true-None-clause-aside c = λ reached. keeps_own c.start.result c.args.key c.args.self.now.desk.holds.items c.start.new.self.desk.holds.items c.args.self.now.links.items c.start.new.self.links.items (c.start.ensures.own reached)
+
+pub returns-then-may_keep_later-clause-aside : goal.returns-then-may_keep_later-clause-aside
+returns-then-may_keep_later-clause-aside c = λ reached. aside_refl c.args.key c.args.self.now
+
+pub returns-else-may_keep_later-clause-aside : goal.returns-else-may_keep_later-clause-aside
+returns-else-may_keep_later-clause-aside c = λ reached. c.renew.ensures.aside reached
+
+pub returns-in-true-Some-Full-clause-aside : goal.returns-in-true-Some-Full-clause-aside
+returns-in-true-Some-Full-clause-aside c = λ reached. c.change.ensures.aside reached

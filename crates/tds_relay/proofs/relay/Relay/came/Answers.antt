@@ -75,7 +75,7 @@ returns-clause-only c = λ reached.
 pub returns-clause-anew : goal.returns-clause-anew
 returns-clause-anew c =
     comes_anew c.serve_line.result c.args.number c.args.piece.now c.args.self.now c.hear_all.new.self c.serve_line.new.self c.in_ok-hear_all.ensures.anew c.serve_line.ensures.moves c.serve_line.ensures.kept
-    c.serve_line.ensures.opens c.serve_line.ensures.stand
+    c.serve_line.ensures.opens c.serve_line.ensures.stand (reached_on (Connection c.args.number) _ _ c.in_ok-hear_all.ensures.goes) c.serve_line.ensures.fills
 
 pub returns-clause-seated : goal.returns-clause-seated
 returns-clause-seated c = λ s. c.serve_line.ensures.seated (c.in_ok-hear_all.ensures.seated s)

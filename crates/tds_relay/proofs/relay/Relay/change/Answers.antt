@@ -19,6 +19,7 @@ use Rattle.tds_relay.specs.Hall.{Ends, IfOpen, IsBegun, end_at}
 use Rattle.tds_relay.specs.Fronts.{ends_in}
 use Rattle.tds_relay.proofs.steps.Quieting.{open_lets_go}
 use Rattle.std.proofs.Common.{subst, sym}
+use Rattle.tds_relay.proofs.spared.Elsewhere.{aside_on, aside_waits}
 use Rattle.tds_relay.proofs.relay.Relay.change.Goals as goal
 
 pub returns-then-not-has_nothing_out-clause-moves : goal.returns-then-not-has_nothing_out-clause-moves
@@ -101,3 +102,15 @@ returns-then-is_some-clause-others c = λ reached.
 pub returns-clause-others : goal.returns-clause-others
 returns-clause-others c = λ reached.
     ok_if c.wait.result _ (others_both c.args.key c.args.self.now c.release.new.self c.wait.new.self (c.in_ok-release.ensures.others reached) (waited_rest c.args.key c.release.new.self c.wait.new.self c.wait.ensures.body))
+
+pub returns-then-not-has_nothing_out-clause-aside : goal.returns-then-not-has_nothing_out-clause-aside
+returns-then-not-has_nothing_out-clause-aside c = c.expel.ensures.aside
+
+pub returns-then-is_some-clause-aside : goal.returns-then-is_some-clause-aside
+returns-then-is_some-clause-aside c = λ reached.
+    aside_on c.expel-then-is_some.result c.args.key c.args.self.now c.release.new.self c.expel-then-is_some.new.self (c.in_ok-release.ensures.keeps reached)
+    (c.expel-then-is_some.ensures.aside (reached_left c.args.key c.args.self.now.desk c.release.new.self.desk c.in_ok-release.ensures.leaving reached))
+
+pub returns-clause-aside : goal.returns-clause-aside
+returns-clause-aside c = λ reached.
+    aside_waits c.wait.result c.args.key c.args.self.now c.release.new.self c.wait.new.self (c.in_ok-release.ensures.keeps reached) c.wait.ensures.holds c.wait.ensures.links

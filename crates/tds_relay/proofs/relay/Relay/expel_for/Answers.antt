@@ -13,6 +13,7 @@ use Rattle.tds_relay.proofs.spared.Resting.{all_others, all_rest, others_on}
 use Rattle.tds_relay.specs.Closings.{Itself}
 use Rattle.tds_relay.proofs.spared.Closings.{closes_behind}
 use Rattle.tds_relay.proofs.seats.Relays.{kept_seated}
+use Rattle.tds_relay.proofs.spared.Elsewhere.{aside_on, aside_same}
 use Rattle.tds_relay.proofs.relay.Relay.expel_for.Goals as goal
 
 pub returns-clause-goes : goal.returns-clause-goes
@@ -52,3 +53,9 @@ returns-clause-closes c = closes_behind c.release.result (Itself c.args.key) _ _
 
 pub returns-clause-seated : goal.returns-clause-seated
 returns-clause-seated c = λ s. c.release.ensures.seated (kept_seated c.args.self.now c.end_for.new.self c.in_ok-end_for.ensures.desk c.in_ok-end_for.ensures.links s)
+
+pub returns-clause-aside : goal.returns-clause-aside
+returns-clause-aside c = λ reached.
+    aside_on c.release.result c.args.key c.args.self.now c.end_for.new.self c.release.new.self
+    (aside_same c.args.key c.args.self.now c.end_for.new.self (ap (λ (d : code.Desk). d.holds.items) c.end_for.ensures.desk) c.in_ok-end_for.ensures.links)
+    (c.release.ensures.keeps (subst (λ (d : code.Desk). IsReached (desk_in d)) (sym c.end_for.ensures.desk) reached))

@@ -11,13 +11,15 @@ use Rattle.tds_relay.specs.Reasons.{CannotUnask}
 use Rattle.tds_relay.proofs.spared.Reasons.{for_that}
 use Rattle.tds_relay.proofs.spared.Closings.{closes_first, closes_nobody}
 use Rattle.tds_relay.proofs.seats.Relays.{unwaited}
-use Rattle.std.proofs.Common.{List, refl, rules, subst}
+use Rattle.std.proofs.Common.{ap, List, refl, rules, subst}
 use Rattle.tds_relay.proofs.spared.Speaking.{reached_by}
 use Rattle.tds_relay.proofs.spared.Resting.{others_on}
 use Rattle.tds_relay.proofs.spared.Reasons.{forgotten}
 use Rattle.std.proofs.Common.{◌⊎◌}
 use Rattle.slab.specs.Slab.{get}
 use Rattle.tds_relay.specs.Reasons.{IsUnheld}
+use Rattle.tds_relay.proofs.spared.Elsewhere.{aside_on, aside_same}
+use Rattle.tds_relay.specs.Desk.{Desk}
 use Rattle.tds_relay.proofs.relay.Relay.forget.Goals as goal
 
 pub returns-then-was_asked-clause-moves : goal.returns-then-was_asked-clause-moves
@@ -72,3 +74,11 @@ returns-then-was_asked-clause-others c = λ reached.
 
 pub returns-else-was_asked-clause-others : goal.returns-else-was_asked-clause-others
 returns-else-was_asked-clause-others c = λ reached. c.forget_request-was_asked.ensures.others
+
+pub returns-then-was_asked-clause-aside : goal.returns-then-was_asked-clause-aside
+returns-then-was_asked-clause-aside c = λ reached.
+    aside_on c.unask.result c.args.key c.args.self.now c.forget_request-was_asked.new.self c.unask.new.self (aside_same c.args.key c.args.self.now c.forget_request-was_asked.new.self (ap (λ (d : Desk). d.holds) c.forget_request-was_asked.ensures.turns.desk_is) c.forget_request-was_asked.ensures.links)
+    (c.unask.ensures.aside (reached_by c.args.key c.args.self.now.desk c.forget_request-was_asked.new.self.desk c.forget_request-was_asked.ensures.goes reached))
+
+pub returns-else-was_asked-clause-aside : goal.returns-else-was_asked-clause-aside
+returns-else-was_asked-clause-aside c = λ reached. (aside_same c.args.key c.args.self.now c.forget_request-was_asked.new.self (ap (λ (d : Desk). d.holds) c.forget_request-was_asked.ensures.turns.desk_is) c.forget_request-was_asked.ensures.links)

@@ -29,6 +29,7 @@ use Rattle.tds_relay.specs.Reasons.{IsUnbegun}
 use Rattle.tds_relay.proofs.spared.Reasons.{unbegun_goes}
 use Rattle.std.proofs.Common.{sym, false}
 use Rattle.tds_relay.proofs.spared.Lined.{begun_not}
+use Rattle.tds_relay.proofs.spared.Elsewhere.{aside_refl, keeps_own}
 use Rattle.tds_relay.proofs.relay.Relay.go_on.Goals as goal
 
 pub returns-then-not-branch-clause-moves : goal.returns-then-not-branch-clause-moves
@@ -200,3 +201,21 @@ returns-then-not-may_put-clause-keeps c = λ none.
     ok_if c.expel-then-not-may_put.result _
     (subst (λ (o : Option AnApplication). KeepsInLine c.args.whole c.args.bytes.now o (body_of c.args.key c.expel-then-not-may_put.new.self)) c.in-Some.ensures.value
     (λ here fits kind was asks begun. absurd (begun_not c.in-Some.application.now here begun (c.may_put.ensures.unbegun (search rules)))))
+
+pub returns-in_default-clause-aside : goal.returns-in_default-clause-aside
+returns-in_default-clause-aside c = λ reached. aside_refl c.args.key c.args.self.now
+
+pub returns-in-Nothing-clause-aside : goal.returns-in-Nothing-clause-aside
+returns-in-Nothing-clause-aside c = λ reached. c.expel.ensures.aside reached
+
+pub returns-then-not-branch-clause-aside : goal.returns-then-not-branch-clause-aside
+returns-then-not-branch-clause-aside c = λ reached. c.expel-then-not-branch.ensures.aside reached
+
+pub returns-else-not-branch-clause-aside : goal.returns-else-not-branch-clause-aside
+returns-else-not-branch-clause-aside c = λ reached. c.seek.ensures.aside reached
+
+pub returns-then-not-may_put-clause-aside : goal.returns-then-not-may_put-clause-aside
+returns-then-not-may_put-clause-aside c = λ reached. c.expel-then-not-may_put.ensures.aside reached
+
+pub returns-in-Goes-clause-aside : goal.returns-in-Goes-clause-aside
+returns-in-Goes-clause-aside c = λ reached. keeps_own c.put.result c.args.key c.args.self.now.desk.holds.items c.put.new.self.desk.holds.items c.args.self.now.links.items c.put.new.self.links.items (c.put.ensures.own reached)

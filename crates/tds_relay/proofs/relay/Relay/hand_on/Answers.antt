@@ -18,6 +18,7 @@ use Rattle.tds_relay.specs.Reasons.{HasNoRoom}
 use Rattle.tds_relay.proofs.spared.Reasons.{for_reason, for_that, halts_unfit, none_of, some_of}
 use Rattle.tds_relay.proofs.spared.Speaking.{halting_held, reached_by}
 use Rattle.tds_relay.proofs.spared.Resting.{others_on}
+use Rattle.tds_relay.proofs.spared.Elsewhere.{aside_on, aside_same}
 use Rattle.tds_relay.proofs.relay.Relay.hand_on.Goals as goal
 
 pub returns-in-Some-clause-moves : goal.returns-in-Some-clause-moves
@@ -104,3 +105,17 @@ returns-in-Some-clause-others c = λ reached.
 pub returns-in-None-clause-others : goal.returns-in-None-clause-others
 returns-in-None-clause-others c = λ reached.
     others_on c.expel.result c.args.key c.args.self.now c.stop.new.self c.expel.new.self (c.expel.ensures.others (reached_by c.args.key c.args.self.now.desk c.stop.new.self.desk c.stop.ensures.goes reached)) (c.stop.ensures.others reached)
+
+pub returns-in-Some-clause-aside : goal.returns-in-Some-clause-aside
+returns-in-Some-clause-aside c = λ reached.
+    let a = c.args.self.now in
+    let d = c.stop.new.self in
+    let halts = some_of _ c.in-Some.number _ c.in-Some.is c.in_ok-number.ensures.stops in
+    aside_on c.send_stop.result c.args.key a d c.send_stop.new.self (aside_same c.args.key a d c.stop.ensures.holds c.stop.ensures.links)
+    (c.send_stop.ensures.aside (reached_by c.args.key a.desk d.desk c.stop.ensures.goes reached) halts.hold (halting_held c.in-Some.number c.args.key a d halts) (sym halts.number_is))
+
+pub returns-in-None-clause-aside : goal.returns-in-None-clause-aside
+returns-in-None-clause-aside c = λ reached.
+    let a = c.args.self.now in
+    let d = c.stop.new.self in
+    aside_on c.expel.result c.args.key a d c.expel.new.self (aside_same c.args.key a d c.stop.ensures.holds c.stop.ensures.links) (c.expel.ensures.aside (reached_by c.args.key a.desk d.desk c.stop.ensures.goes reached))

@@ -27,9 +27,10 @@ use Rattle.tds_relay.proofs.spared.Opening.{opens_one}
 use Rattle.tds_relay.specs.Ordering.{opens_if, opens_in}
 use Rattle.tds_relay.proofs.steps.Reaching.{ok_if}
 use Rattle.std.proofs.Common.{◌++◌, ◌∙◌, append-nil, Bool}
-use Rattle.tds_relay.proofs.spared.Filling.{own_behind, own_first, own_pushed}
+use Rattle.tds_relay.proofs.spared.Filling.{own_put, own_behind, own_first, own_pushed}
 use Rattle.tds_relay.proofs.spared.Opening.{grows_behind, grows_stays}
 use Rattle.tds_relay.proofs.spared.Growing.{pushed_more}
+use Rattle.tds_relay.proofs.spared.Elsewhere.{begun_own}
 use Rattle.tds_relay.proofs.relay.Relay.lend.Goals as goal
 
 pub returns-then-served-clause-opens : goal.returns-then-served-clause-opens
@@ -120,7 +121,8 @@ returns-clause-opening c =
 pub returns-then-served-clause-own : goal.returns-then-served-clause-own
 returns-then-served-clause-own c = λ reached its.
     own_behind c.start_kept.result c.args.served.hold.key c.args.self.now c.restart.new.self c.start_kept.new.self
-    (own_first c.args.served.hold.key c.args.self.now c.restart.new.self (ap (λ (d : code.Desk). d.holds.items) c.restart.ensures.desk) c.restart.ensures.posts)
+    (own_put c.args.served.hold.key c.args.served.hold.number c.args.self.now.desk.holds.items c.args.self.now.links.items c.restart.new.self.desk.holds.items c.restart.new.self.links.items (ap (λ (d : code.Desk). d.holds.items) c.restart.ensures.desk) its
+    (begun_own c.args.served.hold.number c.args.self.now.links.items c.restart.new.self.links.items c.restart.ensures.posts c.restart.ensures.others))
     (c.start_kept.ensures.own (subst (λ (d : code.Desk). IsReached (desk_in d)) (sym c.restart.ensures.desk) reached))
 
 pub returns-clause-own : goal.returns-clause-own

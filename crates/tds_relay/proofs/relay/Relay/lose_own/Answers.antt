@@ -37,7 +37,7 @@ returns-then-holder-key-clause-seated c = λ s. c.lose.ensures.seated (off_of c.
 pub returns-then-holder-key-clause-own : goal.returns-then-holder-key-clause-own
 returns-then-holder-key-clause-own c =
     let same : (c.in-Some.holder == c.args.key) ≡ true = search rules in
-    own_lost_on c.lose.result c.args.key c.args.number c.args.self.now.desk.holds.items c.args.self.now.links.items c.lose.new.self.desk.holds.items c.lose.new.self.links.items c.lose.ensures.holds c.lose.ensures.gone c.lose.ensures.posts
+    own_lost_on c.lose.result c.args.key c.args.number c.args.self.now.desk.holds.items c.args.self.now.links.items c.lose.new.self.desk.holds.items c.lose.new.self.links.items c.lose.ensures.holds c.lose.ensures.gone c.lose.ensures.posts c.lose.ensures.answers
     (sym c.key_on.ensures ∙ c.in-Some.is ∙ ap (λ (k : ℕ). Some k) (eqb-true c.in-Some.holder c.args.key same))
 
 pub returns-else-holder-key-clause-own : goal.returns-else-holder-key-clause-own

@@ -19,7 +19,7 @@ use Rattle.tds_relay.proofs.spared.Lasting.{besides_on, but_others}
 use Rattle.tds_relay.specs.Closings.{register_in}
 use Rattle.std.proofs.Common.{◌≡◌, ℕ}
 use Rattle.tds_relay.proofs.spared.Opening.{on_last, opens_new_on, opens_same}
-use Rattle.tds_relay.proofs.spared.Filling.{first_lost, puts_on}
+use Rattle.tds_relay.proofs.spared.Filling.{carried, first_lost, puts_on}
 use Rattle.tds_relay.proofs.spared.Opening.{grows_on, grows_stays}
 use Rattle.tds_relay.proofs.relay.Relay.lost.Goals as goal
 
@@ -79,7 +79,7 @@ returns-clause-puts c = λ reached.
     let old = c.args.self.now in
     let mid = c.lose.new.self in
     puts_on c.serve_line.result (λ (other : ℕ). other ≡ c.args.number) old mid c.serve_line.new.self reached (λ key e. ap (is_in key) (sym c.in_ok-lose.ensures.line) ∙ e)
-    (first_lost c.args.number old mid c.in_ok-lose.ensures.holds c.in_ok-lose.ensures.posts)
+    (first_lost c.args.number old mid c.in_ok-lose.ensures.holds (λ n differs. carried n old.links.items mid.links.items (c.in_ok-lose.ensures.posts n differs) (c.in_ok-lose.ensures.answers.keeps n)))
     (c.serve_line.ensures.fills (reached_on_does (desk_in old.desk) (desk_in mid.desk) c.in_ok-lose.ensures.goes reached))
 
 pub returns-clause-many : goal.returns-clause-many

@@ -22,6 +22,7 @@ use Rattle.tds_relay.specs.Waiting.{KeepsInLine, KeepsSaid}
 use Rattle.tds_relay.proofs.seats.Relays.{kept_end}
 use Rattle.tds_relay.proofs.steps.Quieting.{Drops, Opens, begun_fed, quiet_fed}
 use Rattle.tds_relay.proofs.spared.Resting.{others_all, others_refl, same_on}
+use Rattle.tds_relay.proofs.spared.Elsewhere.{aside_linked, aside_refl}
 use Rattle.tds_relay.proofs.relay.Relay.obey.Goals as goal
 
 pub returns-in-Begin-clause-given : goal.returns-in-Begin-clause-given
@@ -234,3 +235,10 @@ pub returns-in_ok-forget-in-Acknowledge-clause-others : goal.returns-in_ok-forge
 returns-in_ok-forget-in-Acknowledge-clause-others c = λ reached.
     others_all c.acknowledge.result c.args.key c.args.self.now c.forget-in-Acknowledge.new.self c.acknowledge.new.self
     (same_on c.acknowledge.result c.forget-in-Acknowledge.new.self c.acknowledge.new.self c.acknowledge.ensures.desk c.acknowledge.ensures.links c.acknowledge.ensures.asks) (c.in_ok-forget-in-Acknowledge.ensures.others reached)
+
+pub returns-in-Nothing-clause-aside : goal.returns-in-Nothing-clause-aside
+returns-in-Nothing-clause-aside c = λ reached. aside_refl c.args.key c.args.self.now
+
+pub returns-in_ok-forget-in-Acknowledge-clause-aside : goal.returns-in_ok-forget-in-Acknowledge-clause-aside
+returns-in_ok-forget-in-Acknowledge-clause-aside c = λ reached.
+    aside_linked c.acknowledge.result c.args.key c.args.self.now c.forget-in-Acknowledge.new.self c.acknowledge.new.self (c.in_ok-forget-in-Acknowledge.ensures.aside reached) c.acknowledge.ensures.desk c.acknowledge.ensures.links

@@ -6,7 +6,7 @@ use Rattle.tds_relay.proofs.steps.Staying.{opens_one_served, stays_behind}
 use Rattle.tds_relay.proofs.bytes.Calls.{stand_back, stand_on}
 use Rattle.tds_relay.specs.declared.desk.Desk as code
 use Rattle.tds_relay.proofs.spared.Resting.{all_both, all_rest, asks_on, go_both, go_on, reached_on_does, rest_go}
-use Rattle.tds_relay.specs.Reads.{open_at, post_on, waits_on}
+use Rattle.tds_relay.specs.Reads.{post_on, open_at, carried_there, waits_on}
 use Rattle.tds_relay.proofs.spared.Starting.{started_on}
 use Rattle.tds_relay.proofs.steps.Renaming.{names_on}
 use Rattle.tds_relay.specs.Posts.{names_in, names_of}
@@ -25,7 +25,7 @@ use Rattle.tds_relay.proofs.spared.Opening.{on_last, opens_new_on, opens_same}
 use Rattle.tds_relay.specs.Ordering.{opens_in}
 use Rattle.std.proofs.Common.{◌≤◌}
 use Rattle.tds_relay.proofs.spared.Apart.{lends_after}
-use Rattle.tds_relay.proofs.spared.Filling.{first_then, puts_on}
+use Rattle.tds_relay.proofs.spared.Filling.{carried_same, first_then, puts_on}
 use Rattle.tds_relay.specs.Lent.{IsWithHolder}
 use Rattle.tds_relay.proofs.spared.Opening.{grows_both, grows_few, grows_on, grows_stays}
 use Rattle.std.proofs.Common.{◌≡◌, ◌≤◌, length, arith}
@@ -160,7 +160,7 @@ returns-clause-puts c = λ reached.
     let mid = c.start_on.new.self in
     puts_on c.serve_line.result (IsWithHolder c.args.number old) old mid c.serve_line.new.self reached
     (λ key e. ap (λ (d : code.Desk). is_in key (desk_in d).line) (sym same) ∙ waited_on (desk_in c.order_write_on.new.self.desk) (desk_in mid.desk) c.in_ok-start_on.ensures.goes key e)
-    (first_then c.args.number old c.order_write_on.new.self mid same (λ n. ap (post_on n) c.in_ok-order_write_on.ensures.links ∙ c.set_open.ensures.posts n) (c.in_ok-start_on.ensures.keeps led))
+    (first_then c.args.number old c.order_write_on.new.self mid same (λ n. ap (carried_there n) c.in_ok-order_write_on.ensures.links ∙ carried_same n old.links.items c.set_open.new.self.links.items (c.set_open.ensures.posts n) (c.set_open.ensures.answers n)) (c.in_ok-start_on.ensures.keeps led))
     (c.serve_line.ensures.fills (reached_on_does (desk_in c.order_write_on.new.self.desk) (desk_in mid.desk) c.in_ok-start_on.ensures.goes led))
 
 pub returns-clause-many : goal.returns-clause-many

@@ -2,7 +2,7 @@ use Rattle.std.proofs.Common.{◌∙◌, List, ap, refl, rules, subst, sym, ℕ,
 use Rattle.tds_relay.specs.declared.desk.Desk as code
 use Rattle.tds_relay.specs.declared.link.Link.{Link}
 use Rattle.tds_relay.specs.Asking.{Closes, Sends, SendsOn}
-use Rattle.tds_relay.specs.Reads.{post_on, Stays}
+use Rattle.tds_relay.specs.Reads.{carried_there, Stays}
 use Rattle.tds_relay.specs.Ties.{desk_in, Reaches}
 use Rattle.tds_relay.proofs.steps.Fronts.{moves_closes, moves_same}
 use Rattle.tds_relay.proofs.steps.Putting.{moves_puts}
@@ -27,7 +27,7 @@ use Rattle.tds_relay.proofs.spared.Begun.{answers_both, answers_from, answers_on
 use Rattle.tds_relay.proofs.spared.Lasting.{deaf_last, last_all, last_links, same_last}
 use Rattle.tds_relay.proofs.seats.Relays.{desk_kept, kept_end, lasting_seated}
 use Rattle.tds_relay.proofs.seats.Desks.{gone_on, seated_on}
-use Rattle.tds_relay.proofs.spared.Filling.{own_behind, own_end, own_first, own_put}
+use Rattle.tds_relay.proofs.spared.Filling.{carried, own_behind, own_end, own_first, own_put}
 use Rattle.tds_relay.proofs.held.Numbers.{apart_at, its_holder}
 use Rattle.tds_relay.proofs.relay.Relay.put.Goals as goal
 
@@ -260,14 +260,14 @@ returns-then-not-may_put-clause-own c = λ reached. c.fail.ensures.own
 pub returns-then-not-is_put-clause-own : goal.returns-then-not-is_put-clause-own
 returns-then-not-is_put-clause-own c = λ reached.
     own_behind c.fail-then-not-is_put.result c.args.key c.args.self.now c.note_went_on.new.self c.fail-then-not-is_put.new.self
-    (own_first c.args.key c.args.self.now c.note_went_on.new.self (ap (λ (d : code.Desk). d.holds.items) c.note_went_on.ensures.desk ∙ c.in_ok-is_put.ensures.holds) (λ n. ap (post_on n) c.note_went_on.ensures.links)) c.fail-then-not-is_put.ensures.own
+    (own_first c.args.key c.args.self.now c.note_went_on.new.self (ap (λ (d : code.Desk). d.holds.items) c.note_went_on.ensures.desk ∙ c.in_ok-is_put.ensures.holds) (λ n. ap (carried_there n) c.note_went_on.ensures.links)) c.fail-then-not-is_put.ensures.own
 
 pub returns-then-fits-clause-own : goal.returns-then-fits-clause-own
 returns-then-fits-clause-own c = λ reached.
     own_put c.args.key c.in-Some.hold.number c.args.self.now.desk.holds.items c.args.self.now.links.items c.fits_on.new.self.desk.holds.items c.fits_on.new.self.links.items
     (ap (λ (d : code.Desk). d.holds.items) (c.fits_on.ensures.desk ∙ c.note_went_on.ensures.desk) ∙ c.in_ok-is_put.ensures.holds)
     (its_holder c.args.key c.in-Some.hold c.args.self.now.desk.holds.items (apart_at (desk_in c.args.self.now.desk) reached) (sym c.hold_of.ensures ∙ c.in-Some.is))
-    (λ n differs. c.in_ok-fits.ensures.posts n differs ∙ ap (post_on n) c.note_went_on.ensures.links)
+    (λ n differs. carried n c.note_went_on.new.self.links.items c.fits_on.new.self.links.items (c.in_ok-fits.ensures.posts n differs) (c.in_ok-fits.ensures.answers.keeps n) ∙ ap (carried_there n) c.note_went_on.ensures.links)
 
 pub returns-else-fits-clause-own : goal.returns-else-fits-clause-own
 returns-else-fits-clause-own c = λ reached.
@@ -275,5 +275,5 @@ returns-else-fits-clause-own c = λ reached.
     (own_put c.args.key c.in-Some.hold.number c.args.self.now.desk.holds.items c.args.self.now.links.items c.fits_on.new.self.desk.holds.items c.fits_on.new.self.links.items
     (ap (λ (d : code.Desk). d.holds.items) (c.fits_on.ensures.desk ∙ c.note_went_on.ensures.desk) ∙ c.in_ok-is_put.ensures.holds)
     (its_holder c.args.key c.in-Some.hold c.args.self.now.desk.holds.items (apart_at (desk_in c.args.self.now.desk) reached) (sym c.hold_of.ensures ∙ c.in-Some.is))
-    (λ n differs. c.in_ok-fits.ensures.posts n differs ∙ ap (post_on n) c.note_went_on.ensures.links))
+    (λ n differs. carried n c.note_went_on.new.self.links.items c.fits_on.new.self.links.items (c.in_ok-fits.ensures.posts n differs) (c.in_ok-fits.ensures.answers.keeps n) ∙ ap (carried_there n) c.note_went_on.ensures.links))
     c.fail-else-fits.ensures.own

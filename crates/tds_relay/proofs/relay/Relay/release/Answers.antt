@@ -169,12 +169,12 @@ returns-in_default-clause-keeps c = λ reached.
 pub returns-then-left-clause-keeps : goal.returns-then-left-clause-keeps
 returns-then-left-clause-keeps c = λ reached.
     left_keeps c.args.key c.in_ok-left.ensures.turns.0 c.in_ok-left.ensures.turns.1 c.in-Some.left c.args.self.now c.let_go.new.self c.send_unheld.new.self c.leave.new.self _ _ reached c.in_ok-left.ensures.turns.2 c.let_go.ensures.desk c.let_go.ensures.links
-    c.send_unheld.result (find_key c.args.key c.args.self.now.desk.holds.items) refl (search rules) c.send_unheld.ensures.holds c.send_unheld.ensures.posts
+    c.send_unheld.result (find_key c.args.key c.args.self.now.desk.holds.items) refl (search rules) c.send_unheld.ensures.holds c.send_unheld.ensures.posts c.send_unheld.ensures.answers
 
 pub returns-else-left-clause-keeps : goal.returns-else-left-clause-keeps
 returns-else-left-clause-keeps c = λ reached.
     left_keeps c.args.key c.in_ok-left.ensures.turns.0 c.in_ok-left.ensures.turns.1 c.in-Some.left c.args.self.now c.let_go.new.self c.close.new.self c.leave.new.self _ _ reached c.in_ok-left.ensures.turns.2 c.let_go.ensures.desk c.let_go.ensures.links
-    c.close.result (find_key c.args.key c.args.self.now.desk.holds.items) refl (search rules) (ok_if c.close.result _ (inl (ap (λ (d : code.Desk). d.holds.items) c.close.ensures.desk))) c.close.ensures.posts
+    c.close.result (find_key c.args.key c.args.self.now.desk.holds.items) refl (search rules) (ok_if c.close.result _ (inl (ap (λ (d : code.Desk). d.holds.items) c.close.ensures.desk))) c.close.ensures.posts c.close.ensures.answers
 
 pub returns-in_default-clause-frees : goal.returns-in_default-clause-frees
 returns-in_default-clause-frees c = λ reached. nobody_frees c.args.key c.args.self.now.desk.holds.items _ (find_key c.args.key c.args.self.now.desk.holds.items) refl (search rules)

@@ -18,6 +18,7 @@ use Rattle.tds_relay.proofs.spared.Few.{few_behind, most_kept, none_stays}
 use Rattle.tds_relay.proofs.spared.Opening.{goes_last, opens_new_on, opens_same}
 use Rattle.tds_relay.proofs.spared.Speaking.{others_served}
 use Rattle.tds_relay.proofs.spared.Opening.{grows_on, grows_stays}
+use Rattle.tds_relay.proofs.spared.Elsewhere.{said_puts}
 use Rattle.tds_relay.proofs.relay.Relay.said.Goals as goal
 
 pub returns-clause-steps : goal.returns-clause-steps
@@ -70,3 +71,8 @@ returns-clause-opening c = opens_new_on c.serve_line.result c.args.self.now c.ta
 
 pub returns-clause-many : goal.returns-clause-many
 returns-clause-many c = grows_on c.serve_line.result c.args.self.now c.take_all.new.self c.serve_line.new.self (grows_stays c.args.self.now c.take_all.new.self c.take_all.ensures.opening c.in_ok-take_all.ensures.read) c.serve_line.ensures.many
+
+pub returns-clause-puts : goal.returns-clause-puts
+returns-clause-puts c = λ reached.
+    said_puts c.serve_line.result c.args.key c.args.self.now c.take_all.new.self c.serve_line.new.self reached c.in_ok-take_all.ensures.goes (c.in_ok-take_all.ensures.aside reached)
+    (c.serve_line.ensures.fills (reached_on (Application c.args.key) _ _ c.in_ok-take_all.ensures.goes reached))

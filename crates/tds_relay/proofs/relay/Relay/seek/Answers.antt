@@ -10,6 +10,7 @@ use Rattle.tds_relay.proofs.spared.Reasons.{for_that}
 use Rattle.tds_relay.proofs.spared.Turned.{turned_held}
 use Rattle.tds_relay.proofs.spared.Cleaned.{not_both}
 use Rattle.tds_relay.proofs.spared.Speaking.{waited_rest}
+use Rattle.tds_relay.proofs.spared.Elsewhere.{aside_own, aside_refl, aside_waits}
 use Rattle.tds_relay.proofs.relay.Relay.seek.Goals as goal
 
 pub returns-in-None-clause-goes : goal.returns-in-None-clause-goes
@@ -47,3 +48,9 @@ returns-in-None-clause-others c = λ reached. ok_if c.wait.result _ (waited_rest
 
 pub returns-in-Some-clause-moves : goal.returns-in-Some-clause-moves
 returns-in-Some-clause-moves c = ok_more c.start_kept.result _ _ (λ m begun from h. m (Application c.args.key) from h) c.start_kept.ensures.moves
+
+pub returns-in-Some-clause-aside : goal.returns-in-Some-clause-aside
+returns-in-Some-clause-aside c = λ reached. aside_own c.start_kept.result c.args.key c.args.self.now c.start_kept.new.self (c.start_kept.ensures.own reached)
+
+pub returns-in-None-clause-aside : goal.returns-in-None-clause-aside
+returns-in-None-clause-aside c = λ reached. aside_waits c.wait.result c.args.key c.args.self.now c.args.self.now c.wait.new.self (aside_refl c.args.key c.args.self.now) c.wait.ensures.holds c.wait.ensures.links

@@ -10,6 +10,7 @@ use Rattle.tds_relay.proofs.spared.Reasons.{for_reason}
 use Rattle.tds_relay.proofs.seats.Relays.{lasting_seated}
 use Rattle.tds_relay.proofs.spared.Speaking.{filled_at, filled_rest}
 use Rattle.tds_relay.proofs.spared.Resting.{others_all}
+use Rattle.tds_relay.proofs.spared.Elsewhere.{aside_on, aside_own, filled_own}
 use Rattle.tds_relay.proofs.relay.Relay.send_for.Goals as goal
 
 pub returns-else-fits-clause-read : goal.returns-else-fits-clause-read
@@ -44,3 +45,11 @@ pub returns-else-fits-clause-others : goal.returns-else-fits-clause-others
 returns-else-fits-clause-others c = λ reached hold its same.
     others_all c.lose_own.result c.args.key c.args.self.now c.fits_on.new.self c.lose_own.new.self (c.lose_own.ensures.rests (filled_at c.args.self.now c.fits_on.new.self c.fits_on.ensures.desk reached))
     (filled_rest c.args.key c.args.number hold c.args.self.now c.fits_on.new.self reached its same c.fits_on.ensures.desk c.in_ok-fits.ensures.others c.in_ok-fits.ensures.asks)
+
+pub returns-then-fits-clause-aside : goal.returns-then-fits-clause-aside
+returns-then-fits-clause-aside c = λ reached hold its same. (filled_own c.args.key c.args.number hold c.args.self.now c.fits_on.new.self reached its same c.fits_on.ensures.desk c.in_ok-fits.ensures.posts c.in_ok-fits.ensures.answers).others
+
+pub returns-else-fits-clause-aside : goal.returns-else-fits-clause-aside
+returns-else-fits-clause-aside c = λ reached hold its same.
+    aside_on c.lose_own.result c.args.key c.args.self.now c.fits_on.new.self c.lose_own.new.self (filled_own c.args.key c.args.number hold c.args.self.now c.fits_on.new.self reached its same c.fits_on.ensures.desk c.in_ok-fits.ensures.posts c.in_ok-fits.ensures.answers).others
+    (aside_own c.lose_own.result c.args.key c.fits_on.new.self c.lose_own.new.self c.lose_own.ensures.own)

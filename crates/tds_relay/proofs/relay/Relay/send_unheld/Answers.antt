@@ -18,6 +18,7 @@ use Rattle.tds_relay.proofs.seats.Relays.{lasting_seated}
 use Rattle.tds_relay.proofs.seats.Desks.{off_of}
 use Rattle.tds_relay.specs.Desk.{without_number}
 use Rattle.std.proofs.Common.{inr}
+use Rattle.tds_relay.proofs.spared.Begun.{answers_on}
 use Rattle.tds_relay.proofs.relay.Relay.send_unheld.Goals as goal
 
 pub returns-in-None-clause-read : goal.returns-in-None-clause-read
@@ -112,3 +113,12 @@ returns-in-Some-clause-posts c = c.in_ok-fits.ensures.posts
 
 pub returns-in-None-clause-posts : goal.returns-in-None-clause-posts
 returns-in-None-clause-posts c = ok_more c.lose.result _ _ (λ h other differs. h other differs ∙ c.in_ok-fits.ensures.posts other differs) c.lose.ensures.posts
+
+pub returns-then-fits-clause-answers : goal.returns-then-fits-clause-answers
+returns-then-fits-clause-answers c = c.in_ok-fits.ensures.answers
+
+pub returns-in-Some-clause-answers : goal.returns-in-Some-clause-answers
+returns-in-Some-clause-answers c = c.in_ok-fits.ensures.answers
+
+pub returns-in-None-clause-answers : goal.returns-in-None-clause-answers
+returns-in-None-clause-answers c = answers_on c.lose.result _ _ _ c.in_ok-fits.ensures.answers c.lose.ensures.answers

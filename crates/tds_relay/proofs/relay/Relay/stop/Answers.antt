@@ -6,8 +6,8 @@ use Rattle.tds_relay.proofs.spared.Reasons.{asked_not, is_asked}
 use Rattle.tds_relay.proofs.seats.Relays.{desk_seated}
 use Rattle.tds_relay.proofs.seats.Desks.{deed_seated}
 use Rattle.tds_relay.specs.Ties.{desk_in}
-use Rattle.tds_relay.specs.Desk.{Stops}
-use Rattle.std.proofs.Common.{◌≡◌, List, false, inr, ℕ, refl, rules, subst}
+use Rattle.tds_relay.specs.Desk.{Desk, Stops}
+use Rattle.std.proofs.Common.{ap, ◌≡◌, List, false, inr, ℕ, refl, rules, subst}
 use Rattle.tds_relay.proofs.spared.Speaking.{done_as}
 use Rattle.tds_relay.proofs.spared.Reasons.{refused_there, unstopped}
 use Rattle.tds_service.specs.Service as calls
@@ -81,3 +81,15 @@ returns-in_ok-unless_memory-in-Err-clause-others c = λ reached. done_as c.args.
 
 pub returns-in_err-unless_memory-in-Err-clause-others : goal.returns-in_err-unless_memory-in-Err-clause-others
 returns-in_err-unless_memory-in-Err-clause-others c = λ reached. done_as c.args.key c.args.self.now _ reached c.cancel.ensures.others refl (λ k goes. refl)
+
+pub returns-then-matches-clause-holds : goal.returns-then-matches-clause-holds
+returns-then-matches-clause-holds c = c.in-Ok.ensures.stops.same
+
+pub returns-else-matches-clause-holds : goal.returns-else-matches-clause-holds
+returns-else-matches-clause-holds c = c.in-Ok.ensures.stops.same
+
+pub returns-in_ok-unless_memory-in-Err-clause-holds : goal.returns-in_ok-unless_memory-in-Err-clause-holds
+returns-in_ok-unless_memory-in-Err-clause-holds c = ap (λ (d : Desk). d.holds) c.in-Err.ensures.err
+
+pub returns-in_err-unless_memory-in-Err-clause-holds : goal.returns-in_err-unless_memory-in-Err-clause-holds
+returns-in_err-unless_memory-in-Err-clause-holds c = ap (λ (d : Desk). d.holds) c.in-Err.ensures.err

@@ -31,6 +31,7 @@ use Rattle.tds_relay.proofs.steps.Fronts.{end_is}
 use Rattle.tds_relay.proofs.steps.Underway.{written_there}
 use Rattle.tds_relay.proofs.spared.Reasons.{may_before}
 use Rattle.tds_relay.proofs.spared.Resting.{others_both, others_refl, written_rest}
+use Rattle.tds_relay.proofs.spared.Elsewhere.{aside_refl}
 use Rattle.tds_relay.proofs.relay.Relay.take.Goals as goal
 
 pub returns-in-Err-clause-tells : goal.returns-in-Err-clause-tells
@@ -210,3 +211,15 @@ returns-in-Err-clause-others c = λ reached. others_both c.args.key c.args.self.
 
 pub returns-clause-others : goal.returns-clause-others
 returns-clause-others c = λ reached. others_both c.args.key c.args.self.now _ c.obey.new.self (written_rest c.args.key _ c.args.self.now _ refl refl refl) (c.in_ok-obey.ensures.others reached)
+
+pub returns-in_default-clause-aside : goal.returns-in_default-clause-aside
+returns-in_default-clause-aside c = λ reached. aside_refl c.args.key c.args.self.now
+
+pub returns-then-application-clause-aside : goal.returns-then-application-clause-aside
+returns-then-application-clause-aside c = λ reached. aside_refl c.args.key c.args.self.now
+
+pub returns-in-Err-clause-aside : goal.returns-in-Err-clause-aside
+returns-in-Err-clause-aside c = λ reached. c.in_ok-expel_for-in-Err.ensures.aside reached
+
+pub returns-clause-aside : goal.returns-clause-aside
+returns-clause-aside c = λ reached. c.in_ok-obey.ensures.aside reached

@@ -11,6 +11,7 @@ use Rattle.tds_relay.specs.Closings.{register_in}
 use Rattle.tds_relay.proofs.spared.Closings.{closes_both, closes_more, closes_refl}
 use Rattle.tds_relay.proofs.spared.Resting.{others_both, others_refl}
 use Rattle.tds_relay.proofs.spared.Speaking.{reached_by}
+use Rattle.tds_relay.proofs.spared.Elsewhere.{aside_both, aside_refl}
 use Rattle.tds_relay.proofs.relay.Relay.take_all.Goals as goal
 
 pub taking-init : goal.taking-init
@@ -26,6 +27,7 @@ taking-init c = record {
   stand = λ n r h. h;
   seated = λ s. s;
   others = λ reached. others_refl c.args.key c.args.self.now;
+  aside = λ reached. aside_refl c.args.key c.args.self.now;
   opening = refl;
 }
 
@@ -43,6 +45,7 @@ taking-preserved c = record {
   stand = λ n r h. c.in_ok-count.ensures.stand n r (c.taking.invariant.stand n r h);
   seated = λ s. c.in_ok-count.ensures.seated (c.taking.invariant.seated s);
   others = λ reached. others_both c.args.key c.args.self.now c.taking.self c.take.new.self (c.taking.invariant.others reached) (c.in_ok-count.ensures.others (reached_by c.args.key c.args.self.now.desk c.taking.self.desk c.taking.invariant.goes reached));
+  aside = λ reached. aside_both c.args.key c.args.self.now c.taking.self c.take.new.self (c.taking.invariant.aside reached) (c.in_ok-count.ensures.aside (reached_by c.args.key c.args.self.now.desk c.taking.self.desk c.taking.invariant.goes reached));
   opening = c.take.ensures.opening ∙ c.taking.invariant.opening;
 }
 

@@ -11,6 +11,7 @@ use Rattle.tds_relay.specs.Ties.{Application, Goes, IsReached, desk_in}
 use Rattle.tds_relay.specs.Walkers.{AllStand}
 use Rattle.tds_relay.specs.Closings.{ClosesOnly, register_in}
 use Rattle.tds_relay.specs.Few.{IsSeated}
+use Rattle.tds_relay.specs.Lent.{OthersKeepAt}
 use Rattle.tds_relay.specs.Ordering.{opens_in}
 use Rattle.tds_relay.proofs.relay.Relay.take_all.Given as goal
 
@@ -28,4 +29,5 @@ invariant-taking l = record {
   seated : IsSeated l.fn.self → IsSeated l.self;
   opening : opens_in l.self.orders.items ≡ opens_in l.fn.self.orders.items;
   others : IsReached (desk_in l.fn.self.desk) → OthersRest l.fn.key l.fn.self l.self;
+  aside : IsReached (desk_in l.fn.self.desk) → OthersKeepAt l.fn.key l.fn.self l.self;
 }

@@ -23,6 +23,8 @@ use Rattle.tds_relay.proofs.spared.Resting.{all_others, all_rest, asks_on, other
 use Rattle.tds_relay.specs.Desk.{find_key}
 use Rattle.std.proofs.Common.{◌≡◌, Some}
 use Rattle.tds_relay.specs.Ties.{Reaches}
+use Rattle.tds_relay.proofs.spared.Elsewhere.{aside_both, aside_on, aside_same}
+use Rattle.tds_relay.specs.Desk.{Desk}
 use Rattle.tds_relay.proofs.relay.Relay.take_back.Goals as goal
 
 pub returns-in-Some-clause-moves : goal.returns-in-Some-clause-moves
@@ -150,3 +152,28 @@ returns-in-None-clause-others c = λ reached.
     let led = reached_by c.args.key a.desk b.desk c.forget_request.ensures.goes reached in
     others_on c.expel.result c.args.key a d c.expel.new.self (c.expel.ensures.others (reached_by c.args.key b.desk d.desk c.stop.ensures.goes led))
     (others_both c.args.key a b d c.forget_request.ensures.others (c.stop.ensures.others led))
+
+pub returns-in-Some-clause-aside : goal.returns-in-Some-clause-aside
+returns-in-Some-clause-aside c = λ reached.
+    let a = c.args.self.now in
+    let b = c.forget_request.new.self in
+    let d = c.stop.new.self in
+    let e = c.withdraw.new.self in
+    let led = reached_by c.args.key a.desk b.desk c.forget_request.ensures.goes reached in
+    let stopped = reached_by c.args.key b.desk d.desk c.stop.ensures.goes led in
+    let halts = some_of _ c.in-Some.number _ c.in-Some.is c.in_ok-number.ensures.stops in
+    aside_on c.send_for.result c.args.key a e c.send_for.new.self
+    (aside_both c.args.key a b e (aside_same c.args.key a b (ap (λ (x : Desk). x.holds) c.forget_request.ensures.turns.desk_is) c.forget_request.ensures.links)
+    (aside_both c.args.key b d e (aside_same c.args.key b d c.stop.ensures.holds c.stop.ensures.links) (aside_same c.args.key d e (ap (λ (x : code.Desk). x.holds.items) c.withdraw.ensures.desk) c.withdraw.ensures.links)))
+    (c.send_for.ensures.aside (filled_at d e c.withdraw.ensures.desk stopped) halts.hold
+    (subst (λ (x : code.Desk). find_key c.args.key x.holds.items ≡ Some halts.hold) (sym c.withdraw.ensures.desk) (halting_held c.in-Some.number c.args.key b d halts)) (sym halts.number_is))
+
+pub returns-in-None-clause-aside : goal.returns-in-None-clause-aside
+returns-in-None-clause-aside c = λ reached.
+    let a = c.args.self.now in
+    let b = c.forget_request.new.self in
+    let d = c.stop.new.self in
+    let led = reached_by c.args.key a.desk b.desk c.forget_request.ensures.goes reached in
+    aside_on c.expel.result c.args.key a d c.expel.new.self
+    (aside_both c.args.key a b d (aside_same c.args.key a b (ap (λ (x : Desk). x.holds) c.forget_request.ensures.turns.desk_is) c.forget_request.ensures.links) (aside_same c.args.key b d c.stop.ensures.holds c.stop.ensures.links))
+    (c.expel.ensures.aside (reached_by c.args.key b.desk d.desk c.stop.ensures.goes led))

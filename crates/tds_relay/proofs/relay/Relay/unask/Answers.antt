@@ -1,4 +1,4 @@
-use Rattle.std.proofs.Common.{List, inl, inr, refl, rules, subst, ℕ}
+use Rattle.std.proofs.Common.{ap, List, inl, inr, refl, rules, subst, ℕ}
 use Rattle.tds_relay.specs.Bodies.{ClientStops}
 use Rattle.tds_relay.specs.Ties.{Application}
 use Rattle.tds_relay.proofs.steps.Fronts.{moves_closes, moves_does}
@@ -20,6 +20,8 @@ use Rattle.tds_relay.proofs.spared.Reasons.{refused_there, uncancelled}
 use Rattle.tds_service.specs.Service as calls
 use Rattle.tds_relay.specs.Hall.{end_at}
 use Rattle.tds_relay.specs.Fronts.{ends_in}
+use Rattle.tds_relay.proofs.spared.Elsewhere.{keeps_on}
+use Rattle.tds_relay.specs.Desk.{find_number}
 use Rattle.tds_relay.proofs.relay.Relay.unask.Goals as goal
 
 pub returns-then-not-has_nothing_out-clause-moves : goal.returns-then-not-has_nothing_out-clause-moves
@@ -76,3 +78,17 @@ pub returns-in_ok-unless_memory-in-Err-clause-others : goal.returns-in_ok-unless
 returns-in_ok-unless_memory-in-Err-clause-others c = λ reached.
     others_on c.expel-in-Err.result c.args.key c.args.self.now _ c.expel-in-Err.new.self (c.expel-in-Err.ensures.others (subst (λ (d : Desk). IsReached d) (sym c.in-Err.ensures.err) reached))
     (done_as c.args.key c.args.self.now _ reached c.cancel.ensures.others refl (λ k goes. refl))
+
+pub returns-then-not-has_nothing_out-clause-aside : goal.returns-then-not-has_nothing_out-clause-aside
+returns-then-not-has_nothing_out-clause-aside c = c.expel.ensures.aside
+
+pub returns-in-Ok-clause-aside : goal.returns-in-Ok-clause-aside
+returns-in-Ok-clause-aside c = λ reached.
+    keeps_on c.send_for.result c.args.key c.args.self.now.desk.holds.items c.cancel.new.self.holds.items c.send_for.new.self.desk.holds.items c.args.self.now.links.items c.args.self.now.links.items c.send_for.new.self.links.items
+    (λ n differs. (ap (find_number n) c.in-Ok.ensures.stops.same, refl))
+    (c.send_for.ensures.aside (reached_turn _ _ (desk.Does c.args.key Stops) _ _ c.in-Ok.ensures.ok reached) c.in-Ok.hold (stopped_held c.args.key c.args.self.now.desk c.cancel.new.self c.in-Ok.hold _ _ c.in-Ok.ensures.stops c.in-Ok.ensures.whose) refl)
+
+pub returns-in_ok-unless_memory-in-Err-clause-aside : goal.returns-in_ok-unless_memory-in-Err-clause-aside
+returns-in_ok-unless_memory-in-Err-clause-aside c = λ reached.
+    keeps_on c.expel-in-Err.result c.args.key c.args.self.now.desk.holds.items c.cancel.new.self.holds.items c.expel-in-Err.new.self.desk.holds.items c.args.self.now.links.items c.args.self.now.links.items c.expel-in-Err.new.self.links.items
+    (λ n differs. (ap (λ (d : Desk). find_number n d.holds) c.in-Err.ensures.err, refl)) (c.expel-in-Err.ensures.aside (subst (λ (d : Desk). IsReached d) (sym c.in-Err.ensures.err) reached))

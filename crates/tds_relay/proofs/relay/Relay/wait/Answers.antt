@@ -7,6 +7,8 @@ use Rattle.tds_relay.specs.Fronts.{hall_in}
 use Rattle.tds_relay.proofs.spared.Only.{spares_refl, spares_waits}
 use Rattle.tds_relay.proofs.seats.Relays.{serviced_seated}
 use Rattle.tds_relay.specs.Desk.{Waits}
+use Rattle.std.proofs.Common.{ap}
+use Rattle.tds_relay.specs.Desk.{Desk}
 use Rattle.tds_relay.proofs.relay.Relay.wait.Goals as goal
 
 pub returns-then-is_away-clause-goes : goal.returns-then-is_away-clause-goes
@@ -30,3 +32,6 @@ returns-else-is_away-clause-spares c = λ number. spares_refl number _ (hall_in 
 
 pub returns-then-is_away-clause-seated : goal.returns-then-is_away-clause-seated
 returns-then-is_away-clause-seated c = λ s. ok_more c.wait.result _ _ (λ t. serviced_seated (Waits c.args.key) c.args.self.now.desk c.wait.new.self c.args.self.now.links.items _ _ t c.wait.ensures.service s) c.wait.ensures.ok
+
+pub returns-then-is_away-clause-holds : goal.returns-then-is_away-clause-holds
+returns-then-is_away-clause-holds c = ok_more c.wait.result _ _ (λ t. ap (λ (d : Desk). d.holds) t.desk_is) c.wait.ensures.ok
