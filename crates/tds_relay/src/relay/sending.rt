@@ -6,8 +6,7 @@ ghost use Rattle.tds_relay.specs.Apart.{Alone, SparesOthers};
 ghost use Rattle.tds_relay.specs.Bodies.{AskAsBefore, AskOn};
 ghost use Rattle.tds_relay.specs.Bounds.{most_for};
 ghost use Rattle.tds_relay.specs.Closings.{ClosesOnly, IsWho, Nobody, register_in, times_closed};
-ghost use Rattle.tds_relay.specs.Desk.{find_key, find_number};
-ghost use Rattle.tds_relay.specs.declared.desk.Hold.{Hold};
+ghost use Rattle.tds_relay.specs.Desk.{find_number};
 ghost use Rattle.tds_relay.specs.Fronts.{MovedOn, ends_in, hall_in, house_in};
 ghost use Rattle.tds_relay.specs.Hall.{holder};
 ghost use Rattle.tds_relay.specs.House.{Steps};
@@ -18,7 +17,7 @@ ghost use Rattle.tds_relay.specs.Reasons.{HasNoRoom, IsOverfull, ItselfFor};
 ghost use Rattle.tds_relay.specs.Law.{waiting_on};
 ghost use Rattle.tds_relay.specs.Reads.{FillsBy, Sees, Stays, post_on, waits_on};
 ghost use Rattle.tds_relay.specs.Sending.{IsToWrite, called_at};
-ghost use Rattle.tds_relay.specs.Sparing.{AllRest, OthersRest, SendsOn};
+ghost use Rattle.tds_relay.specs.Sparing.{AllRest, SendsOn};
 ghost use Rattle.tds_relay.specs.Ties.{GoesOn, IsReached, Neither, desk_in};
 ghost use Rattle.tds_relay.specs.Told.{TellsTheSame, held_name, holder_name, is_there};
 ghost use Rattle.tds_relay.specs.Waking.{IsWoken};
@@ -197,33 +196,6 @@ impl Relay {
     {
         let fits = self.fits_on(number)?;
         if fits { Ok(()) } else { self.lose(number) }
-    }
-
-    /// The same of one that this application holds.
-    pub(super) fn send_for(&mut self, key: usize, number: u64) -> Result<(), NoMemory>
-        ensures goes { OnOk result (GoesOn (desk_in self.old.desk) (desk_in self.new.desk)) }
-        ensures kept { OnOk result (posts_in self.new.applications
-            ≡ posts_in self.old.applications) }
-        ensures moves { OnOk result (MovedOn (hall_in self.old) (hall_in self.new)) }
-        ensures read { OnOk result (Stays self.old.links.items self.new.links.items) }
-        ensures stand { OnOk result (AllStand self.old.desk.service
-            self.new.desk.service) }
-        ensures asks { OnOk result (AskOn self.old.applications self.new.applications) }
-        ensures closes { OnOk result (ClosesOnly (ItselfFor key
-            (HasNoRoom number self.old.outbox.items self.old.links.items))
-            (register_in self.old) (register_in self.new)) }
-        ensures seated { IsSeated self.old → OnOk result (IsSeated self.new) }
-        ensures others { IsReached (desk_in self.old.desk) → (hold : Hold)
-            → find_key key (desk_in self.old.desk).holds ≡ Some hold → hold.number ≡ number
-            → OnOk result (OthersRest key self.old self.new) }
-        ensures opening { opens_in self.new.orders.items ≡ opens_in self.old.orders.items }
-    {
-        let fits = self.fits_on(number)?;
-        if fits {
-            Ok(())
-        } else {
-            self.lose_own(key, number)
-        }
     }
 
     /// The same of one that nobody holds.

@@ -22,6 +22,8 @@ use Rattle.tds_relay.specs.Waiting.{KeepsInLine, KeepsSaid}
 use Rattle.tds_relay.proofs.seats.Relays.{kept_end}
 use Rattle.tds_relay.proofs.steps.Quieting.{Drops, Opens, begun_fed, quiet_fed}
 use Rattle.tds_relay.proofs.spared.Resting.{others_all, others_refl, same_on}
+use Rattle.tds_relay.specs.Bodies.{CancelsSaid, standing_in}
+use Rattle.tds_relay.proofs.steps.Halting.{cancelled_told}
 use Rattle.tds_relay.proofs.relay.Relay.obey.Goals as goal
 
 pub returns-in-Begin-clause-given : goal.returns-in-Begin-clause-given
@@ -234,3 +236,31 @@ pub returns-in_ok-forget-in-Acknowledge-clause-others : goal.returns-in_ok-forge
 returns-in_ok-forget-in-Acknowledge-clause-others c = λ reached.
     others_all c.acknowledge.result c.args.key c.args.self.now c.forget-in-Acknowledge.new.self c.acknowledge.new.self
     (same_on c.acknowledge.result c.forget-in-Acknowledge.new.self c.acknowledge.new.self c.acknowledge.ensures.desk c.acknowledge.ensures.links c.acknowledge.ensures.asks) (c.in_ok-forget-in-Acknowledge.ensures.others reached)
+
+pub returns-in-Nothing-clause-cancels : goal.returns-in-Nothing-clause-cancels
+returns-in-Nothing-clause-cancels c = subst (λ (s : Said). CancelsSaid s (body_of c.args.key c.args.self.now) (standing_in c.args.key c.args.self.now)) (sym c.in-Nothing.is) tt
+
+pub returns-in-Begin-clause-cancels : goal.returns-in-Begin-clause-cancels
+returns-in-Begin-clause-cancels c = ok_if c.begin.result _ (subst (λ (s : Said). CancelsSaid s (body_of c.args.key c.args.self.now) (standing_in c.args.key c.begin.new.self)) (sym c.in-Begin.is) tt)
+
+pub returns-in-Body-clause-cancels : goal.returns-in-Body-clause-cancels
+returns-in-Body-clause-cancels c = ok_if c.go_on.result _ (subst (λ (s : Said). CancelsSaid s (body_of c.args.key c.args.self.now) (standing_in c.args.key c.go_on.new.self)) (sym c.in-Body.is) tt)
+
+pub returns-in-End-clause-cancels : goal.returns-in-End-clause-cancels
+returns-in-End-clause-cancels c = ok_if c.go_on-in-End.result _ (subst (λ (s : Said). CancelsSaid s (body_of c.args.key c.args.self.now) (standing_in c.args.key c.go_on-in-End.new.self)) (sym c.in-End.is) tt)
+
+pub returns-in-Forget-false-clause-cancels : goal.returns-in-Forget-false-clause-cancels
+returns-in-Forget-false-clause-cancels c =
+    ok_more c.forget.result _ _ (λ h. subst (λ (s : Said). CancelsSaid s (body_of c.args.key c.args.self.now) (standing_in c.args.key c.forget.new.self)) (sym c.in-Forget-false.is) h) c.forget.ensures.cancels
+
+pub returns-in-Forget-true-clause-cancels : goal.returns-in-Forget-true-clause-cancels
+returns-in-Forget-true-clause-cancels c =
+    ok_more c.take_back.result _ _ (λ h. subst (λ (s : Said). CancelsSaid s (body_of c.args.key c.args.self.now) (standing_in c.args.key c.take_back.new.self)) (sym c.in-Forget-true.is) h) c.take_back.ensures.cancels
+
+pub returns-in_ok-forget-in-Acknowledge-clause-cancels : goal.returns-in_ok-forget-in-Acknowledge-clause-cancels
+returns-in_ok-forget-in-Acknowledge-clause-cancels c =
+    ok_more c.acknowledge.result _ _ (λ h. subst (λ (s : Said). CancelsSaid s (body_of c.args.key c.args.self.now) (standing_in c.args.key c.acknowledge.new.self)) (sym c.in-Acknowledge.is) h)
+    (cancelled_told c.acknowledge.result c.args.key (body_of c.args.key c.args.self.now) c.forget-in-Acknowledge.new.self c.acknowledge.new.self c.in_ok-forget-in-Acknowledge.ensures.cancels c.acknowledge.ensures.desk c.acknowledge.ensures.links c.acknowledge.ensures.asks)
+
+pub returns-in-HandOn-clause-cancels : goal.returns-in-HandOn-clause-cancels
+returns-in-HandOn-clause-cancels c = ok_if c.hand_on.result _ (subst (λ (s : Said). CancelsSaid s (body_of c.args.key c.args.self.now) (standing_in c.args.key c.hand_on.new.self)) (sym c.in-HandOn.is) tt)

@@ -19,6 +19,8 @@ use Rattle.tds_relay.proofs.spared.Few.{few_behind, most_kept, none_stays}
 use Rattle.tds_relay.proofs.spared.Opening.{goes_last, opens_new_on, opens_same}
 use Rattle.tds_relay.proofs.spared.Speaking.{others_served}
 use Rattle.tds_relay.proofs.spared.Opening.{grows_on, grows_stays}
+use Rattle.tds_relay.specs.Bodies.{standing_in, standing_open}
+use Rattle.tds_relay.proofs.steps.Heeding.{cancels_ok, goes_served}
 use Rattle.tds_relay.proofs.relay.Relay.said.Goals as goal
 
 pub returns-clause-steps : goal.returns-clause-steps
@@ -71,3 +73,10 @@ returns-clause-opening c = opens_new_on c.serve_line.result c.args.self.now c.ta
 
 pub returns-clause-many : goal.returns-clause-many
 returns-clause-many c = grows_on c.serve_line.result c.args.self.now c.take_all.new.self c.serve_line.new.self (grows_stays c.args.self.now c.take_all.new.self c.take_all.ensures.opening c.in_ok-take_all.ensures.read) c.serve_line.ensures.many
+
+pub returns-clause-cancels : goal.returns-clause-cancels
+returns-clause-cancels c = λ reached.
+    cancels_ok c.serve_line.result c.args.key (house_in c.args.self.now) c.args.piece.now _ (standing_in c.args.key c.args.self.now) (standing_in c.args.key c.take_all.new.self) (standing_open c.args.key c.serve_line.new.self) _ _ _ _ c.in_ok-take_all.ensures.cancels
+    c.serve_line.ensures.moves c.serve_line.ensures.kept
+    (goes_served c.serve_line.result (body_of c.args.key c.take_all.new.self) (body_of c.args.key c.serve_line.new.self) c.take_all.new.self.links.items c.serve_line.new.self.links.items
+    (ok_more c.serve_line.result _ _ (λ g. g.go (reached_on (Application c.args.key) _ _ c.in_ok-take_all.ensures.goes reached) c.args.key) c.serve_line.ensures.goes_on) c.serve_line.ensures.opens)
