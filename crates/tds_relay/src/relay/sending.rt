@@ -1,6 +1,6 @@
 //! What waits for applications and on connections, and is sent.
 ghost use Rattle.std.specs.Prelude.{◌≡◌, ◌≢◌, ◌+◌, ◌≤◌, [], ℕ, None, OnOk, Some, drop, if◌then◌else◌, length};
-ghost use Rattle.std.specs.Prelude.{◌++◌, IfOk, List, false, option_map, true};
+ghost use Rattle.std.specs.Prelude.{◌++◌, IfOk, IsSome, List, false, option_map, true};
 ghost use Rattle.slab.specs.Slab.{get};
 ghost use Rattle.tds_relay.specs.Apart.{Alone, SparesOthers};
 ghost use Rattle.tds_relay.specs.Bodies.{AskAsBefore, AskOn};
@@ -24,7 +24,7 @@ ghost use Rattle.tds_relay.specs.Waking.{IsWoken};
 ghost use Rattle.tds_relay.specs.Walkers.{AllStand};
 ghost use Rattle.tds_relay.specs.declared.outgoing.TheConstants.{PIECE};
 ghost use Rattle.tds_relay.specs.Few.{IsSeated, IsSeatedBut};
-ghost use Rattle.tds_relay.specs.Cleaning.{cleaned_in};
+ghost use Rattle.tds_relay.specs.Cleaning.{CountsOnce, CountsSent, cleaned_in};
 
 use super::Relay;
 use crate::NoMemory;
@@ -198,7 +198,7 @@ impl Relay {
         if fits { Ok(()) } else { self.lose(number) }
     }
 
-    /// The same of one that nobody holds.
+    /// The same of one that nobody holds: it is counted as cleaned, or as closed instead.
     pub(super) fn send_unheld(&mut self, number: u64) -> Result<(), NoMemory>
         ensures goes { OnOk result (GoesOn (desk_in self.old.desk) (desk_in self.new.desk)) }
         ensures kept { OnOk result (posts_in self.new.applications
@@ -225,15 +225,21 @@ impl Relay {
             → waits_on other self.new.links.items ≡ waits_on other self.old.links.items) }
         ensures posts { OnOk result ((other : ℕ) → other ≢ number
             → post_on other self.new.links.items ≡ post_on other self.old.links.items) }
-        ensures counts { cleaned_in self.new ≡ cleaned_in self.old }
+        ensures counts { OnOk result (CountsOnce (cleaned_in self.old) (cleaned_in self.new)) }
+        ensures cleaned { find_number number (desk_in self.old.desk).holds ≡ None
+            → IsSome (waits_on number self.old.links.items)
+            → OnOk result (CountsSent (waits_on number self.new.links.items)
+            (cleaned_in self.old) (cleaned_in self.new)) }
         ensures opening { opens_in self.new.orders.items ≡ opens_in self.old.orders.items }
         ensures holds { OnOk result (MayForget number self.old.desk.holds.items
             self.new.desk.holds.items) }
     {
         let fits = self.fits_on(number)?;
         if fits {
+            self.cleanings = self.cleanings.saturating_add(1);
             return Ok(());
         }
+        self.failed = self.failed.saturating_add(1);
         match self.desk.key_on(number) {
             Some(_) => Ok(()),
             None => self.lose(number),
