@@ -12,7 +12,7 @@ use Rattle.tds_relay.specs.Asking.{said_of}
 use Rattle.tds_relay.specs.Bodies.{Body, AreHeeded, Cancels, GoesFrom, Heeds, Standing, Starts, Stays, taken_of}
 use Rattle.tds_relay.specs.Desk.{Desk}
 use Rattle.tds_relay.specs.Fronts.{ClosesInstead, FedOn, IsFed, Moved, MovedOn, TakesBetween, given_by, hall_of_ends, house_with}
-use Rattle.tds_relay.specs.Hall.{End, Ends, Feeds, Hall, Move, Moves, Open, change_end, closes, closes_for, end_at, moved}
+use Rattle.tds_relay.specs.Hall.{End, Ends, Feeds, Hall, Move, Moves, Open, change_end, closes_for, end_at, moved}
 use Rattle.tds_relay.specs.House.{House, Step, Admits, Hands, Makes, Removes, Takes, Writes, after, after_all, owed, put_some}
 use Rattle.tds_relay.specs.Posts.{Posts, change}
 use Rattle.tds_packet.specs.Reading.{Reading}
@@ -23,10 +23,10 @@ use Rattle.tds_relay.specs.Ties.{Application}
 use Rattle.tds_relay.proofs.spared.Resting.{starts_both}
 use Rattle.tds_relay.proofs.steps.Asked.{said_is}
 use Rattle.tds_relay.proofs.steps.Fed.{left_fed, waits_fed}
-use Rattle.tds_relay.proofs.steps.Fronts.{moves_closes, no_moves}
+use Rattle.tds_relay.proofs.steps.Fronts.{no_moves}
 use Rattle.tds_relay.proofs.steps.Staying.{fills_both, fills_refl}
 use Rattle.tds_relay.proofs.steps.Stepping.{makes_all}
-use Rattle.tds_relay.proofs.steps.Told.{deaf_closed, deaf_for, tells_begin, tells_deaf, tells_moves, tells_takes}
+use Rattle.tds_relay.proofs.steps.Told.{deaf_for, tells_begin, tells_deaf, tells_moves, tells_takes}
 
 -- ---- Where it stands
 
