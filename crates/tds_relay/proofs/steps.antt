@@ -10,6 +10,7 @@ pub mod Fronts
 pub mod Going
 pub mod Halting
 pub mod Handed
+pub mod Heeding
 pub mod Lively
 pub mod Made
 pub mod Naming

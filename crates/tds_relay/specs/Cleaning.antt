@@ -19,10 +19,10 @@ use Rattle.tds_relay.specs.declared.desk.leaving.Left.{Left}
 use Rattle.tds_relay.specs.declared.link.Link.{Link}
 use Rattle.tds_relay.specs.declared.relay.Relay as code
 use Rattle.tds_relay.specs.Bodies.{ArePut}
-use Rattle.tds_relay.specs.Closings.{Settings}
+use Rattle.tds_relay.specs.Closings.{IsWaiting, Register, Settings, register_in}
 use Rattle.tds_relay.specs.Desk.{Brings, Desk, Way, find_key, next, turn}
-use Rattle.tds_relay.specs.Lent.{IsMade}
-use Rattle.tds_relay.specs.Reads.{bytes_on, open_at, open_waits, reader_at, waits_on}
+use Rattle.tds_relay.specs.Lent.{HasClosed, IsMade}
+use Rattle.tds_relay.specs.Reads.{CalledAt, bytes_on, open_at, open_waits, reader_at, seen_at, waits_on}
 use Rattle.tds_relay.specs.Hall.{holder}
 use Rattle.tds_relay.specs.Ties.{desk_in}
 
@@ -115,10 +115,43 @@ WaitsSinceEnd key old new = (hold : Hold) → find_key key old.desk.holds.items 
 abbrev pub cleaned_in : code.Relay → ℕ × ℕ
 cleaned_in r = (r.cleanings, r.failed)
 
--- Where one was held it is counted so, once, as far as it is counted.
+-- One is counted so, once, as far as it is counted;
+abbrev pub CountsOnce : ℕ × ℕ → ℕ × ℕ → Type 0
+CountsOnce old new = (new ≡ (next old.0, old.1)) ⊎ (new ≡ (old.0, next old.1))
+
+-- where one was held,
 abbrev pub CountsHold : Option Hold → ℕ × ℕ → ℕ × ℕ → Type 0
 CountsHold None old new = new ≡ old
-CountsHold (Some hold) old new = (new ≡ (next old.0, old.1)) ⊎ (new ≡ (old.0, next old.1))
+CountsHold (Some hold) old new = CountsOnce old new
+
+-- or was brought.
+abbrev pub CountsBrought : Option ℕ → ℕ × ℕ → ℕ × ℕ → Type 0
+CountsBrought None old new = new ≡ old
+CountsBrought (Some number) old new = CountsOnce old new
+
+-- Where it is there still, what goes out by that waits: it is counted as cleaned; and as closed instead where it isn't there.
+abbrev pub CountsSent : Option (List ℕ) → ℕ × ℕ → ℕ × ℕ → Type 0
+CountsSent None old new = new ≡ (old.0, next old.1)
+CountsSent (Some waits) old new = new ≡ (next old.0, old.1)
+
+-- So it is where an application held one that was there.
+abbrev pub CountsAtEnd : ℕ → code.Relay → code.Relay → Type 0
+CountsAtEnd key old new = (hold : Hold) → find_key key old.desk.holds.items ≡ Some hold → IsSome (waits_on hold.number old.links.items)
+    → CountsSent (waits_on hold.number new.links.items) (cleaned_in old) (cleaned_in new)
+
+-- Then those who wait are served: what is counted as cleaned is there, or was lost with one of them; what is counted as closed isn't there, but for
+-- another by its number that is yet to be opened.
+pub data CountsSince (Lost : Type 0) (number : ℕ) (old new : ℕ × ℕ) (ls : List Link) : Type 0 where
+  IsCleaned : new ≡ (next old.0, old.1) → IsSome (waits_on number ls) ⊎ Lost → CountsSince Lost number old new ls
+  IsFailed : new ≡ (old.0, next old.1) → CalledAt None (seen_at number ls) → CountsSince Lost number old new ls
+
+-- one of them is closed since
+abbrev pub LosesWaiting : Register → code.Relay → code.Relay → Type 0
+LosesWaiting was old new = HasClosed (IsWaiting (desk_in old.desk).line) was (register_in new)
+
+abbrev pub CountsSinceEnd : ℕ → Register → code.Relay → code.Relay → Type 0
+CountsSinceEnd key was old new = (hold : Hold) → find_key key old.desk.holds.items ≡ Some hold → IsSome (waits_on hold.number old.links.items)
+    → CountsSince (LosesWaiting was old new) hold.number (cleaned_in old) (cleaned_in new) new.links.items
 
 -- Nothing is counted; or the connection of this number was closed instead, which nobody held: it is there no more.
 abbrev pub CountsLost : ℕ → code.Relay → code.Relay → Type 0

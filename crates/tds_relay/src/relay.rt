@@ -81,7 +81,7 @@ pub struct Relay {
     orders: Vec<Order>,
     /// Where the desk puts what is to be sent on a connection.
     outbox: Vec<u8>,
-    /// Connections that were let go and are cleaned, and those that nobody held which were closed instead.
+    /// Connections that were let go or brought, and are cleaned; and those that nobody held which were closed instead.
     cleanings: u64,
     failed: u64,
     /// The last connection that is closed for the header of a packet.

@@ -1,6 +1,6 @@
 -- What a cleaning puts, and what goes out where a connection is let go.
 use Rattle.std.proofs.Common.{◌≡◌, ◌∙◌, ◌==◌, ◌++◌, ℕ, Bool, true, false, not, List, [], ◌∷◌, Option, Some, None, inl, inr, refl, sym, ap, subst, append_assoc, option_map, if◌then◌else◌}
-use Rattle.std.specs.Prelude.{OnOk, Result, Ok, Err, ◌⊎◌}
+use Rattle.std.specs.Prelude.{IsSome, OnOk, Result, Ok, Err, ◌⊎◌}
 use Rattle.std.proofs.lemmas.Bool.{eqb-true, eq-eqb}
 use Rattle.tds_client.specs.declared.message.MessageKind.TheVariants.{Batch}
 use Rattle.tds_client.specs.Session.{ClientSession}
@@ -14,12 +14,14 @@ use Rattle.tds_relay.specs.declared.desk.Hold.{Hold}
 use Rattle.tds_relay.specs.declared.desk.leaving.Left.{Left}
 use Rattle.tds_relay.specs.declared.link.Link.{Link}
 use Rattle.tds_relay.specs.declared.relay.Relay as code
-use Rattle.tds_relay.specs.Cleaning.{CleansOnce, GoesOutAtEnd, GoesOutBy, IsBatch, IsCleaning, WaitsAtEnd, OfItsHold, MayClean, IsPutBehind, CountsHold, rests_once}
+use Rattle.tds_relay.specs.Cleaning.{CleansOnce, GoesOutAtEnd, GoesOutBy, IsBatch, IsCleaning, WaitsAtEnd, OfItsHold, MayClean, IsPutBehind, CountsAtEnd, CountsHold, CountsSent, CountsSince, CountsSinceEnd, LosesWaiting, cleaned_in, rests_once}
 use Rattle.tds_relay.specs.Cleaning as cleaning
 use Rattle.tds_relay.specs.Desk as desk
 use Rattle.tds_relay.specs.Desk.{Desk, find_key, find_lease, find_number, whose_by, without_lease, next}
 use Rattle.tds_relay.specs.Promises.{Each}
-use Rattle.tds_relay.specs.Reads.{FillsBy, bytes_on, link_at, reader_at, reader_of, waits_on}
+use Rattle.tds_relay.specs.Closings.{ClosesOnly, IsWaiting, Nobody, Register, open_name, register_in}
+use Rattle.tds_relay.specs.Lent.{HasClosed, LastBut}
+use Rattle.tds_relay.specs.Reads.{CalledAt, FillsBy, Opens as OpensLinks, Seen, bytes_on, link_at, reader_at, reader_of, seen_at, seen_of, waits_on}
 use Rattle.tds_relay.specs.Ties.{IsNumberOf, IsReached, Turns, desk_in}
 use Rattle.tds_relay.specs.Cleaning.{text_of_cleaning}
 use Rattle.tds_relay.proofs.held.Sitting.{Sits}
@@ -146,6 +148,21 @@ filled client out old None e f = cleaning.IsShut
 filled client out None (Some new) e f = absurd f
 filled client out (Some waits) (Some new) e f = subst (λ (xs : List ℕ). WaitsAtEnd client (Some waits) (Some xs)) (sym f) (cleaning.HasMore waits out refl e)
 
+-- nobody holds what was let go
+left_free : (key : ℕ) (left : Left) (o : Option Hold) (gives : Bool) (way : desk.Way) (old mid : code.Relay) (d : desks.Desk) (before after : List ℕ) → o ≡ find_key key old.desk.holds.items
+    → IsNumberOf o (Some left) → left.is_there ≡ true → IsReached (desk_in old.desk) → (l : Option Left) → l ≡ Some left
+    → (IsReached (desk_in old.desk) → GoesOutBy old.desk.service (find_key key old.desk.holds.items) l before after)
+    → Turns (desk.Leaves key gives way) (desk_in old.desk) (desk_in d) before after → mid.desk ≡ d
+    → (hold : Hold) → find_key key old.desk.holds.items ≡ Some hold → (left.number ≡ hold.number) × (find_number left.number (desk_in mid.desk).holds ≡ None)
+left_free key left o gives way old mid d before after same is there reached l its_left ends t at hold its =
+    let here : o ≡ Some hold = same ∙ its in
+    let number : left.number ≡ hold.number = subst (λ (p : Option Hold). IsNumberOf p (Some left)) here is in
+    let e : IsPutBehind (GoesOutAtEnd text_of_cleaning (client_of hold.lease old.desk.service)) before after =
+    subst (λ (p : Option Hold). GoesOutBy old.desk.service p (Some left) before after) its (subst (λ (y : Option Left). GoesOutBy old.desk.service (find_key key old.desk.holds.items) y before after) its_left (ends reached)) there in
+    let holds : (desk_in mid.desk).holds ≡ without_lease hold.lease old.desk.holds.items =
+    ap (λ (x : desks.Desk). (desk_in x).holds) at ∙ ap (λ (x : Desk). x.holds) t.desk_is ∙ holds_left (desk_in old.desk) key gives way hold its in
+    (number, ap (find_number left.number) holds ∙ ap (λ (n : ℕ). find_number n (without_lease hold.lease old.desk.holds.items)) number ∙ leaves_none old.desk key hold e.is.session reached its e.is.was)
+
 -- what goes out by it waits on the connection that was let go
 pub left_by : {A E : Type 0} (r : Result A E) (key : ℕ) (left : Left) (o : Option Hold) (gives : Bool) (way : desk.Way) (old mid new : code.Relay) (d : desks.Desk) (before after outbox : List ℕ) → o ≡ find_key key old.desk.holds.items
     → IsNumberOf o (Some left) → left.is_there ≡ true → IsReached (desk_in old.desk) → before ≡ [] → (l : Option Left) → l ≡ Some left
@@ -197,12 +214,92 @@ pub counts_on : {A E : Type 0} (r : Result A E) (o : Option Hold) (p q u : ℕ �
 counts_on (Ok x) o p q u h e = subst (CountsHold o p) (sym e) h
 counts_on (Err x) o p q u h e = tt
 
-pub one_more : (p q u : ℕ × ℕ) (n : ℕ) → q ≡ p → n ≡ next q.0 → u ≡ (n, q.1) → (u ≡ (next p.0, p.1)) ⊎ (u ≡ (p.0, next p.1))
-one_more p q u n same is e =
+pub more_is : (p q u : ℕ × ℕ) (n : ℕ) → q ≡ p → n ≡ next q.0 → u ≡ (n, q.1) → u ≡ (next p.0, p.1)
+more_is p q u n same is e =
     let one : u ≡ (next q.0, q.1) = e ∙ ap (λ (k : ℕ). (k, q.1)) is in
-    inl (one ∙ ap (λ (x : ℕ × ℕ). (next x.0, x.1)) same)
+    one ∙ ap (λ (x : ℕ × ℕ). (next x.0, x.1)) same
 
-pub one_failed : (p q u : ℕ × ℕ) (n : ℕ) → q ≡ p → n ≡ next q.1 → u ≡ (q.0, n) → (u ≡ (next p.0, p.1)) ⊎ (u ≡ (p.0, next p.1))
-one_failed p q u n same is e =
+pub failed_is : (p q u : ℕ × ℕ) (n : ℕ) → q ≡ p → n ≡ next q.1 → u ≡ (q.0, n) → u ≡ (p.0, next p.1)
+failed_is p q u n same is e =
     let one : u ≡ (q.0, next q.1) = e ∙ ap (λ (k : ℕ). (q.0, k)) is in
-    inr (one ∙ ap (λ (x : ℕ × ℕ). (x.0, next x.1)) same)
+    one ∙ ap (λ (x : ℕ × ℕ). (x.0, next x.1)) same
+
+-- ---- Which of the two
+
+-- what was put waits
+pub sent_there : (o w : Option (List ℕ)) (out : List ℕ) (p q : ℕ × ℕ) → w ≡ option_map (λ (waits : List ℕ). waits ++ out) o → IsSome o → q ≡ (next p.0, p.1) → CountsSent w p q
+sent_there None w out p q e there more = absurd (let u : ⊥ = cc in u)
+sent_there (Some waits) w out p q e there more = subst (λ (x : Option (List ℕ)). CountsSent x p q) (sym e) more
+
+pub sent_gone : (number : ℕ) (ls : List Link) (p q : ℕ × ℕ) → waits_on number ls ≡ None → q ≡ (p.0, next p.1) → CountsSent (waits_on number ls) p q
+sent_gone number ls p q gone failed = subst (λ (x : Option (List ℕ)). CountsSent x p q) (sym gone) failed
+
+-- what an application held
+pub counted_by : {A E : Type 0} (r : Result A E) (key : ℕ) (left : Left) (o : Option Hold) (gives : Bool) (way : desk.Way) (old mid new : code.Relay) (d : desks.Desk) (before after : List ℕ) → o ≡ find_key key old.desk.holds.items
+    → IsNumberOf o (Some left) → left.is_there ≡ true → IsReached (desk_in old.desk) → (l : Option Left) → l ≡ Some left
+    → (IsReached (desk_in old.desk) → GoesOutBy old.desk.service (find_key key old.desk.holds.items) l before after)
+    → Turns (desk.Leaves key gives way) (desk_in old.desk) (desk_in d) before after → mid.desk ≡ d → mid.links.items ≡ old.links.items → cleaned_in mid ≡ cleaned_in old
+    → (find_number left.number (desk_in mid.desk).holds ≡ None → IsSome (waits_on left.number mid.links.items) → OnOk r (CountsSent (waits_on left.number new.links.items) (cleaned_in mid) (cleaned_in new)))
+    → OnOk r (CountsAtEnd key old new)
+counted_by (Ok x) key left o gives way old mid new d before after same is there reached l its_left ends t at links figures counts = λ hold its was.
+    let free = left_free key left o gives way old mid d before after same is there reached l its_left ends t at hold its in
+    subst (λ (n : ℕ). CountsSent (waits_on n new.links.items) (cleaned_in old) (cleaned_in new)) free.0
+    (subst (λ (p : ℕ × ℕ). CountsSent (waits_on left.number new.links.items) p (cleaned_in new)) figures
+    (counts free.1 (subst (λ (n : ℕ). IsSome (waits_on n mid.links.items)) (sym free.0) (subst (λ (ls : List Link). IsSome (waits_on hold.number ls)) (sym links) was))))
+counted_by (Err x) key left o gives way old mid new d before after same is there reached l its_left ends t at links figures counts = tt
+
+pub shut_counted : {A E : Type 0} (r : Result A E) (key : ℕ) (left : Left) (o : Option Hold) (old new : code.Relay) → o ≡ find_key key old.desk.holds.items → IsNumberOf o (Some left) → cleaned_in new ≡ (old.cleanings, next old.failed)
+    → OnOk r (waits_on left.number new.links.items ≡ None) → OnOk r (CountsAtEnd key old new)
+shut_counted (Ok x) key left o old new same is failed gone = λ hold its was.
+    let number : left.number ≡ hold.number = subst (λ (p : Option Hold). IsNumberOf p (Some left)) (same ∙ its) is in
+    subst (λ (n : ℕ). CountsSent (waits_on n new.links.items) (cleaned_in old) (cleaned_in new)) number (sent_gone left.number new.links.items (cleaned_in old) (cleaned_in new) gone failed)
+shut_counted (Err x) key left o old new same is failed gone = tt
+
+pub nobody_counted : (key : ℕ) (o : Option Hold) (old new : code.Relay) → o ≡ find_key key old.desk.holds.items → IsNumberOf o None → CountsAtEnd key old new
+nobody_counted key o old new same is = λ hold its was. absurd (subst (λ (p : Option Hold). IsNumberOf p None) (same ∙ its) is)
+
+-- ---- And those who wait are served
+
+seen_none : (o : Option Link) → option_map bytes_on o ≡ None → option_map seen_of o ≡ None
+seen_none None e = refl
+seen_none (Some l) e = absurd (let u : ⊥ = cc in u)
+
+gone_or : {Was : Option (List ℕ)} (Lost : Type 0) (number : ℕ) (p q u : ℕ × ℕ) (ns : List Link) (w : List ℕ) → u ≡ (next p.0, p.1) → (Was ≡ None) ⊎ Lost → Was ≡ Some w → CountsSince Lost number p u ns
+gone_or Lost number p q u ns w counts (inl none) was = absurd (let e : Some w ≡ None = sym was ∙ none in let f : ⊥ = cc in f)
+gone_or Lost number p q u ns w counts (inr gone) was = cleaning.IsCleaned counts (inr gone)
+
+since_by : (Lost : Type 0) (number : ℕ) (p q u : ℕ × ℕ) (ms ns : List Link) (w v : Option (List ℕ)) → waits_on number ms ≡ w → waits_on number ns ≡ v → CountsSent w p q → u ≡ q → CalledAt (seen_at number ms) (seen_at number ns)
+    → (waits_on number ns ≡ None → (waits_on number ms ≡ None) ⊎ Lost) → CountsSince Lost number p u ns
+since_by Lost number p q u ms ns None v was is counts same called lost =
+    cleaning.IsFailed (same ∙ counts) (subst (λ (o : Option Seen). CalledAt o (seen_at number ns)) (seen_none (link_at number ms) was) called)
+since_by Lost number p q u ms ns (Some w) (Some v) was is counts same called lost = cleaning.IsCleaned (same ∙ counts) (inl (subst IsSome (sym is) refl))
+since_by Lost number p q u ms ns (Some w) None was is counts same called lost = gone_or Lost number p q u ns w (same ∙ counts) (lost is) was
+
+pub since_at : (Lost : Type 0) (number : ℕ) (p q u : ℕ × ℕ) (ms ns : List Link) → CountsSent (waits_on number ms) p q → u ≡ q → OpensLinks ms ns → (waits_on number ns ≡ None → (waits_on number ms ≡ None) ⊎ Lost)
+    → CountsSince Lost number p u ns
+since_at Lost number p q u ms ns counts same opens lost = since_by Lost number p q u ms ns (waits_on number ms) (waits_on number ns) refl refl counts same (opens.called number) lost
+
+-- of who waited somebody is closed, where more is gone
+lost_since : (May : ℕ → Type 0) (a b c : Register) → ((key tag : ℕ) → open_name key b ≡ Some tag → open_name key a ≡ Some tag) → LastBut May b c → (number : ℕ) → waits_on number c.links ≡ None
+    → (waits_on number b.links ≡ None) ⊎ HasClosed May a c
+lost_since May a b c were (inl all) number e = inl (all number e)
+lost_since May a b c were (inr y) number e = inr (record { key = y.key; may = y.may; tag = y.tag; was = were y.key y.tag y.was; closed = y.closed })
+
+pub since_served : (key : ℕ) (was : Register) (old mid new : code.Relay) → CountsAtEnd key old mid → OpensLinks mid.links.items new.links.items → cleaned_in new ≡ cleaned_in mid → ClosesOnly Nobody was (register_in mid)
+    → LastBut (IsWaiting (desk_in old.desk).line) (register_in mid) (register_in new) → CountsSinceEnd key was old new
+since_served key was old mid new counts opens same closes lasts = λ hold its there.
+    since_at (LosesWaiting was old new) hold.number (cleaned_in old) (cleaned_in mid) (cleaned_in new) mid.links.items new.links.items (counts hold its there) same opens
+    (lost_since (IsWaiting (desk_in old.desk).line) was (register_in mid) (register_in new) closes.were_open lasts hold.number)
+
+pub since_served_on : {A E : Type 0} (r : Result A E) (key : ℕ) (was : Register) (old mid new : code.Relay) → CountsAtEnd key old mid → OnOk r (OpensLinks mid.links.items new.links.items) → cleaned_in new ≡ cleaned_in mid
+    → ClosesOnly Nobody was (register_in mid) → OnOk r (LastBut (IsWaiting (desk_in old.desk).line) (register_in mid) (register_in new)) → OnOk r (CountsSinceEnd key was old new)
+since_served_on (Ok x) key was old mid new counts opens same closes lasts = since_served key was old mid new counts opens same closes lasts
+since_served_on (Err e) key was old mid new counts opens same closes lasts = tt
+
+-- one was brought
+pub since_brought : (number : ℕ) (old mid new : code.Relay) → CountsSent (waits_on number mid.links.items) (cleaned_in old) (cleaned_in mid) → OpensLinks mid.links.items new.links.items → cleaned_in new ≡ cleaned_in mid
+    → ((key tag : ℕ) → open_name key (register_in mid) ≡ Some tag → open_name key (register_in old) ≡ Some tag) → LastBut (IsWaiting (desk_in old.desk).line) (register_in mid) (register_in new)
+    → CountsSince (LosesWaiting (register_in old) old new) number (cleaned_in old) (cleaned_in new) new.links.items
+since_brought number old mid new counts opens same were lasts =
+    since_at (LosesWaiting (register_in old) old new) number (cleaned_in old) (cleaned_in mid) (cleaned_in new) mid.links.items new.links.items counts same opens
+    (lost_since (IsWaiting (desk_in old.desk).line) (register_in old) (register_in mid) (register_in new) were lasts number)

@@ -3,8 +3,9 @@ ghost use Rattle.std.specs.Prelude.{◌≡◌, ◌≤◌, [], Bool, None, IfOk, 
 ghost use Rattle.std.specs.Prelude.{drop, false, length, true};
 ghost use Rattle.slab.specs.Slab.{get};
 ghost use Rattle.tds_relay.specs.Asking.{Asks, AsksOn, IfAsks, IsUnderway, waits_of};
-ghost use Rattle.tds_relay.specs.Bodies.{Body, Carries, CarriesOn, Grows, Obeys, Starts};
-ghost use Rattle.tds_relay.specs.Bodies.{body_of, last_of};
+ghost use Rattle.tds_relay.specs.Bodies.{Body, Cancels, CancelsOn, CancelsSaid, Carries, CarriesOn};
+ghost use Rattle.tds_relay.specs.Bodies.{Grows, Obeys, Starts, body_of, last_of, standing_in};
+ghost use Rattle.tds_relay.specs.Bodies.{standing_open};
 ghost use Rattle.tds_relay.specs.Closings.{ClosesOnly, register_in};
 ghost use Rattle.tds_relay.specs.Desk.{find_key};
 ghost use Rattle.tds_relay.specs.Few.{Few, IsSeated, NobodyWaits};
@@ -55,6 +56,9 @@ impl Relay {
             (register_in self.old) (register_in self.new)) }
         ensures seated { IsSeated self.old → OnOk result (IsSeated self.new) }
         ensures others { OnOk result (OthersGo key self.old self.new) }
+        ensures cancels { IsReached (desk_in self.old.desk) → OnOk result (Cancels key
+            (house_in self.old) piece.now [] (standing_in key self.old)
+            (standing_open key self.new) (house_in self.new)) }
         ensures opening { OnOk result (OpensNew self.old self.new) }
         ensures many { OnOk result (GrowsByOrders self.old self.new) }
         ensures puts { IsReached (desk_in self.old.desk) → OnOk result (PutsOnly
@@ -84,6 +88,8 @@ impl Relay {
         ensures seated { IsSeated self.old → OnOk result (IsSeated self.new) }
         ensures others { IsReached (desk_in self.old.desk)
             → OnOk result (OthersRest key self.old self.new) }
+        ensures cancels { OnOk result (Cancels key (house_in self.old) piece.now []
+            (standing_in key self.old) (standing_in key self.new) (house_in self.new)) }
         ensures opening { opens_in self.new.orders.items ≡ opens_in self.old.orders.items }
         ensures aside { IsReached (desk_in self.old.desk)
             → OnOk result (OthersKeepAt key self.old self.new) }
@@ -121,6 +127,9 @@ impl Relay {
         ensures seated { IsSeated self.old → OnOk result (IsSeated self.new) }
         ensures others { IsReached (desk_in self.old.desk)
             → OnOk result (OthersRest key self.old self.new) }
+        ensures cancels { IfOk result (λ count. CancelsOn key piece.now (drop count piece.now)
+            (standing_in key self.old) (standing_in key self.new) (house_in self.old)
+            (house_in self.new)) }
         ensures opening { opens_in self.new.orders.items ≡ opens_in self.old.orders.items }
         ensures aside { IsReached (desk_in self.old.desk)
             → OnOk result (OthersKeepAt key self.old self.new) }
@@ -167,6 +176,8 @@ impl Relay {
         ensures seated { IsSeated self.old → OnOk result (IsSeated self.new) }
         ensures others { IsReached (desk_in self.old.desk)
             → OnOk result (OthersRest key self.old self.new) }
+        ensures cancels { OnOk result (CancelsSaid said (body_of key self.old)
+            (standing_in key self.new)) }
         ensures opening { opens_in self.new.orders.items ≡ opens_in self.old.orders.items }
         ensures aside { IsReached (desk_in self.old.desk)
             → OnOk result (OthersKeepAt key self.old self.new) }

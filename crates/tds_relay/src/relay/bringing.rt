@@ -1,7 +1,8 @@
 //! The first connection of all, which has come before any application asked.
 ghost use Rattle.std.specs.Prelude.{◌≡◌, IfNone, IfOk, IfSome, List, None, OnOk, Some};
 ghost use Rattle.std.specs.Prelude.{IsSome, true};
-ghost use Rattle.tds_relay.specs.Cleaning.{CleaningWaits, IsFirst, IsLentBy, IsNotBrought, cleaned_in};
+ghost use Rattle.tds_relay.specs.Cleaning.{CleaningWaits, CountsBrought, CountsSince, IsFirst, IsLentBy};
+ghost use Rattle.tds_relay.specs.Cleaning.{IsNotBrought, LosesWaiting, cleaned_in};
 ghost use Rattle.tds_relay.specs.Closings.{ClosesOnly, IsWaiting};
 ghost use Rattle.tds_relay.specs.Closings.{register_in, settings_in, with_links};
 ghost use Rattle.tds_relay.specs.Apart.{LendsInTurn};
@@ -50,7 +51,11 @@ impl Relay {
         ensures tries { IfOk result (λ brought. IfNone brought (IsNotBrought self.old.links.items
             (desk_in self.old.desk) (desk_in self.new.desk))) }
         ensures seated { IsSeated self.old → OnOk result (IsSeated self.new) }
-        ensures counts { cleaned_in self.new ≡ cleaned_in self.old }
+        ensures counts { IfOk result (λ brought. CountsBrought brought
+            (cleaned_in self.old) (cleaned_in self.new)) }
+        ensures cleaned { IsReached (desk_in self.old.desk) → IfOk result (λ brought.
+            IfSome brought (λ number. CountsSince (LosesWaiting (register_in self.old) self.old
+            self.new) number (cleaned_in self.old) (cleaned_in self.new) self.new.links.items)) }
         ensures opening { OnOk result (OpensNew self.old self.new) }
         ensures cleans { IsReached (desk_in self.old.desk) → IfOk result (λ brought. IfSome brought
             (λ number. CleaningWaits (IsSome (holder (desk_in self.new.desk) number))

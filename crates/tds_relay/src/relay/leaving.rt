@@ -3,7 +3,7 @@ ghost use Rattle.std.specs.Prelude.{◌≡◌, ◌≢◌, ℕ, None, OnOk, Some,
 ghost use Rattle.slab.specs.Slab.{get};
 ghost use Rattle.tds_relay.specs.Apart.{Alone, LendsInTurn, LosesOnly};
 ghost use Rattle.tds_relay.specs.Bodies.{AskAsBefore, AskOn, Body, Closed, body_in};
-ghost use Rattle.tds_relay.specs.Cleaning.{CountsHold, OfItsHold, WaitsAtEnd, WaitsSinceEnd, cleaned_in};
+ghost use Rattle.tds_relay.specs.Cleaning.{CountsAtEnd, CountsHold, CountsSinceEnd, OfItsHold, WaitsAtEnd, WaitsSinceEnd, cleaned_in};
 ghost use Rattle.tds_relay.specs.Desk.{Loses, find_key, find_number, key_of, turn, without, without_number};
 ghost use Rattle.tds_relay.specs.Lent.{IsLetGo, IsOnItsOwn, OthersKeepAt, PutsOnly, AllLastBut, KeepsAnswers, LastBesides};
 ghost use Rattle.tds_relay.specs.Few.{Few, IsSeated, IsSeatedOff, NobodyWaits};
@@ -57,6 +57,8 @@ impl Relay {
             (register_in self.new)) }
         ensures counts { OnOk result (CountsHold (find_key key (desk_in self.old.desk).holds)
             (cleaned_in self.old) (cleaned_in self.new)) }
+        ensures cleaned { IsReached (desk_in self.old.desk) → OnOk result (CountsSinceEnd key
+            (without_key key (register_in self.old)) self.old self.new) }
         ensures opening { OnOk result (OpensNew self.old self.new) }
         ensures many { OnOk result (GrowsByOrders self.old self.new) }
         ensures puts { IsReached (desk_in self.old.desk) → OnOk result (PutsOnly
@@ -186,6 +188,8 @@ impl Relay {
             self.old.links.items self.new.links.items) }
         ensures counts { OnOk result (CountsHold (find_key key (desk_in self.old.desk).holds)
             (cleaned_in self.old) (cleaned_in self.new)) }
+        ensures cleaned { IsReached (desk_in self.old.desk) → OnOk result
+            (CountsAtEnd key self.old self.new) }
         ensures opening { opens_in self.new.orders.items ≡ opens_in self.old.orders.items }
         ensures keeps { IsReached (desk_in self.old.desk) → OnOk result
             (OthersKeepAt key self.old self.new) }
@@ -199,7 +203,6 @@ impl Relay {
             return Ok(());
         };
         if left.is_there {
-            self.cleanings = self.cleanings.saturating_add(1);
             self.send_unheld(left.number)
         } else {
             self.failed = self.failed.saturating_add(1);

@@ -1,7 +1,7 @@
 //! Applications that are parked: each is parted from its connection at rest, for those who wait.
 ghost use Rattle.std.specs.Prelude.{◌≡◌, OnOk, IfOk, false, true, Some};
 ghost use Rattle.tds_relay.specs.Apart.{LendsInTurn, UnlessServed};
-ghost use Rattle.tds_relay.specs.Cleaning.{CountsHold, WaitsSinceEnd, cleaned_in};
+ghost use Rattle.tds_relay.specs.Cleaning.{CountsHold, CountsSinceEnd, WaitsSinceEnd, cleaned_in};
 ghost use Rattle.tds_relay.specs.Closings.{ClosesOnly, IsWaiting, register_in};
 ghost use Rattle.tds_relay.specs.Desk.{Sharing, find_key, without};
 ghost use Rattle.tds_relay.specs.Lent.{LastBesides, PutsOnly};
@@ -68,6 +68,8 @@ impl Relay {
         ensures counts { IfOk result (λ is. is ≡ true
             → CountsHold (find_key key (desk_in self.old.desk).holds)
             (cleaned_in self.old) (cleaned_in self.new)) }
+        ensures cleaned { IsReached (desk_in self.old.desk) → IfOk result (λ is. is ≡ true
+            → CountsSinceEnd key (register_in self.old) self.old self.new) }
         ensures opening { OnOk result (OpensNew self.old self.new) }
         ensures many { OnOk result (GrowsByOrders self.old self.new) }
         ensures puts { IsReached (desk_in self.old.desk) → OnOk result (PutsOnly

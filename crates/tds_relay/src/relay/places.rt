@@ -57,7 +57,7 @@ pub struct Counts {
     pub requests: u64,
     /// Attentions that went out for applications' requests: their own, and for what they took back.
     pub cancels: u64,
-    /// Connections that were let go and are cleaned, and those that nobody held which were closed instead.
+    /// Connections that were let go or brought, and are cleaned; and those that nobody held which were closed instead.
     pub cleanings: u64,
     pub failed: u64,
 }

@@ -1,13 +1,12 @@
 //! What waits for applications and on connections, and is sent.
 ghost use Rattle.std.specs.Prelude.{◌≡◌, ◌≢◌, ◌+◌, ◌≤◌, [], ℕ, None, OnOk, Some, drop, if◌then◌else◌, length};
-ghost use Rattle.std.specs.Prelude.{◌++◌, IfOk, List, false, option_map, true};
+ghost use Rattle.std.specs.Prelude.{◌++◌, IfOk, IsSome, List, false, option_map, true};
 ghost use Rattle.slab.specs.Slab.{get};
 ghost use Rattle.tds_relay.specs.Apart.{Alone, SparesOthers};
 ghost use Rattle.tds_relay.specs.Bodies.{AskAsBefore, AskOn};
 ghost use Rattle.tds_relay.specs.Bounds.{most_for};
 ghost use Rattle.tds_relay.specs.Closings.{ClosesOnly, IsWho, Nobody, register_in, times_closed};
-ghost use Rattle.tds_relay.specs.Desk.{find_key, find_number};
-ghost use Rattle.tds_relay.specs.declared.desk.Hold.{Hold};
+ghost use Rattle.tds_relay.specs.Desk.{find_number};
 ghost use Rattle.tds_relay.specs.Fronts.{MovedOn, ends_in, hall_in, house_in};
 ghost use Rattle.tds_relay.specs.Hall.{holder};
 ghost use Rattle.tds_relay.specs.House.{Steps};
@@ -18,14 +17,14 @@ ghost use Rattle.tds_relay.specs.Reasons.{HasNoRoom, IsOverfull, ItselfFor};
 ghost use Rattle.tds_relay.specs.Law.{waiting_on};
 ghost use Rattle.tds_relay.specs.Reads.{FillsBy, Sees, Stays, post_on, waits_on};
 ghost use Rattle.tds_relay.specs.Sending.{IsToWrite, called_at};
-ghost use Rattle.tds_relay.specs.Sparing.{AllRest, OthersRest, SendsOn};
+ghost use Rattle.tds_relay.specs.Sparing.{AllRest, SendsOn};
 ghost use Rattle.tds_relay.specs.Ties.{GoesOn, IsReached, Neither, desk_in};
 ghost use Rattle.tds_relay.specs.Told.{TellsTheSame, held_name, holder_name, is_there};
 ghost use Rattle.tds_relay.specs.Waking.{IsWoken};
 ghost use Rattle.tds_relay.specs.Walkers.{AllStand};
 ghost use Rattle.tds_relay.specs.declared.outgoing.TheConstants.{PIECE};
 ghost use Rattle.tds_relay.specs.Few.{IsSeated, IsSeatedBut};
-ghost use Rattle.tds_relay.specs.Cleaning.{cleaned_in};
+ghost use Rattle.tds_relay.specs.Cleaning.{CountsOnce, CountsSent, cleaned_in};
 
 use super::Relay;
 use crate::NoMemory;
@@ -203,37 +202,7 @@ impl Relay {
         if fits { Ok(()) } else { self.lose(number) }
     }
 
-    /// The same of one that this application holds.
-    pub(super) fn send_for(&mut self, key: usize, number: u64) -> Result<(), NoMemory>
-        ensures goes { OnOk result (GoesOn (desk_in self.old.desk) (desk_in self.new.desk)) }
-        ensures kept { OnOk result (posts_in self.new.applications
-            ≡ posts_in self.old.applications) }
-        ensures moves { OnOk result (MovedOn (hall_in self.old) (hall_in self.new)) }
-        ensures read { OnOk result (Stays self.old.links.items self.new.links.items) }
-        ensures stand { OnOk result (AllStand self.old.desk.service
-            self.new.desk.service) }
-        ensures asks { OnOk result (AskOn self.old.applications self.new.applications) }
-        ensures closes { OnOk result (ClosesOnly (ItselfFor key
-            (HasNoRoom number self.old.outbox.items self.old.links.items))
-            (register_in self.old) (register_in self.new)) }
-        ensures seated { IsSeated self.old → OnOk result (IsSeated self.new) }
-        ensures others { IsReached (desk_in self.old.desk) → (hold : Hold)
-            → find_key key (desk_in self.old.desk).holds ≡ Some hold → hold.number ≡ number
-            → OnOk result (OthersRest key self.old self.new) }
-        ensures opening { opens_in self.new.orders.items ≡ opens_in self.old.orders.items }
-        ensures aside { IsReached (desk_in self.old.desk) → (hold : Hold)
-            → find_key key (desk_in self.old.desk).holds ≡ Some hold → hold.number ≡ number
-            → OnOk result (OthersKeepAt key self.old self.new) }
-    {
-        let fits = self.fits_on(number)?;
-        if fits {
-            Ok(())
-        } else {
-            self.lose_own(key, number)
-        }
-    }
-
-    /// The same of one that nobody holds.
+    /// The same of one that nobody holds: it is counted as cleaned, or as closed instead.
     pub(super) fn send_unheld(&mut self, number: u64) -> Result<(), NoMemory>
         ensures goes { OnOk result (GoesOn (desk_in self.old.desk) (desk_in self.new.desk)) }
         ensures kept { OnOk result (posts_in self.new.applications
@@ -260,7 +229,11 @@ impl Relay {
             → waits_on other self.new.links.items ≡ waits_on other self.old.links.items) }
         ensures posts { OnOk result ((other : ℕ) → other ≢ number
             → post_on other self.new.links.items ≡ post_on other self.old.links.items) }
-        ensures counts { cleaned_in self.new ≡ cleaned_in self.old }
+        ensures counts { OnOk result (CountsOnce (cleaned_in self.old) (cleaned_in self.new)) }
+        ensures cleaned { find_number number (desk_in self.old.desk).holds ≡ None
+            → IsSome (waits_on number self.old.links.items)
+            → OnOk result (CountsSent (waits_on number self.new.links.items)
+            (cleaned_in self.old) (cleaned_in self.new)) }
         ensures opening { opens_in self.new.orders.items ≡ opens_in self.old.orders.items }
         ensures holds { OnOk result (MayForget number self.old.desk.holds.items
             self.new.desk.holds.items) }
@@ -268,8 +241,10 @@ impl Relay {
     {
         let fits = self.fits_on(number)?;
         if fits {
+            self.cleanings = self.cleanings.saturating_add(1);
             return Ok(());
         }
+        self.failed = self.failed.saturating_add(1);
         match self.desk.key_on(number) {
             Some(_) => Ok(()),
             None => self.lose(number),

@@ -4,8 +4,9 @@ ghost use Rattle.std.specs.Prelude.{◌≡◌, ◌⊎◌, [], ℕ, IfNone, IfOk,
 ghost use Rattle.std.specs.Prelude.{true};
 ghost use Rattle.tds_front.specs.declared.front.Said.TheVariants.{Forget, HandOn};
 ghost use Rattle.tds_relay.specs.Anew.{AsksNothing};
-ghost use Rattle.tds_relay.specs.Bodies.{AskAsBefore, AskOn, Body, Halts, IsHalting, Nowhere, Spared, Starts};
-ghost use Rattle.tds_relay.specs.Bodies.{StopsOn, body_in, body_of};
+ghost use Rattle.tds_relay.specs.Bodies.{AskAsBefore, AskOn, Body, Halts, IsCancelled, IsHalting, IsUnsent};
+ghost use Rattle.tds_relay.specs.Bodies.{Nowhere, Spared, Starts, StopsOn, body_in, body_of};
+ghost use Rattle.tds_relay.specs.Bodies.{going_of, standing_in};
 ghost use Rattle.tds_relay.specs.Closings.{ClosesOnly, Nobody, register_in};
 ghost use Rattle.tds_relay.specs.Desk.{Does, Stops, Unwaits, find_key};
 ghost use Rattle.tds_relay.specs.declared.desk.Hold.{Hold};
@@ -53,6 +54,8 @@ impl Relay {
         ensures others { IsReached (desk_in self.old.desk)
             → OnOk result (OthersRest key self.old self.new) }
         ensures seated { IsSeated self.old → OnOk result (IsSeated self.new) }
+        ensures cancels { OnOk result (IsCancelled (body_of key self.old)
+            (standing_in key self.new)) }
         ensures opening { opens_in self.new.orders.items ≡ opens_in self.old.orders.items }
         ensures aside { IsReached (desk_in self.old.desk)
             → OnOk result (OthersKeepAt key self.old self.new) }
@@ -77,6 +80,8 @@ impl Relay {
         ensures others { OthersRest key self.old self.new }
         ensures asked { result ≡ true
             → (goes : Body) → Spared goes (body_in (get self.old.applications key) goes) }
+        ensures unasked { result ≡ false
+            → (goes : Body) → IsUnsent (body_in (get self.old.applications key) goes) }
         ensures opening { opens_in self.new.orders.items ≡ opens_in self.old.orders.items }
     {
         self.desk.unwait(key);
@@ -106,6 +111,8 @@ impl Relay {
         ensures others { IsReached (desk_in self.old.desk)
             → OnOk result (OthersRest key self.old self.new) }
         ensures seated { IsSeated self.old → OnOk result (IsSeated self.new) }
+        ensures cancels { OnOk result (IsCancelled (going_of key self.old)
+            (standing_in key self.new)) }
         ensures opening { opens_in self.new.orders.items ≡ opens_in self.old.orders.items }
         ensures aside { IsReached (desk_in self.old.desk)
             → OnOk result (OthersKeepAt key self.old self.new) }
@@ -115,7 +122,7 @@ impl Relay {
         }
         self.outbox.clear();
         match self.desk.cancel(key, &mut self.outbox) {
-            Ok((hold, _)) => self.send_for(key, hold.number),
+            Ok((hold, _)) => self.send_stop(key, hold.number),
             Err(refusal) => {
                 unless_memory(refusal)?;
                 self.expel(key)
@@ -144,6 +151,8 @@ impl Relay {
         ensures others { IsReached (desk_in self.old.desk)
             → OnOk result (OthersRest key self.old self.new) }
         ensures seated { IsSeated self.old → OnOk result (IsSeated self.new) }
+        ensures cancels { OnOk result (IsCancelled (body_of key self.old)
+            (standing_in key self.new)) }
         ensures opening { opens_in self.new.orders.items ≡ opens_in self.old.orders.items }
         ensures aside { IsReached (desk_in self.old.desk)
             → OnOk result (OthersKeepAt key self.old self.new) }
@@ -152,7 +161,7 @@ impl Relay {
         match self.stop(key)? {
             Some(number) => {
                 self.withdraw(key);
-                self.send_for(key, number)
+                self.send_stop(key, number)
             }
             None => self.expel(key),
         }
@@ -285,6 +294,7 @@ impl Relay {
             → find_key key (desk_in self.old.desk).holds ≡ Some hold → hold.number ≡ number
             → OnOk result (OthersRest key self.old self.new) }
         ensures seated { IsSeated self.old → OnOk result (IsSeated self.new) }
+        ensures asks { OnOk result (AskOn self.old.applications self.new.applications) }
         ensures opening { opens_in self.new.orders.items ≡ opens_in self.old.orders.items }
         ensures aside { IsReached (desk_in self.old.desk) → (hold : Hold)
             → find_key key (desk_in self.old.desk).holds ≡ Some hold → hold.number ≡ number

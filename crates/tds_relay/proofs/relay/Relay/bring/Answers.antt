@@ -17,7 +17,7 @@ use Rattle.tds_relay.proofs.seats.Linked.{seated_pushed}
 use Rattle.tds_relay.proofs.seats.Relays.{brought_none, brought_one, none_brought}
 use Rattle.tds_relay.proofs.spared.Opening.{on_last, opens_new_both, opens_none, opens_same, turn_last}
 use Rattle.std.proofs.Common.{arith, ◌≤◌}
-use Rattle.std.specs.Prelude.{IfSome, None, Option}
+use Rattle.std.specs.Prelude.{IfSome, IsSome, None, Option}
 use Rattle.tds_relay.specs.Cleaning.{IsLentBy}
 use Rattle.tds_relay.specs.Desk.{find_number}
 use Rattle.tds_relay.specs.Ties.{IsReached}
@@ -25,6 +25,9 @@ use Rattle.tds_relay.specs.declared.desk.leaving.Left.{Left}
 use Rattle.tds_relay.proofs.spared.Brought.{brought_holds, first_served, if_some, first_waits, lent_unheld}
 use Rattle.tds_relay.proofs.spared.Freeing.{forget_none}
 use Rattle.std.proofs.Common.{subst}
+use Rattle.tds_relay.proofs.spared.Cleaned.{since_brought}
+use Rattle.tds_relay.proofs.spared.Lasting.{last_more}
+use Rattle.tds_relay.specs.Cleaning.{CountsOnce, cleaned_in}
 use Rattle.tds_relay.proofs.relay.Relay.bring.Goals as goal
 
 pub returns-in_default-clause-goes : goal.returns-in_default-clause-goes
@@ -199,3 +202,24 @@ returns-clause-cleans c = λ reached.
     (first_waits left.number old.links.items c.push.new.self.items _ (none_there old.links.items (sym c.is_empty.ensures ∙ empty)) c.in_ok-push.ensures.items c.in_ok-link.ensures.number c.in_ok-link.ensures.nothing)
     puts (c.in_ok-send_unheld.ensures.puts unheld) (forget_none left.number left.number c.bring.new.self.holds.items mid.desk.holds.items c.in_ok-send_unheld.ensures.holds unheld)
     c.in_ok-serve_line.ensures.opens (c.in_ok-serve_line.ensures.fills led)
+
+pub returns-clause-counts : goal.returns-clause-counts
+returns-clause-counts c = subst (CountsOnce (cleaned_in c.args.self.now)) (sym c.serve_line.ensures.counts) c.in_ok-send_unheld.ensures.counts
+
+pub returns-clause-cleaned : goal.returns-clause-cleaned
+returns-clause-cleaned c = λ reached.
+    let old = c.args.self.now in
+    let mid = c.send_unheld.new.self in
+    let left = c.in-Some.left in
+    let empty : c.is_empty.result ≡ true = search rules in
+    let lent : IsLentBy left.number (desk_in old.desk).service =
+    subst (λ (o : Option Left). IfSome o (λ (it : Left). IsLentBy it.number (desk_in old.desk).service)) c.in-Some.is c.in_ok-left.ensures.lent in
+    let unheld : find_number left.number (desk_in c.bring.new.self).holds ≡ None =
+    ap (find_number left.number) (brought_holds (desk_in old.desk) (desk_in c.bring.new.self) c.in_ok-left.ensures.turns.0 c.in_ok-left.ensures.turns.1 c.in_ok-left.ensures.turns.2.desk_is)
+    ∙ lent_unheld (desk_in old.desk) lent.0 left.number lent.1 reached lent.2 in
+    let waits = first_waits left.number old.links.items c.push.new.self.items _ (none_there old.links.items (sym c.is_empty.ensures ∙ empty)) c.in_ok-push.ensures.items c.in_ok-link.ensures.number c.in_ok-link.ensures.nothing in
+    since_brought left.number old mid c.serve_line.new.self (c.in_ok-send_unheld.ensures.cleaned unheld (subst IsSome (sym waits) refl)) c.in_ok-serve_line.ensures.opens c.serve_line.ensures.counts
+    c.in_ok-send_unheld.ensures.closes.were_open
+    (last_more (IsWaiting (desk_in mid.desk).line) (IsWaiting (desk_in old.desk).line) _ _
+    (λ key. waited Neither (desk_in old.desk) (desk_in mid.desk) key (λ none. none) (λ from h. c.in_ok-send_unheld.ensures.goes Neither from (reaches_turn Neither from _ _ _ _ _ c.in_ok-left.ensures.turns.2 refl h)))
+    c.in_ok-serve_line.ensures.lasts)

@@ -20,6 +20,8 @@ use Rattle.slab.specs.Slab.{get}
 use Rattle.tds_relay.specs.Reasons.{IsUnheld}
 use Rattle.tds_relay.proofs.spared.Elsewhere.{aside_on, aside_same}
 use Rattle.tds_relay.specs.Desk.{Desk}
+use Rattle.tds_relay.specs.Bodies.{body_of, going_of, standing_in}
+use Rattle.tds_relay.proofs.steps.Halting.{cancelled_unsent, forgot_cancelled}
 use Rattle.tds_relay.proofs.relay.Relay.forget.Goals as goal
 
 pub returns-then-was_asked-clause-moves : goal.returns-then-was_asked-clause-moves
@@ -82,3 +84,12 @@ returns-then-was_asked-clause-aside c = λ reached.
 
 pub returns-else-was_asked-clause-aside : goal.returns-else-was_asked-clause-aside
 returns-else-was_asked-clause-aside c = λ reached. (aside_same c.args.key c.args.self.now c.forget_request-was_asked.new.self (ap (λ (d : Desk). d.holds) c.forget_request-was_asked.ensures.turns.desk_is) c.forget_request-was_asked.ensures.links)
+pub returns-then-was_asked-clause-cancels : goal.returns-then-was_asked-clause-cancels
+returns-then-was_asked-clause-cancels c =
+    forgot_cancelled c.unask.result c.args.key c.args.self.now c.forget_request-was_asked.new.self c.unask.new.self c.forget_request-was_asked.ensures.holds c.forget_request-was_asked.ensures.service
+    c.forget_request-was_asked.ensures.links c.unask.ensures.cancels
+
+pub returns-else-was_asked-clause-cancels : goal.returns-else-was_asked-clause-cancels
+returns-else-was_asked-clause-cancels c =
+    cancelled_unsent (body_of c.args.key c.args.self.now) (standing_in c.args.key c.forget_request-was_asked.new.self)
+    (c.forget_request-was_asked.ensures.unasked (search rules) (going_of c.args.key c.args.self.now))

@@ -34,6 +34,8 @@ use Rattle.tds_relay.proofs.spared.Opening.{left_last, opens_new_on, opens_same}
 use Rattle.tds_relay.proofs.spared.Filling.{first_own, puts_on}
 use Rattle.tds_relay.specs.Hall.{holder}
 use Rattle.tds_relay.proofs.spared.Opening.{grows_on, grows_stays}
+use Rattle.tds_relay.proofs.spared.Cleaned.{since_served_on}
+use Rattle.tds_relay.proofs.spared.Lasting.{last_more_on}
 use Rattle.tds_relay.proofs.relay.Relay.left.Goals as goal
 
 pub returns-clause-left : goal.returns-clause-left
@@ -129,3 +131,14 @@ returns-clause-puts c = λ reached.
 
 pub returns-clause-many : goal.returns-clause-many
 returns-clause-many c = grows_on c.serve_line.result c.args.self.now c.release.new.self c.serve_line.new.self (grows_stays c.args.self.now c.release.new.self c.release.ensures.opening c.in_ok-release.ensures.read) c.serve_line.ensures.many
+
+pub returns-clause-cleaned : goal.returns-clause-cleaned
+returns-clause-cleaned c = λ reached.
+    let old = c.args.self.now in
+    let mid = c.release.new.self in
+    let quit = ends_quit old.applications c.try_remove.new.self c.args.key c.try_remove.result c.try_remove.ensures.value c.try_remove.ensures.slots c.try_remove.ensures.absent in
+    let gone = quits_is old.applications c.try_remove.new.self c.args.key c.try_remove.result c.try_remove.ensures.value c.try_remove.ensures.slots c.try_remove.ensures.absent in
+    since_served_on c.serve_line.result c.args.key (without_key c.args.key (register_in old)) old mid c.serve_line.new.self (c.in_ok-release.ensures.cleaned reached) c.serve_line.ensures.opens c.serve_line.ensures.counts
+    (closes_both Nobody _ _ _ (closes_kept Nobody (without_key c.args.key (register_in old)) _ quit gone refl (kept_refl old.links.items) (unclosed _ _ refl)) c.in_ok-release.ensures.closes)
+    (last_more_on c.serve_line.result (IsWaiting (desk_in mid.desk).line) (IsWaiting (desk_in old.desk).line) (register_in mid) (register_in c.serve_line.new.self)
+    (waited_left c.args.key (desk_in old.desk) (desk_in mid.desk) c.in_ok-release.ensures.leaving) c.serve_line.ensures.lasts)

@@ -23,6 +23,8 @@ use Rattle.tds_relay.proofs.seats.Relays.{kept_end}
 use Rattle.tds_relay.proofs.steps.Quieting.{Drops, Opens, begun_fed, quiet_fed}
 use Rattle.tds_relay.proofs.spared.Resting.{others_all, others_refl, same_on}
 use Rattle.tds_relay.proofs.spared.Elsewhere.{aside_linked, aside_refl}
+use Rattle.tds_relay.specs.Bodies.{CancelsSaid, standing_in}
+use Rattle.tds_relay.proofs.steps.Halting.{cancelled_told}
 use Rattle.tds_relay.proofs.relay.Relay.obey.Goals as goal
 
 pub returns-in-Begin-clause-given : goal.returns-in-Begin-clause-given
@@ -242,3 +244,30 @@ returns-in-Nothing-clause-aside c = λ reached. aside_refl c.args.key c.args.sel
 pub returns-in_ok-forget-in-Acknowledge-clause-aside : goal.returns-in_ok-forget-in-Acknowledge-clause-aside
 returns-in_ok-forget-in-Acknowledge-clause-aside c = λ reached.
     aside_linked c.acknowledge.result c.args.key c.args.self.now c.forget-in-Acknowledge.new.self c.acknowledge.new.self (c.in_ok-forget-in-Acknowledge.ensures.aside reached) c.acknowledge.ensures.desk c.acknowledge.ensures.links
+pub returns-in-Nothing-clause-cancels : goal.returns-in-Nothing-clause-cancels
+returns-in-Nothing-clause-cancels c = subst (λ (s : Said). CancelsSaid s (body_of c.args.key c.args.self.now) (standing_in c.args.key c.args.self.now)) (sym c.in-Nothing.is) tt
+
+pub returns-in-Begin-clause-cancels : goal.returns-in-Begin-clause-cancels
+returns-in-Begin-clause-cancels c = ok_if c.begin.result _ (subst (λ (s : Said). CancelsSaid s (body_of c.args.key c.args.self.now) (standing_in c.args.key c.begin.new.self)) (sym c.in-Begin.is) tt)
+
+pub returns-in-Body-clause-cancels : goal.returns-in-Body-clause-cancels
+returns-in-Body-clause-cancels c = ok_if c.go_on.result _ (subst (λ (s : Said). CancelsSaid s (body_of c.args.key c.args.self.now) (standing_in c.args.key c.go_on.new.self)) (sym c.in-Body.is) tt)
+
+pub returns-in-End-clause-cancels : goal.returns-in-End-clause-cancels
+returns-in-End-clause-cancels c = ok_if c.go_on-in-End.result _ (subst (λ (s : Said). CancelsSaid s (body_of c.args.key c.args.self.now) (standing_in c.args.key c.go_on-in-End.new.self)) (sym c.in-End.is) tt)
+
+pub returns-in-Forget-false-clause-cancels : goal.returns-in-Forget-false-clause-cancels
+returns-in-Forget-false-clause-cancels c =
+    ok_more c.forget.result _ _ (λ h. subst (λ (s : Said). CancelsSaid s (body_of c.args.key c.args.self.now) (standing_in c.args.key c.forget.new.self)) (sym c.in-Forget-false.is) h) c.forget.ensures.cancels
+
+pub returns-in-Forget-true-clause-cancels : goal.returns-in-Forget-true-clause-cancels
+returns-in-Forget-true-clause-cancels c =
+    ok_more c.take_back.result _ _ (λ h. subst (λ (s : Said). CancelsSaid s (body_of c.args.key c.args.self.now) (standing_in c.args.key c.take_back.new.self)) (sym c.in-Forget-true.is) h) c.take_back.ensures.cancels
+
+pub returns-in_ok-forget-in-Acknowledge-clause-cancels : goal.returns-in_ok-forget-in-Acknowledge-clause-cancels
+returns-in_ok-forget-in-Acknowledge-clause-cancels c =
+    ok_more c.acknowledge.result _ _ (λ h. subst (λ (s : Said). CancelsSaid s (body_of c.args.key c.args.self.now) (standing_in c.args.key c.acknowledge.new.self)) (sym c.in-Acknowledge.is) h)
+    (cancelled_told c.acknowledge.result c.args.key (body_of c.args.key c.args.self.now) c.forget-in-Acknowledge.new.self c.acknowledge.new.self c.in_ok-forget-in-Acknowledge.ensures.cancels c.acknowledge.ensures.desk c.acknowledge.ensures.links c.acknowledge.ensures.asks)
+
+pub returns-in-HandOn-clause-cancels : goal.returns-in-HandOn-clause-cancels
+returns-in-HandOn-clause-cancels c = ok_if c.hand_on.result _ (subst (λ (s : Said). CancelsSaid s (body_of c.args.key c.args.self.now) (standing_in c.args.key c.hand_on.new.self)) (sym c.in-HandOn.is) tt)

@@ -28,6 +28,7 @@ use Rattle.tds_relay.proofs.spared.Filling.{first_own, puts_line, puts_nothing}
 use Rattle.tds_relay.specs.Hall.{holder}
 use Rattle.tds_relay.proofs.spared.Freeing.{served_since}
 use Rattle.tds_relay.proofs.spared.Opening.{grows_both, grows_refl, grows_stays}
+use Rattle.tds_relay.proofs.spared.Cleaned.{since_served}
 use Rattle.tds_relay.proofs.relay.Relay.park.Goals as goal
 
 pub returns-clause-left : goal.returns-clause-left
@@ -142,3 +143,10 @@ returns-then-not-may_park-clause-many c = grows_refl c.args.self.now
 
 pub returns-clause-many : goal.returns-clause-many
 returns-clause-many c = grows_both c.args.self.now c.release.new.self c.serve_line.new.self (grows_stays c.args.self.now c.release.new.self c.release.ensures.opening c.in_ok-release.ensures.read) c.in_ok-serve_line.ensures.many
+
+pub returns-clause-cleaned : goal.returns-clause-cleaned
+returns-clause-cleaned c = λ reached yes.
+    let old = c.args.self.now in
+    let mid = c.release.new.self in
+    since_served c.args.key (register_in old) old mid c.serve_line.new.self (c.in_ok-release.ensures.cleaned reached) c.in_ok-serve_line.ensures.opens c.serve_line.ensures.counts c.in_ok-release.ensures.closes
+    (last_more (IsWaiting (desk_in mid.desk).line) (IsWaiting (desk_in old.desk).line) _ _ (waited_left c.args.key (desk_in old.desk) (desk_in mid.desk) c.in_ok-release.ensures.leaving) c.in_ok-serve_line.ensures.lasts)

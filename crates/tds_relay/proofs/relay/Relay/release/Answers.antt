@@ -15,10 +15,11 @@ use Rattle.tds_relay.proofs.spared.Apart.{line_leaves}
 use Rattle.tds_relay.proofs.seats.Relays.{closed_end, left_gone, left_none, left_there}
 use Rattle.tds_relay.proofs.spared.Lasting.{but_same, held_but, held_number}
 use Rattle.tds_relay.specs.Places.{held_by}
-use Rattle.tds_relay.proofs.spared.Cleaned.{counts_none, counts_on, counts_some, one_failed, one_more}
-use Rattle.tds_relay.specs.Cleaning.{cleaned_in}
+use Rattle.tds_relay.proofs.spared.Cleaned.{counted_by, counts_none, counts_on, counts_some, failed_is, nobody_counted, shut_counted}
+use Rattle.tds_relay.specs.Cleaning.{CountsOnce, cleaned_in}
 use Rattle.tds_relay.proofs.spared.Freeing.{left_frees, left_keeps, nobody_frees, nobody_keeps}
 use Rattle.std.proofs.Common.{inl}
+use Rattle.std.proofs.Common.{inr, ℕ}
 use Rattle.tds_relay.proofs.relay.Relay.release.Goals as goal
 
 pub returns-in_default-clause-lets_go : goal.returns-in_default-clause-lets_go
@@ -137,16 +138,6 @@ returns-else-left-clause-lasts c =
 pub returns-in_default-clause-counts : goal.returns-in_default-clause-counts
 returns-in_default-clause-counts c = counts_none (find_key c.args.key c.args.self.now.desk.holds.items) _ _ (search rules) c.let_go.ensures.counts
 
-pub returns-then-left-clause-counts : goal.returns-then-left-clause-counts
-returns-then-left-clause-counts c =
-    counts_on c.send_unheld.result (find_key c.args.key c.args.self.now.desk.holds.items) (cleaned_in c.args.self.now) (c.saturating_add-self.result, c.let_go.new.self.failed) (cleaned_in c.send_unheld.new.self)
-    (counts_some (find_key c.args.key c.args.self.now.desk.holds.items) c.in-Some.left _ _ (search rules) (one_more (cleaned_in c.args.self.now) (cleaned_in c.let_go.new.self) (c.saturating_add-self.result, c.let_go.new.self.failed) c.saturating_add-self.result c.let_go.ensures.counts c.saturating_add-self.ensures refl)) c.send_unheld.ensures.counts
-
-pub returns-else-left-clause-counts : goal.returns-else-left-clause-counts
-returns-else-left-clause-counts c =
-    counts_on c.close.result (find_key c.args.key c.args.self.now.desk.holds.items) (cleaned_in c.args.self.now) (c.let_go.new.self.cleanings, c.saturating_add-self-else-left.result) (cleaned_in c.close.new.self)
-    (counts_some (find_key c.args.key c.args.self.now.desk.holds.items) c.in-Some.left _ _ (search rules) (one_failed (cleaned_in c.args.self.now) (cleaned_in c.let_go.new.self) (c.let_go.new.self.cleanings, c.saturating_add-self-else-left.result) c.saturating_add-self-else-left.result c.let_go.ensures.counts c.saturating_add-self-else-left.ensures refl)) c.close.ensures.counts
-
 pub returns-in_default-clause-line : goal.returns-in_default-clause-line
 returns-in_default-clause-line c =
     ap (λ (d : code.Desk). (desk_in d).line) c.let_go.ensures.desk ∙ line_leaves c.args.key c.in_ok-left.ensures.turns.0 c.in_ok-left.ensures.turns.1 _ _ _ _ c.in_ok-left.ensures.turns.2
@@ -188,3 +179,28 @@ pub returns-else-left-clause-frees : goal.returns-else-left-clause-frees
 returns-else-left-clause-frees c = λ reached.
     left_frees c.args.key c.in_ok-left.ensures.turns.0 c.in_ok-left.ensures.turns.1 c.in-Some.left c.args.self.now c.let_go.new.self c.close.new.self c.leave.new.self _ _ reached c.in_ok-left.ensures.turns.2 c.let_go.ensures.desk c.let_go.ensures.links
     c.close.result (ok_if c.close.result _ (inl (ap (λ (d : code.Desk). d.holds.items) c.close.ensures.desk)))
+
+pub returns-then-left-clause-counts : goal.returns-then-left-clause-counts
+returns-then-left-clause-counts c =
+    ok_more c.send_unheld.result _ _
+    (λ h. counts_some (find_key c.args.key c.args.self.now.desk.holds.items) c.in-Some.left (cleaned_in c.args.self.now) (cleaned_in c.send_unheld.new.self) (search rules)
+    (subst (λ (p : ℕ × ℕ). CountsOnce p (cleaned_in c.send_unheld.new.self)) c.let_go.ensures.counts h)) c.send_unheld.ensures.counts
+
+pub returns-else-left-clause-counts : goal.returns-else-left-clause-counts
+returns-else-left-clause-counts c =
+    counts_on c.close.result (find_key c.args.key c.args.self.now.desk.holds.items) (cleaned_in c.args.self.now) (c.let_go.new.self.cleanings, c.saturating_add-self.result) (cleaned_in c.close.new.self)
+    (counts_some (find_key c.args.key c.args.self.now.desk.holds.items) c.in-Some.left _ _ (search rules) (inr (failed_is (cleaned_in c.args.self.now) (cleaned_in c.let_go.new.self) (c.let_go.new.self.cleanings, c.saturating_add-self.result) c.saturating_add-self.result c.let_go.ensures.counts c.saturating_add-self.ensures refl))) c.close.ensures.counts
+
+pub returns-in_default-clause-cleaned : goal.returns-in_default-clause-cleaned
+returns-in_default-clause-cleaned c = λ reached. nobody_counted c.args.key (find_key c.args.key c.args.self.now.desk.holds.items) c.args.self.now c.let_go.new.self refl (search rules)
+
+pub returns-then-left-clause-cleaned : goal.returns-then-left-clause-cleaned
+returns-then-left-clause-cleaned c = λ reached.
+    counted_by c.send_unheld.result c.args.key c.in-Some.left (find_key c.args.key c.args.self.now.desk.holds.items) c.in_ok-left.ensures.turns.0 c.in_ok-left.ensures.turns.1 c.args.self.now c.let_go.new.self c.send_unheld.new.self c.leave.new.self _ _ refl (search rules)
+    (search rules) reached c.in_ok-left.left c.in-Some.is c.in_ok-left.ensures.ends c.in_ok-left.ensures.turns.2 c.let_go.ensures.desk c.let_go.ensures.links c.let_go.ensures.counts c.send_unheld.ensures.cleaned
+
+pub returns-else-left-clause-cleaned : goal.returns-else-left-clause-cleaned
+returns-else-left-clause-cleaned c = λ reached.
+    shut_counted c.close.result c.args.key c.in-Some.left (find_key c.args.key c.args.self.now.desk.holds.items) c.args.self.now c.close.new.self refl (search rules)
+    (failed_is (cleaned_in c.args.self.now) (cleaned_in c.let_go.new.self) (cleaned_in c.close.new.self) c.saturating_add-self.result c.let_go.ensures.counts c.saturating_add-self.ensures c.close.ensures.counts)
+    (ok_more c.close.result _ _ (λ g. waits_none c.in-Some.left.number c.close.new.self.links.items g) c.close.ensures.gone)

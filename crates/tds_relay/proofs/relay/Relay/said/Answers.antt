@@ -19,6 +19,8 @@ use Rattle.tds_relay.proofs.spared.Opening.{goes_last, opens_new_on, opens_same}
 use Rattle.tds_relay.proofs.spared.Speaking.{others_served}
 use Rattle.tds_relay.proofs.spared.Opening.{grows_on, grows_stays}
 use Rattle.tds_relay.proofs.spared.Elsewhere.{said_puts}
+use Rattle.tds_relay.specs.Bodies.{standing_in, standing_open}
+use Rattle.tds_relay.proofs.steps.Heeding.{cancels_ok, goes_served}
 use Rattle.tds_relay.proofs.relay.Relay.said.Goals as goal
 
 pub returns-clause-steps : goal.returns-clause-steps
@@ -76,3 +78,9 @@ pub returns-clause-puts : goal.returns-clause-puts
 returns-clause-puts c = λ reached.
     said_puts c.serve_line.result c.args.key c.args.self.now c.take_all.new.self c.serve_line.new.self reached c.in_ok-take_all.ensures.goes (c.in_ok-take_all.ensures.aside reached)
     (c.serve_line.ensures.fills (reached_on (Application c.args.key) _ _ c.in_ok-take_all.ensures.goes reached))
+pub returns-clause-cancels : goal.returns-clause-cancels
+returns-clause-cancels c = λ reached.
+    cancels_ok c.serve_line.result c.args.key (house_in c.args.self.now) c.args.piece.now _ (standing_in c.args.key c.args.self.now) (standing_in c.args.key c.take_all.new.self) (standing_open c.args.key c.serve_line.new.self) _ _ _ _ c.in_ok-take_all.ensures.cancels
+    c.serve_line.ensures.moves c.serve_line.ensures.kept
+    (goes_served c.serve_line.result (body_of c.args.key c.take_all.new.self) (body_of c.args.key c.serve_line.new.self) c.take_all.new.self.links.items c.serve_line.new.self.links.items
+    (ok_more c.serve_line.result _ _ (λ g. g.go (reached_on (Application c.args.key) _ _ c.in_ok-take_all.ensures.goes reached) c.args.key) c.serve_line.ensures.goes_on) c.serve_line.ensures.opens)

@@ -1,7 +1,7 @@
 use Rattle.std.proofs.Common.{ap, inl, rules, subst, sym, ◌∙◌, ◌≡◌, None, Option, Some, ℕ}
 use Rattle.tds_relay.specs.Ties.{desk_in, IsReached}
 use Rattle.tds_relay.proofs.steps.Fronts.{ends_more, moves_same}
-use Rattle.tds_relay.proofs.steps.Reaching.{ok_more}
+use Rattle.tds_relay.proofs.steps.Reaching.{ok_if, ok_more}
 use Rattle.tds_relay.proofs.steps.Staying.{stays_on}
 use Rattle.tds_relay.proofs.bytes.Calls.{stand_from}
 use Rattle.tds_relay.proofs.spared.Letting.{sent_all}
@@ -19,6 +19,11 @@ use Rattle.tds_relay.proofs.seats.Desks.{off_of}
 use Rattle.tds_relay.specs.Desk.{without_number}
 use Rattle.std.proofs.Common.{inr}
 use Rattle.tds_relay.proofs.spared.Begun.{answers_on}
+use Rattle.std.proofs.Common.{refl}
+use Rattle.std.proofs.Common.{inl}
+use Rattle.tds_relay.proofs.spared.Cleaned.{failed_is, more_is, sent_gone, sent_there, waits_none}
+use Rattle.tds_relay.specs.Cleaning.{cleaned_in}
+use Rattle.tds_relay.specs.Reads.{waits_on}
 use Rattle.tds_relay.proofs.relay.Relay.send_unheld.Goals as goal
 
 pub returns-in-None-clause-read : goal.returns-in-None-clause-read
@@ -45,7 +50,7 @@ returns-in-Some-clause-sends c = λ reached. inl (c.fits_on.ensures.desk, c.in_o
 
 pub returns-in-None-clause-sends : goal.returns-in-None-clause-sends
 returns-in-None-clause-sends c = λ reached.
-    sent_all c.lose.result c.args.number c.args.self.now c.fits_on.new.self c.lose.new.self reached c.fits_on.ensures.desk c.in_ok-fits.ensures.asks c.in_ok-fits.ensures.others
+    sent_all c.lose.result c.args.number c.args.self.now (record c.fits_on.new.self { failed = c.saturating_add-self-2.result }) c.lose.new.self reached c.fits_on.ensures.desk c.in_ok-fits.ensures.asks c.in_ok-fits.ensures.others
     (c.lose.ensures.rests (subst (λ (d : code.Desk). IsReached (desk_in d)) (sym c.fits_on.ensures.desk) reached)) c.lose.ensures.shuts
 
 pub returns-in-None-clause-ordered : goal.returns-in-None-clause-ordered
@@ -122,3 +127,31 @@ returns-in-Some-clause-answers c = c.in_ok-fits.ensures.answers
 
 pub returns-in-None-clause-answers : goal.returns-in-None-clause-answers
 returns-in-None-clause-answers c = answers_on c.lose.result _ _ _ c.in_ok-fits.ensures.answers c.lose.ensures.answers
+pub returns-then-fits-clause-counts : goal.returns-then-fits-clause-counts
+returns-then-fits-clause-counts c =
+    inl (more_is (cleaned_in c.args.self.now) (cleaned_in c.fits_on.new.self) (c.saturating_add-self.result, c.fits_on.new.self.failed) c.saturating_add-self.result c.fits_on.ensures.counts c.saturating_add-self.ensures refl)
+
+pub returns-in-Some-clause-counts : goal.returns-in-Some-clause-counts
+returns-in-Some-clause-counts c =
+    inr (failed_is (cleaned_in c.args.self.now) (cleaned_in c.fits_on.new.self) (c.fits_on.new.self.cleanings, c.saturating_add-self-2.result) c.saturating_add-self-2.result c.fits_on.ensures.counts c.saturating_add-self-2.ensures refl)
+
+pub returns-in-None-clause-counts : goal.returns-in-None-clause-counts
+returns-in-None-clause-counts c =
+    ok_if c.lose.result _ (inr (failed_is (cleaned_in c.args.self.now) (cleaned_in c.fits_on.new.self) (cleaned_in c.lose.new.self) c.saturating_add-self-2.result c.fits_on.ensures.counts c.saturating_add-self-2.ensures c.lose.ensures.counts))
+
+pub returns-then-fits-clause-cleaned : goal.returns-then-fits-clause-cleaned
+returns-then-fits-clause-cleaned c = λ none there.
+    sent_there (waits_on c.args.number c.args.self.now.links.items) (waits_on c.args.number c.fits_on.new.self.links.items) c.args.self.now.outbox.items (cleaned_in c.args.self.now) (c.saturating_add-self.result, c.fits_on.new.self.failed)
+    (c.in_ok-fits.ensures.waits (search rules)) there
+    (more_is (cleaned_in c.args.self.now) (cleaned_in c.fits_on.new.self) (c.saturating_add-self.result, c.fits_on.new.self.failed) c.saturating_add-self.result c.fits_on.ensures.counts c.saturating_add-self.ensures refl)
+
+pub returns-in-Some-clause-cleaned : goal.returns-in-Some-clause-cleaned
+returns-in-Some-clause-cleaned c = λ none there.
+    absurd (not_both _ _ c.in-Some.is (c.key_on.ensures ∙ ap (λ (d : code.Desk). key_of (find_number c.args.number (desk_in d).holds)) c.fits_on.ensures.desk ∙ ap key_of none))
+
+pub returns-in-None-clause-cleaned : goal.returns-in-None-clause-cleaned
+returns-in-None-clause-cleaned c = λ none there.
+    ok_more c.lose.result _ _
+    (λ g. sent_gone c.args.number c.lose.new.self.links.items (cleaned_in c.args.self.now) (cleaned_in c.lose.new.self) (waits_none c.args.number c.lose.new.self.links.items g)
+    (failed_is (cleaned_in c.args.self.now) (cleaned_in c.fits_on.new.self) (cleaned_in c.lose.new.self) c.saturating_add-self-2.result c.fits_on.ensures.counts c.saturating_add-self-2.ensures c.lose.ensures.counts))
+    c.lose.ensures.gone

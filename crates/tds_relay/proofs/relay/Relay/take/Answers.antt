@@ -21,7 +21,7 @@ use Rattle.tds_relay.specs.Closings.{Itself}
 use Rattle.tds_relay.proofs.spared.Closings.{closes_both, closes_more}
 use Rattle.tds_relay.proofs.spared.Sending.{kept_refl}
 use Rattle.tds_relay.proofs.spared.Shutting.{closes_kept, closes_written, unclosed}
-use Rattle.std.proofs.Common.{Bool, Option, option_map}
+use Rattle.std.proofs.Common.{Bool, Option, option_map, ℕ}
 use Rattle.tds_front.specs.Bytes.{fed}
 use Rattle.tds_front.specs.declared.front.Front.{Front}
 use Rattle.tds_packet.specs.declared.status.Reset.{Reset}
@@ -32,6 +32,10 @@ use Rattle.tds_relay.proofs.steps.Underway.{written_there}
 use Rattle.tds_relay.proofs.spared.Reasons.{may_before}
 use Rattle.tds_relay.proofs.spared.Resting.{others_both, others_refl, written_rest}
 use Rattle.tds_relay.proofs.spared.Elsewhere.{aside_refl}
+use Rattle.tds_relay.specs.Bodies.{CancelsSaid, standing_in}
+use Rattle.tds_relay.specs.Reads.{waits_on}
+use Rattle.tds_relay.proofs.steps.Heeding.{cancels_deaf, cancels_fed, cancels_moved, cancels_refused}
+use Rattle.tds_relay.proofs.steps.Staying.{fills_refl}
 use Rattle.tds_relay.proofs.relay.Relay.take.Goals as goal
 
 pub returns-in-Err-clause-tells : goal.returns-in-Err-clause-tells
@@ -142,6 +146,53 @@ returns-clause-carries c = λ first bytes at t.
     (subst (λ (b : Body). Obeys c.in-Ok.fed.said (take c.in-Ok.fed.count c.args.piece.now) b (body_of c.args.key c.obey.new.self)) same c.in_ok-obey.ensures.body) refl
     (c.in_ok-obey.ensures.given ∙ ap (λ (ps : Posts). given_by c.args.key c.in-Ok.fed.said ps) (posts_kept slab c.args.key a _ c.in-Some.ensures.value c.feed.ensures.post))
     (λ d. shut_starts c.obey.new.self.applications c.args.key (body_of c.args.key c.args.self.now) (going_of c.args.key c.obey.new.self) d) t
+
+pub returns-in_default-clause-cancels : goal.returns-in_default-clause-cancels
+returns-in_default-clause-cancels c = λ first bytes at t.
+    cancels_deaf c.args.key first (house_in c.args.self.now) bytes c.args.piece.now _ at (standing_in c.args.key c.args.self.now) (none_deaf c.args.key c.args.self.now.applications (search rules)) t
+
+pub returns-then-application-clause-cancels : goal.returns-then-application-clause-cancels
+returns-then-application-clause-cancels c = λ first bytes at t.
+    let slab = c.args.self.now.applications in
+    let a = c.in-Some.application.now in
+    cancels_moved c.args.key first bytes _ at (standing_in c.args.key c.args.self.now) (body_in (get (with_value slab c.args.key a) c.args.key) (going_of c.args.key c.args.self.now), λ (number : ℕ). waits_on number c.args.self.now.links.items) (hall_in c.args.self.now) (hall_of_ends (desk_in c.args.self.now.desk) (ends_in (with_value slab c.args.key a))) (posts_in slab) (posts_in (with_value slab c.args.key a))
+    (λ from m. moves_same (Application c.args.key) from _ _ _ _ refl (ends_kept slab c.args.key a a c.in-Some.ensures.value refl) m) (posts_kept slab c.args.key a a c.in-Some.ensures.value refl)
+    (same_starts (body_of c.args.key c.args.self.now) (body_in (get (with_value slab c.args.key a) c.args.key) (going_of c.args.key c.args.self.now)) (asks_kept slab c.args.key a a c.in-Some.ensures.value (λ goes. refl) c.args.key (going_of c.args.key c.args.self.now)), λ number. fills_refl (waits_on number c.args.self.now.links.items))
+    (cancels_deaf c.args.key first (house_in c.args.self.now) bytes c.args.piece.now _ at (standing_in c.args.key c.args.self.now) (over_deaf c.args.key slab a c.in-Some.ensures.value (search rules)) t)
+
+pub returns-in-Err-clause-cancels : goal.returns-in-Err-clause-cancels
+returns-in-Err-clause-cancels c = λ first bytes at t.
+    let slab = c.args.self.now.applications in
+    let a = c.in-Some.application.now in
+    let es = ends_in slab in
+    let here : a.is_over ≡ false = search rules in
+    let was = end_there slab c.args.key a c.in-Some.ensures.value ∙ ap Some (end_open a here) in
+    let says = sym c.feed.ensures.brings ∙ c.in-Err.is in
+    cancels_refused c.args.key first bytes c.args.piece.now _ at (standing_in c.args.key c.args.self.now) (standing_in c.args.key c.expel_for.new.self) (house_in c.args.self.now) (hall_in c.expel_for.new.self) _ a.front a.is_withdrawn a.reset _ was
+    (waits_refused c.args.key es c.args.piece.now a.front a.is_withdrawn a.reset _ (posts_in slab) was says)
+    (refused_is c.args.key (desk_in c.args.self.now.desk) es c.args.piece.now a.front a.is_withdrawn a.reset _ was says) says
+    (moved_same (Application c.args.key) _ _ _ _ _ refl
+    (sym (closed_fed (closes_for (Some c.in-Err.fault)) es _ c.args.key _ (end_of a) (ap (closes_for (Some c.in-Err.fault)) (end_open a here) ∙ sym (ap (closes_for (Some c.in-Err.fault)) (end_open c.feed.new.self (c.feed.ensures.over ∙ here)))) (end_there slab c.args.key a c.in-Some.ensures.value) (ends_written slab c.args.key _))) c.in_ok-expel_for-in-Err.ensures.moves)
+    (c.in_ok-expel_for-in-Err.ensures.kept ∙ posts_kept slab c.args.key a _ c.in-Some.ensures.value c.feed.ensures.post)
+    (shut_starts c.expel_for.new.self.applications c.args.key (body_of c.args.key c.args.self.now) (going_of c.args.key c.expel_for.new.self) c.in_ok-expel_for-in-Err.ensures.over, λ number. c.in_ok-expel_for-in-Err.ensures.read.fills number) t
+
+pub returns-clause-cancels : goal.returns-clause-cancels
+returns-clause-cancels c = λ first bytes at t.
+    let slab = c.args.self.now.applications in
+    let a = c.in-Some.application.now in
+    let here : a.is_over ≡ false = search rules in
+    let same = asks_kept slab c.args.key a c.feed.new.self c.in-Some.ensures.value c.feed.ensures.body c.args.key (going_of c.args.key c.args.self.now) in
+    cancels_fed c.args.key first bytes c.args.piece.now _ at (standing_in c.args.key c.args.self.now) (standing_in c.args.key c.obey.new.self) (desk_in c.args.self.now.desk) (ends_in slab) _ (posts_in slab) _ (hall_in c.obey.new.self) c.in-Ok.fed.said
+    c.in_ok-obey.ensures.moves
+    (is_fed c.args.key slab a c.feed.new.self c.args.piece.now c.in-Ok.fed.count c.in-Ok.fed.said c.in-Some.ensures.value here (c.feed.ensures.over ∙ here) c.feed.ensures.withdrawn c.in-Ok.ensures.asks
+    c.feed.ensures.front (search rules))
+    (record {
+      obeys = subst (λ (b : Body). Obeys c.in-Ok.fed.said (take c.in-Ok.fed.count c.args.piece.now) b (body_of c.args.key c.obey.new.self)) same c.in_ok-obey.ensures.body;
+      fills = λ number. c.in_ok-obey.ensures.read.fills number;
+      cancels = subst (λ (b : Body). CancelsSaid c.in-Ok.fed.said b (standing_in c.args.key c.obey.new.self)) same c.in_ok-obey.ensures.cancels;
+    }) refl
+    (c.in_ok-obey.ensures.given ∙ ap (λ (ps : Posts). given_by c.args.key c.in-Ok.fed.said ps) (posts_kept slab c.args.key a _ c.in-Some.ensures.value c.feed.ensures.post))
+    (λ d. (shut_starts c.obey.new.self.applications c.args.key (body_of c.args.key c.args.self.now) (going_of c.args.key c.obey.new.self) d, λ number. c.in_ok-obey.ensures.read.fills number)) t
 
 pub returns-in-Err-clause-names : goal.returns-in-Err-clause-names
 returns-in-Err-clause-names c =

@@ -12,6 +12,8 @@ use Rattle.tds_relay.proofs.spared.Closings.{closes_both, closes_more, closes_re
 use Rattle.tds_relay.proofs.spared.Resting.{others_both, others_refl}
 use Rattle.tds_relay.proofs.spared.Speaking.{reached_by}
 use Rattle.tds_relay.proofs.spared.Elsewhere.{aside_both, aside_refl}
+use Rattle.tds_relay.specs.Bodies.{standing_in}
+use Rattle.tds_relay.proofs.steps.Heeding.{cancels_begin, cancels_left}
 use Rattle.tds_relay.proofs.relay.Relay.take_all.Goals as goal
 
 pub taking-init : goal.taking-init
@@ -24,6 +26,7 @@ taking-init c = record {
   read = stays_refl c.args.self.now.links.items;
   closes = closes_refl (ItselfFor c.args.key (HasReason c.args.key c.args.piece.now c.args.self.now)) (register_in c.args.self.now);
   carries = carries_begin c.args.key (house_in c.args.self.now) c.args.piece.now (body_of c.args.key c.args.self.now);
+  cancels = cancels_begin c.args.key (house_in c.args.self.now) c.args.piece.now (standing_in c.args.key c.args.self.now);
   stand = λ n r h. h;
   seated = λ s. s;
   others = λ reached. others_refl c.args.key c.args.self.now;
@@ -42,6 +45,7 @@ taking-preserved c = record {
   closes = closes_both (ItselfFor c.args.key (HasReason c.args.key c.args.piece.now c.args.self.now)) _ _ _ c.taking.invariant.closes
       (closes_more _ (ItselfFor c.args.key (HasReason c.args.key c.args.piece.now c.args.self.now)) _ _ (λ other x. (x.0, ByPiece c.taking.self c.taking.rest.now c.taking.invariant.carries c.taking.invariant.read x.1)) c.in_ok-count.ensures.closes);
   carries = carries_left c.args.key _ _ _ _ _ _ _ c.behind-rest.ensures (c.in_ok-count.ensures.carries (house_in c.args.self.now) c.args.piece.now (body_of c.args.key c.args.self.now) c.taking.invariant.carries);
+  cancels = cancels_left c.args.key _ _ _ _ _ _ _ c.behind-rest.ensures (c.in_ok-count.ensures.cancels (house_in c.args.self.now) c.args.piece.now (standing_in c.args.key c.args.self.now) c.taking.invariant.cancels);
   stand = λ n r h. c.in_ok-count.ensures.stand n r (c.taking.invariant.stand n r h);
   seated = λ s. c.in_ok-count.ensures.seated (c.taking.invariant.seated s);
   others = λ reached. others_both c.args.key c.args.self.now c.taking.self c.take.new.self (c.taking.invariant.others reached) (c.in_ok-count.ensures.others (reached_by c.args.key c.args.self.now.desk c.taking.self.desk c.taking.invariant.goes reached));
@@ -65,3 +69,10 @@ returns-clause-carries c = carries_left c.args.key _ _ _ _ _ _ _ (sym (each_end 
 pub returns-then-is_empty-clause-carries : goal.returns-then-is_empty-clause-carries
 returns-then-is_empty-clause-carries c =
     carries_left c.args.key _ _ _ _ _ _ _ (empty_is c.taking.rest.now (sym c.is_empty.ensures ∙ c.if-is_empty.true)) c.taking.invariant.carries
+
+pub returns-clause-cancels : goal.returns-clause-cancels
+returns-clause-cancels c = cancels_left c.args.key _ _ _ _ _ _ _ (sym (each_end c.taking.rest.now c.taking.counter (length c.args.piece.now) (search rules) c.taking.invariant.turns)) c.taking.invariant.cancels
+
+pub returns-then-is_empty-clause-cancels : goal.returns-then-is_empty-clause-cancels
+returns-then-is_empty-clause-cancels c =
+    cancels_left c.args.key _ _ _ _ _ _ _ (empty_is c.taking.rest.now (sym c.is_empty.ensures ∙ c.if-is_empty.true)) c.taking.invariant.cancels

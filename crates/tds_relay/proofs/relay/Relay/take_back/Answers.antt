@@ -25,6 +25,9 @@ use Rattle.std.proofs.Common.{◌≡◌, Some}
 use Rattle.tds_relay.specs.Ties.{Reaches}
 use Rattle.tds_relay.proofs.spared.Elsewhere.{aside_both, aside_on, aside_same}
 use Rattle.tds_relay.specs.Desk.{Desk}
+use Rattle.tds_relay.specs.Bodies.{body_of, going_of, standing_in}
+use Rattle.tds_relay.proofs.steps.Bodied.{shut}
+use Rattle.tds_relay.proofs.steps.Halting.{cancelled_shut, taken_back}
 use Rattle.tds_relay.proofs.relay.Relay.take_back.Goals as goal
 
 pub returns-in-Some-clause-moves : goal.returns-in-Some-clause-moves
@@ -34,16 +37,16 @@ returns-in-Some-clause-moves c =
     let same = c.stop.ensures.ends ∙ c.forget_request.ensures.ends in
     let behind = c.withdraw.ensures.ends ∙ ap (change_end c.args.key withdraws) same in
     let d = desk_in c.args.self.now.desk in
-    ok_more c.send_for.result _ _
+    ok_more c.send_stop.result _ _
     (λ m quiet before bytes f. inl (record {
       mid = hall_of_ends d before;
       first = no_moves by (hall_of_ends d before);
       same = refl;
-      next = subst (λ (h : Hall). Moves by h (hall_in c.send_for.new.self)) (sym (taken_back_at c.args.key d before now (ends_in c.withdraw.new.self.applications) bytes f behind))
+      next = subst (λ (h : Hall). Moves by h (hall_in c.send_stop.new.self)) (sym (taken_back_at c.args.key d before now (ends_in c.withdraw.new.self.applications) bytes f behind))
           (m by _ (moves_same by _ _ _ _ _ (ap desk_in c.withdraw.ensures.desk) refl
           (moves_unwaits c.args.key _ _ _ now _ (stops_unwaits c.args.key _ _ _ _ _ _ _ c.forget_request.ensures.turns (some_of _ c.in-Some.number _ c.in-Some.is c.in_ok-number.ensures.some).2) behind quiet (no_moves by _))));
     }))
-    c.send_for.ensures.moves
+    c.send_stop.ensures.moves
 
 pub returns-in-None-clause-moves : goal.returns-in-None-clause-moves
 returns-in-None-clause-moves c =
@@ -67,22 +70,22 @@ returns-in-None-clause-moves c =
     c.expel.ensures.moves
 
 pub returns-in-Some-clause-read : goal.returns-in-Some-clause-read
-returns-in-Some-clause-read c = stays_from c.send_for.result _ _ _ (c.withdraw.ensures.links ∙ c.stop.ensures.links ∙ c.forget_request.ensures.links) c.send_for.ensures.read
+returns-in-Some-clause-read c = stays_from c.send_stop.result _ _ _ (c.withdraw.ensures.links ∙ c.stop.ensures.links ∙ c.forget_request.ensures.links) c.send_stop.ensures.read
 
 pub returns-in-None-clause-read : goal.returns-in-None-clause-read
 returns-in-None-clause-read c = stays_from c.expel.result _ _ _ (c.stop.ensures.links ∙ c.forget_request.ensures.links) c.expel.ensures.read
 
 pub returns-in-Some-clause-stand : goal.returns-in-Some-clause-stand
-returns-in-Some-clause-stand c = stand_on c.send_for.result _ _ _ (stand_at _ _ _ (λ n r h. c.stop.ensures.stand n r (c.forget_request.ensures.stand n r h)) c.withdraw.ensures.desk) c.send_for.ensures.stand
+returns-in-Some-clause-stand c = stand_on c.send_stop.result _ _ _ (stand_at _ _ _ (λ n r h. c.stop.ensures.stand n r (c.forget_request.ensures.stand n r h)) c.withdraw.ensures.desk) c.send_stop.ensures.stand
 
 pub returns-in-None-clause-stand : goal.returns-in-None-clause-stand
 returns-in-None-clause-stand c = stand_on c.expel.result _ _ _ (λ n r h. c.stop.ensures.stand n r (c.forget_request.ensures.stand n r h)) c.expel.ensures.stand
 
 pub returns-in-Some-clause-body : goal.returns-in-Some-clause-body
 returns-in-Some-clause-body c =
-    forgot_on c.send_for.result c.forget_request.new.self.applications c.send_for.new.self.applications c.args.key c.forget_request.ensures.body
-    (kept_on_ok c.send_for.result c.forget_request.new.self.applications c.withdraw.new.self.applications c.send_for.new.self.applications
-    (asks_then c.forget_request.new.self.applications c.stop.new.self.applications c.withdraw.new.self.applications c.stop.ensures.asks c.withdraw.ensures.asks) c.send_for.ensures.asks)
+    forgot_on c.send_stop.result c.forget_request.new.self.applications c.send_stop.new.self.applications c.args.key c.forget_request.ensures.body
+    (kept_on_ok c.send_stop.result c.forget_request.new.self.applications c.withdraw.new.self.applications c.send_stop.new.self.applications
+    (asks_then c.forget_request.new.self.applications c.stop.new.self.applications c.withdraw.new.self.applications c.stop.ensures.asks c.withdraw.ensures.asks) c.send_stop.ensures.asks)
 
 pub returns-in-None-clause-body : goal.returns-in-None-clause-body
 returns-in-None-clause-body c =
@@ -93,8 +96,8 @@ pub returns-in-Some-clause-closes : goal.returns-in-Some-clause-closes
 returns-in-Some-clause-closes c =
     let mid = c.forget_request.new.self in
     let halts = (some_of _ c.in-Some.number _ c.in-Some.is c.in_ok-number.ensures.stops) in
-    closes_first c.send_for.result _ _ _ _
-    (for_that c.send_for.result c.args.key _ _ _ _
+    closes_first c.send_stop.result _ _ _ _
+    (for_that c.send_stop.result c.args.key _ _ _ _
     (λ none. record {
       mid = mid.desk;
       holds = c.forget_request.ensures.holds;
@@ -104,7 +107,7 @@ returns-in-Some-clause-closes c =
           (subst (λ (xs : List ℕ). HasNoRoom c.in-Some.number xs c.args.self.now.links.items) c.withdraw.ensures.outbox
           (subst (λ (ls : List Link). HasNoRoom c.in-Some.number c.withdraw.new.self.outbox.items ls) (c.withdraw.ensures.links ∙ c.stop.ensures.links ∙ c.forget_request.ensures.links) none)));
     })
-    c.send_for.ensures.closes)
+    c.send_stop.ensures.closes)
     (closes_both Nobody _ _ _ (closes_both Nobody _ _ _ c.forget_request.ensures.closes c.stop.ensures.closes) c.withdraw.ensures.closes)
 
 pub returns-in-None-clause-closes : goal.returns-in-None-clause-closes
@@ -119,15 +122,15 @@ returns-in-None-clause-closes c =
     (closes_first c.expel.result (Itself c.args.key) _ _ _ c.expel.ensures.closes (closes_both Nobody _ _ _ c.forget_request.ensures.closes c.stop.ensures.closes))
 
 pub returns-in-Some-clause-seated : goal.returns-in-Some-clause-seated
-returns-in-Some-clause-seated c = λ s. c.send_for.ensures.seated (kept_seated c.stop.new.self c.withdraw.new.self c.withdraw.ensures.desk c.withdraw.ensures.links (c.stop.ensures.seated (unwaited c.args.key c.args.self.now.desk c.forget_request.new.self c.args.self.now.links.items c.forget_request.ensures.turns c.forget_request.ensures.service c.forget_request.ensures.links s)))
+returns-in-Some-clause-seated c = λ s. c.send_stop.ensures.seated (kept_seated c.stop.new.self c.withdraw.new.self c.withdraw.ensures.desk c.withdraw.ensures.links (c.stop.ensures.seated (unwaited c.args.key c.args.self.now.desk c.forget_request.new.self c.args.self.now.links.items c.forget_request.ensures.turns c.forget_request.ensures.service c.forget_request.ensures.links s)))
 
 pub returns-in-None-clause-seated : goal.returns-in-None-clause-seated
 returns-in-None-clause-seated c = λ s. c.expel.ensures.seated (c.stop.ensures.seated (unwaited c.args.key c.args.self.now.desk c.forget_request.new.self c.args.self.now.links.items c.forget_request.ensures.turns c.forget_request.ensures.service c.forget_request.ensures.links s))
 
 pub returns-in-Some-clause-goes : goal.returns-in-Some-clause-goes
 returns-in-Some-clause-goes c =
-    ok_more c.send_for.result _ _ (λ g from h. g (Application c.args.key) from
-    (subst (λ (d : code.Desk). Reaches (Application c.args.key) from (desk_in d)) (sym c.withdraw.ensures.desk) (c.stop.ensures.goes from (c.forget_request.ensures.goes from h)))) c.send_for.ensures.goes
+    ok_more c.send_stop.result _ _ (λ g from h. g (Application c.args.key) from
+    (subst (λ (d : code.Desk). Reaches (Application c.args.key) from (desk_in d)) (sym c.withdraw.ensures.desk) (c.stop.ensures.goes from (c.forget_request.ensures.goes from h)))) c.send_stop.ensures.goes
 
 pub returns-in-Some-clause-others : goal.returns-in-Some-clause-others
 returns-in-Some-clause-others c = λ reached.
@@ -138,8 +141,8 @@ returns-in-Some-clause-others c = λ reached.
     let led = reached_by c.args.key a.desk b.desk c.forget_request.ensures.goes reached in
     let stopped = reached_by c.args.key b.desk d.desk c.stop.ensures.goes led in
     let halts = some_of _ c.in-Some.number _ c.in-Some.is c.in_ok-number.ensures.stops in
-    others_on c.send_for.result c.args.key a e c.send_for.new.self
-    (c.send_for.ensures.others (filled_at d e c.withdraw.ensures.desk stopped) halts.hold
+    others_on c.send_stop.result c.args.key a e c.send_stop.new.self
+    (c.send_stop.ensures.others (filled_at d e c.withdraw.ensures.desk stopped) halts.hold
     (subst (λ (x : code.Desk). find_key c.args.key x.holds.items ≡ Some halts.hold) (sym c.withdraw.ensures.desk) (halting_held c.in-Some.number c.args.key b d halts)) (sym halts.number_is))
     (others_both c.args.key a b e c.forget_request.ensures.others
     (others_both c.args.key b d e (c.stop.ensures.others led) (all_others c.args.key d e (all_rest d e c.withdraw.ensures.desk c.withdraw.ensures.links (asks_on d e c.withdraw.ensures.asks)))))
@@ -162,10 +165,10 @@ returns-in-Some-clause-aside c = λ reached.
     let led = reached_by c.args.key a.desk b.desk c.forget_request.ensures.goes reached in
     let stopped = reached_by c.args.key b.desk d.desk c.stop.ensures.goes led in
     let halts = some_of _ c.in-Some.number _ c.in-Some.is c.in_ok-number.ensures.stops in
-    aside_on c.send_for.result c.args.key a e c.send_for.new.self
+    aside_on c.send_stop.result c.args.key a e c.send_stop.new.self
     (aside_both c.args.key a b e (aside_same c.args.key a b (ap (λ (x : Desk). x.holds) c.forget_request.ensures.turns.desk_is) c.forget_request.ensures.links)
     (aside_both c.args.key b d e (aside_same c.args.key b d c.stop.ensures.holds c.stop.ensures.links) (aside_same c.args.key d e (ap (λ (x : code.Desk). x.holds.items) c.withdraw.ensures.desk) c.withdraw.ensures.links)))
-    (c.send_for.ensures.aside (filled_at d e c.withdraw.ensures.desk stopped) halts.hold
+    (c.send_stop.ensures.aside (filled_at d e c.withdraw.ensures.desk stopped) halts.hold
     (subst (λ (x : code.Desk). find_key c.args.key x.holds.items ≡ Some halts.hold) (sym c.withdraw.ensures.desk) (halting_held c.in-Some.number c.args.key b d halts)) (sym halts.number_is))
 
 pub returns-in-None-clause-aside : goal.returns-in-None-clause-aside
@@ -177,3 +180,13 @@ returns-in-None-clause-aside c = λ reached.
     aside_on c.expel.result c.args.key a d c.expel.new.self
     (aside_both c.args.key a b d (aside_same c.args.key a b (ap (λ (x : Desk). x.holds) c.forget_request.ensures.turns.desk_is) c.forget_request.ensures.links) (aside_same c.args.key b d c.stop.ensures.holds c.stop.ensures.links))
     (c.expel.ensures.aside (reached_by c.args.key b.desk d.desk c.stop.ensures.goes led))
+pub returns-in-Some-clause-cancels : goal.returns-in-Some-clause-cancels
+returns-in-Some-clause-cancels c =
+    ok_more c.send_stop.result _ _
+    (λ s. taken_back c.args.key c.in-Some.number c.args.self.now c.forget_request.new.self c.stop.new.self c.withdraw.new.self c.send_stop.new.self c.forget_request.ensures.holds c.forget_request.ensures.service
+    (c.withdraw.ensures.links ∙ c.stop.ensures.links ∙ c.forget_request.ensures.links) c.withdraw.ensures.outbox (some_of _ c.in-Some.number _ c.in-Some.is c.in_ok-number.ensures.stops) s)
+    c.send_stop.ensures.sends
+
+pub returns-in-None-clause-cancels : goal.returns-in-None-clause-cancels
+returns-in-None-clause-cancels c =
+    ok_more c.expel.result _ _ (λ d. cancelled_shut (body_of c.args.key c.args.self.now) (standing_in c.args.key c.expel.new.self) (shut c.expel.new.self.applications c.args.key (going_of c.args.key c.expel.new.self) d)) c.expel.ensures.over

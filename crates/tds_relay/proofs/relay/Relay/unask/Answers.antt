@@ -22,26 +22,29 @@ use Rattle.tds_relay.specs.Hall.{end_at}
 use Rattle.tds_relay.specs.Fronts.{ends_in}
 use Rattle.tds_relay.proofs.spared.Elsewhere.{keeps_on}
 use Rattle.tds_relay.specs.Desk.{find_number}
+use Rattle.tds_relay.specs.Bodies.{going_of, standing_in}
+use Rattle.tds_relay.proofs.steps.Bodied.{shut}
+use Rattle.tds_relay.proofs.steps.Halting.{cancelled_going, cancelled_shut}
 use Rattle.tds_relay.proofs.relay.Relay.unask.Goals as goal
 
 pub returns-then-not-has_nothing_out-clause-moves : goal.returns-then-not-has_nothing_out-clause-moves
 returns-then-not-has_nothing_out-clause-moves c = ok_more c.expel.result _ _ (λ m from h. m from (moves_closes (Application c.args.key) from _ _ _ _ c.args.key refl refl h)) c.expel.ensures.moves
 
 pub returns-in-Ok-clause-goes : goal.returns-in-Ok-clause-goes
-returns-in-Ok-clause-goes c = ok_more c.send_for.result _ _ (λ g from h. g (Application c.args.key) from (reaches_turn (Application c.args.key) from _ _ _ _ _ c.in-Ok.ensures.ok refl h)) c.send_for.ensures.goes
+returns-in-Ok-clause-goes c = ok_more c.send_stop.result _ _ (λ g from h. g (Application c.args.key) from (reaches_turn (Application c.args.key) from _ _ _ _ _ c.in-Ok.ensures.ok refl h)) c.send_stop.ensures.goes
 
 pub returns-in-Ok-clause-moves : goal.returns-in-Ok-clause-moves
 returns-in-Ok-clause-moves c =
-    ok_more c.send_for.result _ _
+    ok_more c.send_stop.result _ _
     (λ m from h. m (Application c.args.key) from (moves_does (Application c.args.key) from _ _ _ _ _ _ _ c.in-Ok.ensures.ok (tt, c.has_nothing_out.ensures.here (search rules), tt) refl refl h))
-    c.send_for.ensures.moves
+    c.send_stop.ensures.moves
 
 pub returns-in_ok-unless_memory-in-Err-clause-moves : goal.returns-in_ok-unless_memory-in-Err-clause-moves
 returns-in_ok-unless_memory-in-Err-clause-moves c =
     ok_more c.expel-in-Err.result _ _ (λ m from h. m from (moves_closes (Application c.args.key) from _ _ _ _ c.args.key c.in-Err.ensures.err refl h)) c.expel-in-Err.ensures.moves
 
 pub returns-in-Ok-clause-stand : goal.returns-in-Ok-clause-stand
-returns-in-Ok-clause-stand c = stand_on c.send_for.result _ _ _ c.in-Ok.ensures.stand c.send_for.ensures.stand
+returns-in-Ok-clause-stand c = stand_on c.send_stop.result _ _ _ c.in-Ok.ensures.stand c.send_stop.ensures.stand
 
 pub returns-in_ok-unless_memory-in-Err-clause-stand : goal.returns-in_ok-unless_memory-in-Err-clause-stand
 returns-in_ok-unless_memory-in-Err-clause-stand c = stand_on c.expel-in-Err.result _ _ _ c.in-Err.ensures.stand c.expel-in-Err.ensures.stand
@@ -49,7 +52,7 @@ returns-in_ok-unless_memory-in-Err-clause-stand c = stand_on c.expel-in-Err.resu
 pub returns-in-Ok-clause-closes : goal.returns-in-Ok-clause-closes
 returns-in-Ok-clause-closes c =
     let stops = subst (λ (xs : List ℕ). ClientStops c.args.key c.args.self.now.desk c.cancel.new.self xs c.cancel.new.out.items) (search rules) c.in-Ok.ensures.stops in
-    for_that c.send_for.result c.args.key _ _ _ _ (λ none. inr (inr (inr (stops_unfit c.args.key c.args.self.now.desk c.cancel.new.self c.cancel.new.out.items c.args.self.now.links.items c.in-Ok.hold stops c.in-Ok.ensures.whose none)))) c.send_for.ensures.closes
+    for_that c.send_stop.result c.args.key _ _ _ _ (λ none. inr (inr (inr (stops_unfit c.args.key c.args.self.now.desk c.cancel.new.self c.cancel.new.out.items c.args.self.now.links.items c.in-Ok.hold stops c.in-Ok.ensures.whose none)))) c.send_stop.ensures.closes
 
 pub returns-in_ok-unless_memory-in-Err-clause-closes : goal.returns-in_ok-unless_memory-in-Err-clause-closes
 returns-in_ok-unless_memory-in-Err-clause-closes c =
@@ -60,7 +63,7 @@ pub returns-then-not-has_nothing_out-clause-closes : goal.returns-then-not-has_n
 returns-then-not-has_nothing_out-clause-closes c = for_reason c.expel.result c.args.key _ _ _ (inr (inl (c.has_nothing_out.ensures.out (search rules)))) c.expel.ensures.closes
 
 pub returns-in-Ok-clause-seated : goal.returns-in-Ok-clause-seated
-returns-in-Ok-clause-seated c = λ s. c.send_for.ensures.seated (deed_seated c.args.key Stops (desk_in c.args.self.now.desk) (desk_in c.cancel.new.self) _ _ c.args.self.now.links.items c.in-Ok.ensures.ok s)
+returns-in-Ok-clause-seated c = λ s. c.send_stop.ensures.seated (deed_seated c.args.key Stops (desk_in c.args.self.now.desk) (desk_in c.cancel.new.self) _ _ c.args.self.now.links.items c.in-Ok.ensures.ok s)
 
 pub returns-in_ok-unless_memory-in-Err-clause-seated : goal.returns-in_ok-unless_memory-in-Err-clause-seated
 returns-in_ok-unless_memory-in-Err-clause-seated c = λ s. c.expel-in-Err.ensures.seated (desk_seated (desk_in c.args.self.now.desk) (desk_in c.cancel.new.self) c.args.self.now.links.items c.in-Err.ensures.err s)
@@ -70,8 +73,8 @@ returns-then-not-has_nothing_out-clause-others c = c.expel.ensures.others
 
 pub returns-in-Ok-clause-others : goal.returns-in-Ok-clause-others
 returns-in-Ok-clause-others c = λ reached.
-    others_on c.send_for.result c.args.key c.args.self.now _ c.send_for.new.self
-    (c.send_for.ensures.others (reached_turn _ _ (desk.Does c.args.key Stops) _ _ c.in-Ok.ensures.ok reached) c.in-Ok.hold (stopped_held c.args.key c.args.self.now.desk c.cancel.new.self c.in-Ok.hold _ _ c.in-Ok.ensures.stops c.in-Ok.ensures.whose) refl)
+    others_on c.send_stop.result c.args.key c.args.self.now _ c.send_stop.new.self
+    (c.send_stop.ensures.others (reached_turn _ _ (desk.Does c.args.key Stops) _ _ c.in-Ok.ensures.ok reached) c.in-Ok.hold (stopped_held c.args.key c.args.self.now.desk c.cancel.new.self c.in-Ok.hold _ _ c.in-Ok.ensures.stops c.in-Ok.ensures.whose) refl)
     (done_as c.args.key c.args.self.now _ reached c.cancel.ensures.others refl (λ k goes. refl))
 
 pub returns-in_ok-unless_memory-in-Err-clause-others : goal.returns-in_ok-unless_memory-in-Err-clause-others
@@ -84,11 +87,25 @@ returns-then-not-has_nothing_out-clause-aside c = c.expel.ensures.aside
 
 pub returns-in-Ok-clause-aside : goal.returns-in-Ok-clause-aside
 returns-in-Ok-clause-aside c = λ reached.
-    keeps_on c.send_for.result c.args.key c.args.self.now.desk.holds.items c.cancel.new.self.holds.items c.send_for.new.self.desk.holds.items c.args.self.now.links.items c.args.self.now.links.items c.send_for.new.self.links.items
+    keeps_on c.send_stop.result c.args.key c.args.self.now.desk.holds.items c.cancel.new.self.holds.items c.send_stop.new.self.desk.holds.items c.args.self.now.links.items c.args.self.now.links.items c.send_stop.new.self.links.items
     (λ n differs. (ap (find_number n) c.in-Ok.ensures.stops.same, refl))
-    (c.send_for.ensures.aside (reached_turn _ _ (desk.Does c.args.key Stops) _ _ c.in-Ok.ensures.ok reached) c.in-Ok.hold (stopped_held c.args.key c.args.self.now.desk c.cancel.new.self c.in-Ok.hold _ _ c.in-Ok.ensures.stops c.in-Ok.ensures.whose) refl)
+    (c.send_stop.ensures.aside (reached_turn _ _ (desk.Does c.args.key Stops) _ _ c.in-Ok.ensures.ok reached) c.in-Ok.hold (stopped_held c.args.key c.args.self.now.desk c.cancel.new.self c.in-Ok.hold _ _ c.in-Ok.ensures.stops c.in-Ok.ensures.whose) refl)
 
 pub returns-in_ok-unless_memory-in-Err-clause-aside : goal.returns-in_ok-unless_memory-in-Err-clause-aside
 returns-in_ok-unless_memory-in-Err-clause-aside c = λ reached.
     keeps_on c.expel-in-Err.result c.args.key c.args.self.now.desk.holds.items c.cancel.new.self.holds.items c.expel-in-Err.new.self.desk.holds.items c.args.self.now.links.items c.args.self.now.links.items c.expel-in-Err.new.self.links.items
     (λ n differs. (ap (λ (d : Desk). find_number n d.holds) c.in-Err.ensures.err, refl)) (c.expel-in-Err.ensures.aside (subst (λ (d : Desk). IsReached d) (sym c.in-Err.ensures.err) reached))
+pub returns-then-not-has_nothing_out-clause-cancels : goal.returns-then-not-has_nothing_out-clause-cancels
+returns-then-not-has_nothing_out-clause-cancels c =
+    ok_more c.expel.result _ _ (λ d. cancelled_shut (going_of c.args.key c.args.self.now) (standing_in c.args.key c.expel.new.self) (shut c.expel.new.self.applications c.args.key (going_of c.args.key c.expel.new.self) d)) c.expel.ensures.over
+
+pub returns-in-Ok-clause-cancels : goal.returns-in-Ok-clause-cancels
+returns-in-Ok-clause-cancels c =
+    let stops = subst (λ (xs : List ℕ). ClientStops c.args.key c.args.self.now.desk c.cancel.new.self xs c.cancel.new.out.items) (search rules) c.in-Ok.ensures.stops in
+    ok_more c.send_stop.result _ _
+    (λ s. cancelled_going c.args.key c.in-Ok.hold.number c.args.self.now.desk c.cancel.new.self c.cancel.new.out.items c.args.self.now.links.items c.in-Ok.hold c.send_stop.new.self c.in-Ok.ensures.whose refl stops s)
+    c.send_stop.ensures.sends
+
+pub returns-in_ok-unless_memory-in-Err-clause-cancels : goal.returns-in_ok-unless_memory-in-Err-clause-cancels
+returns-in_ok-unless_memory-in-Err-clause-cancels c =
+    ok_more c.expel-in-Err.result _ _ (λ d. cancelled_shut (going_of c.args.key c.args.self.now) (standing_in c.args.key c.expel-in-Err.new.self) (shut c.expel-in-Err.new.self.applications c.args.key (going_of c.args.key c.expel-in-Err.new.self) d)) c.expel-in-Err.ensures.over
