@@ -14,7 +14,7 @@ use Rattle.tds_relay.specs.declared.desk.Hold.{Hold}
 use Rattle.tds_relay.specs.declared.desk.leaving.Left.{Left}
 use Rattle.tds_relay.specs.declared.link.Link.{Link}
 use Rattle.tds_relay.specs.declared.relay.Relay as code
-use Rattle.tds_relay.specs.Cleaning.{CleansOnce, GoesOutAtEnd, GoesOutBy, IsBatch, IsCleaning, WaitsAtEnd, OfItsHold, MayClean, IsPutBehind, CountsAtEnd, CountsHold, CountsSent, CountsSince, CountsSinceEnd, LosesWaiting, cleaned_in, rests_once}
+use Rattle.tds_relay.specs.Cleaning.{CleansOnce, GoesOutAtEnd, GoesOutBy, IsBatch, IsCleaning, WaitsAtEnd, OfItsHold, MayClean, IsPutBehind, CountsAtEnd, CountsHold, CountsSent, CountsSince, CountsSinceEnd, LosesWaiting, cleaned_in, rests_once, text_of_cleaning}
 use Rattle.tds_relay.specs.Cleaning as cleaning
 use Rattle.tds_relay.specs.Desk as desk
 use Rattle.tds_relay.specs.Desk.{Desk, find_key, find_lease, find_number, whose_by, without_lease, next}
@@ -23,7 +23,6 @@ use Rattle.tds_relay.specs.Closings.{ClosesOnly, IsWaiting, Nobody, Register, op
 use Rattle.tds_relay.specs.Lent.{HasClosed, LastBut}
 use Rattle.tds_relay.specs.Reads.{CalledAt, FillsBy, Opens as OpensLinks, Seen, bytes_on, link_at, reader_at, reader_of, seen_at, seen_of, waits_on}
 use Rattle.tds_relay.specs.Ties.{IsNumberOf, IsReached, Turns, desk_in}
-use Rattle.tds_relay.specs.Cleaning.{text_of_cleaning}
 use Rattle.tds_relay.proofs.held.Sitting.{Sits}
 use Rattle.tds_relay.proofs.spared.Held.{Seated, same_lease, seated, sits_at, sound_at}
 

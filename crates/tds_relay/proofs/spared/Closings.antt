@@ -3,9 +3,8 @@ use Rattle.std.proofs.Common.{◌≡◌, ◌⊎◌, ◌∙◌, ℕ, true, List, 
 use Rattle.std.specs.Prelude.{Result, Ok, Err, OnOk}
 use Rattle.tds_relay.specs.declared.order.Order.{Order}
 use Rattle.tds_relay.specs.declared.order.Order.TheVariants as orders
-use Rattle.tds_relay.specs.Closings.{ClosesOnly, IsDue, IsToWriteAll, KeptBeside, Nobody, OfApplication, OfConnection, Register, Settings, but_told, is_shut, is_shut_at, open_name}
+use Rattle.tds_relay.specs.Closings.{ClosesOnly, IsDue, IsToWriteAll, KeptBeside, Nobody, OfApplication, OfConnection, Register, Settings, but_told, is_shut, is_shut_at, open_name, name_with}
 use Rattle.tds_relay.specs.Hall.{Ends, end_at}
-use Rattle.tds_relay.specs.Closings.{name_with}
 use Rattle.tds_relay.specs.Ordering.{IsOrdered, StayOrdered}
 use Rattle.tds_relay.specs.Posts.{HasAll, Post, Posts, names_of, post_at}
 use Rattle.tds_relay.specs.declared.fault.Refused.{Refused}

@@ -21,8 +21,7 @@ use Rattle.tds_relay.specs.declared.desk.coming.What.TheVariants as whats
 use Rattle.tds_relay.specs.declared.link.Answer.{Answer}
 use Rattle.tds_relay.specs.declared.link.Link.{Link}
 use Rattle.tds_relay.specs.declared.link.News.{News}
-use Rattle.tds_relay.specs.Cutting.{ends_in}
-use Rattle.tds_relay.specs.Cutting.{awaited}
+use Rattle.tds_relay.specs.Cutting.{ends_in, awaited}
 use Rattle.tds_relay.specs.Desk.{owes_reset, Desk, Comes, Way, turn, whose}
 use Rattle.tds_relay.specs.Fronts.{IsWhat, end_of, ends_in as ends_of, house_with, told_by}
 use Rattle.tds_relay.specs.Hall as hall

@@ -3,11 +3,10 @@ use Rattle.tds_relay.specs.declared.link.Link.{Link}
 use Rattle.tds_relay.specs.Linking.{Linked}
 use Rattle.tds_relay.specs.Reads.{bytes_on, place_of, seen_of}
 use Rattle.tds_relay.specs.Posts.{Post, post_in}
-use Rattle.tds_relay.proofs.spared.Waits.{fills_put, no_room, none_waits, one_waits, others_wait, put_unfit, put_waits, waits_same}
+use Rattle.tds_relay.proofs.spared.Waits.{fills_put, no_room, none_waits, one_waits, others_wait, put_unfit, put_waits, waits_same, others_post}
 use Rattle.tds_relay.proofs.steps.Staying.{fills_same, stays_written}
 use Rattle.tds_relay.proofs.spared.Begun.{answers_refl, answers_written}
 use Rattle.tds_relay.proofs.indexed.Placing.{placed_written}
-use Rattle.tds_relay.proofs.spared.Waits.{others_post}
 use Rattle.tds_relay.proofs.links.append_to.Goals as goal
 
 pub returns-clause-read : goal.returns-clause-read

@@ -1,16 +1,12 @@
-use Rattle.std.proofs.Common.{ap, refl, sym, true, ◌∙◌}
+use Rattle.std.proofs.Common.{ap, refl, sym, true, ◌∙◌, length-set}
 use Rattle.tds_relay.specs.declared.link.Link.{Link}
 use Rattle.tds_relay.specs.Linking.{Linked}
 use Rattle.tds_relay.specs.Posts.{post_in}
-use Rattle.tds_relay.specs.Reads.{place_of}
+use Rattle.tds_relay.specs.Reads.{place_of, Seen, with_open, answer_on}
 use Rattle.tds_relay.proofs.spared.Waits.{waits_same}
-use Rattle.tds_relay.proofs.steps.Placed.{opened_nowhere, opened_written}
-use Rattle.tds_relay.proofs.steps.Placed.{is_nowhere}
+use Rattle.tds_relay.proofs.steps.Placed.{opened_nowhere, opened_written, is_nowhere}
 use Rattle.tds_relay.proofs.steps.Renaming.{seen_written, unseen_written}
-use Rattle.tds_relay.specs.Reads.{Seen, with_open}
 use Rattle.tds_relay.proofs.indexed.Placing.{placed_written}
-use Rattle.std.proofs.Common.{length-set}
-use Rattle.tds_relay.specs.Reads.{answer_on}
 use Rattle.tds_relay.proofs.spared.Sending.{written_as}
 use Rattle.tds_relay.proofs.links.set_open.Goals as goal
 

@@ -2,12 +2,11 @@ use Rattle.std.proofs.Common.{Some, ap, sym, ◌∙◌}
 use Rattle.tds_relay.specs.declared.link.Link.{Link}
 use Rattle.tds_relay.specs.Linking.{Linked}
 use Rattle.tds_relay.specs.Posts.{post_in}
-use Rattle.tds_relay.specs.Reads.{Seen, with_tag, place_of}
+use Rattle.tds_relay.specs.Reads.{Seen, with_tag, place_of, answer_on}
 use Rattle.tds_relay.proofs.spared.Waits.{waits_same}
 use Rattle.tds_relay.proofs.steps.Placed.{is_nowhere}
 use Rattle.tds_relay.proofs.steps.Renaming.{seen_written, unseen_written}
 use Rattle.tds_relay.proofs.indexed.Placing.{placed_written}
-use Rattle.tds_relay.specs.Reads.{answer_on}
 use Rattle.tds_relay.proofs.spared.Sending.{written_as}
 use Rattle.tds_relay.proofs.links.set_tag.Goals as goal
 

@@ -1,5 +1,5 @@
-use Rattle.std.proofs.Common.{ap, false, refl, rules, ℕ}
-use Rattle.tds_service.specs.Table.{service_in}
+use Rattle.std.proofs.Common.{ap, false, refl, rules, ℕ, ◌≡◌, ◌∙◌, Some, subst, sym}
+use Rattle.tds_service.specs.Table.{service_in, Refuses}
 use Rattle.tds_relay.specs.Ties.{desk_in}
 use Rattle.tds_relay.proofs.steps.Sent.{asks_on, behind, sends_alike}
 use Rattle.tds_service.specs.Service as calls
@@ -7,8 +7,6 @@ use Rattle.tds_relay.proofs.bytes.Walking.{keeps_stand}
 use Rattle.tds_relay.proofs.spared.Held.{deed_others, deed_same}
 use Rattle.tds_relay.specs.declared.desk.Figures.{Figures}
 use Rattle.tds_relay.proofs.steps.Made.{turns_asked}
-use Rattle.std.proofs.Common.{◌≡◌, ◌∙◌, Some, subst, sym}
-use Rattle.tds_service.specs.Table.{Refuses}
 use Rattle.tds_relay.specs.declared.desk.Hold.{Hold}
 use Rattle.tds_relay.specs.Desk.{find_key}
 use Rattle.tds_relay.proofs.desk.Desk.ask.Goals as goal

@@ -1,6 +1,5 @@
-use Rattle.std.proofs.Common.{◌∙◌, ap, inl, inr}
+use Rattle.std.proofs.Common.{◌∙◌, ap, inl, inr, Some}
 use Rattle.tds_relay.proofs.spared.Undone.{anew_not}
-use Rattle.std.proofs.Common.{Some}
 use Rattle.tds_relay.proofs.desk.Desk.begins_anew.Goals as goal
 
 pub returns-in-Some-clause-not_anew : goal.returns-in-Some-clause-not_anew

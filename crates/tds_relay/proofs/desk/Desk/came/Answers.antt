@@ -1,4 +1,4 @@
-use Rattle.std.proofs.Common.{◌≡◌, ◌∙◌, refl, sym, ap, subst, rules}
+use Rattle.std.proofs.Common.{◌≡◌, ◌∙◌, refl, sym, ap, subst, rules, false}
 use Rattle.std.specs.Prelude.{Option, Some, None, ◌≢◌}
 use Rattle.tds_wire.specs.Reading.{Reading}
 use Rattle.tds_service.specs.Line as line
@@ -8,7 +8,7 @@ use Rattle.tds_relay.specs.declared.desk.coming.What.TheVariants as whats
 use Rattle.tds_service.specs.declared.refusal.Refusal.TheVariants as refusals
 use Rattle.tds_service.specs.declared.service.Service as services
 use Rattle.tds_service.specs.Service.{Seat, lease_at}
-use Rattle.tds_relay.specs.Desk.{Comes, NotLent, whose_by}
+use Rattle.tds_relay.specs.Desk.{Comes, NotLent, whose_by, find_key}
 use Rattle.tds_relay.specs.Ties.{Turns, desk_in, part_on}
 use Rattle.tds_relay.specs.Fronts.{IsWhat}
 use Rattle.tds_relay.specs.Hall.{done_by}
@@ -17,7 +17,6 @@ use Rattle.tds_relay.proofs.steps.Made.{ok_both, came_settled, came_unknown, cam
 use Rattle.tds_relay.proofs.bytes.Heard.{came_read, lost_read, unknown_read}
 use Rattle.tds_relay.specs.Walkers.{AllRead}
 use Rattle.tds_relay.proofs.steps.Reaching.{ok_if}
-use Rattle.std.proofs.Common.{false}
 use Rattle.tds_service.specs.Service as calls
 use Rattle.tds_relay.proofs.bytes.Walking.{led_on}
 use Rattle.tds_relay.specs.Few.{SeatStays, is_left}
@@ -26,7 +25,6 @@ use Rattle.tds_relay.proofs.seats.Desks.{lost_at}
 use Rattle.tds_relay.proofs.seats.Rests.{came_on, heard_stays, kept_stays}
 use Rattle.tds_relay.proofs.spared.Aside.{came_off, held_same, kept_off, led_at, lost_held}
 use Rattle.tds_relay.proofs.spared.Cleaned.{nobodys}
-use Rattle.tds_relay.specs.Desk.{find_key}
 use Rattle.tds_relay.specs.Holding.{Held as Holds}
 use Rattle.tds_relay.proofs.desk.Desk.came.Goals as goal
 

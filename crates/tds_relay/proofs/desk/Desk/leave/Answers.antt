@@ -1,10 +1,9 @@
 use Rattle.std.proofs.Common.{refl, rules}
-use Rattle.tds_relay.proofs.spared.Aside.{left_others, none_others}
+use Rattle.tds_relay.proofs.spared.Aside.{left_others, none_others, led_at}
 use Rattle.tds_relay.specs.Desk.{find_key}
 use Rattle.tds_relay.proofs.spared.Cleaned.{ends_none, ends_some, text_is}
 use Rattle.tds_relay.specs.Ties.{desk_in}
 use Rattle.tds_relay.proofs.seats.Rests.{held_on}
-use Rattle.tds_relay.proofs.spared.Aside.{led_at}
 use Rattle.tds_relay.proofs.desk.Desk.leave.Goals as goal
 
 pub returns-in_default-clause-others : goal.returns-in_default-clause-others

@@ -1,7 +1,6 @@
-use Rattle.std.proofs.Common.{◌≡◌, rules}
+use Rattle.std.proofs.Common.{◌≡◌, rules, subst, sym, ◌∙◌}
 use Rattle.tds_packet.specs.declared.status.Reset.TheVariants.{Full, KeepTransaction}
 use Rattle.tds_packet.specs.declared.status.Reset.{Reset}
-use Rattle.std.proofs.Common.{subst, sym, ◌∙◌}
 use Rattle.tds_service.specs.Service.{seat_numbered}
 use Rattle.tds_relay.specs.Anew.{Resets}
 use Rattle.tds_relay.specs.Ties.{desk_in}

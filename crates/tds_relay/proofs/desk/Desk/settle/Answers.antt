@@ -1,11 +1,10 @@
-use Rattle.std.proofs.Common.{◌≡◌, ◌∙◌, ap, rules, ℕ}
+use Rattle.std.proofs.Common.{◌≡◌, ◌∙◌, ap, rules, ℕ, subst, sym, Bool}
 use Rattle.std.specs.Prelude.{Option, None}
 use Rattle.tds_service.specs.Table.{service_in}
 use Rattle.tds_relay.specs.declared.desk.Hold.{Hold}
 use Rattle.tds_relay.specs.Desk.{NotLent, cleaned_by, find_lease, settles, settles_of}
 use Rattle.tds_relay.specs.Ties.{desk_in}
 use Rattle.tds_relay.proofs.steps.Made.{settles_by}
-use Rattle.std.proofs.Common.{subst, sym, Bool}
 use Rattle.tds_relay.specs.Few.{SeatStays}
 use Rattle.tds_relay.proofs.seats.Counting.{stays_refl}
 use Rattle.tds_relay.proofs.seats.Rests.{if_left, made_stays}

@@ -1,13 +1,11 @@
-use Rattle.std.proofs.Common.{[]}
+use Rattle.std.proofs.Common.{[], true, refl, ap, is_some, ◌∙◌}
 use Rattle.tds_relay.proofs.bytes.Leaving.{cleaned_stand}
-use Rattle.tds_relay.proofs.bytes.Walking.{same_stand}
-use Rattle.std.proofs.Common.{true, refl, ap, is_some, ◌∙◌}
+use Rattle.tds_relay.proofs.bytes.Walking.{same_stand, led_on}
 use Rattle.tds_service.specs.declared.place.Rest.{Rest}
 use Rattle.tds_service.specs.Service as calls
 use Rattle.tds_service.specs.Service.{Service}
 use Rattle.tds_service.specs.Table.{rest_of, service_in}
 use Rattle.tds_relay.specs.Ties.{lost_by}
-use Rattle.tds_relay.proofs.bytes.Walking.{led_on}
 use Rattle.tds_relay.proofs.seats.Rests.{forgot_stays, rest_stays, then_forgot}
 use Rattle.tds_relay.proofs.spared.Aside.{called_for, forgot_for, refused_for}
 use Rattle.tds_relay.proofs.desk.coming.cleaned.Goals as goal

@@ -1,6 +1,6 @@
-use Rattle.std.proofs.Common.{true}
+use Rattle.std.proofs.Common.{true, false, ap, is_some, ◌∙◌}
 use Rattle.std.proofs.lemmas.Result.{IfOk-weaker}
-use Rattle.tds_service.specs.Table.{service_in}
+use Rattle.tds_service.specs.Table.{service_in, rest_of}
 use Rattle.tds_relay.proofs.steps.Made.{released_free}
 use Rattle.tds_relay.proofs.bytes.Calls.{stand_on}
 use Rattle.tds_relay.proofs.bytes.Leaving.{given_back_stand}
@@ -9,10 +9,8 @@ use Rattle.tds_service.specs.Service as calls
 use Rattle.tds_relay.proofs.steps.Reaching.{ok_more}
 use Rattle.tds_relay.proofs.spared.Aside.{called_for, forgot_for, refl_for, refused_for}
 use Rattle.tds_relay.proofs.spared.Cleaned.{cancelled, cancelled_cleaned}
-use Rattle.std.proofs.Common.{false, ap, is_some, ◌∙◌}
 use Rattle.tds_service.specs.declared.place.Rest.{Rest}
 use Rattle.tds_service.specs.Service.{Service}
-use Rattle.tds_service.specs.Table.{rest_of}
 use Rattle.tds_relay.specs.Ties.{lost_by}
 use Rattle.tds_relay.proofs.seats.Rests.{back_stays, forgot_stays, free_stays}
 use Rattle.tds_relay.proofs.spared.Marking.{drains_once, free_once}

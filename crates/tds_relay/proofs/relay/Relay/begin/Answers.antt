@@ -1,39 +1,32 @@
-use Rattle.std.proofs.Common.{◌≡◌, Option, Some, None, ap, false, inl, refl, rules, subst, sym}
+use Rattle.std.proofs.Common.{◌≡◌, Option, Some, None, ap, false, inl, refl, rules, subst, sym, ◌⊎◌, inr, []}
 use Rattle.tds_packet.specs.declared.status.Reset.{Reset}
 use Rattle.tds_packet.specs.declared.status.Reset.TheVariants.{Full, KeepTransaction}
 use Rattle.tds_relay.specs.Fronts.{ends_in, hall_of_ends}
-use Rattle.tds_relay.specs.Hall.{AsksFor, AsksToPart, Ends, IfAsked, IsReset, change_end, closes, end_at}
+use Rattle.tds_relay.specs.Hall.{AsksFor, AsksToPart, Ends, IfAsked, IsReset, change_end, closes, end_at, IfOpen, IsBegun}
 use Rattle.tds_relay.specs.Ties.{Application, desk_in}
 use Rattle.tds_relay.proofs.steps.Fronts.{ends_kept, moves_closes, moves_same, none_reset}
 use Rattle.tds_relay.proofs.steps.Reaching.{ok_if, ok_more}
 use Rattle.tds_relay.proofs.steps.Staying.{stays_refl, stays_same}
-use Rattle.tds_relay.specs.Bodies.{Closed, Refuses, Stays, body_of, going_of}
+use Rattle.tds_relay.specs.Bodies.{Closed, Refuses, Stays, body_of, going_of, Kept}
 use Rattle.slab.specs.Slab.{get, with_value}
 use Rattle.tds_relay.proofs.steps.Bodied.{none_closed, same_starts, shut_starts}
 use Rattle.tds_relay.proofs.steps.Going.{begun}
 use Rattle.tds_relay.proofs.steps.Underway.{waits_written, written_there}
 use Rattle.tds_relay.proofs.steps.Posting.{posts_kept}
-use Rattle.std.proofs.Common.{◌⊎◌, inr}
 use Rattle.std.specs.Prelude.{IsSome}
 use Rattle.tds_relay.specs.Closings.{IsNoRequest}
 use Rattle.tds_relay.specs.Desk.{find_key}
-use Rattle.tds_relay.specs.Reasons.{CannotBegin, CannotPart, ItselfFor}
-use Rattle.tds_relay.proofs.spared.Reasons.{for_reason, for_that, no_request}
+use Rattle.tds_relay.specs.Reasons.{CannotBegin, CannotPart, ItselfFor, CannotAsk, HasTransaction, IsReadyThere, IsUnrenewed}
+use Rattle.tds_relay.proofs.spared.Reasons.{for_reason, for_that, no_request, begun_asks}
 use Rattle.tds_relay.proofs.spared.Closings.{closes_both, closes_nobody, closes_on}
 use Rattle.tds_relay.proofs.spared.Sending.{kept_refl}
 use Rattle.tds_relay.proofs.spared.Shutting.{closes_kept, unclosed}
 use Rattle.tds_relay.proofs.spared.Speaking.{written_waited}
 use Rattle.tds_relay.proofs.spared.Resting.{others_on, others_refl, written_rest}
-use Rattle.tds_relay.proofs.spared.Reasons.{begun_asks}
 use Rattle.tds_relay.specs.Asking.{IsTakenBack}
-use Rattle.tds_relay.specs.Bodies.{Kept}
 use Rattle.tds_relay.specs.Places.{HasNoTransaction}
-use Rattle.tds_relay.specs.Reasons.{CannotAsk, HasTransaction, IsReadyThere, IsUnrenewed}
 use Rattle.tds_relay.proofs.spared.Turned.{as_refl, begun_kept, held_asks, renewed_as}
-use Rattle.std.proofs.Common.{[]}
-use Rattle.tds_relay.specs.Hall.{IfOpen, IsBegun}
-use Rattle.tds_relay.proofs.spared.Elsewhere.{aside_own, aside_refl, aside_waits}
-use Rattle.tds_relay.proofs.spared.Elsewhere.{keeps_own, keeps_waited}
+use Rattle.tds_relay.proofs.spared.Elsewhere.{aside_own, aside_refl, aside_waits, keeps_own, keeps_waited}
 use Rattle.tds_relay.proofs.relay.Relay.begin.Goals as goal
 
 pub returns-in-false-default-clause-goes : goal.returns-in-false-default-clause-goes

@@ -1,6 +1,6 @@
-use Rattle.std.proofs.Common.{◌≡◌, ◌∙◌, ap, refl, rules, sym, true, inl, inr, false}
+use Rattle.std.proofs.Common.{◌≡◌, ◌∙◌, ap, refl, rules, sym, true, inl, inr, false, arith, ◌≤◌, subst}
 use Rattle.tds_relay.specs.Fronts.{ends_in, hall_in, hall_of_ends, house_in}
-use Rattle.tds_relay.specs.Ties.{Neither, desk_in}
+use Rattle.tds_relay.specs.Ties.{Neither, desk_in, IsReached}
 use Rattle.tds_relay.proofs.steps.Fronts.{moves_does}
 use Rattle.tds_relay.proofs.steps.Reaching.{reaches_turn, reached_on}
 use Rattle.tds_relay.proofs.steps.Stepping.{no_steps, steps_moved}
@@ -16,18 +16,14 @@ use Rattle.tds_relay.proofs.spared.Closings.{closes_both, closes_more, closes_no
 use Rattle.tds_relay.proofs.seats.Linked.{seated_pushed}
 use Rattle.tds_relay.proofs.seats.Relays.{brought_none, brought_one, none_brought}
 use Rattle.tds_relay.proofs.spared.Opening.{on_last, opens_new_both, opens_none, opens_same, turn_last}
-use Rattle.std.proofs.Common.{arith, ◌≤◌}
 use Rattle.std.specs.Prelude.{IfSome, IsSome, None, Option}
-use Rattle.tds_relay.specs.Cleaning.{IsLentBy}
+use Rattle.tds_relay.specs.Cleaning.{IsLentBy, CountsOnce, cleaned_in}
 use Rattle.tds_relay.specs.Desk.{find_number}
-use Rattle.tds_relay.specs.Ties.{IsReached}
 use Rattle.tds_relay.specs.declared.desk.leaving.Left.{Left}
 use Rattle.tds_relay.proofs.spared.Brought.{brought_holds, first_served, if_some, first_waits, lent_unheld}
 use Rattle.tds_relay.proofs.spared.Freeing.{forget_none}
-use Rattle.std.proofs.Common.{subst}
 use Rattle.tds_relay.proofs.spared.Cleaned.{since_brought}
 use Rattle.tds_relay.proofs.spared.Lasting.{last_more}
-use Rattle.tds_relay.specs.Cleaning.{CountsOnce, cleaned_in}
 use Rattle.tds_relay.proofs.relay.Relay.bring.Goals as goal
 
 pub returns-in_default-clause-goes : goal.returns-in_default-clause-goes

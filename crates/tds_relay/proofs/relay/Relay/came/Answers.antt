@@ -1,14 +1,11 @@
-use Rattle.tds_relay.specs.Fronts.{house_in}
-use Rattle.tds_relay.specs.Ties.{Connection, desk_in}
+use Rattle.tds_relay.specs.Fronts.{house_in, hall_in}
+use Rattle.tds_relay.specs.Ties.{Connection, desk_in, Neither}
 use Rattle.tds_relay.proofs.steps.Stepping.{steps_on_ok}
 use Rattle.tds_relay.proofs.bytes.Streaming.{comes, streams_steps}
 use Rattle.tds_relay.proofs.steps.Faults.{refused_served}
 use Rattle.tds_relay.proofs.steps.Staying.{others_served}
-use Rattle.tds_relay.specs.Posts.{names_in}
+use Rattle.tds_relay.specs.Posts.{names_in, posts_in}
 use Rattle.tds_relay.proofs.steps.Renaming.{names_on}
-use Rattle.tds_relay.specs.Fronts.{hall_in}
-use Rattle.tds_relay.specs.Posts.{posts_in}
-use Rattle.tds_relay.specs.Ties.{Neither}
 use Rattle.tds_relay.proofs.spared.Coming.{along_on, go_along}
 use Rattle.tds_relay.proofs.spared.Ordered.{ordered_on}
 use Rattle.tds_relay.proofs.spared.Waking.{wakes_on}
@@ -20,9 +17,8 @@ use Rattle.tds_relay.proofs.spared.Closings.{closes_done_on}
 use Rattle.tds_relay.proofs.spared.Few.{few_behind, most_kept}
 use Rattle.tds_relay.proofs.spared.Only.{only_on}
 use Rattle.tds_relay.proofs.bytes.SetAnew.{comes_anew}
-use Rattle.tds_relay.proofs.spared.Opening.{goes_last, opens_new_on, opens_same}
+use Rattle.tds_relay.proofs.spared.Opening.{goes_last, opens_new_on, opens_same, grows_few, grows_on}
 use Rattle.tds_relay.proofs.spared.Off.{served_off}
-use Rattle.tds_relay.proofs.spared.Opening.{grows_few, grows_on}
 use Rattle.tds_relay.proofs.spared.Counted.{lost_served}
 use Rattle.tds_relay.proofs.relay.Relay.came.Goals as goal
 

@@ -1,4 +1,4 @@
-use Rattle.std.proofs.Common.{refl, rules}
+use Rattle.std.proofs.Common.{refl, rules, subst, sym}
 use Rattle.tds_relay.specs.Ties.{Application}
 use Rattle.tds_relay.proofs.steps.Fronts.{moves_closes, moves_lets_go}
 use Rattle.tds_relay.proofs.steps.Reaching.{ok_if, ok_more, reaches_left}
@@ -18,7 +18,6 @@ use Rattle.tds_relay.proofs.spared.Resting.{others_both, others_on}
 use Rattle.tds_relay.specs.Hall.{Ends, IfOpen, IsBegun, end_at}
 use Rattle.tds_relay.specs.Fronts.{ends_in}
 use Rattle.tds_relay.proofs.steps.Quieting.{open_lets_go}
-use Rattle.std.proofs.Common.{subst, sym}
 use Rattle.tds_relay.proofs.spared.Elsewhere.{aside_on, aside_waits}
 use Rattle.tds_relay.proofs.relay.Relay.change.Goals as goal
 

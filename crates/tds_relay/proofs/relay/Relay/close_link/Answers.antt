@@ -1,16 +1,14 @@
 use Rattle.std.proofs.Common.{List, Option, Some, subst, sym, ap, ℕ, ◌∙◌, ◌≡◌, refl}
 use Rattle.tds_relay.specs.declared.link.Link.{Link}
-use Rattle.tds_relay.specs.Reads.{Stays, waits_on}
+use Rattle.tds_relay.specs.Reads.{Stays, waits_on, post_on}
 use Rattle.tds_relay.proofs.steps.Staying.{stays_without}
-use Rattle.tds_relay.proofs.spared.Waits.{left_wait}
+use Rattle.tds_relay.proofs.spared.Waits.{left_wait, left_post}
 use Rattle.tds_relay.specs.Sending.{called_at}
 use Rattle.tds_relay.specs.Closings.{Nobody}
 use Rattle.tds_relay.proofs.spared.Ended.{closes_removed, cutting}
 use Rattle.tds_relay.proofs.spared.Begun.{answers_without}
 use Rattle.tds_relay.proofs.spared.Opening.{opens_pushed}
 use Rattle.tds_relay.specs.declared.order.Order.TheVariants as orders
-use Rattle.tds_relay.specs.Reads.{post_on}
-use Rattle.tds_relay.proofs.spared.Waits.{left_post}
 use Rattle.tds_relay.proofs.relay.Relay.close_link.Goals as goal
 
 pub returns-in_ok-push-in-Some-clause-read : goal.returns-in_ok-push-in-Some-clause-read

@@ -2,9 +2,8 @@ use Rattle.tds_relay.specs.Hall.{closes_for}
 use Rattle.tds_relay.proofs.steps.Fronts.{ends_moved, ends_kept}
 use Rattle.tds_relay.proofs.steps.Posting.{posts_kept}
 use Rattle.std.proofs.Common.{ap, refl, ℕ, ◌++◌, ◌∷◌, [], ◌∙◌, rules}
-use Rattle.tds_relay.specs.Closings.{register_in}
+use Rattle.tds_relay.specs.Closings.{register_in, Itself}
 use Rattle.tds_relay.specs.declared.order.Order.TheVariants as orders
-use Rattle.tds_relay.specs.Closings.{Itself}
 use Rattle.tds_relay.proofs.spared.Ended.{closes_ended, its_end, its_name}
 use Rattle.tds_relay.proofs.spared.Sending.{kept_refl}
 use Rattle.tds_relay.proofs.spared.Shutting.{closes_kept, unclosed, over_closes}

@@ -7,17 +7,14 @@ use Rattle.tds_relay.proofs.steps.Bodied.{forgot_on}
 use Rattle.tds_relay.specs.declared.link.Link.{Link}
 use Rattle.tds_relay.specs.Fronts.{ends_in}
 use Rattle.tds_relay.specs.Hall.{Ends, end_at}
-use Rattle.tds_relay.specs.Reasons.{CannotUnask}
-use Rattle.tds_relay.proofs.spared.Reasons.{for_that}
+use Rattle.tds_relay.specs.Reasons.{CannotUnask, IsUnheld}
+use Rattle.tds_relay.proofs.spared.Reasons.{for_that, forgotten}
 use Rattle.tds_relay.proofs.spared.Closings.{closes_first, closes_nobody}
 use Rattle.tds_relay.proofs.seats.Relays.{unwaited}
-use Rattle.std.proofs.Common.{ap, List, refl, rules, subst}
+use Rattle.std.proofs.Common.{ap, List, refl, rules, subst, ◌⊎◌}
 use Rattle.tds_relay.proofs.spared.Speaking.{reached_by}
 use Rattle.tds_relay.proofs.spared.Resting.{others_on}
-use Rattle.tds_relay.proofs.spared.Reasons.{forgotten}
-use Rattle.std.proofs.Common.{◌⊎◌}
 use Rattle.slab.specs.Slab.{get}
-use Rattle.tds_relay.specs.Reasons.{IsUnheld}
 use Rattle.tds_relay.proofs.spared.Elsewhere.{aside_on, aside_same}
 use Rattle.tds_relay.specs.Desk.{Desk}
 use Rattle.tds_relay.specs.Bodies.{body_of, going_of, standing_in}

@@ -1,4 +1,4 @@
-use Rattle.std.proofs.Common.{refl, rules}
+use Rattle.std.proofs.Common.{refl, rules, ◌≡◌}
 use Rattle.tds_relay.specs.Ties.{Application}
 use Rattle.tds_relay.proofs.steps.Fronts.{ends_kept}
 use Rattle.tds_relay.proofs.steps.Posting.{posts_kept}
@@ -9,7 +9,6 @@ use Rattle.tds_relay.proofs.spared.Sending.{kept_refl}
 use Rattle.tds_relay.proofs.spared.Shutting.{closes_kept, unclosed}
 use Rattle.tds_relay.proofs.spared.Speaking.{forgotten_rest, unwaited_rest}
 use Rattle.tds_relay.proofs.spared.Reasons.{asked_goes}
-use Rattle.std.proofs.Common.{◌≡◌}
 use Rattle.tds_relay.specs.declared.application.Asking.TheVariants as asking
 use Rattle.slab.specs.Slab.{get}
 use Rattle.tds_relay.proofs.relay.Relay.forget_request.Goals as goal

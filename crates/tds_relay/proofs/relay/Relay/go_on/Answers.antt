@@ -1,12 +1,12 @@
-use Rattle.std.proofs.Common.{ap, refl, ◌≡◌, ◌∙◌, Option, rules, subst}
+use Rattle.std.proofs.Common.{ap, refl, ◌≡◌, ◌∙◌, Option, rules, subst, sym, false}
 use Rattle.tds_relay.specs.declared.application.Asking.TheVariants as asking
 use Rattle.tds_relay.specs.Fronts.{ends_in}
-use Rattle.tds_relay.specs.Hall.{Ends, change_end, closes, end_at}
-use Rattle.tds_relay.specs.Reasons.{CannotGoOn, CannotPut, ItselfFor, room_left}
+use Rattle.tds_relay.specs.Hall.{Ends, change_end, closes, end_at, IfOpen, IsBegun}
+use Rattle.tds_relay.specs.Reasons.{CannotGoOn, CannotPut, ItselfFor, room_left, IsUnbegun}
 use Rattle.tds_relay.proofs.spared.Turned.{turned_goes}
-use Rattle.tds_relay.proofs.spared.Reasons.{for_reason, for_that, nothing_goes, put_goes, too_long}
+use Rattle.tds_relay.proofs.spared.Reasons.{for_reason, for_that, nothing_goes, put_goes, too_long, unbegun_goes}
 use Rattle.tds_relay.specs.Ties.{Application}
-use Rattle.tds_relay.proofs.steps.Fronts.{ends_kept, moves_closes}
+use Rattle.tds_relay.proofs.steps.Fronts.{ends_kept, moves_closes, moves_same}
 use Rattle.tds_relay.proofs.steps.Reaching.{ok_if, ok_more}
 use Rattle.tds_relay.specs.Bodies.{Closed, Shuts, Stays, body_of, going_of}
 use Rattle.slab.specs.Slab.{get, with_value}
@@ -20,15 +20,9 @@ use Rattle.tds_relay.proofs.spared.Sending.{kept_refl}
 use Rattle.tds_relay.proofs.spared.Shutting.{closes_kept, unclosed}
 use Rattle.tds_relay.specs.declared.application.Application.{Application as AnApplication}
 use Rattle.tds_relay.specs.Waiting.{KeepsInLine}
-use Rattle.tds_relay.proofs.spared.Lined.{fits_not, goes_waits, kept_more, no_application, nothing_waits}
+use Rattle.tds_relay.proofs.spared.Lined.{fits_not, goes_waits, kept_more, no_application, nothing_waits, begun_not}
 use Rattle.tds_relay.proofs.spared.Resting.{others_on, others_refl, written_rest}
 use Rattle.tds_relay.proofs.steps.Fed.{end_there}
-use Rattle.tds_relay.proofs.steps.Fronts.{moves_same}
-use Rattle.tds_relay.specs.Hall.{IfOpen, IsBegun}
-use Rattle.tds_relay.specs.Reasons.{IsUnbegun}
-use Rattle.tds_relay.proofs.spared.Reasons.{unbegun_goes}
-use Rattle.std.proofs.Common.{sym, false}
-use Rattle.tds_relay.proofs.spared.Lined.{begun_not}
 use Rattle.tds_relay.proofs.spared.Elsewhere.{aside_refl, keeps_own}
 use Rattle.tds_relay.proofs.relay.Relay.go_on.Goals as goal
 

@@ -1,5 +1,5 @@
 use Rattle.tds_relay.specs.Desk.{whose}
-use Rattle.std.proofs.Common.{Option, ap, length, refl, sym, ◌∙◌, rules}
+use Rattle.std.proofs.Common.{Option, ap, length, refl, sym, ◌∙◌, rules, inl, ◌≡◌, List, slice_index_or, subst, ℕ, length-set, None, Some}
 use Rattle.tds_relay.specs.declared.link.Link.{Link}
 use Rattle.tds_relay.specs.Linking.{Linked}
 use Rattle.tds_relay.specs.declared.desk.coming.Heard.{Heard}
@@ -15,21 +15,16 @@ use Rattle.tds_relay.proofs.steps.Faults.{refused_heard}
 use Rattle.tds_relay.proofs.steps.Placed.{others_written}
 use Rattle.tds_relay.proofs.steps.Staying.{others_open, opens_refl}
 use Rattle.tds_relay.proofs.steps.Reaching.{ok_if, ok_more, reached_on}
-use Rattle.std.proofs.Common.{inl}
 use Rattle.tds_relay.specs.Sending.{sending_of}
 use Rattle.tds_relay.proofs.spared.Sending.{same_written, sending_same}
 use Rattle.tds_relay.proofs.indexed.Placing.{placed_written}
-use Rattle.std.proofs.Common.{◌≡◌, List, slice_index_or, subst, ℕ}
 use Rattle.std.specs.Prelude.{IfOk}
 use Rattle.tds_relay.specs.Reasons.{Cleans}
 use Rattle.tds_relay.proofs.spared.Losing.{heard_as}
 use Rattle.tds_relay.proofs.seats.Relays.{behind_on}
 use Rattle.tds_relay.proofs.seats.Linked.{heard_there, seated_as}
-use Rattle.std.proofs.Common.{length-set}
-use Rattle.tds_relay.specs.Posts.{post_in}
 use Rattle.tds_relay.proofs.spared.Turned.{as_refl, keeps_written}
 use Rattle.tds_relay.specs.declared.desk.coming.What.TheVariants as whats
-use Rattle.std.proofs.Common.{None, Some}
 use Rattle.tds_relay.proofs.relay.Relay.hear.Goals as goal
 
 -- what comes where nothing is

@@ -1,4 +1,4 @@
-use Rattle.std.proofs.Common.{◌≡◌, ◌∙◌, [], ap, inl, length, refl, suc, sym, rules}
+use Rattle.std.proofs.Common.{◌≡◌, ◌∙◌, [], ap, inl, length, refl, suc, sym, rules, None}
 use Rattle.tds_relay.specs.Waiting.{LosesAt}
 use Rattle.tds_relay.specs.Fronts.{hall_in, house_in, told_by}
 use Rattle.tds_relay.specs.Ordering.{opens_in}
@@ -23,7 +23,6 @@ use Rattle.tds_relay.proofs.spared.Closings.{closes_refl, one_closes}
 use Rattle.tds_relay.proofs.spared.Few.{none_both, none_heard, none_refl, none_stays}
 use Rattle.tds_relay.proofs.spared.Only.{one_spares, spares_refl}
 use Rattle.tds_relay.proofs.spared.Off.{off_none, one_off}
-use Rattle.std.proofs.Common.{None}
 use Rattle.tds_relay.proofs.spared.Opening.{many_on}
 use Rattle.tds_relay.proofs.spared.Counted.{one_lost}
 use Rattle.tds_relay.proofs.relay.Relay.hear_all.Goals as goal

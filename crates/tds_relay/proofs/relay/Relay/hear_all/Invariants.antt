@@ -4,7 +4,7 @@ use Rattle.tds_relay.specs.Closings.{ClosesOnly, but_told, register_in}
 use Rattle.tds_relay.specs.Reasons.{HeardFor}
 use Rattle.tds_relay.specs.Coming.{AllAlong, StreamsAnew}
 use Rattle.tds_relay.specs.Faults.{IsRefusedOn}
-use Rattle.tds_relay.specs.Few.{NoneNew}
+use Rattle.tds_relay.specs.Few.{NoneNew, IsSeated}
 use Rattle.std.specs.Prelude.{None}
 use Rattle.tds_relay.specs.Apart.{SparesOthers}
 use Rattle.tds_relay.specs.Fronts.{hall_in, house_in}
@@ -14,7 +14,6 @@ use Rattle.tds_relay.specs.Reads.{OpensOthers, answer_at, open_at}
 use Rattle.tds_relay.specs.Ties.{Connection, Goes, IsReached, desk_in}
 use Rattle.tds_relay.specs.Waking.{Wakes}
 use Rattle.tds_relay.proofs.bytes.Turns.{InTurns}
-use Rattle.tds_relay.specs.Few.{IsSeated}
 use Rattle.tds_relay.specs.Sparing.{OffGo}
 use Rattle.tds_relay.proofs.relay.Relay.hear_all.Given as goal
 

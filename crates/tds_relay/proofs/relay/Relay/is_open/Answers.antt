@@ -1,9 +1,8 @@
-use Rattle.std.proofs.Common.{refl, ◌≡◌, ◌∙◌, None, Option, Some, ap, option_map, sym, subst}
+use Rattle.std.proofs.Common.{refl, ◌≡◌, ◌∙◌, None, Option, Some, ap, option_map, sym, subst, Bool, if◌then◌else◌}
 use Rattle.std.specs.Prelude.{IsSome, option_copied}
 use Rattle.tds_relay.specs.declared.link.Link.{Link}
 use Rattle.tds_relay.specs.Reads.{bytes_on, link_at, open_of, seen_of}
 use Rattle.tds_relay.proofs.steps.Placed.{is_shut_at}
-use Rattle.std.proofs.Common.{Bool, if◌then◌else◌}
 use Rattle.tds_relay.proofs.relay.Relay.is_open.Goals as goal
 
 pub returns-in-Some-clause-shut : goal.returns-in-Some-clause-shut

@@ -2,12 +2,11 @@ use Rattle.std.proofs.Common.{◌≡◌, ◌∙◌, None, Option, Some, ap, opti
 use Rattle.slab.specs.Slab.{get}
 use Rattle.tds_packet.specs.declared.status.Reset.{Reset}
 use Rattle.tds_service.specs.Service.{seat_numbered}
-use Rattle.tds_relay.specs.Anew.{Resets}
+use Rattle.tds_relay.specs.Anew.{Resets, ResetsFor}
 use Rattle.tds_relay.specs.Fronts.{end_of, ends_in}
 use Rattle.tds_relay.specs.Hall.{IfAsked, IsReset, end_at}
 use Rattle.tds_relay.specs.Ties.{desk_in}
 use Rattle.tds_relay.proofs.steps.Fronts.{asked_there, end_is, none_reset, reset_there}
-use Rattle.tds_relay.specs.Anew.{ResetsFor}
 use Rattle.tds_relay.proofs.spared.Undone.{asks_map}
 use Rattle.tds_relay.proofs.relay.Relay.is_reset.Goals as goal
 

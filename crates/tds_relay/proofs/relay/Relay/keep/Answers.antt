@@ -1,19 +1,16 @@
-use Rattle.std.proofs.Common.{ap, refl, subst, sym}
+use Rattle.std.proofs.Common.{ap, refl, subst, sym, ◌≡◌, ◌∙◌, Some}
 use Rattle.tds_relay.specs.Waiting.{IsUnheldOrTurnedAway}
 use Rattle.tds_relay.specs.declared.desk.Desk as code
-use Rattle.tds_relay.specs.Ties.{Connection, Reaches, desk_in}
+use Rattle.tds_relay.specs.Ties.{Connection, Reaches, desk_in, IsReached}
 use Rattle.tds_relay.proofs.steps.Fronts.{moves_closes, moves_does, moves_same}
-use Rattle.tds_relay.proofs.steps.Reaching.{ok_if, ok_more, reaches_turn}
+use Rattle.tds_relay.proofs.steps.Reaching.{ok_if, ok_more, reaches_turn, reached_on, reached_turn}
 use Rattle.tds_relay.proofs.steps.Staying.{stays_on}
 use Rattle.tds_relay.proofs.bytes.Calls.{stand_at, stand_on}
 use Rattle.tds_relay.proofs.spared.Coming.{alike_along, along_on, asks_along_on, start_along}
 use Rattle.tds_relay.proofs.spared.Ordered.{ordered_on, ordered_same}
-use Rattle.tds_relay.specs.Ties.{IsReached}
-use Rattle.tds_relay.proofs.steps.Reaching.{reached_on}
 use Rattle.tds_relay.specs.Closings.{IsWho}
 use Rattle.tds_relay.proofs.spared.Closings.{closes_first, closes_more_on}
 use Rattle.std.proofs.lemmas.Bool.{cases_eq}
-use Rattle.std.proofs.Common.{◌≡◌}
 use Rattle.slab.specs.Slab.{Slab, get}
 use Rattle.tds_relay.specs.declared.application.Application as an
 use Rattle.tds_relay.specs.Bodies.{body_in}
@@ -23,14 +20,12 @@ use Rattle.tds_relay.proofs.spared.Turned.{as_seen, renewed_held, resumes_for, s
 use Rattle.tds_relay.proofs.spared.Only.{spares_alone_on, spares_both, spares_changed, spares_none, spares_on, spares_renewed}
 use Rattle.tds_relay.specs.Fronts.{ends_in, hall_in, hall_of_ends}
 use Rattle.tds_relay.specs.Hall.{closes}
-use Rattle.std.proofs.Common.{◌∙◌, Some}
 use Rattle.tds_relay.proofs.bytes.SetAnew.{any_kept, any_refl}
 use Rattle.tds_relay.proofs.seats.Relays.{closed_end, desk_lasting, renewed_on, renewed_out, renews_keep}
 use Rattle.tds_relay.specs.declared.desk.leaving.Renewed.TheVariants as renewals
 use Rattle.tds_relay.proofs.spared.Off.{off_more, others_off_on, renewed_off}
 use Rattle.tds_relay.proofs.spared.Resting.{all_others, others_both, others_on}
 use Rattle.tds_relay.proofs.spared.Speaking.{closed_rest, done_as}
-use Rattle.tds_relay.proofs.steps.Reaching.{reached_turn}
 use Rattle.tds_relay.specs.declared.desk.leaving.Renewed.{Renewed}
 use Rattle.tds_relay.specs.Sparing.{IsKeptBy, IsRenewed}
 use Rattle.tds_relay.proofs.relay.Relay.keep.Goals as goal

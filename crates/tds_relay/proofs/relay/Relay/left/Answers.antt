@@ -1,8 +1,8 @@
-use Rattle.std.proofs.Common.{◌∙◌, ap, refl, slice_set, None, Option}
+use Rattle.std.proofs.Common.{◌∙◌, ap, refl, slice_set, None, Option, Some, ◌≡◌, ℕ}
 use Rattle.tds_relay.specs.Fronts.{ends_in, house_in}
-use Rattle.tds_relay.specs.Posts.{posts_in}
+use Rattle.tds_relay.specs.Posts.{posts_in, names_in, names_of}
 use Rattle.tds_relay.specs.Ties.{Application, desk_in}
-use Rattle.tds_relay.specs.Hall.{change_end, lets_go}
+use Rattle.tds_relay.specs.Hall.{change_end, lets_go, holder}
 use Rattle.tds_relay.proofs.spared.Apart.{lends_from}
 use Rattle.tds_relay.proofs.steps.Fronts.{ends_quit, gone_stays}
 use Rattle.tds_relay.proofs.steps.Posting.{quits_is}
@@ -15,7 +15,6 @@ use Rattle.tds_relay.proofs.spared.Resting.{go_on}
 use Rattle.tds_relay.specs.Bodies.{body_in}
 use Rattle.tds_relay.specs.declared.application.Application.{Application as AnApplication}
 use Rattle.tds_relay.proofs.steps.Renaming.{names_left, names_on}
-use Rattle.tds_relay.specs.Posts.{names_in, names_of}
 use Rattle.tds_relay.proofs.spared.Ordered.{ordered_on}
 use Rattle.tds_relay.proofs.spared.Lines.{waited_left}
 use Rattle.tds_relay.specs.Closings.{IsWaiting, Nobody, register_in, without_key}
@@ -24,18 +23,13 @@ use Rattle.tds_relay.proofs.spared.Sending.{kept_refl}
 use Rattle.tds_relay.proofs.spared.Shutting.{closes_kept, unclosed}
 use Rattle.tds_relay.proofs.spared.Freeing.{left_served}
 use Rattle.tds_relay.proofs.spared.Few.{few_behind, most_kept, none_stays}
-use Rattle.tds_relay.proofs.spared.Lasting.{besides_on}
-use Rattle.std.proofs.Common.{Some, ◌≡◌, ℕ}
+use Rattle.tds_relay.proofs.spared.Lasting.{besides_on, last_more_on}
 use Rattle.tds_relay.specs.Places.{held_by}
-use Rattle.tds_relay.proofs.spared.Cleaned.{counts_on}
+use Rattle.tds_relay.proofs.spared.Cleaned.{counts_on, since_served_on}
 use Rattle.tds_relay.specs.Cleaning.{cleaned_in}
 use Rattle.tds_relay.specs.Desk.{find_key}
-use Rattle.tds_relay.proofs.spared.Opening.{left_last, opens_new_on, opens_same}
+use Rattle.tds_relay.proofs.spared.Opening.{left_last, opens_new_on, opens_same, grows_on, grows_stays}
 use Rattle.tds_relay.proofs.spared.Filling.{first_own, puts_on}
-use Rattle.tds_relay.specs.Hall.{holder}
-use Rattle.tds_relay.proofs.spared.Opening.{grows_on, grows_stays}
-use Rattle.tds_relay.proofs.spared.Cleaned.{since_served_on}
-use Rattle.tds_relay.proofs.spared.Lasting.{last_more_on}
 use Rattle.tds_relay.proofs.relay.Relay.left.Goals as goal
 
 pub returns-clause-left : goal.returns-clause-left

@@ -1,10 +1,10 @@
-use Rattle.std.proofs.Common.{List, inl, refl, ap, subst, sym, rules}
+use Rattle.std.proofs.Common.{List, inl, refl, ap, subst, sym, rules, false, true, ◌≡◌, ◌++◌, ◌∙◌, append-nil, Bool}
 use Rattle.tds_relay.specs.Waiting.{IsUnheldOrTurnedAway}
 use Rattle.tds_relay.specs.declared.link.Link.{Link}
 use Rattle.tds_relay.specs.Lent.{IsMadeOn}
 use Rattle.tds_relay.specs.Ties.{desk_in, IsReached}
 use Rattle.tds_relay.proofs.steps.Fronts.{moves_same}
-use Rattle.tds_relay.proofs.steps.Reaching.{ok_more}
+use Rattle.tds_relay.proofs.steps.Reaching.{ok_more, ok_if}
 use Rattle.tds_relay.proofs.steps.Staying.{opens_by_push, opens_on}
 use Rattle.tds_relay.proofs.bytes.Calls.{stand_from}
 use Rattle.tds_relay.specs.declared.desk.Desk as code
@@ -22,13 +22,9 @@ use Rattle.tds_relay.proofs.spared.Few.{few_again, few_pushed, none_stays}
 use Rattle.tds_relay.proofs.spared.Lasting.{last_first_on, last_pushed}
 use Rattle.tds_relay.proofs.seats.Relays.{if_had, lasting_seated}
 use Rattle.tds_relay.proofs.seats.Linked.{seated_pushed}
-use Rattle.std.proofs.Common.{false, true, ◌≡◌}
-use Rattle.tds_relay.proofs.spared.Opening.{opens_one}
+use Rattle.tds_relay.proofs.spared.Opening.{opens_one, grows_behind, grows_stays}
 use Rattle.tds_relay.specs.Ordering.{opens_if, opens_in}
-use Rattle.tds_relay.proofs.steps.Reaching.{ok_if}
-use Rattle.std.proofs.Common.{◌++◌, ◌∙◌, append-nil, Bool}
 use Rattle.tds_relay.proofs.spared.Filling.{own_put, own_behind, own_first, own_pushed}
-use Rattle.tds_relay.proofs.spared.Opening.{grows_behind, grows_stays}
 use Rattle.tds_relay.proofs.spared.Growing.{pushed_more}
 use Rattle.tds_relay.proofs.spared.Elsewhere.{begun_own}
 use Rattle.tds_relay.proofs.relay.Relay.lend.Goals as goal

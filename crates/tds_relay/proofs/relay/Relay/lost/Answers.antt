@@ -8,19 +8,16 @@ use Rattle.tds_relay.proofs.spared.Resting.{go_on, reached_on_does, rest_go}
 use Rattle.tds_relay.proofs.steps.Reaching.{ok_more}
 use Rattle.tds_relay.proofs.steps.Renaming.{names_on}
 use Rattle.tds_relay.specs.Posts.{names_in, names_of}
-use Rattle.std.proofs.Common.{ap, ◌∙◌, inl, inr, sym}
+use Rattle.std.proofs.Common.{ap, ◌∙◌, inl, inr, sym, ◌≡◌, ℕ}
 use Rattle.tds_relay.proofs.spared.Ordered.{ordered_on}
-use Rattle.tds_relay.specs.Closings.{IsWaiting, IsWho, WhoOrWaiting}
+use Rattle.tds_relay.specs.Closings.{IsWaiting, IsWho, WhoOrWaiting, register_in}
 use Rattle.tds_relay.specs.Hall.{holder, is_in}
 use Rattle.tds_relay.proofs.spared.Closings.{closes_more, closes_with}
 use Rattle.tds_relay.proofs.spared.Few.{few_behind, most_kept, none_stays}
 use Rattle.tds_relay.proofs.seats.Desks.{off_of}
 use Rattle.tds_relay.proofs.spared.Lasting.{besides_on, but_others}
-use Rattle.tds_relay.specs.Closings.{register_in}
-use Rattle.std.proofs.Common.{◌≡◌, ℕ}
-use Rattle.tds_relay.proofs.spared.Opening.{on_last, opens_new_on, opens_same}
+use Rattle.tds_relay.proofs.spared.Opening.{on_last, opens_new_on, opens_same, grows_on, grows_stays}
 use Rattle.tds_relay.proofs.spared.Filling.{carried, first_lost, puts_on}
-use Rattle.tds_relay.proofs.spared.Opening.{grows_on, grows_stays}
 use Rattle.tds_relay.proofs.relay.Relay.lost.Goals as goal
 
 pub returns-clause-steps : goal.returns-clause-steps

@@ -12,7 +12,7 @@ use Rattle.tds_relay.proofs.steps.Reaching.{ok_more, ok_if}
 use Rattle.tds_relay.proofs.steps.Staying.{stays_refl, stays_same}
 use Rattle.tds_relay.specs.Asking.{IfAsks, IsUnderway}
 use Rattle.tds_relay.proofs.bytes.Calls.{stand_at}
-use Rattle.tds_relay.specs.Bodies.{Grows, Nowhere, Obeys, Stays, body_of, going_of}
+use Rattle.tds_relay.specs.Bodies.{Grows, Nowhere, Obeys, Stays, body_of, going_of, CancelsSaid, standing_in}
 use Rattle.tds_relay.proofs.steps.Bodied.{forgot_on}
 use Rattle.tds_relay.proofs.spared.Closings.{closes_more, closes_on, closes_refl}
 use Rattle.tds_relay.proofs.spared.Reasons.{for_that}
@@ -23,7 +23,6 @@ use Rattle.tds_relay.proofs.seats.Relays.{kept_end}
 use Rattle.tds_relay.proofs.steps.Quieting.{Drops, Opens, begun_fed, quiet_fed}
 use Rattle.tds_relay.proofs.spared.Resting.{others_all, others_refl, same_on}
 use Rattle.tds_relay.proofs.spared.Elsewhere.{aside_linked, aside_refl}
-use Rattle.tds_relay.specs.Bodies.{CancelsSaid, standing_in}
 use Rattle.tds_relay.proofs.steps.Halting.{cancelled_told}
 use Rattle.tds_relay.proofs.relay.Relay.obey.Goals as goal
 

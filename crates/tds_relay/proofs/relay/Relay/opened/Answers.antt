@@ -1,6 +1,6 @@
-use Rattle.std.proofs.Common.{◌∙◌, ap, subst, sym, inl, inr}
+use Rattle.std.proofs.Common.{◌∙◌, ap, subst, sym, inl, inr, ◌≤◌, ◌≡◌, length, arith}
 use Rattle.tds_relay.specs.Fronts.{hall_in, house_in}
-use Rattle.tds_relay.specs.Ties.{desk_in, IsReached}
+use Rattle.tds_relay.specs.Ties.{desk_in, IsReached, Reaches}
 use Rattle.tds_relay.proofs.steps.Stepping.{no_steps, steps_moved, steps_same, steps_whoever}
 use Rattle.tds_relay.proofs.steps.Staying.{opens_one_served, stays_behind}
 use Rattle.tds_relay.proofs.bytes.Calls.{stand_back, stand_on}
@@ -18,17 +18,13 @@ use Rattle.tds_relay.proofs.spared.Closings.{closes_both, closes_more, closes_no
 use Rattle.tds_relay.proofs.spared.Few.{few_behind, most_kept, none_both, none_same, none_stays}
 use Rattle.tds_relay.proofs.seats.Relays.{kept_seated, kept_there}
 use Rattle.tds_relay.proofs.seats.Linked.{all_there}
-use Rattle.tds_relay.specs.Ties.{Reaches}
 use Rattle.tds_relay.proofs.steps.Reaching.{ok_more}
 use Rattle.tds_relay.proofs.spared.Lasting.{last_all, last_from, last_links, last_same, last_then}
-use Rattle.tds_relay.proofs.spared.Opening.{on_last, opens_new_on, opens_same}
+use Rattle.tds_relay.proofs.spared.Opening.{on_last, opens_new_on, opens_same, grows_both, grows_few, grows_on, grows_stays}
 use Rattle.tds_relay.specs.Ordering.{opens_in}
-use Rattle.std.proofs.Common.{◌≤◌}
 use Rattle.tds_relay.proofs.spared.Apart.{lends_after}
 use Rattle.tds_relay.proofs.spared.Filling.{carried_same, first_then, puts_on}
 use Rattle.tds_relay.specs.Lent.{IsWithHolder}
-use Rattle.tds_relay.proofs.spared.Opening.{grows_both, grows_few, grows_on, grows_stays}
-use Rattle.std.proofs.Common.{◌≡◌, ◌≤◌, length, arith}
 use Rattle.tds_relay.specs.declared.link.Link.{Link}
 use Rattle.tds_relay.specs.Waiting.{OpensFor}
 use Rattle.tds_relay.specs.Reasons.{IsTurnedAwayAt}

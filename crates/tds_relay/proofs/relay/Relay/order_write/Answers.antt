@@ -1,5 +1,5 @@
 use Rattle.std.proofs.Common.{ap, inl, inr, refl, rules, subst, sym}
-use Rattle.tds_relay.specs.Hall.{Ends, end_at}
+use Rattle.tds_relay.specs.Hall.{Ends, end_at, closes}
 use Rattle.tds_relay.specs.Taking.{IsDeaf}
 use Rattle.tds_relay.specs.Ties.{desk_in}
 use Rattle.tds_relay.specs.declared.order.Order.TheVariants as orders
@@ -15,7 +15,6 @@ use Rattle.tds_relay.proofs.spared.Shutting.{closes_kept, write_closes}
 use Rattle.tds_relay.proofs.spared.Apart.{alone_changed, alone_refl}
 use Rattle.tds_relay.specs.Desk.{Desk}
 use Rattle.tds_relay.specs.Fronts.{hall_in}
-use Rattle.tds_relay.specs.Hall.{closes}
 use Rattle.tds_relay.proofs.spared.Opening.{opens_pushed}
 use Rattle.tds_relay.proofs.relay.Relay.order_write.Goals as goal
 

@@ -1,5 +1,5 @@
-use Rattle.std.proofs.Common.{◌≡◌, ◌∙◌, rules, sym, true}
-use Rattle.tds_relay.specs.Closings.{IsWaiting}
+use Rattle.std.proofs.Common.{◌≡◌, ◌∙◌, rules, sym, true, Some, ℕ, inl, subst}
+use Rattle.tds_relay.specs.Closings.{IsWaiting, Nobody, register_in}
 use Rattle.tds_relay.specs.Fronts.{ends_in, hall_in, house_in}
 use Rattle.tds_relay.specs.Parking.{may_park_in}
 use Rattle.tds_relay.specs.Posts.{posts_in}
@@ -16,18 +16,14 @@ use Rattle.tds_relay.proofs.steps.Staying.{opens_both, stays_opens}
 use Rattle.tds_relay.proofs.steps.Stepping.{no_steps, steps_moved, steps_moves}
 use Rattle.tds_relay.proofs.visits.Parking.{parked_away}
 use Rattle.tds_relay.proofs.spared.Lasting.{besides, but_refl, last_more}
-use Rattle.std.proofs.Common.{Some, ℕ, inl}
 use Rattle.tds_relay.specs.Places.{held_by}
-use Rattle.tds_relay.specs.Closings.{Nobody, register_in}
 use Rattle.tds_relay.specs.Cleaning.{CountsHold, cleaned_in}
 use Rattle.tds_relay.specs.Desk.{find_key}
-use Rattle.std.proofs.Common.{subst}
-use Rattle.tds_relay.proofs.spared.Opening.{left_last, opens_new_both, opens_none, opens_same}
+use Rattle.tds_relay.proofs.spared.Opening.{left_last, opens_new_both, opens_none, opens_same, grows_both, grows_refl, grows_stays}
 use Rattle.tds_relay.proofs.spared.Apart.{lends_at}
 use Rattle.tds_relay.proofs.spared.Filling.{first_own, puts_line, puts_nothing}
 use Rattle.tds_relay.specs.Hall.{holder}
 use Rattle.tds_relay.proofs.spared.Freeing.{served_since}
-use Rattle.tds_relay.proofs.spared.Opening.{grows_both, grows_refl, grows_stays}
 use Rattle.tds_relay.proofs.spared.Cleaned.{since_served}
 use Rattle.tds_relay.proofs.relay.Relay.park.Goals as goal
 

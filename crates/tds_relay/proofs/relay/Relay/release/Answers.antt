@@ -1,4 +1,4 @@
-use Rattle.std.proofs.Common.{◌∙◌, ap, refl, rules, subst, sym, None}
+use Rattle.std.proofs.Common.{◌∙◌, ap, refl, rules, subst, sym, None, inl, inr, ℕ}
 use Rattle.tds_relay.specs.Ties.{desk_in, Reaches}
 use Rattle.tds_relay.proofs.steps.Fronts.{ends_more, lets_go_first, moved_same, moves_same}
 use Rattle.tds_relay.proofs.steps.Reaching.{ok_more, ok_if, reaches_turned}
@@ -10,16 +10,13 @@ use Rattle.tds_relay.specs.declared.desk.Desk as code
 use Rattle.tds_relay.proofs.spared.Ordered.{ordered_on, ordered_same}
 use Rattle.tds_relay.specs.Closings.{IsWho, Nobody}
 use Rattle.tds_relay.proofs.spared.Closings.{closes_on, closes_with}
-use Rattle.tds_relay.proofs.spared.Cleaned.{left_by, nobody_left, shut_by, waits_none}
+use Rattle.tds_relay.proofs.spared.Cleaned.{left_by, nobody_left, shut_by, waits_none, counted_by, counts_none, counts_on, counts_some, failed_is, nobody_counted, shut_counted}
 use Rattle.tds_relay.proofs.spared.Apart.{line_leaves}
 use Rattle.tds_relay.proofs.seats.Relays.{closed_end, left_gone, left_none, left_there}
 use Rattle.tds_relay.proofs.spared.Lasting.{but_same, held_but, held_number}
 use Rattle.tds_relay.specs.Places.{held_by}
-use Rattle.tds_relay.proofs.spared.Cleaned.{counted_by, counts_none, counts_on, counts_some, failed_is, nobody_counted, shut_counted}
 use Rattle.tds_relay.specs.Cleaning.{CountsOnce, cleaned_in}
 use Rattle.tds_relay.proofs.spared.Freeing.{left_frees, left_keeps, nobody_frees, nobody_keeps}
-use Rattle.std.proofs.Common.{inl}
-use Rattle.std.proofs.Common.{inr, ℕ}
 use Rattle.tds_relay.proofs.relay.Relay.release.Goals as goal
 
 pub returns-in_default-clause-lets_go : goal.returns-in_default-clause-lets_go

@@ -1,8 +1,8 @@
-use Rattle.std.proofs.Common.{ap, inl, inr, refl, rules, subst, sym, ◌≡◌, ◌∙◌, Some}
+use Rattle.std.proofs.Common.{ap, inl, inr, refl, rules, subst, sym, ◌≡◌, ◌∙◌, Some, ℕ, List}
 use Rattle.tds_relay.specs.Waiting.{IsUnheldOrTurnedAway}
 use Rattle.tds_relay.specs.declared.desk.Desk as code
 use Rattle.tds_relay.proofs.steps.Fronts.{moves_closes, moves_does, moves_same}
-use Rattle.tds_relay.proofs.steps.Reaching.{ok_if, ok_more, reaches_turn}
+use Rattle.tds_relay.proofs.steps.Reaching.{ok_if, ok_more, reaches_turn, reached_turn}
 use Rattle.tds_relay.proofs.steps.Staying.{stays_on}
 use Rattle.tds_relay.proofs.bytes.Calls.{stand_at, stand_on}
 use Rattle.tds_relay.specs.Asking.{Closes}
@@ -12,7 +12,7 @@ use Rattle.tds_relay.specs.declared.application.Application as an
 use Rattle.tds_relay.proofs.steps.Bodied.{closed_body, closed_starts, shut_starts}
 use Rattle.tds_relay.proofs.steps.Going.{waits_from}
 use Rattle.tds_relay.specs.Closings.{IsWho}
-use Rattle.tds_relay.specs.Desk.{Desk}
+use Rattle.tds_relay.specs.Desk.{Desk, find_number, key_of}
 use Rattle.tds_relay.specs.Fronts.{ends_in}
 use Rattle.tds_relay.specs.Reasons.{HasTransaction, Unkept, Unserved}
 use Rattle.tds_relay.proofs.spared.Turned.{as_seen, part_at, renewed_held, turned_with}
@@ -21,21 +21,15 @@ use Rattle.tds_relay.proofs.spared.Reasons.{for_reason, for_that}
 use Rattle.tds_relay.proofs.seats.Relays.{closed_end, desk_lasting, renewed_on, renewed_out, renews_keep}
 use Rattle.tds_relay.specs.declared.desk.leaving.Renewed.TheVariants as renewals
 use Rattle.tds_relay.specs.Ties.{Application, IsReached, Reaches, desk_in}
-use Rattle.tds_relay.proofs.spared.Speaking.{done_as}
+use Rattle.tds_relay.proofs.spared.Speaking.{done_as, closed_rest}
 use Rattle.tds_relay.proofs.spared.Resting.{all_others, others_both, others_on}
-use Rattle.tds_relay.proofs.steps.Reaching.{reached_turn}
-use Rattle.tds_relay.proofs.spared.Speaking.{closed_rest}
 use Rattle.tds_relay.specs.declared.desk.leaving.Renewed.{Renewed}
-use Rattle.tds_relay.specs.Sparing.{IsKeptBy, IsRenewed}
-use Rattle.tds_relay.specs.Sparing.{IsLostBy, IsRenewed}
-use Rattle.tds_relay.proofs.spared.Elsewhere.{begun_aside, begun_own, aside_own, keeps_both, keeps_on, renew_keeps}
+use Rattle.tds_relay.specs.Sparing.{IsKeptBy, IsRenewed, IsLostBy}
+use Rattle.tds_relay.proofs.spared.Elsewhere.{begun_aside, begun_own, aside_own, keeps_both, keeps_on, renew_keeps, closed_aside}
 use Rattle.tds_relay.proofs.spared.Filling.{carried, last_found}
 use Rattle.tds_relay.proofs.held.Numbers.{Apart, apart_at, its_holder}
-use Rattle.tds_relay.specs.Desk.{find_number, key_of}
-use Rattle.tds_relay.proofs.spared.Elsewhere.{closed_aside}
 use Rattle.tds_relay.specs.Lent.{OthersKeep}
 use Rattle.tds_relay.specs.declared.desk.Hold.{Hold}
-use Rattle.std.proofs.Common.{ℕ, List}
 use Rattle.tds_relay.proofs.relay.Relay.renew.Goals as goal
 
 pub returns-in-Kept-clause-goes : goal.returns-in-Kept-clause-goes

@@ -1,4 +1,4 @@
-use Rattle.std.proofs.Common.{◌∙◌, ℕ, List, ap, refl, rules, subst, sym}
+use Rattle.std.proofs.Common.{◌∙◌, ℕ, List, ap, refl, rules, subst, sym, None, Some}
 use Rattle.tds_relay.specs.declared.desk.Desk as code
 use Rattle.tds_relay.specs.declared.link.Link.{Link}
 use Rattle.tds_relay.specs.Reads.{Stays}
@@ -16,17 +16,14 @@ use Rattle.tds_relay.specs.Waiting.{StandsInLine}
 use Rattle.tds_relay.specs.Waiting as waiting
 use Rattle.tds_relay.proofs.spared.Cleaned.{not_both}
 use Rattle.tds_relay.proofs.spared.Lined.{lost_deaf, same_key}
-use Rattle.std.proofs.Common.{None, Some}
 use Rattle.tds_relay.proofs.spared.Only.{spares_both, spares_holder, spares_left, spares_lost_on, spares_none, spares_parted}
-use Rattle.tds_relay.specs.Fronts.{hall_in}
-use Rattle.tds_relay.specs.Hall.{lets_go}
+use Rattle.tds_relay.specs.Fronts.{hall_in, ends_in}
+use Rattle.tds_relay.specs.Hall.{lets_go, Ends, IfOpen, IsBegun, end_at, holder}
 use Rattle.tds_relay.proofs.bytes.SetAnew.{any_keeps, any_kept, any_refl}
 use Rattle.tds_relay.specs.Lent.{KeepsAnswers}
 use Rattle.tds_relay.specs.Coming.{MayBeginAny}
 use Rattle.tds_relay.proofs.seats.Relays.{closed_end, closed_seated, desk_but}
 use Rattle.tds_relay.proofs.seats.Desks.{lost_seated, off_of}
-use Rattle.tds_relay.specs.Hall.{Ends, IfOpen, IsBegun, end_at, holder}
-use Rattle.tds_relay.specs.Fronts.{ends_in}
 use Rattle.tds_relay.proofs.steps.Quieting.{open_lets_go, whose_is}
 use Rattle.tds_relay.proofs.spared.Off.{all_off, asks_more, lost_off, parted_off, waits_off}
 use Rattle.tds_relay.proofs.relay.Relay.replace.Goals as goal

@@ -5,7 +5,7 @@ use Rattle.tds_relay.proofs.steps.Stepping.{steps_on_ok}
 use Rattle.tds_relay.proofs.steps.Told.{tells_ok, tells_steps}
 use Rattle.tds_relay.proofs.steps.Asked.{asks_ok}
 use Rattle.tds_relay.proofs.bytes.Calls.{stand_on}
-use Rattle.tds_relay.specs.Bodies.{body_of}
+use Rattle.tds_relay.specs.Bodies.{body_of, standing_in, standing_open}
 use Rattle.tds_relay.proofs.steps.Carried.{carries_ok}
 use Rattle.tds_relay.proofs.steps.Reaching.{ok_more, reached_on}
 use Rattle.tds_relay.specs.Posts.{names_in}
@@ -15,11 +15,9 @@ use Rattle.std.proofs.Common.{inl}
 use Rattle.tds_relay.proofs.spared.Closings.{closes_more, closes_with}
 use Rattle.tds_relay.proofs.spared.Reasons.{lent_behind}
 use Rattle.tds_relay.proofs.spared.Few.{few_behind, most_kept, none_stays}
-use Rattle.tds_relay.proofs.spared.Opening.{goes_last, opens_new_on, opens_same}
+use Rattle.tds_relay.proofs.spared.Opening.{goes_last, opens_new_on, opens_same, grows_on, grows_stays}
 use Rattle.tds_relay.proofs.spared.Speaking.{others_served}
-use Rattle.tds_relay.proofs.spared.Opening.{grows_on, grows_stays}
 use Rattle.tds_relay.proofs.spared.Elsewhere.{said_puts}
-use Rattle.tds_relay.specs.Bodies.{standing_in, standing_open}
 use Rattle.tds_relay.proofs.steps.Heeding.{cancels_ok, goes_served}
 use Rattle.tds_relay.proofs.relay.Relay.said.Goals as goal
 

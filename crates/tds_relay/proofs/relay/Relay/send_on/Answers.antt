@@ -1,5 +1,4 @@
-use Rattle.std.proofs.Common.{false}
-use Rattle.std.proofs.Common.{ap, inl, rules, subst, sym, ◌∙◌}
+use Rattle.std.proofs.Common.{false, ap, inl, rules, subst, sym, ◌∙◌}
 use Rattle.tds_relay.specs.Ties.{desk_in, IsReached}
 use Rattle.tds_relay.proofs.steps.Fronts.{moves_same}
 use Rattle.tds_relay.proofs.steps.Reaching.{ok_more}

@@ -1,8 +1,8 @@
-use Rattle.std.proofs.Common.{ap, inl, rules, subst, sym, ◌∙◌, ◌≡◌, None, Option, Some, ℕ}
+use Rattle.std.proofs.Common.{ap, inl, rules, subst, sym, ◌∙◌, ◌≡◌, None, Option, Some, ℕ, inr, refl}
 use Rattle.tds_relay.specs.Ties.{desk_in, IsReached}
 use Rattle.tds_relay.proofs.steps.Fronts.{ends_more, moves_same}
 use Rattle.tds_relay.proofs.steps.Reaching.{ok_if, ok_more}
-use Rattle.tds_relay.proofs.steps.Staying.{stays_on}
+use Rattle.tds_relay.proofs.steps.Staying.{stays_on, filled_by, gone_filled}
 use Rattle.tds_relay.proofs.bytes.Calls.{stand_from}
 use Rattle.tds_relay.proofs.spared.Letting.{sent_all}
 use Rattle.tds_relay.specs.declared.desk.Desk as code
@@ -10,18 +10,12 @@ use Rattle.tds_relay.proofs.spared.Ordered.{ordered_on}
 use Rattle.tds_relay.specs.Closings.{IsWho, Nobody}
 use Rattle.tds_relay.specs.Hall.{change_whose, closes, holder}
 use Rattle.tds_relay.proofs.spared.Closings.{closes_with}
-use Rattle.tds_relay.specs.Desk.{find_number, key_of}
+use Rattle.tds_relay.specs.Desk.{find_number, key_of, without_number}
 use Rattle.tds_relay.specs.Fronts.{ends_in}
-use Rattle.tds_relay.proofs.spared.Cleaned.{not_both}
-use Rattle.tds_relay.proofs.steps.Staying.{filled_by, gone_filled}
+use Rattle.tds_relay.proofs.spared.Cleaned.{not_both, failed_is, more_is, sent_gone, sent_there, waits_none}
 use Rattle.tds_relay.proofs.seats.Relays.{lasting_seated}
 use Rattle.tds_relay.proofs.seats.Desks.{off_of}
-use Rattle.tds_relay.specs.Desk.{without_number}
-use Rattle.std.proofs.Common.{inr}
 use Rattle.tds_relay.proofs.spared.Begun.{answers_on}
-use Rattle.std.proofs.Common.{refl}
-use Rattle.std.proofs.Common.{inl}
-use Rattle.tds_relay.proofs.spared.Cleaned.{failed_is, more_is, sent_gone, sent_there, waits_none}
 use Rattle.tds_relay.specs.Cleaning.{cleaned_in}
 use Rattle.tds_relay.specs.Reads.{waits_on}
 use Rattle.tds_relay.proofs.relay.Relay.send_unheld.Goals as goal

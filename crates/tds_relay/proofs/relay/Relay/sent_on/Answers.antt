@@ -1,11 +1,10 @@
 use Rattle.std.proofs.Common.{◌≡◌, ◌∙◌, ℕ, Bool, true, false, Option, Some, None, ap, rules, sym, if◌then◌else◌}
-use Rattle.std.specs.Prelude.{option_and_then}
+use Rattle.std.specs.Prelude.{option_and_then, drop}
 use Rattle.slab.specs.Slab.{get}
 use Rattle.tds_relay.specs.Places.{holder}
 use Rattle.tds_relay.specs.Ties.{desk_in}
 use Rattle.tds_relay.specs.Told.{holder_name, name_of}
 use Rattle.tds_relay.proofs.seats.Linked.{changed_there, seated_as}
-use Rattle.std.specs.Prelude.{drop}
 use Rattle.tds_relay.proofs.relay.Relay.sent_on.Goals as goal
 
 pub returns-then-not-forget_sent-clause-whose : goal.returns-then-not-forget_sent-clause-whose

@@ -1,4 +1,4 @@
-use Rattle.std.proofs.Common.{◌≡◌, ℕ, suc, length, ap, arith, refl, ◌∙◌, inl, inr, rules}
+use Rattle.std.proofs.Common.{◌≡◌, ℕ, suc, length, ap, arith, refl, ◌∙◌, inl, inr, rules, subst}
 use Rattle.std.proofs.Math.Nat.{zero-add}
 use Rattle.tds_relay.proofs.spared.Apart.{lends_nobody, lends_none, lends_on, served_shorter, unserved_on, unserved_refl}
 use Rattle.tds_relay.proofs.spared.Ordered.{ordered_both, ordered_refl}
@@ -10,13 +10,11 @@ use Rattle.tds_relay.specs.Closings.{IsWaiting, Itself, register_in}
 use Rattle.tds_relay.specs.Reasons.{IsLentInVain}
 use Rattle.tds_relay.proofs.spared.Turned.{lent_in_vain}
 use Rattle.tds_relay.specs.Fronts.{hall_in}
-use Rattle.tds_relay.specs.Ties.{desk_in}
+use Rattle.tds_relay.specs.Ties.{desk_in, Serving}
 use Rattle.tds_relay.proofs.spared.Lines.{served_waited}
 use Rattle.tds_relay.proofs.spared.Closings.{closes_both, closes_more, closes_refl}
 use Rattle.tds_relay.proofs.spared.Lasting.{last_both, last_more, last_start}
 use Rattle.tds_relay.proofs.spared.Few.{few_lent, most_kept, none_refl}
-use Rattle.std.proofs.Common.{subst}
-use Rattle.tds_relay.specs.Ties.{Serving}
 use Rattle.tds_relay.proofs.seats.Desks.{unserved}
 use Rattle.tds_relay.proofs.seats.Relays.{lent_if}
 use Rattle.tds_relay.proofs.spared.Opening.{grows_both, grows_refl, lent_opens, on_last, opens_new_both, opens_none, opens_same, turn_last}

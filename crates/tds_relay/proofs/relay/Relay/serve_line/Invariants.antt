@@ -1,19 +1,17 @@
 use Rattle.std.proofs.Common.{◌≡◌, ◌+◌, length}
-use Rattle.tds_relay.specs.Few.{Few}
+use Rattle.tds_relay.specs.Few.{Few, IsSeated}
 use Rattle.tds_relay.specs.Apart.{LendsInTurn}
 use Rattle.tds_relay.specs.Fronts.{MovedOn, ends_in, hall_in}
-use Rattle.tds_relay.specs.Lent.{LastBut}
+use Rattle.tds_relay.specs.Lent.{LastBut, LendsInLine}
 use Rattle.tds_relay.specs.Ordering.{GrowsByOrders, OpensNew, StayOrdered}
 use Rattle.tds_relay.specs.Posts.{posts_in}
 use Rattle.tds_relay.specs.Reads.{Opens}
 use Rattle.tds_relay.specs.Sparing.{AllGo}
 use Rattle.tds_relay.specs.Ties.{GoesOn, IsReached, desk_in}
-use Rattle.tds_relay.specs.Lent.{LendsInLine}
 use Rattle.tds_relay.specs.Walkers.{AllStand}
 use Rattle.tds_relay.proofs.spared.Apart.{Unserved}
 use Rattle.tds_relay.specs.Closings.{ClosesOnly, IsWaiting, register_in}
 use Rattle.tds_relay.specs.Reasons.{IsLentInVain}
-use Rattle.tds_relay.specs.Few.{IsSeated}
 use Rattle.tds_relay.specs.Cleaning.{cleaned_in}
 use Rattle.tds_relay.proofs.relay.Relay.serve_line.Given as goal
 

@@ -1,4 +1,4 @@
-use Rattle.std.proofs.Common.{◌∙◌, ap, refl, rules, sym, subst, inl, inr}
+use Rattle.std.proofs.Common.{◌∙◌, ap, refl, rules, sym, subst, inl, inr, ◌≡◌, None}
 use Rattle.tds_relay.specs.Asking.{Opens}
 use Rattle.tds_relay.specs.Ties.{desk_in, IsReached}
 use Rattle.tds_relay.proofs.steps.Fronts.{moves_closes, moves_does, moves_same}
@@ -8,17 +8,16 @@ use Rattle.tds_relay.proofs.bytes.Calls.{stand_on}
 use Rattle.tds_relay.specs.Bodies.{Body, Stays, Starts, body_of, going_of, held_of}
 use Rattle.slab.specs.Slab.{get}
 use Rattle.tds_relay.specs.Reads.{waits_on}
-use Rattle.tds_relay.specs.Sparing.{StartsBehind}
+use Rattle.tds_relay.specs.Sparing.{StartsBehind, Drains}
 use Rattle.tds_relay.proofs.steps.Bodied.{closed_body, closed_starts, shut_starts, shut}
 use Rattle.tds_relay.proofs.steps.Going.{behind_closed, behind_there, holds_stay, kept_at, starts_there}
 use Rattle.tds_relay.specs.Desk.{Desk, Asks}
 use Rattle.tds_relay.proofs.spared.Resting.{others_all, others_on, others_refl, put_rest, reached_does, same_on}
-use Rattle.tds_relay.specs.Sparing.{Drains}
 use Rattle.tds_relay.specs.Sparing as sparing
 use Rattle.tds_relay.proofs.spared.Starting.{taken_back, unkept_closed, unkept_none, unkept_over, unkept_there}
 use Rattle.tds_relay.specs.declared.desk.Desk as desks
 use Rattle.tds_relay.specs.Fronts.{ends_in, hall_in, hall_of_ends}
-use Rattle.tds_relay.specs.Hall.{closes}
+use Rattle.tds_relay.specs.Hall.{closes, end_at}
 use Rattle.tds_relay.proofs.spared.Apart.{alone_changed, alone_on, alone_same, line_does}
 use Rattle.tds_relay.proofs.spared.Ordered.{ordered_closing, ordered_refl}
 use Rattle.tds_relay.proofs.spared.Begun.{answers_refl, answers_unchanged}
@@ -30,8 +29,6 @@ use Rattle.tds_relay.proofs.seats.Desks.{deed_seated}
 use Rattle.tds_relay.proofs.spared.Reasons.{for_reason, for_that}
 use Rattle.tds_relay.specs.Reasons.{CannotStart, Unasked, Unput}
 use Rattle.tds_relay.proofs.spared.Turned.{ready_there}
-use Rattle.tds_relay.specs.Hall.{end_at}
-use Rattle.std.proofs.Common.{◌≡◌, None}
 use Rattle.tds_relay.proofs.spared.Filling.{own_end, own_on, own_refl, own_same}
 use Rattle.tds_relay.proofs.relay.Relay.start.Goals as goal
 

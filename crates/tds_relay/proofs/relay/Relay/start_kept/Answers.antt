@@ -1,4 +1,4 @@
-use Rattle.std.proofs.Common.{◌≡◌, ◌∙◌, None, Some, inl, rules, sym}
+use Rattle.std.proofs.Common.{◌≡◌, ◌∙◌, None, Some, inl, rules, sym, inr}
 use Rattle.tds_relay.specs.Waiting.{IsUnheldOrTurnedAway}
 use Rattle.tds_relay.specs.Asking.{Closes}
 use Rattle.tds_relay.specs.Bodies.{Stays, body_of, going_of}
@@ -20,7 +20,6 @@ use Rattle.tds_relay.proofs.spared.Closings.{closes_refl}
 use Rattle.tds_relay.proofs.spared.Reasons.{for_reason, for_that}
 use Rattle.tds_relay.proofs.spared.Turned.{turned_by, unstarted_or}
 use Rattle.tds_relay.specs.Reasons.{ItselfFor}
-use Rattle.std.proofs.Common.{inr}
 use Rattle.tds_relay.proofs.spared.Filling.{own_refl}
 use Rattle.tds_relay.proofs.relay.Relay.start_kept.Goals as goal
 

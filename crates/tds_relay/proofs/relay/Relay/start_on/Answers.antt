@@ -5,13 +5,12 @@ use Rattle.tds_relay.proofs.spared.Resting.{go_on_one, go_refl}
 use Rattle.tds_relay.specs.Bodies.{body_of}
 use Rattle.tds_relay.specs.Sparing.{IsHeldBack, IsUnkept, StartsThere}
 use Rattle.tds_relay.proofs.spared.Starting.{none_own, own_on}
-use Rattle.tds_relay.specs.Closings.{IsWho, Itself}
+use Rattle.tds_relay.specs.Closings.{IsWho, Itself, register_in}
 use Rattle.tds_relay.specs.Hall.{holder}
 use Rattle.tds_relay.specs.Ties.{desk_in}
 use Rattle.tds_relay.proofs.spared.Closings.{closes_more_on}
 use Rattle.tds_relay.proofs.spared.Turned.{turned_there}
 use Rattle.tds_relay.proofs.spared.Lasting.{last_more_on, last_start}
-use Rattle.tds_relay.specs.Closings.{register_in}
 use Rattle.tds_relay.proofs.spared.Apart.{none_alone, who_alone}
 use Rattle.tds_relay.specs.Fronts.{hall_in}
 use Rattle.tds_relay.proofs.spared.Filling.{first_holder, first_refl}

@@ -1,15 +1,13 @@
 use Rattle.tds_relay.specs.Bodies.{ClientStops}
-use Rattle.tds_relay.specs.Ties.{Application}
+use Rattle.tds_relay.specs.Ties.{Application, desk_in}
 use Rattle.tds_relay.proofs.steps.Fronts.{moves_does, moves_same}
 use Rattle.tds_relay.proofs.steps.Reaching.{reaches_turn}
-use Rattle.tds_relay.proofs.spared.Reasons.{asked_not, is_asked}
+use Rattle.tds_relay.proofs.spared.Reasons.{asked_not, is_asked, refused_there, unstopped}
 use Rattle.tds_relay.proofs.seats.Relays.{desk_seated}
 use Rattle.tds_relay.proofs.seats.Desks.{deed_seated}
-use Rattle.tds_relay.specs.Ties.{desk_in}
 use Rattle.tds_relay.specs.Desk.{Desk, Stops}
 use Rattle.std.proofs.Common.{ap, ◌≡◌, List, false, inr, ℕ, refl, rules, subst}
 use Rattle.tds_relay.proofs.spared.Speaking.{done_as}
-use Rattle.tds_relay.proofs.spared.Reasons.{refused_there, unstopped}
 use Rattle.tds_service.specs.Service as calls
 use Rattle.tds_relay.proofs.relay.Relay.stop.Goals as goal
 

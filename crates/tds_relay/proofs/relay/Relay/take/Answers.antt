@@ -1,41 +1,34 @@
-use Rattle.std.proofs.Common.{◌≡◌, ◌∙◌, Some, false, ap, refl, rules, sym, subst}
+use Rattle.std.proofs.Common.{◌≡◌, ◌∙◌, Some, false, ap, refl, rules, sym, subst, Bool, Option, option_map, ℕ}
 use Rattle.std.specs.Prelude.{take}
 use Rattle.tds_relay.specs.Fronts.{end_of, ends_in, given_by, hall_in, house_in, hall_of_ends}
-use Rattle.tds_relay.specs.Hall.{closes_for}
+use Rattle.tds_relay.specs.Hall.{closes_for, Open, asks_by, end_at}
 use Rattle.tds_relay.specs.Posts.{Posts, posts_in, names_of}
 use Rattle.tds_relay.specs.Ties.{Application, desk_in}
 use Rattle.tds_relay.proofs.steps.Fed.{closed_fed, end_open, end_there, ends_written, is_fed, refused_is, waits_refused}
-use Rattle.tds_relay.proofs.steps.Fronts.{moved_same, ends_kept, moves_same}
+use Rattle.tds_relay.proofs.steps.Fronts.{moved_same, ends_kept, moves_same, end_is}
 use Rattle.tds_relay.proofs.steps.Posting.{posts_kept}
 use Rattle.tds_relay.proofs.steps.Told.{tells_fed, tells_refused}
 use Rattle.slab.specs.Slab.{with_value, get}
 use Rattle.tds_relay.proofs.steps.Asked.{asks_deaf, asks_fed, asks_links, asks_moved, asks_refused}
-use Rattle.tds_relay.proofs.steps.Underway.{none_deaf, over_deaf}
-use Rattle.tds_relay.proofs.steps.Staying.{stays_opens}
-use Rattle.tds_relay.specs.Bodies.{Body, Obeys, body_in, body_of, going_of}
+use Rattle.tds_relay.proofs.steps.Underway.{none_deaf, over_deaf, written_there}
+use Rattle.tds_relay.proofs.steps.Staying.{stays_opens, fills_refl}
+use Rattle.tds_relay.specs.Bodies.{Body, Obeys, body_in, body_of, going_of, CancelsSaid, standing_in}
 use Rattle.tds_relay.proofs.steps.Bodied.{asks_kept, same_starts, shut_starts}
 use Rattle.tds_relay.proofs.steps.Carried.{carries_deaf, carries_fed, carries_moved, carries_refused}
 use Rattle.tds_relay.proofs.steps.Renaming.{names_given}
-use Rattle.tds_relay.specs.Posts.{names_of}
 use Rattle.tds_relay.specs.Closings.{Itself}
 use Rattle.tds_relay.proofs.spared.Closings.{closes_both, closes_more}
 use Rattle.tds_relay.proofs.spared.Sending.{kept_refl}
 use Rattle.tds_relay.proofs.spared.Shutting.{closes_kept, closes_written, unclosed}
-use Rattle.std.proofs.Common.{Bool, Option, option_map, ℕ}
 use Rattle.tds_front.specs.Bytes.{fed}
 use Rattle.tds_front.specs.declared.front.Front.{Front}
 use Rattle.tds_packet.specs.declared.status.Reset.{Reset}
-use Rattle.tds_relay.specs.Hall.{Open, asks_by, end_at}
 use Rattle.tds_relay.specs.Reasons.{GivesReason, ItselfFor, ReasonBy, ReasonWith, room_left}
-use Rattle.tds_relay.proofs.steps.Fronts.{end_is}
-use Rattle.tds_relay.proofs.steps.Underway.{written_there}
 use Rattle.tds_relay.proofs.spared.Reasons.{may_before}
 use Rattle.tds_relay.proofs.spared.Resting.{others_both, others_refl, written_rest}
 use Rattle.tds_relay.proofs.spared.Elsewhere.{aside_refl}
-use Rattle.tds_relay.specs.Bodies.{CancelsSaid, standing_in}
 use Rattle.tds_relay.specs.Reads.{waits_on}
 use Rattle.tds_relay.proofs.steps.Heeding.{cancels_deaf, cancels_fed, cancels_moved, cancels_refused}
-use Rattle.tds_relay.proofs.steps.Staying.{fills_refl}
 use Rattle.tds_relay.proofs.relay.Relay.take.Goals as goal
 
 pub returns-in-Err-clause-tells : goal.returns-in-Err-clause-tells

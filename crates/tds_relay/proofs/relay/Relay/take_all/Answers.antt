@@ -5,14 +5,13 @@ use Rattle.tds_relay.proofs.steps.Told.{tells_begin, tells_left}
 use Rattle.tds_relay.proofs.bytes.Turns.{each_end, few, some_is, turned_each}
 use Rattle.tds_relay.specs.Reasons.{ByPiece, HasReason, ItselfFor}
 use Rattle.tds_relay.proofs.steps.Asked.{asks_begin, asks_left, empty_is}
-use Rattle.tds_relay.specs.Bodies.{body_of}
+use Rattle.tds_relay.specs.Bodies.{body_of, standing_in}
 use Rattle.tds_relay.proofs.steps.Carried.{carries_begin, carries_left}
 use Rattle.tds_relay.specs.Closings.{register_in}
 use Rattle.tds_relay.proofs.spared.Closings.{closes_both, closes_more, closes_refl}
 use Rattle.tds_relay.proofs.spared.Resting.{others_both, others_refl}
 use Rattle.tds_relay.proofs.spared.Speaking.{reached_by}
 use Rattle.tds_relay.proofs.spared.Elsewhere.{aside_both, aside_refl}
-use Rattle.tds_relay.specs.Bodies.{standing_in}
 use Rattle.tds_relay.proofs.steps.Heeding.{cancels_begin, cancels_left}
 use Rattle.tds_relay.proofs.relay.Relay.take_all.Goals as goal
 

@@ -1,9 +1,9 @@
-use Rattle.std.proofs.Common.{◌∙◌, List, ap, inl, inr, refl, subst, sym, ℕ}
+use Rattle.std.proofs.Common.{◌∙◌, List, ap, inl, inr, refl, subst, sym, ℕ, ◌≡◌, Some}
 use Rattle.tds_relay.specs.declared.link.Link.{Link}
 use Rattle.tds_relay.specs.Anew.{AsksNothing}
 use Rattle.tds_relay.specs.Fronts.{ends_in, hall_in, hall_of_ends, withdraws}
 use Rattle.tds_relay.specs.Hall.{Hall, IsHere, Moves, change_end, closes}
-use Rattle.tds_relay.specs.Ties.{Application, desk_in}
+use Rattle.tds_relay.specs.Ties.{Application, desk_in, Reaches}
 use Rattle.tds_relay.proofs.steps.Fed.{closed_as_fed, taken_back_at}
 use Rattle.tds_relay.proofs.steps.Quieting.{moves_unwaits, stops_unwaits}
 use Rattle.tds_relay.proofs.steps.Fronts.{moves_closes, moves_does, moves_same, no_moves, open_closed}
@@ -11,7 +11,7 @@ use Rattle.tds_relay.proofs.steps.Reaching.{ok_more}
 use Rattle.tds_relay.proofs.steps.Told.{deaf_behind, deaf_closed}
 use Rattle.tds_relay.proofs.steps.Staying.{stays_from}
 use Rattle.tds_relay.proofs.bytes.Calls.{stand_at, stand_on}
-use Rattle.tds_relay.proofs.steps.Bodied.{asks_then, forgot_on, kept_on_ok}
+use Rattle.tds_relay.proofs.steps.Bodied.{asks_then, forgot_on, kept_on_ok, shut}
 use Rattle.tds_relay.specs.Closings.{Itself, Nobody}
 use Rattle.tds_relay.proofs.spared.Closings.{closes_both, closes_first}
 use Rattle.tds_relay.specs.Reasons.{HasNoRoom}
@@ -20,13 +20,9 @@ use Rattle.tds_relay.proofs.seats.Relays.{kept_seated, unwaited}
 use Rattle.tds_relay.specs.declared.desk.Desk as code
 use Rattle.tds_relay.proofs.spared.Speaking.{filled_at, halting_held, reached_by}
 use Rattle.tds_relay.proofs.spared.Resting.{all_others, all_rest, asks_on, others_both, others_on}
-use Rattle.tds_relay.specs.Desk.{find_key}
-use Rattle.std.proofs.Common.{◌≡◌, Some}
-use Rattle.tds_relay.specs.Ties.{Reaches}
+use Rattle.tds_relay.specs.Desk.{find_key, Desk}
 use Rattle.tds_relay.proofs.spared.Elsewhere.{aside_both, aside_on, aside_same}
-use Rattle.tds_relay.specs.Desk.{Desk}
 use Rattle.tds_relay.specs.Bodies.{body_of, going_of, standing_in}
-use Rattle.tds_relay.proofs.steps.Bodied.{shut}
 use Rattle.tds_relay.proofs.steps.Halting.{cancelled_shut, taken_back}
 use Rattle.tds_relay.proofs.relay.Relay.take_back.Goals as goal
 

@@ -1,5 +1,4 @@
-use Rattle.std.proofs.Common.{◌∙◌, ap, Some}
-use Rattle.std.proofs.Common.{Option, subst, sym, ℕ}
+use Rattle.std.proofs.Common.{◌∙◌, ap, Some, Option, subst, sym, ℕ}
 use Rattle.tds_relay.specs.Fronts.{ends_in}
 use Rattle.tds_relay.specs.Reasons.{HasTakenBack}
 use Rattle.tds_relay.specs.declared.desk.coming.What.TheVariants as whats

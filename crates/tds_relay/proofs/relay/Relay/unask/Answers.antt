@@ -1,28 +1,20 @@
-use Rattle.std.proofs.Common.{ap, List, inl, inr, refl, rules, subst, ℕ}
-use Rattle.tds_relay.specs.Bodies.{ClientStops}
-use Rattle.tds_relay.specs.Ties.{Application}
+use Rattle.std.proofs.Common.{ap, List, inl, inr, refl, rules, subst, ℕ, sym}
+use Rattle.tds_relay.specs.Bodies.{ClientStops, going_of, standing_in}
+use Rattle.tds_relay.specs.Ties.{Application, desk_in, IsReached}
 use Rattle.tds_relay.proofs.steps.Fronts.{moves_closes, moves_does}
-use Rattle.tds_relay.proofs.steps.Reaching.{ok_more, reaches_turn}
+use Rattle.tds_relay.proofs.steps.Reaching.{ok_more, reaches_turn, reached_turn}
 use Rattle.tds_relay.proofs.bytes.Calls.{stand_on}
-use Rattle.tds_relay.proofs.spared.Reasons.{for_reason, for_that, stops_unfit}
+use Rattle.tds_relay.proofs.spared.Reasons.{for_reason, for_that, stops_unfit, refused_there, uncancelled}
 use Rattle.tds_relay.proofs.seats.Relays.{desk_seated}
 use Rattle.tds_relay.proofs.seats.Desks.{deed_seated}
-use Rattle.tds_relay.specs.Ties.{desk_in}
-use Rattle.tds_relay.specs.Desk.{Stops}
+use Rattle.tds_relay.specs.Desk.{Stops, Desk, find_number}
 use Rattle.tds_relay.proofs.spared.Speaking.{done_as, stopped_held}
 use Rattle.tds_relay.proofs.spared.Resting.{others_on}
-use Rattle.tds_relay.proofs.steps.Reaching.{reached_turn}
-use Rattle.tds_relay.specs.Ties.{IsReached}
-use Rattle.tds_relay.specs.Desk.{Desk, Stops}
 use Rattle.tds_relay.specs.Desk as desk
-use Rattle.std.proofs.Common.{sym}
-use Rattle.tds_relay.proofs.spared.Reasons.{refused_there, uncancelled}
 use Rattle.tds_service.specs.Service as calls
 use Rattle.tds_relay.specs.Hall.{end_at}
 use Rattle.tds_relay.specs.Fronts.{ends_in}
 use Rattle.tds_relay.proofs.spared.Elsewhere.{keeps_on}
-use Rattle.tds_relay.specs.Desk.{find_number}
-use Rattle.tds_relay.specs.Bodies.{going_of, standing_in}
 use Rattle.tds_relay.proofs.steps.Bodied.{shut}
 use Rattle.tds_relay.proofs.steps.Halting.{cancelled_going, cancelled_shut}
 use Rattle.tds_relay.proofs.relay.Relay.unask.Goals as goal

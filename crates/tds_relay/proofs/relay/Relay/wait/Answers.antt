@@ -1,4 +1,4 @@
-use Rattle.std.proofs.Common.{refl, rules}
+use Rattle.std.proofs.Common.{refl, rules, ap}
 use Rattle.tds_relay.proofs.steps.Fronts.{moves_does}
 use Rattle.tds_relay.proofs.steps.Reaching.{ok_more, reaches_turn}
 use Rattle.tds_relay.proofs.steps.Underway.{in_line}
@@ -6,9 +6,7 @@ use Rattle.tds_relay.proofs.spared.Lined.{stands_last}
 use Rattle.tds_relay.specs.Fronts.{hall_in}
 use Rattle.tds_relay.proofs.spared.Only.{spares_refl, spares_waits}
 use Rattle.tds_relay.proofs.seats.Relays.{serviced_seated}
-use Rattle.tds_relay.specs.Desk.{Waits}
-use Rattle.std.proofs.Common.{ap}
-use Rattle.tds_relay.specs.Desk.{Desk}
+use Rattle.tds_relay.specs.Desk.{Waits, Desk}
 use Rattle.tds_relay.proofs.relay.Relay.wait.Goals as goal
 
 pub returns-then-is_away-clause-goes : goal.returns-then-is_away-clause-goes

@@ -1,4 +1,4 @@
-use Rattle.std.proofs.Common.{◌≡◌, ◌∙◌, false, rules, subst, sym, true}
+use Rattle.std.proofs.Common.{◌≡◌, ◌∙◌, false, rules, subst, sym, true, inl, refl}
 use Rattle.tds_packet.specs.Reading.{Reading}
 use Rattle.tds_packet.specs.declared.kind.Direction.TheVariants.{ToClient}
 use Rattle.tds_service.specs.Table.{reading_on}
@@ -7,7 +7,6 @@ use Rattle.tds_relay.proofs.steps.Handed.{done_keeps, hears_is}
 use Rattle.tds_relay.proofs.bytes.Reader.{reads_by}
 use Rattle.tds_relay.proofs.bytes.Turns.{takes_some}
 use Rattle.tds_relay.proofs.spared.Waking.{puts_brings}
-use Rattle.std.proofs.Common.{inl, refl}
 use Rattle.tds_relay.proofs.relay.coming.hear_on.Goals as goal
 
 pub invariant_of-link-2 : goal.invariant_of-link-2

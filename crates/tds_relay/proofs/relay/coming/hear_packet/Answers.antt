@@ -8,7 +8,7 @@ use Rattle.tds_relay.specs.Fronts.{end_of, ends_in}
 use Rattle.tds_relay.specs.Hall.{End}
 use Rattle.tds_relay.specs.Handing.{IsBy, PassesAs, IsKnown, news_for}
 use Rattle.tds_relay.specs.House.{IsTold, Withheld, closes, end_whose, handed, hears_of_reset, is_said, news_in}
-use Rattle.tds_relay.specs.Posts.{posts_in}
+use Rattle.tds_relay.specs.Posts.{posts_in, names_of}
 use Rattle.tds_relay.specs.Ties.{Connection, desk_in, part_on}
 use Rattle.tds_relay.proofs.steps.Fronts.{ends_kept}
 use Rattle.tds_relay.proofs.steps.Handed.{cut_as, end_whose_is, handed_for, handed_is, has_walker, knows_by, passing, to_absent, to_closed, to_deaf, to_nobody, to_one, withheld_for, withheld_is}
@@ -17,7 +17,6 @@ use Rattle.tds_relay.proofs.steps.Reaching.{reaches_turn}
 use Rattle.tds_relay.proofs.steps.Resets.{heard_so, told_for, unowed}
 use Rattle.tds_relay.proofs.bytes.Reader.{has_read}
 use Rattle.tds_relay.proofs.steps.Renaming.{names_handed}
-use Rattle.tds_relay.specs.Posts.{names_of}
 use Rattle.tds_relay.proofs.steps.Bodied.{asks_kept}
 use Rattle.tds_relay.proofs.seats.Counting.{stays_refl}
 use Rattle.tds_relay.proofs.spared.Losing.{cleans_as}

@@ -6,12 +6,10 @@ use Rattle.tds_relay.proofs.spared.Held.{deed_both}
 use Rattle.tds_relay.proofs.spared.Resting.{reached_does}
 use Rattle.tds_relay.specs.Bodies.{ClientPuts}
 use Rattle.tds_relay.proofs.steps.Going.{holds_stay, puts_last, puts_part}
-use Rattle.tds_relay.specs.Desk.{Desk, Puts}
+use Rattle.tds_relay.specs.Desk.{Desk, Puts, Ends, find_key}
 use Rattle.tds_relay.proofs.spared.Apart.{line_does}
 use Rattle.tds_relay.specs.Reasons.{OfBytes, OfEnd}
 use Rattle.tds_relay.proofs.seats.Desks.{both_keep, deed_keeps, desk_keeps}
-use Rattle.tds_relay.specs.Desk.{Ends}
-use Rattle.tds_relay.specs.Desk.{find_key}
 use Rattle.tds_relay.proofs.relay.putting.put_on.Goals as goal
 
 pub returns-then-not-whole-clause-goes : goal.returns-then-not-whole-clause-goes
