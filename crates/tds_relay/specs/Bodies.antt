@@ -173,61 +173,61 @@ pub record Obeys (answer : Said) (taken : List ℕ) (old new : Body) : Type 0 wh
 -- ---- What goes out for what is taken back
 
 -- where the body of an application's request is, and what waits on each connection
-abbrev pub Standing : Type 0
-Standing = Body × (ℕ → Option (List ℕ))
+abbrev pub BodyAndWaits : Type 0
+BodyAndWaits = Body × (ℕ → Option (List ℕ))
 
-abbrev pub standing_in : ℕ → code.Relay → Standing
+abbrev pub standing_in : ℕ → code.Relay → BodyAndWaits
 standing_in key r = (body_of key r, λ (number : ℕ). waits_on number r.links.items)
 
 -- where those that are open are looked at alone
-abbrev pub standing_open : ℕ → code.Relay → Standing
+abbrev pub standing_open : ℕ → code.Relay → BodyAndWaits
 standing_open key r = (body_of key r, λ (number : ℕ). open_waits number r.links.items)
 
 -- It may start; what waited on each connection waits there, and more may behind it, or it is there no more.
-abbrev pub GoesFrom : Standing → Standing → Type 0
+abbrev pub GoesFrom : BodyAndWaits → BodyAndWaits → Type 0
 GoesFrom old new = Starts old.0 new.0 × ((number : ℕ) → FillsAt (old.1 number) (new.1 number))
 
 -- Where it went on, what cancels it by its client waits behind what waited on its connection, once, and nothing else; or its application is to be
 -- closed.
-abbrev pub IsCancelled : Body → Standing → Type 0
-IsCancelled Closed new = Unit {0}
-IsCancelled Nowhere new = Unit {0}
-IsCancelled (Kept kind bytes whole) new = Unit {0}
-IsCancelled Astray new = Unit {0}
-IsCancelled (Going number client waits) new = (new.1 number ≡ Some (waits ++ cancel_out client.stage)) ⊎ (new.0 ≡ Closed)
+abbrev pub IsStoppedOnce : Body → BodyAndWaits → Type 0
+IsStoppedOnce Closed new = Unit {0}
+IsStoppedOnce Nowhere new = Unit {0}
+IsStoppedOnce (Kept kind bytes whole) new = Unit {0}
+IsStoppedOnce Astray new = Unit {0}
+IsStoppedOnce (Going number client waits) new = (new.1 number ≡ Some (waits ++ cancel_out client.stage)) ⊎ (new.0 ≡ Closed)
 
 -- So it is where it is taken back by what is said.
-abbrev pub CancelsSaid : Said → Body → Standing → Type 0
+abbrev pub CancelsSaid : Said → Body → BodyAndWaits → Type 0
 CancelsSaid said.Nothing old new = Unit {0}
 CancelsSaid (said.Begin kind reset) old new = Unit {0}
 CancelsSaid (said.Body count) old new = Unit {0}
 CancelsSaid (said.End count) old new = Unit {0}
-CancelsSaid (said.Forget gone) old new = IsCancelled old new
-CancelsSaid said.Acknowledge old new = IsCancelled old new
+CancelsSaid (said.Forget gone) old new = IsStoppedOnce old new
+CancelsSaid said.Acknowledge old new = IsStoppedOnce old new
 CancelsSaid said.HandOn old new = Unit {0}
 
 -- Bytes are taken of which this is said.
-pub record Heeds (answer : Said) (taken : List ℕ) (old new : Standing) : Type 0 where
+pub record Heeds (answer : Said) (taken : List ℕ) (old new : BodyAndWaits) : Type 0 where
   pub obeys : Obeys answer taken old.0 new.0
   pub fills : (number : ℕ) → FillsAt (old.1 number) (new.1 number)
   pub cancels : CancelsSaid answer old.0 new
 
 -- Piece by piece of what steps take of an application: as AreFollowed, with what waits.
-abbrev pub AreHeeded : ℕ → House → List Step → Standing → Standing → Type 0
+abbrev pub AreHeeded : ℕ → House → List Step → BodyAndWaits → BodyAndWaits → Type 0
 AreHeeded key h [] old new = GoesFrom old new
 AreHeeded key h (Takes other bytes ∷ steps) old new =
-    (from : Standing) × (to : Standing) × GoesFrom old from × Heeds (said_of bytes (end_at h.hall.ends key)) (taken_of bytes (end_at h.hall.ends key)) from to
+    (from : BodyAndWaits) × (to : BodyAndWaits) × GoesFrom old from × Heeds (said_of bytes (end_at h.hall.ends key)) (taken_of bytes (end_at h.hall.ends key)) from to
     × AreHeeded key (after h (Takes other bytes)) steps to new
 AreHeeded key h (step ∷ steps) old new = AreHeeded key (after h step) steps old new
 
 -- An application's bytes are taken, up to these, and what it takes back of that is cancelled.
-pub record Cancels (key : ℕ) (old : House) (bytes left : List ℕ) (from to : Standing) (new : House) : Type 0 where
+pub record HeedsAll (key : ℕ) (old : House) (bytes left : List ℕ) (from to : BodyAndWaits) (new : House) : Type 0 where
   pub tells : Tells key old bytes left new
   pub heeded : AreHeeded key old tells.steps from to
 
 -- Whatever was taken before, these bytes are taken behind it, up to these.
-abbrev pub CancelsOn : ℕ → List ℕ → List ℕ → Standing → Standing → House → House → Type 0
-CancelsOn key left rest from to old new = (first : House) (bytes : List ℕ) (at : Standing) → Cancels key first bytes left at from old → Cancels key first bytes rest at to new
+abbrev pub HeedsOn : ℕ → List ℕ → List ℕ → BodyAndWaits → BodyAndWaits → House → House → Type 0
+HeedsOn key left rest from to old new = (first : House) (bytes : List ℕ) (at : BodyAndWaits) → HeedsAll key first bytes left at from old → HeedsAll key first bytes rest at to new
 
 -- ---- As the code has it
 

@@ -387,14 +387,14 @@ pub data LosesOn (number : ℕ) (left : List ℕ) (r : code.Relay) (other : ℕ)
 
 -- They come behind others, by which none was opened, and what waited on one waits still. Or all have come, and one that waits is lent a
 -- connection that doesn't take its request.
-pub data HasHeard (number : ℕ) (bytes : List ℕ) (r : code.Relay) (other : ℕ) : Type 0 where
+pub data IsClosedByHearing (number : ℕ) (bytes : List ℕ) (r : code.Relay) (other : ℕ) : Type 0 where
   ByPacket : (mid : code.Relay) (left : List ℕ)
       → StreamsAnew number (answer_at number r.links.items) (open_at number r.links.items) (house_in r) r.desk.service bytes left (answer_at number mid.links.items) (open_at number mid.links.items) (house_in mid) mid.desk.service
-      → OpensOthers number r.links.items mid.links.items → LosesOn number left mid other → HasHeard number bytes r other
+      → OpensOthers number r.links.items mid.links.items → LosesOn number left mid other → IsClosedByHearing number bytes r other
   InLine : (mid : code.Relay)
       → StreamsAll number (open_at number r.links.items) (house_in r) r.desk.service bytes (open_at number mid.links.items) (house_in mid) mid.desk.service
-      → OpensOthers number r.links.items mid.links.items → IsLentInVain mid other → HasHeard number bytes r other
+      → OpensOthers number r.links.items mid.links.items → IsLentInVain mid other → IsClosedByHearing number bytes r other
 
 -- where the service has the connections that the relay has, as it has behind each call
 abbrev pub HeardFor : ℕ → List ℕ → code.Relay → ℕ → Type 0
-HeardFor number bytes r other = IsSeated r → HasHeard number bytes r other
+HeardFor number bytes r other = IsSeated r → IsClosedByHearing number bytes r other

@@ -22,7 +22,7 @@ use Rattle.tds_relay.specs.declared.desk.Desk as desks
 use Rattle.tds_relay.specs.declared.desk.Hold.{Hold}
 use Rattle.tds_relay.specs.declared.link.Link.{Link}
 use Rattle.tds_relay.specs.declared.relay.Relay as code
-use Rattle.tds_relay.specs.Bodies.{AskAsBefore, Before, Body, ByClient, ByClosing, ClientStops, Closed, Going, Halts, IsCancelled, IsHalting, IsUnsent, Kept, Nowhere, Astray, OfAstray, Spared, Standing, StopsOn, AskOn, body_by, body_in, body_of, going, going_by, going_of, standing_in}
+use Rattle.tds_relay.specs.Bodies.{AskAsBefore, Before, Body, ByClient, ByClosing, ClientStops, Closed, Going, Halts, IsStoppedOnce, IsHalting, IsUnsent, Kept, Nowhere, Astray, OfAstray, Spared, BodyAndWaits, StopsOn, AskOn, body_by, body_in, body_of, going, going_by, going_of, standing_in}
 use Rattle.tds_relay.specs.Desk.{find_key}
 use Rattle.tds_relay.specs.Fronts.{ends_in}
 use Rattle.tds_relay.specs.Hall.{end_at}
@@ -119,31 +119,31 @@ halted key number old mid new stopped links asks (inr (at, asked, waits)) =
 
 -- ---- What goes out for what is taken back
 
-cancelled_by : (number : ℕ) (from : ClientSession) (had : Option (List ℕ)) (new : Standing) → new.1 number ≡ option_map (λ (waits : List ℕ). waits ++ cancel_out from.stage) had → IsCancelled (going_by number (Some from) had) new
+cancelled_by : (number : ℕ) (from : ClientSession) (had : Option (List ℕ)) (new : BodyAndWaits) → new.1 number ≡ option_map (λ (waits : List ℕ). waits ++ cancel_out from.stage) had → IsStoppedOnce (going_by number (Some from) had) new
 cancelled_by number from None new e = tt
 cancelled_by number from (Some waits) new e = inl e
 
-pub cancelled_shut : (b : Body) (new : Standing) → new.0 ≡ Closed → IsCancelled b new
+pub cancelled_shut : (b : Body) (new : BodyAndWaits) → new.0 ≡ Closed → IsStoppedOnce b new
 cancelled_shut Closed new e = tt
 cancelled_shut Nowhere new e = tt
 cancelled_shut (Kept kind bytes whole) new e = tt
 cancelled_shut Astray new e = tt
 cancelled_shut (Going number client waits) new e = inr e
 
-pub cancelled_unsent : (b : Body) (new : Standing) → IsUnsent b → IsCancelled b new
+pub cancelled_unsent : (b : Body) (new : BodyAndWaits) → IsUnsent b → IsStoppedOnce b new
 cancelled_unsent Closed new e = tt
 cancelled_unsent Nowhere new e = tt
 cancelled_unsent (Kept kind bytes whole) new e = tt
 cancelled_unsent Astray new e = tt
 cancelled_unsent (Going number client waits) new e = absurd e
 
-cancelled_asked : (over : Bool) (a : Asking) (held : List ℕ) (g : Body) (new : Standing) → IsCancelled g new → IsCancelled (if over then Closed else body_by a held g) new
+cancelled_asked : (over : Bool) (a : Asking) (held : List ℕ) (g : Body) (new : BodyAndWaits) → IsStoppedOnce g new → IsStoppedOnce (if over then Closed else body_by a held g) new
 cancelled_asked true a held g new s = tt
 cancelled_asked false asking.Nothing held g new s = tt
 cancelled_asked false (asking.Waits kind whole) held g new s = tt
 cancelled_asked false asking.Goes held g new s = s
 
-pub cancelled_in : (o : Option Application) (g : Body) (new : Standing) → IsCancelled g new → IsCancelled (body_in o g) new
+pub cancelled_in : (o : Option Application) (g : Body) (new : BodyAndWaits) → IsStoppedOnce g new → IsStoppedOnce (body_in o g) new
 cancelled_in None g new s = tt
 cancelled_in (Some a) g new s = cancelled_asked a.is_over a.asking a.held.items g new s
 
@@ -152,8 +152,8 @@ going_same key d e ls ms holds service links =
     ap (λ (s : services.Service). going s ms (find_key key e.holds.items)) service ∙ ap (λ (xs : List Link). going d.service xs (find_key key e.holds.items)) links
     ∙ ap (λ (hs : List Hold). going d.service ls (find_key key hs)) (let u : e.holds.items ≡ d.holds.items = cc in u)
 
-going_stopped : (key : ℕ) (old mid : desks.Desk) (after : List ℕ) (ls : List Link) (hold : Hold) (new : Standing) → find_key key old.holds.items ≡ Some hold → ClientStops key old mid [] after
-    → new.1 hold.number ≡ option_map (λ (waits : List ℕ). waits ++ after) (waits_on hold.number ls) → IsCancelled (going old.service ls (find_key key old.holds.items)) new
+going_stopped : (key : ℕ) (old mid : desks.Desk) (after : List ℕ) (ls : List Link) (hold : Hold) (new : BodyAndWaits) → find_key key old.holds.items ≡ Some hold → ClientStops key old mid [] after
+    → new.1 hold.number ≡ option_map (λ (waits : List ℕ). waits ++ after) (waits_on hold.number ls) → IsStoppedOnce (going old.service ls (find_key key old.holds.items)) new
 going_stopped key old mid after ls hold new its p waits =
     let one : hold ≡ p.hold = (let u : Some hold ≡ Some p.hold = sym its ∙ p.its in cc) in
     let out = cancel_out p.from.stage in
@@ -162,38 +162,38 @@ going_stopped key old mid after ls hold new its p waits =
     (waits ∙ ap (λ (ys : List ℕ). option_map (λ (xs : List ℕ). xs ++ ys) (waits_on hold.number ls)) p.appended) in
     let was : going old.service ls (find_key key old.holds.items) ≡ going_by p.hold.number (Some p.from) (waits_on p.hold.number ls) =
     ap (going old.service ls) p.its ∙ ap (λ (o : Option ClientSession). going_by p.hold.number o (waits_on p.hold.number ls)) p.moves.was in
-    subst (λ (b : Body). IsCancelled b new) (sym was) (cancelled_by p.hold.number p.from (waits_on p.hold.number ls) new waits_is)
+    subst (λ (b : Body). IsStoppedOnce b new) (sym was) (cancelled_by p.hold.number p.from (waits_on p.hold.number ls) new waits_is)
 
 -- what was put waits, or it is to be closed
 pub cancelled_going : {A B : Type 0} (key number : ℕ) (old mid : desks.Desk) (after : List ℕ) (ls : List Link) (hold : Hold) (new : code.Relay) → find_key key old.holds.items ≡ Some hold → number ≡ hold.number → ClientStops key old mid [] after
     → IsDeaf (end_at (ends_in new.applications) key) ⊎ (A × B × (waits_on number new.links.items ≡ option_map (λ (waits : List ℕ). waits ++ after) (waits_on number ls)))
-    → IsCancelled (going old.service ls (find_key key old.holds.items)) (standing_in key new)
+    → IsStoppedOnce (going old.service ls (find_key key old.holds.items)) (standing_in key new)
 cancelled_going key number old mid after ls hold new its same p (inl deaf) = cancelled_shut (going old.service ls (find_key key old.holds.items)) (standing_in key new) (shut new.applications key (going_of key new) deaf)
 cancelled_going key number old mid after ls hold new its same p (inr (a, b, waits)) =
     going_stopped key old mid after ls hold (standing_in key new) its p (subst (λ (n : ℕ). waits_on n new.links.items ≡ option_map (λ (xs : List ℕ). xs ++ after) (waits_on n ls)) same waits)
 
 -- of which something had gone on
 pub taken_back : (key number : ℕ) (old mid stopped out new : code.Relay) → mid.desk.holds ≡ old.desk.holds → mid.desk.service ≡ old.desk.service → out.links.items ≡ old.links.items → out.outbox.items ≡ stopped.outbox.items
-    → IsHalting number key mid stopped → StopsOn number key out new → IsCancelled (body_of key old) (standing_in key new)
+    → IsHalting number key mid stopped → StopsOn number key out new → IsStoppedOnce (body_of key old) (standing_in key new)
 taken_back key number old mid stopped out new holds service links outbox h (inl deaf) = cancelled_shut (body_of key old) (standing_in key new) (shut new.applications key (going_of key new) deaf)
 taken_back key number old mid stopped out new holds service links outbox h (inr (at, asked, waits)) =
     let behind = waits_behind number new.links.items out.links.items old.links.items out.outbox.items stopped.outbox.items waits links outbox in
     cancelled_in (get old.applications key) (going_of key old) (standing_in key new)
-    (subst (λ (b : Body). IsCancelled b (standing_in key new)) (going_same key old.desk mid.desk old.links.items old.links.items holds service refl)
+    (subst (λ (b : Body). IsStoppedOnce b (standing_in key new)) (going_same key old.desk mid.desk old.links.items old.links.items holds service refl)
     (cancelled_going {A = Unit} {B = Unit} key number mid.desk stopped.desk stopped.outbox.items old.links.items h.hold new h.its h.number_is h.stops (inr (tt, tt, behind))))
 
 -- of which nothing had
 pub forgot_cancelled : {A E : Type 0} (r : Result A E) (key : ℕ) (old mid new : code.Relay) → mid.desk.holds ≡ old.desk.holds → mid.desk.service ≡ old.desk.service → mid.links.items ≡ old.links.items
-    → OnOk r (IsCancelled (going_of key mid) (standing_in key new)) → OnOk r (IsCancelled (body_of key old) (standing_in key new))
+    → OnOk r (IsStoppedOnce (going_of key mid) (standing_in key new)) → OnOk r (IsStoppedOnce (body_of key old) (standing_in key new))
 forgot_cancelled (Ok x) key old mid new holds service links s =
-    cancelled_in (get old.applications key) (going_of key old) (standing_in key new) (subst (λ (b : Body). IsCancelled b (standing_in key new)) (going_same key old.desk mid.desk old.links.items mid.links.items holds service links) s)
+    cancelled_in (get old.applications key) (going_of key old) (standing_in key new) (subst (λ (b : Body). IsStoppedOnce b (standing_in key new)) (going_same key old.desk mid.desk old.links.items mid.links.items holds service links) s)
 forgot_cancelled (Err e) key old mid new holds service links s = tt
 
 closed_then : (a b : Body) → Spared a b → a ≡ Closed → b ≡ Closed
 closed_then a b (inl same) e = same ∙ e
 closed_then a b (inr shut) e = shut
 
-cancelled_on : (key : ℕ) (b : Body) (old new : code.Relay) → new.desk ≡ old.desk → new.links.items ≡ old.links.items → AskOn old.applications new.applications → IsCancelled b (standing_in key old) → IsCancelled b (standing_in key new)
+cancelled_on : (key : ℕ) (b : Body) (old new : code.Relay) → new.desk ≡ old.desk → new.links.items ≡ old.links.items → AskOn old.applications new.applications → IsStoppedOnce b (standing_in key old) → IsStoppedOnce b (standing_in key new)
 cancelled_on key Closed old new desk links asks s = tt
 cancelled_on key Nowhere old new desk links asks s = tt
 cancelled_on key (Kept kind bytes whole) old new desk links asks s = tt
@@ -204,7 +204,7 @@ cancelled_on key (Going number client waits) old new desk links asks (inr e) =
     inr (closed_then (body_in (get old.applications key) (going_of key new)) (body_of key new) (asks key (going_of key new)) (ap (body_in (get old.applications key)) goes ∙ e))
 
 -- and then it is told so
-pub cancelled_told : {A E : Type 0} (r : Result A E) (key : ℕ) (b : Body) (old new : code.Relay) → IsCancelled b (standing_in key old) → new.desk ≡ old.desk → OnOk r (new.links.items ≡ old.links.items)
-    → OnOk r (AskOn old.applications new.applications) → OnOk r (IsCancelled b (standing_in key new))
+pub cancelled_told : {A E : Type 0} (r : Result A E) (key : ℕ) (b : Body) (old new : code.Relay) → IsStoppedOnce b (standing_in key old) → new.desk ≡ old.desk → OnOk r (new.links.items ≡ old.links.items)
+    → OnOk r (AskOn old.applications new.applications) → OnOk r (IsStoppedOnce b (standing_in key new))
 cancelled_told (Ok x) key b old new s desk links asks = cancelled_on key b old new desk links asks s
 cancelled_told (Err e) key b old new s desk links asks = tt

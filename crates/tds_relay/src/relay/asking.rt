@@ -3,7 +3,7 @@ ghost use Rattle.std.specs.Prelude.{◌≡◌, ◌≤◌, [], Bool, None, IfOk, 
 ghost use Rattle.std.specs.Prelude.{drop, false, length, true};
 ghost use Rattle.slab.specs.Slab.{get};
 ghost use Rattle.tds_relay.specs.Asking.{Asks, AsksOn, IfAsks, IsUnderway, waits_of};
-ghost use Rattle.tds_relay.specs.Bodies.{Body, Cancels, CancelsOn, CancelsSaid, Carries, CarriesOn};
+ghost use Rattle.tds_relay.specs.Bodies.{Body, HeedsAll, HeedsOn, CancelsSaid, Carries, CarriesOn};
 ghost use Rattle.tds_relay.specs.Bodies.{Grows, Obeys, Starts, body_of, last_of, standing_in};
 ghost use Rattle.tds_relay.specs.Bodies.{standing_open};
 ghost use Rattle.tds_relay.specs.Closings.{ClosesOnly, register_in};
@@ -56,7 +56,7 @@ impl Relay {
             (register_in self.old) (register_in self.new)) }
         ensures seated { IsSeated self.old → OnOk result (IsSeated self.new) }
         ensures others { OnOk result (OthersGo key self.old self.new) }
-        ensures cancels { IsReached (desk_in self.old.desk) → OnOk result (Cancels key
+        ensures cancels { IsReached (desk_in self.old.desk) → OnOk result (HeedsAll key
             (house_in self.old) piece.now [] (standing_in key self.old)
             (standing_open key self.new) (house_in self.new)) }
         ensures opening { OnOk result (OpensNew self.old self.new) }
@@ -88,7 +88,7 @@ impl Relay {
         ensures seated { IsSeated self.old → OnOk result (IsSeated self.new) }
         ensures others { IsReached (desk_in self.old.desk)
             → OnOk result (OthersRest key self.old self.new) }
-        ensures cancels { OnOk result (Cancels key (house_in self.old) piece.now []
+        ensures cancels { OnOk result (HeedsAll key (house_in self.old) piece.now []
             (standing_in key self.old) (standing_in key self.new) (house_in self.new)) }
         ensures opening { opens_in self.new.orders.items ≡ opens_in self.old.orders.items }
         ensures aside { IsReached (desk_in self.old.desk)
@@ -127,7 +127,7 @@ impl Relay {
         ensures seated { IsSeated self.old → OnOk result (IsSeated self.new) }
         ensures others { IsReached (desk_in self.old.desk)
             → OnOk result (OthersRest key self.old self.new) }
-        ensures cancels { IfOk result (λ count. CancelsOn key piece.now (drop count piece.now)
+        ensures cancels { IfOk result (λ count. HeedsOn key piece.now (drop count piece.now)
             (standing_in key self.old) (standing_in key self.new) (house_in self.old)
             (house_in self.new)) }
         ensures opening { opens_in self.new.orders.items ≡ opens_in self.old.orders.items }

@@ -4,7 +4,7 @@ ghost use Rattle.std.specs.Prelude.{◌≡◌, ◌⊎◌, [], ℕ, IfNone, IfOk,
 ghost use Rattle.std.specs.Prelude.{true};
 ghost use Rattle.tds_front.specs.declared.front.Said.TheVariants.{Forget, HandOn};
 ghost use Rattle.tds_relay.specs.Anew.{AsksNothing};
-ghost use Rattle.tds_relay.specs.Bodies.{AskAsBefore, AskOn, Body, Halts, IsCancelled, IsHalting, IsUnsent};
+ghost use Rattle.tds_relay.specs.Bodies.{AskAsBefore, AskOn, Body, Halts, IsStoppedOnce, IsHalting, IsUnsent};
 ghost use Rattle.tds_relay.specs.Bodies.{Nowhere, Spared, Starts, StopsOn, body_in, body_of};
 ghost use Rattle.tds_relay.specs.Bodies.{going_of, standing_in};
 ghost use Rattle.tds_relay.specs.Closings.{ClosesOnly, Nobody, register_in};
@@ -54,7 +54,7 @@ impl Relay {
         ensures others { IsReached (desk_in self.old.desk)
             → OnOk result (OthersRest key self.old self.new) }
         ensures seated { IsSeated self.old → OnOk result (IsSeated self.new) }
-        ensures cancels { OnOk result (IsCancelled (body_of key self.old)
+        ensures cancels { OnOk result (IsStoppedOnce (body_of key self.old)
             (standing_in key self.new)) }
         ensures opening { opens_in self.new.orders.items ≡ opens_in self.old.orders.items }
         ensures aside { IsReached (desk_in self.old.desk)
@@ -111,7 +111,7 @@ impl Relay {
         ensures others { IsReached (desk_in self.old.desk)
             → OnOk result (OthersRest key self.old self.new) }
         ensures seated { IsSeated self.old → OnOk result (IsSeated self.new) }
-        ensures cancels { OnOk result (IsCancelled (going_of key self.old)
+        ensures cancels { OnOk result (IsStoppedOnce (going_of key self.old)
             (standing_in key self.new)) }
         ensures opening { opens_in self.new.orders.items ≡ opens_in self.old.orders.items }
         ensures aside { IsReached (desk_in self.old.desk)
@@ -151,7 +151,7 @@ impl Relay {
         ensures others { IsReached (desk_in self.old.desk)
             → OnOk result (OthersRest key self.old self.new) }
         ensures seated { IsSeated self.old → OnOk result (IsSeated self.new) }
-        ensures cancels { OnOk result (IsCancelled (body_of key self.old)
+        ensures cancels { OnOk result (IsStoppedOnce (body_of key self.old)
             (standing_in key self.new)) }
         ensures opening { opens_in self.new.orders.items ≡ opens_in self.old.orders.items }
         ensures aside { IsReached (desk_in self.old.desk)

@@ -24,7 +24,7 @@ use Rattle.tds_relay.specs.Ties.{Application, IsReached, Reaches, desk_in}
 use Rattle.tds_relay.proofs.spared.Speaking.{done_as, closed_rest}
 use Rattle.tds_relay.proofs.spared.Resting.{all_others, others_both, others_on}
 use Rattle.tds_relay.specs.declared.desk.leaving.Renewed.{Renewed}
-use Rattle.tds_relay.specs.Sparing.{IsKeptBy, IsRenewed, IsLostBy}
+use Rattle.tds_relay.specs.Sparing.{IsKeptBy, IsRenewed}
 use Rattle.tds_relay.proofs.spared.Elsewhere.{begun_aside, begun_own, aside_own, keeps_both, keeps_on, renew_keeps, closed_aside}
 use Rattle.tds_relay.proofs.spared.Filling.{carried, last_found}
 use Rattle.tds_relay.proofs.held.Numbers.{Apart, apart_at, its_holder}
@@ -142,11 +142,6 @@ returns-else-has_transaction-clause-others c = λ reached.
     others_on c.change.result c.args.key c.args.self.now _ c.change.new.self (c.change.ensures.others (reached_turn _ _ _ _ _ c.in_ok-hold.ensures.turns.1 reached))
     (done_as c.args.key c.args.self.now _ reached c.in_ok-hold.ensures.others refl (λ k goes. refl))
 
-pub returns-in-Closed-clause-others : goal.returns-in-Closed-clause-others
-returns-in-Closed-clause-others c = λ reached.
-    let is = subst (λ (r : Renewed). IsRenewed r c.args.key c.args.self.now.desk c.renew.new.self) c.in-Closed.is c.in_ok-hold.ensures.is in
-    closed_rest c.close.result c.args.key c.in-Closed.number is.0 c.args.self.now c.close.new.self _ reached is.1 is.2 c.in_ok-hold.ensures.others c.close.ensures.desk c.close.ensures.others c.close.ensures.asks
-
 pub returns-then-has_transaction-clause-aside : goal.returns-then-has_transaction-clause-aside
 returns-then-has_transaction-clause-aside c = λ reached.
     keeps_on c.expel.result c.args.key c.args.self.now.desk.holds.items c.renew.new.self.holds.items c.expel.new.self.desk.holds.items c.args.self.now.links.items c.args.self.now.links.items c.expel.new.self.links.items
@@ -173,12 +168,3 @@ returns-in-Kept-clause-aside c = λ reached.
     (begun_aside c.args.key number c.renew.new.self.holds.items c.args.self.now.links.items c.restart.new.self.links.items its
     (begun_own number c.args.self.now.links.items c.restart.new.self.links.items c.restart.ensures.posts c.restart.ensures.others))))
     (aside_own c.start_kept.result c.args.key c.restart.new.self c.start_kept.new.self (c.start_kept.ensures.own (subst (λ (d : code.Desk). IsReached (desk_in d)) (sym c.restart.ensures.desk) led)))
-
-pub returns-in-Closed-clause-aside : goal.returns-in-Closed-clause-aside
-returns-in-Closed-clause-aside c = λ reached.
-    let is = subst (λ (r : Renewed). IsRenewed r c.args.key c.args.self.now.desk c.renew.new.self) c.in-Closed.is c.in_ok-hold.ensures.is in
-    let its : key_of (find_number c.in-Closed.number c.args.self.now.desk.holds.items) ≡ Some c.args.key =
-    ap (λ (n : ℕ). key_of (find_number n c.args.self.now.desk.holds.items)) is.2 ∙ its_holder c.args.key is.0 c.args.self.now.desk.holds.items (apart_at (desk_in c.args.self.now.desk) reached) is.1 in
-    closed_aside c.close.result c.args.key c.in-Closed.number c.args.self.now.desk.holds.items c.renew.new.self.holds.items c.close.new.self.desk.holds.items c.args.self.now.links.items c.close.new.self.links.items its
-    (λ n differs. renew_keeps (desk_in c.args.self.now.desk) c.args.key n reached differs (desk_in c.renew.new.self) c.in_ok-hold.ensures.turns.0 c.in_ok-hold.ensures.turns.1.desk_is)
-    (ap (λ (d : code.Desk). d.holds.items) c.close.ensures.desk) c.close.ensures.posts c.close.ensures.answers

@@ -1,6 +1,6 @@
 use Rattle.std.proofs.Common.{◌≡◌, ◌≤◌, ◌+◌, length}
 use Rattle.tds_relay.specs.Asking.{Asks}
-use Rattle.tds_relay.specs.Bodies.{Cancels, Carries, body_of, standing_in}
+use Rattle.tds_relay.specs.Bodies.{HeedsAll, Carries, body_of, standing_in}
 use Rattle.tds_relay.specs.Fronts.{house_in}
 use Rattle.tds_relay.specs.Posts.{names_in}
 use Rattle.tds_relay.specs.Reads.{Stays}
@@ -23,7 +23,7 @@ invariant-taking l = record {
   tells : Tells l.fn.key (house_in l.fn.self) l.fn.piece l.rest (house_in l.self);
   asks : Asks l.fn.key (house_in l.fn.self) l.fn.piece l.rest l.self.links.items (house_in l.self);
   carries : Carries l.fn.key (house_in l.fn.self) l.fn.piece l.rest (body_of l.fn.key l.fn.self) (body_of l.fn.key l.self) (house_in l.self);
-  cancels : Cancels l.fn.key (house_in l.fn.self) l.fn.piece l.rest (standing_in l.fn.key l.fn.self) (standing_in l.fn.key l.self) (house_in l.self);
+  cancels : HeedsAll l.fn.key (house_in l.fn.self) l.fn.piece l.rest (standing_in l.fn.key l.fn.self) (standing_in l.fn.key l.self) (house_in l.self);
   read : Stays l.fn.self.links.items l.self.links.items;
   stand : AllStand l.fn.self.desk.service l.self.desk.service;
   closes : ClosesOnly (ItselfFor l.fn.key (HasReason l.fn.key l.fn.piece l.fn.self)) (register_in l.fn.self) (register_in l.self);
