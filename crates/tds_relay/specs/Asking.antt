@@ -26,12 +26,9 @@ stage_by s lease = option_map (λ (c : Seat). c.line.stage) (find_by (has_lease 
 
 -- A request is being sent there; or all of it was, where it is whole.
 abbrev pub IsSent : Bool → Option line.Stage → Type 0
-IsSent whole None = ⊥
-IsSent whole (Some line.Idle) = ⊥
 IsSent whole (Some (line.Sending begun)) = whole ≡ false
 IsSent whole (Some line.Reading) = whole ≡ true
-IsSent whole (Some line.Cancelling) = ⊥
-IsSent whole (Some (line.Broken fault)) = ⊥
+IsSent whole _ = ⊥
 
 pub record SendsOn (whole : Bool) (d : Desk) (key : ℕ) : Type 0 where
   pub hold : Hold

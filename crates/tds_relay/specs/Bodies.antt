@@ -190,21 +190,14 @@ GoesFrom old new = Starts old.0 new.0 × ((number : ℕ) → FillsAt (old.1 numb
 -- Where it went on, what cancels it by its client waits behind what waited on its connection, once, and nothing else; or its application is to be
 -- closed.
 abbrev pub IsStoppedOnce : Body → BodyAndWaits → Type 0
-IsStoppedOnce Closed new = Unit {0}
-IsStoppedOnce Nowhere new = Unit {0}
-IsStoppedOnce (Kept kind bytes whole) new = Unit {0}
-IsStoppedOnce Astray new = Unit {0}
 IsStoppedOnce (Going number client waits) new = (new.1 number ≡ Some (waits ++ cancel_out client.stage)) ⊎ (new.0 ≡ Closed)
+IsStoppedOnce _ new = Unit {0}
 
 -- So it is where it is taken back by what is said.
 abbrev pub CancelsSaid : Said → Body → BodyAndWaits → Type 0
-CancelsSaid said.Nothing old new = Unit {0}
-CancelsSaid (said.Begin kind reset) old new = Unit {0}
-CancelsSaid (said.Body count) old new = Unit {0}
-CancelsSaid (said.End count) old new = Unit {0}
 CancelsSaid (said.Forget gone) old new = IsStoppedOnce old new
 CancelsSaid said.Acknowledge old new = IsStoppedOnce old new
-CancelsSaid said.HandOn old new = Unit {0}
+CancelsSaid _ old new = Unit {0}
 
 -- Bytes are taken of which this is said.
 pub record Heeds (answer : Said) (taken : List ℕ) (old new : BodyAndWaits) : Type 0 where

@@ -138,12 +138,9 @@ pub record ClosesOnly (May : ℕ → Type 0) (old new : Register) : Type 0 where
 
 -- packets of this type are no request
 abbrev pub IsNoRequest : Kind → Type 0
-IsNoRequest kinds.Batch = ⊥
-IsNoRequest kinds.Procedure = ⊥
 IsNoRequest kinds.Answer = Unit {0}
 IsNoRequest kinds.Attention = Unit {0}
-IsNoRequest kinds.BulkLoad = ⊥
-IsNoRequest kinds.Transaction = ⊥
+IsNoRequest _ = ⊥
 
 -- ---- Whom it may close
 

@@ -117,15 +117,8 @@ is_free_at None = false
 is_free_at (Some place) = calls.is_free place
 
 abbrev pub frees : Reply → Bool
-frees Unknown = false
-frees AllInUse = false
-frees NotNow = false
-frees (No why) = false
-frees NoMemory = false
-frees (Lent lease number had) = false
-frees (Ticket ticket) = false
-frees Did = false
 frees (Back place) = is_free_at place
+frees _ = false
 
 -- A lease is given back, by which what is underway is cancelled; a connection that is free then is cleaned at once. Where memory is
 -- refused to that, it is closed.
@@ -158,19 +151,11 @@ pub data Hearing : Type 0 where
   Wrong : Hearing
 
 abbrev pub hearing_of : line.Answer → Hearing
-hearing_of (line.Refused why) = Goes
-hearing_of line.Marked = Goes
-hearing_of (line.Asked request descriptor) = Goes
-hearing_of line.Sent = Goes
-hearing_of line.Nothing = Goes
-hearing_of line.Already = Goes
-hearing_of (line.Unsent request) = Goes
-hearing_of (line.Stopped request) = Goes
-hearing_of line.More = Goes
 hearing_of (line.Finished request) = Settled
 hearing_of (line.Acked request) = Settled
 hearing_of (line.Fault fault) = Wrong
 hearing_of line.Lost = Wrong
+hearing_of _ = Goes
 
 abbrev pub hearing : List (Done Token) → Hearing
 hearing [] = Goes
@@ -233,26 +218,12 @@ pub record Loan : Type 0 where
   pub number : ℕ
 
 abbrev pub lent_in : Reply → Option Loan
-lent_in Unknown = None
-lent_in AllInUse = None
-lent_in NotNow = None
-lent_in (No why) = None
-lent_in NoMemory = None
 lent_in (Lent lease number had) = Some (record { lease = lease; number = number })
-lent_in (Ticket ticket) = None
-lent_in Did = None
-lent_in (Back place) = None
+lent_in _ = None
 
 abbrev pub ticket_in : Reply → Option ℕ
-ticket_in Unknown = None
-ticket_in AllInUse = None
-ticket_in NotNow = None
-ticket_in (No why) = None
-ticket_in NoMemory = None
-ticket_in (Lent lease number had) = None
 ticket_in (Ticket ticket) = Some ticket
-ticket_in Did = None
-ticket_in (Back place) = None
+ticket_in _ = None
 
 abbrev pub serves_by : Desk → ℕ → List ℕ → Option Loan → Turn
 serves_by d key others None = rests d

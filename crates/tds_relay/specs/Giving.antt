@@ -32,12 +32,9 @@ if_its key (Some other) (Some pieces) = if other == key then pieces ∷ [] else 
 
 -- By a packet on the connection that it is lent: that packet. By its own attention: the acknowledgement, where its end owes it that.
 abbrev pub given : ℕ → House → Step → List Given
-given key h (Makes move) = []
 given key h (Hands number header content part way manner) = if_its key (whose h.hall.desk number) (handed manner header content)
 given key h (Takes other bytes) = if_its key (Some other) (owed bytes (end_at h.hall.ends other))
-given key h (Writes other count) = []
-given key h (Admits other ends posts) = []
-given key h (Removes other gives way) = []
+given key h _ = []
 
 abbrev pub given_all : ℕ → House → List Step → List Given
 given_all key h [] = []

@@ -131,13 +131,10 @@ hands_on answer = false
 
 -- A request that begins asks for this reset itself, or for none; of one that is taken back, none is told.
 abbrev pub asks_by : Said → Option Reset → Option Reset
-asks_by said.Nothing asks = asks
 asks_by (said.Begin kind reset) asks = reset
-asks_by (said.Body count) asks = asks
-asks_by (said.End count) asks = asks
 asks_by (said.Forget gone) asks = None
 asks_by said.Acknowledge asks = None
-asks_by said.HandOn asks = asks
+asks_by _ asks = asks
 
 abbrev pub end_behind : Front → Bool → Option Reset → Result Fed FrontFault → End
 end_behind front withdrawn asks (Ok fed) = Open front (takes_back fed.said || withdrawn) (asks_by fed.said asks)
@@ -240,11 +237,8 @@ IsBegun stages.Stopping = ⊥
 IsBegun (stages.Broken fault) = ⊥
 
 abbrev pub IsWhole : Stage → Type 0
-IsWhole stages.Quiet = ⊥
-IsWhole (stages.Receiving kind gone) = ⊥
 IsWhole (stages.Underway gone) = Unit {0}
-IsWhole stages.Stopping = ⊥
-IsWhole (stages.Broken fault) = ⊥
+IsWhole _ = ⊥
 
 -- where its end is open
 abbrev pub IfOpen : (Stage → Type 0) → Option End → Type 0
@@ -350,13 +344,9 @@ MayMove h (Does event) = MayDoAlone h event
 MayMove h (Sends key deed) = IsPut deed × MayDo deed (end_at h.ends key)
 MayMove h (LetsGo key true gives way) = may_park h key ≡ true
 MayMove h (LetsGo key false gives way) = MayPart h key
-MayMove h (Loses number) = Unit {0}
 MayMove h (Replaces number) = IfWhose (MayPart h) (holder h.desk number)
-MayMove h (Comes number part way) = Unit {0}
-MayMove h (Feeds key bytes) = Unit {0}
-MayMove h (Closes key) = Unit {0}
 MayMove h (Enters key ends) = HasEntered key h.ends ends
-MayMove h (Quits key gives way) = Unit {0}
+MayMove h _ = Unit {0}
 
 abbrev pub MayMoveAll : Hall → List Move → Type 0
 MayMoveAll h [] = Unit {0}
@@ -379,16 +369,11 @@ CausesMove by (Quits key gives way) = by ≡ causes.Application key
 
 -- By it nothing is given to an application, and none comes or is there no more.
 abbrev pub IsQuiet : Move → Type 0
-IsQuiet (Does event) = Unit {0}
-IsQuiet (Sends key deed) = Unit {0}
-IsQuiet (LetsGo key parks gives way) = Unit {0}
-IsQuiet (Loses number) = Unit {0}
-IsQuiet (Replaces number) = Unit {0}
 IsQuiet (Comes number part way) = ⊥
 IsQuiet (Feeds key bytes) = ⊥
-IsQuiet (Closes key) = Unit {0}
 IsQuiet (Enters key ends) = ⊥
 IsQuiet (Quits key gives way) = ⊥
+IsQuiet _ = Unit {0}
 
 -- Quiet moves that this causes led from one hall to the other.
 pub record Moves (by : Cause) (old new : Hall) : Type 0 where

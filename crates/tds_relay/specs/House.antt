@@ -150,21 +150,13 @@ IsRight header content Withheld = Unit {0}
 -- whether a reset is owed that was asked for, and hasn't been told: it has been behind the first news. Those that nobody asked for are an
 -- application's own (`sp_reset_connection`)
 abbrev pub owed_behind : Bool → Sign → Bool
-owed_behind owed signs.Nothing = owed
-owed_behind owed (signs.Change (changes.Begin descriptor)) = owed
-owed_behind owed (signs.Change (changes.Commit descriptor)) = owed
-owed_behind owed (signs.Change (changes.Rollback descriptor)) = owed
 owed_behind owed (signs.Change changes.ResetDone) = false
-owed_behind owed (signs.Done kind status) = owed
+owed_behind owed _ = owed
 
 -- how often these tell that it is done, from where it is owed or isn't
 abbrev pub news_of : Bool → Sign → ℕ
-news_of owed signs.Nothing = 0
-news_of owed (signs.Change (changes.Begin descriptor)) = 0
-news_of owed (signs.Change (changes.Commit descriptor)) = 0
-news_of owed (signs.Change (changes.Rollback descriptor)) = 0
 news_of owed (signs.Change changes.ResetDone) = one_if owed
-news_of owed (signs.Done kind status) = 0
+news_of owed _ = 0
 
 abbrev pub news_in : Bool → List (Item Token) → ℕ
 news_in owed [] = 0

@@ -16,43 +16,29 @@ known_by known.News byte = known.News
 
 -- the bytes of it that are held back until it is known
 abbrev pub held : Known → List ℕ
-held known.None = []
-held known.Awaited = []
 held known.One = 227 ∷ []
 held (known.Two low) = 227 ∷ low ∷ []
 held (known.Three low high) = 227 ∷ low ∷ high ∷ []
-held known.Other = []
-held known.News = []
+held _ = []
 
 -- some are
 abbrev pub holds_back : Known → Bool
 holds_back known.None = false
 holds_back known.Awaited = false
-holds_back known.One = true
-holds_back (known.Two low) = true
-holds_back (known.Three low high) = true
 holds_back known.Other = false
-holds_back known.News = true
+holds_back _ = true
 
 -- the bytes that go on with this one, where this is known behind it
 abbrev pub let_on : Known → ℕ → Known → List ℕ
 let_on before byte known.None = byte ∷ []
-let_on before byte known.Awaited = []
-let_on before byte known.One = []
-let_on before byte (known.Two low) = []
-let_on before byte (known.Three low high) = []
 let_on before byte known.Other = held before ++ byte ∷ []
-let_on before byte known.News = []
+let_on before byte _ = []
 
 -- and of the next one behind its end: the news are awaited no more once they were there
 abbrev pub known_next : Known → Known
 known_next known.None = known.None
-known_next known.Awaited = known.Awaited
-known_next known.One = known.Awaited
-known_next (known.Two low) = known.Awaited
-known_next (known.Three low high) = known.Awaited
-known_next known.Other = known.Awaited
 known_next known.News = known.None
+known_next _ = known.Awaited
 
 -- what is known where the server owes the news, or doesn't
 abbrev pub awaiting : Bool → Known → Known

@@ -35,13 +35,8 @@ begun_in (Some application) = application.begun
 
 -- with each that its bytes begin there is one more, up to 2^64 - 1
 abbrev pub begun_more : Said → ℕ → ℕ
-begun_more said.Nothing count = count
 begun_more (said.Begin kind reset) count = next count
-begun_more (said.Body length) count = count
-begun_more (said.End length) count = count
-begun_more (said.Forget gone) count = count
-begun_more said.Acknowledge count = count
-begun_more said.HandOn count = count
+begun_more _ count = count
 
 -- No transaction is open on the connection that it holds.
 abbrev pub IsClosedOn : Option Hold → Desk → Type 0
@@ -61,10 +56,7 @@ is_by_transactions Transactions = true
 -- Its end asks nothing, took nothing back that the server hasn't acknowledged, and has been told of each reset that it asked for.
 abbrev pub is_done_with : Stage → Bool → Option Reset → Bool
 is_done_with stages.Quiet withdrawn asks = not withdrawn && is_none asks
-is_done_with (stages.Receiving kind gone) withdrawn asks = false
-is_done_with (stages.Underway gone) withdrawn asks = false
-is_done_with stages.Stopping withdrawn asks = false
-is_done_with (stages.Broken fault) withdrawn asks = false
+is_done_with _ withdrawn asks = false
 
 -- No transaction is open on a connection, and no news of a reset is to come there.
 abbrev pub is_clean_of : Option Seat → Bool

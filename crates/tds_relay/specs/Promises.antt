@@ -52,12 +52,9 @@ pub record Holds (d : Desk) (key number : ℕ) : Type 0 where
 
 -- Something of a request is out there, and neither its whole answer has come nor was it cancelled.
 abbrev pub IsOut : Stage → Type 0
-IsOut line.Idle = ⊥
-IsOut (line.Sending false) = ⊥
 IsOut (line.Sending true) = Unit {0}
 IsOut line.Reading = Unit {0}
-IsOut line.Cancelling = ⊥
-IsOut (line.Broken fault) = ⊥
+IsOut _ = ⊥
 
 pub record Cancels (d : Desk) (key number : ℕ) : Type 0 where
   pub held : Holds d key number
@@ -71,15 +68,9 @@ IsStop (desk.Ends count) = ⊥
 IsStop desk.Stops = Unit {0}
 
 abbrev pub IsOf : ℕ → Event → Type 0
-IsOf key (desk.Waits other) = ⊥
-IsOf key (desk.Unwaits other) = ⊥
-IsOf key desk.Serves = ⊥
-IsOf key (desk.Brings gives way) = ⊥
 IsOf key (desk.Does other deed) = (other ≡ key) × IsStop deed
 IsOf key (desk.Leaves other gives way) = other ≡ key
-IsOf key (desk.Renews other resumes) = ⊥
-IsOf key (desk.Comes number part way) = ⊥
-IsOf key (desk.Loses number) = ⊥
+IsOf key _ = ⊥
 
 -- the attentions that go out on a connection
 abbrev pub attentions_on : Desk → Event → ℕ → ℕ
@@ -105,20 +96,10 @@ one_if said = if said then 1 else 0
 
 -- a call by this lease that says something of a request: that it is asked, bytes of it, its end
 abbrev pub says : ℕ → Call Token → ℕ
-says lease calls.Lease = 0
-says lease (calls.Resume ticket) = 0
 says lease (calls.Ask other) = one_if (other == lease)
 says lease (calls.Put other count) = one_if (other == lease)
 says lease (calls.Finish other count) = one_if (other == lease)
-says lease (calls.Cancel other) = 0
-says lease (calls.GiveBack other) = 0
-says lease (calls.Clean number) = 0
-says lease (calls.Cleaned other) = 0
-says lease (calls.Keep other) = 0
-says lease (calls.Abandon ticket) = 0
-says lease (calls.Came number part) = 0
-says lease (calls.Lost number) = 0
-says lease (calls.Without call) = 0
+says lease _ = 0
 
 abbrev pub said_by : ℕ → List (Call Token) → ℕ
 said_by lease [] = 0
@@ -144,14 +125,7 @@ IsAmong (x ∷ xs) (y ∷ ys) = ((x ≡ y) × IsAmong xs ys) ⊎ IsAmong (x ∷ 
 -- who begins to wait
 abbrev pub comes_to_wait : Event → List ℕ
 comes_to_wait (desk.Waits key) = key ∷ []
-comes_to_wait (desk.Unwaits key) = []
-comes_to_wait desk.Serves = []
-comes_to_wait (desk.Brings gives way) = []
-comes_to_wait (desk.Does key deed) = []
-comes_to_wait (desk.Leaves key gives way) = []
-comes_to_wait (desk.Renews key resumes) = []
-comes_to_wait (desk.Comes number part way) = []
-comes_to_wait (desk.Loses number) = []
+comes_to_wait _ = []
 
 -- Whoever is lent one has waited longest.
 abbrev pub LendsFirst : Desk → Type 0

@@ -57,13 +57,8 @@ use Rattle.tds_relay.specs.Told.{room_to_keep}
 
 -- want of memory is none: that is handed up
 abbrev pub IsReason : Refusal → Type 0
-IsReason refusals.Unknown = Unit {0}
-IsReason refusals.AllInUse = Unit {0}
-IsReason refusals.NotNow = Unit {0}
-IsReason refusals.NotIdle = Unit {0}
-IsReason refusals.NotSending = Unit {0}
-IsReason refusals.Broken = Unit {0}
 IsReason refusals.Memory = ⊥
+IsReason _ = Unit {0}
 
 -- The application holds a connection, and what the service does by this call it refuses of that.
 pub record RefusesThere (call : ℕ → ℕ → Call Token) (key : ℕ) (d : desks.Desk) : Type 0 where
@@ -118,11 +113,8 @@ pub data CannotAsk (kind : MessageKind) (bytes : List ℕ) (whole : Bool) (key :
 
 -- That is ready for it, and it isn't asked there.
 abbrev pub CannotStart : ℕ → Option End → desks.Desk → List Link → Body → Type 0
-CannotStart key end d links Closed = ⊥
-CannotStart key end d links Nowhere = ⊥
 CannotStart key end d links (Kept kind bytes whole) = IsReadyThere key end d links × CannotAsk kind bytes whole key end d links
-CannotStart key end d links Astray = ⊥
-CannotStart key end d links (Going number client waits) = ⊥
+CannotStart key end d links _ = ⊥
 
 -- with what a relay has
 abbrev pub CannotStartAt : ℕ → code.Relay → Type 0

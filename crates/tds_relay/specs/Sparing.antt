@@ -124,18 +124,12 @@ pub record OffGo (number : ℕ) (who : Option ℕ) (old new : code.Relay) : Type
 -- ---- A request that has waited
 
 abbrev pub IsKept : Body → Type 0
-IsKept Closed = ⊥
-IsKept Nowhere = ⊥
 IsKept (Kept kind bytes whole) = Unit {0}
-IsKept Astray = ⊥
-IsKept (Going number client waits) = ⊥
+IsKept _ = ⊥
 
 abbrev pub IsUnkept : Body → Type 0
-IsUnkept Closed = Unit {0}
-IsUnkept Nowhere = Unit {0}
 IsUnkept (Kept kind bytes whole) = ⊥
-IsUnkept Astray = Unit {0}
-IsUnkept (Going number client waits) = Unit {0}
+IsUnkept _ = Unit {0}
 
 -- It goes on, or its application is to be closed.
 abbrev pub HasGone : Body → Type 0

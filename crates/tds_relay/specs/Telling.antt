@@ -28,13 +28,10 @@ pub data Event : Type 0 where
 -- ---- In a step
 
 abbrev pub asked_by : Said → List Event
-asked_by said.Nothing = []
 asked_by (said.Begin kind reset) = Asks reset ∷ []
-asked_by (said.Body count) = []
-asked_by (said.End count) = []
 asked_by (said.Forget gone) = TakesBack ∷ []
 asked_by said.Acknowledge = TakesBack ∷ []
-asked_by said.HandOn = []
+asked_by _ = []
 
 abbrev pub asked : Result Fed FrontFault → List Event
 asked (Ok fed) = asked_by fed.said
@@ -55,12 +52,9 @@ if_its key None events = []
 if_its key (Some other) events = if other == key then events else []
 
 abbrev pub happens : ℕ → House → Step → List Event
-happens key h (house.Makes move) = []
 happens key h (house.Hands number header content part way manner) = if_its key (whose h.hall.desk number) (heard_in (owes_reset number h.hall.desk) (what_in (done_by h.hall.desk number part)) manner part)
 happens key h (house.Takes other bytes) = if_its key (Some other) (asked_in bytes (end_at h.hall.ends key))
-happens key h (house.Writes other count) = []
-happens key h (house.Admits other ends posts) = []
-happens key h (house.Removes other gives way) = []
+happens key h _ = []
 
 -- ---- Along steps
 

@@ -125,10 +125,7 @@ lost_by s number = (step {T = Token} s (calls.Lost number)).service
 
 abbrev pub is_sent : Way → Bool
 is_sent (Sent put finish) = true
-is_sent NotLent = false
-is_sent NotAsked = false
-is_sent NotPut = false
-is_sent (NotEnded put) = false
+is_sent _ = false
 
 -- Whoever waits first was lent a connection; or nobody waits, or as many are in use as may be.
 abbrev pub IsServed : List ℕ → Service → Type 0

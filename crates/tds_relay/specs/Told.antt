@@ -27,11 +27,8 @@ use Rattle.tds_relay.specs.Ties.{desk_in}
 
 -- its cancel was handed on, and isn't acknowledged
 abbrev pub has_cancelled : Stage → Bool
-has_cancelled stages.Quiet = false
-has_cancelled (stages.Receiving kind gone) = false
-has_cancelled (stages.Underway gone) = false
 has_cancelled stages.Stopping = true
-has_cancelled (stages.Broken fault) = false
+has_cancelled _ = false
 
 -- Who holds no connection is waiting while its request waits, and else quiet.
 abbrev pub unheld_place : Asking → Place

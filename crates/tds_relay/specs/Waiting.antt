@@ -51,13 +51,9 @@ KeepsInLine whole more (Some a) new =
 
 -- So are those of one that goes on or ends, by what is said of them.
 abbrev pub KeepsSaid : Said → List ℕ → Option Application → Body → Type 0
-KeepsSaid said.Nothing taken old new = Unit {0}
-KeepsSaid (said.Begin kind reset) taken old new = Unit {0}
 KeepsSaid (said.Body count) taken old new = KeepsInLine false (last_of count taken) old new
 KeepsSaid (said.End count) taken old new = KeepsInLine true (last_of count taken) old new
-KeepsSaid (said.Forget gone) taken old new = Unit {0}
-KeepsSaid said.Acknowledge taken old new = Unit {0}
-KeepsSaid said.HandOn taken old new = Unit {0}
+KeepsSaid _ taken old new = Unit {0}
 
 -- ---- As a connection opens
 

@@ -258,10 +258,13 @@ resume_as key end d a b body was alike same (inr x) = inr (x.0, renewed_as (Cann
 pub not_as : (number : ℕ) (key : Option ℕ) (ends ends1 : Ends) (d : desks.Desk) (a b : List Link) (body was : Body) (other : ℕ) → ends ≡ ends1 → KeepsPosts a b → (IsKept body → was ≡ body) → ResumesNot number key ends d b body other
     → ResumesNot number key ends1 d a was other
 not_as number key ends ends1 d a b body was other e alike same (inl x) =
-    inl (x.0, elim x.1 [
-      | inl none ↦ inl none
-      | inr why ↦ inr (subst (λ (es : Ends). CannotResume other (end_at es other) d a was) e (resume_as other (end_at ends other) d a b body was alike same why))
-    ])
+    inl (
+      x.0,
+      elim x.1 [
+        | inl none ↦ inl none
+        | inr why ↦ inr (subst (λ (es : Ends). CannotResume other (end_at es other) d a was) e (resume_as other (end_at ends other) d a b body was alike same why))
+      ],
+    )
 not_as number key ends ends1 d a b body was other e alike same (inr x) = inr x
 
 pub part_at : (key : ℕ) (end : Option End) (d e : desks.Desk) → desk_in d ≡ desk_in e → CannotPart key end d → CannotPart key end e

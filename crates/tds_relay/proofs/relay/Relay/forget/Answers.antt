@@ -81,6 +81,7 @@ returns-then-was_asked-clause-aside c = λ reached.
 
 pub returns-else-was_asked-clause-aside : goal.returns-else-was_asked-clause-aside
 returns-else-was_asked-clause-aside c = λ reached. (aside_same c.args.key c.args.self.now c.forget_request-was_asked.new.self (ap (λ (d : Desk). d.holds) c.forget_request-was_asked.ensures.turns.desk_is) c.forget_request-was_asked.ensures.links)
+
 pub returns-then-was_asked-clause-cancels : goal.returns-then-was_asked-clause-cancels
 returns-then-was_asked-clause-cancels c =
     forgot_cancelled c.unask.result c.args.key c.args.self.now c.forget_request-was_asked.new.self c.unask.new.self c.forget_request-was_asked.ensures.holds c.forget_request-was_asked.ensures.service

@@ -243,6 +243,7 @@ returns-in-Nothing-clause-aside c = λ reached. aside_refl c.args.key c.args.sel
 pub returns-in_ok-forget-in-Acknowledge-clause-aside : goal.returns-in_ok-forget-in-Acknowledge-clause-aside
 returns-in_ok-forget-in-Acknowledge-clause-aside c = λ reached.
     aside_linked c.acknowledge.result c.args.key c.args.self.now c.forget-in-Acknowledge.new.self c.acknowledge.new.self (c.in_ok-forget-in-Acknowledge.ensures.aside reached) c.acknowledge.ensures.desk c.acknowledge.ensures.links
+
 pub returns-in-Nothing-clause-cancels : goal.returns-in-Nothing-clause-cancels
 returns-in-Nothing-clause-cancels c = subst (λ (s : Said). CancelsSaid s (body_of c.args.key c.args.self.now) (standing_in c.args.key c.args.self.now)) (sym c.in-Nothing.is) tt
 

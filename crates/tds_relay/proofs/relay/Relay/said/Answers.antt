@@ -76,6 +76,7 @@ pub returns-clause-puts : goal.returns-clause-puts
 returns-clause-puts c = λ reached.
     said_puts c.serve_line.result c.args.key c.args.self.now c.take_all.new.self c.serve_line.new.self reached c.in_ok-take_all.ensures.goes (c.in_ok-take_all.ensures.aside reached)
     (c.serve_line.ensures.fills (reached_on (Application c.args.key) _ _ c.in_ok-take_all.ensures.goes reached))
+
 pub returns-clause-cancels : goal.returns-clause-cancels
 returns-clause-cancels c = λ reached.
     cancels_ok c.serve_line.result c.args.key (house_in c.args.self.now) c.args.piece.now _ (standing_in c.args.key c.args.self.now) (standing_in c.args.key c.take_all.new.self) (standing_open c.args.key c.serve_line.new.self) _ _ _ _ c.in_ok-take_all.ensures.cancels

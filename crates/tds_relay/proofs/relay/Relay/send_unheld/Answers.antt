@@ -121,6 +121,7 @@ returns-in-Some-clause-answers c = c.in_ok-fits.ensures.answers
 
 pub returns-in-None-clause-answers : goal.returns-in-None-clause-answers
 returns-in-None-clause-answers c = answers_on c.lose.result _ _ _ c.in_ok-fits.ensures.answers c.lose.ensures.answers
+
 pub returns-then-fits-clause-counts : goal.returns-then-fits-clause-counts
 returns-then-fits-clause-counts c =
     inl (more_is (cleaned_in c.args.self.now) (cleaned_in c.fits_on.new.self) (c.saturating_add-self.result, c.fits_on.new.self.failed) c.saturating_add-self.result c.fits_on.ensures.counts c.saturating_add-self.ensures refl)

@@ -176,6 +176,7 @@ returns-in-None-clause-aside c = λ reached.
     aside_on c.expel.result c.args.key a d c.expel.new.self
     (aside_both c.args.key a b d (aside_same c.args.key a b (ap (λ (x : Desk). x.holds) c.forget_request.ensures.turns.desk_is) c.forget_request.ensures.links) (aside_same c.args.key b d c.stop.ensures.holds c.stop.ensures.links))
     (c.expel.ensures.aside (reached_by c.args.key b.desk d.desk c.stop.ensures.goes led))
+
 pub returns-in-Some-clause-cancels : goal.returns-in-Some-clause-cancels
 returns-in-Some-clause-cancels c =
     ok_more c.send_stop.result _ _

@@ -87,6 +87,7 @@ pub returns-in_ok-unless_memory-in-Err-clause-aside : goal.returns-in_ok-unless_
 returns-in_ok-unless_memory-in-Err-clause-aside c = λ reached.
     keeps_on c.expel-in-Err.result c.args.key c.args.self.now.desk.holds.items c.cancel.new.self.holds.items c.expel-in-Err.new.self.desk.holds.items c.args.self.now.links.items c.args.self.now.links.items c.expel-in-Err.new.self.links.items
     (λ n differs. (ap (λ (d : Desk). find_number n d.holds) c.in-Err.ensures.err, refl)) (c.expel-in-Err.ensures.aside (subst (λ (d : Desk). IsReached d) (sym c.in-Err.ensures.err) reached))
+
 pub returns-then-not-has_nothing_out-clause-cancels : goal.returns-then-not-has_nothing_out-clause-cancels
 returns-then-not-has_nothing_out-clause-cancels c =
     ok_more c.expel.result _ _ (λ d. cancelled_shut (going_of c.args.key c.args.self.now) (standing_in c.args.key c.expel.new.self) (shut c.expel.new.self.applications c.args.key (going_of c.args.key c.expel.new.self) d)) c.expel.ensures.over
