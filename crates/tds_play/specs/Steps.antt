@@ -175,13 +175,6 @@ abbrev pub AreCutTo : {E S : Type 0} → ℕ → List (Held E S) → Type 0
 AreCutTo {E} {S} count hs =
     (i : ℕ) (h : Held E S) → i < count → slice_get hs i ≡ Some h → h.link.is_cut ≡ true
 
--- An event about one connection that is there: no lease, and no restart.
-abbrev pub IsOfOne : Event → Type 0
-IsOfOne event.Lease = ⊥
-IsOfOne event.RestartServer = ⊥
-IsOfOne event.RestartClient = ⊥
-IsOfOne e = Unit {0}
-
 -- ---- Behind all events
 
 -- Behind these events, of which this is told, a player stands for the model's world, and with what is told of
