@@ -1,6 +1,5 @@
 -- What a step was read of, by what it is about.
 use Rattle.std.proofs.Common.{◌≡◌, ℕ, List, Option, length, refl}
-use Rattle.tds_world.specs.declared.event.Event.{Event}
 use Rattle.tds_world.specs.declared.outcome.Refusal.TheVariants.{UnknownConnection, UnknownLease}
 use Rattle.tds_world.specs.Connection.{Standing}
 use Rattle.tds_play.specs.declared.step.CallerStep.{CallerStep}

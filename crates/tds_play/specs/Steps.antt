@@ -6,7 +6,6 @@ use Rattle.tds_packet.specs.declared.kind.Direction.{Direction}
 use Rattle.tds_session.specs.Answer.{Answers}
 use Rattle.tds_ends.specs.ModelGives.{IsCountable, ModelGives}
 use Rattle.tds_world.specs.declared.event.Event.{Event}
-use Rattle.tds_world.specs.declared.event.Event.TheVariants as event
 use Rattle.tds_world.specs.declared.event.Setup.{Setup}
 use Rattle.tds_world.specs.declared.outcome.Opened.TheVariants as opened
 use Rattle.tds_world.specs.declared.outcome.Outcome.{Outcome}

@@ -40,6 +40,7 @@ pub(crate) enum OneStep<'a> {
     AtEnds(EndsStep<'a>),
 }
 
+/// What an event does: it opens a lease, restarts an end, or is about one connection.
 #[derive(Clone, Copy)]
 pub(crate) enum Step<'a> {
     Lease,

@@ -1,4 +1,4 @@
-use Rattle.std.proofs.Common.{◌≡◌, ◌∙◌, ℕ, Option, ap, length, map, sym, ⊎_elim}
+use Rattle.std.proofs.Common.{◌∙◌, ℕ, Option, ap, length, map, sym, ⊎_elim}
 use Rattle.tds_world.specs.declared.outcome.Refusal.TheVariants.{UnknownConnection, UnknownLease, UnknownTicket}
 use Rattle.tds_play.specs.Holdings.{conn_of}
 use Rattle.tds_play.specs.Lending.{numbered_of, standing_of}

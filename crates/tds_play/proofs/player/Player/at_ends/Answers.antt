@@ -1,4 +1,4 @@
-use Rattle.std.proofs.Common.{◌≡◌, ◌∙◌, ℕ, Option, ap, length, map, sym}
+use Rattle.std.proofs.Common.{◌∙◌, ℕ, Option, ap, length, map, sym}
 use Rattle.tds_world.specs.declared.outcome.Refusal.TheVariants.{UnknownConnection, UnknownLease}
 use Rattle.tds_play.specs.Holdings.{conn_of}
 use Rattle.tds_play.specs.Lending.{numbered_of, standing_of}
